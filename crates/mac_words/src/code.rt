@@ -1,0 +1,35 @@
+//! Result codes.
+
+ghost use Rattle.std.specs.Prelude.{◌≡◌};
+
+/// A result code of the toolbox: 0 where a call was done, else why not.
+///
+/// *Inside Macintosh: Memory*, "Result Codes"; *More Macintosh Toolbox*, chapter 1, "Result Codes".
+#[derive(Clone, Copy, Debug, PartialEq, Eq)]
+pub struct OsErr(pub i16);
+
+impl OsErr {
+    /// `noErr`: the call was done.
+    pub const NO_ERR: OsErr = OsErr(0);
+    /// `dskFulErr`: a content does not fit the fork format, or an application has too many files.
+    pub const DISK_FULL: OsErr = OsErr(-34);
+    /// `eofErr`: a fork of no bytes.
+    pub const END_OF_FILE: OsErr = OsErr(-39);
+    /// `memFullErr`: no room in the zone or in the memory.
+    pub const MEM_FULL: OsErr = OsErr(-108);
+    /// `nilHandleErr`: the name is unbound, or its handle is emptied.
+    pub const NIL_HANDLE: OsErr = OsErr(-109);
+    /// `memWZErr`: the handle was disposed of, or the name is of the other kind.
+    pub const WRONG_ZONE: OsErr = OsErr(-111);
+    /// `mapReadErr`: the bytes spell no fork.
+    pub const MAP_READ: OsErr = OsErr(-199);
+    /// `profileErr`, this project's own: what the manuals leave undefined.
+    pub const PROFILE: OsErr = OsErr(-30001);
+
+    /// The number of the code.
+    pub fn number(self) -> i16
+        ensures { result ≡ self.0 }
+    {
+        self.0
+    }
+}

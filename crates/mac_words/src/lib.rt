@@ -1,0 +1,17 @@
+//! The toolbox's words: result codes, names, types, attributes, calls and replies, and the size of a
+//! block. Every other crate stands on them.
+#![tactic(auto)]
+
+mod attributes;
+mod call;
+mod code;
+mod name;
+mod reply;
+mod size;
+
+pub use attributes::Attrs;
+pub use call::{Call, HeapCall};
+pub use code::OsErr;
+pub use name::{FileName, Label, Name, OsType};
+pub use reply::Reply;
+pub use size::phys;

@@ -1,0 +1,51 @@
+//! Replies.
+
+ghost use Rattle.std.specs.Prelude.{◌≡◌, pos, [], ◌∷◌, None};
+
+use crate::code::OsErr;
+use crate::name::{Name, OsType};
+use arrayvec::ArrayVec;
+
+/// What a call answers: its code and, after code 0, its values in the order of the fields. Bytes that a
+/// call shows are no part of it: they are written from where they stand.
+#[derive(Debug, Drop)]
+pub struct Reply {
+    pub code: OsErr,
+    pub numbers: ArrayVec<i64, 2>,
+    pub ty: Option<OsType>,
+    pub name: Option<Name>,
+}
+
+impl Reply {
+    /// A code and no value.
+    pub fn of(code: OsErr) -> Reply
+        ensures code { result.code ≡ code }
+        ensures numbers { result.numbers.items ≡ [] }
+        ensures ty { result.ty ≡ None }
+        ensures name { result.name ≡ None }
+    {
+        Reply {
+            code,
+            numbers: ArrayVec::new(),
+            ty: None,
+            name: None,
+        }
+    }
+
+    /// Code 0 and a number.
+    pub fn number(number: u32) -> Reply
+        ensures code { result.code ≡ OsErr.NO_ERR }
+        ensures numbers { result.numbers.items ≡ pos number ∷ [] }
+        ensures ty { result.ty ≡ None }
+        ensures name { result.name ≡ None }
+    {
+        let mut numbers = ArrayVec::new();
+        numbers.push(number as i64);
+        Reply {
+            code: OsErr::NO_ERR,
+            numbers,
+            ty: None,
+            name: None,
+        }
+    }
+}
