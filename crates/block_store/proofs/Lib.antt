@@ -1,0 +1,4 @@
+pub mod Totals
+pub mod Zones
+pub mod Renaming
+pub mod Tidy

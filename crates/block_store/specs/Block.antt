@@ -1,0 +1,156 @@
+use Rattle.std.specs.Prelude.{ℕ, ◌+◌, ◌-◌, Bool, true, false, not, ◌&&◌, ◌==◌, List, [], ◌∷◌, ◌++◌, length, take, drop, replicate, filter, map, nat_le, zero, suc, if◌then◌else◌}
+use Rattle.mac_words.specs.Size.{padded}
+use Rattle.block_store.specs.declared.flags.Flags.{Flags}
+
+-- The blocks of a heap zone, from bottom to top. Inside Macintosh: Memory, chapter 1, "Heap Zones", and chapter 2,
+-- "Blocks" and "Heap Zones".
+
+-- a new block is unlocked and unpurgeable
+abbrev pub no_flags : Flags
+no_flags = record { locked = false; purgeable = false }
+
+-- a block: Free bytes; a nonrelocatable one; a block of 64 master pointers; or a relocatable one. The id is the name by
+-- which a block is reached: in a store its slot or its place, in a heap its number
+pub data Block : Type 0 where
+  Free : (bytes : ℕ) → Block
+  Fixed : (id : ℕ) (content : List ℕ) → Block
+  Masters : Block
+  Relocatable : (id : ℕ) (flags : Flags) (content : List ℕ) → Block
+
+-- the bytes that a block takes, its header included
+abbrev pub size : Block → ℕ
+size (Free n) = n
+size (Fixed id content) = padded (length content)
+size Masters = 272
+size (Relocatable id flags content) = padded (length content)
+
+-- what blocks come to together
+abbrev pub total : (Block → ℕ) → List Block → ℕ
+total of [] = 0
+total of (b ∷ above) = of b + total of above
+
+-- how many blocks pass
+abbrev pub count : (Block → Bool) → List Block → ℕ
+count test blocks = total (λ b. if test b then 1 else 0) blocks
+
+-- the bytes that blocks take
+abbrev pub sizes : List Block → ℕ
+sizes blocks = total size blocks
+
+-- the Free bytes of a block
+abbrev pub free_of : Block → ℕ
+free_of (Free n) = n
+free_of (Fixed id content) = 0
+free_of Masters = 0
+free_of (Relocatable id flags content) = 0
+
+-- the Free bytes of blocks
+abbrev pub free_sum : List Block → ℕ
+free_sum blocks = total free_of blocks
+
+-- an unlocked relocatable block
+abbrev pub is_mover : Block → Bool
+is_mover (Free n) = false
+is_mover (Fixed id content) = false
+is_mover Masters = false
+is_mover (Relocatable id flags content) = not flags.locked
+
+-- a block that may be emptied
+abbrev pub is_purgeable : Block → Bool
+is_purgeable (Free n) = false
+is_purgeable (Fixed id content) = false
+is_purgeable Masters = false
+is_purgeable (Relocatable id flags content) = not flags.locked && flags.purgeable
+
+-- a Free block of at least p bytes
+abbrev pub is_room : ℕ → Block → Bool
+is_room p (Free n) = nat_le p n
+is_room p (Fixed id content) = false
+is_room p Masters = false
+is_room p (Relocatable id flags content) = false
+
+-- a Free block of n bytes, and none for no bytes
+abbrev pub free : ℕ → List Block
+free zero = []
+free (suc n) = Free (suc n) ∷ []
+
+-- a block below others, where Free bytes are one block with a Free block that follows
+abbrev pub add : Block → List Block → List Block
+add (Free zero) above = above
+add (Free (suc n)) (Free m ∷ above) = Free (suc n + m) ∷ above
+add b above = b ∷ above
+
+-- the lowest block joined with the next, as both may be Free
+abbrev pub tidy_top : List Block → List Block
+tidy_top [] = []
+tidy_top (b ∷ above) = add b above
+
+-- the same blocks, with neighbouring Free blocks made one and none of no bytes
+abbrev pub tidy : List Block → List Block
+tidy [] = []
+tidy (b ∷ above) = add b (tidy above)
+
+-- content cut or filled with zeros to a size
+abbrev pub resized_content : ℕ → List ℕ → List ℕ
+resized_content n content = take n content ++ replicate (n - length content) 0
+
+-- the block with its content at another size
+abbrev pub resized : ℕ → Block → Block
+resized n (Free m) = Free m
+resized n (Fixed id content) = Fixed id (resized_content n content)
+resized n Masters = Masters
+resized n (Relocatable id flags content) = Relocatable id flags (resized_content n content)
+
+-- the block with the names of its kind changed, by f for a relocatable block and by g for a Fixed one
+abbrev pub rename_block : (ℕ → ℕ) → (ℕ → ℕ) → Block → Block
+rename_block f g (Free n) = Free n
+rename_block f g (Fixed id content) = Fixed (g id) content
+rename_block f g Masters = Masters
+rename_block f g (Relocatable id flags content) = Relocatable (f id) flags content
+
+-- the blocks with their names changed
+abbrev pub rename : (ℕ → ℕ) → (ℕ → ℕ) → List Block → List Block
+rename f g blocks = map (rename_block f g) blocks
+
+-- a fresh zone of n bytes
+abbrev pub fresh : ℕ → List Block
+fresh n = Masters ∷ free (n - 272)
+
+-- the relocatable block of a name
+abbrev pub is_relocatable : ℕ → Block → Bool
+is_relocatable name (Free n) = false
+is_relocatable name (Fixed id content) = false
+is_relocatable name Masters = false
+is_relocatable name (Relocatable id flags content) = id == name
+
+-- the Fixed block of a name
+abbrev pub is_fixed : ℕ → Block → Bool
+is_fixed name (Free n) = false
+is_fixed name (Fixed id content) = id == name
+is_fixed name Masters = false
+is_fixed name (Relocatable id flags content) = false
+
+-- a block of master pointers
+abbrev pub is_masters : Block → Bool
+is_masters (Free n) = false
+is_masters (Fixed id content) = false
+is_masters Masters = true
+is_masters (Relocatable id flags content) = false
+
+-- the bytes that a block holds
+abbrev pub content_of : Block → List ℕ
+content_of (Free n) = []
+content_of (Fixed id content) = content
+content_of Masters = []
+content_of (Relocatable id flags content) = content
+
+-- the block with another content
+abbrev pub with_content : List ℕ → Block → Block
+with_content bytes (Free n) = Free n
+with_content bytes (Fixed id content) = Fixed id bytes
+with_content bytes Masters = Masters
+with_content bytes (Relocatable id flags content) = Relocatable id flags bytes
+
+-- bytes with x in place from i on
+abbrev pub written : ℕ → List ℕ → List ℕ → List ℕ
+written i x bytes = take i bytes ++ x ++ drop (i + length x) bytes

@@ -1,0 +1,9 @@
+pub mod Block
+pub mod Run
+pub mod Room
+pub mod Grow
+pub mod Find
+pub mod Slot
+pub mod Named
+pub mod Rest
+pub mod Seen

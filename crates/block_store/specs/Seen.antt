@@ -1,0 +1,26 @@
+use Rattle.std.specs.Prelude.{ℕ, Bool, length}
+use Rattle.mac_words.specs.Size.{padded}
+use Rattle.block_store.specs.Block.{Block, Free, Fixed, Masters, Relocatable}
+use Rattle.block_store.specs.Room.{Spot}
+use Rattle.block_store.specs.Grow.{freed}
+use Rattle.block_store.specs.declared.flags.Flags.{Flags}
+use Rattle.block_store.specs.declared.named.Seen.{Seen}
+use Rattle.block_store.specs.declared.named.Seen.TheVariants as see
+
+-- a block without its bytes
+abbrev pub seen : Block → Seen
+seen (Free n) = see.Free n
+seen (Fixed id content) = see.Fixed (length content)
+seen Masters = see.Masters
+seen (Relocatable slot flags content) = see.Relocatable slot flags (length content)
+
+-- the block with other flags
+abbrev pub with_flags : Flags → Block → Block
+with_flags flags (Free n) = Free n
+with_flags flags (Fixed id content) = Fixed id content
+with_flags flags Masters = Masters
+with_flags flags (Relocatable id old content) = Relocatable id flags content
+
+-- the spot after the block that passes went away
+abbrev pub moved_away : (Block → Bool) → Spot → Spot
+moved_away test s = record s { below = freed test s.below; above = freed test s.above }
