@@ -1,0 +1,4 @@
+mod Digits
+mod Cutting
+mod Shown
+mod Rows

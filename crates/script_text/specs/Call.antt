@@ -1,0 +1,57 @@
+use Rattle.std.specs.Prelude.{ℕ, bytes_eq, Option, Result, Ok, List, [], ◌∷◌, codes, find}
+use Rattle.mac_words.specs.declared.call.Call.{Call}
+use Rattle.mac_words.specs.declared.call.Call.TheVariants as call
+use Rattle.mac_words.specs.declared.call.HeapCall.{HeapCall}
+use Rattle.mac_words.specs.declared.call.HeapCall.TheVariants as heap
+use Rattle.script_text.specs.declared.fault.FaultKind.{FaultKind}
+use Rattle.script_text.specs.declared.word.Word.{Word}
+use Rattle.script_text.specs.declared.word.Word.TheVariants as word
+use Rattle.script_text.specs.declared.word.TheConstants.{WORDS}
+use Rattle.script_text.specs.Reading.{◌>>=◌}
+use Rattle.script_text.specs.Argument.{Kind, Name, Size, Bytes, Value, Letters, Number, Raw, arguments}
+
+-- how a call is spelled, and what it takes
+abbrev pub row : Word → List ℕ × List Kind
+row word.NewHandle = (codes "NewHandle", Name ∷ Size ∷ [])
+row word.DisposeHandle = (codes "DisposeHandle", Name ∷ [])
+row word.GetHandleSize = (codes "GetHandleSize", Name ∷ [])
+row word.FreeMem = (codes "FreeMem", [])
+row word.Put = (codes "Put", Name ∷ Size ∷ Bytes ∷ [])
+row word.Show = (codes "Show", Name ∷ [])
+row word.Where = (codes "Where", Name ∷ [])
+
+-- how a call is spelled
+abbrev pub spelling : Word → List ℕ
+spelling w = (row w).0
+
+-- what a call takes
+abbrev pub kinds : Word → List Kind
+kinds w = (row w).1
+
+-- a call of the Memory Manager as its word and what its arguments say
+abbrev pub heap_spoken : HeapCall → Word × List Value
+heap_spoken (heap.NewHandle h size) = (word.NewHandle, Letters h.0.items ∷ Number size ∷ [])
+heap_spoken (heap.DisposeHandle h) = (word.DisposeHandle, Letters h.0.items ∷ [])
+heap_spoken (heap.GetHandleSize h) = (word.GetHandleSize, Letters h.0.items ∷ [])
+heap_spoken heap.FreeMem = (word.FreeMem, [])
+heap_spoken (heap.Put h offset bytes) = (word.Put, Letters h.0.items ∷ Number offset ∷ Raw bytes.items ∷ [])
+heap_spoken (heap.Show h) = (word.Show, Letters h.0.items ∷ [])
+heap_spoken (heap.Where h) = (word.Where, Letters h.0.items ∷ [])
+
+-- a call as its word and what its arguments say
+abbrev pub spoken : Call → Word × List Value
+spoken (call.Heap c) = heap_spoken c
+
+-- the word of a call
+abbrev pub word_of : Call → Word
+word_of c = (spoken c).0
+
+-- the word that is spelled so
+unfoldable pub word_spelled : List ℕ → Option Word
+word_spelled token = find (λ w. bytes_eq (spelling w) token) WORDS
+
+-- the call of a word, whose arguments a text spells
+abbrev pub call_read : Word → List ℕ → Result (Word × List Value) FaultKind
+call_read word text = do
+  values ← arguments (kinds word) text
+  Ok (word, values)

@@ -1,0 +1,7 @@
+pub mod Fault
+pub mod Reading
+pub mod Token
+pub mod Argument
+pub mod Call
+pub mod Script
+pub mod Transcript

@@ -1,0 +1,158 @@
+//! The kinds of arguments.
+
+ghost use Rattle.std.specs.Prelude.{◌≡◌, is_some, IfOk};
+ghost use Rattle.std.specs.List.{list_all};
+ghost use Rattle.script_text.specs.Argument.{Kind, Name, Size, Bytes, Value, Letters, Number, Raw, is_name_byte as is_name_byte_of, begins_name as begins_name_of, name, number, number_within, digit, byte_at, hex_bytes, bytes as bytes_of, value};
+ghost use Rattle.script_text.specs.Reading.{Finds};
+
+use arrayvec::ArrayVec;
+use mac_words::Label;
+use std::alloc::{AllocError, Global};
+
+fn is_name_byte(byte: u8) -> bool
+    ensures { result ≡ is_name_byte_of byte }
+{
+    byte.is_ascii_alphanumeric() || byte == b'_'
+}
+
+fn begins_name(token: &[u8]) -> bool
+    ensures { result ≡ begins_name_of token.now }
+{
+    match token {
+        [] => false,
+        [first, ..] => first.is_ascii_alphabetic() || *first == b'_',
+    }
+}
+
+fn has_name_bytes(token: &[u8]) -> bool
+    ensures { result ≡ list_all is_name_byte_of token.now }
+{
+    token.iter().all(|b| is_name_byte(*b))
+}
+
+fn is_name(token: &[u8]) -> bool
+    ensures { result ≡ is_some (name token.now) }
+{
+    begins_name(token) && has_name_bytes(token) && token.len() <= 63
+}
+
+/// The number that a token writes in one to `most` decimal digits.
+fn number_in(token: &[u8], most: usize, limit: u32) -> Option<u32>
+    ensures { result ≡ number most limit token.now }
+{
+    if token.is_empty() || token.len() > most {
+        None
+    } else {
+        number_up_to(token, limit)
+    }
+}
+
+fn number_up_to(digits: &[u8], limit: u32) -> Option<u32>
+    ensures { result ≡ number_within limit 0 digits.now }
+{
+    let mut found: u32 = 0;
+    let mut rest = digits;
+    while let [digit, more @ ..] = rest {
+        if !digit.is_ascii_digit() {
+            return None;
+        }
+        let next = 10 * found as u64 + (*digit - b'0') as u64;
+        if next > limit as u64 {
+            return None;
+        }
+        found = next as u32;
+        rest = more;
+    }
+    Some(found)
+}
+
+fn digit_value(byte: u8) -> Option<u8>
+    ensures { result ≡ digit byte }
+{
+    match byte {
+        b'0'..=b'9' => Some(byte - b'0'),
+        b'A'..=b'F' => Some(byte - b'A' + 10),
+        b'a'..=b'f' => Some(byte - b'a' + 10),
+        _ => None,
+    }
+}
+
+/// The byte that two hexadecimal digits write.
+fn byte_of(high: u8, low: u8) -> Option<u8>
+    ensures { result ≡ byte_at high low }
+{
+    let high = digit_value(high)?;
+    let low = digit_value(low)?;
+    Some(16 * high + low)
+}
+
+/// The bytes that hexadecimal digits write.
+fn hex_in(alloc: Global, digits: &[u8]) -> Result<Option<Vec<u8>>, AllocError>
+    ensures { IfOk result (λ found. Finds (λ v. v.items) found (hex_bytes digits.now)) }
+{
+    let mut found = Vec::new(alloc);
+    let mut rest = digits;
+    while let [high, low, more @ ..] = rest {
+        match byte_of(*high, *low) {
+            Some(byte) => found.push(byte)?,
+            None => return Ok(None),
+        }
+        rest = more;
+    }
+    Ok(if rest.is_empty() { Some(found) } else { None })
+}
+
+fn bytes_in(alloc: Global, token: &[u8]) -> Result<Option<Vec<u8>>, AllocError>
+    ensures { IfOk result (λ found. Finds (λ v. v.items) found (bytes_of token.now)) }
+{
+    match token {
+        [b'"', inside @ .., _] => Ok(Some(Vec::from_slice(alloc, inside)?)),
+        [b'$', digits @ ..] => hex_in(alloc, digits),
+        _ => Ok(None),
+    }
+}
+
+/// An argument of a call. Its type tells its kind.
+pub trait Argument: Sized {
+    ghost kind: { Kind };
+
+    ghost seen: { Self → Value };
+
+    /// What a token says as an argument of this kind.
+    fn find(alloc: Global, token: &[u8]) -> Result<Option<Self>, AllocError>
+        ensures { IfOk result (λ found. Finds seen found (value kind token.now)) };
+}
+
+impl Argument for Label {
+    ghost kind = { Name };
+
+    ghost seen = { λ label. Letters label.0.items };
+
+    fn find(_alloc: Global, token: &[u8]) -> Result<Option<Self>, AllocError> {
+        if is_name(token) {
+            Ok(ArrayVec::try_from(token).ok().map(Label))
+        } else {
+            Ok(None)
+        }
+    }
+}
+
+impl Argument for u32 {
+    ghost kind = { Size };
+
+    ghost seen = { Number };
+
+    fn find(_alloc: Global, token: &[u8]) -> Result<Option<Self>, AllocError> {
+        Ok(number_in(token, 10, 2_147_483_647))
+    }
+}
+
+impl Argument for Vec<u8> {
+    ghost kind = { Bytes };
+
+    ghost seen = { λ bytes. Raw bytes.items };
+
+    fn find(alloc: Global, token: &[u8]) -> Result<Option<Self>, AllocError> {
+        bytes_in(alloc, token)
+    }
+}

@@ -1,0 +1,66 @@
+//! The arguments of a call, by the types that are asked for.
+
+ghost use Rattle.std.specs.Prelude.{[], ◌∷◌};
+ghost use Rattle.script_text.specs.Argument.{argument, arguments};
+ghost use Rattle.script_text.specs.Reading.{Gives};
+
+use crate::argument::Argument;
+use crate::fault::FaultKind;
+use crate::token::{token, trim};
+use std::alloc::Global;
+
+/// The argument at the front of a text, and the text behind it.
+#[tactic(auto, unfolding(crate::specs::Argument::argument))]
+fn first<A: Argument + Drop>(alloc: Global, text: &[u8]) -> Result<(A, &[u8]), FaultKind>
+    ensures { Gives (λ x. (A.seen x.0, x.1.now)) result (argument A.kind text.now) }
+{
+    let (token, rest) = token(trim(text))?;
+    match A::find(alloc, token)? {
+        Some(found) => Ok((found, rest)),
+        None => Err(FaultKind::BadArgument),
+    }
+}
+
+/// No argument: the text is at its end.
+pub fn none(text: &[u8]) -> Result<(), FaultKind>
+    ensures { Gives (λ _. []) result (arguments [] text.now) }
+{
+    if trim(text).is_empty() {
+        Ok(())
+    } else {
+        Err(FaultKind::BadArgument)
+    }
+}
+
+/// One argument, and the text is at its end.
+pub fn one<A: Argument + Drop>(alloc: Global, text: &[u8]) -> Result<A, FaultKind>
+    ensures { Gives (λ a. A.seen a ∷ []) result (arguments (A.kind ∷ []) text.now) }
+{
+    let (a, rest) = first(alloc, text)?;
+    none(rest)?;
+    Ok(a)
+}
+
+/// Two arguments, and the text is at its end.
+pub fn two<A: Argument + Drop, B: Argument + Drop>(
+    alloc: Global,
+    text: &[u8],
+) -> Result<(A, B), FaultKind>
+    ensures { Gives (λ x. A.seen x.0 ∷ B.seen x.1 ∷ []) result (arguments (A.kind ∷ B.kind ∷ []) text.now) }
+{
+    let (a, rest) = first(alloc, text)?;
+    let b = one(alloc, rest)?;
+    Ok((a, b))
+}
+
+/// Three arguments, and the text is at its end.
+pub fn three<A: Argument + Drop, B: Argument + Drop, C: Argument + Drop>(
+    alloc: Global,
+    text: &[u8],
+) -> Result<(A, B, C), FaultKind>
+    ensures { Gives (λ x. A.seen x.0 ∷ B.seen x.1 ∷ C.seen x.2 ∷ []) result (arguments (A.kind ∷ B.kind ∷ C.kind ∷ []) text.now) }
+{
+    let (a, rest) = first(alloc, text)?;
+    let (b, c) = two(alloc, rest)?;
+    Ok((a, b, c))
+}

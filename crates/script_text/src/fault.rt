@@ -1,0 +1,75 @@
+//! Why a script could not be read.
+
+ghost use Rattle.std.specs.Prelude.{◌≡◌};
+ghost use Rattle.script_text.specs.Fault.{number_of, line_of};
+ghost use Rattle.script_text.specs.declared.fault.FaultKind.TheVariants.{HostMemory};
+
+use std::alloc::{AllocError, AllocFailed};
+
+/// What is wrong with a line, or with the host.
+#[derive(Clone, Copy, Debug, PartialEq, Eq)]
+pub enum FaultKind {
+    /// The line's first word is no call.
+    UnknownCall,
+    /// An argument is missing, is one too many, or isn't spelled as its kind asks.
+    BadArgument,
+    /// A call that a grow-zone script may not hold.
+    NotAllowed,
+    /// The line has more than 65,535 bytes, its end not counted.
+    LongLine,
+    /// The host refused memory. It says nothing of the text.
+    HostMemory,
+}
+
+impl FaultKind {
+    /// The number by which a person is told the fault: 1 to 5, in the order of the variants.
+    pub fn number(self) -> u8
+        ensures { result ≡ number_of self }
+    {
+        match self {
+            FaultKind::UnknownCall => 1,
+            FaultKind::BadArgument => 2,
+            FaultKind::NotAllowed => 3,
+            FaultKind::LongLine => 4,
+            FaultKind::HostMemory => 5,
+        }
+    }
+}
+
+impl From<AllocError> for FaultKind {
+    ghost from_gives = { λ _ e. e ≡ HostMemory };
+
+    fn from(_e: AllocError) -> FaultKind {
+        FaultKind::HostMemory
+    }
+}
+
+impl<T: Drop> From<AllocFailed<T>> for FaultKind {
+    ghost from_gives = { λ _ e. e ≡ HostMemory };
+
+    fn from(_e: AllocFailed<T>) -> FaultKind {
+        FaultKind::HostMemory
+    }
+}
+
+/// Why a script could not be read: its first faulty line and what is wrong with it.
+#[derive(Clone, Copy, Debug, PartialEq, Eq)]
+pub struct ScriptFault {
+    /// The line, from 1 on, skipped lines counted; 0 for `HostMemory`.
+    pub line: usize,
+    pub kind: FaultKind,
+}
+
+impl ScriptFault {
+    /// What is wrong with a line, with the line's number.
+    pub(crate) fn at(number: usize, kind: FaultKind) -> ScriptFault
+        ensures line { result.line ≡ line_of number kind }
+        ensures kind { result.kind ≡ kind }
+    {
+        let line = match kind {
+            FaultKind::HostMemory => 0,
+            _ => number,
+        };
+        ScriptFault { line, kind }
+    }
+}

@@ -1,0 +1,19 @@
+//! The texts: scripts are read, and the lines of transcripts written, both exactly as specs/ says.
+#![tactic(auto)]
+
+mod argument;
+mod arguments;
+mod fault;
+mod lines;
+mod script;
+mod token;
+mod transcript;
+mod word;
+
+pub use fault::{FaultKind, ScriptFault};
+pub use script::{Line, Said, Script, read_script};
+pub use transcript::{write_end, write_launch, write_reply};
+pub use word::{Word, words_are_apart};
+
+#[cfg(test)]
+mod tests;

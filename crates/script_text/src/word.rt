@@ -1,0 +1,112 @@
+//! The words of the calls.
+
+ghost use Rattle.std.specs.Prelude.{◌≡◌, Some};
+ghost use Rattle.script_text.specs.Call.{spelling, spoken, word_of, word_spelled, call_read};
+ghost use Rattle.script_text.specs.Reading.{Gives};
+ghost use Rattle.script_text.specs.declared.word.Word as declared;
+
+use crate::arguments::{none, one, three, two};
+use crate::fault::FaultKind;
+use mac_words::{Call, HeapCall};
+use std::alloc::Global;
+
+/// The word of a call, spelled as its variant is named.
+#[derive(Clone, Copy, Debug, PartialEq, Eq)]
+pub enum Word {
+    NewHandle,
+    DisposeHandle,
+    GetHandleSize,
+    FreeMem,
+    Put,
+    Show,
+    Where,
+}
+
+/// The calls: for each its word, the enums that hold it, and what reads its arguments.
+macro_rules! calls {
+    ($part:ident $($given:expr),*) => {
+        $part! { $($given),* ;
+            NewHandle = Heap HeapCall two(h, size);
+            DisposeHandle = Heap HeapCall one(h);
+            GetHandleSize = Heap HeapCall one(h);
+            FreeMem = Heap HeapCall none();
+            Put = Heap HeapCall three(h, offset, bytes);
+            Show = Heap HeapCall one(h);
+            Where = Heap HeapCall one(h);
+        }
+    };
+}
+
+macro_rules! words {
+    (; $($word:ident = $group:ident $calls:ident $read:ident ($($name:ident),*);)*) => {
+        [$(Word::$word),*]
+    };
+}
+
+macro_rules! spelling_of {
+    ($given:expr; $($word:ident = $group:ident $calls:ident $read:ident ($($name:ident),*);)*) => {
+        match $given { $(Word::$word => stringify!($word).as_bytes(),)* }
+    };
+}
+
+macro_rules! arm {
+    ($alloc:expr, $text:expr; $word:ident $group:ident $calls:ident none()) => {
+        { none($text)?; Ok(Call::$group($calls::$word)) }
+    };
+    ($alloc:expr, $text:expr; $word:ident $group:ident $calls:ident one($name:ident)) => {
+        { let $name = one($alloc, $text)?; Ok(Call::$group($calls::$word($name))) }
+    };
+    ($alloc:expr, $text:expr; $word:ident $group:ident $calls:ident $read:ident ($($name:ident),*)) => {
+        { let ($($name),*) = $read($alloc, $text)?; Ok(Call::$group($calls::$word($($name),*))) }
+    };
+}
+
+macro_rules! read_of {
+    ($given:expr, $alloc:expr, $text:expr; $($word:ident = $group:ident $calls:ident $read:ident ($($name:ident),*);)*) => {
+        match $given { $(Word::$word => arm!($alloc, $text; $word $group $calls $read ($($name),*)),)* }
+    };
+}
+
+macro_rules! word_of_call {
+    ($given:expr; $($word:ident = $group:ident $calls:ident $read:ident ($($name:ident),*);)*) => {
+        match $given { $(Call::$group($calls::$word { .. }) => Word::$word,)* }
+    };
+}
+
+static WORDS: [Word; 7] = calls!(words);
+
+impl Word {
+    /// The word of a call.
+    pub fn of(call: &Call) -> Word
+        ensures { result ≡ word_of call.now }
+    {
+        calls!(word_of_call call)
+    }
+
+    /// How the call is spelled.
+    pub fn text(self) -> &'static [u8]
+        ensures { result.now ≡ spelling self }
+    {
+        calls!(spelling_of self)
+    }
+
+    /// The word that is spelled so.
+    #[tactic(auto, unfolding(crate::specs::Call::word_spelled))]
+    pub(crate) fn find(token: &[u8]) -> Option<Word>
+        ensures { result ≡ word_spelled token.now }
+    {
+        WORDS.iter().copied().find(|word| word.text() == token)
+    }
+
+    /// The call of this word, whose arguments a text spells.
+    pub(crate) fn read(self, alloc: Global, text: &[u8]) -> Result<Call, FaultKind>
+        ensures { Gives spoken result (call_read self text.now) }
+    {
+        calls!(read_of self, alloc, text)
+    }
+}
+
+/// Each word is found by its spelling, so no two are spelled alike and none is forgotten.
+pub fn words_are_apart()
+    ensures { (w : declared.Word) → word_spelled (spelling w) ≡ Some w }
+{}
