@@ -2,3 +2,10 @@ pub mod Totals
 pub mod Zones
 pub mod Renaming
 pub mod Tidy
+pub mod Apart
+pub mod Leading
+pub mod Listing
+pub mod Spots
+pub mod SlotLists
+pub mod Stretches
+pub mod Filling

@@ -1,12 +1,11 @@
-use Rattle.std.proofs.Common.{◌≡◌, ℕ, ◌+◌, ◌-◌, zero, suc, Bool, true, false, not, ◌&&◌, List, [], ◌∷◌, ◌++◌, length, refl, sym, ◌∙◌, ap, cond, map, arith, rules, Option, Some, None, filter, count_by}
+use Rattle.std.proofs.Common.{◌≡◌, ℕ, ◌-◌, zero, suc, Bool, true, false, not, ◌&&◌, List, [], ◌∷◌, ◌++◌, refl, sym, ◌∙◌, ap, cond, map, Option, Some, None, filter}
 use Rattle.std.proofs.lemmas.List.{map-append}
 use Rattle.std.specs.Option.{option_map, option_or}
 use Rattle.std.specs.Prelude.{option_and_then}
-use Rattle.std.specs.List.{fold, list_any}
-use Rattle.block_store.specs.Block.{Block, Free, Fixed, Masters, Relocatable, size, sizes, total, free_sum, free_of, rename, rename_block, free, is_mover, is_room, is_purgeable, add, tidy, resized}
-use Rattle.block_store.specs.Run.{movers, settle, in_run, Stretch, Segments, segments, put_below, joined, RunSpot, run_raised, lowest_run, run_spot, with_run, change_run, has_free, has, others}
-use Rattle.block_store.specs.Room.{Spot, rename_spot, spot, raised, filled, place, put_in_place, emptied, purge, count_of, may_go, least, room}
-use Rattle.block_store.specs.Grow.{growth, taken, grow_up, taken_low, grow_fixed, freed, move_away, grow_last, grow_mover, grow_at, grow}
+use Rattle.block_store.specs.Block.{Block, Free, Fixed, Masters, Relocatable, size, total, free_sum, free_of, rename, rename_block, free, is_mover, is_room, is_purgeable, add, tidy}
+use Rattle.block_store.specs.Run.{settle, in_run, Stretch, Segments, segments, joined, RunSpot, run_raised, lowest_run, run_spot, with_run, change_run, has_free, has, others}
+use Rattle.block_store.specs.Room.{Spot, rename_spot, spot, raised, filled, place, put_in_place, emptied, purge, count_of, least, room}
+use Rattle.block_store.specs.Grow.{growth, taken, grow_up, freed, move_away, grow_last, grow_mover}
 
 -- renaming leaves what a block takes
 pub size-rename : (f g : ℕ → ℕ) (b : Block) → size (rename_block f g b) ≡ size b
@@ -126,7 +125,7 @@ lowest_run-rename f g p q same run (part ∷ rest) =
     cases true o = refl
     cases false None = refl
     cases false (Some r) = ap (λ l. Some (record { below = l; run = rename f g r.run; above = rename f g r.above }))
-      (ap (λ l. l ++ rename f g r.below) (sym (map-append (rename_block f g) run (part.barrier ∷ []))) ∙ sym (map-append (rename_block f g) (run ++ part.barrier ∷ []) r.below))
+        (ap (λ l. l ++ rename f g r.below) (sym (map-append (rename_block f g) run (part.barrier ∷ []))) ∙ sym (map-append (rename_block f g) (run ++ part.barrier ∷ []) r.below))
 
 pub run_spot-rename : (f g : ℕ → ℕ) (p q : List Block → Bool) → ((r : List Block) → p (rename f g r) ≡ q r) → (bs : List Block) → run_spot p (rename f g bs) ≡ option_map (rename_run_spot f g) (run_spot q bs)
 run_spot-rename f g p q same bs = ap (λ s. lowest_run p s.first s.rest) (segments-rename f g bs) ∙ lowest_run-rename f g p q same (segments bs).first (segments bs).rest
@@ -197,7 +196,7 @@ room-rename f g p q try try' same tries bs =
   where
     counts : (bs : List Block) → count_of p (rename f g bs) ≡ count_of q bs
     counts bs = total-rename f g (λ b. cond (is_purgeable b && not (p b)) 1 0) (λ b. cond (is_purgeable b && not (q b)) 1 0)
-      (λ b. rw (is_purgeable-rename f g b, same b) refl) bs
+        (λ b. rw (is_purgeable-rename f g b, same b) refl) bs
 
 pub taken-rename : (f g : ℕ → ℕ) (d : ℕ) (bs : List Block) → taken d (rename f g bs) ≡ option_map (rename f g) (taken d bs)
 taken-rename f g d [] = refl
@@ -231,6 +230,7 @@ move_away-rename f g p q same new bs =
   where
     moved : Spot → List Block
     moved s = filled (rename_block f g new) (record { below = freed p s.below; here = s.here; above = freed p s.above })
+
     cases : (o : Option Spot) → option_map moved (option_map (rename_spot f g) o)
         ≡ option_map (rename f g) (option_map (λ (s : Spot). filled new (record { below = freed q s.below; here = s.here; above = freed q s.above })) o)
     cases None = refl
@@ -247,10 +247,10 @@ pub grow_last-rename : (f g : ℕ → ℕ) (p q : Block → Bool) → ((b : Bloc
     → grow_last p (rename_block f g new) d (rename f g bs) ≡ option_map (rename f g) (grow_last q new d bs)
 grow_last-rename f g p q same new d bs =
     change_run-rename f g (λ run. has p run && has_free d run) (λ run. has q run && has_free d run) (λ run. others p run ++ rename_block f g new ∷ free (free_sum run - d)) (λ run. others q run ++ new ∷ free (free_sum run - d))
-      (λ run. rw (has-rename f g p q same run, has_free-rename f g d run) refl)
-      (λ run. rw (others-rename f g p q same run, total-rename f g free_of free_of (free_of-rename f g) run)
-        (ap (λ l. rename f g (others q run) ++ rename_block f g new ∷ l) (sym (free-rename f g (free_sum run - d))) ∙ sym (map-append (rename_block f g) (others q run) (new ∷ free (free_sum run - d)))))
-      bs
+    (λ run. rw (has-rename f g p q same run, has_free-rename f g d run) refl)
+    (λ run. rw (others-rename f g p q same run, total-rename f g free_of free_of (free_of-rename f g) run)
+    (ap (λ l. rename f g (others q run) ++ rename_block f g new ∷ l) (sym (free-rename f g (free_sum run - d))) ∙ sym (map-append (rename_block f g) (others q run) (new ∷ free (free_sum run - d)))))
+    bs
 
 pub grow_mover-rename : (f g : ℕ → ℕ) (p q : Block → Bool) → ((b : Block) → p (rename_block f g b) ≡ q b) → (new : Block) (bs : List Block)
     → grow_mover p (rename_block f g new) (rename f g bs) ≡ option_map (rename f g) (grow_mover q new bs)
@@ -260,6 +260,7 @@ grow_mover-rename f g p q same new bs = rw (spot-rename f g p q same bs) (cases 
     choice (Some a) b c = refl
     choice None (Some b) c = refl
     choice None None c = refl
+
     cases : (o : Option Spot) → option_and_then (λ (s : Spot). option_or (grow_up (rename_block f g new) s) (option_or (move_away p (rename_block f g new) (rename f g bs)) (grow_last p (rename_block f g new) (growth (rename_block f g new) s) (rename f g bs)))) (option_map (rename_spot f g) o)
         ≡ option_map (rename f g) (option_and_then (λ (s : Spot). option_or (grow_up new s) (option_or (move_away q new bs) (grow_last q new (growth new s) bs))) o)
     cases None = refl

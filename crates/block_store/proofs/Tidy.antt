@@ -1,9 +1,7 @@
-use Rattle.std.proofs.Common.{◌≡◌, ℕ, ◌+◌, ◌-◌, ◌≤◌, zero, suc, Bool, true, false, not, ◌&&◌, ◌||◌, ◌==◌, List, [], ◌∷◌, ◌++◌, length, refl, sym, ◌∙◌, ap, cond, map, arith, rules, Option, Some, None, filter, count_by, zero-add}
-use Rattle.std.proofs.lemmas.List.{map-append}
-use Rattle.std.specs.List.{list_any}
-use Rattle.block_store.specs.Block.{Block, Free, Fixed, Masters, Relocatable, size, sizes, total, free_sum, free_of, rename, rename_block, add, tidy, is_relocatable, content_of, with_content}
+use Rattle.std.proofs.Common.{◌≡◌, ℕ, ◌+◌, zero, suc, Bool, true, false, ◌||◌, ◌==◌, List, [], ◌∷◌, ◌++◌, refl, sym, ◌∙◌, ap, cond, arith, Option, Some, None}
+use Rattle.block_store.specs.Block.{Block, Free, Fixed, Masters, Relocatable, size, total, rename, add, tidy, is_relocatable}
 use Rattle.block_store.specs.Run.{has}
-use Rattle.block_store.specs.Room.{Spot, spot, raised, filled, spot_at}
+use Rattle.block_store.specs.Room.{Spot, spot, raised}
 use Rattle.block_store.specs.Grow.{freed}
 use Rattle.std.specs.Option.{option_map}
 use Rattle.std.proofs.lemmas.Option.{none-some, same_Some}

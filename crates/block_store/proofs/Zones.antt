@@ -1,7 +1,6 @@
-use Rattle.std.proofs.Common.{◌≡◌, ℕ, Bool, true, false, List, [], ◌∷◌, ◌++◌, length, take, drop, refl, sym, ◌∙◌, ap, cond, map, append_assoc, arith, Option, Some, None, rules}
-use Rattle.std.specs.Option.{option_map}
-use Rattle.block_store.specs.Block.{Block, Free, Fixed, Masters, Relocatable, size, sizes, free_sum, free_of, rename, rename_block, free, is_mover, add, tidy}
-use Rattle.block_store.specs.Run.{segments, joined, in_run, put_below, Segments, Stretch, movers, settle, has_free}
+use Rattle.std.proofs.Common.{◌≡◌, true, false, List, [], ◌∷◌, refl, ◌∙◌, ap, cond}
+use Rattle.block_store.specs.Block.{Block}
+use Rattle.block_store.specs.Run.{segments, joined, in_run, put_below, Segments, Stretch}
 
 joined-cons : (b : Block) (run : List Block) (rest : List Stretch) → joined (b ∷ run) rest ≡ b ∷ joined run rest
 joined-cons b run [] = refl

@@ -1,4 +1,4 @@
-use Rattle.std.specs.Prelude.{ℕ, ◌+◌, ◌-◌, Bool, true, false, not, ◌&&◌, ◌==◌, List, [], ◌∷◌, ◌++◌, length, take, drop, replicate, filter, map, nat_le, zero, suc, if◌then◌else◌}
+use Rattle.std.specs.Prelude.{ℕ, ◌+◌, ◌-◌, Bool, true, false, not, ◌&&◌, ◌==◌, List, [], ◌∷◌, ◌++◌, length, take, drop, replicate, map, nat_le, zero, suc, if◌then◌else◌}
 use Rattle.mac_words.specs.Size.{padded}
 use Rattle.block_store.specs.declared.flags.Flags.{Flags}
 

@@ -7,3 +7,6 @@ pub mod Slot
 pub mod Named
 pub mod Rest
 pub mod Seen
+pub mod ListStore
+pub mod Stretch
+pub mod ListStoreLaws

@@ -1,4 +1,4 @@
-use Rattle.std.specs.Prelude.{◌≡◌, ℕ, ◌+◌, zero, suc, List, [], ◌∷◌, min}
+use Rattle.std.specs.Prelude.{◌≡◌, ℕ, ◌+◌, List, [], ◌∷◌, min}
 use denote.RawPtr.{Ptr}
 use Rattle.block_store.specs.Block.{Block, Free, Fixed, Masters, Relocatable, is_mover, count}
 use Rattle.block_store.specs.Slot.{Slot, set_slot, AreSlots}

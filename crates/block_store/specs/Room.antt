@@ -1,7 +1,7 @@
-use Rattle.std.specs.Prelude.{ℕ, ◌+◌, ◌-◌, ◌==◌, Bool, true, false, not, ◌&&◌, ◌||◌, Option, Some, None, List, [], ◌∷◌, ◌++◌, filter, map, if◌then◌else◌, nat_le, option_and_then, zero, suc}
+use Rattle.std.specs.Prelude.{ℕ, ◌-◌, ◌==◌, Bool, not, ◌&&◌, Option, Some, None, List, [], ◌∷◌, ◌++◌, if◌then◌else◌, nat_le, option_and_then, zero, suc}
 use Rattle.std.specs.Option.{option_map, option_or}
-use Rattle.block_store.specs.Block.{Block, Free, Fixed, Masters, Relocatable, size, count, free_of, free_sum, is_mover, is_purgeable, is_room, free, tidy, resized, rename, rename_block}
-use Rattle.block_store.specs.Run.{change_run, has_free, has, movers, others, settle, low, segments, joined}
+use Rattle.block_store.specs.Block.{Block, Free, size, count, is_purgeable, is_room, tidy, rename, rename_block}
+use Rattle.block_store.specs.Run.{change_run, has_free, settle, low}
 
 -- a block of a zone, with what is below it and above it
 pub record Spot : Type 0 where

@@ -1,5 +1,4 @@
-use Rattle.std.specs.Prelude.{ℕ, Bool, length}
-use Rattle.mac_words.specs.Size.{padded}
+use Rattle.std.specs.Prelude.{Bool, length}
 use Rattle.block_store.specs.Block.{Block, Free, Fixed, Masters, Relocatable}
 use Rattle.block_store.specs.Room.{Spot}
 use Rattle.block_store.specs.Grow.{freed}

@@ -2,10 +2,17 @@
 //! definitions, the contract that every store of them meets, and a store that keeps them in a list.
 #![tactic(auto)]
 
+mod entries;
 mod flags;
+mod list_store;
 mod named;
+mod slots;
 mod store;
+mod stretch;
+#[cfg(test)]
+mod tests;
 
 pub use flags::Flags;
+pub use list_store::ListStore;
 pub use named::{Named, Seen};
 pub use store::BlockStore;

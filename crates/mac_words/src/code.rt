@@ -30,6 +30,7 @@ impl OsErr {
     pub fn number(self) -> i16
         ensures { result ≡ self.0 }
     {
-        self.0
+        let OsErr(number) = self;
+        number
     }
 }

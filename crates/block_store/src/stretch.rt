@@ -1,0 +1,124 @@
+//! The search for room in a list of blocks, some of which would be emptied.
+
+ghost use Rattle.std.specs.Prelude.{◌≡◌, ◌+◌, ◌≤◌, ◌<◌, ◌^◌, ◌&&◌, ◌∷◌, List, nat_lt, IfSome};
+ghost use Rattle.std.specs.Option.{option_map};
+ghost use Rattle.block_store.specs.Block.{Block, size, sizes, is_room};
+ghost use Rattle.block_store.specs.Room.{spot, may_go};
+ghost use Rattle.block_store.specs.Named.{spared, opened, purged};
+ghost use Rattle.block_store.specs.ListStore.{block_of, blocks_of};
+ghost use Rattle.block_store.specs.Stretch.{is_free, opened_block, names, is_enough, stretch, after_scan};
+
+use crate::entries::{Entry, entry_size};
+use crate::named::Named;
+
+/// How far a search is: the purges left, where the stretch began, its bytes so far, and the place.
+#[derive(Clone, Copy, Debug, PartialEq, Eq)]
+pub struct Scan {
+    pub left: u32,
+    pub start: u32,
+    pub free: u32,
+    pub place: u32,
+}
+
+/// Whether an entry's block is Free, or counts as Free.
+fn counts_free(entry: &Entry, named: Named) -> bool
+    ensures { result ≡ is_free (opened_block named (block_of entry.now)) }
+{
+    match (entry, named) {
+        (Entry::Free(_), _) => true,
+        (Entry::Relocatable(slot, _, _), Named::Freed(freed)) => *slot == freed,
+        _ => false,
+    }
+}
+
+/// Whether a call names a slot.
+fn is_named(slot: u32, named: Named) -> bool
+    ensures { result ≡ names named slot }
+{
+    match named {
+        Named::Nothing => false,
+        Named::One(one) => slot == one,
+        Named::Two(one, other) => slot == one || slot == other,
+        Named::Freed(freed) => slot == freed,
+    }
+}
+
+/// Whether an entry's block is emptied where purges are left.
+fn may_empty(entry: &Entry, named: Named) -> bool
+    ensures { result ≡ may_go (spared named) (opened_block named (block_of entry.now)) }
+{
+    match entry {
+        Entry::Relocatable(slot, flags, _) => {
+            !flags.locked && flags.purgeable && !is_named(*slot, named)
+        }
+        _ => false,
+    }
+}
+
+/// Whether a stretch is room for so many bytes.
+fn suffices(free: u32, bytes: u32) -> bool
+    ensures { result ≡ is_enough bytes free }
+{
+    free > 0 && bytes <= free
+}
+
+/// The search after an entry; none where the stretch is the one.
+fn scan_entry(entry: &Entry, bytes: u32, scan: Scan, named: Named) -> Option<Scan>
+    requires room { scan.place + size (block_of entry.now) < 2 ^ 32 }
+    requires free { scan.free ≤ scan.place }
+    ensures scan { (above : List Block) → stretch bytes (spared named) scan.left scan.start scan.free scan.place (opened named (block_of entry.now ∷ above)) ≡ after_scan bytes (spared named) scan.start result (opened named above) }
+    ensures place { IfSome result (λ s. s.place ≡ scan.place + size (block_of entry.now)) }
+    ensures free { IfSome result (λ s. s.free ≤ s.place) }
+{
+    let size = entry_size(entry);
+    let place = scan.place + size;
+    if scan.left > 0 && may_empty(entry, named) {
+        return Some(Scan {
+            left: scan.left - 1,
+            start: scan.start,
+            free: scan.free + size,
+            place,
+        });
+    }
+    if counts_free(entry, named) {
+        return Some(Scan {
+            left: scan.left,
+            start: scan.start,
+            free: scan.free + size,
+            place,
+        });
+    }
+    if suffices(scan.free, bytes) {
+        return None;
+    }
+    Some(Scan {
+        left: scan.left,
+        start: place,
+        free: 0,
+        place,
+    })
+}
+
+/// The place of the lowest stretch that is room for so many bytes, after so many purges.
+pub fn find_room(entries: &[Entry], bytes: u32, purges: u32, named: Named) -> Option<u32>
+    requires { sizes (blocks_of entries.now) < 2 ^ 32 }
+    ensures { result ≡ option_map (λ s. sizes s.below) (spot (is_room bytes) (purged purges named (blocks_of entries.now))) }
+{
+    let mut scan = Scan {
+        left: purges,
+        start: 0,
+        free: 0,
+        place: 0,
+    };
+    for entry in entries {
+        let Some(next) = scan_entry(entry, bytes, scan, named) else {
+            return Some(scan.start);
+        };
+        scan = next;
+    }
+    if suffices(scan.free, bytes) {
+        Some(scan.start)
+    } else {
+        None
+    }
+}

@@ -1,0 +1,3 @@
+mod Binding
+mod Stepping
+mod Telling

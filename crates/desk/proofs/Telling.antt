@@ -1,0 +1,91 @@
+use Rattle.std.proofs.Common.{◌≡◌, ◌∙◌, ◌≤◌, ◌-◌, ◌+◌, arith, ℕ, refl, sym, ap, subst, List, [], ◌∷◌, ◌++◌, take, zero, suc, Option, Some, None, Result, Ok, Err}
+use Rattle.mac_words.specs.declared.code.OsErr.{OsErr}
+use Rattle.mac_words.specs.declared.call.Call.{Call}
+use Rattle.mac_words.specs.declared.call.Call.TheVariants as call
+use Rattle.block_store.specs.Rest.{Window}
+use Rattle.block_store.specs.Block.{Block, content_of, sizes, free, fresh}
+use Rattle.heap_calls.specs.State.{Memory, State}
+use Rattle.heap_calls.specs.Answer.{Held, look_up, for_found}
+use Rattle.heap_calls.specs.Asked.{Asked, Told, Bytes, Refused, answered, told_as}
+use Rattle.heap_calls.specs.Asked as asks
+use Rattle.heap_calls.specs.LastPut.{Holds, last_put, last_put_from, put_by, Entry}
+use Rattle.heap_calls.proofs.LastPutLaws.{Known, holds-known, step-known, known-fresh}
+use Rattle.script_text.specs.declared.script.Line.{Line}
+use Rattle.desk.specs.Names.{Bindings}
+use Rattle.desk.specs.Application.{Running, launched, nowhere, asked, went_on, step, call_of, line_told, lines_told, after_lines}
+use Rattle.desk.specs.Laws.{entry_of, history, ShowsBytes, ShowsLastPut, HoldsLastPut}
+
+-- a memory, and an application, elsewhere
+abbrev pub elsewhere : Window → Memory → Memory
+elsewhere w m = record m { window = w }
+
+abbrev pub moved : Window → Running → Running
+moved w r = record r { memory = elsewhere w r.memory }
+
+-- what a call answers doesn't hang on where its memory lies
+answered-elsewhere : (w : Window) (a : Asked) (m : Memory) → answered a (elsewhere w m) ≡ ((answered a m).0, elsewhere w (answered a m).1)
+answered-elsewhere w (asks.NewHandle size) m = refl
+answered-elsewhere w (asks.DisposeHandle handle) m = refl
+answered-elsewhere w (asks.GetHandleSize handle) m = refl
+answered-elsewhere w asks.FreeMem m = refl
+answered-elsewhere w (asks.Put handle from bytes) m = refl
+answered-elsewhere w (asks.Show handle) m = refl
+answered-elsewhere w (asks.Where handle) m = refl
+
+step-elsewhere : (w : Window) (c : Call) (r : Running) → step c (moved w r) ≡ ((step c r).0, moved w (step c r).1)
+step-elsewhere w (call.Heap c) r = ap (λ (x : Told × Memory). (x.0, went_on c x r)) (answered-elsewhere w (asked c r.names) r.memory)
+
+pub lines-elsewhere : (w : Window) (lines : List Line) (r : Running) → lines_told lines (moved w r) ≡ lines_told lines r
+lines-elsewhere w [] r = refl
+lines-elsewhere w (l ∷ lines) r =
+    ap (λ (x : Told × Running). line_told l x.0 ++ lines_told lines x.1) (step-elsewhere w (call_of l) r)
+    ∙ ap (λ t. line_told l (step (call_of l) r).0 ++ t) (lines-elsewhere w lines (step (call_of l) r).1)
+
+-- what is known of each block's bytes stays known
+step-knows : (c : Call) (r : Running) (bytes : ℕ → List ℕ) → Known r.memory.heap bytes → Known (step c r).1.memory.heap (put_by (entry_of c r).asked (entry_of c r).told bytes)
+step-knows (call.Heap c) r bytes known = step-known (asked c r.names) r.memory bytes known
+
+lines-know : (lines : List Line) (r : Running) (bytes : ℕ → List ℕ) → Known r.memory.heap bytes → Known (after_lines lines r).memory.heap (last_put_from bytes (history lines r))
+lines-know [] r bytes known = known
+lines-know (l ∷ lines) r bytes known =
+    lines-know lines (step (call_of l) r).1 (put_by (entry_of (call_of l) r).asked (entry_of (call_of l) r).told bytes) (step-knows (call_of l) r bytes known)
+
+-- a call that shows bytes shows those
+shows-known : (a : Asked) (m : Memory) (bytes : ℕ → List ℕ) → Known m.heap bytes → ShowsBytes (record { asked = a; told = (answered a m).0 }) bytes
+shows-known a m bytes known h shown is tells = cases (look_up (Some h) m.heap) refl (ap (λ (x : Asked). (answered x m).0) (sym is) ∙ tells)
+  where
+    cases : (r : Result Held OsErr) → look_up (Some h) m.heap ≡ r → told_as {T = List ℕ} Bytes (for_found {T = List ℕ} r m.heap (λ (k : Held). (Ok (content_of k.at.here), m.heap))).0 ≡ Bytes shown → shown ≡ bytes h
+    cases (Err code) e t = cc
+    cases (Ok k) e t = let same : content_of k.at.here ≡ shown = cc in sym same ∙ holds-known m.heap bytes known h k e
+
+shows-step : (c : Call) (r : Running) (bytes : ℕ → List ℕ) → Known r.memory.heap bytes → ShowsBytes (entry_of c r) bytes
+shows-step (call.Heap c) r bytes known = shows-known (asked c r.names) r.memory bytes known
+
+shows-from : (lines : List Line) (r : Running) (bytes : ℕ → List ℕ) → Known r.memory.heap bytes → ShowsLastPut lines r bytes
+shows-from [] r bytes known = tt
+shows-from (l ∷ lines) r bytes known =
+    (shows-step (call_of l) r bytes known,
+     shows-from lines (step (call_of l) r).1 (put_by (entry_of (call_of l) r).asked (entry_of (call_of l) r).told bytes) (step-knows (call_of l) r bytes known))
+
+-- each Show of a script shows the bytes last put into its handle
+pub shows_last_put : (n : ℕ) (lines : List Line) → ShowsLastPut lines (launched n nowhere) (λ h. [])
+shows_last_put n lines = shows-from lines (launched n nowhere) (λ h. []) (known-fresh n)
+
+-- after each number of steps each handle with a block holds the bytes last put into it
+pub holds_last_put : (n : ℕ) (lines : List Line) → HoldsLastPut lines (launched n nowhere)
+holds_last_put n lines k =
+    holds-known (after_lines (take k lines) (launched n nowhere)).memory.heap (last_put (history (take k lines) (launched n nowhere)))
+      (lines-know (take k lines) (launched n nowhere) (λ h. []) (known-fresh n))
+
+free-total : (m : ℕ) → sizes (free m) ≡ m
+free-total zero = refl
+free-total (suc m) = omega arith
+
+-- a fresh zone of n bytes takes n bytes
+pub sizes-fresh : (n : ℕ) → 272 ≤ n → sizes (fresh n) ≡ n
+sizes-fresh n big = omega (arith, free-total (n - 272))
+
+-- the lines of an application in a fresh zone of n bytes, wherever that lies
+pub fresh-lines : (r : Running) (zone : List Block) (w : Window) (n : ℕ) (lines : List Line) → r ≡ launched (sizes zone) w → zone ≡ fresh n → 272 ≤ n → lines_told lines r ≡ lines_told lines (launched n nowhere)
+fresh-lines r zone w n lines is whole big =
+    ap (lines_told lines) (is ∙ ap (λ (z : List Block). launched (sizes z) w) whole ∙ ap (λ (k : ℕ). launched k w) (sizes-fresh n big)) ∙ lines-elsewhere w lines (launched n nowhere)

@@ -1,0 +1,33 @@
+use Rattle.std.specs.Prelude.{◌≡◌, ℕ, Some, List, [], ◌∷◌, take}
+use Rattle.mac_words.specs.declared.call.Call.{Call}
+use Rattle.mac_words.specs.declared.call.Call.TheVariants as call
+use Rattle.heap_calls.specs.Asked.{Asked, Show, Told, Bytes}
+use Rattle.heap_calls.specs.LastPut.{Entry, Holds, last_put, put_by}
+use Rattle.script_text.specs.declared.script.Line.{Line}
+use Rattle.desk.specs.Application.{Running, asked, step, call_of, after_lines}
+
+-- What holds of whole runs.
+
+-- a step of the history: the call that was made, with numbers for names, and what it told
+abbrev pub entry_of : Call → Running → Entry
+entry_of (call.Heap c) r = record { asked = asked c r.names; told = (step (call.Heap c) r).0 }
+
+-- the calls of steps in order, and what they told
+abbrev pub history : List Line → Running → List Entry
+history [] r = []
+history (l ∷ lines) r = entry_of (call_of l) r ∷ history lines (step (call_of l) r).1
+
+-- bytes that are shown of a handle are these
+abbrev pub ShowsBytes : Entry → (ℕ → List ℕ) → Type 0
+ShowsBytes e bytes = (h : ℕ) (shown : List ℕ) → e.asked ≡ Show (Some h) → e.told ≡ Bytes shown → shown ≡ bytes h
+
+-- each Show of these steps shows the bytes that were last put into its handle
+abbrev pub ShowsLastPut : List Line → Running → (ℕ → List ℕ) → Type 0
+ShowsLastPut [] r bytes = Unit {0}
+ShowsLastPut (l ∷ lines) r bytes =
+    ShowsBytes (entry_of (call_of l) r) bytes
+    × ShowsLastPut lines (step (call_of l) r).1 (put_by (entry_of (call_of l) r).asked (entry_of (call_of l) r).told bytes)
+
+-- after each number of these steps each handle with a block holds the bytes last put into it
+abbrev pub HoldsLastPut : List Line → Running → Type 0
+HoldsLastPut lines r = (k : ℕ) → Holds (after_lines (take k lines) r).memory.heap (last_put (history (take k lines) r))

@@ -1,0 +1,4 @@
+pub mod Names
+pub mod Application
+pub mod Replies
+pub mod Laws

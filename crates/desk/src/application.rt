@@ -1,0 +1,144 @@
+//! A running application.
+
+ghost use Rattle.std.specs.Prelude.{◌≡◌, ◌≢◌, ◌++◌, IfOk, OnOk};
+ghost use Rattle.std.specs.Option.{option_map};
+ghost use Rattle.block_store.specs.Block.{fresh, sizes};
+ghost use Rattle.heap_calls.specs.Asked.{Told, Done, Given, Number, Bytes, answered};
+ghost use Rattle.desk.specs.Application.{Running, launched, asked, went_on, bound_anew, heap_step, step, bytes_told, line_told, call_of};
+ghost use Rattle.desk.specs.Replies.{Says, GivenAs};
+
+use crate::names::Names;
+use block_store::BlockStore;
+use heap_calls::{Heap, Refusal};
+use mac_words::{Call, HeapCall, Label, OsErr, Reply};
+use script_text::{Line, Said, Word, write_reply};
+use std::alloc::{AllocError, Global};
+use std::marker::Model;
+
+/// A running application: its heap, and what the names of its script are bound to.
+#[derive(Drop)]
+pub struct Application<S: BlockStore> {
+    heap: Heap<S>,
+    names: Names,
+}
+
+impl<S: BlockStore> Model for Application<S> {
+    ghost Value = { Running };
+
+    ghost view = { λ a. record { memory = a.heap; names = a.names } };
+}
+
+impl<S: BlockStore> Application<S> {
+    /// An application in the store of a fresh zone, its partition.
+    pub fn launch(alloc: Global, store: S) -> Self
+        requires zone { S.zone store ≡ fresh (sizes (S.zone store)) }
+        requires unused { (S.rest store).unused ≡ 64 }
+        requires all { (S.rest store).all ≡ 64 }
+        ensures { result ≡ launched (sizes (S.zone store)) (S.rest store).window }
+    {
+        Application {
+            heap: Heap::new(alloc, store),
+            names: Names::new(alloc),
+        }
+    }
+
+    /// Answers a call of the Memory Manager; bytes that it shows are no part of the reply.
+    fn answer(&mut self, call: &HeapCall) -> Result<Reply, AllocError>
+        ensures reply { IfOk result (λ reply. Says reply (heap_step call.now self.old).0) }
+        ensures after { OnOk result (self.new ≡ (heap_step call.now self.old).1) }
+    {
+        match call {
+            HeapCall::NewHandle(name, size) => {
+                bind_new(&mut self.names, name, self.heap.new_handle(*size))
+            }
+            HeapCall::DisposeHandle(name) => {
+                done_reply(self.heap.dispose_handle(self.names.number(name)))
+            }
+            HeapCall::GetHandleSize(name) => {
+                number_reply(self.heap.get_handle_size(self.names.number(name)))
+            }
+            HeapCall::FreeMem => Ok(Reply::number(self.heap.free_mem())),
+            HeapCall::Put(name, from, bytes) => {
+                done_reply(self.heap.put(self.names.number(name), *from, bytes))
+            }
+            HeapCall::Show(name) => shown_reply(self.heap.show(self.names.number(name))),
+            HeapCall::Where(name) => {
+                number_reply(self.heap.place_of(self.names.number(name)))
+            }
+        }
+    }
+
+    /// The bytes that a call shows in the state that it leaves.
+    fn shown(&self, call: &HeapCall) -> Option<&[u8]>
+        ensures { option_map (λ bytes. bytes.now) result ≡ bytes_told (heap_step call.now self.now).0 }
+    {
+        match call {
+            HeapCall::Show(name) => self.heap.show(self.names.number(name)).ok(),
+            _ => None,
+        }
+    }
+
+    /// Answers the call of a line, and appends the line's transcript line to a text.
+    pub fn step(&mut self, line: &Line, text: &mut Vec<u8>) -> Result<(), AllocError>
+        ensures text { OnOk result (text.new.items ≡ text.old.items ++ line_told line.now (step (call_of line.now) self.old).0) }
+        ensures after { OnOk result (self.new ≡ (step (call_of line.now) self.old).1) }
+    {
+        let Said::Call(call) = &line.said;
+        let Call::Heap(asked) = call;
+        let reply = self.answer(asked)?;
+        write_reply(text, line.number, Word::of(call), &reply, self.shown(asked))
+    }
+}
+
+/// Binds a name to the number that a call gave, as that call ends.
+fn bind_new(
+    names: &mut Names,
+    name: &Label,
+    given: Result<usize, Refusal>,
+) -> Result<Reply, AllocError>
+    ensures reply { IfOk result (λ reply. (told : Told) → GivenAs Given given told → Says reply told) }
+    ensures names { OnOk result ((told : Told) → GivenAs Given given told → names.new ≡ bound_anew name.now.0.items told names.old) }
+    ensures host { OnOk result (given ≢ Err Refusal.HostMemory) }
+{
+    match given {
+        Ok(number) => {
+            names.bind(name, number)?;
+            Ok(Reply::of(OsErr::NO_ERR))
+        }
+        Err(Refusal::Code(code)) => Ok(Reply::of(code)),
+        Err(Refusal::HostMemory) => Err(AllocError),
+    }
+}
+
+/// The reply of a call that shows bytes, without them.
+fn shown_reply(given: Result<&[u8], Refusal>) -> Result<Reply, AllocError>
+    ensures { IfOk result (λ reply. (told : Told) → GivenAs (λ bytes. Bytes bytes.now) given.entry told → Says reply told) }
+{
+    match given {
+        Ok(_) => Ok(Reply::of(OsErr::NO_ERR)),
+        Err(Refusal::Code(code)) => Ok(Reply::of(code)),
+        Err(Refusal::HostMemory) => Err(AllocError),
+    }
+}
+
+/// The reply of a call that gives no value.
+fn done_reply(given: Result<(), Refusal>) -> Result<Reply, AllocError>
+    ensures { IfOk result (λ reply. (told : Told) → GivenAs (λ _. Done) given told → Says reply told) }
+{
+    match given {
+        Ok(()) => Ok(Reply::of(OsErr::NO_ERR)),
+        Err(Refusal::Code(code)) => Ok(Reply::of(code)),
+        Err(Refusal::HostMemory) => Err(AllocError),
+    }
+}
+
+/// The reply of a call that gives a number.
+fn number_reply(given: Result<u32, Refusal>) -> Result<Reply, AllocError>
+    ensures { IfOk result (λ reply. (told : Told) → GivenAs Number given told → Says reply told) }
+{
+    match given {
+        Ok(number) => Ok(Reply::number(number)),
+        Err(Refusal::Code(code)) => Ok(Reply::of(code)),
+        Err(Refusal::HostMemory) => Err(AllocError),
+    }
+}

@@ -1,0 +1,12 @@
+//! Applications: a script's calls answered by a heap of its own, and the transcript that they leave.
+#![tactic(auto)]
+
+mod application;
+mod names;
+mod run;
+
+pub use application::Application;
+pub use run::run_script;
+
+#[cfg(test)]
+mod tests;

@@ -1,0 +1,43 @@
+//! A script, run to its end.
+
+ghost use Rattle.std.specs.Prelude.{◌≡◌, ◌%◌, ◌≤◌, [], IfOk, OnOk};
+ghost use Rattle.desk.specs.Application.{transcript, launched, nowhere};
+ghost use Rattle.desk.specs.Laws.{ShowsLastPut, HoldsLastPut};
+
+use crate::application::Application;
+use block_store::ListStore;
+use mac_words::OsErr;
+use script_text::{Script, write_end, write_launch};
+use std::alloc::{AllocError, Global};
+
+/// Runs a script to its end in a fresh partition of `size` bytes, and gives its transcript: the line of the
+/// launch, a line for each call, and the line of the end, each as the call tables say.
+///
+/// # Errors
+///
+/// Where the host refuses memory there is no transcript.
+#[tactic(auto, using(crate::proofs::Telling::shows_last_put, crate::proofs::Telling::holds_last_put))]
+pub fn run_script(alloc: Global, size: u32, script: &Script) -> Result<Vec<u8>, AllocError>
+    requires even { size % 16 ≡ 0 }
+    requires low { 512 ≤ size }
+    requires high { size ≤ 134217728 }
+
+    // The transcript is that of the definitions.
+    ensures transcript { IfOk result (λ text. text.items ≡ transcript size script.now) }
+
+    // Each Show shows the bytes last put into its handle, by the history of calls alone.
+    ensures shown { ShowsLastPut script.now (launched size nowhere) (λ _. []) }
+
+    // After each number of steps each handle with a block holds the bytes last put into it.
+    ensures held { HoldsLastPut script.now (launched size nowhere) }
+{
+    let store = ListStore::new(alloc, size)?;
+    let mut application = Application::launch(alloc, store);
+    let mut text = Vec::new(alloc);
+    write_launch(&mut text, size)?;
+    for line in script.lines() {
+        application.step(line, &mut text)?;
+    }
+    write_end(&mut text, OsErr::NO_ERR)?;
+    Ok(text)
+}

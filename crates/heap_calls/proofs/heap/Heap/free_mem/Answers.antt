@@ -1,0 +1,17 @@
+use Rattle.std.proofs.Common.{◌≡◌, ◌∙◌, ℕ, sym, ap, subst, Ok}
+use Rattle.mac_words.specs.declared.code.TheConstants.OsErr.{NO_ERR}
+use Rattle.heap_calls.specs.State.{Memory}
+use Rattle.heap_calls.specs.Answer.{free_mem, noting}
+use Rattle.heap_calls.specs.Numbered.{memory_of}
+use Rattle.heap_calls.proofs.Changing.{free_sum-rename}
+use Rattle.heap_calls.proofs.heap.Heap.free_mem.Goals as goal
+
+pub returns : goal.returns
+returns g c =
+    let a = c.self.inside in
+    let zone = g.S.BlockStore.zone a.store in
+    let rest = g.S.BlockStore.rest a.store in
+    let P : Memory → Type 0 = λ m. noting free_mem m ≡ (Ok c.free_bytes.result, record m { last = NO_ERR }) in
+    let here : P (memory_of zone rest a.names.items a.last) =
+      ap (λ (n : ℕ). (Ok n, record (memory_of zone rest a.names.items a.last) { last = NO_ERR })) (free_sum-rename _ _ zone ∙ sym c.free_bytes.ensures) in
+    subst P c.self.view_is here ∙ ap (λ (m : Memory). (Ok c.free_bytes.result, record m { last = NO_ERR })) (sym c.self.view_is)

@@ -1,0 +1,57 @@
+use Rattle.std.specs.Prelude.{◌≡◌, ◌≤◌, ℕ, ◌+◌, Option, Some, None, Result, Ok, Err, List, length, slice_get}
+use Rattle.std.specs.Borrow.{Bor}
+use Rattle.mac_words.specs.declared.code.OsErr.{OsErr}
+use Rattle.mac_words.specs.declared.code.TheConstants.OsErr.{NO_ERR, NIL_HANDLE, WRONG_ZONE}
+use Rattle.block_store.specs.Block.{Block, sizes, content_of}
+use Rattle.block_store.specs.Slot.{Slot}
+use Rattle.block_store.specs.Room.{Spot, spot_at, rename_spot}
+use Rattle.heap_calls.specs.State.{State}
+use Rattle.heap_calls.specs.Answer.{Held, look_up}
+use Rattle.heap_calls.specs.Numbered.{handle_number, pointer_number, state_of}
+use Rattle.heap_calls.specs.declared.refusal.Refusal.{Refusal}
+use Rattle.heap_calls.specs.declared.refusal.Refusal.TheVariants.{Code, HostMemory}
+use Rattle.heap_calls.specs.declared.name.Entry.{Entry}
+use Rattle.heap_calls.specs.declared.name.Entry.TheVariants as entry
+use Rattle.heap_calls.specs.declared.name.Found.{Found}
+
+-- what is given back, and the state after it, are the answer; where the host had no memory nothing is said
+abbrev pub IsAnswer : {T S : Type 0} → Result T OsErr × S → Result T Refusal → S → Type 0
+IsAnswer answer (Ok value) after = answer ≡ (Ok value, after)
+IsAnswer answer (Err (Code code)) after = answer ≡ (Err code, after)
+IsAnswer answer (Err HostMemory) after = Unit {0}
+
+-- the same where bytes are lent
+abbrev pub IsShown : {S : Type 0} → Result (List ℕ) OsErr × S → Result (Bor (List ℕ)) Refusal → S → Type 0
+IsShown answer (Ok bytes) after = answer ≡ (Ok bytes.now, after)
+IsShown answer (Err (Code code)) after = answer ≡ (Err code, after)
+IsShown answer (Err HostMemory) after = Unit {0}
+
+-- the code of the last call after one that gave this; where the host had no memory it stays
+abbrev pub last_after : {T : Type 0} → Result T Refusal → OsErr → OsErr
+last_after (Ok value) last = NO_ERR
+last_after (Err (Code code)) last = code
+last_after (Err HostMemory) last = last
+
+-- a handle and its slot
+abbrev pub found : ℕ → ℕ → Found
+found number slot = record { number = number; slot = slot }
+
+-- the slot of a handle's entry; or why it has none: never given, a pointer, or disposed of
+abbrev pub slot_at : ℕ → Option Entry → Result Found Refusal
+slot_at h None = Err (Code NIL_HANDLE)
+slot_at h (Some (entry.Handle slot)) = Ok (found h slot)
+slot_at h (Some (entry.Pointer place)) = Err (Code WRONG_ZONE)
+slot_at h (Some entry.Disposed) = Err (Code WRONG_ZONE)
+
+-- the slot of the handle that a name is bound to
+abbrev pub slot_of : Option ℕ → List Entry → Result Found Refusal
+slot_of None es = Err (Code NIL_HANDLE)
+slot_of (Some h) es = slot_at h (slice_get es h)
+
+-- the store's place of the block of a handle; or why there is none
+abbrev pub FindsBlock : List Block → (ℕ → Slot) → List Entry → Option ℕ → Result ℕ Refusal → Type 0
+FindsBlock zone slots es handle (Ok place) =
+    (h : ℕ) × (s : Spot) × (look_up handle (state_of zone slots es) ≡ Ok (record { number = h; at = rename_spot (handle_number es) (pointer_number es) s }))
+    × (spot_at place zone ≡ Some s) × (sizes s.below ≡ place) × (place + 16 + length (content_of s.here) ≤ 134217728)
+FindsBlock zone slots es handle (Err (Code code)) = look_up handle (state_of zone slots es) ≡ Err code
+FindsBlock zone slots es handle (Err HostMemory) = ⊥

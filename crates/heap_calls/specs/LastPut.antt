@@ -1,0 +1,31 @@
+use Rattle.std.specs.Prelude.{◌≡◌, ℕ, ◌==◌, Option, Some, Ok, List, [], ◌∷◌, replicate, if◌then◌else◌}
+use Rattle.block_store.specs.Block.{content_of, written}
+use Rattle.heap_calls.specs.State.{State}
+use Rattle.heap_calls.specs.Answer.{Held, look_up}
+use Rattle.heap_calls.specs.Asked.{Asked, NewHandle, Put, Told, Done, Given}
+
+-- The bytes last put into each handle, told from the history of calls alone: no block is in it.
+
+-- a call, and what it told
+pub record Entry : Type 0 where
+  pub asked : Asked
+  pub told : Told
+
+-- the bytes last put into each handle, after one call more
+abbrev pub put_by : Asked → Told → (ℕ → List ℕ) → ℕ → List ℕ
+put_by (NewHandle n) (Given k) bytes h = if k == h then replicate n 0 else bytes h
+put_by (Put (Some k) from x) Done bytes h = if k == h then written from x (bytes k) else bytes h
+put_by asked told bytes h = bytes h
+
+-- the bytes last put into each handle by the calls of a history, from those before it
+abbrev pub last_put_from : (ℕ → List ℕ) → List Entry → ℕ → List ℕ
+last_put_from bytes [] = bytes
+last_put_from bytes (e ∷ entries) = last_put_from (put_by e.asked e.told bytes) entries
+
+-- the bytes last put into each handle by the calls of a history
+abbrev pub last_put : List Entry → ℕ → List ℕ
+last_put entries = last_put_from (λ h. []) entries
+
+-- each handle with a block holds these bytes
+abbrev pub Holds : State → (ℕ → List ℕ) → Type 0
+Holds s bytes = (h : ℕ) (held : Held) → look_up (Some h) s ≡ Ok held → content_of held.at.here ≡ bytes h

@@ -1,0 +1,67 @@
+use Rattle.std.specs.Prelude.{◌≡◌, ℕ, ◌+◌, ◌^◌, ◌==◌, Bool, true, false, Option, Some, None, List, [], ◌∷◌, map, count_by, slice_get, if◌then◌else◌}
+use Rattle.block_store.specs.Block.{Block, rename}
+use Rattle.block_store.specs.Slot.{Slot, NoSlot, Unused, Used}
+use Rattle.block_store.specs.Rest.{Rest}
+use Rattle.mac_words.specs.declared.code.OsErr.{OsErr}
+use Rattle.heap_calls.specs.State.{Role, Plain, Resource, Name, State, Memory, uses_slot}
+use Rattle.heap_calls.specs.State as names
+use Rattle.heap_calls.specs.declared.name.Entry.{Entry}
+use Rattle.heap_calls.specs.declared.name.Entry.TheVariants as entry
+
+-- How a heap is seen in a store: blocks that the store names by slot or place are named by number.
+
+-- whose the handle of a slot is
+abbrev pub role_of : Slot → Role
+role_of NoSlot = Plain
+role_of Unused = Plain
+role_of (Used false) = Plain
+role_of (Used true) = Resource
+
+-- what an entry stands for, by the table of slots
+abbrev pub name_of : (ℕ → Slot) → Entry → Name
+name_of slots (entry.Handle slot) = names.Handle (role_of (slots slot))
+name_of slots (entry.Pointer place) = names.Pointer
+name_of slots entry.Disposed = names.Disposed
+
+-- an entry of a slot
+abbrev pub leads_to : ℕ → Entry → Bool
+leads_to slot (entry.Handle s) = s == slot
+leads_to slot (entry.Pointer place) = false
+leads_to slot entry.Disposed = false
+
+-- an entry of a place
+abbrev pub points_to : ℕ → Entry → Bool
+points_to place (entry.Handle slot) = false
+points_to place (entry.Pointer p) = p == place
+points_to place entry.Disposed = false
+
+-- no number is so large
+abbrev pub no_number : ℕ
+no_number = 2 ^ 64
+
+-- the number of the first entry that passes, counted from n
+abbrev pub number_from : ℕ → (Entry → Bool) → List Entry → ℕ
+number_from n test [] = no_number
+number_from n test (e ∷ entries) = if test e then n else number_from (n + 1) test entries
+
+-- the number of the handle of a slot, and of the pointer to a place
+abbrev pub handle_number : List Entry → ℕ → ℕ
+handle_number entries slot = number_from 0 (leads_to slot) entries
+abbrev pub pointer_number : List Entry → ℕ → ℕ
+pointer_number entries place = number_from 0 (points_to place) entries
+
+-- the heap that a store's zone and slots are for its names
+abbrev pub state_of : List Block → (ℕ → Slot) → List Entry → State
+state_of zone slots entries = record { zone = rename (handle_number entries) (pointer_number entries) zone; names = map (name_of slots) entries }
+
+-- the same with the code of its last call and where it lies
+abbrev pub memory_of : List Block → Rest → List Entry → OsErr → Memory
+memory_of zone rest entries last = record { heap = state_of zone rest.slots entries; last = last; window = rest.window }
+
+-- the names and the store agree
+pub record Agrees (rest : Rest) (entries : List Entry) : Type 0 where
+  -- a handle's slot is used, and by no other handle
+  pub used : (h slot : ℕ) → slice_get entries h ≡ Some (entry.Handle slot) → rest.slots slot ≡ Used false
+  pub apart : (h k slot : ℕ) → slice_get entries h ≡ Some (entry.Handle slot) → slice_get entries k ≡ Some (entry.Handle slot) → h ≡ k
+  -- each slot is a handle's or unused
+  pub counted : rest.unused + count_by uses_slot (map (name_of rest.slots) entries) ≡ rest.all

@@ -1,0 +1,52 @@
+use Rattle.std.specs.Prelude.{ℕ, ◌*◌, Bool, true, false, List, [], count_by}
+use Rattle.block_store.specs.Block.{Block, count, fresh, is_masters}
+use Rattle.block_store.specs.Rest.{Window}
+use Rattle.mac_words.specs.declared.code.OsErr.{OsErr}
+use Rattle.mac_words.specs.declared.code.TheConstants.OsErr.{NO_ERR}
+
+-- A heap: its zone, and its handles and pointers by numbers. Inside Macintosh: Memory, chapter 1, "Heap Management".
+
+-- whose a handle is: an application's own, a resource's, or a System resource's, whose bytes and size can't be changed
+pub data Role : Type 0 where
+  Plain : Role
+  Resource : Role
+  SystemResource : Role
+
+-- what a number stands for: a handle, with a block or emptied; a pointer; or nothing any more
+pub data Name : Type 0 where
+  Handle : (role : Role) → Name
+  Pointer : Name
+  Disposed : Name
+
+-- a heap: the blocks of its zone, named by number, and what each number given so far stands for. A number is never given twice
+pub record State : Type 0 where
+  pub zone : List Block
+  pub names : List Name
+
+-- a heap with the code of its last call, and where it lies
+pub record Memory : Type 0 where
+  pub heap : State
+  pub last : OsErr
+  pub window : Window
+
+-- the heap of a fresh zone of n bytes
+abbrev pub fresh_heap : ℕ → State
+fresh_heap n = record { zone = fresh n; names = [] }
+
+-- a fresh zone's heap before its first call
+abbrev pub fresh_memory : ℕ → Window → Memory
+fresh_memory n window = record { heap = fresh_heap n; last = NO_ERR; window = window }
+
+-- a handle that wasn't disposed of
+abbrev pub uses_slot : Name → Bool
+uses_slot (Handle role) = true
+uses_slot Pointer = false
+uses_slot Disposed = false
+
+-- the slots in use
+abbrev pub used_slots : State → ℕ
+used_slots s = count_by uses_slot s.names
+
+-- the slots that there are: 64 a Masters block
+abbrev pub all_slots : State → ℕ
+all_slots s = 64 * count is_masters s.zone

@@ -1,0 +1,193 @@
+//! The heap of an application.
+
+ghost use Rattle.std.specs.Prelude.{◌≡◌, ◌≢◌};
+ghost use Rattle.block_store.specs.Block.{fresh, sizes};
+ghost use Rattle.heap_calls.specs.Given.{IsAnswer, IsShown, FindsBlock, last_after};
+ghost use Rattle.heap_calls.specs.Numbered.{Agrees};
+ghost use Rattle.heap_calls.specs.State.{fresh_memory};
+ghost use Rattle.heap_calls.specs.Answer.{new_handle, dispose_handle, get_handle_size, free_mem, put, show, place_of, noting, silent};
+
+use crate::name::{Entry, slot_of};
+use crate::refusal::Refusal;
+use block_store::{BlockStore, Named};
+use mac_words::{OsErr, phys};
+use std::alloc::{AllocError, Global};
+use std::marker::Model;
+
+/// A heap over a store of blocks. Handles are given by the number that a name is bound to, `None` for an
+/// unbound name; a number is never given twice. Sizes and offsets are in bytes.
+///
+/// *Inside Macintosh: Memory*, chapter 1, "Heap Management".
+#[derive(Drop)]
+pub struct Heap<S: BlockStore> {
+    store: S,
+    names: Vec<Entry>,
+    last: OsErr,
+}
+
+impl<S: BlockStore> Model for Heap<S> {
+    ghost use Rattle.heap_calls.specs.State.{Memory};
+
+    ghost Value = { Memory };
+
+    ghost use Rattle.heap_calls.specs.Numbered.{memory_of, Agrees};
+
+    ghost view = { λ a. memory_of (S.zone a.store) (S.rest a.store) a.names.items a.last };
+
+    ghost invariant = { λ a. Agrees (S.rest a.store) a.names.items };
+}
+
+impl<S: BlockStore> Heap<S> {
+    /// A heap over the store of a fresh zone.
+    pub fn new(alloc: Global, store: S) -> Self
+        requires zone { S.zone store ≡ fresh (sizes (S.zone store)) }
+        requires unused { (S.rest store).unused ≡ 64 }
+        requires all { (S.rest store).all ≡ 64 }
+        ensures { result ≡ fresh_memory (sizes (S.zone store)) (S.rest store).window }
+    {
+        Heap {
+            store,
+            names: Vec::new(alloc),
+            last: OsErr::NO_ERR,
+        }
+    }
+
+    /// `NewHandle`: a new handle with `size` bytes 0. -108 where no Free block is large enough or all slots
+    /// are used; a want of host memory leaves the heap as it was.
+    pub fn new_handle(&mut self, size: u32) -> Result<usize, Refusal>
+        ensures answer { IsAnswer (noting (new_handle size) self.old) result self.new }
+        ensures host { result ≡ Err Refusal.HostMemory → self.new ≡ self.old }
+    {
+        let answer = self.make_handle(size);
+        self.note(answer)
+    }
+
+    /// `DisposeHandle`: disposes of a handle; its block, locked or not, is Free, and its slot unused.
+    pub fn dispose_handle(&mut self, handle: Option<usize>) -> Result<(), Refusal>
+        ensures answer { IsAnswer (noting (dispose_handle handle) self.old) result self.new }
+        ensures host { result ≢ Err Refusal.HostMemory }
+    {
+        let answer = self.let_go(handle);
+        self.note(answer)
+    }
+
+    /// `GetHandleSize`: how many bytes a handle has.
+    pub fn get_handle_size(&mut self, handle: Option<usize>) -> Result<u32, Refusal>
+        ensures answer { IsAnswer (noting (get_handle_size handle) self.old) result self.new }
+        ensures host { result ≢ Err Refusal.HostMemory }
+    {
+        let answer = self.size_of(handle);
+        self.note(answer)
+    }
+
+    /// `FreeMem`: the bytes of all Free blocks, headers included.
+    pub fn free_mem(&mut self) -> u32
+        ensures { noting free_mem self.old ≡ (Ok result, self.new) }
+    {
+        self.last = OsErr::NO_ERR;
+        self.store.free_bytes()
+    }
+
+    /// Writes bytes into a handle's block from an offset on; -30001 where they end past its content.
+    pub fn put(&mut self, handle: Option<usize>, from: u32, bytes: &[u8]) -> Result<(), Refusal>
+        ensures answer { IsAnswer (silent (put handle from bytes.now) self.old) result self.new }
+        ensures host { result ≢ Err Refusal.HostMemory }
+    {
+        let place = find_block(&self.store, &self.names, handle)?;
+        let len = self.store.bytes(place).len();
+        if bytes.len() > len || from as usize > len - bytes.len() {
+            return Err(Refusal::Code(OsErr::PROFILE));
+        }
+        self.store.write(place, from, bytes);
+        Ok(())
+    }
+
+    /// The bytes of a handle's block.
+    pub fn show(&self, handle: Option<usize>) -> Result<&[u8], Refusal>
+        ensures answer { IsShown (silent (show handle) self.now) result self.now }
+        ensures host { result ≢ Err Refusal.HostMemory }
+    {
+        let place = find_block(&self.store, &self.names, handle)?;
+        Ok(self.store.bytes(place))
+    }
+
+    /// The offset of a handle's bytes from the zone's start.
+    pub fn place_of(&self, handle: Option<usize>) -> Result<u32, Refusal>
+        ensures answer { IsAnswer (silent (place_of handle) self.now) result self.now }
+        ensures host { result ≢ Err Refusal.HostMemory }
+    {
+        let place = find_block(&self.store, &self.names, handle)?;
+        Ok(place + 16)
+    }
+
+    /// A new handle.
+    fn make_handle(&mut self, size: u32) -> Result<usize, Refusal>
+        ensures answer { IsAnswer (silent (new_handle size) self.old) result self.new }
+        ensures host { result ≡ Err Refusal.HostMemory → self.new ≡ self.old }
+    {
+        let Some(bytes) = phys(size) else {
+            return Err(Refusal::Code(OsErr::MEM_FULL));
+        };
+        let Some(place) = self.store.find_free(bytes, 0, Named::Nothing) else {
+            return Err(Refusal::Code(OsErr::MEM_FULL));
+        };
+        self.names.reserve(1)?;
+        let Some(slot) = self.store.take_slot() else {
+            return Err(Refusal::Code(OsErr::MEM_FULL));
+        };
+        let carved = self.store.carve(place, slot, size);
+        if carved.is_err() {
+            self.store.give_slot(slot);
+            return Err(Refusal::HostMemory);
+        }
+        let number = self.names.len();
+        self.names.push_reserved(Entry::Handle(slot));
+        Ok(number)
+    }
+
+    /// Lets a handle and its block go.
+    fn let_go(&mut self, handle: Option<usize>) -> Result<(), Refusal>
+        ensures answer { IsAnswer (silent (dispose_handle handle) self.old) result self.new }
+        ensures host { result ≢ Err Refusal.HostMemory }
+    {
+        let found = slot_of(&self.names, handle)?;
+        self.store.release(found.slot);
+        self.store.give_slot(found.slot);
+        self.names[found.number] = Entry::Disposed;
+        Ok(())
+    }
+
+    /// The size of a handle's block.
+    fn size_of(&self, handle: Option<usize>) -> Result<u32, Refusal>
+        ensures answer { IsAnswer (silent (get_handle_size handle) self.now) result self.now }
+        ensures host { result ≢ Err Refusal.HostMemory }
+    {
+        let place = find_block(&self.store, &self.names, handle)?;
+        Ok(self.store.bytes(place).len() as u32)
+    }
+
+    /// Keeps the code of a call, and passes its answer on.
+    fn note<T>(&mut self, answer: Result<T, Refusal>) -> Result<T, Refusal>
+        ensures answer { result ≡ answer }
+        ensures noted { self.new ≡ record self.old { last = last_after answer self.old.last } }
+    {
+        match &answer {
+            Ok(_) => self.last = OsErr::NO_ERR,
+            Err(Refusal::Code(code)) => self.last = *code,
+            Err(Refusal::HostMemory) => {}
+        }
+        answer
+    }
+}
+
+/// The store's place of the block of the handle that a name is bound to.
+fn find_block<S: BlockStore>(store: &S, names: &[Entry], handle: Option<usize>) -> Result<u32, Refusal>
+    requires { Agrees (S.rest store.now) names.now }
+    ensures { FindsBlock (S.zone store.now) (S.rest store.now).slots names.now handle result }
+{
+    let found = slot_of(names, handle)?;
+    let Some(place) = store.place_of(found.slot) else {
+        return Err(Refusal::Code(OsErr::NIL_HANDLE));
+    };
+    Ok(place)
+}

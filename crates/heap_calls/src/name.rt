@@ -1,0 +1,42 @@
+//! What numbers stand for.
+
+ghost use Rattle.std.specs.Prelude.{◌≡◌, slice_get, option_and_then, Some, None, Err};
+ghost use Rattle.heap_calls.specs.Given.{slot_of};
+
+use crate::refusal::Refusal;
+use mac_words::OsErr;
+
+/// What a number stands for in a store.
+#[derive(Clone, Copy, Debug, PartialEq, Eq)]
+pub enum Entry {
+    /// A handle, by its slot.
+    Handle(u32),
+    /// A pointer, by the place of its block.
+    Pointer(u32),
+    /// Nothing any more.
+    Disposed,
+}
+
+/// A handle that was looked up, and its slot.
+#[derive(Clone, Copy, Debug, PartialEq, Eq)]
+pub struct Found {
+    pub number: usize,
+    pub slot: u32,
+}
+
+/// The slot of the handle that a name is bound to.
+pub fn slot_of(names: &[Entry], handle: Option<usize>) -> Result<Found, Refusal>
+    ensures { result ≡ slot_of handle names.now }
+{
+    let Some(number) = handle else {
+        return Err(Refusal::Code(OsErr::NIL_HANDLE));
+    };
+    match names.get(number) {
+        None => Err(Refusal::Code(OsErr::NIL_HANDLE)),
+        Some(Entry::Handle(slot)) => Ok(Found {
+            number,
+            slot: *slot,
+        }),
+        Some(_) => Err(Refusal::Code(OsErr::WRONG_ZONE)),
+    }
+}
