@@ -23,8 +23,8 @@ fn digit_of(value: u8) -> u8
     }
 }
 
-/// Appends bytes in hexadecimal.
-fn push_hex(text: &mut Vec<u8>, bytes: &[u8]) -> Result<(), AllocError>
+/// Appends bytes in hexadecimal, two digits each in lower case.
+pub fn write_hex(text: &mut Vec<u8>, bytes: &[u8]) -> Result<(), AllocError>
     ensures { OnOk result (text.new.items ≡ text.old.items ++ hex bytes.now) }
 {
     for byte in bytes {
@@ -49,7 +49,7 @@ fn push_bytes(text: &mut Vec<u8>, bytes: Option<&[u8]>) -> Result<(), AllocError
 {
     if let Some(bytes) = bytes {
         text.extend_from_slice(b" $")?;
-        push_hex(text, bytes)?;
+        write_hex(text, bytes)?;
     }
     Ok(())
 }

@@ -1,0 +1,15 @@
+pub mod Bools
+pub mod Vectors
+pub mod Loops
+pub mod Standing
+pub mod Again
+pub mod Groups
+pub mod Whole
+pub mod OneContent
+pub mod Lying
+pub mod CanSpell
+pub mod Joining
+pub mod Placing
+pub mod Extending
+pub mod Rest
+pub mod Putting

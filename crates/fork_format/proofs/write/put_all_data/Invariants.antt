@@ -1,0 +1,12 @@
+use Rattle.std.proofs.Common.{◌≡◌, ◌++◌, map, drop, true}
+use Rattle.std.specs.List.{list_all}
+use Rattle.fork_format.specs.Canonical.{data_of}
+use Rattle.fork_format.specs.Extent.{are_short}
+use Rattle.fork_format.specs.View.{view_group}
+use Rattle.fork_format.proofs.write.put_all_data.Given as goal
+
+abbrev pub invariant-loop-group : goal.invariant-loop-group
+invariant-loop-group l = record {
+  short : list_all are_short (map view_group (drop l.group-index l.groups)) ≡ true;
+  out : l.out.items ++ data_of (map view_group (drop l.group-index l.groups)) ≡ l.fn.out.items ++ data_of (map view_group l.groups);
+}

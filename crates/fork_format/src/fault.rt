@@ -1,0 +1,74 @@
+//! Why a fork could not be read or written.
+
+ghost use Rattle.std.specs.Prelude.{◌≡◌, Some, None};
+ghost use Rattle.fork_format.specs.declared.fault.ForkFault.TheVariants as fork_fault;
+ghost use Rattle.fork_format.specs.declared.fault.WriteFault.TheVariants as write_fault;
+ghost use Rattle.fork_format.specs.Code.{read_code, write_code};
+
+use mac_words::OsErr;
+use std::alloc::{AllocError, AllocFailed};
+
+/// Why bytes could not be read as a fork.
+#[derive(Clone, Copy, Debug, PartialEq, Eq)]
+pub enum ForkFault {
+    /// There are no bytes.
+    Empty,
+    /// The bytes spell no content.
+    BadMap,
+    /// The host has no memory.
+    HostMemory,
+}
+
+impl ForkFault {
+    /// The result code: `eofErr`, or `mapReadErr`. There is none where the host has no memory.
+    ///
+    /// *More Macintosh Toolbox*, chapter 1, "Result Codes".
+    pub fn code(self) -> Option<OsErr>
+        ensures { result ≡ read_code self }
+    {
+        match self {
+            ForkFault::Empty => Some(OsErr::END_OF_FILE),
+            ForkFault::BadMap => Some(OsErr::MAP_READ),
+            ForkFault::HostMemory => None,
+        }
+    }
+}
+
+impl From<AllocError> for ForkFault {
+    ghost from_gives = { λ _ e. e ≡ fork_fault.HostMemory };
+
+    fn from(_e: AllocError) -> ForkFault {
+        ForkFault::HostMemory
+    }
+}
+
+/// Why a content could not be written as a fork.
+#[derive(Clone, Copy, Debug, PartialEq, Eq)]
+pub enum WriteFault {
+    /// The content does not fit the format.
+    TooLarge,
+    /// The host has no memory.
+    HostMemory,
+}
+
+impl WriteFault {
+    /// The result code: `dskFulErr`. There is none where the host has no memory.
+    ///
+    /// *More Macintosh Toolbox*, chapter 1, "Result Codes".
+    pub fn code(self) -> Option<OsErr>
+        ensures { result ≡ write_code self }
+    {
+        match self {
+            WriteFault::TooLarge => Some(OsErr::DISK_FULL),
+            WriteFault::HostMemory => None,
+        }
+    }
+}
+
+impl From<AllocError> for WriteFault {
+    ghost from_gives = { λ _ e. e ≡ write_fault.HostMemory };
+
+    fn from(_e: AllocError) -> WriteFault {
+        WriteFault::HostMemory
+    }
+}

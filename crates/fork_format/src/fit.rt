@@ -1,0 +1,186 @@
+//! Whether a content can be written, and what the parts of its fork take.
+
+ghost use Rattle.std.specs.Prelude.{◌≡◌, ◌+◌, ◌≤◌, ◌==◌, ◌↔◌, ℕ, not, length, map, IsTrue, IsSome, IfSome, Some, None, if◌then◌else◌};
+ghost use Rattle.std.specs.List.{list_all};
+ghost use Rattle.byteorder.specs.Endian.{big_number};
+ghost use Rattle.fork_format.specs.Content.{Group as GroupValue, refs_of};
+ghost use Rattle.fork_format.specs.Canonical.{are_distinct, refs_offset};
+ghost use Rattle.fork_format.specs.Canonical as canonical;
+ghost use Rattle.fork_format.specs.Extent.{is_low, next, behind, no_starts, refs_end, AreExtents};
+ghost use Rattle.fork_format.specs.View.{view_ref, view_group, view};
+
+use crate::content::{Content, Group, Ref};
+use byteorder::{BigEndian, ByteOrder};
+use mac_words::OsType;
+
+/// The largest offset of a datum, in three bytes.
+const MAX_DATUM_OFFSET: usize = 16_777_215;
+/// The largest offset of a name. One more stands for no name.
+const MAX_NAME_OFFSET: usize = 65_534;
+/// The most bytes of data, with their lengths.
+const MAX_DATA: usize = 134_217_728;
+/// Where the references may end at most, from the type list, which stands 28 bytes behind the map's start:
+/// the offset of the name list, from the map's start, has two bytes.
+const MAX_REFS_END: usize = 65_507;
+/// The most types whose entries end there in time.
+const MAX_TYPES: usize = 8_188;
+
+/// Where a datum and a name begin, from the data's start and from the name list.
+#[derive(Clone, Copy, Debug)]
+pub struct Starts {
+    pub datum: usize,
+    pub name: usize,
+}
+
+/// What the parts of a canonical fork take, in bytes: type list and references, data, and names.
+#[derive(Clone, Copy, Debug)]
+pub struct Extents {
+    pub refs_end: usize,
+    pub data_len: usize,
+    pub names_len: usize,
+}
+
+/// The number whose four bytes a type is.
+pub fn kind_of(ty: OsType) -> u32
+    ensures { result ≡ big_number 4 ty.0 }
+{
+    BigEndian::read_u32(&ty.0)
+}
+
+/// Whether a resource's datum and name may begin where they do, and its datum ends in time.
+fn may_begin(r: &Ref, starts: Starts) -> bool
+    ensures { result ≡ is_low starts (view_ref r.now) }
+{
+    starts.datum <= MAX_DATUM_OFFSET
+        && (r.name.is_none() || starts.name <= MAX_NAME_OFFSET)
+        && r.datum.len() <= MAX_DATA - 4 - starts.datum
+}
+
+/// Where the datum and the name of the next resource begin.
+pub fn starts_after(r: &Ref, starts: Starts) -> Starts
+    requires { IsTrue (is_low starts (view_ref r.now)) }
+    ensures next { result ≡ next starts (view_ref r.now) }
+    ensures datum { result.datum ≤ 134217728 }
+    ensures name { starts.name ≤ 65790 → result.name ≤ 65790 }
+{
+    let name_len = match &r.name {
+        None => 0,
+        Some(name) => 1 + name.0.len(),
+    };
+    Starts {
+        datum: starts.datum + 4 + r.datum.len(),
+        name: starts.name + name_len,
+    }
+}
+
+/// Where data and names begin behind resources, if those of the resources may begin where they do.
+fn starts_behind(refs: &[Ref], starts: Starts) -> Option<Starts>
+    requires datum { starts.datum ≤ 134217728 }
+    requires name { starts.name ≤ 65790 }
+    ensures behind { result ≡ behind starts (map view_ref refs.now) }
+    ensures datum { IfSome result (λ s. s.datum ≤ 134217728) }
+    ensures name { IfSome result (λ s. s.name ≤ 65790) }
+{
+    let mut next = starts;
+    for r in refs {
+        if !may_begin(r, next) {
+            return None;
+        }
+        next = starts_after(r, next);
+    }
+    Some(next)
+}
+
+/// What all data and names take, if each may begin where it does.
+fn ends_of(groups: &[Group]) -> Option<Starts>
+    ensures behind { result ≡ behind no_starts (refs_of (map view_group groups.now)) }
+    ensures datum { IfSome result (λ s. s.datum ≤ 134217728) }
+    ensures name { IfSome result (λ s. s.name ≤ 65790) }
+{
+    let mut ends = Starts { datum: 0, name: 0 };
+    for group in groups {
+        let Some(behind) = starts_behind(group.refs.as_slice(), ends) else {
+            return None;
+        };
+        ends = behind;
+    }
+    Some(ends)
+}
+
+/// Where the references end, from the type list, if no group is empty and the name list may begin there.
+fn refs_end_of(groups: &[Group]) -> Option<usize>
+    ensures end { result ≡ refs_end (refs_offset (map view_group groups.now)) (map view_group groups.now) }
+    ensures low { IfSome result (λ at. at ≤ 65507) }
+{
+    if groups.len() > MAX_TYPES {
+        return None;
+    }
+    let mut at = 2 + 8 * groups.len();
+    for group in groups {
+        let count = group.refs.len();
+        if count == 0 || count > (MAX_REFS_END - at) / 12 {
+            return None;
+        }
+        at += 12 * count;
+    }
+    Some(at)
+}
+
+/// Whether no group is of the type.
+fn is_type_new(kind: u32, groups: &[Group]) -> bool
+    ensures { result ≡ list_all (λ m. not (m == kind)) (map (λ (g : GroupValue). g.kind) (map view_group groups.now)) }
+{
+    for group in groups {
+        if kind_of(group.ty) == kind {
+            return false;
+        }
+    }
+    true
+}
+
+/// Whether no two groups are of one type.
+fn are_types_different(groups: &[Group]) -> bool
+    ensures { result ≡ are_distinct (map (λ (g : GroupValue). g.kind) (map view_group groups.now)) }
+{
+    for (i, group) in groups.iter().enumerate() {
+        if !is_type_new(kind_of(group.ty), &groups[i + 1..]) {
+            return false;
+        }
+    }
+    true
+}
+
+/// What the parts of the canonical fork take, if the content fits. The types are compared last, when
+/// there are few.
+pub fn extents_of(content: &Content) -> Option<Extents>
+    ensures found { IfSome result (λ e. AreExtents e (view content.now).groups) }
+    ensures fits { IsSome result ↔ IsTrue (canonical.fits (view content.now)) }
+{
+    let groups = content.groups.as_slice();
+    let Some(refs_end) = refs_end_of(groups) else {
+        return None;
+    };
+    let Some(ends) = ends_of(groups) else {
+        return None;
+    };
+    if !are_types_different(groups) {
+        return None;
+    }
+    Some(Extents {
+        refs_end,
+        data_len: ends.datum,
+        names_len: ends.name,
+    })
+}
+
+/// Whether a content can be written as a fork: no group is empty, no two groups are of one type, there are
+/// at most 65,535 groups, and each offset of a reference list, of the name list (at most 65,535), of a
+/// name (at most 65,534) and of a datum (at most 16,777,215) can be written; the data take at most
+/// 134,217,728 bytes with their lengths.
+///
+/// *More Macintosh Toolbox*, chapter 1, "Resource File Format".
+pub fn fits(content: &Content) -> bool
+    ensures { result ≡ canonical.fits (view content.now) }
+{
+    extents_of(content).is_some()
+}

@@ -1,0 +1,258 @@
+//! Reading a fork: the content that bytes spell.
+
+ghost use Rattle.std.specs.Prelude.{◌≡◌, ◌+◌, ◌*◌, ◌≤◌, ◌<◌, ◌^◌, ◌++◌, length, IsTrue, IfOk, OnOk, ◌↔◌, ◌≢◌, [], map, Some};
+ghost use Rattle.std.specs.List.{list_all};
+ghost use Rattle.std.specs.Int.{cast_signed, w16};
+ghost use Rattle.byteorder.specs.Endian.{big_number};
+ghost use Rattle.fork_format.specs.Content.{joined};
+ghost use Rattle.fork_format.specs.Fork.{number, name_place, name_at, name_fits, ref_at, ref_fits, ref_count, ref_places, refs_fit, group_at, datum_at, offsets, kept, map_kept, map_start, types_fit, type_places, is_fork, content_of, Spells, IsUnspelled};
+ghost use Rattle.fork_format.specs.Fork as fork;
+ghost use Rattle.fork_format.specs.Layout.{IsLayout};
+ghost use Rattle.fork_format.specs.Place.{ArePlaces, put, opened, place};
+ghost use Rattle.fork_format.specs.View.{view_name, view_ref, view_group, view};
+
+use crate::content::{Content, Group, Ref};
+use crate::fault::ForkFault;
+use crate::layout::{
+    Layout, byte, datum_place_of, half, layout_of_fork, name_place_of, type_count_of, word,
+};
+use arrayvec::ArrayVec;
+use byteorder::{BigEndian, ByteOrder};
+use mac_words::{Attrs, Name, OsType};
+use std::alloc::{AllocError, Global};
+use std::collections::BTreeMap;
+
+fn name_of(l: Layout, bytes: &[u8], place: Option<usize>) -> Option<Name>
+    requires layout { IsLayout l bytes.now }
+    requires fits { IsTrue (name_fits place bytes.now) }
+    ensures { view_name result ≡ name_at place bytes.now }
+{
+    let at = place?;
+    let len = byte(bytes, at);
+    let mut name = ArrayVec::new();
+    let _fits = name.try_extend_from_slice(&bytes[at + 1..at + 1 + len]);
+    Some(Name(name))
+}
+
+fn id_of(bytes: &[u8], at: usize) -> i16
+    requires { at + 2 ≤ length bytes.now }
+    ensures { result ≡ cast_signed w16 (number 2 at bytes.now) }
+{
+    BigEndian::read_i16(&bytes[at..])
+}
+
+fn attrs_of(bytes: &[u8], at: usize) -> Attrs
+    requires { at + 1 ≤ length bytes.now }
+    ensures { result.0 ≡ kept (number 1 at bytes.now) }
+{
+    Attrs(bytes[at]).unchanged()
+}
+
+fn datum_of(alloc: Global, bytes: &[u8], at: usize) -> Result<Vec<u8>, AllocError>
+    requires room { at + 4 ≤ length bytes.now }
+    requires inside { at + 4 + number 4 at bytes.now ≤ length bytes.now }
+    ensures { IfOk result (λ v. v.items ≡ datum_at at bytes.now) }
+{
+    let size = word(bytes, at);
+    Vec::from_slice(alloc, &bytes[at + 4..at + 4 + size])
+}
+
+/// The resource of the reference at an offset.
+fn ref_of(alloc: Global, l: Layout, bytes: &[u8], at: usize) -> Result<Ref, AllocError>
+    requires layout { IsLayout l bytes.now }
+    requires fits { IsTrue (ref_fits bytes.now at) }
+    ensures { IfOk result (λ r. view_ref r ≡ ref_at bytes.now at) }
+{
+    let datum = datum_of(alloc, bytes, datum_place_of(l, bytes, at))?;
+    let name = name_of(l, bytes, name_place_of(l, bytes, at));
+    let id = id_of(bytes, at);
+    Ok(Ref {
+        id,
+        name,
+        attrs: attrs_of(bytes, at + 4),
+        datum,
+    })
+}
+
+/// Puts the resources of references that follow one another behind those that are there.
+fn read_refs(
+    alloc: Global,
+    l: Layout,
+    bytes: &[u8],
+    first: usize,
+    count: usize,
+    refs: &mut Vec<Ref>,
+) -> Result<(), AllocError>
+    requires layout { IsLayout l bytes.now }
+    requires small { first < 2 ^ 35 }
+    requires few { count ≤ 65536 }
+    requires fits { IsTrue (list_all (ref_fits bytes.now) (offsets first 12 count)) }
+    ensures { OnOk result (map view_ref refs.new.items ≡ map view_ref refs.old.items ++ map (ref_at bytes.now) (offsets first 12 count)) }
+{
+    refs.reserve(count)?;
+    let mut at = first;
+    for _ in 0..count {
+        let next = ref_of(alloc, l, bytes, at)?;
+        refs.push(next)?;
+        at += 12;
+    }
+    Ok(())
+}
+
+fn kind_at(bytes: &[u8], at: usize) -> u32
+    requires { at + 4 ≤ length bytes.now }
+    ensures { result ≡ number 4 at bytes.now }
+{
+    BigEndian::read_u32(&bytes[at..])
+}
+
+fn type_of(kind: u32) -> OsType
+    ensures { big_number 4 result.0 ≡ kind }
+{
+    OsType(kind.to_be_bytes())
+}
+
+/// Puts the resources of a type's entry into a group.
+fn fill(
+    alloc: Global,
+    l: Layout,
+    bytes: &[u8],
+    at: usize,
+    group: &mut Group,
+) -> Result<(), AllocError>
+    requires layout { IsLayout l bytes.now }
+    requires room { at + 8 ≤ length bytes.now }
+    requires fits { IsTrue (refs_fit bytes.now at) }
+    ensures { OnOk result (view_group group.new ≡ record (view_group group.old) { refs = (view_group group.old).refs ++ map (ref_at bytes.now) (ref_places at bytes.now) }) }
+{
+    let first = l.type_list + half(bytes, at + 6);
+    let count = half(bytes, at + 4) + 1;
+    read_refs(alloc, l, bytes, first, count, &mut group.refs)
+}
+
+/// The place of a type's group. The group of a new type is put behind the others, with no resource yet.
+fn place_of(
+    alloc: Global,
+    kind: u32,
+    groups: &mut Vec<Group>,
+    places: &mut BTreeMap<u32, usize>,
+) -> Result<usize, AllocError>
+    requires { ArePlaces places.old (map view_group groups.old.items) }
+    ensures places { OnOk result (ArePlaces places.new (map view_group groups.new.items)) }
+    ensures groups { OnOk result (map view_group groups.new.items ≡ opened kind (map view_group groups.old.items)) }
+    ensures at { IfOk result (λ at. place kind (map view_group groups.new.items) ≡ Some at) }
+{
+    if let Some(place) = places.get(&kind) {
+        return Ok(*place);
+    }
+    let place = groups.len();
+    groups.push(Group {
+        ty: type_of(kind),
+        refs: Vec::new(alloc),
+    })?;
+    places.insert(kind, place)?;
+    Ok(place)
+}
+
+/// Puts the resources of a type's entry behind those of its type.
+fn read_type(
+    alloc: Global,
+    l: Layout,
+    bytes: &[u8],
+    at: usize,
+    groups: &mut Vec<Group>,
+    places: &mut BTreeMap<u32, usize>,
+) -> Result<(), AllocError>
+    requires layout { IsLayout l bytes.now }
+    requires room { at + 8 ≤ length bytes.now }
+    requires fits { IsTrue (refs_fit bytes.now at) }
+    requires places { ArePlaces places.old (map view_group groups.old.items) }
+    ensures places { OnOk result (ArePlaces places.new (map view_group groups.new.items)) }
+    ensures groups { OnOk result (map view_group groups.new.items ≡ put (group_at bytes.now at) (map view_group groups.old.items)) }
+{
+    let place = place_of(alloc, kind_at(bytes, at), groups, places)?;
+    fill(alloc, l, bytes, at, &mut groups[place])?;
+    Ok(())
+}
+
+/// The groups of types that follow one another.
+fn read_types(
+    alloc: Global,
+    l: Layout,
+    bytes: &[u8],
+    first: usize,
+    count: usize,
+) -> Result<Vec<Group>, AllocError>
+    requires layout { IsLayout l bytes.now }
+    requires room { first + 8 * count ≤ length bytes.now }
+    requires few { count ≤ 65535 }
+    requires fits { IsTrue (list_all (refs_fit bytes.now) (offsets first 8 count)) }
+    ensures { IfOk result (λ v. map view_group v.items ≡ joined (map (group_at bytes.now) (offsets first 8 count))) }
+{
+    let mut groups = Vec::new(alloc);
+    let mut places = BTreeMap::new(alloc);
+    let mut at = first;
+    for _ in 0..count {
+        read_type(alloc, l, bytes, at, &mut groups, &mut places)?;
+        at += 8;
+    }
+    Ok(groups)
+}
+
+/// The bytes behind the header.
+fn area_of(l: Layout, bytes: &[u8]) -> [u8; 240]
+    requires { IsLayout l bytes.now }
+    ensures { result ≡ fork.area_of bytes.now }
+{
+    let mut area = [0; 240];
+    if 256 <= bytes.len() && 256 <= l.data_start && 256 <= l.map_start {
+        area.copy_from_slice(&bytes[16..256]);
+    }
+    area
+}
+
+/// The attributes of the map, without `mapCompact` and `mapChanged`.
+fn map_attrs_of(l: Layout, bytes: &[u8]) -> u16
+    requires layout { IsLayout l bytes.now }
+    requires room { l.map_start + 30 ≤ length bytes.now }
+    ensures { result ≡ map_kept (number 2 (map_start bytes.now + 22) bytes.now) }
+{
+    BigEndian::read_u16(&bytes[l.map_start + 22..]) & 0xff9f
+}
+
+/// The content of a fork.
+fn read_content(alloc: Global, l: Layout, bytes: &[u8]) -> Result<Content, AllocError>
+    requires layout { IsLayout l bytes.now }
+    requires fork { IsTrue (is_fork bytes.now) }
+    ensures { IfOk result (λ c. view c ≡ content_of bytes.now) }
+{
+    let groups = read_types(alloc, l, bytes, l.type_list + 2, type_count_of(l, bytes))?;
+    let area = area_of(l, bytes);
+    Ok(Content {
+        area,
+        attrs: map_attrs_of(l, bytes),
+        groups,
+    })
+}
+
+/// Reads a resource fork.
+///
+/// A fork that is read has at most 65,536 references in all, and at most 134,217,728 bytes of data with
+/// their lengths, summed over the references; data and lists may be shared. Nothing is copied before
+/// these limits are known to hold.
+///
+/// *More Macintosh Toolbox*, chapter 1, "Resource File Format".
+pub fn read_fork(alloc: Global, bytes: &[u8]) -> Result<Content, ForkFault>
+    ensures content { IfOk result (λ c. Spells bytes.now (view c)) }
+    ensures empty { (result ≡ Err ForkFault.Empty) ↔ (bytes.now ≡ []) }
+    ensures bad_map { (result ≡ Err ForkFault.BadMap) ↔ ((bytes.now ≢ []) × IsUnspelled bytes.now) }
+{
+    if bytes.is_empty() {
+        return Err(ForkFault::Empty);
+    }
+    let Some(l) = layout_of_fork(bytes) else {
+        return Err(ForkFault::BadMap);
+    };
+    let content = read_content(alloc, l, bytes)?;
+    Ok(content)
+}

@@ -1,0 +1,92 @@
+// The header of a block.
+ghost use Rattle.std.specs.Prelude.{◌≡◌, ◌+◌, ◌-◌, ◌%◌, ◌≤◌, ◌<◌, ◌^◌, length};
+ghost use Rattle.windows.specs.Writes.{written};
+ghost use Rattle.heap_words.specs.Headers.{header_bytes, tag_number};
+ghost use Rattle.heap_words.specs.Words.{word_at};
+
+use crate::word::{read_word, write_word};
+use raw_region::Part;
+
+/// The kind of a block, as its header tells it.
+#[derive(Clone, Copy, Debug, PartialEq, Eq, Drop)]
+pub enum Tag {
+    /// Nothing is in it.
+    Free,
+    /// A nonrelocatable block.
+    Fixed,
+    /// A block of master pointers.
+    Masters,
+    /// A relocatable block.
+    Relocatable,
+}
+
+/// The four words that stand before the content of a block (Inside Macintosh: Memory, chapter 1, "Block Headers").
+#[derive(Clone, Copy, Debug, PartialEq, Eq, Drop)]
+pub struct Header {
+    /// The physical size: all bytes of the block, with its header. A multiple of 16.
+    pub size: u32,
+    pub tag: Tag,
+    /// How many bytes of content were asked for; 256 for a block of master pointers.
+    pub logical: u32,
+    /// The place of the slot that a relocatable block belongs to, or 0.
+    pub slot: u32,
+    pub flags: u32,
+}
+
+fn tag_code(tag: Tag) -> u32
+    ensures { result ≡ tag_number tag }
+{
+    match tag {
+        Tag::Free => 0,
+        Tag::Fixed => 1,
+        Tag::Masters => 2,
+        Tag::Relocatable => 3,
+    }
+}
+
+fn tag_of(code: u32) -> Tag
+    requires { code < 4 }
+    ensures { tag_number result ≡ code }
+{
+    match code {
+        0 => Tag::Free,
+        1 => Tag::Fixed,
+        2 => Tag::Masters,
+        _ => Tag::Relocatable,
+    }
+}
+
+/// The header of the block at a place. Of a free block only the first word counts.
+pub fn read_header(part: &Part, at: u32) -> Header
+    requires within { (at % 4 ≡ 0) × (at + 16 ≤ length part.now.bytes) }
+    requires tag { word_at at part.now.bytes % 16 < 4 }
+    ensures first { result.size + tag_number result.tag ≡ word_at at part.now.bytes }
+    ensures size { result.size % 16 ≡ 0 }
+    ensures logical { result.logical ≡ word_at (at + 4) part.now.bytes }
+    ensures slot { result.slot ≡ word_at (at + 8) part.now.bytes }
+    ensures flags { result.flags ≡ word_at (at + 12) part.now.bytes }
+{
+    let at = at as usize;
+    let first = read_word(part, at);
+    Header {
+        size: first - first % 16,
+        tag: tag_of(first % 16),
+        logical: read_word(part, at + 4),
+        slot: read_word(part, at + 8),
+        flags: read_word(part, at + 12),
+    }
+}
+
+/// Writes the header of a block at a place. All other bytes stay.
+pub fn write_header(part: &mut Part, at: u32, header: Header)
+    requires within { (at % 4 ≡ 0) × (at + 16 ≤ length part.old.bytes) }
+    requires size { header.size % 16 ≡ 0 }
+    ensures same { (part.new.home ≡ part.old.home) × (part.new.at ≡ part.old.at) × (length part.new.bytes ≡ length part.old.bytes) }
+    ensures bytes { part.new.bytes ≡ written at (header_bytes header) part.old.bytes }
+{
+    let at = at as usize;
+    write_word(part, at, header.size + tag_code(header.tag));
+    write_word(part, at + 4, header.logical);
+    write_word(part, at + 8, header.slot);
+    write_word(part, at + 12, header.flags);
+}

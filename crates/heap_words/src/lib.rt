@@ -1,0 +1,14 @@
+//! The words that stand in a zone: headers of blocks and slots of master pointers, over the bytes of a part. Places and
+//! numbers are those of the zone, which begins at place 0 of its part; each number takes four bytes, the highest first.
+#![tactic(auto)]
+
+mod header;
+mod slot;
+mod word;
+
+pub use header::{Header, Tag, read_header, write_header};
+pub use slot::{SlotWord, read_slot, write_slot};
+pub use word::{read_word, write_word};
+
+#[cfg(test)]
+mod tests;

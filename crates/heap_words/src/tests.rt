@@ -1,0 +1,115 @@
+ghost use Rattle.std.specs.Prelude.{◌≡◌, ◌+◌, ◌%◌, ◌≤◌, ◌<◌, ◌^◌, length};
+ghost use Rattle.heap_words.specs.Slots.{IsSlot, slot_number};
+
+use super::{Header, SlotWord, Tag, read_header, read_slot, write_header, write_slot};
+use raw_region::{Part, Region};
+use std::test::Fail;
+
+// What is read where the header was just written.
+fn header_again(part: &mut Part, at: u32, header: Header) -> Header
+    requires within { (at % 4 ≡ 0) × (at + 16 ≤ length part.old.bytes) }
+    requires size { header.size % 16 ≡ 0 }
+    requires small { (header.size + 4 ≤ 2 ^ 32) × (header.logical < 2 ^ 32) × (header.slot < 2 ^ 32) × (header.flags < 2 ^ 32) }
+    ensures same { (part.new.home ≡ part.old.home) × (part.new.at ≡ part.old.at) × (length part.new.bytes ≡ length part.old.bytes) }
+    ensures header { (result.size ≡ header.size) × (result.tag ≡ header.tag) × (result.logical ≡ header.logical) × (result.slot ≡ header.slot) × (result.flags ≡ header.flags) }
+{
+    write_header(part, at, header);
+    read_header(part, at)
+}
+
+// What is read where the slot was just written.
+fn slot_again(part: &mut Part, at: u32, slot: SlotWord) -> SlotWord
+    requires within { (at % 4 ≡ 0) × (at + 4 ≤ length part.old.bytes) }
+    requires slot { IsSlot slot }
+    requires small { slot_number slot < 2 ^ 32 }
+    ensures same { (part.new.home ≡ part.old.home) × (part.new.at ≡ part.old.at) × (length part.new.bytes ≡ length part.old.bytes) }
+    ensures slot { result ≡ slot }
+{
+    write_slot(part, at, slot);
+    read_slot(part, at)
+}
+
+#[test]
+fn header_of_masters(rt: HostRuntime) -> Result<(), Fail> {
+    let mut region = Region::new(rt.alloc(), 512)?;
+    let mut part = region.cut(0, 512);
+    let header = Header {
+        size: 272,
+        tag: Tag::Masters,
+        logical: 256,
+        slot: 0,
+        flags: 0,
+    };
+    assert_eq!(rt; header_again(&mut part, 0, header), header);
+    assert_eq!(rt; part.word(0), [0, 0, 1, 0x12]);
+    assert_eq!(rt; part.word(4), [0, 0, 1, 0]);
+    assert_eq!(rt; part.word(8), [0; 4]);
+    assert_eq!(rt; part.word(12), [0; 4]);
+    region.join(part);
+    region.close();
+    Ok(())
+}
+
+#[test]
+fn header_of_three_bytes(rt: HostRuntime) -> Result<(), Fail> {
+    let mut region = Region::new(rt.alloc(), 512)?;
+    let mut part = region.cut(0, 512);
+    let header = Header {
+        size: 32,
+        tag: Tag::Relocatable,
+        logical: 3,
+        slot: 16,
+        flags: 0,
+    };
+    assert_eq!(rt; header_again(&mut part, 272, header), header);
+    assert_eq!(rt; part.word(272), [0, 0, 0, 0x23]);
+    assert_eq!(rt; part.word(276), [0, 0, 0, 3]);
+    assert_eq!(rt; part.word(280), [0, 0, 0, 16]);
+    assert_eq!(rt; part.word(284), [0; 4]);
+    region.join(part);
+    region.close();
+    Ok(())
+}
+
+#[test]
+fn slots(rt: HostRuntime) -> Result<(), Fail> {
+    let mut region = Region::new(rt.alloc(), 48)?;
+    let mut part = region.cut(0, 48);
+    assert_eq!(rt;
+        slot_again(&mut part, 16, SlotWord::Block(272)),
+        SlotWord::Block(272)
+    );
+    assert_eq!(rt; part.word(16), [0, 0, 1, 0x10]);
+    assert_eq!(rt;
+        slot_again(&mut part, 20, SlotWord::Emptied(false)),
+        SlotWord::Emptied(false)
+    );
+    assert_eq!(rt; part.word(20), [0, 0, 0, 2]);
+    assert_eq!(rt;
+        slot_again(&mut part, 24, SlotWord::Emptied(true)),
+        SlotWord::Emptied(true)
+    );
+    assert_eq!(rt; part.word(24), [0, 0, 0, 18]);
+    region.join(part);
+    region.close();
+    Ok(())
+}
+
+#[test]
+fn unused_slots(rt: HostRuntime) -> Result<(), Fail> {
+    let mut region = Region::new(rt.alloc(), 48)?;
+    let mut part = region.cut(0, 48);
+    assert_eq!(rt;
+        slot_again(&mut part, 28, SlotWord::Unused(Some(32))),
+        SlotWord::Unused(Some(32))
+    );
+    assert_eq!(rt; part.word(28), [0, 0, 2, 1]);
+    assert_eq!(rt;
+        slot_again(&mut part, 32, SlotWord::Unused(None)),
+        SlotWord::Unused(None)
+    );
+    assert_eq!(rt; part.word(32), [0, 0, 0, 1]);
+    region.join(part);
+    region.close();
+    Ok(())
+}

@@ -1,0 +1,4 @@
+pub mod Fault
+pub mod Size
+pub mod Listing
+pub mod Work

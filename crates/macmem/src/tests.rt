@@ -1,0 +1,366 @@
+//! The program's work with a host in memory.
+
+use crate::{Host, ReadError, ToolFault, WriteError, tool};
+use std::alloc::Global;
+use std::test::Fail;
+
+/// The script of the stored run.
+const FIRST: &str =
+    "NewHandle a 100\nPut a 1 \"Hi\"\nNewHandle b 3\nShow b\nGetHandleSize a\nDisposeHandle a\nWhere a\nNewHandle c 500\nWhere c\nFreeMem\nNewHandle d 737\nPut b 3 \"x\"\n";
+
+const FIRST_TRANSCRIPT: &str =
+    "launch 0 1024\n1 NewHandle 0\n2 Put 0\n3 NewHandle 0\n4 Show 0 $000000\n5 GetHandleSize 0 100\n6 DisposeHandle 0\n7 Where -111\n8 NewHandle 0\n9 Where 0 448\n10 FreeMem 0 192\n11 NewHandle -108\n12 Put -30001\nend 0\n";
+
+/// A host with one file, named `file`; everything that is printed is kept.
+#[derive(Drop)]
+struct Memory<'a> {
+    file: &'a [u8],
+    fails_print: bool,
+    printed: Vec<u8>,
+}
+
+impl<'a> Host for Memory<'a> {
+    fn read(&mut self, alloc: Global, path: &str) -> Result<Vec<u8>, ReadError> {
+        if path == "file" {
+            Ok(Vec::from_slice(alloc, self.file)?)
+        } else {
+            Err(ReadError::CannotRead)
+        }
+    }
+
+    fn print(&mut self, bytes: &[u8]) -> Result<(), WriteError> {
+        if self.fails_print {
+            return Err(WriteError);
+        }
+        match self.printed.extend_from_slice(bytes) {
+            Ok(()) => Ok(()),
+            Err(_) => Err(WriteError),
+        }
+    }
+}
+
+fn host(alloc: Global, file: &[u8]) -> Memory<'_> {
+    Memory {
+        file,
+        fails_print: false,
+        printed: Vec::new(alloc),
+    }
+}
+
+/// What a command prints of a file.
+fn printed(alloc: Global, words: &[&str], file: &[u8]) -> Result<Vec<u8>, ToolFault> {
+    let mut host = host(alloc, file);
+    tool(alloc, words, &mut host)?;
+    Ok(host.printed)
+}
+
+/// The fault of a command, told as a person is told it; empty where there is none.
+fn told(alloc: Global, words: &[&str], file: &[u8]) -> Result<String, Fail> {
+    let mut host = host(alloc, file);
+    match tool(alloc, words, &mut host) {
+        Ok(()) => Ok(String::new(alloc)),
+        Err(fault) => Ok(fault.to_string(alloc)?),
+    }
+}
+
+/// What a script prints in a partition of a size.
+fn ran(alloc: Global, size: &str, script: &str) -> Result<String, Fail> {
+    let text = printed(
+        alloc,
+        &["macmem", "script", size, "file"],
+        script.as_bytes(),
+    )?;
+    match String::from_utf8(text) {
+        Ok(text) => Ok(text),
+        Err(_) => Err(Fail::new("a transcript is text")),
+    }
+}
+
+#[test]
+fn runs_the_first_script(rt: HostRuntime) -> Result<(), Fail> {
+    let text = ran(rt.alloc(), "1024", FIRST)?;
+    assert_eq!(rt; text.as_str(), FIRST_TRANSCRIPT);
+    Ok(())
+}
+
+#[test]
+fn rounds_sizes_down(rt: HostRuntime) -> Result<(), Fail> {
+    for (size, launch) in [
+        ("1500", "launch 0 1488\nend 0\n"),
+        ("512", "launch 0 512\nend 0\n"),
+        ("00000000000000000512", "launch 0 512\nend 0\n"),
+        ("134217728", "launch 0 134217728\nend 0\n"),
+    ] {
+        let text = ran(rt.alloc(), size, "")?;
+        assert_eq!(rt; text.as_str(), launch, "at {size}");
+    }
+    Ok(())
+}
+
+#[test]
+fn refuses_other_sizes(rt: HostRuntime) -> Result<(), Fail> {
+    for size in [
+        "0",
+        "abc",
+        "134217729",
+        "511",
+        "+1024",
+        "",
+        " 1024",
+        "1024x",
+        "-1",
+        "99999999999999999999999",
+    ] {
+        let mut host = host(rt.alloc(), b"");
+        match tool(rt.alloc(), &["macmem", "script", size, "file"], &mut host) {
+            Err(fault) => {
+                assert_eq!(rt; fault.kind(), 0, "at {size}");
+                assert_eq!(rt; fault.status(), 2, "at {size}");
+                assert!(rt; !fault.text().is_empty(), "at {size}");
+                assert_eq!(rt;
+                    (fault.path(), fault.line(), fault.number()),
+                    ("", 0, 0),
+                    "at {size}"
+                );
+            }
+            Ok(()) => return Err(Fail::new(size)),
+        }
+        assert!(rt; host.printed.is_empty(), "at {size}");
+    }
+    Ok(())
+}
+
+#[test]
+fn refuses_other_words(rt: HostRuntime) -> Result<(), Fail> {
+    let alloc = rt.alloc();
+    let none: [&str; 1] = ["macmem"];
+    let command: [&str; 2] = ["macmem", "play"];
+    let missing: [&str; 2] = ["macmem", "map"];
+    let more: [&str; 4] = ["macmem", "check", "file", "file"];
+    let option: [&str; 3] = ["macmem", "map", "-file"];
+    for words in [
+        &none[..],
+        &command[..],
+        &missing[..],
+        &more[..],
+        &option[..],
+    ] {
+        let mut host = host(alloc, b"");
+        match tool(alloc, words, &mut host) {
+            Err(fault) => {
+                assert_eq!(rt; fault.kind(), 0);
+                assert!(rt; !fault.text().is_empty());
+            }
+            Ok(()) => return Err(Fail::new("words that ask for nothing")),
+        }
+    }
+    Ok(())
+}
+
+#[test]
+fn helps(rt: HostRuntime) -> Result<(), Fail> {
+    let alloc = rt.alloc();
+    let all = told(alloc, &["macmem", "--help"], b"")?;
+    for word in ["script", "map", "check", "macmem script 1024"] {
+        assert!(rt; all.as_str().contains(word), "at {word}");
+    }
+    let script = told(alloc, &["macmem", "script", "--help"], b"")?;
+    for word in ["<SIZE>", "<SCRIPT>", "512 to 134217728", "NewHandle"] {
+        assert!(rt; script.as_str().contains(word), "at {word}");
+    }
+    for command in ["map", "check"] {
+        let help = told(alloc, &["macmem", command, "--help"], b"")?;
+        assert!(rt; help.as_str().contains("<FORK>"), "at {command}");
+    }
+    Ok(())
+}
+
+#[test]
+fn tells_faults_of_scripts(rt: HostRuntime) -> Result<(), Fail> {
+    let alloc = rt.alloc();
+    for (script, line) in [
+        ("NewHandle a", "macmem: file: line 1: fault 2"),
+        ("# none\n\nFoo\n", "macmem: file: line 3: fault 1"),
+        ("FreeMem 1\n", "macmem: file: line 1: fault 2"),
+        ("FreeMem\r\n\tShow\t1\r\n", "macmem: file: line 2: fault 2"),
+    ] {
+        let text = told(
+            alloc,
+            &["macmem", "script", "1024", "file"],
+            script.as_bytes(),
+        )?;
+        assert_eq!(rt; text.as_str(), line);
+    }
+    Ok(())
+}
+
+#[test]
+fn tells_long_lines(rt: HostRuntime) -> Result<(), Fail> {
+    let alloc = rt.alloc();
+    let mut script = vec![in alloc; b' '; 65535]?;
+    let words: [&str; 4] = ["macmem", "script", "1024", "file"];
+    let text = printed(alloc, &words, script.as_slice())?;
+    assert_eq!(rt; text.as_slice(), b"launch 0 1024\nend 0\n".as_slice());
+    script.push(b' ')?;
+    let line = told(alloc, &words, script.as_slice())?;
+    assert_eq!(rt; line.as_str(), "macmem: file: line 1: fault 4");
+    Ok(())
+}
+
+#[test]
+fn names_what_a_fault_is(rt: HostRuntime) -> Result<(), Fail> {
+    let alloc = rt.alloc();
+    let mut host = host(alloc, b"FreeMem\nFoo\n");
+    let words: [&str; 4] = ["macmem", "script", "1024", "file"];
+    match tool(alloc, &words, &mut host) {
+        Err(fault) => {
+            assert_eq!(rt; (fault.kind(), fault.status()), (2, 1));
+            assert_eq!(rt;
+                (fault.path(), fault.line(), fault.number()),
+                ("file", 2, 1)
+            );
+            assert_eq!(rt; fault.text(), "");
+        }
+        Ok(()) => return Err(Fail::new("a faulty script")),
+    }
+    Ok(())
+}
+
+#[test]
+fn tells_a_file_that_cannot_be_read(rt: HostRuntime) -> Result<(), Fail> {
+    let alloc = rt.alloc();
+    let script: [&str; 4] = ["macmem", "script", "1024", "none"];
+    let map: [&str; 3] = ["macmem", "map", "none"];
+    let check: [&str; 3] = ["macmem", "check", "none"];
+    for words in [&script[..], &map[..], &check[..]] {
+        let text = told(alloc, words, b"")?;
+        assert_eq!(rt; text.as_str(), "macmem: none: cannot read");
+    }
+    Ok(())
+}
+
+#[test]
+fn tells_what_cannot_be_printed(rt: HostRuntime) -> Result<(), Fail> {
+    let alloc = rt.alloc();
+    let mut host = host(alloc, b"FreeMem\n");
+    host.fails_print = true;
+    let words: [&str; 4] = ["macmem", "script", "1024", "file"];
+    match tool(alloc, &words, &mut host) {
+        Err(fault) => {
+            assert_eq!(rt; (fault.kind(), fault.path()), (4, "-"));
+            let text = fault.to_string(alloc)?;
+            assert_eq!(rt; text.as_str(), "macmem: -: cannot write");
+        }
+        Ok(()) => return Err(Fail::new("a print that fails")),
+    }
+    Ok(())
+}
+
+#[test]
+fn gives_and_takes_bytes(rt: HostRuntime) -> Result<(), Fail> {
+    let mut script = String::new(rt.alloc());
+    let mut transcript = String::from_str(rt.alloc(), "launch 0 1024\n")?;
+    for (call, answer) in [
+        ("FreeMem", "FreeMem 0 752"),
+        ("NewHandle a 736", "NewHandle 0"),
+        ("FreeMem", "FreeMem 0 0"),
+        ("NewHandle b 0", "NewHandle -108"),
+        ("DisposeHandle a", "DisposeHandle 0"),
+        ("NewHandle a 737", "NewHandle -108"),
+        ("GetHandleSize a", "GetHandleSize -111"),
+        ("GetHandleSize b", "GetHandleSize -109"),
+        ("NewHandle c 2147483647", "NewHandle -108"),
+        ("NewHandle a 5", "NewHandle 0"),
+        ("NewHandle a 737", "NewHandle -108"),
+        ("GetHandleSize a", "GetHandleSize 0 5"),
+        ("NewHandle z 0", "NewHandle 0"),
+        ("Show z", "Show 0 $"),
+        ("Put z 0 \"\"", "Put 0"),
+        ("Put z 0 $00", "Put -30001"),
+        ("Put a 3 $aBcD", "Put 0"),
+        ("Show a", "Show 0 $000000abcd"),
+        ("Where a", "Where 0 288"),
+        ("Where z", "Where 0 320"),
+        ("FreeMem", "FreeMem 0 704"),
+    ] {
+        let number = script.as_str().lines().count();
+        writeln!(script, "{call}")?;
+        let line = number.wrapping_add(1);
+        writeln!(transcript, "{line} {answer}")?;
+    }
+    transcript.push_str("end 0\n")?;
+    let text = ran(rt.alloc(), "1024", script.as_str())?;
+    assert_eq!(rt; text.as_str(), transcript.as_str());
+    Ok(())
+}
+
+#[test]
+fn uses_up_handles(rt: HostRuntime) -> Result<(), Fail> {
+    let mut script = String::new(rt.alloc());
+    for _ in 0..65 {
+        script.push_str("NewHandle h 0\n")?;
+    }
+    script.push_str("FreeMem\nDisposeHandle h\nNewHandle k 0\nWhere k\n")?;
+    let text = ran(rt.alloc(), "4096", script.as_str())?;
+    for line in [
+        "\n64 NewHandle 0\n65 NewHandle -108\n",
+        "\n66 FreeMem 0 2800\n67 DisposeHandle 0\n68 NewHandle 0\n69 Where 0 1296\nend 0\n",
+    ] {
+        assert!(rt; text.as_str().contains(line), "at {line}");
+    }
+    Ok(())
+}
+
+/// The small fork with one text: V2.
+fn small_fork(alloc: Global) -> Result<Vec<u8>, Fail> {
+    let mut fork = vec![in alloc; 0u8; 256]?;
+    fork[..16].copy_from_slice(b"\x00\x00\x01\x00\x00\x00\x01\x06\x00\x00\x00\x06\x00\x00\x00\x32");
+    fork.extend_from_slice(b"\x00\x00\x00\x02Hi")?;
+    fork.extend_from_slice(b"\x00\x00\x01\x00\x00\x00\x01\x06\x00\x00\x00\x06\x00\x00\x00\x32")?;
+    fork.extend_from_slice(b"\x00\x00\x00\x00\x00\x00\x00\x00\x00\x1c\x00\x32")?;
+    fork.extend_from_slice(b"\x00\x00TEXT\x00\x00\x00\x0a")?;
+    fork.extend_from_slice(b"\x00\x80\xff\xff\x00\x00\x00\x00\x00\x00\x00\x00")?;
+    Ok(fork)
+}
+
+#[test]
+fn lists_forks(rt: HostRuntime) -> Result<(), Fail> {
+    let alloc = rt.alloc();
+    let fork = small_fork(alloc)?;
+    let text = printed(alloc, &["macmem", "map", "file"], fork.as_slice())?;
+    assert_eq!(rt;
+        text.as_slice(),
+        b"map 0 1 1\n$54455854 128 0 2 -\n".as_slice()
+    );
+    Ok(())
+}
+
+#[test]
+fn checks_forks(rt: HostRuntime) -> Result<(), Fail> {
+    let alloc = rt.alloc();
+    let mut fork = small_fork(alloc)?;
+    let words: [&str; 3] = ["macmem", "check", "file"];
+    let text = printed(alloc, &words, fork.as_slice())?;
+    assert_eq!(rt; text.as_slice(), b"canonical\n".as_slice());
+    fork[262..278].fill(0);
+    let text = printed(alloc, &words, fork.as_slice())?;
+    assert_eq!(rt; text.as_slice(), b"accepted\n".as_slice());
+    Ok(())
+}
+
+#[test]
+fn tells_faults_of_forks(rt: HostRuntime) -> Result<(), Fail> {
+    let alloc = rt.alloc();
+    let fork = small_fork(alloc)?;
+    let map: [&str; 3] = ["macmem", "map", "file"];
+    let check: [&str; 3] = ["macmem", "check", "file"];
+    for words in [&map[..], &check[..]] {
+        let text = told(alloc, words, b"")?;
+        assert_eq!(rt; text.as_str(), "macmem: file: fork -39");
+        let text = told(alloc, words, &fork[..15])?;
+        assert_eq!(rt; text.as_str(), "macmem: file: fork -199");
+        let text = told(alloc, words, &fork[..305])?;
+        assert_eq!(rt; text.as_str(), "macmem: file: fork -199");
+    }
+    Ok(())
+}

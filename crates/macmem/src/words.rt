@@ -1,0 +1,204 @@
+//! The words of the command line. Only this module sees the parser.
+
+use crate::fault::ToolFault;
+use crate::size::PartitionSize;
+use clap::error::ErrorKind;
+use clap::{Arg, ArgAction, ArgMatches, Command, Error};
+use std::alloc::{AllocError, Global};
+
+/// What the words ask for.
+#[derive(Clone, Copy, Debug, PartialEq, Eq)]
+pub enum Task<'a> {
+    /// To run a script in a partition of this size.
+    Script {
+        size: PartitionSize,
+        script: &'a str,
+    },
+    /// To list a fork.
+    Map {
+        fork: &'a str,
+    },
+    /// To say whether a fork is canonical.
+    Check {
+        fork: &'a str,
+    },
+}
+
+const ABOUT: &str =
+    "Runs classic Macintosh applications, given as scripts of toolbox calls, in a model of the Memory Manager, and reads resource forks";
+
+const PROGRAM_EXAMPLES: &str = "Examples:
+  macmem script 1024 first.script    run a script in a partition of 1024 bytes
+  macmem map Document.rsrc           list the resources of a fork
+  macmem check Document.rsrc         say whether a fork is canonical
+
+'macmem COMMAND --help' tells more of a command.
+A word that begins with '-' is an option; behind '--' it is an argument.
+Status: 0 done; 1 not done, with one line on the standard error; 2 usage or help.";
+
+const SCRIPT_ABOUT: &str =
+    "Runs a script in a fresh partition and prints its transcript: a line for the launch, one for each call with its line number, its result code and its values, and one for the end";
+
+const SIZE_HELP: &str =
+    "Size of the partition in bytes, in decimal digits: 512 to 134217728, rounded down to a multiple of 16";
+
+const SCRIPT_HELP: &str =
+    "File with one toolbox call a line, as 'NewHandle a 100'. Empty lines and lines that begin with '#' are skipped. /dev/stdin is the standard input";
+
+const SCRIPT_EXAMPLES: &str = "Calls:
+  NewHandle NAME SIZE     a new block of SIZE bytes 0, reached by NAME
+  DisposeHandle NAME      frees the block
+  GetHandleSize NAME      its size
+  Put NAME OFFSET BYTES   writes BYTES, as \"Hi\" or $4869, at OFFSET
+  Show NAME               its bytes in hexadecimal
+  Where NAME              where it stands, from the start of the partition
+  FreeMem                 the free bytes of the partition
+
+Example:
+  macmem script 1024 first.script
+
+prints, where first.script holds the two lines 'NewHandle a 100' and 'FreeMem':
+  launch 0 1024
+  1 NewHandle 0
+  2 FreeMem 0 624
+  end 0
+
+A faulty line is told as 'macmem: SCRIPT: line N: fault K': 1 unknown call, 2 bad argument,
+3 call not allowed here, 4 line over 65535 bytes.";
+
+const MAP_ABOUT: &str =
+    "Lists the resources of a fork: a line 'map ATTRIBUTES TYPES RESOURCES', then for each resource its type, ID, attributes, length in bytes, and name";
+
+const FORK_HELP: &str =
+    "File with the bytes of a resource fork. It is only read. /dev/stdin is the standard input";
+
+const MAP_EXAMPLES: &str = "Example:
+  macmem map Document.rsrc
+
+prints, where the fork has one resource 'TEXT' 128 of two bytes without a name:
+  map 0 1 1
+  $54455854 128 0 2 -
+
+Types and names are in hexadecimal behind '$'; '-' stands for no name.
+Bytes that are no fork are told as 'macmem: FORK: fork CODE': -39 no bytes, -199 damaged.";
+
+const CHECK_ABOUT: &str =
+    "Prints 'canonical' where the bytes are the canonical fork of their content, the one that this program would write, else 'accepted'";
+
+const CHECK_EXAMPLES: &str = "Example:
+  macmem check Document.rsrc
+
+prints 'canonical' or 'accepted'.
+Bytes that are no fork are told as 'macmem: FORK: fork CODE': -39 no bytes, -199 damaged.";
+
+fn argument<'a>(alloc: Global, name: &'a str, help: &'a str) -> Arg<'a> {
+    Arg::new(alloc, name)
+        .required(true)
+        .action(ArgAction::Set)
+        .help(help)
+}
+
+fn script_command<'a>(alloc: Global) -> Result<Command<'a>, AllocError> {
+    Command::new(alloc, "script")
+        .about(SCRIPT_ABOUT)
+        .after_help(SCRIPT_EXAMPLES)
+        .arg(argument(alloc, "SIZE", SIZE_HELP))?
+        .arg(argument(alloc, "SCRIPT", SCRIPT_HELP))
+}
+
+fn fork_command<'a>(
+    alloc: Global,
+    name: &'a str,
+    about: &'a str,
+    examples: &'a str,
+) -> Result<Command<'a>, AllocError> {
+    Command::new(alloc, name)
+        .about(about)
+        .after_help(examples)
+        .arg(argument(alloc, "FORK", FORK_HELP))
+}
+
+fn program<'a>(alloc: Global) -> Result<Command<'a>, AllocError> {
+    Command::new(alloc, "macmem")
+        .about(ABOUT)
+        .after_help(PROGRAM_EXAMPLES)
+        .subcommand_required(true)
+        .arg_required_else_help(true)
+        .subcommand(script_command(alloc)?)?
+        .subcommand(fork_command(alloc, "map", MAP_ABOUT, MAP_EXAMPLES)?)?
+        .subcommand(fork_command(alloc, "check", CHECK_ABOUT, CHECK_EXAMPLES)?)
+}
+
+/// What the parser says, as a fault.
+fn usage(alloc: Global, error: &Error) -> ToolFault {
+    match error.kind() {
+        ErrorKind::OutOfMemory => ToolFault::HostMemory,
+        _ => match error.to_string(alloc) {
+            Ok(text) => ToolFault::Usage { text },
+            Err(_) => ToolFault::HostMemory,
+        },
+    }
+}
+
+/// A mistake in the words that the parser doesn't know, told in its form.
+fn mistake(alloc: Global, command: Command<'_>, message: &str) -> ToolFault {
+    let mut command = command;
+    match command.error(ErrorKind::ValueValidation, message) {
+        Ok(error) => usage(alloc, &error),
+        Err(_) => ToolFault::HostMemory,
+    }
+}
+
+fn bad_size(alloc: Global, text: &str) -> Result<ToolFault, AllocError> {
+    let message = format!(in alloc;
+        "invalid value '{text}' for '<SIZE>': 512 to 134217728 is asked for, in decimal digits"
+    )?;
+    let command = script_command(alloc)?.bin_name("macmem script")?;
+    Ok(mistake(alloc, command, message.as_str()))
+}
+
+/// A word that isn't UTF-8.
+pub fn not_utf8(alloc: Global) -> ToolFault {
+    match program(alloc) {
+        Ok(command) => mistake(
+            alloc,
+            command,
+            "invalid UTF-8 was detected in one or more arguments",
+        ),
+        Err(_) => ToolFault::HostMemory,
+    }
+}
+
+/// The value of an argument that the parser asks for.
+fn value<'a>(matches: &ArgMatches<'a>, name: &str) -> &'a str {
+    matches.get_str(name).unwrap_or("")
+}
+
+fn script_task<'a>(alloc: Global, matches: &ArgMatches<'a>) -> Result<Task<'a>, ToolFault> {
+    let text = value(matches, "SIZE");
+    match PartitionSize::read(text) {
+        Some(size) => Ok(Task::Script {
+            size,
+            script: value(matches, "SCRIPT"),
+        }),
+        None => Err(bad_size(alloc, text)?),
+    }
+}
+
+/// Reads the words of the command line, the program's name first.
+pub fn read_words<'a>(alloc: Global, words: &'a [&'a str]) -> Result<Task<'a>, ToolFault> {
+    let matches = match program(alloc)?.try_get_matches_from(words) {
+        Ok(matches) => matches,
+        Err(error) => return Err(usage(alloc, &error)),
+    };
+    match matches.subcommand() {
+        Some(("script", inner)) => script_task(alloc, inner),
+        Some(("map", inner)) => Ok(Task::Map {
+            fork: value(inner, "FORK"),
+        }),
+        Some(("check", inner)) => Ok(Task::Check {
+            fork: value(inner, "FORK"),
+        }),
+        _ => Err(mistake(alloc, program(alloc)?, "a command is asked for")),
+    }
+}

@@ -1,0 +1,103 @@
+//! The work of the commands, from the bytes of a file to the bytes that are printed.
+
+ghost use Rattle.std.specs.Prelude.{◌≡◌, ◌≢◌, ◌↔◌, [], IfOk, IfErr, IsTrue};
+ghost use Rattle.script_text.specs.Script.{entries_of};
+ghost use Rattle.script_text.specs.Reading.{FailsAt};
+ghost use Rattle.fork_format.specs.Canonical.{canon, fits};
+ghost use Rattle.fork_format.specs.Fork.{IsUnspelled};
+ghost use Rattle.fork_format.specs.View.{view};
+ghost use Rattle.macmem.specs.Work.{IsTranscriptOf, IsListingOf, IsFormOf, TellsForm, text_of};
+
+use crate::listing::listing_of;
+use crate::size::PartitionSize;
+use desk::run_script;
+use fork_format::{Content, ForkFault, WriteFault, read_fork, write_fork};
+use script_text::{FaultKind, Script, ScriptFault, read_script};
+use std::alloc::{AllocError, Global};
+
+/// What a fork is to its content.
+#[derive(Clone, Copy, Debug, PartialEq, Eq)]
+pub enum Form {
+    /// It is the one fork that is written of its content.
+    Canonical,
+    /// It is read, but is written otherwise, or not at all.
+    Accepted,
+}
+
+impl Form {
+    /// The line that tells it.
+    pub fn text(self) -> &'static [u8]
+        ensures { result.now ≡ text_of self }
+    {
+        match self {
+            Form::Canonical => b"canonical\n",
+            Form::Accepted => b"accepted\n",
+        }
+    }
+}
+
+/// The transcript of a script in a fresh partition.
+pub fn transcript_of(
+    alloc: Global,
+    size: PartitionSize,
+    text: &[u8],
+) -> Result<Vec<u8>, ScriptFault>
+    // The script's lines are run to their end.
+    ensures transcript { IfOk result (λ out. IsTranscriptOf size.bytes text.now out.items) }
+
+    // The first faulty line, or no host memory.
+    ensures fault { IfErr result (λ f. FailsAt f.line f.kind (entries_of text.now)) }
+{
+    let script = read_script(alloc, text)?;
+    match run_script(alloc, size.bytes, &script) {
+        Ok(transcript) => Ok(transcript),
+        Err(_) => Err(ScriptFault {
+            line: 0,
+            kind: FaultKind::HostMemory,
+        }),
+    }
+}
+
+/// The listing of a fork.
+pub fn fork_listing(alloc: Global, bytes: &[u8]) -> Result<Vec<u8>, ForkFault>
+    ensures listing { IfOk result (λ out. IsListingOf bytes.now out.items) }
+    ensures empty { (result ≡ Err ForkFault.Empty) ↔ (bytes.now ≡ []) }
+    ensures bad_map { (result ≡ Err ForkFault.BadMap) ↔ ((bytes.now ≢ []) × IsUnspelled bytes.now) }
+{
+    let content = read_fork(alloc, bytes)?;
+    let text = listing_of(alloc, &content)?;
+    Ok(text)
+}
+
+/// Whether bytes are the canonical fork of a content.
+fn is_canonical(alloc: Global, content: &Content, bytes: &[u8]) -> Result<bool, AllocError>
+    ensures { IfOk result (λ b. IsTrue b ↔ (IsTrue (fits (view content.now)) × (bytes.now ≡ canon (view content.now)))) }
+{
+    match write_fork(alloc, content) {
+        Ok(fork) => Ok(fork.as_slice() == bytes),
+        Err(WriteFault::TooLarge) => Ok(false),
+        Err(WriteFault::HostMemory) => Err(AllocError),
+    }
+}
+
+/// What bytes are to a content.
+fn form_for(alloc: Global, content: &Content, bytes: &[u8]) -> Result<Form, AllocError>
+    ensures { IfOk result (λ f. TellsForm f (view content.now) bytes.now) }
+{
+    if is_canonical(alloc, content, bytes)? {
+        Ok(Form::Canonical)
+    } else {
+        Ok(Form::Accepted)
+    }
+}
+
+/// What a fork is to its content.
+pub fn form_of(alloc: Global, bytes: &[u8]) -> Result<Form, ForkFault>
+    ensures form { IfOk result (λ form. IsFormOf bytes.now form) }
+    ensures empty { (result ≡ Err ForkFault.Empty) ↔ (bytes.now ≡ []) }
+    ensures bad_map { (result ≡ Err ForkFault.BadMap) ↔ ((bytes.now ≢ []) × IsUnspelled bytes.now) }
+{
+    let content = read_fork(alloc, bytes)?;
+    let form = form_for(alloc, &content, bytes)?;
+    Ok(form)
+}

@@ -1,0 +1,11 @@
+pub mod Blocks
+pub mod Cutting
+pub mod Frames
+pub mod Joining
+pub mod Lodged
+pub mod Moving
+pub mod Opening
+pub mod Runs
+pub mod Spacing
+pub mod Steps
+pub mod Windows

@@ -1,0 +1,6 @@
+pub mod Gaps
+pub mod Memory
+pub mod Ownership
+pub mod Parts
+pub mod Regions
+pub mod Tests

@@ -1,0 +1,11 @@
+-- The fields of a `Part`.
+use Rattle.std.specs.Prelude.{◌≡◌, ◌<◌}
+use denote.RawPtr.{◌+ₚ◌}
+use Rattle.raw_region.specs.Memory.{Bytes}
+use Rattle.raw_region.specs.declared.part.Part.TheInside.{Inside}
+
+abbrev pub part_view : Inside → Bytes
+part_view p = record { home = p.home; at = p.at; bytes = p.bytes.items }
+
+abbrev pub IsPart : Inside → Type 0
+IsPart p = (p.bytes.ptr ≡ p.home +ₚ p.at) × (0 < p.bytes.len)

@@ -1,0 +1,19 @@
+-- The fields of a `Region`.
+use Rattle.std.specs.Prelude.{◌≡◌, ◌≤◌, length, vec_capacity}
+use denote.RawPtr.{InBlock}
+use Rattle.raw_region.specs.Memory.{Whole}
+use Rattle.raw_region.specs.Gaps.{bytes_of, windows_of, IsLaid, IsStart}
+use Rattle.raw_region.specs.declared.region.Region.TheInside.{Inside}
+
+abbrev pub region_view : Inside → Whole
+region_view r = record { home = r.home; bytes = bytes_of r.gaps.items; out = windows_of r.gaps.items }
+
+-- the gaps fill the block, and there is room for each window
+pub record IsRegion (r : Inside) : Type 0 where
+  pub start : r.frame.ptr ≡ r.home
+  pub placed : InBlock r.home
+  pub whole : length (bytes_of r.gaps.items) ≡ r.frame.len
+  pub small : r.frame.len ≤ 134217728
+  pub laid : IsLaid r.home 0 r.gaps.items
+  pub first : IsStart r.gaps.items
+  pub room : 65 ≤ vec_capacity r.gaps

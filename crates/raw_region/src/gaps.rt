@@ -1,0 +1,78 @@
+// The windows that are out, by address, each with the bytes that follow it up to the next. The first stands for the
+// region's start and has no byte.
+ghost use Rattle.std.specs.Prelude.{◌≡◌, ℕ, ◌+◌, ◌-◌, ◌^◌, ◌<◌, ◌≤◌, List, [], ◌∷◌, ◌++◌, length, take, drop, slice_index_or, nat_le, nat_eq, ◌&&◌, not, vec_len, vec_capacity};
+ghost use Rattle.std.specs.List.{prefix_len, position_or_len};
+ghost use denote.RawPtr.{Ptr};
+ghost use Rattle.raw_region.specs.Gaps.{gap_ends_by, gap_is, EndsFit, Fits, front, middle, back, Beside, joined};
+ghost use Rattle.raw_region.specs.declared.gaps.Gap.{Gap};
+
+use crate::raw::Run;
+use std::mem::replace;
+
+#[derive(Drop)]
+pub(crate) struct Gap {
+    pub(crate) at: usize,
+    pub(crate) len: usize,
+    pub(crate) after: Run,
+}
+
+// The index of the first window that does not end by `at`.
+pub(crate) fn index_after(gaps: &[Gap], at: usize) -> usize
+    requires { (0 < length gaps.now) × EndsFit gaps.now }
+    ensures { result ≡ 1 + prefix_len (gap_ends_by at) (drop 1 gaps.now) }
+{
+    let mut i = 1;
+    while i < gaps.len() && gaps[i].at + gaps[i].len <= at {
+        i += 1;
+    }
+    i
+}
+
+// The index of this window, or the number of gaps.
+pub(crate) fn index_of(gaps: &[Gap], at: usize, len: usize) -> usize
+    requires { 0 < length gaps.now }
+    ensures { result ≡ 1 + position_or_len (gap_is at len) (drop 1 gaps.now) }
+{
+    let mut i = 1;
+    while i < gaps.len() && !(gaps[i].at == at && gaps[i].len == len) {
+        i += 1;
+    }
+    i
+}
+
+// Takes a window out of the bytes after the i-th.
+pub(crate) fn open(gaps: &mut Vec<Gap>, i: usize, at: usize, len: usize) -> Run
+    requires there { (i < vec_len gaps.old) × (vec_len gaps.old < vec_capacity gaps.old) }
+    requires fits { (d : Gap) → Fits at len (slice_index_or gaps.old.items i d) }
+    ensures items { (d : Gap) → gaps.new.items ≡ take i gaps.old.items ++ front at (slice_index_or gaps.old.items i d) ∷ back at len (slice_index_or gaps.old.items i d) ∷ drop (i + 1) gaps.old.items }
+    ensures run { (d : Gap) → result ≡ middle at len (slice_index_or gaps.old.items i d) }
+    ensures capacity { vec_capacity gaps.new ≡ vec_capacity gaps.old }
+{
+    let gap = &mut gaps[i];
+    let mid = at - (gap.at + gap.len);
+    let run = replace(&mut gap.after, Run::empty());
+    let (front, rest) = run.cut(mid);
+    let (run, after) = rest.cut(len);
+    gap.after = front;
+    match gaps.insert(i + 1, Gap { at, len, after }) {
+        Ok(()) => run,
+        Err(_) => unreachable!(),
+    }
+}
+
+// Puts a window's bytes back: the i-th gap goes, and the one before it takes them with its own.
+pub(crate) fn shut(gaps: &mut Vec<Gap>, i: usize, run: Run)
+    requires there { (0 < i) × (i < vec_len gaps.old) }
+    requires beside { (d : Gap) → Beside (slice_index_or gaps.old.items (i - 1) d) run (slice_index_or gaps.old.items i d) }
+    ensures items { (d : Gap) → gaps.new.items ≡ take (i - 1) gaps.old.items ++ joined (slice_index_or gaps.old.items (i - 1) d) run (slice_index_or gaps.old.items i d) ∷ drop (i + 1) gaps.old.items }
+    ensures capacity { vec_capacity gaps.new ≡ vec_capacity gaps.old }
+{
+    let Gap {
+        at: _,
+        len: _,
+        after,
+    } = gaps.remove(i);
+    let gap = &mut gaps[i - 1];
+    let front = replace(&mut gap.after, Run::empty());
+    gap.after = front.glue(run).glue(after);
+}

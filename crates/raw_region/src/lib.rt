@@ -1,0 +1,14 @@
+//! One raw region of memory, and the parts that are cut from it.
+#![tactic(auto)]
+
+mod gaps;
+mod moves;
+mod part;
+mod raw;
+mod region;
+
+pub use part::Part;
+pub use region::Region;
+
+#[cfg(test)]
+mod tests;

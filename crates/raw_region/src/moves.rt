@@ -1,0 +1,45 @@
+// Bytes that move within a slice, where the two ranges may overlap. They go in strides, each through a buffer.
+ghost use Rattle.std.specs.Prelude.{◌≡◌, ◌+◌, ◌≤◌, length, take, drop};
+ghost use Rattle.windows.specs.Writes.{written};
+
+// Bytes a stride: few enough that the buffer stays in the nearest cache.
+const STRIDE: usize = 4096;
+
+// Moves one stride.
+fn carry(bytes: &mut [u8], from: usize, to: usize, count: usize, buffer: &mut [u8; STRIDE])
+    requires count { count ≤ 4096 }
+    requires inside { (from + count ≤ length bytes.old) × (to + count ≤ length bytes.old) }
+    ensures { bytes.new ≡ written to (take count (drop from bytes.old)) bytes.old }
+{
+    let buffer = &mut buffer[..count];
+    buffer.copy_from_slice(&bytes[from..from + count]);
+    bytes[to..to + count].copy_from_slice(buffer);
+}
+
+// From the first byte on, since the bytes go down.
+pub(crate) fn move_down(bytes: &mut [u8], from: usize, to: usize, count: usize)
+    requires { (to ≤ from) × (from + count ≤ length bytes.old) }
+    ensures { bytes.new ≡ written to (take count (drop from bytes.old)) bytes.old }
+{
+    let mut buffer = [0; STRIDE];
+    let mut i = 0;
+    while i < count {
+        let stride = STRIDE.min(count - i);
+        carry(bytes, from + i, to + i, stride, &mut buffer);
+        i += stride;
+    }
+}
+
+// From the last byte on, since the bytes go up.
+pub(crate) fn move_up(bytes: &mut [u8], from: usize, to: usize, count: usize)
+    requires { (from ≤ to) × (to + count ≤ length bytes.old) }
+    ensures { bytes.new ≡ written to (take count (drop from bytes.old)) bytes.old }
+{
+    let mut buffer = [0; STRIDE];
+    let mut i = count;
+    while 0 < i {
+        let stride = STRIDE.min(i);
+        i -= stride;
+        carry(bytes, from + i, to + i, stride, &mut buffer);
+    }
+}

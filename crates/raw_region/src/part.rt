@@ -1,0 +1,106 @@
+// A part of a region, out on loan.
+ghost use Rattle.std.specs.Prelude.{◌≡◌, ◌+◌, ◌%◌, ◌≤◌, ◌++◌, length, take, drop, replicate};
+ghost use Rattle.std.specs.Borrow.{sem, Lends, Array, u8};
+ghost use Rattle.raw_region.specs.Memory.{with_bytes};
+ghost use Rattle.windows.specs.Writes.{written};
+ghost use Rattle.raw_region.specs.contracts.part.Part.{the_row};
+
+use crate::moves::{move_down, move_up};
+use std::marker::Model;
+use std_alloc::vec::Lodged;
+
+/// A stretch of a region's bytes that nobody else has, as a heap zone has its own (Inside Macintosh: Memory, chapter 1). Places count
+/// bytes from the part's start. It can't be dropped: it comes home by `Region::join`.
+pub struct Part {
+    pub(crate) bytes: Vec<u8, Lodged>,
+    pub(crate) home: *mut u8,
+    pub(crate) at: usize,
+}
+
+impl Model for Part {
+    ghost use Rattle.raw_region.specs.Memory.{Bytes};
+
+    ghost Value = { Bytes };
+
+    ghost use Rattle.raw_region.specs.Parts.{part_view, IsPart};
+
+    ghost view = { part_view };
+
+    ghost invariant = { IsPart };
+}
+
+impl Part {
+    /// How many bytes it has: a multiple of 16.
+    pub fn len(&self) -> usize
+        ensures { result ≡ length self.now.bytes }
+    {
+        self.bytes.len()
+    }
+
+    /// All its bytes, to read.
+    pub fn bytes(&self) -> &[u8]
+        ensures { result.now ≡ self.now.bytes }
+    {
+        self.bytes.as_slice()
+    }
+
+    /// All its bytes, to write.
+    pub fn bytes_mut(&mut self) -> &mut [u8]
+        ensures* writes_back { sem 𝓛 (Lends the_row (Array u8 0) self.entry result (with_bytes self.old)) }
+        ensures value { result.now ≡ self.old.bytes }
+    {
+        let bytes = &mut self.bytes;
+        bytes.as_mut_slice()
+    }
+
+    /// The four bytes from `at` on, a multiple of 4.
+    pub fn word(&self, at: usize) -> [u8; 4]
+        requires { (at % 4 ≡ 0) × (at + 4 ≤ length self.now.bytes) }
+        ensures { result ≡ take 4 (drop at self.now.bytes) }
+    {
+        let bytes = self.bytes();
+        [bytes[at], bytes[at + 1], bytes[at + 2], bytes[at + 3]]
+    }
+
+    /// Writes the four bytes from `at` on, a multiple of 4.
+    pub fn put_word(&mut self, at: usize, word: [u8; 4])
+        requires { (at % 4 ≡ 0) × (at + 4 ≤ length self.old.bytes) }
+        ensures same { (self.new.home ≡ self.old.home) × (self.new.at ≡ self.old.at) × (length self.new.bytes ≡ length self.old.bytes) }
+        ensures bytes { self.new.bytes ≡ written at word self.old.bytes }
+    {
+        self.bytes.as_mut_slice()[at..at + 4].copy_from_slice(&word);
+    }
+
+    /// Moves `count` bytes from `from` on to the places from `to` on, which may overlap them. The bytes go in
+    /// strides, at about the speed of a plain copy, whatever the distance.
+    pub fn slide(&mut self, from: usize, to: usize, count: usize)
+        requires { (from + count ≤ length self.old.bytes) × (to + count ≤ length self.old.bytes) }
+        ensures same { (self.new.home ≡ self.old.home) × (self.new.at ≡ self.old.at) × (length self.new.bytes ≡ length self.old.bytes) }
+        ensures bytes { self.new.bytes ≡ written to (take count (drop from self.old.bytes)) self.old.bytes }
+    {
+        let bytes = self.bytes.as_mut_slice();
+        if to < from {
+            move_down(bytes, from, to, count);
+        } else {
+            move_up(bytes, from, to, count);
+        }
+    }
+
+    /// Turns the `count` bytes from `at` on, so that the one at `by` among them comes first.
+    pub fn rotate(&mut self, at: usize, count: usize, by: usize)
+        requires { (by ≤ count) × (at + count ≤ length self.old.bytes) }
+        ensures same { (self.new.home ≡ self.old.home) × (self.new.at ≡ self.old.at) × (length self.new.bytes ≡ length self.old.bytes) }
+        ensures bytes { let run = take count (drop at self.old.bytes) in self.new.bytes ≡ written at (drop by run ++ take by run) self.old.bytes }
+    {
+        self.bytes.as_mut_slice()[at..at + count].rotate_left(by);
+    }
+
+    /// Gives each of the `count` bytes from `from` on this value.
+    pub fn fill(&mut self, from: usize, count: usize, byte: u8)
+        requires { from + count ≤ length self.old.bytes }
+        ensures same { (self.new.home ≡ self.old.home) × (self.new.at ≡ self.old.at) × (length self.new.bytes ≡ length self.old.bytes) }
+        ensures bytes { self.new.bytes ≡ written from (replicate count byte) self.old.bytes }
+    {
+        self.bytes.as_mut_slice()[from..from + count].fill(byte);
+    }
+}

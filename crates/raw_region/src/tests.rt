@@ -1,0 +1,150 @@
+ghost use Rattle.std.specs.Prelude.{◌≡◌, ◌%◌, ◌≤◌, [], ◌∷◌, length, IfOk};
+ghost use Rattle.raw_region.specs.Tests.{AreThree};
+
+use super::{Part, Region};
+use std::alloc::{AllocError, Global};
+use std::test::Fail;
+
+// Three parts, each filled with its own byte.
+fn three(alloc: Global) -> Result<(Region, Part, Part, Part), AllocError>
+    ensures { IfOk result (λ t. AreThree t.0 t.1 t.2 t.3) }
+{
+    let mut region = Region::new(alloc, 48)?;
+    let mut a = region.cut(0, 16);
+    let mut b = region.cut(16, 16);
+    let mut c = region.cut(32, 16);
+    a.fill(0, 16, 1);
+    b.fill(0, 16, 2);
+    c.fill(0, 16, 3);
+    Ok((region, a, b, c))
+}
+
+// The three bytes, at the end of each part.
+fn ends(mut region: Region) -> [u8; 3]
+    requires { (region.out ≡ []) × (length region.bytes ≡ 48) }
+{
+    let all = region.cut(0, 48);
+    let bytes = all.bytes();
+    let ends = [bytes[15], bytes[31], bytes[47]];
+    region.join(all);
+    region.close();
+    ends
+}
+
+#[test]
+fn first_second_third(rt: HostRuntime) -> Result<(), Fail> {
+    let (mut region, a, b, c) = three(rt.alloc())?;
+    region.join(a);
+    region.join(b);
+    region.join(c);
+    assert_eq!(rt; ends(region), [1, 2, 3]);
+    Ok(())
+}
+
+#[test]
+fn first_third_second(rt: HostRuntime) -> Result<(), Fail> {
+    let (mut region, a, b, c) = three(rt.alloc())?;
+    region.join(a);
+    region.join(c);
+    region.join(b);
+    assert_eq!(rt; ends(region), [1, 2, 3]);
+    Ok(())
+}
+
+#[test]
+fn second_first_third(rt: HostRuntime) -> Result<(), Fail> {
+    let (mut region, a, b, c) = three(rt.alloc())?;
+    region.join(b);
+    region.join(a);
+    region.join(c);
+    assert_eq!(rt; ends(region), [1, 2, 3]);
+    Ok(())
+}
+
+#[test]
+fn second_third_first(rt: HostRuntime) -> Result<(), Fail> {
+    let (mut region, a, b, c) = three(rt.alloc())?;
+    region.join(b);
+    region.join(c);
+    region.join(a);
+    assert_eq!(rt; ends(region), [1, 2, 3]);
+    Ok(())
+}
+
+#[test]
+fn third_first_second(rt: HostRuntime) -> Result<(), Fail> {
+    let (mut region, a, b, c) = three(rt.alloc())?;
+    region.join(c);
+    region.join(a);
+    region.join(b);
+    assert_eq!(rt; ends(region), [1, 2, 3]);
+    Ok(())
+}
+
+#[test]
+fn third_second_first(rt: HostRuntime) -> Result<(), Fail> {
+    let (mut region, a, b, c) = three(rt.alloc())?;
+    region.join(c);
+    region.join(b);
+    region.join(a);
+    assert_eq!(rt; ends(region), [1, 2, 3]);
+    Ok(())
+}
+
+// A part of 48 bytes: four of 1 at 0, of 2 at 16 and of 3 at 32, and else 0.
+fn marked(part: &mut Part)
+    requires { length part.old.bytes ≡ 48 }
+    ensures { (part.new.home ≡ part.old.home) × (part.new.at ≡ part.old.at) × (length part.new.bytes ≡ 48) }
+{
+    part.put_word(0, [1; 4]);
+    part.put_word(16, [2; 4]);
+    part.put_word(32, [3; 4]);
+}
+
+#[test]
+fn slides_up(rt: HostRuntime) -> Result<(), Fail> {
+    let mut region = Region::new(rt.alloc(), 48)?;
+    let mut part = region.cut(0, 48);
+    marked(&mut part);
+    part.slide(0, 16, 32);
+    assert_eq!(rt; part.word(0), [1; 4]);
+    assert_eq!(rt; part.word(16), [1; 4]);
+    assert_eq!(rt; part.word(32), [2; 4]);
+    region.join(part);
+    region.close();
+    Ok(())
+}
+
+#[test]
+fn slides_down(rt: HostRuntime) -> Result<(), Fail> {
+    let mut region = Region::new(rt.alloc(), 48)?;
+    let mut part = region.cut(0, 48);
+    marked(&mut part);
+    part.slide(16, 0, 32);
+    assert_eq!(rt; part.word(0), [2; 4]);
+    assert_eq!(rt; part.word(16), [3; 4]);
+    assert_eq!(rt; part.word(32), [3; 4]);
+    part.rotate(0, 48, 32);
+    assert_eq!(rt; part.word(0), [3; 4]);
+    assert_eq!(rt; part.word(16), [2; 4]);
+    region.join(part);
+    region.close();
+    Ok(())
+}
+
+// A region of this length, with nothing out.
+fn whole(alloc: Global, len: usize) -> Result<Region, AllocError>
+    requires { (len % 16 ≡ 0) × (16 ≤ len) × (len ≤ 134217728) }
+    ensures size { IfOk result (λ r. length r.bytes ≡ len) }
+    ensures out { IfOk result (λ r. r.out ≡ []) }
+{
+    Region::new(alloc, len)
+}
+
+#[test]
+fn greatest_length(rt: HostRuntime) -> Result<(), Fail> {
+    let region = whole(rt.alloc(), 134217728)?;
+    assert_eq!(rt; region.count_out(), 0);
+    region.close();
+    Ok(())
+}
