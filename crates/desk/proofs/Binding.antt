@@ -1,9 +1,9 @@
-use Rattle.std.proofs.Common.{◌≡◌, ◌∙◌, ℕ, Bool, true, false, refl, sym, ap, cond, map, List, [], ◌∷◌, Option, Some, None}
+use Rattle.std.proofs.Common.{◌≡◌, ℕ, Bool, true, false, refl, sym, cond, map, List, [], ◌∷◌}
 use Rattle.std.specs.Prelude.{bytes_eq}
 use Rattle.std.specs.Map.{lookup}
 use Rattle.indexmap.specs.IndexMap.{insert_entry}
 use Rattle.mac_words.specs.declared.name.Label.{Label}
-use Rattle.desk.specs.Names.{Bindings, bound_to, bind, binding}
+use Rattle.desk.specs.Names.{bound_to, bind, binding}
 
 -- a test of names that tells whether their bytes are equal
 abbrev pub TellsBytes : (Label → Label → Bool) → Type 0

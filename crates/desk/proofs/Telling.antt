@@ -1,17 +1,16 @@
-use Rattle.std.proofs.Common.{◌≡◌, ◌∙◌, ◌≤◌, ◌-◌, ◌+◌, arith, ℕ, refl, sym, ap, subst, List, [], ◌∷◌, ◌++◌, take, zero, suc, Option, Some, None, Result, Ok, Err}
+use Rattle.std.proofs.Common.{◌≡◌, ◌∙◌, ◌≤◌, ◌-◌, arith, ℕ, refl, sym, ap, List, [], ◌∷◌, ◌++◌, take, zero, suc, Some, Result, Ok, Err}
 use Rattle.mac_words.specs.declared.code.OsErr.{OsErr}
 use Rattle.mac_words.specs.declared.call.Call.{Call}
 use Rattle.mac_words.specs.declared.call.Call.TheVariants as call
 use Rattle.block_store.specs.Rest.{Window}
 use Rattle.block_store.specs.Block.{Block, content_of, sizes, free, fresh}
-use Rattle.heap_calls.specs.State.{Memory, State}
+use Rattle.heap_calls.specs.State.{Memory}
 use Rattle.heap_calls.specs.Answer.{Held, look_up, for_found}
 use Rattle.heap_calls.specs.Asked.{Asked, Told, Bytes, Refused, answered, told_as}
 use Rattle.heap_calls.specs.Asked as asks
-use Rattle.heap_calls.specs.LastPut.{Holds, last_put, last_put_from, put_by, Entry}
+use Rattle.heap_calls.specs.LastPut.{last_put, last_put_from, put_by}
 use Rattle.heap_calls.proofs.LastPutLaws.{Known, holds-known, step-known, known-fresh}
 use Rattle.script_text.specs.declared.script.Line.{Line}
-use Rattle.desk.specs.Names.{Bindings}
 use Rattle.desk.specs.Application.{Running, launched, nowhere, asked, went_on, step, call_of, line_told, lines_told, after_lines}
 use Rattle.desk.specs.Laws.{entry_of, history, ShowsBytes, ShowsLastPut, HoldsLastPut}
 
@@ -63,9 +62,10 @@ shows-step (call.Heap c) r bytes known = shows-known (asked c r.names) r.memory 
 
 shows-from : (lines : List Line) (r : Running) (bytes : ℕ → List ℕ) → Known r.memory.heap bytes → ShowsLastPut lines r bytes
 shows-from [] r bytes known = tt
-shows-from (l ∷ lines) r bytes known =
-    (shows-step (call_of l) r bytes known,
-     shows-from lines (step (call_of l) r).1 (put_by (entry_of (call_of l) r).asked (entry_of (call_of l) r).told bytes) (step-knows (call_of l) r bytes known))
+shows-from (l ∷ lines) r bytes known = (
+  shows-step (call_of l) r bytes known,
+  shows-from lines (step (call_of l) r).1 (put_by (entry_of (call_of l) r).asked (entry_of (call_of l) r).told bytes) (step-knows (call_of l) r bytes known),
+)
 
 -- each Show of a script shows the bytes last put into its handle
 pub shows_last_put : (n : ℕ) (lines : List Line) → ShowsLastPut lines (launched n nowhere) (λ h. [])
@@ -75,7 +75,7 @@ shows_last_put n lines = shows-from lines (launched n nowhere) (λ h. []) (known
 pub holds_last_put : (n : ℕ) (lines : List Line) → HoldsLastPut lines (launched n nowhere)
 holds_last_put n lines k =
     holds-known (after_lines (take k lines) (launched n nowhere)).memory.heap (last_put (history (take k lines) (launched n nowhere)))
-      (lines-know (take k lines) (launched n nowhere) (λ h. []) (known-fresh n))
+    (lines-know (take k lines) (launched n nowhere) (λ h. []) (known-fresh n))
 
 free-total : (m : ℕ) → sizes (free m) ≡ m
 free-total zero = refl

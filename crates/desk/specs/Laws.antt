@@ -1,7 +1,7 @@
 use Rattle.std.specs.Prelude.{◌≡◌, ℕ, Some, List, [], ◌∷◌, take}
 use Rattle.mac_words.specs.declared.call.Call.{Call}
 use Rattle.mac_words.specs.declared.call.Call.TheVariants as call
-use Rattle.heap_calls.specs.Asked.{Asked, Show, Told, Bytes}
+use Rattle.heap_calls.specs.Asked.{Show, Bytes}
 use Rattle.heap_calls.specs.LastPut.{Entry, Holds, last_put, put_by}
 use Rattle.script_text.specs.declared.script.Line.{Line}
 use Rattle.desk.specs.Application.{Running, asked, step, call_of, after_lines}

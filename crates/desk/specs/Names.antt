@@ -1,4 +1,4 @@
-use Rattle.std.specs.Prelude.{ℕ, Option, Some, None, List, [], ◌∷◌, map, bytes_eq, if◌then◌else◌}
+use Rattle.std.specs.Prelude.{ℕ, Option, Some, None, List, [], ◌∷◌, bytes_eq, if◌then◌else◌}
 use Rattle.mac_words.specs.declared.name.Label.{Label}
 
 -- what names are bound to, in the order of their first binding

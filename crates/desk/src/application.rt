@@ -62,9 +62,7 @@ impl<S: BlockStore> Application<S> {
                 done_reply(self.heap.put(self.names.number(name), *from, bytes))
             }
             HeapCall::Show(name) => shown_reply(self.heap.show(self.names.number(name))),
-            HeapCall::Where(name) => {
-                number_reply(self.heap.place_of(self.names.number(name)))
-            }
+            HeapCall::Where(name) => { number_reply(self.heap.place_of(self.names.number(name))) }
         }
     }
 

@@ -1,25 +1,24 @@
-use Rattle.std.proofs.Common.{◌≡◌, ◌≢◌, ℕ, ◌+◌, ◌*◌, ◌≤◌, ◌<◌, Bool, true, false, List, [], ◌∷◌, ◌++◌, length, refl, sym, ◌∙◌, ap, cond, map, arith, rules, Option, Some, None, Result, Ok, Err, slice_get, subst}
-use Rattle.std.proofs.lemmas.Option.{none-some, same_Some, slice_get_within, slice_get-map}
+use Rattle.std.proofs.Common.{◌≡◌, ℕ, ◌+◌, ◌≤◌, ◌<◌, true, List, ◌∷◌, ◌++◌, length, refl, sym, ◌∙◌, ap, arith, Option, Some, None, Result, Ok, Err, slice_get, subst}
+use Rattle.std.proofs.lemmas.Option.{slice_get-map}
 use Rattle.std.specs.Option.{option_map, ok_or, IfSome}
-use Rattle.std.specs.Borrow.{Bor}
 use Rattle.mac_words.specs.declared.code.OsErr.{OsErr}
-use Rattle.mac_words.specs.declared.code.TheConstants.OsErr.{NIL_HANDLE, WRONG_ZONE, NO_ERR}
+use Rattle.mac_words.specs.declared.code.TheConstants.OsErr.{NIL_HANDLE, WRONG_ZONE}
 use Rattle.block_store.specs.Block.{Block, Free, Fixed, Masters, Relocatable, size, sizes, rename, rename_block, is_relocatable, content_of, with_content}
 use Rattle.block_store.specs.Slot.{Slot}
 use Rattle.block_store.specs.Rest.{Rest}
 use Rattle.block_store.specs.Room.{Spot, spot, spot_at, rename_spot}
 use Rattle.block_store.proofs.Renaming.{spot-rename, total-rename, size-rename}
-use Rattle.block_store.proofs.Tidy.{spot-is, spot-passes}
+use Rattle.block_store.proofs.Tidy.{spot-is}
 use Rattle.block_store.proofs.Totals.{total-append}
 use Rattle.heap_calls.specs.State.{State, Memory}
-use Rattle.heap_calls.specs.Answer.{Answer, Held, Known, look_up, held_at, handle_at, known_as, for_found, on_block, refused, noting, silent, code_of}
+use Rattle.heap_calls.specs.Answer.{Answer, Held, look_up, held_at, handle_at, known_as, for_found, on_block, noting, silent, code_of}
 use Rattle.heap_calls.specs.Given.{slot_at, slot_of, found, FindsBlock, IsAnswer, IsShown, last_after}
 use Rattle.heap_calls.specs.declared.refusal.Refusal.{Refusal}
 use Rattle.heap_calls.specs.declared.refusal.Refusal.TheVariants.{Code, HostMemory}
 use Rattle.heap_calls.specs.declared.name.Found.{Found}
 use Rattle.heap_calls.specs.declared.name.Entry.{Entry}
 use Rattle.heap_calls.specs.declared.name.Entry.TheVariants.{Handle, Pointer, Disposed}
-use Rattle.heap_calls.specs.Numbered.{state_of, memory_of, name_of, handle_number, pointer_number, no_number, role_of}
+use Rattle.heap_calls.specs.Numbered.{state_of, memory_of, name_of, handle_number, pointer_number, no_number}
 use Rattle.heap_calls.proofs.Numbers.{Apart, is_relocatable-number}
 
 -- a call that was noted: the code of its answer is kept

@@ -1,30 +1,30 @@
-use Rattle.std.proofs.Common.{◌≡◌, ◌≢◌, ℕ, ◌+◌, ◌-◌, ◌*◌, ◌^◌, ◌≤◌, ◌<◌, zero, suc, Bool, true, false, not, ◌&&◌, ◌||◌, ◌==◌, List, [], ◌∷◌, ◌++◌, length, refl, sym, ◌∙◌, ap, cond, map, arith, rules, Option, Some, None, Result, Ok, Err, slice_get, slice_set, get_or, replicate, count_by, subst, ◌⊎◌, inl, inr, nat_lt, nat_le}
+use Rattle.std.proofs.Common.{◌≡◌, ℕ, ◌+◌, ◌-◌, ◌*◌, ◌≤◌, ◌<◌, zero, suc, Bool, true, false, ◌&&◌, ◌==◌, List, [], ◌∷◌, ◌++◌, length, refl, sym, ◌∙◌, ap, cond, map, arith, Option, Some, None, Result, Ok, Err, slice_get, slice_set, get_or, replicate, count_by, subst, ◌⊎◌, inl, inr, nat_lt, nat_le}
 use Rattle.std.proofs.lemmas.List.{map-append, map_push, map-set, length-map, length-replicate}
 use Rattle.std.proofs.lemmas.List.Sums.{sum_by_push, sum_by-set}
 use Rattle.std.proofs.lemmas.Option.{none-some, same_Some, slice_get_within, slice_get-map, get_or_from_slice_get}
 use Rattle.std.proofs.lemmas.Bool.{cond-true, cond-false, false_from_ne_true}
 use Rattle.std.proofs.lemmas.Bool.Decides.{Decides-eqb, Decides-ltb, nat_tests}
 use Rattle.std.specs.Prelude.{is_some}
-use Rattle.std.specs.Option.{option_map, ok_or, IfSome}
+use Rattle.std.specs.Option.{option_map}
 use Rattle.mac_words.specs.Size.{phys, padded}
 use Rattle.mac_words.specs.declared.code.OsErr.{OsErr}
-use Rattle.mac_words.specs.declared.code.TheConstants.OsErr.{NIL_HANDLE, WRONG_ZONE, MEM_FULL, PROFILE}
-use Rattle.block_store.specs.Block.{Block, Free, Fixed, Masters, Relocatable, size, sizes, count, free_sum, free_of, rename, rename_block, is_relocatable, is_room, content_of, with_content, is_masters, no_flags, tidy, written}
+use Rattle.mac_words.specs.declared.code.TheConstants.OsErr.{MEM_FULL, PROFILE}
+use Rattle.block_store.specs.Block.{Block, Free, Fixed, Masters, Relocatable, size, count, free_sum, free_of, rename, rename_block, is_relocatable, is_room, content_of, with_content, is_masters, no_flags, tidy, written}
 use Rattle.block_store.specs.Run.{has}
 use Rattle.block_store.specs.Slot.{Slot, Unused, Used, set_slot, AreSlots}
-use Rattle.block_store.specs.Rest.{Rest, Window, IsRest}
+use Rattle.block_store.specs.Rest.{Rest, IsRest}
 use Rattle.block_store.specs.Room.{Spot, spot, spot_at, raised, rename_spot, filled}
 use Rattle.block_store.specs.Grow.{freed}
 use Rattle.block_store.proofs.Renaming.{spot-rename, total-rename, size-rename, free_of-rename, is_room-rename, filled-rename, freed-rename, tidy-rename}
-use Rattle.block_store.proofs.Tidy.{spot-is, spot-passes, rename-unless, rename_fixed-unless, has-released}
+use Rattle.block_store.proofs.Tidy.{rename-unless, rename_fixed-unless, has-released}
 use Rattle.heap_calls.specs.State.{State, Memory, Name, Role, Plain, Resource, used_slots, all_slots, uses_slot}
 use Rattle.heap_calls.specs.State as names
-use Rattle.heap_calls.specs.Answer.{Answer, Held, Known, new_handle, put_in_free, given, refused, dispose_handle, disposed_of, without, put, written_at, look_up, for_found, handle_at, known_as, silent, noting, free_mem}
+use Rattle.heap_calls.specs.Answer.{Answer, new_handle, put_in_free, given, refused, dispose_handle, disposed_of, put, written_at, look_up, for_found, known_as, silent}
 use Rattle.heap_calls.specs.declared.name.Entry.{Entry}
 use Rattle.heap_calls.specs.declared.name.Entry.TheVariants.{Handle, Pointer, Disposed}
 use Rattle.heap_calls.specs.Numbered.{state_of, memory_of, name_of, handle_number, pointer_number, number_from, leads_to, points_to, no_number, role_of, Agrees}
-use Rattle.heap_calls.proofs.Answering.{on_found, content_of-rename, with_content-rename, held}
-use Rattle.heap_calls.proofs.Numbers.{Apart, is_relocatable-number, leads_to-same, leads_to-is, handle_number-at}
+use Rattle.heap_calls.proofs.Answering.{content_of-rename, with_content-rename, held}
+use Rattle.heap_calls.proofs.Numbers.{is_relocatable-number, leads_to-same, leads_to-is}
 
 -- an entry that doesn't pass changes no number
 pub number_from-push : (n : ℕ) (test : Entry → Bool) (es : List Entry) (e : Entry) → test e ≡ false → number_from n test (es ++ e ∷ []) ≡ number_from n test es
@@ -113,84 +113,86 @@ put_in_free-rename f g new bs =
 
 -- the names of a heap with a handle more
 module _ (zone : List Block) (rest rest' : Rest) (es : List Entry) (slot : ℕ) (masters : rest.all ≡ 64 * count is_masters zone)
-  (agrees : Agrees rest es) (was : rest.slots slot ≡ Unused) (now : AreSlots (set_slot rest.slots slot (Used false)) rest'.slots) (one : rest'.unused + 1 ≡ rest.unused) (all : rest'.all ≡ rest.all) (none : has (is_relocatable slot) zone ≡ false)
+    (agrees : Agrees rest es) (was : rest.slots slot ≡ Unused) (now : AreSlots (set_slot rest.slots slot (Used false)) rest'.slots) (one : rest'.unused + 1 ≡ rest.unused) (all : rest'.all ≡ rest.all) (none : has (is_relocatable slot) zone ≡ false)
   where
+    -- the entries with the new one
+    abbrev pub es' : List Entry
+    es' = es ++ Handle slot ∷ []
 
-  -- the entries with the new one
-  abbrev pub es' : List Entry
-  es' = es ++ Handle slot ∷ []
+    other-slot : (k : ℕ) → (k == slot) ≡ false → rest'.slots k ≡ rest.slots k
+    other-slot k apart = now k ∙ cond-false (k == slot) (Used false) (rest.slots k) apart
 
-  other-slot : (k : ℕ) → (k == slot) ≡ false → rest'.slots k ≡ rest.slots k
-  other-slot k apart = now k ∙ cond-false (k == slot) (Used false) (rest.slots k) apart
+    pub slot-now : rest'.slots slot ≡ Used false
+    slot-now = now slot ∙ cond-true (slot == slot) (Used false) (rest.slots slot) (leads_to-same slot)
 
-  pub slot-now : rest'.slots slot ≡ Used false
-  slot-now = now slot ∙ cond-true (slot == slot) (Used false) (rest.slots slot) (leads_to-same slot)
+    apart-from : (h s : ℕ) → slice_get es h ≡ Some (Handle s) → (s == slot) ≡ false
+    apart-from h s at = false_from_ne_true (s == slot) (λ e. unused-not_used (rest.slots s) (ap rest.slots ((Decides-eqb s slot).0 e) ∙ was) (agrees.used h s at))
 
-  apart-from : (h s : ℕ) → slice_get es h ≡ Some (Handle s) → (s == slot) ≡ false
-  apart-from h s at = false_from_ne_true (s == slot) (λ e. unused-not_used (rest.slots s) (ap rest.slots ((Decides-eqb s slot).0 e) ∙ was) (agrees.used h s at))
-
-  pub number-now : handle_number es' slot ≡ length es
-  number-now =
-      number_from-new 0 (leads_to slot) es (Handle slot) (leads_to-same slot)
+    pub number-now : handle_number es' slot ≡ length es
+    number-now =
+        number_from-new 0 (leads_to slot) es (Handle slot) (leads_to-same slot)
         (λ k x at. false_from_ne_true (leads_to slot x) (λ e. let is = leads_to-is slot x e in unused-not_used (rest.slots slot) was (agrees.used k slot (at ∙ ap Some is))))
-      ∙ omega arith
+        ∙ omega arith
 
-  flip : (k : ℕ) → (k == slot) ≡ false → (slot == k) ≡ false
-  flip k e = false_from_ne_true (slot == k) (λ t. let same : slot ≡ k = (Decides-eqb slot k).0 t in let z : (k == slot) ≡ true = (Decides-eqb k slot).1 (sym same) in let f : true ≡ false = sym z ∙ e in cc)
+    flip : (k : ℕ) → (k == slot) ≡ false → (slot == k) ≡ false
+    flip k e = false_from_ne_true (slot == k) (λ t. let same : slot ≡ k = (Decides-eqb slot k).0 t in let z : (k == slot) ≡ true = (Decides-eqb k slot).1 (sym same) in let f : true ≡ false = sym z ∙ e in cc)
 
-  -- the zone as it was has the names that it had
-  pub zone-kept : rename (handle_number es') (pointer_number es') zone ≡ rename (handle_number es) (pointer_number es) zone
-  zone-kept =
-      rename_fixed-unless (handle_number es') (pointer_number es) (pointer_number es') (λ k. number_from-push 0 (points_to k) es (Handle slot) refl) zone
-      ∙ rename-unless (handle_number es) (handle_number es') (pointer_number es) slot (λ k e. number_from-push 0 (leads_to k) es (Handle slot) (flip k e)) zone none
+    -- the zone as it was has the names that it had
+    pub zone-kept : rename (handle_number es') (pointer_number es') zone ≡ rename (handle_number es) (pointer_number es) zone
+    zone-kept =
+        rename_fixed-unless (handle_number es') (pointer_number es) (pointer_number es') (λ k. number_from-push 0 (points_to k) es (Handle slot) refl) zone
+        ∙ rename-unless (handle_number es) (handle_number es') (pointer_number es) slot (λ k e. number_from-push 0 (leads_to k) es (Handle slot) (flip k e)) zone none
 
-  pub names-now : map (name_of rest'.slots) es' ≡ map (name_of rest.slots) es ++ names.Handle Plain ∷ []
-  names-now =
-      map_push (name_of rest'.slots) es (Handle slot)
-      ∙ ap (λ l. l ++ names.Handle (role_of (rest'.slots slot)) ∷ []) (names-same rest.slots rest'.slots es (λ h s at. other-slot s (apart-from h s at)))
-      ∙ ap (λ t. map (name_of rest.slots) es ++ names.Handle (role_of t) ∷ []) slot-now
+    pub names-now : map (name_of rest'.slots) es' ≡ map (name_of rest.slots) es ++ names.Handle Plain ∷ []
+    names-now =
+        map_push (name_of rest'.slots) es (Handle slot)
+        ∙ ap (λ l. l ++ names.Handle (role_of (rest'.slots slot)) ∷ []) (names-same rest.slots rest'.slots es (λ h s at. other-slot s (apart-from h s at)))
+        ∙ ap (λ t. map (name_of rest.slots) es ++ names.Handle (role_of t) ∷ []) slot-now
 
-  pub agrees-now : Agrees rest' es'
-  agrees-now = record {
-    used = λ h s at. elim (slice_get-push es (Handle slot) h (Handle s) at) [ inl found ↦ other-slot s (apart-from h s found) ∙ agrees.used h s found | inr new ↦ (let is : s ≡ slot = handle-same s slot new.1 in ap rest'.slots is ∙ slot-now) ];
-    apart = λ h k s at at'. elim (slice_get-push es (Handle slot) h (Handle s) at) [
-      inl found ↦ elim (slice_get-push es (Handle slot) k (Handle s) at') [ inl found' ↦ agrees.apart h k s found found' | inr new' ↦ absurd (clash h s found (handle-same s slot new'.1)) ]
-      | inr new ↦ elim (slice_get-push es (Handle slot) k (Handle s) at') [ inl found' ↦ absurd (clash k s found' (handle-same s slot new.1)) | inr new' ↦ new.0 ∙ sym new'.0 ] ];
-    counted =
-      let a = agrees.counted in
-      let e : count_by uses_slot (map (name_of rest'.slots) es') ≡ count_by uses_slot (map (name_of rest.slots) es ++ names.Handle Plain ∷ []) = ap (count_by uses_slot) names-now in
-      let c : count_by uses_slot (map (name_of rest.slots) es ++ names.Handle Plain ∷ []) ≡ count_by uses_slot (map (name_of rest.slots) es) + 1 = sum_by_push (λ x. cond (uses_slot x) 1 0) (map (name_of rest.slots) es) (names.Handle Plain) in
-      omega (arith, one, all);
+    pub agrees-now : Agrees rest' es'
+    agrees-now = record {
+      used = λ h s at. elim (slice_get-push es (Handle slot) h (Handle s) at) [ inl found ↦ other-slot s (apart-from h s found) ∙ agrees.used h s found | inr new ↦ (let is : s ≡ slot = handle-same s slot new.1 in ap rest'.slots is ∙ slot-now) ];
+      apart = λ h k s at at'. elim (slice_get-push es (Handle slot) h (Handle s) at) [
+        | inl found ↦ elim (slice_get-push es (Handle slot) k (Handle s) at') [ inl found' ↦ agrees.apart h k s found found' | inr new' ↦ absurd (clash h s found (handle-same s slot new'.1)) ]
+        | inr new ↦ elim (slice_get-push es (Handle slot) k (Handle s) at') [ inl found' ↦ absurd (clash k s found' (handle-same s slot new.1)) | inr new' ↦ new.0 ∙ sym new'.0 ]
+      ];
+      counted =
+          let a = agrees.counted in
+          let e : count_by uses_slot (map (name_of rest'.slots) es') ≡ count_by uses_slot (map (name_of rest.slots) es ++ names.Handle Plain ∷ []) = ap (count_by uses_slot) names-now in
+          let c : count_by uses_slot (map (name_of rest.slots) es ++ names.Handle Plain ∷ []) ≡ count_by uses_slot (map (name_of rest.slots) es) + 1 = sum_by_push (λ x. cond (uses_slot x) 1 0) (map (name_of rest.slots) es) (names.Handle Plain) in
+          omega (arith, one, all);
     }
-    where
-      handle-same : (s t : ℕ) → Handle s ≡ Handle t → s ≡ t
-      handle-same s t e = cc
-      clash : (h s : ℕ) → slice_get es h ≡ Some (Handle s) → s ≡ slot → ⊥
-      clash h s found is = unused-not_used (rest.slots s) (ap rest.slots is ∙ was) (agrees.used h s found)
+      where
+        handle-same : (s t : ℕ) → Handle s ≡ Handle t → s ≡ t
+        handle-same s t e = cc
 
-  -- the answer of NewHandle, where its block was put into the lowest Free block that is large enough
-  pub new_handle-done : (n bytes : ℕ) (s : Spot) → phys n ≡ Some bytes → spot (is_room bytes) zone ≡ Some s → (zone' : List Block) → zone' ≡ filled (Relocatable slot no_flags (replicate n 0)) s
-      → new_handle n (state_of zone rest.slots es) ≡ (Ok (length es), state_of zone' rest'.slots es')
-  new_handle-done n bytes s fits found zone' is =
-      ap (λ t. cond t (given (names.Handle Plain) (put_in_free (Relocatable (length (map (name_of rest.slots) es)) no_flags (replicate n 0)) (rename (handle_number es) (pointer_number es) zone)) (state_of zone rest.slots es)) (refused MEM_FULL (state_of zone rest.slots es))) room-left
-      ∙ ap (λ o. given (names.Handle Plain) o (state_of zone rest.slots es)) put
-      ∙ ap (λ k. (Ok k, record { zone = rename (handle_number es') (pointer_number es') zone'; names = map (name_of rest.slots) es ++ names.Handle Plain ∷ [] })) (length-map es (name_of rest.slots))
-      ∙ ap (λ l. (Ok (length es), record { zone = rename (handle_number es') (pointer_number es') zone'; names = l })) (sym names-now)
-    where
-      room-left : (is_some (phys n) && nat_lt (used_slots (state_of zone rest.slots es)) (all_slots (state_of zone rest.slots es))) ≡ true
-      room-left =
-        let a = agrees.counted in
-        let m = masters-rename (handle_number es) (pointer_number es) zone in
-        let less : used_slots (state_of zone rest.slots es) < all_slots (state_of zone rest.slots es) = omega (arith, one, masters) in
-        rw ((phys-some n bytes fits).0) ((Decides-ltb (used_slots (state_of zone rest.slots es)) (all_slots (state_of zone rest.slots es))).1 less)
-      put : put_in_free (Relocatable (length (map (name_of rest.slots) es)) no_flags (replicate n 0)) (rename (handle_number es) (pointer_number es) zone) ≡ Some (rename (handle_number es') (pointer_number es') zone')
-      put =
-        ap (λ k. put_in_free (Relocatable k no_flags (replicate n 0)) (rename (handle_number es) (pointer_number es) zone)) (length-map es (name_of rest.slots) ∙ sym number-now)
-        ∙ ap (put_in_free (Relocatable (handle_number es' slot) no_flags (replicate n 0))) (sym zone-kept)
-        ∙ put_in_free-rename (handle_number es') (pointer_number es') (Relocatable slot no_flags (replicate n 0)) zone
-        ∙ ap (λ k. option_map (rename (handle_number es') (pointer_number es')) (option_map (filled (Relocatable slot no_flags (replicate n 0))) (spot (is_room k) zone))) (ap padded (length-replicate n 0) ∙ sym ((phys-some n bytes fits).1))
-        ∙ ap (λ o. option_map (rename (handle_number es') (pointer_number es')) (option_map (filled (Relocatable slot no_flags (replicate n 0))) o)) found
-        ∙ ap (λ z. Some (rename (handle_number es') (pointer_number es') z)) (sym is)
+        clash : (h s : ℕ) → slice_get es h ≡ Some (Handle s) → s ≡ slot → ⊥
+        clash h s found is = unused-not_used (rest.slots s) (ap rest.slots is ∙ was) (agrees.used h s found)
+
+    -- the answer of NewHandle, where its block was put into the lowest Free block that is large enough
+    pub new_handle-done : (n bytes : ℕ) (s : Spot) → phys n ≡ Some bytes → spot (is_room bytes) zone ≡ Some s → (zone' : List Block) → zone' ≡ filled (Relocatable slot no_flags (replicate n 0)) s
+        → new_handle n (state_of zone rest.slots es) ≡ (Ok (length es), state_of zone' rest'.slots es')
+    new_handle-done n bytes s fits found zone' is =
+        ap (λ t. cond t (given (names.Handle Plain) (put_in_free (Relocatable (length (map (name_of rest.slots) es)) no_flags (replicate n 0)) (rename (handle_number es) (pointer_number es) zone)) (state_of zone rest.slots es)) (refused MEM_FULL (state_of zone rest.slots es))) room-left
+        ∙ ap (λ o. given (names.Handle Plain) o (state_of zone rest.slots es)) put
+        ∙ ap (λ k. (Ok k, record { zone = rename (handle_number es') (pointer_number es') zone'; names = map (name_of rest.slots) es ++ names.Handle Plain ∷ [] })) (length-map es (name_of rest.slots))
+        ∙ ap (λ l. (Ok (length es), record { zone = rename (handle_number es') (pointer_number es') zone'; names = l })) (sym names-now)
+      where
+        room-left : (is_some (phys n) && nat_lt (used_slots (state_of zone rest.slots es)) (all_slots (state_of zone rest.slots es))) ≡ true
+        room-left =
+            let a = agrees.counted in
+            let m = masters-rename (handle_number es) (pointer_number es) zone in
+            let less : used_slots (state_of zone rest.slots es) < all_slots (state_of zone rest.slots es) = omega (arith, one, masters) in
+            rw ((phys-some n bytes fits).0) ((Decides-ltb (used_slots (state_of zone rest.slots es)) (all_slots (state_of zone rest.slots es))).1 less)
+
+        put : put_in_free (Relocatable (length (map (name_of rest.slots) es)) no_flags (replicate n 0)) (rename (handle_number es) (pointer_number es) zone) ≡ Some (rename (handle_number es') (pointer_number es') zone')
+        put =
+            ap (λ k. put_in_free (Relocatable k no_flags (replicate n 0)) (rename (handle_number es) (pointer_number es) zone)) (length-map es (name_of rest.slots) ∙ sym number-now)
+            ∙ ap (put_in_free (Relocatable (handle_number es' slot) no_flags (replicate n 0))) (sym zone-kept)
+            ∙ put_in_free-rename (handle_number es') (pointer_number es') (Relocatable slot no_flags (replicate n 0)) zone
+            ∙ ap (λ k. option_map (rename (handle_number es') (pointer_number es')) (option_map (filled (Relocatable slot no_flags (replicate n 0))) (spot (is_room k) zone))) (ap padded (length-replicate n 0) ∙ sym ((phys-some n bytes fits).1))
+            ∙ ap (λ o. option_map (rename (handle_number es') (pointer_number es')) (option_map (filled (Relocatable slot no_flags (replicate n 0))) o)) found
+            ∙ ap (λ z. Some (rename (handle_number es') (pointer_number es') z)) (sym is)
 
 -- no room in a Free block
 pub new_handle-full : (zone : List Block) (slots : ℕ → Slot) (es : List Entry) (n bytes : ℕ) → phys n ≡ Some bytes → spot (is_room bytes) zone ≡ None → new_handle n (state_of zone slots es) ≡ (Err MEM_FULL, state_of zone slots es)
@@ -199,67 +201,69 @@ new_handle-full zone slots es n bytes fits none =
   where
     s : State
     s = state_of zone slots es
+
     either : (t : Bool) → cond t (refused {T = ℕ} MEM_FULL s) (refused {T = ℕ} MEM_FULL s) ≡ refused {T = ℕ} MEM_FULL s
     either true = refl
     either false = refl
+
     put : put_in_free (Relocatable (length (map (name_of slots) es)) no_flags (replicate n 0)) (rename (handle_number es) (pointer_number es) zone) ≡ None
     put =
-      ap (λ k. option_map (filled (Relocatable (length (map (name_of slots) es)) no_flags (replicate n 0))) (spot (is_room k) (rename (handle_number es) (pointer_number es) zone))) (ap padded (length-replicate n 0) ∙ sym ((phys-some n bytes fits).1))
-      ∙ ap (option_map (filled (Relocatable (length (map (name_of slots) es)) no_flags (replicate n 0)))) (spot-rename (handle_number es) (pointer_number es) (is_room bytes) (is_room bytes) (is_room-rename (handle_number es) (pointer_number es) bytes) zone ∙ ap (option_map (rename_spot (handle_number es) (pointer_number es))) none)
+        ap (λ k. option_map (filled (Relocatable (length (map (name_of slots) es)) no_flags (replicate n 0))) (spot (is_room k) (rename (handle_number es) (pointer_number es) zone))) (ap padded (length-replicate n 0) ∙ sym ((phys-some n bytes fits).1))
+        ∙ ap (option_map (filled (Relocatable (length (map (name_of slots) es)) no_flags (replicate n 0)))) (spot-rename (handle_number es) (pointer_number es) (is_room bytes) (is_room bytes) (is_room-rename (handle_number es) (pointer_number es) bytes) zone ∙ ap (option_map (rename_spot (handle_number es) (pointer_number es))) none)
 
 -- the names of a heap with a handle disposed of
 module _ (zone : List Block) (rest rest' : Rest) (es : List Entry) (h slot : ℕ)
-  (agrees : Agrees rest es) (at : slice_get es h ≡ Some (Handle slot)) (small : h < no_number) (now : AreSlots (set_slot rest.slots slot Unused) rest'.slots) (one : rest'.unused ≡ rest.unused + 1) (all : rest'.all ≡ rest.all)
+    (agrees : Agrees rest es) (at : slice_get es h ≡ Some (Handle slot)) (small : h < no_number) (now : AreSlots (set_slot rest.slots slot Unused) rest'.slots) (one : rest'.unused ≡ rest.unused + 1) (all : rest'.all ≡ rest.all)
   where
+    -- the entries without it
+    abbrev pub left : List Entry
+    left = slice_set es h Disposed
 
-  -- the entries without it
-  abbrev pub left : List Entry
-  left = slice_set es h Disposed
+    other-left : (k s : ℕ) → slice_get left k ≡ Some (Handle s) → (slice_get es k ≡ Some (Handle s)) × ((s == slot) ≡ false)
+    other-left k s found = elim (slice_get-set es h Disposed k (Handle s) found) [
+      | inl old ↦ (old, false_from_ne_true (s == slot) (λ e. let same : k ≡ h = agrees.apart k h s old (at ∙ ap (λ n. Some (Handle n)) (sym ((Decides-eqb s slot).0 e))) in changed (sym (slice_get-set_same es h Disposed (slice_get_within es h (Handle slot) at)) ∙ ap (slice_get left) (sym same) ∙ found)))
+      | inr new ↦ absurd (changed (sym (ap Some new.1)))
+    ]
+      where
+        changed : Some Disposed ≡ Some (Handle s) → ⊥
+        changed e = cc
 
-  other-left : (k s : ℕ) → slice_get left k ≡ Some (Handle s) → (slice_get es k ≡ Some (Handle s)) × ((s == slot) ≡ false)
-  other-left k s found = elim (slice_get-set es h Disposed k (Handle s) found) [
-      inl old ↦ (old, false_from_ne_true (s == slot) (λ e. let same : k ≡ h = agrees.apart k h s old (at ∙ ap (λ n. Some (Handle n)) (sym ((Decides-eqb s slot).0 e))) in changed (sym (slice_get-set_same es h Disposed (slice_get_within es h (Handle slot) at)) ∙ ap (slice_get left) (sym same) ∙ found)))
-      | inr new ↦ absurd (changed (sym (ap Some new.1))) ]
-    where
-      changed : Some Disposed ≡ Some (Handle s) → ⊥
-      changed e = cc
+    slots-left : (s : ℕ) → (s == slot) ≡ false → rest'.slots s ≡ rest.slots s
+    slots-left s e = now s ∙ cond-false (s == slot) Unused (rest.slots s) e
 
-  slots-left : (s : ℕ) → (s == slot) ≡ false → rest'.slots s ≡ rest.slots s
-  slots-left s e = now s ∙ cond-false (s == slot) Unused (rest.slots s) e
+    flipped : (k : ℕ) → (k == slot) ≡ false → (slot == k) ≡ false
+    flipped k e = false_from_ne_true (slot == k) (λ t. let same : slot ≡ k = (Decides-eqb slot k).0 t in let z : (k == slot) ≡ true = (Decides-eqb k slot).1 (sym same) in let f : true ≡ false = sym z ∙ e in cc)
 
-  flipped : (k : ℕ) → (k == slot) ≡ false → (slot == k) ≡ false
-  flipped k e = false_from_ne_true (slot == k) (λ t. let same : slot ≡ k = (Decides-eqb slot k).0 t in let z : (k == slot) ≡ true = (Decides-eqb k slot).1 (sym same) in let f : true ≡ false = sym z ∙ e in cc)
+    pub names-left : map (name_of rest'.slots) left ≡ slice_set (map (name_of rest.slots) es) h names.Disposed
+    names-left = names-same rest.slots rest'.slots left (λ k s found. slots-left s (other-left k s found).1) ∙ map-set (name_of rest.slots) es h Disposed
 
-  pub names-left : map (name_of rest'.slots) left ≡ slice_set (map (name_of rest.slots) es) h names.Disposed
-  names-left = names-same rest.slots rest'.slots left (λ k s found. slots-left s (other-left k s found).1) ∙ map-set (name_of rest.slots) es h Disposed
-
-  pub agrees-left : Agrees rest' left
-  agrees-left = record {
-    used = λ k s found. slots-left s (other-left k s found).1 ∙ agrees.used k s (other-left k s found).0;
-    apart = λ j k s a b. agrees.apart j k s (other-left j s a).0 (other-left k s b).0;
-    counted =
-      let a = agrees.counted in
-      let e : count_by uses_slot (map (name_of rest'.slots) left) ≡ count_by uses_slot (slice_set (map (name_of rest.slots) es) h names.Disposed) = ap (count_by uses_slot) names-left in
-      let was : get_or (map (name_of rest.slots) es) h names.Disposed ≡ names.Handle (role_of (rest.slots slot)) = get_or_from_slice_get (map (name_of rest.slots) es) h _ names.Disposed (slice_get-map (name_of rest.slots) es h ∙ ap (option_map (name_of rest.slots)) at) in
-      let one_there : used_by (get_or (map (name_of rest.slots) es) h names.Disposed) ≡ 1 = ap used_by was in
-      let c = sum_by-set used_by (map (name_of rest.slots) es) h names.Disposed names.Disposed (let w : h < length es = slice_get_within es h (Handle slot) at in omega (arith, length-map es (name_of rest.slots))) in
-      omega (arith, one, all);
+    pub agrees-left : Agrees rest' left
+    agrees-left = record {
+      used = λ k s found. slots-left s (other-left k s found).1 ∙ agrees.used k s (other-left k s found).0;
+      apart = λ j k s a b. agrees.apart j k s (other-left j s a).0 (other-left k s b).0;
+      counted =
+          let a = agrees.counted in
+          let e : count_by uses_slot (map (name_of rest'.slots) left) ≡ count_by uses_slot (slice_set (map (name_of rest.slots) es) h names.Disposed) = ap (count_by uses_slot) names-left in
+          let was : get_or (map (name_of rest.slots) es) h names.Disposed ≡ names.Handle (role_of (rest.slots slot)) = get_or_from_slice_get (map (name_of rest.slots) es) h _ names.Disposed (slice_get-map (name_of rest.slots) es h ∙ ap (option_map (name_of rest.slots)) at) in
+          let one_there : used_by (get_or (map (name_of rest.slots) es) h names.Disposed) ≡ 1 = ap used_by was in
+          let c = sum_by-set used_by (map (name_of rest.slots) es) h names.Disposed names.Disposed (let w : h < length es = slice_get_within es h (Handle slot) at in omega (arith, length-map es (name_of rest.slots))) in
+          omega (arith, one, all);
     }
 
-  pub dispose_handle-done : (handle : Option ℕ) → handle ≡ Some h → dispose_handle handle (state_of zone rest.slots es) ≡ (Ok tt, state_of (tidy (freed (is_relocatable slot) zone)) rest'.slots left)
-  dispose_handle-done handle is =
-      ap (λ o. dispose_handle o (state_of zone rest.slots es)) is
-      ∙ ap (λ o. for_found (known_as h o) (state_of zone rest.slots es) (λ k. disposed_of k.role k.number (state_of zone rest.slots es))) (slice_get-map (name_of rest.slots) es h ∙ ap (option_map (name_of rest.slots)) at)
-      ∙ ap (λ t. disposed_of (role_of t) h (state_of zone rest.slots es)) (agrees.used h slot at)
-      ∙ ap (λ z. (Ok tt, record { zone = z; names = slice_set (map (name_of rest.slots) es) h names.Disposed })) zone-left
-      ∙ ap (λ l. (Ok tt, record { zone = rename (handle_number left) (pointer_number left) (tidy (freed (is_relocatable slot) zone)); names = l })) (sym names-left)
-    where
-      zone-left : tidy (freed (is_relocatable h) (rename (handle_number es) (pointer_number es) zone)) ≡ rename (handle_number left) (pointer_number left) (tidy (freed (is_relocatable slot) zone))
-      zone-left =
-        ap tidy (freed-rename (handle_number es) (pointer_number es) (is_relocatable h) (is_relocatable slot) (is_relocatable-number es h slot at agrees.apart small) zone)
-        ∙ tidy-rename (handle_number es) (pointer_number es) (freed (is_relocatable slot) zone)
-        ∙ sym (rename_fixed-unless (handle_number left) (pointer_number es) (pointer_number left) (λ k. number_from-set 0 (points_to k) es h (Handle slot) Disposed at refl refl) (tidy (freed (is_relocatable slot) zone))
-          ∙ rename-unless (handle_number es) (handle_number left) (pointer_number es) slot (λ k e. number_from-set 0 (leads_to k) es h (Handle slot) Disposed at (flipped k e) refl) (tidy (freed (is_relocatable slot) zone)) (has-released slot zone))
+    pub dispose_handle-done : (handle : Option ℕ) → handle ≡ Some h → dispose_handle handle (state_of zone rest.slots es) ≡ (Ok tt, state_of (tidy (freed (is_relocatable slot) zone)) rest'.slots left)
+    dispose_handle-done handle is =
+        ap (λ o. dispose_handle o (state_of zone rest.slots es)) is
+        ∙ ap (λ o. for_found (known_as h o) (state_of zone rest.slots es) (λ k. disposed_of k.role k.number (state_of zone rest.slots es))) (slice_get-map (name_of rest.slots) es h ∙ ap (option_map (name_of rest.slots)) at)
+        ∙ ap (λ t. disposed_of (role_of t) h (state_of zone rest.slots es)) (agrees.used h slot at)
+        ∙ ap (λ z. (Ok tt, record { zone = z; names = slice_set (map (name_of rest.slots) es) h names.Disposed })) zone-left
+        ∙ ap (λ l. (Ok tt, record { zone = rename (handle_number left) (pointer_number left) (tidy (freed (is_relocatable slot) zone)); names = l })) (sym names-left)
+      where
+        zone-left : tidy (freed (is_relocatable h) (rename (handle_number es) (pointer_number es) zone)) ≡ rename (handle_number left) (pointer_number left) (tidy (freed (is_relocatable slot) zone))
+        zone-left =
+            ap tidy (freed-rename (handle_number es) (pointer_number es) (is_relocatable h) (is_relocatable slot) (is_relocatable-number es h slot at agrees.apart small) zone)
+            ∙ tidy-rename (handle_number es) (pointer_number es) (freed (is_relocatable slot) zone)
+            ∙ sym (rename_fixed-unless (handle_number left) (pointer_number es) (pointer_number left) (λ k. number_from-set 0 (points_to k) es h (Handle slot) Disposed at refl refl) (tidy (freed (is_relocatable slot) zone))
+            ∙ rename-unless (handle_number es) (handle_number left) (pointer_number es) slot (λ k e. number_from-set 0 (leads_to k) es h (Handle slot) Disposed at (flipped k e) refl) (tidy (freed (is_relocatable slot) zone)) (has-released slot zone))
 
 -- the spot of a place is a way to see the zone
 pub spot_at-is : (place : ℕ) (zone : List Block) (s : Spot) → spot_at place zone ≡ Some s → zone ≡ s.below ++ s.here ∷ s.above
@@ -279,10 +283,10 @@ agrees-same rest rest' es agrees now = record {
   used = λ h s at. now.slots s ∙ agrees.used h s at;
   apart = agrees.apart;
   counted =
-    let a = agrees.counted in
-    let e : count_by uses_slot (map (name_of rest'.slots) es) ≡ count_by uses_slot (map (name_of rest.slots) es) = ap (count_by uses_slot) (names-same rest.slots rest'.slots es (λ h s at. now.slots s)) in
-    omega (arith, now.unused, now.all);
-  }
+      let a = agrees.counted in
+      let e : count_by uses_slot (map (name_of rest'.slots) es) ≡ count_by uses_slot (map (name_of rest.slots) es) = ap (count_by uses_slot) (names-same rest.slots rest'.slots es (λ h s at. now.slots s)) in
+      omega (arith, now.unused, now.all);
+}
 
 -- a heap over another zone and the same rest
 pub memory-same : (zone : List Block) (rest rest' : Rest) (es : List Entry) (last : OsErr) → IsRest rest rest' → memory_of zone rest' es last ≡ memory_of zone rest es last
@@ -296,7 +300,7 @@ pub silent-done : {T : Type 0} (row : State → Answer T) (value : Memory) (zone
 silent-done {T = T} row value zone zone' rest rest' es es' last r is done window =
     let P : Memory → Type 0 = λ m. silent {T = T} row m ≡ (r, memory_of zone' rest' es' last) in
     subst P is ((λ i. ((done i).0, record (memory_of zone rest es last) { heap = (done i).1 }))
-      ∙ ap (λ w. (r, record { heap = state_of zone' rest'.slots es'; last = last; window = w })) (sym window))
+    ∙ ap (λ w. (r, record { heap = state_of zone' rest'.slots es'; last = last; window = w })) (sym window))
 
 -- what a refused call gives
 pub silent-refused : {T : Type 0} (row : State → Answer T) (value : Memory) (zone : List Block) (rest : Rest) (es : List Entry) (last : OsErr) (code : OsErr)
@@ -311,11 +315,13 @@ new_handle-none zone rest es n masters agrees unused =
   where
     s : State
     s = state_of zone rest.slots es
+
     full : nat_lt (used_slots s) (all_slots s) ≡ false
     full =
-      let a = agrees.counted in
-      let m = masters-rename (handle_number es) (pointer_number es) zone in
-      false_from_ne_true (nat_lt (used_slots s) (all_slots s)) (λ e. let less = (Decides-ltb (used_slots s) (all_slots s)).0 e in absurd (omega (arith, masters, unused)))
+        let a = agrees.counted in
+        let m = masters-rename (handle_number es) (pointer_number es) zone in
+        false_from_ne_true (nat_lt (used_slots s) (all_slots s)) (λ e. let less = (Decides-ltb (used_slots s) (all_slots s)).0 e in absurd (omega (arith, masters, unused)))
+
     either : (t : Bool) → cond (t && false) (given (names.Handle Plain) (put_in_free (Relocatable (length s.names) no_flags (replicate n 0)) s.zone) s) (refused MEM_FULL s) ≡ refused MEM_FULL s
     either true = refl
     either false = refl
@@ -330,18 +336,21 @@ pub put-done : (value : Memory) (zone zone' : List Block) (rest rest' : Rest) (e
     → IsRest rest rest' → i + length x ≤ length (content_of s.here) → zone' ≡ s.below ++ with_content (written i x (content_of s.here)) s.here ∷ s.above → silent (put handle i x) value ≡ (Ok tt, memory_of zone' rest' es last)
 put-done value zone zone' rest rest' es last handle h i x s is found now fits done =
     silent-done (put handle i x) value zone zone' rest rest' es es last (Ok tt) is
-      (ap (λ r. for_found r state (λ k. written_at i x k.at state)) found
-      ∙ ap (λ t. cond t (Ok tt, record state { zone = rename f g s.below ++ with_content (written i x (content_of (rename_block f g s.here))) (rename_block f g s.here) ∷ rename f g s.above }) (refused PROFILE state)) (ap (λ c. nat_le (i + length x) (length c)) (content_of-rename f g s.here) ∙ test)
-      ∙ ap (λ z. (Ok tt, record state { zone = z })) (ap (λ b. rename f g s.below ++ b ∷ rename f g s.above) (with_content-rename f g _ s.here ∙ ap (λ c. rename_block f g (with_content (written i x c) s.here)) (content_of-rename f g s.here)) ∙ sym (map-append (rename_block f g) s.below (with_content (written i x (content_of s.here)) s.here ∷ s.above)) ∙ ap (rename f g) (sym done))
-      ∙ ap (λ l. (Ok tt, record { zone = rename f g zone'; names = l })) (sym (names-same rest.slots rest'.slots es (λ h s at. now.slots s))))
-      now.window
+    (ap (λ r. for_found r state (λ k. written_at i x k.at state)) found
+    ∙ ap (λ t. cond t (Ok tt, record state { zone = rename f g s.below ++ with_content (written i x (content_of (rename_block f g s.here))) (rename_block f g s.here) ∷ rename f g s.above }) (refused PROFILE state)) (ap (λ c. nat_le (i + length x) (length c)) (content_of-rename f g s.here) ∙ test)
+    ∙ ap (λ z. (Ok tt, record state { zone = z })) (ap (λ b. rename f g s.below ++ b ∷ rename f g s.above) (with_content-rename f g _ s.here ∙ ap (λ c. rename_block f g (with_content (written i x c) s.here)) (content_of-rename f g s.here)) ∙ sym (map-append (rename_block f g) s.below (with_content (written i x (content_of s.here)) s.here ∷ s.above)) ∙ ap (rename f g) (sym done))
+    ∙ ap (λ l. (Ok tt, record { zone = rename f g zone'; names = l })) (sym (names-same rest.slots rest'.slots es (λ h s at. now.slots s))))
+    now.window
   where
     f : ℕ → ℕ
     f = handle_number es
+
     g : ℕ → ℕ
     g = pointer_number es
+
     state : State
     state = state_of zone rest.slots es
+
     test : nat_le (i + length x) (length (content_of s.here)) ≡ true
     test = grind (arith, nat_tests)
 
@@ -351,15 +360,18 @@ pub put-outside : (value : Memory) (zone : List Block) (rest : Rest) (es : List 
     → length (content_of s.here) < i + length x → silent (put handle i x) value ≡ (Err PROFILE, value)
 put-outside value zone rest es last handle h i x s is found past =
     silent-refused (put handle i x) value zone rest es last PROFILE is
-      (ap (λ r. for_found r state (λ k. written_at i x k.at state)) found
-      ∙ ap (λ t. cond t (Ok tt, record state { zone = rename f g s.below ++ with_content (written i x (content_of (rename_block f g s.here))) (rename_block f g s.here) ∷ rename f g s.above }) (refused PROFILE state)) (ap (λ c. nat_le (i + length x) (length c)) (content_of-rename f g s.here) ∙ test))
+    (ap (λ r. for_found r state (λ k. written_at i x k.at state)) found
+    ∙ ap (λ t. cond t (Ok tt, record state { zone = rename f g s.below ++ with_content (written i x (content_of (rename_block f g s.here))) (rename_block f g s.here) ∷ rename f g s.above }) (refused PROFILE state)) (ap (λ c. nat_le (i + length x) (length c)) (content_of-rename f g s.here) ∙ test))
   where
     f : ℕ → ℕ
     f = handle_number es
+
     g : ℕ → ℕ
     g = pointer_number es
+
     state : State
     state = state_of zone rest.slots es
+
     test : nat_le (i + length x) (length (content_of s.here)) ≡ false
     test = grind (arith, nat_tests)
 

@@ -1,16 +1,14 @@
-use Rattle.std.proofs.Common.{◌≡◌, ℕ, ◌-◌, ◌*◌, ◌&&◌, Bool, true, false, List, [], ◌∷◌, ◌++◌, length, replicate, refl, Option, Some, None, Result, Ok, Err, cond, nat_lt}
-use Rattle.std.specs.Prelude.{ℤ, pos, negsuc, suc, is_some, max, map}
-use Rattle.std.specs.List.{fold}
+use Rattle.std.proofs.Common.{◌≡◌, ℕ, ◌&&◌, true, false, List, [], ◌∷◌, ◌++◌, length, replicate, refl, Option, Some, None, Ok, Err, cond, nat_lt}
+use Rattle.std.specs.Prelude.{ℤ, pos, negsuc, suc, is_some}
 use Rattle.mac_words.specs.Size.{phys}
-use Rattle.mac_words.specs.declared.code.OsErr.{OsErr}
 use Rattle.mac_words.specs.declared.code.TheConstants.OsErr.{MEM_FULL, PROFILE}
 use Rattle.block_store.specs.declared.flags.Flags.{Flags}
-use Rattle.block_store.specs.Block.{Block, Free, Fixed, Masters, Relocatable, free_sum, is_mover, is_relocatable, no_flags}
-use Rattle.block_store.specs.Run.{change_run, has, high, runs}
+use Rattle.block_store.specs.Block.{Block, Free, Fixed, Masters, Relocatable, is_mover, is_relocatable, no_flags}
+use Rattle.block_store.specs.Run.{change_run, has, high}
 use Rattle.block_store.specs.Room.{put_at_base, put_in_place, room}
 use Rattle.block_store.specs.Grow.{grow}
 use Rattle.heap_calls.specs.State.{State, fresh_heap, Handle, Plain, Pointer, used_slots, all_slots}
-use Rattle.heap_calls.specs.Answer.{Answer, Held, given, refused, on_block, dispose_handle, get_handle_size, show, place_of, free_mem, put}
+use Rattle.heap_calls.specs.Answer.{Answer, given, refused, on_block, dispose_handle, get_handle_size, show, place_of, free_mem, put}
 
 -- The worked examples of compaction, purging and growing, by the definitions alone. The calls that aren't there yet
 -- are said here as the definitions of places and of growing give them.
@@ -19,8 +17,8 @@ use Rattle.heap_calls.specs.Answer.{Answer, Held, given, refused, on_block, disp
 abbrev new_handle_by_room : ℕ → State → Answer ℕ
 new_handle_by_room n s =
     cond (is_some (phys n) && nat_lt (used_slots s) (all_slots s))
-      (given (Handle Plain) (room (put_in_place (Relocatable (length s.names) no_flags (replicate n 0))) (λ b. false) s.zone) s)
-      (refused MEM_FULL s)
+    (given (Handle Plain) (room (put_in_place (Relocatable (length s.names) no_flags (replicate n 0))) (λ b. false) s.zone) s)
+    (refused MEM_FULL s)
 
 -- NewPtr
 abbrev new_pointer : ℕ → State → Answer ℕ
@@ -69,32 +67,46 @@ run (line ∷ lines) s = (line s).0 ∷ run lines (line s).1
 
 abbrev handle : ℕ → Line
 handle n s = told (λ v. []) (new_handle_by_room n s)
+
 abbrev pointer : ℕ → Line
 pointer n s = told (λ v. []) (new_pointer n s)
+
 abbrev where_is : ℕ → Line
 where_is h s = told (λ v. v ∷ []) (place_of (Some h) s)
+
 abbrev size_is : ℕ → Line
 size_is h s = told (λ v. v ∷ []) (get_handle_size (Some h) s)
+
 abbrev writes : ℕ → ℕ → List ℕ → Line
 writes h i x s = told (λ v. []) (put (Some h) i x s)
+
 abbrev disposes : ℕ → Line
 disposes h s = told (λ v. []) (dispose_handle (Some h) s)
+
 abbrev shows : ℕ → Line
 shows h s = told (λ v. v) (show (Some h) s)
+
 abbrev locks : ℕ → Line
 locks h s = told (λ v. []) (change_flags (λ f. record f { locked = true }) h s)
+
 abbrev unlocks : ℕ → Line
 unlocks h s = told (λ v. []) (change_flags (λ f. record f { locked = false }) h s)
+
 abbrev purges : ℕ → Line
 purges h s = told (λ v. []) (change_flags (λ f. record f { purgeable = true }) h s)
+
 abbrev keeps : ℕ → Line
 keeps h s = told (λ v. []) (change_flags (λ f. record f { purgeable = false }) h s)
+
 abbrev resizes : ℕ → ℕ → Line
 resizes h n s = told (λ v. []) (set_handle_size h n s)
+
 abbrev goes_high : ℕ → Line
 goes_high h s = told (λ v. []) (move_high h s)
+
 abbrev frees : Line
 frees s = told (λ v. v ∷ []) (free_mem s)
+
 -- a b c; b goes; d needs 400, for which c moves down
 three_blocks_and_compaction : run (handle 100 ∷ handle 100 ∷ handle 100 ∷ where_is 0 ∷ where_is 1 ∷ where_is 2 ∷ writes 2 0 (120 ∷ 121 ∷ 122 ∷ []) ∷ disposes 1 ∷ handle 400 ∷ where_is 3 ∷ where_is 2 ∷ shows 2 ∷ []) (fresh_heap 1024)
     ≡ (0 ∷ []) ∷ (0 ∷ []) ∷ (0 ∷ []) ∷ (0 ∷ 288 ∷ []) ∷ (0 ∷ 416 ∷ []) ∷ (0 ∷ 544 ∷ []) ∷ (0 ∷ []) ∷ (0 ∷ []) ∷ (0 ∷ []) ∷ (0 ∷ 544 ∷ []) ∷ (0 ∷ 416 ∷ []) ∷ (0 ∷ 120 ∷ 121 ∷ 122 ∷ replicate 97 0) ∷ []

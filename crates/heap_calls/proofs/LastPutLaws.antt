@@ -1,6 +1,5 @@
-use Rattle.std.proofs.Common.{◌≡◌, ℕ, ◌+◌, ◌-◌, ◌*◌, ◌≤◌, ◌<◌, zero, suc, Bool, true, false, not, ◌&&◌, ◌||◌, ◌==◌, List, [], ◌∷◌, ◌++◌, length, refl, sym, ◌∙◌, ap, cond, map, arith, rules, Option, Some, None, Result, Ok, Err, slice_get, slice_set, replicate, subst, nat_lt, nat_le}
+use Rattle.std.proofs.Common.{◌≡◌, ℕ, ◌+◌, ◌-◌, ◌≤◌, ◌<◌, zero, suc, Bool, true, false, ◌&&◌, ◌==◌, List, [], ◌∷◌, ◌++◌, length, refl, sym, ◌∙◌, ap, cond, arith, Option, Some, None, Result, Ok, Err, slice_get, slice_set, replicate, subst, nat_lt, nat_le}
 use Rattle.std.proofs.lemmas.List.{length_push, length-set}
-use Rattle.std.proofs.lemmas.Option.{none-some, same_Some}
 use Rattle.std.proofs.lemmas.Bool.{cond-true, cond-false, false_from_ne_true}
 use Rattle.std.proofs.lemmas.Bool.Decides.{Decides-eqb}
 use Rattle.std.specs.Option.{option_map, ok_or}
@@ -8,7 +7,6 @@ use Rattle.std.specs.Prelude.{is_some}
 use Rattle.mac_words.specs.Size.{phys}
 use Rattle.mac_words.specs.declared.code.OsErr.{OsErr}
 use Rattle.mac_words.specs.declared.code.TheConstants.OsErr.{NIL_HANDLE, MEM_FULL, PROFILE}
-use Rattle.block_store.specs.Rest.{Window}
 use Rattle.block_store.specs.Block.{Block, Free, Fixed, Masters, Relocatable, size, sizes, count, free, is_relocatable, is_room, content_of, with_content, no_flags, tidy, add, written}
 use Rattle.block_store.specs.Room.{Spot, spot, filled}
 use Rattle.block_store.specs.Grow.{freed}
@@ -20,7 +18,7 @@ use Rattle.heap_calls.specs.Answer.{Answer, Held, new_handle, put_in_free, given
 use Rattle.heap_calls.specs.Answer as calls
 use Rattle.heap_calls.specs.Asked.{Asked, Told, Done, Given, Number, Bytes, answered, telling, told_as}
 use Rattle.heap_calls.specs.Asked as asked
-use Rattle.heap_calls.specs.LastPut.{Holds, put_by, last_put_from, last_put, Entry}
+use Rattle.heap_calls.specs.LastPut.{Holds, put_by}
 
 -- a block below n is named once, and holds its bytes
 abbrev pub IsKnown : (ℕ → List ℕ) → ℕ → Block → Type 0
@@ -105,6 +103,7 @@ look_up-spot h s k is = by_name (slice_get s.names h) is
     by_spot : (o : Option Spot) → ok_or {E = OsErr} (option_map (λ (at : Spot). let x : Held = record { number = h; at = at } in x) o) NIL_HANDLE ≡ Ok k → (o ≡ Some k.at) × (k.number ≡ h)
     by_spot None e = cc
     by_spot (Some at) e = let same : (record { number = h; at = at }) ≡ k = cc in (ap (λ (x : Held). Some x.at) same, ap (λ (x : Held). x.number) (sym same))
+
     by_name : (o : Option Name) → held_at (calls.known_as h o) s ≡ Ok k → (spot (is_relocatable h) s.zone ≡ Some k.at) × (k.number ≡ h)
     by_name None e = cc
     by_name (Some (names.Handle role)) e = by_spot (spot (is_relocatable h) s.zone) e
@@ -166,26 +165,32 @@ known-new : (s : State) (bytes : ℕ → List ℕ) → Known s bytes → (n p : 
     → Known (record { zone = filled (Relocatable (length s.names) no_flags (replicate n 0)) at; names = s.names ++ name ∷ [] }) (λ h. cond (length s.names == h) (replicate n 0) (bytes h))
 known-new s bytes known n p at is name = record {
   blocks = Each-tidy Q (λ m. tt) (at.below ++ new ∷ Free (size at.here - size new) ∷ at.above)
-    (Each-append Q at.below (new ∷ Free (size at.here - size new) ∷ at.above) (Each-map P Q more at.below (Each-below P at.below (at.here ∷ at.above) whole))
+      (Each-append Q at.below (new ∷ Free (size at.here - size new) ∷ at.above) (Each-map P Q more at.below (Each-below P at.below (at.here ∷ at.above) whole))
       ((omega (arith, length_push s.names name), sym (cond-true (length s.names == length s.names) (replicate n 0) (bytes (length s.names)) ((Decides-eqb (length s.names) (length s.names)).1 refl))), (tt, Each-map P Q more at.above (Each-above P at.below (at.here ∷ at.above) whole).1)));
   once = λ h. once h;
-  }
+}
   where
     new : Block
     new = Relocatable (length s.names) no_flags (replicate n 0)
+
     P : Block → Type 0
     P = IsKnown bytes (length s.names)
+
     Q : Block → Type 0
     Q = IsKnown (λ h. cond (length s.names == h) (replicate n 0) (bytes h)) (length (s.names ++ name ∷ []))
+
     whole : Each P (at.below ++ at.here ∷ at.above)
     whole = subst (Each P) (spot-is (is_room p) s.zone at is) known.blocks
+
     more : (b : Block) → P b → Q b
     more (Free m) q = tt
     more (Fixed id content) q = tt
     more Masters q = tt
-    more (Relocatable id flags content) q =
-      (let less : id < length s.names = q.0 in omega (arith, length_push s.names name),
-       q.1 ∙ sym (cond-false (length s.names == id) (replicate n 0) (bytes id) (false_from_ne_true (length s.names == id) (λ e. let same : length s.names ≡ id = (Decides-eqb (length s.names) id).0 e in let less : id < length s.names = q.0 in absurd (omega arith)))))
+    more (Relocatable id flags content) q = (
+      let less : id < length s.names = q.0 in omega (arith, length_push s.names name),
+      q.1 ∙ sym (cond-false (length s.names == id) (replicate n 0) (bytes id) (false_from_ne_true (length s.names == id) (λ e. let same : length s.names ≡ id = (Decides-eqb (length s.names) id).0 e in let less : id < length s.names = q.0 in absurd (omega arith)))),
+    )
+
     once : (h : ℕ) → named h (filled new at) ≤ 1
     once h = cases (length s.names == h) refl
       where
@@ -206,50 +211,59 @@ known-disposed : (s : State) (bytes : ℕ → List ℕ) → Known s bytes → (h
 known-disposed s bytes known h = record {
   blocks = subst (λ (n : ℕ). Each (IsKnown bytes n) (tidy (freed (is_relocatable h) s.zone))) (sym (length-set s.names h names.Disposed)) (Each-tidy (IsKnown bytes (length s.names)) (λ m. tt) (freed (is_relocatable h) s.zone) (Each-freed (IsKnown bytes (length s.names)) (λ m. tt) (is_relocatable h) s.zone known.blocks));
   once = λ k. let o = known.once k in let f = named-freed-le k (is_relocatable h) s.zone in omega (arith, total-tidy (is_named k) (λ n m. refl) (freed (is_relocatable h) s.zone));
-  }
+}
 
 -- bytes are put into the only block of a handle
 known-put : (s : State) (bytes : ℕ → List ℕ) → Known s bytes → (h i : ℕ) (x : List ℕ) (at : Spot) → spot (is_relocatable h) s.zone ≡ Some at
     → Known (record s { zone = at.below ++ with_content (written i x (content_of at.here)) at.here ∷ at.above }) (λ k. cond (h == k) (written i x (bytes h)) (bytes k))
 known-put s bytes known h i x at is = record {
   blocks = Each-append Q at.below (with_content (written i x (content_of at.here)) at.here ∷ at.above) (Each-known bytes bytes' n h same at.below (alone.0) (Each-below P at.below (at.here ∷ at.above) whole))
-    (here at.here passes (Each-above P at.below (at.here ∷ at.above) whole).0, Each-known bytes bytes' n h same at.above (alone.1) (Each-above P at.below (at.here ∷ at.above) whole).1);
+      (here at.here passes (Each-above P at.below (at.here ∷ at.above) whole).0, Each-known bytes bytes' n h same at.above (alone.1) (Each-above P at.below (at.here ∷ at.above) whole).1);
   once = λ k. let o = known.once k in let e = kept k at.here in omega (arith, ap (named k) (spot-is (is_relocatable h) s.zone at is), total-append (is_named k) at.below (with_content (written i x (content_of at.here)) at.here ∷ at.above), total-append (is_named k) at.below (at.here ∷ at.above));
-  }
+}
   where
     n : ℕ
     n = length s.names
+
     bytes' : ℕ → List ℕ
     bytes' k = cond (h == k) (written i x (bytes h)) (bytes k)
+
     P : Block → Type 0
     P = IsKnown bytes n
+
     Q : Block → Type 0
     Q = IsKnown bytes' n
+
     whole : Each P (at.below ++ at.here ∷ at.above)
     whole = subst (Each P) (spot-is (is_relocatable h) s.zone at is) known.blocks
+
     passes : is_relocatable h at.here ≡ true
     passes = spot-passes (is_relocatable h) s.zone at is
+
     alone : (named h at.below ≡ 0) × (named h at.above ≡ 0)
     alone =
-      let o = known.once h in
-      let one : is_named h at.here ≡ 1 = cond-true (is_relocatable h at.here) 1 0 passes in
-      let z : named h s.zone ≡ named h (at.below ++ at.here ∷ at.above) = ap (named h) (spot-is (is_relocatable h) s.zone at is) in
-      let a = total-append (is_named h) at.below (at.here ∷ at.above) in
-      (omega arith, omega arith)
+        let o = known.once h in
+        let one : is_named h at.here ≡ 1 = cond-true (is_relocatable h at.here) 1 0 passes in
+        let z : named h s.zone ≡ named h (at.below ++ at.here ∷ at.above) = ap (named h) (spot-is (is_relocatable h) s.zone at is) in
+        let a = total-append (is_named h) at.below (at.here ∷ at.above) in
+        (omega arith, omega arith)
+
     same : (k : ℕ) → (k == h) ≡ false → bytes' k ≡ bytes k
     same k e = cond-false (h == k) _ _ (false_from_ne_true (h == k) (λ t. let eq : h ≡ k = (Decides-eqb h k).0 t in let z : (k == h) ≡ true = (Decides-eqb k h).1 (sym eq) in let f : true ≡ false = sym z ∙ e in cc))
+
     kept : (k : ℕ) (b : Block) → is_named k (with_content (written i x (content_of at.here)) b) ≡ is_named k b
     kept k (Free m) = refl
     kept k (Fixed id content) = refl
     kept k Masters = refl
     kept k (Relocatable id flags content) = refl
+
     here : (b : Block) → is_relocatable h b ≡ true → P b → Q (with_content (written i x (content_of b)) b)
     here (Free m) e q = tt
     here (Fixed id content) e q = tt
     here Masters e q = tt
     here (Relocatable id flags content) e q =
-      let eq : id ≡ h = (Decides-eqb id h).0 e in
-      (q.0, ap (written i x) (q.1 ∙ ap bytes eq) ∙ sym (cond-true (h == id) (written i x (bytes h)) (bytes id) ((Decides-eqb h id).1 (sym eq))))
+        let eq : id ≡ h = (Decides-eqb id h).0 e in
+        (q.0, ap (written i x) (q.1 ∙ ap bytes eq) ∙ sym (cond-true (h == id) (written i x (bytes h)) (bytes id) ((Decides-eqb h id).1 (sym eq))))
 
 -- a call that leaves the heap as it is, where a block is looked up
 read-same : {T : Type 0} (tell : T → Told) (r : Result Held OsErr) (m : Memory) (value : Held → T) → (telling tell (silent (λ s. for_found r s (λ k. (Ok (value k), s))) m)).1.heap ≡ m.heap
@@ -266,13 +280,17 @@ step-known (asked.NewHandle n) m bytes known = by_test (is_some (phys n) && nat_
   where
     s : State
     s = m.heap
+
     new : Block
     new = Relocatable (length m.heap.names) no_flags (replicate n 0)
+
     after : Answer ℕ → Type 0
     after a = Known a.1 (put_by (asked.NewHandle n) (told_as Given a.0) bytes)
+
     by_spot : (o : Option Spot) → spot (is_room (size new)) m.heap.zone ≡ o → Known (given (names.Handle Plain) (option_map (filled new) o) m.heap).1 (put_by (asked.NewHandle n) (told_as Given (given (names.Handle Plain) (option_map (filled new) o) m.heap).0) bytes)
     by_spot None e = known
     by_spot (Some at) e = known-new m.heap bytes known n (size new) at e (names.Handle Plain)
+
     by_test : (t : Bool) → Known (cond t (given (names.Handle Plain) (put_in_free new m.heap.zone) m.heap) (refused MEM_FULL m.heap)).1 (put_by (asked.NewHandle n) (told_as Given (cond t (given (names.Handle Plain) (put_in_free new m.heap.zone) m.heap) (refused MEM_FULL m.heap)).0) bytes)
     by_test true = by_spot (spot (is_room (size new)) m.heap.zone) refl
     by_test false = known
@@ -301,7 +319,7 @@ step-known (asked.Put (Some h) i x) m bytes known = by_spot (look_up (Some h) m.
     by_spot (Ok k) found = by_test (nat_le (i + length x) (length (content_of k.at.here)))
       where
         by_test : (t : Bool) → Known (cond t (let done : Answer (Unit {0}) = (Ok tt, record m.heap { zone = k.at.below ++ with_content (written i x (content_of k.at.here)) k.at.here ∷ k.at.above }) in done) (refused PROFILE m.heap)).1
-          (put_by (asked.Put (Some h) i x) (told_as (λ (u : Unit {0}). Done) (cond t (let done : Answer (Unit {0}) = (Ok tt, record m.heap { zone = k.at.below ++ with_content (written i x (content_of k.at.here)) k.at.here ∷ k.at.above }) in done) (refused PROFILE m.heap)).0) bytes)
+            (put_by (asked.Put (Some h) i x) (told_as (λ (u : Unit {0}). Done) (cond t (let done : Answer (Unit {0}) = (Ok tt, record m.heap { zone = k.at.below ++ with_content (written i x (content_of k.at.here)) k.at.here ∷ k.at.above }) in done) (refused PROFILE m.heap)).0) bytes)
         by_test true = known-put m.heap bytes known h i x k.at (found k refl)
         by_test false = known
 step-known (asked.Show handle) m bytes known = by_spot (look_up handle m.heap)
@@ -322,6 +340,7 @@ known-fresh n = record { blocks = (tt, rest (n - 272)); once = λ h. none h (n -
     rest : (m : ℕ) → Each (IsKnown (λ h. []) 0) (free m)
     rest zero = tt
     rest (suc m) = (tt, tt)
+
     none : (h m : ℕ) → named h (Masters ∷ free m) ≤ 1
     none h zero = omega arith
     none h (suc m) = omega arith

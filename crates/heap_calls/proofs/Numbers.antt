@@ -1,11 +1,11 @@
-use Rattle.std.proofs.Common.{◌≡◌, ◌≢◌, ℕ, ◌+◌, ◌-◌, ◌*◌, ◌^◌, ◌≤◌, ◌<◌, zero, suc, Bool, true, false, not, ◌&&◌, ◌||◌, ◌==◌, List, [], ◌∷◌, ◌++◌, length, refl, sym, ◌∙◌, ap, cond, map, arith, rules, Option, Some, None, slice_get, slice_set, length-append}
-use Rattle.std.proofs.lemmas.Option.{none-some, same_Some, slice_get_within}
-use Rattle.std.proofs.lemmas.Bool.{false≢true, cases_Bool, cond-true, cond-false}
-use Rattle.std.proofs.lemmas.Bool.Decides.{same_from_decides, Decides-eqb, Decides-like, nat_tests, eqb_tells}
+use Rattle.std.proofs.Common.{◌≡◌, ℕ, ◌+◌, ◌<◌, zero, suc, Bool, true, false, ◌==◌, List, [], ◌∷◌, refl, sym, ◌∙◌, ap, cond, arith, Some, slice_get}
+use Rattle.std.proofs.lemmas.Option.{none-some, same_Some}
+use Rattle.std.proofs.lemmas.Bool.{false≢true, cond-true, cond-false}
+use Rattle.std.proofs.lemmas.Bool.Decides.{same_from_decides, Decides-eqb, Decides-like}
 use Rattle.block_store.specs.Block.{Block, Free, Fixed, Masters, Relocatable, rename_block, is_relocatable}
 use Rattle.heap_calls.specs.declared.name.Entry.{Entry}
 use Rattle.heap_calls.specs.declared.name.Entry.TheVariants.{Handle, Pointer, Disposed}
-use Rattle.heap_calls.specs.Numbered.{number_from, handle_number, pointer_number, leads_to, points_to, no_number}
+use Rattle.heap_calls.specs.Numbered.{number_from, handle_number, pointer_number, leads_to, no_number}
 
 -- two tests of numbers agree where each equation gives the other
 pub same_test : (a b c d : ℕ) → (a ≡ b → c ≡ d) → (c ≡ d → a ≡ b) → (a == b) ≡ (c == d)
@@ -52,7 +52,7 @@ Apart es = (h k slot : ℕ) → slice_get es h ≡ Some (Handle slot) → slice_
 pub handle_number-at : (es : List Entry) (h slot : ℕ) → slice_get es h ≡ Some (Handle slot) → Apart es → handle_number es slot ≡ h
 handle_number-at es h slot at apart =
     number_from-at 0 (leads_to slot) es h (Handle slot) at (leads_to-same slot)
-      (λ k e found is. apart k h slot (found ∙ ap Some (leads_to-is slot e is)) at) ∙ omega arith
+    (λ k e found is. apart k h slot (found ∙ ap Some (leads_to-is slot e is)) at) ∙ omega arith
 
 -- and no other slot has it
 pub handle_number-only : (es : List Entry) (h slot id : ℕ) → slice_get es h ≡ Some (Handle slot) → h < no_number → handle_number es id ≡ h → id ≡ slot

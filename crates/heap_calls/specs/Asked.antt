@@ -1,4 +1,4 @@
-use Rattle.std.specs.Prelude.{ℕ, Option, Some, None, Result, Ok, Err, List}
+use Rattle.std.specs.Prelude.{ℕ, Option, Result, Ok, Err, List}
 use Rattle.mac_words.specs.declared.code.OsErr.{OsErr}
 use Rattle.heap_calls.specs.State.{Memory}
 use Rattle.heap_calls.specs.Answer.{new_handle, dispose_handle, get_handle_size, free_mem, put, show, place_of, noting, silent}

@@ -5,8 +5,7 @@ use Rattle.mac_words.specs.declared.code.TheConstants.OsErr.{NO_ERR, NIL_HANDLE,
 use Rattle.block_store.specs.Block.{Block, sizes, content_of}
 use Rattle.block_store.specs.Slot.{Slot}
 use Rattle.block_store.specs.Room.{Spot, spot_at, rename_spot}
-use Rattle.heap_calls.specs.State.{State}
-use Rattle.heap_calls.specs.Answer.{Held, look_up}
+use Rattle.heap_calls.specs.Answer.{look_up}
 use Rattle.heap_calls.specs.Numbered.{handle_number, pointer_number, state_of}
 use Rattle.heap_calls.specs.declared.refusal.Refusal.{Refusal}
 use Rattle.heap_calls.specs.declared.refusal.Refusal.TheVariants.{Code, HostMemory}

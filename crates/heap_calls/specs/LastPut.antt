@@ -1,4 +1,4 @@
-use Rattle.std.specs.Prelude.{◌≡◌, ℕ, ◌==◌, Option, Some, Ok, List, [], ◌∷◌, replicate, if◌then◌else◌}
+use Rattle.std.specs.Prelude.{◌≡◌, ℕ, ◌==◌, Some, Ok, List, [], ◌∷◌, replicate, if◌then◌else◌}
 use Rattle.block_store.specs.Block.{content_of, written}
 use Rattle.heap_calls.specs.State.{State}
 use Rattle.heap_calls.specs.Answer.{Held, look_up}

@@ -1,4 +1,4 @@
-use Rattle.std.specs.Prelude.{◌≡◌, ℕ, ◌+◌, ◌^◌, ◌==◌, Bool, true, false, Option, Some, None, List, [], ◌∷◌, map, count_by, slice_get, if◌then◌else◌}
+use Rattle.std.specs.Prelude.{◌≡◌, ℕ, ◌+◌, ◌^◌, ◌==◌, Bool, true, false, Some, List, [], ◌∷◌, map, count_by, slice_get, if◌then◌else◌}
 use Rattle.block_store.specs.Block.{Block, rename}
 use Rattle.block_store.specs.Slot.{Slot, NoSlot, Unused, Used}
 use Rattle.block_store.specs.Rest.{Rest}
@@ -47,6 +47,7 @@ number_from n test (e ∷ entries) = if test e then n else number_from (n + 1) t
 -- the number of the handle of a slot, and of the pointer to a place
 abbrev pub handle_number : List Entry → ℕ → ℕ
 handle_number entries slot = number_from 0 (leads_to slot) entries
+
 abbrev pub pointer_number : List Entry → ℕ → ℕ
 pointer_number entries place = number_from 0 (points_to place) entries
 

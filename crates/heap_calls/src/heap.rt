@@ -181,7 +181,11 @@ impl<S: BlockStore> Heap<S> {
 }
 
 /// The store's place of the block of the handle that a name is bound to.
-fn find_block<S: BlockStore>(store: &S, names: &[Entry], handle: Option<usize>) -> Result<u32, Refusal>
+fn find_block<S: BlockStore>(
+    store: &S,
+    names: &[Entry],
+    handle: Option<usize>,
+) -> Result<u32, Refusal>
     requires { Agrees (S.rest store.now) names.now }
     ensures { FindsBlock (S.zone store.now) (S.rest store.now).slots names.now handle result }
 {

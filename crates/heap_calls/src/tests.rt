@@ -31,15 +31,24 @@ fn places_blocks_and_finds_room_again(rt: HostRuntime) -> Result<(), Fail> {
 fn refuses_names_that_are_no_handles(rt: HostRuntime) -> Result<(), Fail> {
     let store = ListStore::new(rt.alloc(), 1024)?;
     let mut heap = Heap::new(rt.alloc(), store);
-    assert_eq!(rt; heap.get_handle_size(None), Err(Refusal::Code(OsErr::NIL_HANDLE)));
+    assert_eq!(rt;
+        heap.get_handle_size(None),
+        Err(Refusal::Code(OsErr::NIL_HANDLE))
+    );
     let a = heap.new_handle(0).ok();
     assert!(rt; heap.show(a).is_ok());
     assert_eq!(rt; heap.place_of(a), Ok(288));
     assert_eq!(rt; heap.free_mem(), 736);
     assert_eq!(rt; heap.dispose_handle(a), Ok(()));
-    assert_eq!(rt; heap.dispose_handle(a), Err(Refusal::Code(OsErr::WRONG_ZONE)));
+    assert_eq!(rt;
+        heap.dispose_handle(a),
+        Err(Refusal::Code(OsErr::WRONG_ZONE))
+    );
     assert_eq!(rt; heap.free_mem(), 752);
-    assert_eq!(rt; heap.new_handle(2147483647), Err(Refusal::Code(OsErr::MEM_FULL)));
+    assert_eq!(rt;
+        heap.new_handle(2147483647),
+        Err(Refusal::Code(OsErr::MEM_FULL))
+    );
     Ok(())
 }
 

@@ -1,4 +1,4 @@
-use Rattle.std.proofs.Common.{◌≡◌, ◌↔◌, Result, Err, refl, rules}
+use Rattle.std.proofs.Common.{◌≡◌, ◌↔◌, Result, Err, rules}
 use Rattle.fork_format.specs.declared.fault.ForkFault.{ForkFault}
 use Rattle.fork_format.specs.declared.fault.ForkFault.TheVariants as fork_fault
 

@@ -1,13 +1,13 @@
 //! What a fork holds, as a person reads it.
 
-ghost use Rattle.std.specs.Prelude.{◌≡◌, ◌<◌, ◌++◌, OnOk, IfOk, map};
+ghost use Rattle.std.specs.Prelude.{◌≡◌, ◌++◌, OnOk, IfOk, map};
 ghost use Rattle.std.specs.List.{flat_map};
-ghost use Rattle.script_text.specs.Transcript.{hex, hex_digit};
 ghost use Rattle.macmem.specs.Listing.{type_listed, numbers_listed, name_listed, resource_line, resources_of, of_group, head_line, listing};
 
 use fork_format::{Content, Group, Ref};
 use itoa::Buffer;
 use mac_words::{Name, OsType};
+use script_text::write_hex;
 use std::alloc::{AllocError, Global};
 
 /// A resource with its type.
@@ -17,29 +17,6 @@ pub struct Resource<'c> {
     pub resource: &'c Ref,
 }
 
-/// A hexadecimal digit in lower case.
-fn digit_of(value: u8) -> u8
-    requires { value < 16 }
-    ensures { result ≡ hex_digit value }
-{
-    if value < 10 {
-        b'0' + value
-    } else {
-        b'a' - 10 + value
-    }
-}
-
-/// Appends `$` and bytes in hexadecimal.
-fn push_hex(text: &mut Vec<u8>, bytes: &[u8]) -> Result<(), AllocError>
-    ensures { OnOk result (text.new.items ≡ text.old.items ++ hex bytes.now) }
-{
-    for byte in bytes {
-        text.push(digit_of(*byte / 16))?;
-        text.push(digit_of(*byte % 16))?;
-    }
-    Ok(())
-}
-
 /// Appends a name, or `-` for none.
 fn push_name(text: &mut Vec<u8>, name: &Option<Name>) -> Result<(), AllocError>
     ensures { OnOk result (text.new.items ≡ text.old.items ++ name_listed name.now) }
@@ -47,7 +24,7 @@ fn push_name(text: &mut Vec<u8>, name: &Option<Name>) -> Result<(), AllocError>
     match name {
         Some(name) => {
             text.extend_from_slice(b"$")?;
-            push_hex(text, name.0.as_slice())
+            write_hex(text, name.0.as_slice())
         }
         None => text.extend_from_slice(b"-"),
     }
@@ -58,7 +35,7 @@ fn push_type(text: &mut Vec<u8>, ty: OsType) -> Result<(), AllocError>
     ensures { OnOk result (text.new.items ≡ text.old.items ++ type_listed ty) }
 {
     text.extend_from_slice(b"$")?;
-    push_hex(text, &ty.0)
+    write_hex(text, &ty.0)
 }
 
 /// Appends the numbers of a resource, a blank before each.

@@ -342,7 +342,9 @@ fn checks_forks(rt: HostRuntime) -> Result<(), Fail> {
     let words: [&str; 3] = ["macmem", "check", "file"];
     let text = printed(alloc, &words, fork.as_slice())?;
     assert_eq!(rt; text.as_slice(), b"canonical\n".as_slice());
-    fork[262..278].fill(0);
+    for byte in fork.iter_mut().skip(262).take(16) {
+        *byte = 0;
+    }
     let text = printed(alloc, &words, fork.as_slice())?;
     assert_eq!(rt; text.as_slice(), b"accepted\n".as_slice());
     Ok(())
@@ -351,16 +353,17 @@ fn checks_forks(rt: HostRuntime) -> Result<(), Fail> {
 #[test]
 fn tells_faults_of_forks(rt: HostRuntime) -> Result<(), Fail> {
     let alloc = rt.alloc();
-    let fork = small_fork(alloc)?;
-    let map: [&str; 3] = ["macmem", "map", "file"];
-    let check: [&str; 3] = ["macmem", "check", "file"];
-    for words in [&map[..], &check[..]] {
-        let text = told(alloc, words, b"")?;
-        assert_eq!(rt; text.as_str(), "macmem: file: fork -39");
-        let text = told(alloc, words, &fork[..15])?;
-        assert_eq!(rt; text.as_str(), "macmem: file: fork -199");
-        let text = told(alloc, words, &fork[..305])?;
-        assert_eq!(rt; text.as_str(), "macmem: file: fork -199");
+    for command in ["map", "check"] {
+        let mut fork = small_fork(alloc)?;
+        for (length, line) in [
+            (305, "macmem: file: fork -199"),
+            (15, "macmem: file: fork -199"),
+            (0, "macmem: file: fork -39"),
+        ] {
+            fork.truncate(length);
+            let text = told(alloc, &["macmem", command, "file"], fork.as_slice())?;
+            assert_eq!(rt; text.as_str(), line);
+        }
     }
     Ok(())
 }

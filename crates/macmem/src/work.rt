@@ -64,9 +64,10 @@ pub fn fork_listing(alloc: Global, bytes: &[u8]) -> Result<Vec<u8>, ForkFault>
     ensures empty { (result ≡ Err ForkFault.Empty) ↔ (bytes.now ≡ []) }
     ensures bad_map { (result ≡ Err ForkFault.BadMap) ↔ ((bytes.now ≢ []) × IsUnspelled bytes.now) }
 {
-    let content = read_fork(alloc, bytes)?;
-    let text = listing_of(alloc, &content)?;
-    Ok(text)
+    match read_fork(alloc, bytes) {
+        Ok(content) => Ok(listing_of(alloc, &content)?),
+        Err(fault) => Err(fault),
+    }
 }
 
 /// Whether bytes are the canonical fork of a content.
@@ -97,7 +98,8 @@ pub fn form_of(alloc: Global, bytes: &[u8]) -> Result<Form, ForkFault>
     ensures empty { (result ≡ Err ForkFault.Empty) ↔ (bytes.now ≡ []) }
     ensures bad_map { (result ≡ Err ForkFault.BadMap) ↔ ((bytes.now ≢ []) × IsUnspelled bytes.now) }
 {
-    let content = read_fork(alloc, bytes)?;
-    let form = form_for(alloc, &content, bytes)?;
-    Ok(form)
+    match read_fork(alloc, bytes) {
+        Ok(content) => Ok(form_for(alloc, &content, bytes)?),
+        Err(fault) => Err(fault),
+    }
 }

@@ -1,4 +1,4 @@
-use Rattle.std.proofs.Common.{◌≡◌, ◌∙◌, ◌++◌, ◌≤◌, [], ℕ, List, arith, ap}
+use Rattle.std.proofs.Common.{◌≡◌, ◌∙◌, ◌++◌, ◌≤◌, ℕ, List, arith, ap}
 use Rattle.script_text.specs.Transcript.{launch_line}
 use Rattle.desk.specs.Application.{lines_told}
 use Rattle.desk.proofs.Telling.{fresh-lines}

@@ -1,11 +1,10 @@
-use Rattle.std.proofs.Common.{◌≡◌, ◌≤◌, ℕ, ◌+◌, refl, sym, ◌∙◌, ap, arith, rules, Ok, Err}
+use Rattle.std.proofs.Common.{sym, ◌∙◌, ap, arith}
 use Rattle.std.specs.Option.{option_map, ok_or}
 use Rattle.mac_words.specs.declared.code.TheConstants.OsErr.{NIL_HANDLE}
-use Rattle.block_store.specs.Block.{sizes}
 use Rattle.block_store.specs.Room.{rename_spot}
 use Rattle.block_store.proofs.Tidy.{spot-passes}
 use Rattle.block_store.specs.Block.{is_relocatable}
-use Rattle.heap_calls.specs.Numbered.{handle_number, pointer_number, no_number}
+use Rattle.heap_calls.specs.Numbered.{handle_number, pointer_number}
 use Rattle.heap_calls.proofs.Answering.{slot_of-ok, look_up-by, place-small, header-fits, held}
 use Rattle.heap_calls.proofs.heap.find_block.Goals as goal
 
@@ -29,8 +28,12 @@ returns g c =
     let there = c.in-Some.ensures in
     let high = place-small zone f.slot there.0 there.1 in
     let header = header-fits f.slot there.0.here (spot-passes (is_relocatable f.slot) zone there.0 there.1) in
-    let small = g.met.S.BlockStore.small c.args.store.now in
-    (f.number, there.0,
+    let small = g.met.S.BlockStore.small c.args.store.now in (
+      f.number,
+      there.0,
       look_up-by zone slots es c.args.handle f.number f.slot is.0 is.1 c.requires.apart (omega arith)
-      ∙ ap (λ o. ok_or (option_map (held f.number) (option_map (rename_spot (handle_number es) (pointer_number es)) o)) NIL_HANDLE) there.1,
-      there.2, there.3, omega (arith, there.3, high, small, header))
+          ∙ ap (λ o. ok_or (option_map (held f.number) (option_map (rename_spot (handle_number es) (pointer_number es)) o)) NIL_HANDLE) there.1,
+      there.2,
+      there.3,
+      omega (arith, there.3, high, small, header),
+    )

@@ -1,8 +1,7 @@
-use Rattle.std.proofs.Common.{◌≡◌, ◌≢◌, ◌∙◌, ℕ, refl, sym, ap, subst, Ok, Err, Result}
+use Rattle.std.proofs.Common.{◌≡◌, ◌∙◌, ap, subst}
 use Rattle.mac_words.specs.declared.reply.Reply.{Reply}
-use Rattle.heap_calls.specs.Asked.{Told, Given}
-use Rattle.heap_calls.specs.declared.refusal.Refusal.TheVariants.{HostMemory}
-use Rattle.desk.specs.Application.{Running, heap_step, bound_anew}
+use Rattle.heap_calls.specs.Asked.{Given}
+use Rattle.desk.specs.Application.{Running, heap_step}
 use Rattle.desk.specs.Replies.{GivenAs, Says}
 use Rattle.desk.proofs.Stepping.{if_ok-map, on_ok-map, on_ok-both, new-told, new-after}
 use Rattle.desk.proofs.application.Application.answer.Goals as goal
@@ -19,6 +18,6 @@ returns-in-NewHandle-clause-after g c =
     let r : Running = record { memory = c.self.inside.heap; names = c.self.inside.names } in
     let after : Running = record { memory = c.new_handle.new.self; names = c.bind_new.new.names } in
     on_ok-map c.bind_new.result _ (after ≡ (heap_step c.args.call.now c.args.self.now).1)
-      (λ both. new-after r c.args.call.now c.in-NewHandle.name c.in-NewHandle.size c.new_handle.result c.new_handle.new.self c.bind_new.new.names c.in-NewHandle.is c.new_handle.ensures.answer both.1 both.0
-        ∙ ap (λ (x : Running). (heap_step c.args.call.now x).1) c.self.view_is)
-      (on_ok-both c.bind_new.result _ _ c.bind_new.ensures.names c.bind_new.ensures.host)
+    (λ both. new-after r c.args.call.now c.in-NewHandle.name c.in-NewHandle.size c.new_handle.result c.new_handle.new.self c.bind_new.new.names c.in-NewHandle.is c.new_handle.ensures.answer both.1 both.0
+    ∙ ap (λ (x : Running). (heap_step c.args.call.now x).1) c.self.view_is)
+    (on_ok-both c.bind_new.result _ _ c.bind_new.ensures.names c.bind_new.ensures.host)

@@ -1,4 +1,4 @@
-use Rattle.std.proofs.Common.{◌≡◌, ◌∙◌, ap, refl, map}
+use Rattle.std.proofs.Common.{◌∙◌, ap, refl, map}
 use Rattle.std.proofs.lemmas.List.Elements.{same_from_all_zip}
 use Rattle.desk.proofs.Binding.{insert-bind}
 use Rattle.desk.specs.Names.{bind, binding}

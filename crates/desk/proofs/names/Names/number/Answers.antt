@@ -1,4 +1,4 @@
-use Rattle.std.proofs.Common.{◌≡◌, ◌∙◌, ap, refl}
+use Rattle.std.proofs.Common.{◌∙◌, ap, refl}
 use Rattle.desk.proofs.Binding.{lookup-bound}
 use Rattle.desk.specs.Names.{bound_to}
 use Rattle.desk.proofs.names.Names.number.Goals as goal

@@ -13,5 +13,5 @@ returns g c =
     let rest = g.S.BlockStore.rest a.store in
     let P : Memory → Type 0 = λ m. noting free_mem m ≡ (Ok c.free_bytes.result, record m { last = NO_ERR }) in
     let here : P (memory_of zone rest a.names.items a.last) =
-      ap (λ (n : ℕ). (Ok n, record (memory_of zone rest a.names.items a.last) { last = NO_ERR })) (free_sum-rename _ _ zone ∙ sym c.free_bytes.ensures) in
+    ap (λ (n : ℕ). (Ok n, record (memory_of zone rest a.names.items a.last) { last = NO_ERR })) (free_sum-rename _ _ zone ∙ sym c.free_bytes.ensures) in
     subst P c.self.view_is here ∙ ap (λ (m : Memory). (Ok c.free_bytes.result, record m { last = NO_ERR })) (sym c.self.view_is)

@@ -1,12 +1,12 @@
-use Rattle.std.proofs.Common.{◌≡◌, ◌≤◌, ◌<◌, ℕ, ◌+◌, length, slice_get, slice_set, cond, ◌==◌, Some, refl, sym, ◌∙◌, ap, arith, rules, Ok, Err, subst, List}
+use Rattle.std.proofs.Common.{◌≡◌, ◌+◌, slice_get, slice_set, cond, ◌==◌, Some, sym, ◌∙◌, ap, arith, Ok, List}
 use Rattle.std.proofs.lemmas.Option.{slice_get_within}
 use Rattle.block_store.specs.Block.{Block, is_relocatable, tidy}
 use Rattle.block_store.specs.Run.{has}
 use Rattle.block_store.specs.Grow.{freed}
-use Rattle.block_store.specs.Slot.{Slot, Unused, set_slot, AreSlots}
+use Rattle.block_store.specs.Slot.{Unused, set_slot, AreSlots}
 use Rattle.block_store.proofs.Tidy.{has-released}
-use Rattle.heap_calls.specs.Answer.{dispose_handle, silent}
-use Rattle.heap_calls.specs.Numbered.{state_of, memory_of, Agrees}
+use Rattle.heap_calls.specs.Answer.{dispose_handle}
+use Rattle.heap_calls.specs.Numbered.{state_of}
 use Rattle.heap_calls.specs.declared.name.Entry.{Entry}
 use Rattle.heap_calls.specs.declared.name.Entry.TheVariants.{Handle, Disposed}
 use Rattle.heap_calls.proofs.Answering.{slot_of-ok}
@@ -59,6 +59,6 @@ returns-clause-answer g c =
     let zone' = g.S.BlockStore.zone c.give_slot.new.self in
     let freed_zone : zone' ≡ tidy (freed (is_relocatable f.slot) zone) = c.give_slot.ensures.zone ∙ c.release.ensures.zone in
     silent-done (dispose_handle c.args.handle) c.args.self.now zone zone' rest rest' es (slice_set es f.number Disposed) a.last (Ok tt) c.self.view_is
-      (dispose_handle-done zone rest rest' es f.number f.slot c.self.invariant at (omega arith) now one all c.args.handle is.0
-      ∙ ap (λ (z : List Block). (Ok tt, state_of z rest'.slots (slice_set es f.number Disposed))) (sym freed_zone))
-      (gave.window ∙ released.window)
+    (dispose_handle-done zone rest rest' es f.number f.slot c.self.invariant at (omega arith) now one all c.args.handle is.0
+    ∙ ap (λ (z : List Block). (Ok tt, state_of z rest'.slots (slice_set es f.number Disposed))) (sym freed_zone))
+    (gave.window ∙ released.window)

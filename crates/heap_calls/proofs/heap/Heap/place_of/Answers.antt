@@ -1,10 +1,6 @@
-use Rattle.std.proofs.Common.{◌≡◌, ◌≤◌, ◌<◌, ℕ, ◌+◌, ◌++◌, ◌∷◌, length, refl, sym, ◌∙◌, ap, arith, rules, Ok, Err}
+use Rattle.std.proofs.Common.{◌+◌, ◌∙◌, ap, Ok, Err}
 use Rattle.std.proofs.lemmas.Result.{err_from_is_err_and}
-use Rattle.block_store.specs.Block.{content_of}
-use Rattle.heap_calls.proofs.Answering.{refused_for, not_shown_for, on_found, found_in, at_place, sizes-rename, content_of-rename, held}
-use Rattle.heap_calls.specs.Answer.{Held}
-use Rattle.block_store.specs.Room.{rename_spot}
-use Rattle.heap_calls.specs.Numbered.{handle_number, pointer_number}
+use Rattle.heap_calls.proofs.Answering.{refused_for, on_found, found_in, sizes-rename}
 use Rattle.block_store.specs.Block.{sizes}
 use Rattle.heap_calls.proofs.heap.Heap.place_of.Goals as goal
 

@@ -1,4 +1,4 @@
-use Rattle.std.proofs.Common.{◌≡◌, ◌≤◌, ◌<◌, ℕ, ◌+◌, ◌++◌, ◌∷◌, length, refl, sym, ◌∙◌, ap, arith, rules, Ok, Err}
+use Rattle.std.proofs.Common.{◌≡◌, ◌<◌, ◌+◌, ◌++◌, ◌∷◌, length, ap, arith, Ok, Err}
 use Rattle.std.proofs.lemmas.Result.{err_from_is_err_and}
 use Rattle.block_store.specs.Block.{content_of, with_content, written}
 use Rattle.heap_calls.specs.Answer.{written_at}
@@ -36,4 +36,4 @@ returns-clause-answer g c =
     let bytes = at_place c.in_ok-place.place (g.S.BlockStore.zone a.store) found.1 (λ s. c.bytes-len.result.now ≡ content_of s.here) found.3 c.bytes-len.ensures in
     let n : length c.bytes-len.result.now ≡ length (content_of found.1.here) = ap length bytes in
     put-done c.args.self.now (g.S.BlockStore.zone a.store) (g.S.BlockStore.zone c.write.new.self) (g.S.BlockStore.rest a.store) (g.S.BlockStore.rest c.write.new.self) a.names.items a.last c.args.handle found.0 c.args.from c.args.bytes.now found.1 c.self.view_is found.2 c.write.ensures.rest
-      (omega arith) done
+    (omega arith) done
