@@ -1,5 +1,5 @@
 use Rattle.std.proofs.Common.{◌≡◌, ℕ, ◌+◌, ◌<◌, zero, suc, List, [], ◌∷◌, ◌++◌, length, refl, ◌∙◌, ap, subst, arith}
-use Rattle.block_store.specs.Block.{Block, Free, Fixed, Masters, Relocatable, size, add, tidy, with_content}
+use Rattle.block_store.specs.Block.{Block, Free, Fixed, Masters, Relocatable, size, free, add, tidy, with_content}
 
 -- each block stands apart from the next: it takes bytes, and isn't a Free one below a Free one
 abbrev pub Apart : List Block → Type 0
@@ -76,20 +76,21 @@ here-content x (Fixed id content) above e = refl
 here-content x Masters above e = refl
 here-content x (Relocatable id flags content) above e = refl
 
+-- whether a block stands apart hangs on the next only
+apart-next : (c d : Block) (l m : List Block) → add c (d ∷ l) ≡ c ∷ d ∷ l → add c (d ∷ m) ≡ c ∷ d ∷ m
+apart-next (Free zero) d l m e = absurd (longer (Free zero) (d ∷ l) e)
+apart-next (Free (suc n)) (Free k) l m e = absurd (two (Free (suc n + k)) (Free (suc n)) (Free k) l e)
+apart-next (Free (suc n)) (Fixed id content) l m e = refl
+apart-next (Free (suc n)) Masters l m e = refl
+apart-next (Free (suc n)) (Relocatable id flags content) l m e = refl
+apart-next (Fixed id content) d l m e = refl
+apart-next Masters d l m e = refl
+apart-next (Relocatable id flags content) d l m e = refl
+
 apart-content : (x : List ℕ) (below : List Block) (b : Block) (above : List Block) → Apart (below ++ b ∷ above) → Apart (below ++ with_content x b ∷ above)
 apart-content x [] b above a = (here-content x b above a.0, a.1)
 apart-content x (c ∷ []) b above a = (below-content x c b above a.0, (here-content x b above a.1.0, a.1.1))
-apart-content x (c ∷ d ∷ below) b above a = (next c d (below ++ b ∷ above) (below ++ with_content x b ∷ above) a.0, apart-content x (d ∷ below) b above a.1)
-  where
-    next : (c d : Block) (l m : List Block) → add c (d ∷ l) ≡ c ∷ d ∷ l → add c (d ∷ m) ≡ c ∷ d ∷ m
-    next (Free zero) d l m e = absurd (longer (Free zero) (d ∷ l) e)
-    next (Free (suc n)) (Free k) l m e = absurd (two (Free (suc n + k)) (Free (suc n)) (Free k) l e)
-    next (Free (suc n)) (Fixed id content) l m e = refl
-    next (Free (suc n)) Masters l m e = refl
-    next (Free (suc n)) (Relocatable id flags content) l m e = refl
-    next (Fixed id content) d l m e = refl
-    next Masters d l m e = refl
-    next (Relocatable id flags content) d l m e = refl
+apart-content x (c ∷ d ∷ below) b above a = (apart-next c d (below ++ b ∷ above) (below ++ with_content x b ∷ above) a.0, apart-content x (d ∷ below) b above a.1)
 
 pub tidy-content : (x : List ℕ) (below : List Block) (b : Block) (above : List Block) → tidy (below ++ b ∷ above) ≡ below ++ b ∷ above → tidy (below ++ with_content x b ∷ above) ≡ below ++ with_content x b ∷ above
 tidy-content x below b above e = tidy-apart (below ++ with_content x b ∷ above) (apart-content x below b above (apart-tidied (below ++ b ∷ above) e))
@@ -97,3 +98,10 @@ tidy-content x below b above e = tidy-apart (below ++ with_content x b ∷ above
 pub free-apart : (n : ℕ) → 0 < n → tidy (Free n ∷ []) ≡ Free n ∷ []
 free-apart zero some = absurd (let z : 0 < 0 = some in omega arith)
 free-apart (suc n) some = refl
+
+-- a Free block above one that isn't Free may be smaller, or go
+pub apart-shrunk : (below : List Block) (b : Block) (m k : ℕ) (above : List Block) → ((bs : List Block) → add b bs ≡ b ∷ bs) → Apart (below ++ b ∷ Free m ∷ above) → Apart (below ++ b ∷ (free k ++ above))
+apart-shrunk [] b m zero above stands a = (stands above, a.1.1)
+apart-shrunk [] b m (suc k) above stands a = (stands (Free (suc k) ∷ above), (more-apart (suc k) m (omega arith) above a.1.0, a.1.1))
+apart-shrunk (c ∷ []) b m k above stands a = (apart-next c b (Free m ∷ above) (free k ++ above) a.0, apart-shrunk [] b m k above stands a.1)
+apart-shrunk (c ∷ d ∷ below) b m k above stands a = (apart-next c d (below ++ b ∷ Free m ∷ above) (below ++ b ∷ (free k ++ above)) a.0, apart-shrunk (d ∷ below) b m k above stands a.1)

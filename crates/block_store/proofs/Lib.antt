@@ -8,4 +8,15 @@ pub mod Listing
 pub mod Spots
 pub mod SlotLists
 pub mod Stretches
+pub mod RunScans
+pub mod RunSpots
+pub mod RunLooks
 pub mod Filling
+pub mod Purges
+pub mod Looks
+pub mod RunLists
+pub mod Packed
+pub mod Repacked
+pub mod Aligned
+pub mod Resizing
+pub mod GrowRenaming

@@ -138,7 +138,7 @@ spot_at-here es i rest e within is none =
 pub free-more : (es : List Entry) (i : ℕ) (e : Entry) → i < length es → e ≡ get_or es i e → free_sum (take (i + 1) (blocks_of es)) ≡ free_sum (take i (blocks_of es)) + free_of (block_of e)
 free-more es i e within is = ap free_sum (take-blocks es i e within is) ∙ total-append free_of (take i (blocks_of es)) (block_of e ∷ []) ∙ ap (λ n. free_sum (take i (blocks_of es)) + n) (let z : free_of (block_of e) + 0 ≡ free_of (block_of e) = omega arith in z)
 
-free_of-le : (b : Block) → free_of b ≤ size b
+pub free_of-le : (b : Block) → free_of b ≤ size b
 free_of-le (Free n) = omega arith
 free_of-le (Fixed id content) = omega arith
 free_of-le Masters = omega arith

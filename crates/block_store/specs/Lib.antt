@@ -9,4 +9,8 @@ pub mod Rest
 pub mod Seen
 pub mod ListStore
 pub mod Stretch
+pub mod Purging
+pub mod RunScan
+pub mod Packing
 pub mod ListStoreLaws
+pub mod Compact

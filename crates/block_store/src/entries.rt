@@ -42,7 +42,7 @@ pub fn entry_size(entry: &Entry) -> u32
 }
 
 /// Whether a slot leads to an entry's block.
-fn is_of_slot(entry: &Entry, number: u32) -> bool
+pub fn is_of_slot(entry: &Entry, number: u32) -> bool
     ensures { result ≡ is_relocatable number (block_of entry.now) }
 {
     match entry {

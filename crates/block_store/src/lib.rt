@@ -5,7 +5,15 @@
 mod entries;
 mod flags;
 mod list_store;
+mod looking;
 mod named;
+mod packing;
+mod purging;
+mod run_search;
+mod runs;
+mod sizing;
+#[cfg(test)]
+mod sizing_tests;
 mod slots;
 mod store;
 mod stretch;

@@ -2,17 +2,27 @@
 
 ghost use Rattle.std.specs.Prelude.{◌≡◌, ℕ, ◌*◌, ◌≤◌, ◌<◌, ◌%◌, length, false, IfOk};
 ghost use denote.RawPtr.{null_ptr};
-ghost use Rattle.block_store.specs.Block.{sizes, count, is_masters, is_relocatable, tidy, fresh};
-ghost use Rattle.block_store.specs.Run.{has};
+ghost use Rattle.std.specs.Option.{option_map};
+ghost use Rattle.block_store.specs.Block.{sizes, free_sum, count, is_masters, is_relocatable, tidy, fresh};
+ghost use Rattle.block_store.specs.Run.{has, run_at};
 ghost use Rattle.block_store.specs.Slot.{is_used};
 ghost use Rattle.block_store.specs.Rest.{Window};
+ghost use Rattle.block_store.specs.Compact.{Aligned, Aligned-prop};
 ghost use Rattle.block_store.specs.ListStore.{blocks_of, slots_of};
 
 use crate::entries::{
     Entry, fill, find_slot, free_slot, free_total, index_at, tidy_entries, write_at, zeros,
 };
 use crate::flags::Flags;
-use crate::named::Named;
+use crate::looking::{find_purgeable, look_at, room_follows};
+use crate::named::{Named, Seen};
+use crate::packing::{hoist_slot, raise_run, settle_run};
+#[cfg(test)]
+use crate::packing::{run_bytes, run_holds};
+use crate::purging::{flag_at, purge_above, purge_entries};
+use crate::run_search::search_runs;
+use crate::runs::{has_free_above, most_free, most_free_of_runs, place_of_run, purgeable_above};
+use crate::sizing::{move_slot, resize_at};
 use crate::slots::{SlotEntry, first_unused};
 use crate::store::BlockStore;
 use crate::stretch::find_room;
@@ -33,6 +43,7 @@ pub struct ListStore {
     ghost no_block: { (number : ℕ) → is_used (slots_of slots.items number) ≡ false → has (is_relocatable number) (blocks_of blocks.items) ≡ false },
     ghost once: { (number : ℕ) → count (is_relocatable number) (blocks_of blocks.items) ≤ 1 },
     ghost tidied: { tidy (blocks_of blocks.items) ≡ blocks_of blocks.items },
+    ghost aligned: { Aligned (blocks_of blocks.items) } by { Aligned-prop (blocks_of blocks.items) },
 }
 
 impl ListStore {
@@ -64,11 +75,28 @@ impl ListStore {
     }
 }
 
+#[cfg(test)]
+impl ListStore {
+    /// The Free bytes of the run at a place, if there is one.
+    pub fn run_bytes(&self, place: u32) -> Option<u32>
+        ensures { result ≡ option_map (λ r. free_sum r.run) (run_at place (⟦<ListStore as BlockStore>⟧.zone self.now)) }
+    {
+        run_bytes(&self.blocks, place)
+    }
+
+    /// Whether the run at a place has the block of a slot, if there is one.
+    pub fn run_holds(&self, place: u32, number: u32) -> Option<bool>
+        ensures { result ≡ option_map (λ r. has (is_relocatable number) r.run) (run_at place (⟦<ListStore as BlockStore>⟧.zone self.now)) }
+    {
+        run_holds(&self.blocks, place, number)
+    }
+}
+
 impl BlockStore for ListStore {
     ghost use Rattle.std.specs.Prelude.{true, count_by};
     ghost use denote.RawPtr.{null_ptr};
     ghost use Rattle.block_store.specs.ListStore.{blocks_of, slots_of, is_unused};
-    ghost use Rattle.block_store.specs.ListStoreLaws.{store-small, store-masters, store-no_block, store-once, store-tidied};
+    ghost use Rattle.block_store.specs.ListStoreLaws.{store-small, store-masters, store-no_block, store-once, store-tidied, store-aligned};
 
     const TAKES_HOST: bool = true;
 
@@ -92,12 +120,78 @@ impl BlockStore for ListStore {
         free_total(&self.blocks)
     }
 
+    fn moves(&self) -> u64 {
+        self.moves
+    }
+
+    fn block_at(&self, place: u32) -> Option<Seen> {
+        look_at(&self.blocks, place)
+    }
+
+    fn largest_free(&self) -> u32 {
+        most_free(&self.blocks)
+    }
+
+    fn largest_run(&self) -> u32 {
+        most_free_of_runs(&self.blocks)
+    }
+
     fn place_of(&self, number: u32) -> Option<u32> {
         find_slot(&self.blocks, number)
     }
 
     fn find_free(&self, bytes: u32, purges: u32, named: Named) -> Option<u32> {
         find_room(&self.blocks, bytes, purges, named)
+    }
+
+    fn next_purgeable(&self, purges: u32, named: Named) -> Option<u32> {
+        find_purgeable(&self.blocks, purges, named)
+    }
+
+    fn room_above(&self, number: u32, bytes: u32, purges: u32, named: Named) -> bool {
+        room_follows(&self.blocks, number, bytes, purges, named)
+    }
+
+    fn purge(&mut self, purges: u32, named: Named) {
+        purge_entries(&mut self.blocks, purges, named);
+    }
+
+    fn purge_after(&mut self, place: u32, purges: u32, named: Named) {
+        purge_above(&mut self.blocks, place, purges, named);
+    }
+
+    fn find_run(&self, bytes: u32, purges: u32, named: Named) -> Option<u32> {
+        search_runs(&self.blocks, None, bytes, purges, named)
+    }
+
+    fn nth_run(&self, index: u32) -> Option<u32> {
+        place_of_run(&self.blocks, index)
+    }
+
+    fn run_of(&self, number: u32, bytes: u32, purges: u32, named: Named) -> Option<u32> {
+        search_runs(&self.blocks, Some(number), bytes, purges, named)
+    }
+
+    fn run_after(&self, place: u32, bytes: u32, purges: u32, named: Named) -> bool {
+        has_free_above(&self.blocks, place, bytes, purges, named)
+    }
+
+    fn purgeable_after(&self, place: u32, named: Named) -> u32 {
+        purgeable_above(&self.blocks, place, named)
+    }
+
+    fn settle(&mut self, run: u32) {
+        let falls = settle_run(&mut self.blocks, run);
+        self.moves = self.moves.saturating_add(falls);
+    }
+
+    fn raise(&mut self, run: u32, bytes: u32) -> Result<(), AllocError> {
+        raise_run(&mut self.blocks, run, bytes)?;
+        Ok(())
+    }
+
+    fn hoist(&mut self, run: u32, number: u32) {
+        hoist_slot(&mut self.blocks, run, number);
     }
 
     fn carve(&mut self, place: u32, number: u32, size: u32) -> Result<(), AllocError> {
@@ -110,6 +204,18 @@ impl BlockStore for ListStore {
     fn release(&mut self, number: u32) {
         free_slot(&mut self.blocks, number);
         tidy_entries(&mut self.blocks);
+    }
+
+    fn set_flags(&mut self, place: u32, flags: Flags) {
+        flag_at(&mut self.blocks, place, flags);
+    }
+
+    fn resize(&mut self, place: u32, bytes: u32) -> Result<(), AllocError> {
+        resize_at(self.alloc, &mut self.blocks, place, bytes as usize)
+    }
+
+    fn move_to(&mut self, place: u32, number: u32, bytes: u32) -> Result<(), AllocError> {
+        move_slot(self.alloc, &mut self.blocks, place, number, bytes as usize)
     }
 
     fn take_slot(&mut self) -> Option<u32> {
@@ -146,4 +252,6 @@ impl BlockStore for ListStore {
     ghost once = { store-once };
 
     ghost tidied = { store-tidied };
+
+    ghost aligned = { store-aligned };
 }

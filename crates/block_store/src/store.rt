@@ -1,21 +1,25 @@
 //! The contract of a store of blocks.
 
-ghost use Rattle.std.specs.Prelude.{◌≡◌, ℕ, ◌+◌, ◌*◌, ◌≤◌, ◌∷◌, ◌++◌, List, Bool, true, false, length, replicate, IsTrue, IsSome, IfSome, IsSomeAnd, OnOk, OnErr, IsErr, MatchOption};
+ghost use Rattle.std.specs.Prelude.{◌≡◌, ℕ, ◌+◌, ◌*◌, ◌≤◌, ◌<◌, ◌%◌, ◌&&◌, ◌⊎◌, ◌∷◌, ◌++◌, List, Bool, true, false, length, replicate, is_some, IsTrue, IsSome, IfSome, IsSomeAnd, OnOk, OnErr, IsErr, MatchOption};
+ghost use Rattle.std.specs.Option.{option_map};
 ghost use Rattle.mac_words.specs.Size.{padded};
-ghost use Rattle.block_store.specs.Block.{Block, Relocatable, count, sizes, free_sum, is_room, is_relocatable, is_masters, no_flags, content_of, with_content, written, tidy};
-ghost use Rattle.block_store.specs.Run.{has};
-ghost use Rattle.block_store.specs.Room.{spot_at, filled};
-ghost use Rattle.block_store.specs.Grow.{freed};
-ghost use Rattle.block_store.specs.Find.{FindsLowest};
+ghost use Rattle.block_store.specs.Block.{Block, Free, Relocatable, size, count, sizes, free_sum, is_room, is_relocatable, is_masters, no_flags, content_of, with_content, written, resized, tidy};
+ghost use Rattle.block_store.specs.Run.{has, has_free, settle, low, high, with_run, run_at, segments};
+ghost use Rattle.block_store.specs.Room.{spot, spot_at, filled, may_go, emptied, count_of};
+ghost use Rattle.block_store.specs.Grow.{freed, grow_up, taken};
+ghost use Rattle.block_store.specs.Find.{FindsLowest, FindsLowestRun};
+ghost use Rattle.block_store.specs.Compact.{largest_free, largest_run, FindsRun, NoneRises, Aligned};
 ghost use Rattle.block_store.specs.Slot.{Unused, Used, is_used};
-ghost use Rattle.block_store.specs.Named.{purged};
-ghost use Rattle.block_store.specs.Rest.{Rest, IsRest, with_slot};
+ghost use Rattle.block_store.specs.Named.{purged, spared};
+ghost use Rattle.block_store.specs.Rest.{Rest, IsRest, with_slot, with_moves, falling};
+ghost use Rattle.block_store.specs.Seen.{seen, with_flags, moved_away};
 
-use crate::named::Named;
+use crate::flags::Flags;
+use crate::named::{Named, Seen};
 use std::alloc::AllocError;
 
 /// The blocks of a zone, and the slots through which its relocatable blocks are reached. A place is a
-/// block's distance in bytes from the zone's bottom.
+/// block's distance in bytes from the zone's bottom; a run is named by the place of its bottom.
 ///
 /// *Inside Macintosh: Memory*, chapter 1, "Heap Zones" and "Master Pointers".
 pub trait BlockStore {
@@ -38,6 +42,22 @@ pub trait BlockStore {
     fn free_bytes(&self) -> u32
         ensures { result ≡ free_sum (zone self.now) };
 
+    /// The bytes of its largest Free block; 0 where it has none.
+    fn largest_free(&self) -> u32
+        ensures { result ≡ largest_free (zone self.now) };
+
+    /// The most Free bytes that one run has.
+    fn largest_run(&self) -> u32
+        ensures { result ≡ largest_run (zone self.now) };
+
+    /// How often a block was moved down by `settle`; it stays at its greatest value.
+    fn moves(&self) -> u64
+        ensures { result ≡ (rest self.now).moves };
+
+    /// The block at a place, if one begins there.
+    fn block_at(&self, place: u32) -> Option<Seen>
+        ensures { result ≡ option_map (λ s. seen s.here) (spot_at place (zone self.now)) };
+
     /// The place of the block that a slot leads to.
     fn place_of(&self, number: u32) -> Option<u32>
         ensures { FindsLowest (is_relocatable number) (zone self.now) result };
@@ -45,6 +65,77 @@ pub trait BlockStore {
     /// The place of the lowest Free block of at least so many bytes, after so many purges.
     fn find_free(&self, bytes: u32, purges: u32, named: Named) -> Option<u32>
         ensures { FindsLowest (is_room bytes) (purged purges named (zone self.now)) result };
+
+    /// The lowest run with at least so many Free bytes, after so many purges.
+    fn find_run(&self, bytes: u32, purges: u32, named: Named) -> Option<u32>
+        ensures { FindsLowestRun (has_free bytes) (purged purges named (zone self.now)) result };
+
+    /// The run of an index, counted from 0 at the lowest.
+    fn nth_run(&self, index: u32) -> Option<u32>
+        ensures { FindsRun index (zone self.now) result };
+
+    /// The place of the block that is emptied next, after so many purges.
+    fn next_purgeable(&self, purges: u32, named: Named) -> Option<u32>
+        ensures { FindsLowest (may_go (spared named)) (purged purges named (zone self.now)) result };
+
+    /// Whether so many Free bytes follow the block of a slot, after so many purges.
+    fn room_above(&self, number: u32, bytes: u32, purges: u32, named: Named) -> bool
+        ensures { IfSome (spot (is_relocatable number) (purged purges named (zone self.now))) (λ s.
+            result ≡ is_some (taken bytes s.above)) };
+
+    /// The run of the block of a slot, if it has so many Free bytes after so many purges.
+    fn run_of(&self, number: u32, bytes: u32, purges: u32, named: Named) -> Option<u32>
+        ensures { FindsLowestRun (λ run. has (is_relocatable number) run && has_free bytes run)
+            (purged purges named (zone self.now)) result };
+
+    /// Empties the lowest blocks that may go, so many of them, and frees a block that counts as Free.
+    fn purge(&mut self, purges: u32, named: Named)
+        ensures zone { zone self.new ≡ purged purges named (zone self.old) }
+        ensures rest { IsRest (rest self.old) (rest self.new) };
+
+    /// Whether the run above the block at a place has so many Free bytes, after so many purges in it.
+    fn run_after(&self, place: u32, bytes: u32, purges: u32, named: Named) -> bool
+        requires { IsSome (spot_at place (zone self.now)) }
+        ensures { IfSome (spot_at place (zone self.now)) (λ s.
+            result ≡ has_free bytes (emptied purges (spared named) (segments s.above).first)) };
+
+    /// How many blocks may go in the run above the block at a place.
+    fn purgeable_after(&self, place: u32, named: Named) -> u32
+        requires { IsSome (spot_at place (zone self.now)) }
+        ensures { IfSome (spot_at place (zone self.now)) (λ s.
+            result ≡ count_of (spared named) (segments s.above).first) };
+
+    /// Empties the lowest blocks that may go above the block at a place, so many of them.
+    fn purge_after(&mut self, place: u32, purges: u32, named: Named)
+        requires { IsSome (spot_at place (zone self.old)) }
+        ensures zone { IfSome (spot_at place (zone self.old)) (λ s.
+            zone self.new ≡ tidy (s.below ++ s.here ∷ emptied purges (spared named) s.above)) }
+        ensures rest { IsRest (rest self.old) (rest self.new) };
+
+    /// Packs a run: its relocatable blocks in order, then one Free block.
+    ///
+    /// *Inside Macintosh: Memory*, chapter 1, "Heap Compaction".
+    fn settle(&mut self, run: u32)
+        requires { IsSome (run_at run (zone self.old)) }
+        ensures zone { IfSome (run_at run (zone self.old)) (λ r. zone self.new ≡ tidy (with_run settle r)) }
+        ensures rest { IfSome (run_at run (zone self.old)) (λ r.
+            IsRest (with_moves (falling r.run) (rest self.old)) (rest self.new)) }
+        ensures lower { NoneRises (zone self.old) (zone self.new) };
+
+    /// Packs a run upward, with so many Free bytes at its bottom.
+    fn raise(&mut self, run: u32, bytes: u32) -> Result<(), AllocError>
+        requires run { IsSomeAnd (run_at run (zone self.old)) (λ r. IsTrue (has_free bytes r.run)) }
+        requires even { bytes % 16 ≡ 0 }
+        ensures ok { OnOk result (IfSome (run_at run (zone self.old)) (λ r. zone self.new ≡ tidy (with_run (low (Free bytes)) r))) }
+        ensures rest { IsRest (rest self.old) (rest self.new) }
+        ensures err { OnErr result (zone self.new ≡ zone self.old) }
+        ensures host { IsErr result → IsTrue TAKES_HOST };
+
+    /// Moves the block of a slot to the top of its run.
+    fn hoist(&mut self, run: u32, number: u32)
+        requires { IsSomeAnd (run_at run (zone self.old)) (λ r. IsTrue (has (is_relocatable number) r.run)) }
+        ensures zone { IfSome (run_at run (zone self.old)) (λ r. zone self.new ≡ tidy (with_run (high (is_relocatable number)) r)) }
+        ensures rest { IsRest (rest self.old) (rest self.new) };
 
     /// Puts a new block of `size` bytes 0 at the lower end of the Free block at a place.
     fn carve(&mut self, place: u32, number: u32, size: u32) -> Result<(), AllocError>
@@ -60,6 +151,39 @@ pub trait BlockStore {
     /// Makes the block that a slot leads to Free.
     fn release(&mut self, number: u32)
         ensures zone { zone self.new ≡ tidy (freed (is_relocatable number) (zone self.old)) }
+        ensures rest { IsRest (rest self.old) (rest self.new) };
+
+    /// Gives the block at a place another size: cuts it where it stands, or lets it grow into the Free block
+    /// that follows it. New bytes are 0.
+    fn resize(&mut self, place: u32, bytes: u32) -> Result<(), AllocError>
+        requires { IsSomeAnd (spot_at place (zone self.old)) (λ s.
+            (size (resized bytes s.here) ≤ size s.here) ⊎ IsSome (grow_up (resized bytes s.here) s)) }
+        ensures cut { OnOk result (IfSome (spot_at place (zone self.old)) (λ s.
+            size (resized bytes s.here) ≤ size s.here → zone self.new ≡ filled (resized bytes s.here) s)) }
+        ensures grown { OnOk result (IfSome (spot_at place (zone self.old)) (λ s.
+            size s.here < size (resized bytes s.here) →
+            IfSome (grow_up (resized bytes s.here) s) (λ after. zone self.new ≡ after))) }
+        ensures rest { IsRest (rest self.old) (rest self.new) }
+        ensures err { OnErr result (zone self.new ≡ zone self.old) }
+        ensures host { IsErr result → IsTrue TAKES_HOST };
+
+    /// Moves the block of a slot, at another size, to the lower end of the Free block at a place. New bytes
+    /// are 0.
+    fn move_to(&mut self, place: u32, number: u32, bytes: u32) -> Result<(), AllocError>
+        requires room { IsSomeAnd (spot_at place (zone self.old)) (λ s. IsTrue (is_room (padded bytes) s.here)) }
+        requires block { IsSome (spot (is_relocatable number) (zone self.old)) }
+        ensures ok { OnOk result (IfSome (spot_at place (zone self.old)) (λ s.
+            IfSome (spot (is_relocatable number) (zone self.old)) (λ from.
+            zone self.new ≡ filled (resized bytes from.here) (moved_away (is_relocatable number) s)))) }
+        ensures rest { IsRest (rest self.old) (rest self.new) }
+        ensures err { OnErr result (zone self.new ≡ zone self.old) }
+        ensures host { IsErr result → IsTrue TAKES_HOST };
+
+    /// Sets the flags of the block at a place, where it is a relocatable one.
+    fn set_flags(&mut self, place: u32, flags: Flags)
+        requires { IsSome (spot_at place (zone self.old)) }
+        ensures zone { IfSome (spot_at place (zone self.old)) (λ s.
+            zone self.new ≡ s.below ++ with_flags flags s.here ∷ s.above) }
         ensures rest { IsRest (rest self.old) (rest self.new) };
 
     /// Takes a slot for a new handle.
@@ -104,4 +228,7 @@ pub trait BlockStore {
 
     /// No block takes no bytes, and no two Free blocks are neighbours.
     ghost tidied: { (store : Self) → tidy (zone store) ≡ zone store };
+
+    /// Each block takes a multiple of 16 bytes.
+    ghost aligned: { (store : Self) → Aligned (zone store) };
 }

@@ -21,7 +21,7 @@ pub struct Scan {
 }
 
 /// Whether an entry's block is Free, or counts as Free.
-fn counts_free(entry: &Entry, named: Named) -> bool
+pub fn counts_free(entry: &Entry, named: Named) -> bool
     ensures { result ≡ is_free (opened_block named (block_of entry.now)) }
 {
     match (entry, named) {
@@ -44,7 +44,7 @@ fn is_named(slot: u32, named: Named) -> bool
 }
 
 /// Whether an entry's block is emptied where purges are left.
-fn may_empty(entry: &Entry, named: Named) -> bool
+pub fn may_empty(entry: &Entry, named: Named) -> bool
     ensures { result ≡ may_go (spared named) (opened_block named (block_of entry.now)) }
 {
     match entry {
@@ -56,7 +56,7 @@ fn may_empty(entry: &Entry, named: Named) -> bool
 }
 
 /// Whether a stretch is room for so many bytes.
-fn suffices(free: u32, bytes: u32) -> bool
+pub fn suffices(free: u32, bytes: u32) -> bool
     ensures { result ≡ is_enough bytes free }
 {
     free > 0 && bytes <= free

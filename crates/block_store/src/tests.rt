@@ -1,11 +1,25 @@
 ghost use Rattle.std.specs.Prelude.{◌≤◌};
 
-use super::{BlockStore, ListStore, Named};
+use super::{BlockStore, Flags, ListStore, Named, Seen};
+use crate::entries::Entry;
+use crate::run_search::search_runs;
+use crate::runs::{has_free_above, most_free, most_free_of_runs, place_of_run, purgeable_above};
 use std::alloc::AllocError;
 use std::test::Fail;
 
+// The flags of a block that may be emptied, and of one that ends a run.
+const GOES: Flags = Flags {
+    locked: false,
+    purgeable: true,
+};
+
+const LOCKED: Flags = Flags {
+    locked: true,
+    purgeable: true,
+};
+
 // A new block of a new slot, at the lowest place with room, and the slot; none where there is none.
-fn make(store: &mut ListStore, size: u32) -> Result<Option<u32>, AllocError>
+pub(crate) fn make(store: &mut ListStore, size: u32) -> Result<Option<u32>, AllocError>
     requires { size ≤ 1024 }
 {
     let bytes = 16 + 16 * ((size + 15) / 16);
@@ -20,13 +34,13 @@ fn make(store: &mut ListStore, size: u32) -> Result<Option<u32>, AllocError>
 }
 
 // The bytes of a slot's block.
-fn shown(store: &ListStore, number: u32) -> Option<&[u8]> {
+pub(crate) fn shown(store: &ListStore, number: u32) -> Option<&[u8]> {
     let place = store.place_of(number)?;
     Some(store.bytes(place))
 }
 
 // Writes bytes into a slot's block, where they have room there.
-fn put(store: &mut ListStore, number: u32, from: u32, bytes: &[u8]) -> bool {
+pub(crate) fn put(store: &mut ListStore, number: u32, from: u32, bytes: &[u8]) -> bool {
     let Some(place) = store.place_of(number) else {
         return false;
     };
@@ -38,11 +52,31 @@ fn put(store: &mut ListStore, number: u32, from: u32, bytes: &[u8]) -> bool {
     true
 }
 
+// Whether so many Free bytes are in the run above a slot's block.
+fn room_after(store: &ListStore, number: u32, bytes: u32) -> Option<bool> {
+    let place = store.place_of(number)?;
+    Some(store.run_after(place, bytes, 0, Named::Nothing))
+}
+
 // Takes a slot and gives it back.
 fn take_and_give(store: &mut ListStore) -> Option<u32> {
     let number = store.take_slot()?;
     store.give_slot(number);
     Some(number)
+}
+
+// Sets the flags of a slot's block.
+fn flag(store: &mut ListStore, number: u32, locked: bool, purgeable: bool) {
+    if let Some(place) = store.place_of(number) {
+        store.set_flags(place, Flags { locked, purgeable });
+    }
+}
+
+// Empties blocks above a slot's block.
+fn purge_above(store: &mut ListStore, number: u32, purges: u32, named: Named) {
+    if let Some(place) = store.place_of(number) {
+        store.purge_after(place, purges, named);
+    }
 }
 
 #[test]
@@ -86,6 +120,109 @@ fn blocks_come_and_go(rt: HostRuntime) -> Result<(), Fail> {
 }
 
 #[test]
+fn runs_are_looked_at(rt: HostRuntime) -> Result<(), Fail> {
+    let mut store = ListStore::new(rt.alloc(), 1024)?;
+    let a = make(&mut store, 100)?.expect(&rt, "room for a block");
+    let b = make(&mut store, 3)?.expect(&rt, "room for a block");
+    store.release(a);
+    assert_eq!(rt; store.largest_free(), 592);
+    assert_eq!(rt; store.largest_run(), 720);
+    assert_eq!(rt; store.nth_run(0), Some(0));
+    assert_eq!(rt; store.nth_run(1), Some(272));
+    assert_eq!(rt; store.nth_run(2), None);
+    for (bytes, named, place) in [
+        (0, Named::Nothing, Some(0)),
+        (1, Named::Nothing, Some(272)),
+        (720, Named::One(b), Some(272)),
+        (721, Named::Nothing, None),
+        (752, Named::Freed(b), Some(272)),
+        (753, Named::Freed(b), None),
+    ] {
+        assert_eq!(rt; store.find_run(bytes, 1, named), place, "for {bytes}");
+    }
+    for (number, bytes, named, place) in [
+        (a, 0, Named::Nothing, None),
+        (b, 720, Named::Two(a, b), Some(272)),
+        (b, 721, Named::Nothing, None),
+        (b, 0, Named::Freed(b), None),
+    ] {
+        assert_eq!(rt; store.run_of(number, bytes, 1, named), place, "for {bytes}");
+    }
+    assert_eq!(rt; room_after(&store, b, 592), Some(true));
+    assert_eq!(rt; room_after(&store, b, 593), Some(false));
+    assert_eq!(rt; room_after(&store, a, 0), None);
+    Ok(())
+}
+
+#[test]
+fn purges_give_runs_room(rt: HostRuntime) -> Result<(), Fail> {
+    let entries = [
+        Entry::Free(16),
+        Entry::Relocatable(1, GOES, Vec::new(rt.alloc())),
+        Entry::Masters,
+        Entry::Relocatable(2, GOES, Vec::new(rt.alloc())),
+        Entry::Relocatable(3, GOES, Vec::new(rt.alloc())),
+        Entry::Free(32),
+        Entry::Relocatable(4, LOCKED, Vec::new(rt.alloc())),
+        Entry::Free(48),
+        Entry::Relocatable(5, Flags::NONE, Vec::new(rt.alloc())),
+    ];
+    for (number, bytes, purges, named, place) in [
+        (None, 33, 0, Named::Nothing, Some(384)),
+        (None, 32, 1, Named::Nothing, Some(0)),
+        (None, 32, 1, Named::One(1), Some(304)),
+        (None, 48, 2, Named::Nothing, Some(304)),
+        (None, 64, 3, Named::Nothing, Some(304)),
+        (None, 64, 0, Named::Freed(5), Some(384)),
+        (None, 80, 0, Named::Freed(4), Some(304)),
+        (Some(3), 48, 2, Named::Nothing, Some(304)),
+        (Some(3), 64, 3, Named::Nothing, None),
+        (Some(4), 0, 0, Named::Nothing, None),
+    ] {
+        assert_eq!(rt;
+            search_runs(&entries, number, bytes, purges, named),
+            place,
+            "for {bytes}"
+        );
+    }
+    Ok(())
+}
+
+#[test]
+fn runs_end_at_barriers(rt: HostRuntime) -> Result<(), Fail> {
+    let entries = [
+        Entry::Masters,
+        Entry::Relocatable(2, GOES, Vec::new(rt.alloc())),
+        Entry::Relocatable(3, GOES, Vec::new(rt.alloc())),
+        Entry::Free(32),
+        Entry::Relocatable(4, LOCKED, Vec::new(rt.alloc())),
+        Entry::Free(48),
+    ];
+    assert_eq!(rt; most_free(&entries), 48);
+    assert_eq!(rt; most_free_of_runs(&entries), 48);
+    for (index, place) in [(0, Some(0)), (1, Some(272)), (2, Some(352)), (3, None)] {
+        assert_eq!(rt; place_of_run(&entries, index), place, "for {index}");
+    }
+    for (bytes, purges, named, has_room) in [
+        (32, 0, Named::Nothing, true),
+        (48, 1, Named::Nothing, true),
+        (49, 1, Named::Nothing, false),
+        (64, 2, Named::Freed(3), true),
+        (64, 2, Named::One(2), false),
+    ] {
+        assert_eq!(rt;
+            has_free_above(&entries, 0, bytes, purges, named),
+            has_room,
+            "for {bytes}"
+        );
+    }
+    assert_eq!(rt; purgeable_above(&entries, 0, Named::Nothing), 2);
+    assert_eq!(rt; purgeable_above(&entries, 0, Named::Two(1, 3)), 1);
+    assert_eq!(rt; purgeable_above(&entries, 272, Named::One(3)), 0);
+    Ok(())
+}
+
+#[test]
 fn new_bytes_are_zero(rt: HostRuntime) -> Result<(), Fail> {
     let mut store = ListStore::new(rt.alloc(), 1024)?;
     let a = make(&mut store, 5)?.expect(&rt, "room for a block");
@@ -115,7 +252,72 @@ fn slots_run_out(rt: HostRuntime) -> Result<(), Fail> {
     Ok(())
 }
 
-// `rt try --test --fail-alloc N` refuses one allocation after the other.
+// Settles the run at a place, if there is one.
+fn settle(store: &mut ListStore, run: u32) -> bool {
+    if store.run_bytes(run).is_none() {
+        return false;
+    }
+    store.settle(run);
+    true
+}
+
+// Moves the block of a slot to the top of the run at a place, where that has it.
+fn hoist(store: &mut ListStore, run: u32, number: u32) -> bool {
+    if store.run_holds(run, number) != Some(true) {
+        return false;
+    }
+    store.hoist(run, number);
+    true
+}
+
+// Packs the run at a place upward, where it has so many strides of 16 Free bytes.
+fn raise(store: &mut ListStore, run: u32, strides: u32) -> Result<bool, AllocError>
+    requires { strides ≤ 1024 }
+{
+    let Some(free) = store.run_bytes(run) else {
+        return Ok(false);
+    };
+    if free < 16 * strides {
+        return Ok(false);
+    }
+    store.raise(run, 16 * strides)?;
+    Ok(true)
+}
+
+#[test]
+fn runs_are_packed(rt: HostRuntime) -> Result<(), Fail> {
+    let mut store = ListStore::new(rt.alloc(), 1024)?;
+    let a = make(&mut store, 1)?.expect(&rt, "room for a block");
+    let b = make(&mut store, 2)?.expect(&rt, "room for a block");
+    let c = make(&mut store, 3)?.expect(&rt, "room for a block");
+    let d = make(&mut store, 4)?.expect(&rt, "room for a block");
+    assert!(rt; put(&mut store, d, 0, b"last"));
+    store.release(a);
+    store.release(c);
+    assert_eq!(rt; store.find_free(32, 0, Named::Nothing), Some(272));
+    assert!(rt; !settle(&mut store, 304));
+    assert!(rt; settle(&mut store, 272));
+    assert_eq!(rt; store.place_of(b), Some(272));
+    assert_eq!(rt; store.place_of(d), Some(304));
+    assert_eq!(rt; shown(&store, d), Some(b"last".as_slice()));
+    assert_eq!(rt; store.find_free(1, 0, Named::Nothing), Some(336));
+    assert_eq!(rt; store.free_bytes(), 688);
+    assert!(rt; hoist(&mut store, 272, b));
+    assert!(rt; !hoist(&mut store, 272, a));
+    assert_eq!(rt; store.place_of(d), Some(272));
+    assert_eq!(rt; store.place_of(b), Some(992));
+    assert_eq!(rt; store.find_free(688, 0, Named::Nothing), Some(304));
+    assert!(rt; raise(&mut store, 272, 4)?);
+    assert!(rt; !raise(&mut store, 272, 44)?);
+    assert_eq!(rt; store.place_of(d), Some(336));
+    assert_eq!(rt; store.place_of(b), Some(368));
+    assert_eq!(rt; shown(&store, d), Some(b"last".as_slice()));
+    assert_eq!(rt; store.find_free(64, 0, Named::Nothing), Some(272));
+    assert_eq!(rt; store.find_free(624, 0, Named::Nothing), Some(400));
+    Ok(())
+}
+
+// Where the host refuses the memory for it, nothing was changed.
 #[test]
 fn refused_memory_changes_no_block(rt: HostRuntime) -> Result<(), Fail> {
     let Ok(mut store) = ListStore::new(rt.alloc(), 1024) else {
@@ -132,5 +334,100 @@ fn refused_memory_changes_no_block(rt: HostRuntime) -> Result<(), Fail> {
         }
     }
     assert_eq!(rt; store.free_bytes(), 560);
+    Ok(())
+}
+
+#[test]
+fn blocks_are_seen(rt: HostRuntime) -> Result<(), Fail> {
+    let mut store = ListStore::new(rt.alloc(), 1024)?;
+    assert_eq!(rt; store.moves(), 0);
+    let a = make(&mut store, 100)?.expect(&rt, "room for a block");
+    flag(&mut store, a, true, false);
+    let locked = Flags {
+        locked: true,
+        purgeable: false,
+    };
+    for (place, seen) in [
+        (0, Some(Seen::Masters)),
+        (272, Some(Seen::Relocatable(a, locked, 100))),
+        (288, None),
+        (400, Some(Seen::Free(624))),
+        (1024, None),
+    ] {
+        assert_eq!(rt; store.block_at(place), seen, "at {place}");
+    }
+    assert!(rt; store.room_above(a, 624, 0, Named::Nothing));
+    assert!(rt; !store.room_above(a, 625, 0, Named::Nothing));
+    Ok(())
+}
+
+#[test]
+fn blocks_are_emptied(rt: HostRuntime) -> Result<(), Fail> {
+    let mut store = ListStore::new(rt.alloc(), 1024)?;
+    let a = make(&mut store, 100)?.expect(&rt, "room for a block");
+    let b = make(&mut store, 100)?.expect(&rt, "room for a block");
+    let c = make(&mut store, 100)?.expect(&rt, "room for a block");
+    let d = make(&mut store, 100)?.expect(&rt, "room for a block");
+    assert_eq!(rt; store.next_purgeable(0, Named::Nothing), None);
+    flag(&mut store, a, false, true);
+    flag(&mut store, b, false, true);
+    flag(&mut store, c, false, true);
+    flag(&mut store, d, true, true);
+    for (purges, named, place) in [
+        (0, Named::Nothing, Some(272)),
+        (1, Named::Nothing, Some(400)),
+        (2, Named::Nothing, Some(528)),
+        (3, Named::Nothing, None),
+        (0, Named::One(a), Some(400)),
+        (1, Named::Two(a, b), None),
+        (1, Named::Freed(b), Some(528)),
+    ] {
+        assert_eq!(rt;
+            store.next_purgeable(purges, named),
+            place,
+            "after {purges} purges"
+        );
+    }
+    assert!(rt; !store.room_above(a, 16, 0, Named::One(a)));
+    assert!(rt; store.room_above(a, 256, 2, Named::One(a)));
+    assert!(rt; !store.room_above(a, 257, 2, Named::One(a)));
+    assert!(rt; store.room_above(d, 240, 0, Named::Nothing));
+    purge_above(&mut store, a, 1, Named::Nothing);
+    assert_eq!(rt; store.place_of(a), Some(272));
+    assert_eq!(rt; store.block_at(400), Some(Seen::Free(128)));
+    assert_eq!(rt; store.place_of(c), Some(528));
+    store.purge(2, Named::One(a));
+    assert_eq!(rt; store.block_at(400), Some(Seen::Free(256)));
+    assert_eq!(rt; store.place_of(c), None);
+    assert_eq!(rt; store.place_of(d), Some(656));
+    store.purge(0, Named::Freed(d));
+    assert_eq!(rt; store.block_at(400), Some(Seen::Free(624)));
+    store.purge(1, Named::Nothing);
+    assert_eq!(rt; store.block_at(272), Some(Seen::Free(752)));
+    assert_eq!(rt; store.free_bytes(), 752);
+    Ok(())
+}
+
+// Where the host refuses the memory for it, nothing was changed.
+#[test]
+fn refused_memory_raises_no_run(rt: HostRuntime) -> Result<(), Fail> {
+    let Ok(mut store) = ListStore::new(rt.alloc(), 1024) else {
+        return Ok(());
+    };
+    let Ok(Some(a)) = make(&mut store, 1) else {
+        return Ok(());
+    };
+    let Ok(Some(b)) = make(&mut store, 1) else {
+        return Ok(());
+    };
+    if raise(&mut store, 272, 4).is_err() {
+        assert_eq!(rt; store.place_of(a), Some(272));
+        assert_eq!(rt; store.find_free(688, 0, Named::Nothing), Some(336));
+        assert!(rt; raise(&mut store, 272, 4)?);
+    }
+    assert_eq!(rt; store.place_of(a), Some(336));
+    assert_eq!(rt; store.place_of(b), Some(368));
+    assert!(rt; settle(&mut store, 272));
+    assert_eq!(rt; store.place_of(b), Some(304));
     Ok(())
 }

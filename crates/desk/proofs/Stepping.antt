@@ -1,18 +1,25 @@
-use Rattle.std.proofs.Common.{◌≡◌, ◌≢◌, ◌∙◌, ℕ, refl, sym, ap, subst, Result, Ok, Err}
+use Rattle.std.proofs.Common.{◌≡◌, ◌≢◌, ◌∙◌, ◌++◌, ℕ, ℤ, refl, sym, ap, subst, map, List, [], Option, None, Result, Ok, Err}
+use Rattle.std.proofs.lemmas.List.{append-nil}
 use Rattle.std.specs.Result.{IfOk, OnOk}
 use Rattle.mac_words.specs.declared.code.OsErr.{OsErr}
 use Rattle.mac_words.specs.declared.name.Label.{Label}
+use Rattle.mac_words.specs.declared.name.Name.{Name}
+use Rattle.mac_words.specs.declared.name.OsType.{OsType}
+use Rattle.mac_words.specs.declared.reply.Reply.{Reply}
 use Rattle.mac_words.specs.declared.call.HeapCall.{HeapCall}
 use Rattle.mac_words.specs.declared.call.HeapCall.TheVariants as heap
-use Rattle.heap_calls.specs.State.{Memory}
-use Rattle.heap_calls.specs.Answer.{new_handle, noting}
-use Rattle.heap_calls.specs.Asked.{Told, Given, told_as}
+use Rattle.heap_calls.specs.State.{Memory, State}
+use Rattle.heap_calls.specs.Answer.{Held, new_handle, noting, show, look_up, for_found}
+use Rattle.block_store.specs.Block.{content_of}
+use Rattle.script_text.specs.declared.word.Word.{Word}
+use Rattle.script_text.specs.Transcript.{Number, values_of, type_shown, name_shown, bytes_shown, reply_line}
+use Rattle.heap_calls.specs.Asked.{Told, Done, Given, Number as Count, Bytes, told_as}
 use Rattle.heap_calls.specs.Given.{IsAnswer}
 use Rattle.heap_calls.specs.declared.refusal.Refusal.{Refusal}
 use Rattle.heap_calls.specs.declared.refusal.Refusal.TheVariants.{Code, HostMemory}
-use Rattle.desk.specs.Names.{Bindings}
-use Rattle.desk.specs.Application.{Running, heap_step, bound_anew}
-use Rattle.desk.specs.Replies.{GivenAs}
+use Rattle.desk.specs.Names.{Bindings, bound_to}
+use Rattle.desk.specs.Application.{Running, heap_step, bound_anew, code_told, numbers_told, bytes_told, values_told}
+use Rattle.desk.specs.Replies.{Says, GivenAs}
 
 -- what holds of a value holds of it in other words
 pub if_ok-map : {T E : Type 0} (r : Result T E) (P Q : T → Type 0) → ((x : T) → P x → Q x) → IfOk r P → IfOk r Q
@@ -56,3 +63,49 @@ new-after r call name size given after names is answer some bound =
     let n : names ≡ bound_anew name.0.items told r.names = bound told (given-told Given (noting (new_handle size) r.memory) given after answer) in
     let m : after ≡ (noting (new_handle size) r.memory).1 = given-after (noting (new_handle size) r.memory) given after some answer in
     (λ i. record { memory = m i; names = n i }) ∙ ap (λ c. (heap_step c r).1) (sym is)
+
+-- a reply makes the line of what it says, with the bytes that are told
+pub line-said : (line : ℕ) (word : Word) (reply : Reply) (bytes : Option (List ℕ)) (told : Told) → Says reply told → bytes ≡ bytes_told told
+    → reply_line line word reply.code.0 (values_of reply bytes) ≡ reply_line line word (code_told told).0 (values_told told)
+line-said line word reply bytes told says shown =
+    ap (λ (code : OsErr). reply_line line word code.0 (values_of reply bytes)) says.code
+    ∙ ap (λ (numbers : List ℤ). reply_line line word (code_told told).0 (map Number numbers ++ type_shown reply.ty ++ name_shown reply.name ++ bytes_shown bytes)) says.numbers
+    ∙ ap (λ (ty : Option OsType). reply_line line word (code_told told).0 (map Number (numbers_told told) ++ type_shown ty ++ name_shown reply.name ++ bytes_shown bytes)) says.ty
+    ∙ ap (λ (name : Option Name). reply_line line word (code_told told).0 (map Number (numbers_told told) ++ [] ++ name_shown name ++ bytes_shown bytes)) says.name
+    ∙ ap (λ (front : List _). reply_line line word (code_told told).0 (front ++ bytes_shown bytes)) (append-nil (map Number (numbers_told told) ++ []) ∙ append-nil (map Number (numbers_told told)))
+    ∙ ap (λ (b : Option (List ℕ)). reply_line line word (code_told told).0 (map Number (numbers_told told) ++ bytes_shown b)) shown
+
+-- what tells no bytes
+told-none : {T : Type 0} (tell : T → Told) → ((x : T) → bytes_told (tell x) ≡ None) → (r : Result T OsErr) → bytes_told (told_as tell r) ≡ None
+told-none tell none (Ok x) = none x
+told-none tell none (Err code) = refl
+
+-- what tells no bytes tells none again
+none-again : {T : Type 0} (tell : T → Told) → ((x : T) → bytes_told (tell x) ≡ None) → (r : Result T OsErr) (q : Result T OsErr) → bytes_told (told_as tell r) ≡ bytes_told (told_as tell q)
+none-again tell none r q = told-none tell none r ∙ sym (told-none tell none q)
+
+-- showing changes nothing
+show-same : (handle : Option ℕ) (s : State) → (show handle s).1 ≡ s
+show-same handle s = cases (look_up handle s)
+  where
+    cases : (r : Result Held OsErr) → (for_found {T = List ℕ} r s (λ (k : Held). (Ok (content_of k.at.here), s))).1 ≡ s
+    cases (Err code) = refl
+    cases (Ok k) = refl
+
+-- what a call tells in the state that it leaves shows the same bytes
+pub shown-again : (c : HeapCall) (r : Running) → bytes_told (heap_step c (heap_step c r).1).0 ≡ bytes_told (heap_step c r).0
+shown-again (heap.NewHandle name size) r = none-again {T = ℕ} Given (λ x. refl) _ _
+shown-again (heap.DisposeHandle name) r = none-again {T = Unit {0}} (λ x. Done) (λ x. refl) _ _
+shown-again (heap.GetHandleSize name) r = none-again {T = ℕ} Count (λ x. refl) _ _
+shown-again (heap.SetHandleSize name size) r = none-again {T = Unit {0}} (λ x. Done) (λ x. refl) _ _
+shown-again (heap.HLock name) r = none-again {T = Unit {0}} (λ x. Done) (λ x. refl) _ _
+shown-again (heap.HUnlock name) r = none-again {T = Unit {0}} (λ x. Done) (λ x. refl) _ _
+shown-again (heap.MoveHHi name) r = none-again {T = Unit {0}} (λ x. Done) (λ x. refl) _ _
+shown-again (heap.HLockHi name) r = none-again {T = Unit {0}} (λ x. Done) (λ x. refl) _ _
+shown-again heap.FreeMem r = refl
+shown-again heap.MaxBlock r = refl
+shown-again (heap.CompactMem size) r = refl
+shown-again heap.MemError r = refl
+shown-again (heap.Put name from bytes) r = none-again {T = Unit {0}} (λ x. Done) (λ x. refl) _ _
+shown-again (heap.Show name) r = ap (λ (s : State). bytes_told (told_as {T = List ℕ} Bytes (show (bound_to name.0.items r.names) s).0)) (show-same (bound_to name.0.items r.names) r.memory.heap)
+shown-again (heap.Where name) r = none-again {T = ℕ} Count (λ x. refl) _ _

@@ -10,9 +10,10 @@ use Rattle.heap_calls.specs.Asked.{Asked, Told, Bytes, Refused, answered, told_a
 use Rattle.heap_calls.specs.Asked as asks
 use Rattle.heap_calls.specs.LastPut.{last_put, last_put_from, put_by}
 use Rattle.heap_calls.proofs.LastPutLaws.{Known, holds-known, step-known, known-fresh}
+use Rattle.heap_calls.proofs.LockedLaws.{stays-locked}
 use Rattle.script_text.specs.declared.script.Line.{Line}
 use Rattle.desk.specs.Application.{Running, launched, nowhere, asked, went_on, step, call_of, line_told, lines_told, after_lines}
-use Rattle.desk.specs.Laws.{entry_of, history, ShowsBytes, ShowsLastPut, HoldsLastPut}
+use Rattle.desk.specs.Laws.{entry_of, history, ShowsBytes, ShowsLastPut, HoldsLastPut, StepKeepsLocked, LockedStays}
 
 -- a memory, and an application, elsewhere
 abbrev pub elsewhere : Window → Memory → Memory
@@ -26,7 +27,15 @@ answered-elsewhere : (w : Window) (a : Asked) (m : Memory) → answered a (elsew
 answered-elsewhere w (asks.NewHandle size) m = refl
 answered-elsewhere w (asks.DisposeHandle handle) m = refl
 answered-elsewhere w (asks.GetHandleSize handle) m = refl
+answered-elsewhere w (asks.SetHandleSize handle size) m = refl
+answered-elsewhere w (asks.HLock handle) m = refl
+answered-elsewhere w (asks.HUnlock handle) m = refl
+answered-elsewhere w (asks.MoveHHi handle) m = refl
+answered-elsewhere w (asks.HLockHi handle) m = refl
 answered-elsewhere w asks.FreeMem m = refl
+answered-elsewhere w asks.MaxBlock m = refl
+answered-elsewhere w (asks.CompactMem size) m = refl
+answered-elsewhere w asks.MemError m = refl
 answered-elsewhere w (asks.Put handle from bytes) m = refl
 answered-elsewhere w (asks.Show handle) m = refl
 answered-elsewhere w (asks.Where handle) m = refl
@@ -76,6 +85,21 @@ pub holds_last_put : (n : ℕ) (lines : List Line) → HoldsLastPut lines (launc
 holds_last_put n lines k =
     holds-known (after_lines (take k lines) (launched n nowhere)).memory.heap (last_put (history (take k lines) (launched n nowhere)))
     (lines-know (take k lines) (launched n nowhere) (λ h. []) (known-fresh n))
+
+-- each step leaves locked blocks where they are
+locked-step : (c : Call) (r : Running) (bytes : ℕ → List ℕ) → Known r.memory.heap bytes → StepKeepsLocked c r
+locked-step (call.Heap c) r bytes known = stays-locked (asked c r.names) r.memory known.once
+
+locked-from : (lines : List Line) (r : Running) (bytes : ℕ → List ℕ) → Known r.memory.heap bytes → LockedStays lines r
+locked-from [] r bytes known = tt
+locked-from (l ∷ lines) r bytes known = (
+  locked-step (call_of l) r bytes known,
+  locked-from lines (step (call_of l) r).1 (put_by (entry_of (call_of l) r).asked (entry_of (call_of l) r).told bytes) (step-knows (call_of l) r bytes known),
+)
+
+-- a locked block stays where it is through each script
+pub locked_stays : (n : ℕ) (lines : List Line) → LockedStays lines (launched n nowhere)
+locked_stays n lines = locked-from lines (launched n nowhere) (λ h. []) (known-fresh n)
 
 free-total : (m : ℕ) → sizes (free m) ≡ m
 free-total zero = refl

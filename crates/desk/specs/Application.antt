@@ -8,11 +8,12 @@ use Rattle.mac_words.specs.declared.call.HeapCall.TheVariants as heap
 use denote.RawPtr.{null_ptr}
 use Rattle.block_store.specs.Rest.{Window}
 use Rattle.heap_calls.specs.State.{Memory, fresh_memory}
-use Rattle.heap_calls.specs.Asked.{Asked, Told, Done, Given, Number, Bytes, Refused, answered}
+use Rattle.heap_calls.specs.Asked.{Asked, Told, Done, Given, Number, Code, Bytes, Refused, answered}
 use Rattle.heap_calls.specs.Asked as asks
 use Rattle.script_text.specs.Call.{word_of}
 use Rattle.script_text.specs.Transcript.{Shown, bytes_shown, launch_line, reply_line, end_line}
 use Rattle.script_text.specs.Transcript as shows
+use Rattle.script_text.specs.declared.word.Word.{Word}
 use Rattle.script_text.specs.declared.script.Line.{Line}
 use Rattle.script_text.specs.declared.script.Said.{Said}
 use Rattle.script_text.specs.declared.script.Said.TheVariants as said
@@ -38,7 +39,15 @@ abbrev pub asked : HeapCall → Bindings → Asked
 asked (heap.NewHandle name size) names = asks.NewHandle size
 asked (heap.DisposeHandle name) names = asks.DisposeHandle (bound_to name.0.items names)
 asked (heap.GetHandleSize name) names = asks.GetHandleSize (bound_to name.0.items names)
+asked (heap.SetHandleSize name size) names = asks.SetHandleSize (bound_to name.0.items names) size
+asked (heap.HLock name) names = asks.HLock (bound_to name.0.items names)
+asked (heap.HUnlock name) names = asks.HUnlock (bound_to name.0.items names)
+asked (heap.MoveHHi name) names = asks.MoveHHi (bound_to name.0.items names)
+asked (heap.HLockHi name) names = asks.HLockHi (bound_to name.0.items names)
 asked heap.FreeMem names = asks.FreeMem
+asked heap.MaxBlock names = asks.MaxBlock
+asked (heap.CompactMem size) names = asks.CompactMem size
+asked heap.MemError names = asks.MemError
 asked (heap.Put name from bytes) names = asks.Put (bound_to name.0.items names) from bytes.items
 asked (heap.Show name) names = asks.Show (bound_to name.0.items names)
 asked (heap.Where name) names = asks.Where (bound_to name.0.items names)
@@ -76,12 +85,14 @@ abbrev pub code_told : Told → OsErr
 code_told Done = NO_ERR
 code_told (Given n) = NO_ERR
 code_told (Number n) = NO_ERR
+code_told (Code code) = NO_ERR
 code_told (Bytes bytes) = NO_ERR
 code_told (Refused code) = code
 
 -- the numbers that are told; that of a new handle or pointer is the name's alone
 abbrev pub numbers_told : Told → List ℤ
 numbers_told (Number n) = pos n ∷ []
+numbers_told (Code code) = code.0 ∷ []
 numbers_told told = []
 
 -- the bytes that are told
@@ -93,9 +104,13 @@ bytes_told told = None
 abbrev pub values_told : Told → List Shown
 values_told told = map shows.Number (numbers_told told) ++ bytes_shown (bytes_told told)
 
+-- the transcript line of what is told
+abbrev pub told_line : ℕ → Word → Told → List ℕ
+told_line number word told = reply_line number word (code_told told).0 (values_told told)
+
 -- the transcript line of a step
 abbrev pub line_told : Line → Told → List ℕ
-line_told l told = reply_line l.number (word_of (call_of l)) (code_told told).0 (values_told told)
+line_told l told = told_line l.number (word_of (call_of l)) told
 
 -- the lines of steps in order
 abbrev pub lines_told : List Line → Running → List ℕ

@@ -1,8 +1,9 @@
-use Rattle.std.specs.Prelude.{◌≡◌, ℕ, Some, List, [], ◌∷◌, take}
+use Rattle.std.specs.Prelude.{◌≡◌, ℕ, false, Some, List, [], ◌∷◌, take}
 use Rattle.mac_words.specs.declared.call.Call.{Call}
 use Rattle.mac_words.specs.declared.call.Call.TheVariants as call
 use Rattle.heap_calls.specs.Asked.{Show, Bytes}
 use Rattle.heap_calls.specs.LastPut.{Entry, Holds, last_put, put_by}
+use Rattle.heap_calls.specs.Locked.{locked_place, releases}
 use Rattle.script_text.specs.declared.script.Line.{Line}
 use Rattle.desk.specs.Application.{Running, asked, step, call_of, after_lines}
 
@@ -31,3 +32,14 @@ ShowsLastPut (l ∷ lines) r bytes =
 -- after each number of these steps each handle with a block holds the bytes last put into it
 abbrev pub HoldsLastPut : List Line → Running → Type 0
 HoldsLastPut lines r = (k : ℕ) → Holds (after_lines (take k lines) r).memory.heap (last_put (history (take k lines) r))
+
+-- each block that is locked before a step is locked after it, at the same distance from the zone's bottom, unless the step
+-- disposes of its handle or unlocks it
+abbrev pub StepKeepsLocked : Call → Running → Type 0
+StepKeepsLocked c r =
+    (h place : ℕ) → releases h (entry_of c r).asked ≡ false → locked_place h r.memory.heap.zone ≡ Some place → locked_place h (step c r).1.memory.heap.zone ≡ Some place
+
+-- each of these steps does so
+abbrev pub LockedStays : List Line → Running → Type 0
+LockedStays [] r = Unit {0}
+LockedStays (l ∷ lines) r = StepKeepsLocked (call_of l) r × LockedStays lines (step (call_of l) r).1

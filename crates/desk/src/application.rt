@@ -4,7 +4,7 @@ ghost use Rattle.std.specs.Prelude.{◌≡◌, ◌≢◌, ◌++◌, IfOk, OnOk};
 ghost use Rattle.std.specs.Option.{option_map};
 ghost use Rattle.block_store.specs.Block.{fresh, sizes};
 ghost use Rattle.heap_calls.specs.Asked.{Told, Done, Given, Number, Bytes, answered};
-ghost use Rattle.desk.specs.Application.{Running, launched, asked, went_on, bound_anew, heap_step, step, bytes_told, line_told, call_of};
+ghost use Rattle.desk.specs.Application.{Running, launched, asked, went_on, bound_anew, heap_step, step, bytes_told, told_line, line_told, call_of};
 ghost use Rattle.desk.specs.Replies.{Says, GivenAs};
 
 use crate::names::Names;
@@ -57,7 +57,17 @@ impl<S: BlockStore> Application<S> {
             HeapCall::GetHandleSize(name) => {
                 number_reply(self.heap.get_handle_size(self.names.number(name)))
             }
+            HeapCall::SetHandleSize(name, size) => {
+                done_reply(self.heap.set_handle_size(self.names.number(name), *size))
+            }
+            HeapCall::HLock(name) => done_reply(self.heap.h_lock(self.names.number(name))),
+            HeapCall::HUnlock(name) => done_reply(self.heap.h_unlock(self.names.number(name))),
+            HeapCall::MoveHHi(name) => done_reply(self.heap.move_hhi(self.names.number(name))),
+            HeapCall::HLockHi(name) => done_reply(self.heap.hlock_hi(self.names.number(name))),
             HeapCall::FreeMem => Ok(Reply::number(self.heap.free_mem())),
+            HeapCall::MaxBlock => Ok(Reply::number(self.heap.max_block())),
+            HeapCall::CompactMem(size) => Ok(Reply::number(self.heap.compact_mem(*size))),
+            HeapCall::MemError => Ok(Reply::telling(self.heap.mem_error())),
             HeapCall::Put(name, from, bytes) => {
                 done_reply(self.heap.put(self.names.number(name), *from, bytes))
             }
@@ -76,6 +86,21 @@ impl<S: BlockStore> Application<S> {
         }
     }
 
+    /// Answers a call of the Memory Manager, and appends the line of a word with its reply to a text.
+    fn step_heap(
+        &mut self,
+        number: usize,
+        word: Word,
+        call: &HeapCall,
+        text: &mut Vec<u8>,
+    ) -> Result<(), AllocError>
+        ensures text { OnOk result (text.new.items ≡ text.old.items ++ told_line number word (heap_step call.now self.old).0) }
+        ensures after { OnOk result (self.new ≡ (heap_step call.now self.old).1) }
+    {
+        let reply = self.answer(call)?;
+        write_reply(text, number, word, &reply, self.shown(call))
+    }
+
     /// Answers the call of a line, and appends the line's transcript line to a text.
     pub fn step(&mut self, line: &Line, text: &mut Vec<u8>) -> Result<(), AllocError>
         ensures text { OnOk result (text.new.items ≡ text.old.items ++ line_told line.now (step (call_of line.now) self.old).0) }
@@ -83,8 +108,7 @@ impl<S: BlockStore> Application<S> {
     {
         let Said::Call(call) = &line.said;
         let Call::Heap(asked) = call;
-        let reply = self.answer(asked)?;
-        write_reply(text, line.number, Word::of(call), &reply, self.shown(asked))
+        self.step_heap(line.number, Word::of(call), asked, text)
     }
 }
 
@@ -121,7 +145,8 @@ fn shown_reply(given: Result<&[u8], Refusal>) -> Result<Reply, AllocError>
 
 /// The reply of a call that gives no value.
 fn done_reply(given: Result<(), Refusal>) -> Result<Reply, AllocError>
-    ensures { IfOk result (λ reply. (told : Told) → GivenAs (λ _. Done) given told → Says reply told) }
+    ensures reply { IfOk result (λ reply. (told : Told) → GivenAs (λ _. Done) given told → Says reply told) }
+    ensures host { OnOk result (given ≢ Err Refusal.HostMemory) }
 {
     match given {
         Ok(()) => Ok(Reply::of(OsErr::NO_ERR)),

@@ -2,7 +2,7 @@
 
 ghost use Rattle.std.specs.Prelude.{◌≡◌, ◌%◌, ◌≤◌, [], IfOk, OnOk};
 ghost use Rattle.desk.specs.Application.{transcript, launched, nowhere};
-ghost use Rattle.desk.specs.Laws.{ShowsLastPut, HoldsLastPut};
+ghost use Rattle.desk.specs.Laws.{ShowsLastPut, HoldsLastPut, LockedStays};
 
 use crate::application::Application;
 use block_store::ListStore;
@@ -16,7 +16,7 @@ use std::alloc::{AllocError, Global};
 /// # Errors
 ///
 /// Where the host refuses memory there is no transcript.
-#[tactic(auto, using(crate::proofs::Telling::shows_last_put, crate::proofs::Telling::holds_last_put))]
+#[tactic(auto, using(crate::proofs::Telling::shows_last_put, crate::proofs::Telling::holds_last_put, crate::proofs::Telling::locked_stays))]
 pub fn run_script(alloc: Global, size: u32, script: &Script) -> Result<Vec<u8>, AllocError>
     requires even { size % 16 ≡ 0 }
     requires low { 512 ≤ size }
@@ -30,6 +30,9 @@ pub fn run_script(alloc: Global, size: u32, script: &Script) -> Result<Vec<u8>, 
 
     // After each number of steps each handle with a block holds the bytes last put into it.
     ensures held { HoldsLastPut script.now (launched size nowhere) }
+
+    // A locked block is neither moved nor emptied by a step, unless that disposes of its handle or unlocks it.
+    ensures locked { LockedStays script.now (launched size nowhere) }
 {
     let store = ListStore::new(alloc, size)?;
     let mut application = Application::launch(alloc, store);

@@ -2,6 +2,7 @@ use Rattle.std.proofs.Common.{◌≡◌, ℕ, ◌+◌, ◌≤◌, ◌<◌, true,
 use Rattle.std.proofs.lemmas.Option.{slice_get-map}
 use Rattle.std.specs.Option.{option_map, ok_or, IfSome}
 use Rattle.mac_words.specs.declared.code.OsErr.{OsErr}
+use Rattle.heap_calls.specs.declared.log.Log.{Log}
 use Rattle.mac_words.specs.declared.code.TheConstants.OsErr.{NIL_HANDLE, WRONG_ZONE}
 use Rattle.block_store.specs.Block.{Block, Free, Fixed, Masters, Relocatable, size, sizes, rename, rename_block, is_relocatable, content_of, with_content}
 use Rattle.block_store.specs.Slot.{Slot}
@@ -22,11 +23,11 @@ use Rattle.heap_calls.specs.Numbered.{state_of, memory_of, name_of, handle_numbe
 use Rattle.heap_calls.proofs.Numbers.{Apart, is_relocatable-number}
 
 -- a call that was noted: the code of its answer is kept
-pub noted : {T : Type 0} (call : State → Answer T) (old mid new : Memory) (r : Result T Refusal) → IsAnswer (silent call old) r mid → new ≡ record mid { last = last_after r mid.last } → IsAnswer (noting call old) r new
+pub noted : {T : Type 0} (call : State → Answer T) (old mid new : Memory) (r : Result T Refusal) → IsAnswer (silent call old) r mid → new ≡ record mid { log = record mid.log { code = last_after r mid.log.code } } → IsAnswer (noting call old) r new
 noted {T = T} call old mid new (Ok value) is e =
-    (λ i. ((is i).0, record ((is i).1) { last = code_of {T = T} ((is i).0) })) ∙ ap (λ (m : Memory). (Ok value, m)) (sym e)
+    (λ i. ((is i).0, record ((is i).1) { log = record ((is i).1.log) { code = code_of {T = T} ((is i).0) } })) ∙ ap (λ (m : Memory). (Ok value, m)) (sym e)
 noted {T = T} call old mid new (Err (Code code)) is e =
-    (λ i. ((is i).0, record ((is i).1) { last = code_of {T = T} ((is i).0) })) ∙ ap (λ (m : Memory). (Err code, m)) (sym e)
+    (λ i. ((is i).0, record ((is i).1) { log = record ((is i).1.log) { code = code_of {T = T} ((is i).0) } })) ∙ ap (λ (m : Memory). (Err code, m)) (sym e)
 noted call old mid new (Err HostMemory) is e = tt
 
 -- a slot was found where the entry is its handle's
@@ -94,26 +95,26 @@ header-fits slot Masters e = cc
 header-fits slot (Relocatable id flags content) e = omega arith
 
 -- a call that is refused, where it was looked at in the state that the store stands for
-pub refused_for : {T : Type 0} (e : Refusal) (zone : List Block) (rest : Rest) (es : List Entry) (last : OsErr) (handle : Option ℕ) (value : Memory) → memory_of zone rest es last ≡ value
+pub refused_for : {T : Type 0} (e : Refusal) (zone : List Block) (rest : Rest) (es : List Entry) (log : Log) (handle : Option ℕ) (value : Memory) → memory_of zone rest es log ≡ value
     → FindsBlock zone rest.slots es handle (Err e) → (answer : State → Held → Answer T) → IsAnswer (silent (λ s. on_block handle s (answer s)) value) (Err e) value
-refused_for {T = T} (Code code) zone rest es last handle value is found answer =
+refused_for {T = T} (Code code) zone rest es log handle value is found answer =
     let P : Memory → Type 0 = λ m. silent {T = T} (λ s. on_block handle s (answer s)) m ≡ (Err code, m) in
-    subst P is (ap (λ r. let a : Answer T = for_found r (state_of zone rest.slots es) (answer (state_of zone rest.slots es)) in (a.0, record (memory_of zone rest es last) { heap = a.1 })) found)
-refused_for HostMemory zone rest es last handle value is found answer = tt
+    subst P is (ap (λ r. let a : Answer T = for_found r (state_of zone rest.slots es) (answer (state_of zone rest.slots es)) in (a.0, record (memory_of zone rest es log) { heap = a.1 })) found)
+refused_for HostMemory zone rest es log handle value is found answer = tt
 
 -- the same where bytes are lent
-pub not_shown_for : (e : Refusal) (zone : List Block) (rest : Rest) (es : List Entry) (last : OsErr) (handle : Option ℕ) (value : Memory) → memory_of zone rest es last ≡ value
+pub not_shown_for : (e : Refusal) (zone : List Block) (rest : Rest) (es : List Entry) (log : Log) (handle : Option ℕ) (value : Memory) → memory_of zone rest es log ≡ value
     → FindsBlock zone rest.slots es handle (Err e) → (answer : State → Held → Answer (List ℕ)) → IsShown (silent (λ s. on_block handle s (answer s)) value) (Err e) value
-not_shown_for (Code code) zone rest es last handle value is found answer = refused_for (Code code) zone rest es last handle value is found answer
-not_shown_for HostMemory zone rest es last handle value is found answer = tt
+not_shown_for (Code code) zone rest es log handle value is found answer = refused_for (Code code) zone rest es log handle value is found answer
+not_shown_for HostMemory zone rest es log handle value is found answer = tt
 
 -- what a call answers at the block that was found
-pub on_found : {T : Type 0} (zone : List Block) (rest : Rest) (es : List Entry) (last : OsErr) (handle : Option ℕ) (value : Memory) (k : Held) → memory_of zone rest es last ≡ value
+pub on_found : {T : Type 0} (zone : List Block) (rest : Rest) (es : List Entry) (log : Log) (handle : Option ℕ) (value : Memory) (k : Held) → memory_of zone rest es log ≡ value
     → look_up handle (state_of zone rest.slots es) ≡ Ok k → (answer : State → Held → Answer T)
     → silent (λ s. on_block handle s (answer s)) value ≡ ((answer value.heap k).0, record value { heap = (answer value.heap k).1 })
-on_found {T = T} zone rest es last handle value k is found answer =
+on_found {T = T} zone rest es log handle value k is found answer =
     let P : Memory → Type 0 = λ m. silent {T = T} (λ s. on_block handle s (answer s)) m ≡ ((answer m.heap k).0, record m { heap = (answer m.heap k).1 }) in
-    subst P is (ap (λ r. let a : Answer T = for_found r (state_of zone rest.slots es) (answer (state_of zone rest.slots es)) in (a.0, record (memory_of zone rest es last) { heap = a.1 })) found)
+    subst P is (ap (λ r. let a : Answer T = for_found r (state_of zone rest.slots es) (answer (state_of zone rest.slots es)) in (a.0, record (memory_of zone rest es log) { heap = a.1 })) found)
 
 -- where the block of a place is known
 pub at_place : (place : ℕ) (zone : List Block) (s : Spot) (P : Spot → Type 0) → spot_at place zone ≡ Some s → IfSome (spot_at place zone) P → P s

@@ -1,4 +1,4 @@
-use Rattle.std.proofs.Common.{◌≡◌, ℕ, ◌+◌, ◌-◌, ◌*◌, ◌≤◌, ◌<◌, zero, suc, Bool, true, false, ◌&&◌, ◌==◌, List, [], ◌∷◌, ◌++◌, length, refl, sym, ◌∙◌, ap, cond, map, arith, Option, Some, None, Result, Ok, Err, slice_get, slice_set, get_or, replicate, count_by, subst, ◌⊎◌, inl, inr, nat_lt, nat_le}
+use Rattle.std.proofs.Common.{◌≡◌, ℕ, ◌+◌, ◌-◌, ◌*◌, ◌≤◌, ◌<◌, zero, suc, Bool, true, false, ◌&&◌, ◌==◌, List, [], ◌∷◌, ◌++◌, length, refl, sym, ◌∙◌, ap, cond, map, arith, Option, Some, None, Result, Ok, Err, slice_get, slice_set, get_or, count_by, subst, ◌⊎◌, inl, inr, nat_lt, nat_le}
 use Rattle.std.proofs.lemmas.List.{map-append, map_push, map-set, length-map, length-replicate}
 use Rattle.std.proofs.lemmas.List.Sums.{sum_by_push, sum_by-set}
 use Rattle.std.proofs.lemmas.Option.{none-some, same_Some, slice_get_within, slice_get-map, get_or_from_slice_get}
@@ -8,22 +8,27 @@ use Rattle.std.specs.Prelude.{is_some}
 use Rattle.std.specs.Option.{option_map}
 use Rattle.mac_words.specs.Size.{phys, padded}
 use Rattle.mac_words.specs.declared.code.OsErr.{OsErr}
+use Rattle.heap_calls.specs.declared.log.Log.{Log}
 use Rattle.mac_words.specs.declared.code.TheConstants.OsErr.{MEM_FULL, PROFILE}
-use Rattle.block_store.specs.Block.{Block, Free, Fixed, Masters, Relocatable, size, count, free_sum, free_of, rename, rename_block, is_relocatable, is_room, content_of, with_content, is_masters, no_flags, tidy, written}
+use Rattle.block_store.specs.Block.{Block, Free, Fixed, Masters, Relocatable, size, count, free_sum, free_of, rename, rename_block, is_relocatable, content_of, with_content, is_masters, tidy, written}
 use Rattle.block_store.specs.Run.{has}
 use Rattle.block_store.specs.Slot.{Slot, Unused, Used, set_slot, AreSlots}
-use Rattle.block_store.specs.Rest.{Rest, IsRest}
-use Rattle.block_store.specs.Room.{Spot, spot, spot_at, raised, rename_spot, filled}
+use Rattle.block_store.specs.Rest.{Rest, IsRest, KeepsSlots}
+use Rattle.block_store.specs.Room.{Spot, spot_at, raised, rename_spot, filled, room, put_in_place}
 use Rattle.block_store.specs.Grow.{freed}
-use Rattle.block_store.proofs.Renaming.{spot-rename, total-rename, size-rename, free_of-rename, is_room-rename, filled-rename, freed-rename, tidy-rename}
+use Rattle.block_store.proofs.Renaming.{total-rename, free_of-rename, freed-rename, tidy-rename, room-rename, put_in_place-rename}
 use Rattle.block_store.proofs.Tidy.{rename-unless, rename_fixed-unless, has-released}
 use Rattle.heap_calls.specs.State.{State, Memory, Name, Role, Plain, Resource, used_slots, all_slots, uses_slot}
 use Rattle.heap_calls.specs.State as names
-use Rattle.heap_calls.specs.Answer.{Answer, new_handle, put_in_free, given, refused, dispose_handle, disposed_of, put, written_at, look_up, for_found, known_as, silent}
+use Rattle.heap_calls.specs.Answer.{Answer, new_handle, nothing, given, refused, dispose_handle, disposed_of, put, written_at, look_up, for_found, known_as, silent}
 use Rattle.heap_calls.specs.declared.name.Entry.{Entry}
 use Rattle.heap_calls.specs.declared.name.Entry.TheVariants.{Handle, Pointer, Disposed}
 use Rattle.heap_calls.specs.Numbered.{state_of, memory_of, name_of, handle_number, pointer_number, number_from, leads_to, points_to, no_number, role_of, Agrees}
 use Rattle.heap_calls.proofs.Answering.{content_of-rename, with_content-rename, held}
+use Rattle.heap_calls.specs.NewBlock.{fresh_block, HasNoRoom}
+use Rattle.heap_calls.specs.Search.{seat}
+use Rattle.heap_calls.proofs.Seats.{room-seat, seat-rename, no_room-no_seat}
+use Rattle.block_store.specs.declared.named.Named.TheVariants as named
 use Rattle.heap_calls.proofs.Numbers.{is_relocatable-number, leads_to-same, leads_to-is}
 
 -- an entry that doesn't pass changes no number
@@ -100,17 +105,6 @@ phys-some n bytes is = (ap is_some is, cases (nat_le n 2147483616) is)
     cases true e = sym (same_Some _ _ e)
     cases false e = absurd (none-some _ e)
 
--- putting a block into a Free block sees no names
-pub put_in_free-rename : (f g : ℕ → ℕ) (new : Block) (bs : List Block) → put_in_free (rename_block f g new) (rename f g bs) ≡ option_map (rename f g) (put_in_free new bs)
-put_in_free-rename f g new bs =
-    ap (λ n. option_map (filled (rename_block f g new)) (spot (is_room n) (rename f g bs))) (size-rename f g new)
-    ∙ ap (option_map (filled (rename_block f g new))) (spot-rename f g (is_room (size new)) (is_room (size new)) (is_room-rename f g (size new)) bs)
-    ∙ cases (spot (is_room (size new)) bs)
-  where
-    cases : (o : Option Spot) → option_map (filled (rename_block f g new)) (option_map (rename_spot f g) o) ≡ option_map (rename f g) (option_map (filled new) o)
-    cases None = refl
-    cases (Some s) = ap Some (filled-rename f g new s)
-
 -- the names of a heap with a handle more
 module _ (zone : List Block) (rest rest' : Rest) (es : List Entry) (slot : ℕ) (masters : rest.all ≡ 64 * count is_masters zone)
     (agrees : Agrees rest es) (was : rest.slots slot ≡ Unused) (now : AreSlots (set_slot rest.slots slot (Used false)) rest'.slots) (one : rest'.unused + 1 ≡ rest.unused) (all : rest'.all ≡ rest.all) (none : has (is_relocatable slot) zone ≡ false)
@@ -169,11 +163,11 @@ module _ (zone : List Block) (rest rest' : Rest) (es : List Entry) (slot : ℕ) 
         clash : (h s : ℕ) → slice_get es h ≡ Some (Handle s) → s ≡ slot → ⊥
         clash h s found is = unused-not_used (rest.slots s) (ap rest.slots is ∙ was) (agrees.used h s found)
 
-    -- the answer of NewHandle, where its block was put into the lowest Free block that is large enough
-    pub new_handle-done : (n bytes : ℕ) (s : Spot) → phys n ≡ Some bytes → spot (is_room bytes) zone ≡ Some s → (zone' : List Block) → zone' ≡ filled (Relocatable slot no_flags (replicate n 0)) s
+    -- the answer of NewHandle, where its block was put in its place
+    pub new_handle-done : (n : ℕ) → is_some (phys n) ≡ true → (zone' : List Block) → room (put_in_place (fresh_block slot n)) nothing zone ≡ Some zone'
         → new_handle n (state_of zone rest.slots es) ≡ (Ok (length es), state_of zone' rest'.slots es')
-    new_handle-done n bytes s fits found zone' is =
-        ap (λ t. cond t (given (names.Handle Plain) (put_in_free (Relocatable (length (map (name_of rest.slots) es)) no_flags (replicate n 0)) (rename (handle_number es) (pointer_number es) zone)) (state_of zone rest.slots es)) (refused MEM_FULL (state_of zone rest.slots es))) room-left
+    new_handle-done n fits zone' done =
+        ap (λ t. cond t (given (names.Handle Plain) (room (put_in_place (fresh_block (length (map (name_of rest.slots) es)) n)) nothing (rename (handle_number es) (pointer_number es) zone)) (state_of zone rest.slots es)) (refused MEM_FULL (state_of zone rest.slots es))) room-left
         ∙ ap (λ o. given (names.Handle Plain) o (state_of zone rest.slots es)) put
         ∙ ap (λ k. (Ok k, record { zone = rename (handle_number es') (pointer_number es') zone'; names = map (name_of rest.slots) es ++ names.Handle Plain ∷ [] })) (length-map es (name_of rest.slots))
         ∙ ap (λ l. (Ok (length es), record { zone = rename (handle_number es') (pointer_number es') zone'; names = l })) (sym names-now)
@@ -183,33 +177,36 @@ module _ (zone : List Block) (rest rest' : Rest) (es : List Entry) (slot : ℕ) 
             let a = agrees.counted in
             let m = masters-rename (handle_number es) (pointer_number es) zone in
             let less : used_slots (state_of zone rest.slots es) < all_slots (state_of zone rest.slots es) = omega (arith, one, masters) in
-            rw ((phys-some n bytes fits).0) ((Decides-ltb (used_slots (state_of zone rest.slots es)) (all_slots (state_of zone rest.slots es))).1 less)
+            rw fits ((Decides-ltb (used_slots (state_of zone rest.slots es)) (all_slots (state_of zone rest.slots es))).1 less)
 
-        put : put_in_free (Relocatable (length (map (name_of rest.slots) es)) no_flags (replicate n 0)) (rename (handle_number es) (pointer_number es) zone) ≡ Some (rename (handle_number es') (pointer_number es') zone')
+        put : room (put_in_place (fresh_block (length (map (name_of rest.slots) es)) n)) nothing (rename (handle_number es) (pointer_number es) zone) ≡ Some (rename (handle_number es') (pointer_number es') zone')
         put =
-            ap (λ k. put_in_free (Relocatable k no_flags (replicate n 0)) (rename (handle_number es) (pointer_number es) zone)) (length-map es (name_of rest.slots) ∙ sym number-now)
-            ∙ ap (put_in_free (Relocatable (handle_number es' slot) no_flags (replicate n 0))) (sym zone-kept)
-            ∙ put_in_free-rename (handle_number es') (pointer_number es') (Relocatable slot no_flags (replicate n 0)) zone
-            ∙ ap (λ k. option_map (rename (handle_number es') (pointer_number es')) (option_map (filled (Relocatable slot no_flags (replicate n 0))) (spot (is_room k) zone))) (ap padded (length-replicate n 0) ∙ sym ((phys-some n bytes fits).1))
-            ∙ ap (λ o. option_map (rename (handle_number es') (pointer_number es')) (option_map (filled (Relocatable slot no_flags (replicate n 0))) o)) found
-            ∙ ap (λ z. Some (rename (handle_number es') (pointer_number es') z)) (sym is)
+            ap (λ k. room (put_in_place (fresh_block k n)) nothing (rename (handle_number es) (pointer_number es) zone)) (length-map es (name_of rest.slots) ∙ sym number-now)
+            ∙ ap (room (put_in_place (fresh_block (handle_number es' slot) n)) nothing) (sym zone-kept)
+            ∙ room-rename (handle_number es') (pointer_number es') nothing nothing (put_in_place (fresh_block (handle_number es' slot) n)) (put_in_place (fresh_block slot n)) (λ b. refl)
+            (put_in_place-rename (handle_number es') (pointer_number es') (fresh_block slot n)) zone
+            ∙ ap (option_map (rename (handle_number es') (pointer_number es'))) done
 
--- no room in a Free block
-pub new_handle-full : (zone : List Block) (slots : ℕ → Slot) (es : List Entry) (n bytes : ℕ) → phys n ≡ Some bytes → spot (is_room bytes) zone ≡ None → new_handle n (state_of zone slots es) ≡ (Err MEM_FULL, state_of zone slots es)
-new_handle-full zone slots es n bytes fits none =
+-- no room for the block
+pub new_handle-full : (zone : List Block) (slots : ℕ → Slot) (es : List Entry) (n : ℕ) → ((number : ℕ) → room (put_in_place (fresh_block number n)) nothing zone ≡ None) → new_handle n (state_of zone slots es) ≡ (Err MEM_FULL, state_of zone slots es)
+new_handle-full zone slots es n none =
     ap (λ o. cond (is_some (phys n) && nat_lt (used_slots s) (all_slots s)) (given (names.Handle Plain) o s) (refused MEM_FULL s)) put ∙ either (is_some (phys n) && nat_lt (used_slots s) (all_slots s))
   where
     s : State
     s = state_of zone slots es
 
+    new : Block
+    new = fresh_block (length s.names) n
+
     either : (t : Bool) → cond t (refused {T = ℕ} MEM_FULL s) (refused {T = ℕ} MEM_FULL s) ≡ refused {T = ℕ} MEM_FULL s
     either true = refl
     either false = refl
 
-    put : put_in_free (Relocatable (length (map (name_of slots) es)) no_flags (replicate n 0)) (rename (handle_number es) (pointer_number es) zone) ≡ None
+    put : room (put_in_place new) nothing s.zone ≡ None
     put =
-        ap (λ k. option_map (filled (Relocatable (length (map (name_of slots) es)) no_flags (replicate n 0))) (spot (is_room k) (rename (handle_number es) (pointer_number es) zone))) (ap padded (length-replicate n 0) ∙ sym ((phys-some n bytes fits).1))
-        ∙ ap (option_map (filled (Relocatable (length (map (name_of slots) es)) no_flags (replicate n 0)))) (spot-rename (handle_number es) (pointer_number es) (is_room bytes) (is_room bytes) (is_room-rename (handle_number es) (pointer_number es) bytes) zone ∙ ap (option_map (rename_spot (handle_number es) (pointer_number es))) none)
+        room-seat new s.zone
+        ∙ ap (λ p. option_map (filled new) (seat p named.Nothing s.zone)) (ap padded (length-replicate n 0))
+        ∙ ap (option_map (filled new)) (seat-rename (handle_number es) (pointer_number es) (padded n) zone ∙ ap (option_map (rename_spot (handle_number es) (pointer_number es))) (no_room-no_seat n zone 0 (none 0)))
 
 -- the names of a heap with a handle disposed of
 module _ (zone : List Block) (rest rest' : Rest) (es : List Entry) (h slot : ℕ)
@@ -278,8 +275,8 @@ spot_at-is place (b ∷ above) s e = cases (place == 0) (nat_le (size b) place) 
     cases false true (Some s') rest e = ap (λ l. b ∷ l) (rest s' refl) ∙ ap (λ (s : Spot). s.below ++ s.here ∷ s.above) (same_Some _ _ e)
 
 -- the store goes on with the same slots
-pub agrees-same : (rest rest' : Rest) (es : List Entry) → Agrees rest es → IsRest rest rest' → Agrees rest' es
-agrees-same rest rest' es agrees now = record {
+pub agrees-kept : (rest rest' : Rest) (es : List Entry) → Agrees rest es → KeepsSlots rest rest' → Agrees rest' es
+agrees-kept rest rest' es agrees now = record {
   used = λ h s at. now.slots s ∙ agrees.used h s at;
   apart = agrees.apart;
   counted =
@@ -288,29 +285,39 @@ agrees-same rest rest' es agrees now = record {
       omega (arith, now.unused, now.all);
 }
 
--- a heap over another zone and the same rest
-pub memory-same : (zone : List Block) (rest rest' : Rest) (es : List Entry) (last : OsErr) → IsRest rest rest' → memory_of zone rest' es last ≡ memory_of zone rest es last
-memory-same zone rest rest' es last now =
-    ap (λ l. record { heap = record { zone = rename (handle_number es) (pointer_number es) zone; names = l }; last = last; window = rest'.window }) (names-same rest.slots rest'.slots es (λ h s at. now.slots s))
-    ∙ ap (λ w. record { heap = state_of zone rest.slots es; last = last; window = w }) now.window
+-- where nothing is moved the slots are kept
+pub kept : (rest rest' : Rest) → IsRest rest rest' → KeepsSlots rest rest'
+kept rest rest' now = record { slots = now.slots; unused = now.unused; all = now.all; moves = refl; window = now.window }
+
+pub agrees-same : (rest rest' : Rest) (es : List Entry) → Agrees rest es → IsRest rest rest' → Agrees rest' es
+agrees-same rest rest' es agrees now = agrees-kept rest rest' es agrees (kept rest rest' now)
+
+-- a heap over another zone and the same slots
+pub memory-kept : (zone : List Block) (rest rest' : Rest) (es : List Entry) (log : Log) → KeepsSlots rest rest' → memory_of zone rest' es log ≡ memory_of zone rest es log
+memory-kept zone rest rest' es log now =
+    ap (λ l. record { heap = record { zone = rename (handle_number es) (pointer_number es) zone; names = l }; log = log; window = rest'.window }) (names-same rest.slots rest'.slots es (λ h s at. now.slots s))
+    ∙ ap (λ w. record { heap = state_of zone rest.slots es; log = log; window = w }) now.window
+
+pub memory-same : (zone : List Block) (rest rest' : Rest) (es : List Entry) (log : Log) → IsRest rest rest' → memory_of zone rest' es log ≡ memory_of zone rest es log
+memory-same zone rest rest' es log now = memory-kept zone rest rest' es log (kept rest rest' now)
 
 -- what a call gives, told of the whole heap
-pub silent-done : {T : Type 0} (row : State → Answer T) (value : Memory) (zone zone' : List Block) (rest rest' : Rest) (es es' : List Entry) (last : OsErr) (r : Result T OsErr)
-    → memory_of zone rest es last ≡ value → row (state_of zone rest.slots es) ≡ (r, state_of zone' rest'.slots es') → rest'.window ≡ rest.window → silent row value ≡ (r, memory_of zone' rest' es' last)
-silent-done {T = T} row value zone zone' rest rest' es es' last r is done window =
-    let P : Memory → Type 0 = λ m. silent {T = T} row m ≡ (r, memory_of zone' rest' es' last) in
-    subst P is ((λ i. ((done i).0, record (memory_of zone rest es last) { heap = (done i).1 }))
-    ∙ ap (λ w. (r, record { heap = state_of zone' rest'.slots es'; last = last; window = w })) (sym window))
+pub silent-done : {T : Type 0} (row : State → Answer T) (value : Memory) (zone zone' : List Block) (rest rest' : Rest) (es es' : List Entry) (log : Log) (r : Result T OsErr)
+    → memory_of zone rest es log ≡ value → row (state_of zone rest.slots es) ≡ (r, state_of zone' rest'.slots es') → rest'.window ≡ rest.window → silent row value ≡ (r, memory_of zone' rest' es' log)
+silent-done {T = T} row value zone zone' rest rest' es es' log r is done window =
+    let P : Memory → Type 0 = λ m. silent {T = T} row m ≡ (r, memory_of zone' rest' es' log) in
+    subst P is ((λ i. ((done i).0, record (memory_of zone rest es log) { heap = (done i).1 }))
+    ∙ ap (λ w. (r, record { heap = state_of zone' rest'.slots es'; log = log; window = w })) (sym window))
 
 -- what a refused call gives
-pub silent-refused : {T : Type 0} (row : State → Answer T) (value : Memory) (zone : List Block) (rest : Rest) (es : List Entry) (last : OsErr) (code : OsErr)
-    → memory_of zone rest es last ≡ value → row (state_of zone rest.slots es) ≡ (Err code, state_of zone rest.slots es) → silent row value ≡ (Err code, value)
-silent-refused row value zone rest es last code is done = silent-done row value zone zone rest rest es es last (Err code) is done refl ∙ ap (λ (m : Memory). (Err code, m)) is
+pub silent-refused : {T : Type 0} (row : State → Answer T) (value : Memory) (zone : List Block) (rest : Rest) (es : List Entry) (log : Log) (code : OsErr)
+    → memory_of zone rest es log ≡ value → row (state_of zone rest.slots es) ≡ (Err code, state_of zone rest.slots es) → silent row value ≡ (Err code, value)
+silent-refused row value zone rest es log code is done = silent-done row value zone zone rest rest es es log (Err code) is done refl ∙ ap (λ (m : Memory). (Err code, m)) is
 
 -- all slots are used
 pub new_handle-none : (zone : List Block) (rest : Rest) (es : List Entry) (n : ℕ) → rest.all ≡ 64 * count is_masters zone → Agrees rest es → rest.unused ≡ 0 → new_handle n (state_of zone rest.slots es) ≡ (Err MEM_FULL, state_of zone rest.slots es)
 new_handle-none zone rest es n masters agrees unused =
-    ap (λ t. cond (is_some (phys n) && t) (given (names.Handle Plain) (put_in_free (Relocatable (length s.names) no_flags (replicate n 0)) s.zone) s) (refused MEM_FULL s)) full
+    ap (λ t. cond (is_some (phys n) && t) (given (names.Handle Plain) (room (put_in_place (fresh_block (length s.names) n)) nothing s.zone) s) (refused MEM_FULL s)) full
     ∙ either (is_some (phys n))
   where
     s : State
@@ -322,20 +329,27 @@ new_handle-none zone rest es n masters agrees unused =
         let m = masters-rename (handle_number es) (pointer_number es) zone in
         false_from_ne_true (nat_lt (used_slots s) (all_slots s)) (λ e. let less = (Decides-ltb (used_slots s) (all_slots s)).0 e in absurd (omega (arith, masters, unused)))
 
-    either : (t : Bool) → cond (t && false) (given (names.Handle Plain) (put_in_free (Relocatable (length s.names) no_flags (replicate n 0)) s.zone) s) (refused MEM_FULL s) ≡ refused MEM_FULL s
+    either : (t : Bool) → cond (t && false) (given (names.Handle Plain) (room (put_in_place (fresh_block (length s.names) n)) nothing s.zone) s) (refused MEM_FULL s) ≡ refused MEM_FULL s
     either true = refl
     either false = refl
 
 -- no block can be so large
 pub new_handle-large : (n : ℕ) (s : State) → phys n ≡ None → new_handle n s ≡ (Err MEM_FULL, s)
-new_handle-large n s none = ap (λ o. cond (is_some o && nat_lt (used_slots s) (all_slots s)) (given (names.Handle Plain) (put_in_free (Relocatable (length s.names) no_flags (replicate n 0)) s.zone) s) (refused MEM_FULL s)) none
+new_handle-large n s none = ap (λ o. cond (is_some o && nat_lt (used_slots s) (all_slots s)) (given (names.Handle Plain) (room (put_in_place (fresh_block (length s.names) n)) nothing s.zone) s) (refused MEM_FULL s)) none
+
+-- no block can be made
+pub new_handle-refused : (zone : List Block) (rest : Rest) (es : List Entry) (n : ℕ) → rest.all ≡ 64 * count is_masters zone → Agrees rest es → HasNoRoom n zone rest
+    → new_handle n (state_of zone rest.slots es) ≡ (Err MEM_FULL, state_of zone rest.slots es)
+new_handle-refused zone rest es n masters agrees (inl large) = new_handle-large n (state_of zone rest.slots es) large
+new_handle-refused zone rest es n masters agrees (inr (inl used)) = new_handle-none zone rest es n masters agrees used
+new_handle-refused zone rest es n masters agrees (inr (inr full)) = new_handle-full zone rest.slots es n full
 
 -- the answer of Put, where its bytes were written
-pub put-done : (value : Memory) (zone zone' : List Block) (rest rest' : Rest) (es : List Entry) (last : OsErr) (handle : Option ℕ) (h i : ℕ) (x : List ℕ) (s : Spot) → memory_of zone rest es last ≡ value
+pub put-done : (value : Memory) (zone zone' : List Block) (rest rest' : Rest) (es : List Entry) (log : Log) (handle : Option ℕ) (h i : ℕ) (x : List ℕ) (s : Spot) → memory_of zone rest es log ≡ value
     → look_up handle (state_of zone rest.slots es) ≡ Ok (held h (rename_spot (handle_number es) (pointer_number es) s))
-    → IsRest rest rest' → i + length x ≤ length (content_of s.here) → zone' ≡ s.below ++ with_content (written i x (content_of s.here)) s.here ∷ s.above → silent (put handle i x) value ≡ (Ok tt, memory_of zone' rest' es last)
-put-done value zone zone' rest rest' es last handle h i x s is found now fits done =
-    silent-done (put handle i x) value zone zone' rest rest' es es last (Ok tt) is
+    → IsRest rest rest' → i + length x ≤ length (content_of s.here) → zone' ≡ s.below ++ with_content (written i x (content_of s.here)) s.here ∷ s.above → silent (put handle i x) value ≡ (Ok tt, memory_of zone' rest' es log)
+put-done value zone zone' rest rest' es log handle h i x s is found now fits done =
+    silent-done (put handle i x) value zone zone' rest rest' es es log (Ok tt) is
     (ap (λ r. for_found r state (λ k. written_at i x k.at state)) found
     ∙ ap (λ t. cond t (Ok tt, record state { zone = rename f g s.below ++ with_content (written i x (content_of (rename_block f g s.here))) (rename_block f g s.here) ∷ rename f g s.above }) (refused PROFILE state)) (ap (λ c. nat_le (i + length x) (length c)) (content_of-rename f g s.here) ∙ test)
     ∙ ap (λ z. (Ok tt, record state { zone = z })) (ap (λ b. rename f g s.below ++ b ∷ rename f g s.above) (with_content-rename f g _ s.here ∙ ap (λ c. rename_block f g (with_content (written i x c) s.here)) (content_of-rename f g s.here)) ∙ sym (map-append (rename_block f g) s.below (with_content (written i x (content_of s.here)) s.here ∷ s.above)) ∙ ap (rename f g) (sym done))
@@ -355,11 +369,11 @@ put-done value zone zone' rest rest' es last handle h i x s is found now fits do
     test = grind (arith, nat_tests)
 
 -- and where they don't fit
-pub put-outside : (value : Memory) (zone : List Block) (rest : Rest) (es : List Entry) (last : OsErr) (handle : Option ℕ) (h i : ℕ) (x : List ℕ) (s : Spot) → memory_of zone rest es last ≡ value
+pub put-outside : (value : Memory) (zone : List Block) (rest : Rest) (es : List Entry) (log : Log) (handle : Option ℕ) (h i : ℕ) (x : List ℕ) (s : Spot) → memory_of zone rest es log ≡ value
     → look_up handle (state_of zone rest.slots es) ≡ Ok (held h (rename_spot (handle_number es) (pointer_number es) s))
     → length (content_of s.here) < i + length x → silent (put handle i x) value ≡ (Err PROFILE, value)
-put-outside value zone rest es last handle h i x s is found past =
-    silent-refused (put handle i x) value zone rest es last PROFILE is
+put-outside value zone rest es log handle h i x s is found past =
+    silent-refused (put handle i x) value zone rest es log PROFILE is
     (ap (λ r. for_found r state (λ k. written_at i x k.at state)) found
     ∙ ap (λ t. cond t (Ok tt, record state { zone = rename f g s.below ++ with_content (written i x (content_of (rename_block f g s.here))) (rename_block f g s.here) ∷ rename f g s.above }) (refused PROFILE state)) (ap (λ c. nat_le (i + length x) (length c)) (content_of-rename f g s.here) ∙ test))
   where

@@ -1,11 +1,15 @@
-use Rattle.std.specs.Prelude.{ℕ, ◌+◌, ◌&&◌, Option, Some, None, Result, Ok, Err, List, [], ◌∷◌, ◌++◌, length, replicate, slice_get, slice_set, is_some, nat_le, nat_lt, if◌then◌else◌}
+use Rattle.std.specs.Prelude.{ℕ, ◌+◌, ◌-◌, ◌&&◌, Bool, true, false, Option, Some, None, Result, Ok, Err, List, [], ◌∷◌, ◌++◌, length, replicate, slice_get, slice_set, is_some, unwrap_or, nat_le, nat_lt, if◌then◌else◌}
 use Rattle.std.specs.Option.{option_map, ok_or}
 use Rattle.mac_words.specs.Size.{phys}
 use Rattle.mac_words.specs.declared.code.OsErr.{OsErr}
-use Rattle.mac_words.specs.declared.code.TheConstants.OsErr.{NO_ERR, NIL_HANDLE, WRONG_ZONE, MEM_FULL, PROFILE}
-use Rattle.block_store.specs.Block.{Block, Relocatable, size, sizes, free_sum, is_relocatable, is_room, no_flags, content_of, with_content, written, tidy}
-use Rattle.block_store.specs.Room.{Spot, spot, filled}
-use Rattle.block_store.specs.Grow.{freed}
+use Rattle.mac_words.specs.declared.code.TheConstants.OsErr.{NO_ERR, NIL_HANDLE, WRONG_ZONE, MEM_FULL, LOCKED, PROFILE}
+use Rattle.block_store.specs.declared.flags.Flags.{Flags}
+use Rattle.block_store.specs.Block.{Block, Free, Fixed, Masters, Relocatable, sizes, free_sum, is_mover, is_relocatable, no_flags, content_of, with_content, written, tidy}
+use Rattle.block_store.specs.Run.{change_run, has, high}
+use Rattle.block_store.specs.Room.{Spot, spot, put_in_place, room}
+use Rattle.block_store.specs.Grow.{freed, grow}
+use Rattle.block_store.specs.Compact.{largest_free, largest_run, compacted}
+use Rattle.block_store.specs.Rest.{counted}
 use Rattle.heap_calls.specs.State.{Role, Plain, Resource, SystemResource, Name, Handle, Pointer, Disposed, State, Memory, used_slots, all_slots}
 
 -- The calls of the Memory Manager. Inside Macintosh: Memory, chapter 2, "Memory Manager Routines".
@@ -64,15 +68,15 @@ abbrev pub given : Name → Option (List Block) → State → Answer ℕ
 given name None s = refused MEM_FULL s
 given name (Some zone) s = (Ok (length s.names), record { zone = zone; names = s.names ++ name ∷ [] })
 
--- the zone with a new block in the lowest Free block that is large enough
-abbrev pub put_in_free : Block → List Block → Option (List Block)
-put_in_free new zone = option_map (filled new) (spot (is_room (size new)) zone)
+-- no block is spared
+abbrev pub nothing : Block → Bool
+nothing b = false
 
--- NewHandle: a new handle with n bytes 0, where a slot is unused and a Free block is large enough
+-- NewHandle: a new handle with n bytes 0, where a slot is unused and there is room for the block
 abbrev pub new_handle : ℕ → State → Answer ℕ
 new_handle n s =
     if is_some (phys n) && nat_lt (used_slots s) (all_slots s)
-    then given (Handle Plain) (put_in_free (Relocatable (length s.names) no_flags (replicate n 0)) s.zone) s
+    then given (Handle Plain) (room (put_in_place (Relocatable (length s.names) no_flags (replicate n 0))) nothing s.zone) s
     else refused MEM_FULL s
 
 -- the handle is disposed of, and its block, if it has one, is Free
@@ -115,6 +119,54 @@ written_at i x at s =
 abbrev pub put : Option ℕ → ℕ → List ℕ → State → Answer (Unit {0})
 put handle i x s = on_block handle s (λ held. written_at i x held.at s)
 
+-- the zone that a call leaves, or no room
+abbrev pub rebuilt : Option (List Block) → State → Answer (Unit {0})
+rebuilt None s = refused MEM_FULL s
+rebuilt (Some zone) s = (Ok tt, record s { zone = zone })
+
+-- SetHandleSize: the block grows or is cut, and isn't itself emptied for it
+abbrev pub set_handle_size : Option ℕ → ℕ → State → Answer (Unit {0})
+set_handle_size handle n s =
+    on_block handle s (λ held. if is_some (phys n) then rebuilt (grow (is_relocatable held.number) (is_relocatable held.number) n s.zone) s else refused MEM_FULL s)
+
+-- a block with its flags changed
+abbrev pub flagged : (Flags → Flags) → Block → Block
+flagged change (Free n) = Free n
+flagged change (Fixed id content) = Fixed id content
+flagged change Masters = Masters
+flagged change (Relocatable id flags content) = Relocatable id (change flags) content
+
+-- a call that changes a block's flags
+abbrev pub change_flags : (Flags → Flags) → Option ℕ → State → Answer (Unit {0})
+change_flags change handle s = on_block handle s (λ held. (Ok tt, record s { zone = held.at.below ++ flagged change held.at.here ∷ held.at.above }))
+
+-- HLock and HUnlock
+abbrev pub h_lock : Option ℕ → State → Answer (Unit {0})
+h_lock handle s = change_flags (λ f. record f { locked = true }) handle s
+
+abbrev pub h_unlock : Option ℕ → State → Answer (Unit {0})
+h_unlock handle s = change_flags (λ f. record f { locked = false }) handle s
+
+-- the zone with the block of a handle moved to the top of its run
+abbrev pub hoisted : ℕ → List Block → List Block
+hoisted h zone = unwrap_or (option_map tidy (change_run (has (is_relocatable h)) (high (is_relocatable h)) zone)) zone
+
+-- MoveHHi
+abbrev pub move_hhi : Option ℕ → State → Answer (Unit {0})
+move_hhi handle s = on_block handle s (λ held. if is_mover held.at.here then (Ok tt, record s { zone = hoisted held.number s.zone }) else refused LOCKED s)
+
+-- HLockHi: as MoveHHi, and then it is locked
+abbrev pub hlock_hi : Option ℕ → State → Answer (Unit {0})
+hlock_hi handle s = for_found (move_hhi handle s).0 s (λ _. h_lock handle (move_hhi handle s).1)
+
+-- MaxBlock: the most that one block can have once all runs are settled
+abbrev pub max_block : State → Answer ℕ
+max_block s = (Ok (largest_run s.zone - 16), s)
+
+-- CompactMem: runs are settled until a block of n bytes has room; the most that one block can then have
+abbrev pub compact_mem : ℕ → State → Answer ℕ
+compact_mem n s = (Ok (largest_free (compacted (phys n) s.zone) - 16), record s { zone = compacted (phys n) s.zone })
+
 -- the code of a reply
 abbrev pub code_of : {T : Type 0} → Result T OsErr → OsErr
 code_of (Ok value) = NO_ERR
@@ -122,8 +174,12 @@ code_of (Err code) = code
 
 -- a call whose code MemError tells afterwards. Inside Macintosh: Memory, chapter 2, "Result Codes"
 abbrev pub noting : {T : Type 0} → (State → Answer T) → Memory → Result T OsErr × Memory
-noting call m = ((call m.heap).0, record m { heap = (call m.heap).1; last = code_of (call m.heap).0 })
+noting call m = ((call m.heap).0, record m { heap = (call m.heap).1; log = record m.log { code = code_of (call m.heap).0 } })
 
 -- a call whose code it doesn't tell
 abbrev pub silent : {T : Type 0} → (State → Answer T) → Memory → Result T OsErr × Memory
 silent call m = ((call m.heap).0, record m { heap = (call m.heap).1 })
+
+-- a call that looks for room so many times
+abbrev pub searching : {T : Type 0} → ℕ → Result T OsErr × Memory → Result T OsErr × Memory
+searching n answer = (answer.0, record answer.1 { log = record answer.1.log { searches = counted answer.1.log.searches n } })

@@ -1,10 +1,14 @@
-use Rattle.std.specs.Prelude.{◌≡◌, ◌≤◌, ℕ, ◌+◌, Option, Some, None, Result, Ok, Err, List, length, slice_get}
+use Rattle.std.specs.Prelude.{◌≡◌, ◌≤◌, ℕ, ◌+◌, Bool, false, not, Option, Some, None, Result, Ok, Err, List, length, slice_get}
 use Rattle.std.specs.Borrow.{Bor}
 use Rattle.mac_words.specs.declared.code.OsErr.{OsErr}
 use Rattle.mac_words.specs.declared.code.TheConstants.OsErr.{NO_ERR, NIL_HANDLE, WRONG_ZONE}
 use Rattle.block_store.specs.Block.{Block, sizes, content_of}
 use Rattle.block_store.specs.Slot.{Slot}
+use Rattle.block_store.specs.declared.flags.Flags.{Flags}
+use Rattle.block_store.specs.declared.named.Seen.{Seen}
+use Rattle.block_store.specs.declared.named.Seen.TheVariants as see
 use Rattle.block_store.specs.Room.{Spot, spot_at, rename_spot}
+use Rattle.heap_calls.specs.State.{Memory}
 use Rattle.heap_calls.specs.Answer.{look_up}
 use Rattle.heap_calls.specs.Numbered.{handle_number, pointer_number, state_of}
 use Rattle.heap_calls.specs.declared.refusal.Refusal.{Refusal}
@@ -24,6 +28,10 @@ abbrev pub IsShown : {S : Type 0} → Result (List ℕ) OsErr × S → Result (B
 IsShown answer (Ok bytes) after = answer ≡ (Ok bytes.now, after)
 IsShown answer (Err (Code code)) after = answer ≡ (Err code, after)
 IsShown answer (Err HostMemory) after = Unit {0}
+
+-- all but the blocks of the zone is what it was
+abbrev pub KeepsNames : Memory → Memory → Type 0
+KeepsNames old new = new ≡ record old { heap = record old.heap { zone = new.heap.zone } }
 
 -- the code of the last call after one that gave this; where the host had no memory it stays
 abbrev pub last_after : {T : Type 0} → Result T Refusal → OsErr → OsErr
@@ -54,3 +62,19 @@ FindsBlock zone slots es handle (Ok place) =
     × (spot_at place zone ≡ Some s) × (sizes s.below ≡ place) × (place + 16 + length (content_of s.here) ≤ 134217728)
 FindsBlock zone slots es handle (Err (Code code)) = look_up handle (state_of zone slots es) ≡ Err code
 FindsBlock zone slots es handle (Err HostMemory) = ⊥
+
+-- the flags of a block that was looked at, where it is a relocatable one
+abbrev pub seen_flags : Option Seen → Option Flags
+seen_flags None = None
+seen_flags (Some (see.Free n)) = None
+seen_flags (Some (see.Fixed n)) = None
+seen_flags (Some see.Masters) = None
+seen_flags (Some (see.Relocatable slot flags n)) = Some flags
+
+-- a block that was looked at, if there was one, is an unlocked relocatable one
+abbrev pub seen_mover : Option Seen → Bool
+seen_mover None = false
+seen_mover (Some (see.Free n)) = false
+seen_mover (Some (see.Fixed n)) = false
+seen_mover (Some see.Masters) = false
+seen_mover (Some (see.Relocatable slot flags n)) = not flags.locked

@@ -1,8 +1,8 @@
 use Rattle.std.specs.Prelude.{◌≡◌, ℕ, ◌==◌, Some, Ok, List, [], ◌∷◌, replicate, if◌then◌else◌}
-use Rattle.block_store.specs.Block.{content_of, written}
+use Rattle.block_store.specs.Block.{content_of, written, resized_content}
 use Rattle.heap_calls.specs.State.{State}
 use Rattle.heap_calls.specs.Answer.{Held, look_up}
-use Rattle.heap_calls.specs.Asked.{Asked, NewHandle, Put, Told, Done, Given}
+use Rattle.heap_calls.specs.Asked.{Asked, NewHandle, SetHandleSize, Put, Told, Done, Given}
 
 -- The bytes last put into each handle, told from the history of calls alone: no block is in it.
 
@@ -14,6 +14,7 @@ pub record Entry : Type 0 where
 -- the bytes last put into each handle, after one call more
 abbrev pub put_by : Asked → Told → (ℕ → List ℕ) → ℕ → List ℕ
 put_by (NewHandle n) (Given k) bytes h = if k == h then replicate n 0 else bytes h
+put_by (SetHandleSize (Some k) n) Done bytes h = if k == h then resized_content n (bytes k) else bytes h
 put_by (Put (Some k) from x) Done bytes h = if k == h then written from x (bytes k) else bytes h
 put_by asked told bytes h = bytes h
 

@@ -2,5 +2,15 @@ pub mod State
 pub mod Answer
 pub mod Asked
 pub mod LastPut
+pub mod Locked
 pub mod Given
 pub mod Numbered
+pub mod Search
+pub mod NewBlock
+pub mod Growing
+pub mod GrowingInPlace
+pub mod Slots
+pub mod Pointers
+pub mod Purging
+pub mod Copying
+pub mod Searches

@@ -2,7 +2,7 @@ use Rattle.std.specs.Prelude.{◌≡◌, ℕ, ◌+◌, ◌^◌, ◌==◌, Bool, 
 use Rattle.block_store.specs.Block.{Block, rename}
 use Rattle.block_store.specs.Slot.{Slot, NoSlot, Unused, Used}
 use Rattle.block_store.specs.Rest.{Rest}
-use Rattle.mac_words.specs.declared.code.OsErr.{OsErr}
+use Rattle.heap_calls.specs.declared.log.Log.{Log}
 use Rattle.heap_calls.specs.State.{Role, Plain, Resource, Name, State, Memory, uses_slot}
 use Rattle.heap_calls.specs.State as names
 use Rattle.heap_calls.specs.declared.name.Entry.{Entry}
@@ -55,9 +55,9 @@ pointer_number entries place = number_from 0 (points_to place) entries
 abbrev pub state_of : List Block → (ℕ → Slot) → List Entry → State
 state_of zone slots entries = record { zone = rename (handle_number entries) (pointer_number entries) zone; names = map (name_of slots) entries }
 
--- the same with the code of its last call and where it lies
-abbrev pub memory_of : List Block → Rest → List Entry → OsErr → Memory
-memory_of zone rest entries last = record { heap = state_of zone rest.slots entries; last = last; window = rest.window }
+-- the same with what its calls so far came to, and where it lies
+abbrev pub memory_of : List Block → Rest → List Entry → Log → Memory
+memory_of zone rest entries log = record { heap = state_of zone rest.slots entries; log = log; window = rest.window }
 
 -- the names and the store agree
 pub record Agrees (rest : Rest) (entries : List Entry) : Type 0 where

@@ -1,7 +1,7 @@
 use Rattle.std.specs.Prelude.{ℕ, ◌*◌, Bool, true, false, List, [], count_by}
 use Rattle.block_store.specs.Block.{Block, count, fresh, is_masters}
 use Rattle.block_store.specs.Rest.{Window}
-use Rattle.mac_words.specs.declared.code.OsErr.{OsErr}
+use Rattle.heap_calls.specs.declared.log.Log.{Log}
 use Rattle.mac_words.specs.declared.code.TheConstants.OsErr.{NO_ERR}
 
 -- A heap: its zone, and its handles and pointers by numbers. Inside Macintosh: Memory, chapter 1, "Heap Management".
@@ -23,10 +23,10 @@ pub record State : Type 0 where
   pub zone : List Block
   pub names : List Name
 
--- a heap with the code of its last call, and where it lies
+-- a heap with what its calls so far came to, and where it lies
 pub record Memory : Type 0 where
   pub heap : State
-  pub last : OsErr
+  pub log : Log
   pub window : Window
 
 -- the heap of a fresh zone of n bytes
@@ -35,7 +35,7 @@ fresh_heap n = record { zone = fresh n; names = [] }
 
 -- a fresh zone's heap before its first call
 abbrev pub fresh_memory : ℕ → Window → Memory
-fresh_memory n window = record { heap = fresh_heap n; last = NO_ERR; window = window }
+fresh_memory n window = record { heap = fresh_heap n; log = record { code = NO_ERR; searches = 0 }; window = window }
 
 -- a handle that wasn't disposed of
 abbrev pub uses_slot : Name → Bool

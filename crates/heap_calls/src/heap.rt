@@ -1,16 +1,18 @@
 //! The heap of an application.
 
-ghost use Rattle.std.specs.Prelude.{◌≡◌, ◌≢◌};
+ghost use Rattle.std.specs.Prelude.{◌≡◌, ◌≢◌, ◌⊎◌, IsTrue};
 ghost use Rattle.block_store.specs.Block.{fresh, sizes};
-ghost use Rattle.heap_calls.specs.Given.{IsAnswer, IsShown, FindsBlock, last_after};
+ghost use Rattle.heap_calls.specs.Given.{IsAnswer, IsShown, KeepsNames, FindsBlock, last_after};
 ghost use Rattle.heap_calls.specs.Numbered.{Agrees};
 ghost use Rattle.heap_calls.specs.State.{fresh_memory};
 ghost use Rattle.heap_calls.specs.Answer.{new_handle, dispose_handle, get_handle_size, free_mem, put, show, place_of, noting, silent};
 
+use crate::log::Log;
 use crate::name::{Entry, slot_of};
+use crate::new_block::add_block;
 use crate::refusal::Refusal;
-use block_store::{BlockStore, Named};
-use mac_words::{OsErr, phys};
+use block_store::BlockStore;
+use mac_words::OsErr;
 use std::alloc::{AllocError, Global};
 use std::marker::Model;
 
@@ -20,9 +22,9 @@ use std::marker::Model;
 /// *Inside Macintosh: Memory*, chapter 1, "Heap Management".
 #[derive(Drop)]
 pub struct Heap<S: BlockStore> {
-    store: S,
-    names: Vec<Entry>,
-    last: OsErr,
+    pub(crate) store: S,
+    pub(crate) names: Vec<Entry>,
+    pub(crate) log: Log,
 }
 
 impl<S: BlockStore> Model for Heap<S> {
@@ -32,7 +34,7 @@ impl<S: BlockStore> Model for Heap<S> {
 
     ghost use Rattle.heap_calls.specs.Numbered.{memory_of, Agrees};
 
-    ghost view = { λ a. memory_of (S.zone a.store) (S.rest a.store) a.names.items a.last };
+    ghost view = { λ a. memory_of (S.zone a.store) (S.rest a.store) a.names.items a.log };
 
     ghost invariant = { λ a. Agrees (S.rest a.store) a.names.items };
 }
@@ -48,15 +50,20 @@ impl<S: BlockStore> Heap<S> {
         Heap {
             store,
             names: Vec::new(alloc),
-            last: OsErr::NO_ERR,
+            log: Log {
+                code: OsErr::NO_ERR,
+                searches: 0,
+            },
         }
     }
 
-    /// `NewHandle`: a new handle with `size` bytes 0. -108 where no Free block is large enough or all slots
-    /// are used; a want of host memory leaves the heap as it was.
+    /// `NewHandle`: a new handle with `size` bytes 0. -108 where there is no room for its block or all slots
+    /// are used. A want of host memory leaves all but the zone as it was, and the zone too over a store that
+    /// takes no host memory.
     pub fn new_handle(&mut self, size: u32) -> Result<usize, Refusal>
         ensures answer { IsAnswer (noting (new_handle size) self.old) result self.new }
-        ensures host { result ≡ Err Refusal.HostMemory → self.new ≡ self.old }
+        ensures host { result ≡ Err Refusal.HostMemory → IsTrue S.TAKES_HOST ⊎ (self.new ≡ self.old) }
+        ensures kept { result ≡ Err Refusal.HostMemory → KeepsNames self.old self.new }
     {
         let answer = self.make_handle(size);
         self.note(answer)
@@ -84,8 +91,16 @@ impl<S: BlockStore> Heap<S> {
     pub fn free_mem(&mut self) -> u32
         ensures { noting free_mem self.old ≡ (Ok result, self.new) }
     {
-        self.last = OsErr::NO_ERR;
+        self.log.code = OsErr::NO_ERR;
         self.store.free_bytes()
+    }
+
+    /// `MemError`: the code of the last call that has one.
+    pub fn mem_error(&self) -> OsErr
+        ensures { result ≡ self.now.log.code }
+    {
+        let last = self.log;
+        last.code
     }
 
     /// Writes bytes into a handle's block from an offset on; -30001 where they end past its content.
@@ -123,23 +138,13 @@ impl<S: BlockStore> Heap<S> {
     /// A new handle.
     fn make_handle(&mut self, size: u32) -> Result<usize, Refusal>
         ensures answer { IsAnswer (silent (new_handle size) self.old) result self.new }
-        ensures host { result ≡ Err Refusal.HostMemory → self.new ≡ self.old }
+        ensures host { result ≡ Err Refusal.HostMemory → IsTrue S.TAKES_HOST ⊎ (self.new ≡ self.old) }
+        ensures kept { result ≡ Err Refusal.HostMemory → KeepsNames self.old self.new }
     {
-        let Some(bytes) = phys(size) else {
-            return Err(Refusal::Code(OsErr::MEM_FULL));
-        };
-        let Some(place) = self.store.find_free(bytes, 0, Named::Nothing) else {
-            return Err(Refusal::Code(OsErr::MEM_FULL));
-        };
         self.names.reserve(1)?;
-        let Some(slot) = self.store.take_slot() else {
+        let Some(slot) = add_block(&mut self.store, size)? else {
             return Err(Refusal::Code(OsErr::MEM_FULL));
         };
-        let carved = self.store.carve(place, slot, size);
-        if carved.is_err() {
-            self.store.give_slot(slot);
-            return Err(Refusal::HostMemory);
-        }
         let number = self.names.len();
         self.names.push_reserved(Entry::Handle(slot));
         Ok(number)
@@ -167,13 +172,13 @@ impl<S: BlockStore> Heap<S> {
     }
 
     /// Keeps the code of a call, and passes its answer on.
-    fn note<T>(&mut self, answer: Result<T, Refusal>) -> Result<T, Refusal>
+    pub(crate) fn note<T>(&mut self, answer: Result<T, Refusal>) -> Result<T, Refusal>
         ensures answer { result ≡ answer }
-        ensures noted { self.new ≡ record self.old { last = last_after answer self.old.last } }
+        ensures noted { self.new ≡ record self.old { log = record self.old.log { code = last_after answer self.old.log.code } } }
     {
         match &answer {
-            Ok(_) => self.last = OsErr::NO_ERR,
-            Err(Refusal::Code(code)) => self.last = *code,
+            Ok(_) => self.log.code = OsErr::NO_ERR,
+            Err(Refusal::Code(code)) => self.log.code = *code,
             Err(Refusal::HostMemory) => {}
         }
         answer
@@ -181,7 +186,7 @@ impl<S: BlockStore> Heap<S> {
 }
 
 /// The store's place of the block of the handle that a name is bound to.
-fn find_block<S: BlockStore>(
+pub(crate) fn find_block<S: BlockStore>(
     store: &S,
     names: &[Entry],
     handle: Option<usize>,

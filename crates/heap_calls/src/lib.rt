@@ -2,11 +2,20 @@
 //! definition answers it.
 #![tactic(auto)]
 
+mod compaction;
+mod growing;
+mod growing_in_place;
 mod heap;
+mod locking;
+mod log;
 mod name;
+mod new_block;
 mod refusal;
+mod search;
+mod sizing;
 
 pub use heap::Heap;
+pub use log::Log;
 pub use name::Entry;
 pub use refusal::Refusal;
 

@@ -21,6 +21,10 @@ impl OsErr {
     pub const NIL_HANDLE: OsErr = OsErr(-109);
     /// `memWZErr`: the handle was disposed of, or the name is of the other kind.
     pub const WRONG_ZONE: OsErr = OsErr(-111);
+    /// `memPurErr`: the block is locked, so that its handle can't be emptied.
+    pub const PURGED: OsErr = OsErr(-112);
+    /// `memLockedErr`: the block is locked, so that it can't be moved.
+    pub const LOCKED: OsErr = OsErr(-117);
     /// `mapReadErr`: the bytes spell no fork.
     pub const MAP_READ: OsErr = OsErr(-199);
     /// `profileErr`, this project's own: what the manuals leave undefined.

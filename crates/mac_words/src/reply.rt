@@ -32,6 +32,23 @@ impl Reply {
         }
     }
 
+    /// Code 0 and the number of another code.
+    pub fn telling(code: OsErr) -> Reply
+        ensures code { result.code ≡ OsErr.NO_ERR }
+        ensures numbers { result.numbers.items ≡ code.0 ∷ [] }
+        ensures ty { result.ty ≡ None }
+        ensures name { result.name ≡ None }
+    {
+        let mut numbers = ArrayVec::new();
+        numbers.push(code.number() as i64);
+        Reply {
+            code: OsErr::NO_ERR,
+            numbers,
+            ty: None,
+            name: None,
+        }
+    }
+
     /// Code 0 and a number.
     pub fn number(number: u32) -> Reply
         ensures code { result.code ≡ OsErr.NO_ERR }

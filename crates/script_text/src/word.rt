@@ -16,7 +16,15 @@ pub enum Word {
     NewHandle,
     DisposeHandle,
     GetHandleSize,
+    SetHandleSize,
+    HLock,
+    HUnlock,
+    MoveHHi,
+    HLockHi,
     FreeMem,
+    MaxBlock,
+    CompactMem,
+    MemError,
     Put,
     Show,
     Where,
@@ -29,7 +37,15 @@ macro_rules! calls {
             NewHandle = Heap HeapCall two(h, size);
             DisposeHandle = Heap HeapCall one(h);
             GetHandleSize = Heap HeapCall one(h);
+            SetHandleSize = Heap HeapCall two(h, size);
+            HLock = Heap HeapCall one(h);
+            HUnlock = Heap HeapCall one(h);
+            MoveHHi = Heap HeapCall one(h);
+            HLockHi = Heap HeapCall one(h);
             FreeMem = Heap HeapCall none();
+            MaxBlock = Heap HeapCall none();
+            CompactMem = Heap HeapCall one(size);
+            MemError = Heap HeapCall none();
             Put = Heap HeapCall three(h, offset, bytes);
             Show = Heap HeapCall one(h);
             Where = Heap HeapCall one(h);
@@ -73,7 +89,7 @@ macro_rules! word_of_call {
     };
 }
 
-static WORDS: [Word; 7] = calls!(words);
+static WORDS: [Word; 15] = calls!(words);
 
 impl Word {
     /// The word of a call.

@@ -22,6 +22,7 @@ invariant_of-self c =
       no_block = none-set (slots_of slots) (slots_of (slice_set slots i (slot_entry.Used false))) i (Used false) bs (slots_of-set slots i (slot_entry.Used false) found.0) (c.args.self.now.no_block i (ap is_used found.1)) c.args.self.now.no_block;
       once = c.args.self.now.once;
       tidied = c.args.self.now.tidied;
+      aligned = c.args.self.now.aligned;
     }
 
 pub overflow_cast-result : goal.overflow_cast-result

@@ -58,7 +58,7 @@ returns-clause-answer g c =
     let all : rest'.all ≡ rest.all = gave.all ∙ released.all in
     let zone' = g.S.BlockStore.zone c.give_slot.new.self in
     let freed_zone : zone' ≡ tidy (freed (is_relocatable f.slot) zone) = c.give_slot.ensures.zone ∙ c.release.ensures.zone in
-    silent-done (dispose_handle c.args.handle) c.args.self.now zone zone' rest rest' es (slice_set es f.number Disposed) a.last (Ok tt) c.self.view_is
+    silent-done (dispose_handle c.args.handle) c.args.self.now zone zone' rest rest' es (slice_set es f.number Disposed) a.log (Ok tt) c.self.view_is
     (dispose_handle-done zone rest rest' es f.number f.slot c.self.invariant at (omega arith) now one all c.args.handle is.0
     ∙ ap (λ (z : List Block). (Ok tt, state_of z rest'.slots (slice_set es f.number Disposed))) (sym freed_zone))
     (gave.window ∙ released.window)

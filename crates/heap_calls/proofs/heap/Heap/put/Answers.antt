@@ -12,7 +12,7 @@ returns-in_err-place-clause-answer g c =
     let p = err_from_is_err_and c.from_residual.result c.from_residual.ensures.1 in
     let a = c.self.inside in
     let found = found_in (g.S.BlockStore.zone a.store) (g.S.BlockStore.rest a.store).slots a.names.items _ c.args.handle (Err c.in_err-place.field-0.0) c.deref.ensures.value c.in_err-place.ensures in
-    rw (p.1, p.2) (refused_for c.in_err-place.field-0.0 (g.S.BlockStore.zone a.store) (g.S.BlockStore.rest a.store) a.names.items a.last c.args.handle c.args.self.now c.self.view_is found (λ s k. written_at c.args.from c.args.bytes.now k.at s))
+    rw (p.1, p.2) (refused_for c.in_err-place.field-0.0 (g.S.BlockStore.zone a.store) (g.S.BlockStore.rest a.store) a.names.items a.log c.args.handle c.args.self.now c.self.view_is found (λ s k. written_at c.args.from c.args.bytes.now k.at s))
 
 pub returns-then-bytes-len-clause-answer : goal.returns-then-bytes-len-clause-answer
 returns-then-bytes-len-clause-answer g c =
@@ -21,7 +21,7 @@ returns-then-bytes-len-clause-answer g c =
     let bytes = at_place c.in_ok-place.place (g.S.BlockStore.zone a.store) found.1 (λ s. c.bytes-len.result.now ≡ content_of s.here) found.3 c.bytes-len.ensures in
     let n : length c.bytes-len.result.now ≡ length (content_of found.1.here) = ap length bytes in
     let past : length (content_of found.1.here) < c.args.from + length c.args.bytes.now = elim c.then-bytes-len.branch [ then-bytes-len-via-then-bytes-len w ↦ omega arith | then-bytes-len-via-else-bytes-len+then-from-len w ↦ omega arith ] in
-    put-outside c.args.self.now (g.S.BlockStore.zone a.store) (g.S.BlockStore.rest a.store) a.names.items a.last c.args.handle found.0 c.args.from c.args.bytes.now found.1 c.self.view_is found.2 past
+    put-outside c.args.self.now (g.S.BlockStore.zone a.store) (g.S.BlockStore.rest a.store) a.names.items a.log c.args.handle found.0 c.args.from c.args.bytes.now found.1 c.self.view_is found.2 past
 
 pub invariant_of-self : goal.invariant_of-self
 invariant_of-self g c =
@@ -35,5 +35,5 @@ returns-clause-answer g c =
     let done = at_place c.in_ok-place.place (g.S.BlockStore.zone a.store) found.1 (λ s. g.S.BlockStore.zone c.write.new.self ≡ s.below ++ with_content (written c.args.from c.args.bytes.now (content_of s.here)) s.here ∷ s.above) found.3 c.write.ensures.zone in
     let bytes = at_place c.in_ok-place.place (g.S.BlockStore.zone a.store) found.1 (λ s. c.bytes-len.result.now ≡ content_of s.here) found.3 c.bytes-len.ensures in
     let n : length c.bytes-len.result.now ≡ length (content_of found.1.here) = ap length bytes in
-    put-done c.args.self.now (g.S.BlockStore.zone a.store) (g.S.BlockStore.zone c.write.new.self) (g.S.BlockStore.rest a.store) (g.S.BlockStore.rest c.write.new.self) a.names.items a.last c.args.handle found.0 c.args.from c.args.bytes.now found.1 c.self.view_is found.2 c.write.ensures.rest
+    put-done c.args.self.now (g.S.BlockStore.zone a.store) (g.S.BlockStore.zone c.write.new.self) (g.S.BlockStore.rest a.store) (g.S.BlockStore.rest c.write.new.self) a.names.items a.log c.args.handle found.0 c.args.from c.args.bytes.now found.1 c.self.view_is found.2 c.write.ensures.rest
     (omega arith) done

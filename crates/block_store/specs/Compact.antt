@@ -1,0 +1,94 @@
+use Rattle.std.specs.Prelude.{◌≡◌, ℕ, ◌+◌, ◌≤◌, ◌%◌, zero, suc, Bool, false, Option, Some, None, List, [], ◌∷◌, ◌++◌, length, max, if◌then◌else◌}
+use native.Mathlib.Nat.{ℕ_set}
+use Rattle.std.specs.Option.{option_map}
+use Rattle.block_store.specs.Block.{Block, sizes, free_of, free_sum, is_room, is_relocatable}
+use Rattle.block_store.specs.Run.{Stretch, RunSpot, segments, runs, joined, run_raised, run_at, has, settle}
+use Rattle.block_store.specs.Room.{spot}
+use Rattle.block_store.specs.Rest.{falling}
+
+-- The largest that can be had, and compaction. Inside Macintosh: Memory, chapter 2, "Freeing Memory": MaxBlock and
+-- CompactMem.
+
+-- the largest of what each comes to; 0 where there is none
+abbrev pub largest : {A : Type 0} → (A → ℕ) → List A → ℕ
+largest of [] = 0
+largest of (x ∷ xs) = max (of x) (largest of xs)
+
+-- the bytes of the largest Free block
+abbrev pub largest_free : List Block → ℕ
+largest_free zone = largest free_of zone
+
+-- the largest free sum of a run
+abbrev pub largest_run : List Block → ℕ
+largest_run zone = largest free_sum (runs zone)
+
+-- what follows a run
+abbrev pub beyond : List Stretch → List Block
+beyond [] = []
+beyond (p ∷ parts) = p.barrier ∷ joined p.run parts
+
+-- the run of an index, counted from 0 at a run with parts above it
+abbrev pub nth_run_of : ℕ → List Block → List Stretch → Option RunSpot
+nth_run_of zero run parts = Some (record { below = []; run = run; above = beyond parts })
+nth_run_of (suc i) run [] = None
+nth_run_of (suc i) run (p ∷ parts) = option_map (run_raised (run ++ p.barrier ∷ [])) (nth_run_of i p.run parts)
+
+-- the run of an index, counted from 0 at the lowest
+abbrev pub nth_run : ℕ → List Block → Option RunSpot
+nth_run i zone = nth_run_of i (segments zone).first (segments zone).rest
+
+-- the place of the run of an index, if there is one
+abbrev pub FindsRun : ℕ → List Block → Option ℕ → Type 0
+FindsRun i zone None = nth_run i zone ≡ None
+FindsRun i zone (Some place) = (r : RunSpot) × (nth_run i zone ≡ Some r) × (run_at place zone ≡ Some r) × (sizes r.below ≡ place)
+
+-- a run and the parts above it, of which the k lowest runs are settled
+abbrev pub settled_runs : ℕ → List Block → List Stretch → List Block
+settled_runs zero run parts = joined run parts
+settled_runs (suc k) run [] = settle run
+settled_runs (suc k) run (p ∷ parts) = settle run ++ p.barrier ∷ settled_runs k p.run parts
+
+-- the zone with its k lowest runs settled
+abbrev pub settled : ℕ → List Block → List Block
+settled k zone = settled_runs k (segments zone).first (segments zone).rest
+
+-- the blocks that move where the k lowest runs are settled
+abbrev pub falls : ℕ → List (List Block) → ℕ
+falls zero runs = 0
+falls (suc k) [] = 0
+falls (suc k) (run ∷ runs) = falling run + falls k runs
+
+-- the least of 0 .. n that passes; n where none does
+abbrev pub least_or_last : (ℕ → Bool) → ℕ → ℕ
+least_or_last test zero = 0
+least_or_last test (suc n) = if test 0 then 0 else suc (least_or_last (λ k. test (suc k)) n)
+
+-- there is a Free block of so many bytes; there is none of no size
+abbrev pub has_room : Option ℕ → List Block → Bool
+has_room None zone = false
+has_room (Some p) zone = has (is_room p) zone
+
+-- how many of the lowest runs are settled until a Free block of so many bytes stands, at most all
+abbrev pub runs_settled : Option ℕ → List Block → ℕ
+runs_settled p zone = least_or_last (λ k. has_room p (settled k zone)) (length (runs zone))
+
+-- compaction until a Free block of so many bytes stands
+abbrev pub compacted : Option ℕ → List Block → List Block
+compacted p zone = settled (runs_settled p zone) zone
+
+-- the distance of the block of a slot from the zone's bottom
+abbrev pub distance : ℕ → List Block → Option ℕ
+distance number zone = option_map (λ s. sizes s.below) (spot (is_relocatable number) zone)
+
+-- no block is higher than it was
+abbrev pub NoneRises : List Block → List Block → Type 0
+NoneRises old new = (number was is : ℕ) → distance number old ≡ Some was → distance number new ≡ Some is → is ≤ was
+
+-- each Free block takes a multiple of 16 bytes; all other blocks do by their sizes
+abbrev pub Aligned : List Block → Type 0
+Aligned [] = Unit {0}
+Aligned (b ∷ above) = (free_of b % 16 ≡ 0) × Aligned above
+
+pub Aligned-prop : (zone : List Block) → IsProp (Aligned zone)
+Aligned-prop [] = hlevel
+Aligned-prop (b ∷ above) = hlevel (Aligned-prop above, ℕ_set)

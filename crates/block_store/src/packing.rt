@@ -1,0 +1,275 @@
+//! The runs of a list of blocks, and how they are packed.
+
+ghost use Rattle.std.specs.Prelude.{◌≡◌, ℕ, ◌+◌, ◌-◌, ◌≤◌, ◌<◌, ◌^◌, ◌++◌, ◌∷◌, List, [], Bool, true, false, IsTrue, length, take, drop, map, slice_index, MatchOption, IsSome, IfSome, IsSomeAnd, OnOk, OnErr, vec_len};
+ghost use Rattle.std.specs.Option.{option_map};
+ghost use Rattle.block_store.specs.Block.{Block, Free, sizes, free_sum, is_relocatable, count, free, tidy};
+ghost use Rattle.block_store.specs.Run.{run_at, in_run, has, has_free, segments, movers, settle, low, high, with_run};
+ghost use Rattle.block_store.specs.Compact.{beyond};
+ghost use Rattle.block_store.specs.Rest.{falling};
+ghost use Rattle.block_store.specs.Stretch.{is_free};
+ghost use Rattle.block_store.specs.ListStore.{block_of, blocks_of, nth_spot};
+ghost use Rattle.block_store.specs.Packing.{Loose, cleared, cleared_first, packed, run_of_index, run_between};
+
+use crate::entries::{Entry, entry_size, free_total, is_of_slot, tidy_entries};
+use std::alloc::AllocError;
+
+/// Whether a run may have an entry's block.
+pub fn is_loose(entry: &Entry) -> bool
+    ensures { result ≡ in_run (block_of entry.now) }
+{
+    match entry {
+        Entry::Free(_) => true,
+        Entry::Relocatable(_, flags, _) => !flags.locked,
+        _ => false,
+    }
+}
+
+/// Whether an entry's block is Free.
+fn is_free_entry(entry: &Entry) -> bool
+    ensures { result ≡ is_free (block_of entry.now) }
+{
+    matches!(entry, Entry::Free(_))
+}
+
+/// The index at the bottom of the run at a place.
+fn run_start(entries: &[Entry], place: u32) -> Option<usize>
+    requires { sizes (blocks_of entries.now) < 2 ^ 32 }
+    ensures { MatchOption result (run_at place (blocks_of entries.now) ≡ None)
+        (λ i. (i ≤ length entries.now) × (run_at place (blocks_of entries.now) ≡ Some (run_of_index i (blocks_of entries.now)))) }
+{
+    let mut rest = place;
+    let mut bottom = true;
+    for (i, entry) in entries.iter().enumerate() {
+        if bottom && rest == 0 {
+            return Some(i);
+        }
+        let bytes = entry_size(entry);
+        if bytes > rest {
+            return None;
+        }
+        rest -= bytes;
+        bottom = !is_loose(entry);
+    }
+    if bottom && rest == 0 {
+        Some(entries.len())
+    } else {
+        None
+    }
+}
+
+/// How many entries the lowest run has.
+fn run_length(entries: &[Entry]) -> usize
+    ensures within { result ≤ length entries.now }
+    ensures run { (segments (blocks_of entries.now)).first ≡ take result (blocks_of entries.now) }
+    ensures above { beyond (segments (blocks_of entries.now)).rest ≡ drop result (blocks_of entries.now) }
+{
+    for (i, entry) in entries.iter().enumerate() {
+        if !is_loose(entry) {
+            return i;
+        }
+    }
+    entries.len()
+}
+
+/// The indexes between which the run at a place lies.
+fn run_bounds(entries: &[Entry], place: u32) -> (usize, usize)
+    requires fits { sizes (blocks_of entries.now) < 2 ^ 32 }
+    requires run { IsSome (run_at place (blocks_of entries.now)) }
+    ensures order { result.0 ≤ result.1 }
+    ensures within { result.1 ≤ length entries.now }
+    ensures run { run_at place (blocks_of entries.now) ≡ Some (run_between result.0 result.1 (blocks_of entries.now)) }
+{
+    let Some(i) = run_start(entries, place) else {
+        unreachable!()
+    };
+    (i, i + run_length(&entries[i..]))
+}
+
+/// How many entries of a run move where it is settled.
+fn count_falling(run: &[Entry]) -> u64
+    ensures { result ≡ falling (blocks_of run.now) }
+{
+    let mut below = false;
+    let mut falls = 0;
+    for entry in run {
+        if is_free_entry(entry) {
+            below = true;
+        } else if below && is_loose(entry) {
+            falls += 1;
+        }
+    }
+    falls
+}
+
+/// The index of the first Free entry.
+fn first_free(entries: &[Entry]) -> Option<usize>
+    ensures { MatchOption result (has is_free (blocks_of entries.now) ≡ false)
+        (λ i. (i < length entries.now) × IsSomeAnd (nth_spot i (blocks_of entries.now)) (λ s. IsTrue (is_free s.here))) }
+{
+    for (i, entry) in entries.iter().enumerate() {
+        if is_free_entry(entry) {
+            return Some(i);
+        }
+    }
+    None
+}
+
+/// The index of the first entry of a slot.
+fn index_of(entries: &[Entry], number: u32) -> Option<usize>
+    ensures { MatchOption result (has (is_relocatable number) (blocks_of entries.now) ≡ false)
+        (λ i. (i < length entries.now) × IsSomeAnd (nth_spot i (blocks_of entries.now)) (λ s. IsTrue (is_relocatable number s.here))) }
+{
+    for (i, entry) in entries.iter().enumerate() {
+        if is_of_slot(entry, number) {
+            return Some(i);
+        }
+    }
+    None
+}
+
+/// Moves the entry at an index to the end.
+fn move_last(entries: &mut [Entry], i: usize)
+    requires { i < length entries.old }
+    ensures { IfSome (nth_spot i (blocks_of entries.old)) (λ s. blocks_of entries.new ≡ s.below ++ s.above ++ s.here ∷ []) }
+{
+    entries[i..].rotate_left(1);
+}
+
+/// Leaves no bytes to the entry at an index, where it is Free.
+fn clear_if(run: &mut [Entry], i: usize)
+    requires { i < length run.old }
+    ensures { blocks_of run.new ≡ take i (blocks_of run.old) ++ cleared_first (drop i (blocks_of run.old)) }
+{
+    if is_free_entry(&run[i]) {
+        run[i] = Entry::Free(0);
+    }
+}
+
+/// Leaves no bytes to the Free entries.
+fn clear(run: &mut [Entry])
+    ensures { blocks_of run.new ≡ map cleared (blocks_of run.old) }
+{
+    for i in 0..run.len() {
+        clear_if(run, i);
+    }
+}
+
+/// Packs a run, where so many of its Free bytes are left out: its relocatable entries in order, then a Free
+/// one, and Free ones of no bytes among them.
+fn pack(run: &mut [Entry], less: u32)
+    requires loose { Loose (blocks_of run.old) }
+    requires fits { sizes (blocks_of run.old) < 2 ^ 32 }
+    requires less { less ≤ free_sum (blocks_of run.old) }
+    ensures { (above : List Block) → tidy (blocks_of run.new ++ above) ≡ tidy (packed less (blocks_of run.old) ++ above) }
+{
+    let Some(i) = first_free(run) else {
+        return;
+    };
+    let left = free_total(run) - less;
+    move_last(run, i);
+    clear(run);
+    let last = run.len() - 1;
+    run[last] = Entry::Free(left);
+}
+
+/// Moves the entry of a slot to the end of its run, and packs the others.
+fn pack_below(run: &mut [Entry], number: u32)
+    requires loose { Loose (blocks_of run.old) }
+    requires fits { sizes (blocks_of run.old) < 2 ^ 32 }
+    requires has { has (is_relocatable number) (blocks_of run.old) ≡ true }
+    requires once { count (is_relocatable number) (blocks_of run.old) ≤ 1 }
+    ensures { (above : List Block) → tidy (blocks_of run.new ++ above) ≡ tidy (high (is_relocatable number) (blocks_of run.old) ++ above) }
+{
+    let Some(i) = index_of(run, number) else {
+        unreachable!()
+    };
+    move_last(run, i);
+    let last = run.len() - 1;
+    pack(&mut run[..last], 0);
+}
+
+/// Packs the run between two indexes, where so many of its Free bytes are left out.
+fn pack_between(entries: &mut Vec<Entry>, start: usize, end: usize, less: u32)
+    requires order { start ≤ end }
+    requires within { end ≤ vec_len entries.old }
+    requires fits { sizes (blocks_of entries.old.items) < 2 ^ 32 }
+    requires loose { Loose (run_between start end (blocks_of entries.old.items)).run }
+    requires less { less ≤ free_sum (run_between start end (blocks_of entries.old.items)).run }
+    ensures { blocks_of entries.new.items ≡ tidy (with_run (packed less) (run_between start end (blocks_of entries.old.items))) }
+{
+    pack(&mut entries[start..end], less);
+    tidy_entries(entries);
+}
+
+/// Packs the run at a place, and counts the entries that move.
+pub fn settle_run(entries: &mut Vec<Entry>, place: u32) -> u64
+    requires fits { sizes (blocks_of entries.old.items) < 2 ^ 32 }
+    requires run { IsSome (run_at place (blocks_of entries.old.items)) }
+    ensures zone { IfSome (run_at place (blocks_of entries.old.items)) (λ r. blocks_of entries.new.items ≡ tidy (with_run settle r)) }
+    ensures falls { IfSome (run_at place (blocks_of entries.old.items)) (λ r. result ≡ falling r.run) }
+{
+    let (start, end) = run_bounds(entries, place);
+    let falls = count_falling(&entries[start..end]);
+    pack_between(entries, start, end, 0);
+    falls
+}
+
+/// Packs the run between two indexes, with the entry of a slot at its top.
+fn hoist_between(entries: &mut Vec<Entry>, start: usize, end: usize, number: u32)
+    requires order { start ≤ end }
+    requires within { end ≤ vec_len entries.old }
+    requires fits { sizes (blocks_of entries.old.items) < 2 ^ 32 }
+    requires loose { Loose (run_between start end (blocks_of entries.old.items)).run }
+    requires has { has (is_relocatable number) (run_between start end (blocks_of entries.old.items)).run ≡ true }
+    requires once { count (is_relocatable number) (blocks_of entries.old.items) ≤ 1 }
+    ensures { blocks_of entries.new.items ≡ tidy (with_run (high (is_relocatable number)) (run_between start end (blocks_of entries.old.items))) }
+{
+    pack_below(&mut entries[start..end], number);
+    tidy_entries(entries);
+}
+
+/// Packs the run at a place, with the entry of a slot at its top.
+pub fn hoist_slot(entries: &mut Vec<Entry>, place: u32, number: u32)
+    requires fits { sizes (blocks_of entries.old.items) < 2 ^ 32 }
+    requires run { IsSomeAnd (run_at place (blocks_of entries.old.items)) (λ r. IsTrue (has (is_relocatable number) r.run)) }
+    requires once { count (is_relocatable number) (blocks_of entries.old.items) ≤ 1 }
+    ensures { IfSome (run_at place (blocks_of entries.old.items)) (λ r. blocks_of entries.new.items ≡ tidy (with_run (high (is_relocatable number)) r)) }
+{
+    let (start, end) = run_bounds(entries, place);
+    hoist_between(entries, start, end, number);
+}
+
+/// Packs the run at a place upward, with so many Free bytes at its bottom.
+pub fn raise_run(entries: &mut Vec<Entry>, place: u32, bytes: u32) -> Result<(), AllocError>
+    requires fits { sizes (blocks_of entries.old.items) < 2 ^ 31 }
+    requires run { IsSomeAnd (run_at place (blocks_of entries.old.items)) (λ r. IsTrue (has_free bytes r.run)) }
+    ensures ok { OnOk result (IfSome (run_at place (blocks_of entries.old.items)) (λ r. blocks_of entries.new.items ≡ tidy (with_run (low (Free bytes)) r))) }
+    ensures err { OnErr result (entries.new.items ≡ entries.old.items) }
+{
+    let (start, end) = run_bounds(entries, place);
+    entries.insert(start, Entry::Free(bytes))?;
+    pack_between(entries, start + 1, end + 1, bytes);
+    Ok(())
+}
+
+/// The Free bytes of the run at a place, if there is one.
+#[cfg(test)]
+pub fn run_bytes(entries: &[Entry], place: u32) -> Option<u32>
+    requires { sizes (blocks_of entries.now) < 2 ^ 32 }
+    ensures { result ≡ option_map (λ r. free_sum r.run) (run_at place (blocks_of entries.now)) }
+{
+    run_start(entries, place)?;
+    let (start, end) = run_bounds(entries, place);
+    Some(free_total(&entries[start..end]))
+}
+
+/// Whether the run at a place has the entry of a slot, if there is one.
+#[cfg(test)]
+pub fn run_holds(entries: &[Entry], place: u32, number: u32) -> Option<bool>
+    requires { sizes (blocks_of entries.now) < 2 ^ 32 }
+    ensures { result ≡ option_map (λ r. has (is_relocatable number) r.run) (run_at place (blocks_of entries.now)) }
+{
+    run_start(entries, place)?;
+    let (start, end) = run_bounds(entries, place);
+    Some(index_of(&entries[start..end], number).is_some())
+}

@@ -1,0 +1,173 @@
+//! What a list of blocks tells of its runs.
+
+ghost use Rattle.std.specs.Prelude.{◌≡◌, ◌<◌, ◌^◌, ◌&&◌, [], max, nat_lt, IsSome, IfSome};
+ghost use Rattle.std.specs.Option.{option_map};
+ghost use Rattle.block_store.specs.Block.{Relocatable, sizes, free_of, free_sum, no_flags};
+ghost use Rattle.block_store.specs.Run.{segments, has_free};
+ghost use Rattle.block_store.specs.Room.{spot_at, may_go, emptied, count_of};
+ghost use Rattle.block_store.specs.Named.{spared};
+ghost use Rattle.block_store.specs.Compact.{nth_run, largest_free, largest_run};
+ghost use Rattle.block_store.specs.ListStore.{block_of, blocks_of};
+
+use crate::entries::{Entry, entry_size, index_at};
+use crate::named::Named;
+use crate::run_search::ends_run;
+
+/// The place of the run of an index, counted from 0 at the lowest.
+pub fn place_of_run(entries: &[Entry], index: u32) -> Option<u32>
+    requires { sizes (blocks_of entries.now) < 2 ^ 32 }
+    ensures { result ≡ option_map (λ r. sizes r.below) (nth_run index (blocks_of entries.now)) }
+{
+    let mut left = index;
+    let mut place = 0;
+    for entry in entries {
+        if left == 0 {
+            return Some(place);
+        }
+        place += entry_size(entry);
+        if ends_run(entry) {
+            left -= 1;
+        }
+    }
+    if left == 0 { Some(place) } else { None }
+}
+
+/// The larger of two numbers.
+fn larger(a: u32, b: u32) -> u32
+    ensures { result ≡ max a b }
+{
+    if a < b { b } else { a }
+}
+
+/// The Free bytes of an entry.
+fn entry_free(entry: &Entry) -> u32
+    ensures { result ≡ free_of (block_of entry.now) }
+{
+    match entry {
+        Entry::Free(n) => *n,
+        _ => 0,
+    }
+}
+
+/// The bytes of the largest Free entry.
+pub fn most_free(entries: &[Entry]) -> u32
+    ensures { result ≡ largest_free (blocks_of entries.now) }
+{
+    let mut most = 0;
+    for entry in entries {
+        most = larger(most, entry_free(entry));
+    }
+    most
+}
+
+/// The most Free bytes that one run has.
+pub fn most_free_of_runs(entries: &[Entry]) -> u32
+    requires { sizes (blocks_of entries.now) < 2 ^ 32 }
+    ensures { result ≡ largest_run (blocks_of entries.now) }
+{
+    let mut most = 0;
+    let mut free = 0;
+    for entry in entries {
+        if ends_run(entry) {
+            most = larger(most, free);
+            free = 0;
+        } else {
+            free += entry_free(entry);
+        }
+    }
+    larger(most, free)
+}
+
+/// Whether a search spares the block of a slot.
+fn is_spared(slot: u32, named: Named) -> bool
+    ensures { result ≡ spared named (Relocatable slot no_flags []) }
+{
+    match named {
+        Named::One(one) => slot == one,
+        Named::Two(one, other) => slot == one || slot == other,
+        _ => false,
+    }
+}
+
+/// Whether an entry's block may be emptied as it stands.
+pub fn may_go_now(entry: &Entry, named: Named) -> bool
+    ensures { result ≡ may_go (spared named) (block_of entry.now) }
+{
+    match entry {
+        Entry::Relocatable(slot, flags, _) => {
+            !flags.locked && flags.purgeable && !is_spared(*slot, named)
+        }
+        _ => false,
+    }
+}
+
+/// Whether an entry's block is emptied where so many purges are left.
+fn goes(entry: &Entry, left: u32, named: Named) -> bool
+    ensures { result ≡ (nat_lt 0 left && may_go (spared named) (block_of entry.now)) }
+{
+    left > 0 && may_go_now(entry, named)
+}
+
+/// The Free bytes of the lowest run, after so many purges in it.
+fn free_after_purges(entries: &[Entry], purges: u32, named: Named) -> u32
+    requires { sizes (blocks_of entries.now) < 2 ^ 32 }
+    ensures { result ≡ free_sum (emptied purges (spared named) (segments (blocks_of entries.now)).first) }
+{
+    let mut left = purges;
+    let mut free = 0;
+    for entry in entries {
+        if ends_run(entry) {
+            return free;
+        }
+        if goes(entry, left, named) {
+            left -= 1;
+            free += entry_size(entry);
+        } else {
+            free += entry_free(entry);
+        }
+    }
+    free
+}
+
+/// How many blocks of the lowest run may be emptied.
+fn purgeable_in_run(entries: &[Entry], named: Named) -> u32
+    requires { sizes (blocks_of entries.now) < 2 ^ 32 }
+    ensures { result ≡ count_of (spared named) (segments (blocks_of entries.now)).first }
+{
+    let mut total = 0;
+    for entry in entries {
+        if ends_run(entry) {
+            return total;
+        }
+        if may_go_now(entry, named) {
+            total += 1;
+        }
+    }
+    total
+}
+
+/// Whether the run above the block at a place has so many Free bytes, after so many purges in it.
+pub fn has_free_above(entries: &[Entry], place: u32, bytes: u32, purges: u32, named: Named) -> bool
+    requires fits { sizes (blocks_of entries.now) < 2 ^ 32 }
+    requires there { IsSome (spot_at place (blocks_of entries.now)) }
+    ensures { IfSome (spot_at place (blocks_of entries.now)) (λ s.
+        result ≡ has_free bytes (emptied purges (spared named) (segments s.above).first)) }
+{
+    let Some(i) = index_at(entries, place) else {
+        unreachable!()
+    };
+    bytes <= free_after_purges(&entries[i + 1..], purges, named)
+}
+
+/// How many blocks may go in the run above the block at a place.
+pub fn purgeable_above(entries: &[Entry], place: u32, named: Named) -> u32
+    requires fits { sizes (blocks_of entries.now) < 2 ^ 32 }
+    requires there { IsSome (spot_at place (blocks_of entries.now)) }
+    ensures { IfSome (spot_at place (blocks_of entries.now)) (λ s.
+        result ≡ count_of (spared named) (segments s.above).first) }
+{
+    let Some(i) = index_at(entries, place) else {
+        unreachable!()
+    };
+    purgeable_in_run(&entries[i + 1..], named)
+}

@@ -1,0 +1,47 @@
+use Rattle.std.proofs.Common.{◌≡◌, ℕ, ◌+◌, ◌≤◌, true, sym, subst, arith, ◌++◌, ◌∷◌}
+use Rattle.std.specs.Option.{IsSomeAnd, IfSome}
+use Rattle.std.specs.Bool.{IsTrue}
+use Rattle.block_store.specs.Block.{Free, tidy}
+use Rattle.block_store.specs.Run.{has_free, segments, run_at, with_run, low}
+use Rattle.block_store.specs.Room.{Spot, spot_at, emptied, purge, count_of}
+use Rattle.block_store.specs.Named.{spared}
+use Rattle.heap_calls.specs.GrowingInPlace.{pushed_up}
+use Rattle.heap_calls.proofs.InPlace.{the_spot, spot_if, some_if, on_ok-map, spot-small, raise-allowed, raised-is, same_spot}
+use Rattle.heap_calls.proofs.growing_in_place.push_up.Goals as goal
+
+pub overflow_add-place : goal.overflow_add-place
+overflow_add-place g c =
+    let zone = g.S.BlockStore.zone c.args.store.now in
+    let still = the_spot (spot_at c.args.place zone) _ c.requires.still in
+    omega (arith, still.2.1, spot-small c.args.place zone still.0 still.1, g.met.S.BlockStore.small c.args.store.now)
+
+pub raise-requires-clause-run : goal.raise-requires-clause-run
+raise-requires-clause-run g c =
+    let zone = g.S.BlockStore.zone c.args.store.now in
+    let zone' = g.S.BlockStore.zone c.purge_after.new.self in
+    let sp = spared c.args.named in
+    let still = the_spot (spot_at c.args.place zone) _ c.requires.still in
+    let s = still.0 in
+    let P : Spot → Type 0 = λ s. (c.args.purges ≤ count_of sp (segments s.above).first) × (has_free c.args.bytes (purge c.args.purges sp (segments s.above).first) ≡ true) in
+    let room : P s = same_spot (spot_at c.args.place zone) s P still.1 c.requires.room in
+    let done = spot_if (spot_at c.args.place zone) s (λ s. zone' ≡ tidy (s.below ++ s.here ∷ emptied c.args.purges sp s.above)) still.1 c.purge_after.ensures.zone in
+    let Q : ℕ → Type 0 = λ n. IsSomeAnd (run_at (c.args.place + n) zone') (λ r. IsTrue (has_free c.args.bytes r.run)) in
+    subst Q (sym still.2.1) (raise-allowed c.args.place zone (g.met.S.BlockStore.tidied c.args.store.now) s still.1 still.2.0 c.args.purges sp room.0 zone' done c.args.bytes room.1)
+
+pub returns-clause-zone : goal.returns-clause-zone
+returns-clause-zone g c =
+    let zone = g.S.BlockStore.zone c.args.store.now in
+    let zone' = g.S.BlockStore.zone c.purge_after.new.self in
+    let after = g.S.BlockStore.zone c.raise.new.self in
+    let sp = spared c.args.named in
+    let still = the_spot (spot_at c.args.place zone) _ c.requires.still in
+    let s = still.0 in
+    let P : Spot → Type 0 = λ s. (c.args.purges ≤ count_of sp (segments s.above).first) × (has_free c.args.bytes (purge c.args.purges sp (segments s.above).first) ≡ true) in
+    let room : P s = same_spot (spot_at c.args.place zone) s P still.1 c.requires.room in
+    let done = spot_if (spot_at c.args.place zone) s (λ s. zone' ≡ tidy (s.below ++ s.here ∷ emptied c.args.purges sp s.above)) still.1 c.purge_after.ensures.zone in
+    let Q : ℕ → Type 0 = λ n. IfSome (run_at (c.args.place + n) zone') (λ r. after ≡ tidy (with_run (low (Free c.args.bytes)) r)) in
+    let R : Spot → Type 0 = λ s. after ≡ s.below ++ s.here ∷ pushed_up c.args.bytes c.args.purges sp s.above in
+    on_ok-map c.raise.result (Q c.args.taken) (IfSome (spot_at c.args.place zone) R)
+    (λ raised. some_if (spot_at c.args.place zone) s R still.1
+    (raised-is c.args.place zone (g.met.S.BlockStore.tidied c.args.store.now) s still.1 still.2.0 c.args.purges sp room.0 zone' done c.args.bytes after (subst Q still.2.1 raised)))
+    c.raise.ensures.ok

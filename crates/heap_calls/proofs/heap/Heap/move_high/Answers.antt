@@ -1,0 +1,79 @@
+use Rattle.std.proofs.Common.{◌≡◌, true, false, Ok, Some, None, sym, ◌∙◌, ap, arith, slice_get, List}
+use Rattle.block_store.specs.Block.{is_relocatable, is_mover}
+use Rattle.block_store.specs.Run.{has}
+use Rattle.heap_calls.specs.Given.{seen_mover}
+use Rattle.heap_calls.specs.declared.name.Entry.{Entry}
+use Rattle.heap_calls.specs.declared.name.Entry.TheVariants.{Handle}
+use Rattle.heap_calls.proofs.Answering.{slot_of-ok}
+use Rattle.heap_calls.proofs.Changing.{agrees-same}
+use Rattle.heap_calls.proofs.Hoisting.{seen-at, seen_mover-is, rest-same, run-found, hoist-allowed, hoisted-done, hoisted-none, move_hhi-emptied, move_hhi-locked, move_hhi-done}
+use Rattle.heap_calls.proofs.heap.Heap.move_high.Goals as goal
+
+pub returns-in_default-clause-answer : goal.returns-in_default-clause-answer
+returns-in_default-clause-answer g c =
+    let a = c.self.inside in
+    let zone = g.S.BlockStore.zone a.store in
+    let rest = g.S.BlockStore.rest a.store in
+    let es = a.names.items in
+    let f = c.in_ok-found.found in
+    let is = slot_of-ok c.args.handle _ f (sym c.slot_of.ensures ∙ c.in_ok-found.was) in
+    let at : slice_get es f.number ≡ Some (Handle f.slot) = ap (λ (l : List Entry). slice_get l f.number) (sym c.deref.ensures.value) ∙ is.1 in
+    move_hhi-emptied c.args.self.now zone rest es a.log c.args.handle f.number f.slot c.self.view_is is.0 at c.self.invariant.apart (omega arith) c.in_default.ensures
+
+pub returns-then-not-can_move-clause-answer : goal.returns-then-not-can_move-clause-answer
+returns-then-not-can_move-clause-answer g c =
+    let a = c.self.inside in
+    let zone = g.S.BlockStore.zone a.store in
+    let rest = g.S.BlockStore.rest a.store in
+    let es = a.names.items in
+    let f = c.in_ok-found.found in
+    let is = slot_of-ok c.args.handle _ f (sym c.slot_of.ensures ∙ c.in_ok-found.was) in
+    let at : slice_get es f.number ≡ Some (Handle f.slot) = ap (λ (l : List Entry). slice_get l f.number) (sym c.deref.ensures.value) ∙ is.1 in
+    let there = c.in-Some.ensures in
+    let locked : is_mover there.0.here ≡ false =
+    sym (seen_mover-is there.0.here) ∙ sym (seen-at seen_mover c.in-Some.place zone there.0 c.block_at.result there.2 c.block_at.ensures) ∙ sym c.can_move.ensures ∙ c.if-not-can_move.true in
+    move_hhi-locked c.args.self.now zone rest es a.log c.args.handle f.number f.slot c.self.view_is is.0 at c.self.invariant.apart (omega arith) there.0 there.1 locked
+
+pub returns-in_default-run_of-clause-answer : goal.returns-in_default-run_of-clause-answer
+returns-in_default-run_of-clause-answer g c =
+    let a = c.self.inside in
+    let zone = g.S.BlockStore.zone a.store in
+    let rest = g.S.BlockStore.rest a.store in
+    let es = a.names.items in
+    let f = c.in_ok-found.found in
+    let is = slot_of-ok c.args.handle _ f (sym c.slot_of.ensures ∙ c.in_ok-found.was) in
+    let at : slice_get es f.number ≡ Some (Handle f.slot) = ap (λ (l : List Entry). slice_get l f.number) (sym c.deref.ensures.value) ∙ is.1 in
+    let there = c.in-Some.ensures in
+    let free : is_mover there.0.here ≡ true =
+    sym (seen_mover-is there.0.here) ∙ sym (seen-at seen_mover c.in-Some.place zone there.0 c.block_at.result there.2 c.block_at.ensures) ∙ sym c.can_move.ensures ∙ c.if-not-can_move.false in
+    let none = run-found (has (is_relocatable f.slot)) zone _ None (g.met.S.BlockStore.tidied a.store) c.in_default-run_of.ensures in
+    move_hhi-done c.args.self.now zone rest es a.log c.args.handle f.number f.slot c.self.view_is is.0 at c.self.invariant.apart (omega arith) zone rest there.0 there.1 free (rest-same rest) (hoisted-none f.slot zone none)
+    ∙ ap (λ m. (Ok tt, m)) c.self.view_is
+
+pub hoist-requires : goal.hoist-requires
+hoist-requires g c =
+    let zone = g.S.BlockStore.zone c.self.inside.store in
+    let slot = c.in_ok-found.found.slot in
+    hoist-allowed (is_relocatable slot) c.in-Some-run_of.run' zone (run-found (has (is_relocatable slot)) zone _ (Some c.in-Some-run_of.run') (g.met.S.BlockStore.tidied c.self.inside.store) c.in-Some-run_of.ensures)
+
+pub invariant_of-self : goal.invariant_of-self
+invariant_of-self g c =
+    let a = c.self.inside in
+    agrees-same (g.S.BlockStore.rest a.store) (g.S.BlockStore.rest c.hoist.new.self) a.names.items c.self.invariant c.hoist.ensures.rest
+
+pub returns-clause-answer : goal.returns-clause-answer
+returns-clause-answer g c =
+    let a = c.self.inside in
+    let zone = g.S.BlockStore.zone a.store in
+    let zone' = g.S.BlockStore.zone c.hoist.new.self in
+    let rest = g.S.BlockStore.rest a.store in
+    let es = a.names.items in
+    let f = c.in_ok-found.found in
+    let is = slot_of-ok c.args.handle _ f (sym c.slot_of.ensures ∙ c.in_ok-found.was) in
+    let at : slice_get es f.number ≡ Some (Handle f.slot) = ap (λ (l : List Entry). slice_get l f.number) (sym c.deref.ensures.value) ∙ is.1 in
+    let there = c.in-Some.ensures in
+    let free : is_mover there.0.here ≡ true =
+    sym (seen_mover-is there.0.here) ∙ sym (seen-at seen_mover c.in-Some.place zone there.0 c.block_at.result there.2 c.block_at.ensures) ∙ sym c.can_move.ensures ∙ c.if-not-can_move.false in
+    let found = run-found (has (is_relocatable f.slot)) zone _ (Some c.in-Some-run_of.run') (g.met.S.BlockStore.tidied a.store) c.in-Some-run_of.ensures in
+    move_hhi-done c.args.self.now zone rest es a.log c.args.handle f.number f.slot c.self.view_is is.0 at c.self.invariant.apart (omega arith) zone' (g.S.BlockStore.rest c.hoist.new.self) there.0 there.1 free c.hoist.ensures.rest
+    (hoisted-done f.slot c.in-Some-run_of.run' zone zone' found c.hoist.ensures.zone)

@@ -1,0 +1,38 @@
+use Rattle.std.proofs.Common.{◌≡◌, Some, sym, ◌∙◌, ap, subst, refl}
+use Rattle.block_store.specs.Block.{is_room, tidy, is_relocatable}
+use Rattle.block_store.specs.Room.{spot}
+use Rattle.block_store.specs.Run.{settle, with_run, has, has_free}
+use Rattle.heap_calls.proofs.Absence.{none-purged, none-settled}
+use Rattle.block_store.specs.Named.{purged}
+use Rattle.heap_calls.specs.Search.{FindsSeat}
+use Rattle.heap_calls.specs.declared.search.Seat.{Seat}
+use Rattle.heap_calls.specs.declared.search.Seat.TheVariants as see
+use Rattle.heap_calls.proofs.Searching.{room-found, at_run}
+use Rattle.heap_calls.proofs.search.take_seat.Goals as goal
+
+pub unreachable-requires : goal.unreachable-requires
+unreachable-requires g c =
+    let zone = purged c.args.purges c.args.named (g.S.BlockStore.zone c.args.store.now) in
+    let store' = c.settle.new.self in
+    let P : Seat → Type 0 = λ s. FindsSeat c.args.bytes zone (Some s) in
+    let found : P (see.Run c.in-Run.run') = subst P c.in-Run.is c.requires.found in
+    let r = found.1.0 in
+    let after = at_run c.in-Run.run' zone (g.S.BlockStore.zone c.purge.new.self) r (λ r. g.S.BlockStore.zone store' ≡ tidy (with_run settle r)) c.purge.ensures.zone found.1.2 c.settle.ensures.zone in
+    room-found c.args.bytes c.requires.positive zone r found.1.1 (g.S.BlockStore.zone store') after
+    (ap (spot (is_room c.args.bytes)) (sym (g.met.S.BlockStore.tidied store')) ∙ c.in_default.ensures)
+
+pub returns-in-Free-clause-kept : goal.returns-in-Free-clause-kept
+returns-in-Free-clause-kept g c number none =
+    ap (has (is_relocatable number)) c.purge.ensures.zone ∙ none-purged (is_relocatable number) (λ n. refl) c.args.purges c.args.named (g.S.BlockStore.zone c.args.store.now) none
+
+pub returns-in-Some-clause-kept : goal.returns-in-Some-clause-kept
+returns-in-Some-clause-kept g c number none =
+    let zone = purged c.args.purges c.args.named (g.S.BlockStore.zone c.args.store.now) in
+    let store' = c.settle.new.self in
+    let P : Seat → Type 0 = λ s. FindsSeat c.args.bytes zone (Some s) in
+    let found : P (see.Run c.in-Run.run') = subst P c.in-Run.is c.requires.found in
+    let r = found.1.0 in
+    let after = at_run c.in-Run.run' zone (g.S.BlockStore.zone c.purge.new.self) r (λ r. g.S.BlockStore.zone store' ≡ tidy (with_run settle r)) c.purge.ensures.zone found.1.2 c.settle.ensures.zone in
+    ap (has (is_relocatable number)) after
+    ∙ none-settled (is_relocatable number) (λ n. refl) (has_free c.args.bytes) zone r found.1.1
+    (none-purged (is_relocatable number) (λ n. refl) c.args.purges c.args.named (g.S.BlockStore.zone c.args.store.now) none)

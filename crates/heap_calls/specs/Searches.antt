@@ -1,0 +1,123 @@
+use Rattle.std.specs.Prelude.{ℕ, ◌+◌, Bool, ◌||◌, Option, Some, None, Result, Ok, Err, List, length, replicate, is_some, nat_lt, nat_le, if◌then◌else◌}
+use Rattle.mac_words.specs.Size.{phys}
+use Rattle.mac_words.specs.declared.code.OsErr.{OsErr}
+use Rattle.block_store.specs.Block.{Block, Fixed, Masters, Relocatable, size, is_mover, is_relocatable, is_fixed, no_flags, resized, content_of}
+use Rattle.block_store.specs.Run.{has_free, segments}
+use Rattle.block_store.specs.Room.{Spot, spot, put_at_base, put_in_place, purge, count_of}
+use Rattle.block_store.specs.Grow.{growth, grow_up, grow_mover, freed}
+use Rattle.block_store.specs.Compact.{runs_settled}
+use Rattle.heap_calls.specs.State.{State, used_slots, all_slots}
+use Rattle.heap_calls.specs.Answer.{handle_at, look_up, nothing}
+use Rattle.heap_calls.specs.Slots.{slotted}
+use Rattle.heap_calls.specs.Pointers.{pointed_at, reserved}
+use Rattle.heap_calls.specs.Purging.{is_loose, blocks_purged}
+use Rattle.heap_calls.specs.Search.{tries}
+
+-- How often a call looks for room: one look at each number of purges, up to the first that serves.
+
+-- the looks for what is tried
+abbrev pub room_searches : (List Block → Option (List Block)) → (Block → Bool) → List Block → ℕ
+room_searches try spared zone = tries (λ k. try (purge k spared zone)) (count_of spared zone)
+
+-- the looks for an unused slot
+abbrev pub slot_searches : (Block → Bool) → State → ℕ
+slot_searches spared s = if nat_lt (used_slots s) (all_slots s) then 0 else room_searches (put_at_base Masters) spared s.zone
+
+-- the looks of what is done with an unused slot
+abbrev pub ready_searches : Option State → (State → ℕ) → ℕ
+ready_searches None count = 0
+ready_searches (Some ready) count = count ready
+
+-- the looks for a place of a new relocatable block
+abbrev pub block_searches : (Block → Bool) → List ℕ → State → ℕ
+block_searches spared bytes s = room_searches (put_in_place (Relocatable (length s.names) no_flags bytes)) spared s.zone
+
+-- of NewHandle
+abbrev pub new_handle_searches : ℕ → State → ℕ
+new_handle_searches n s =
+    slot_searches nothing s + ready_searches (slotted nothing s) (λ ready. if is_some (phys n) then block_searches nothing (replicate n 0) ready else 0)
+
+-- of NewEmptyHandle
+abbrev pub new_empty_handle_searches : State → ℕ
+new_empty_handle_searches s = slot_searches nothing s
+
+-- of MoreMasters
+abbrev pub more_masters_searches : State → ℕ
+more_masters_searches s = room_searches (put_at_base Masters) nothing s.zone
+
+-- of NewPtr
+abbrev pub new_pointer_searches : ℕ → State → ℕ
+new_pointer_searches n s = if is_some (phys n) then room_searches (put_at_base (Fixed (length s.names) (replicate n 0))) nothing s.zone else 0
+
+-- of ReserveMem
+abbrev pub reserve_searches : Option ℕ → State → ℕ
+reserve_searches None s = 0
+reserve_searches (Some p) s = room_searches (reserved p) nothing s.zone
+
+-- where a block grows that is Fixed or locked: at no purge into the Free block above it, and at each number of purges
+-- into the run above it
+abbrev pub in_place_searches : (Block → Bool) → Block → Spot → ℕ
+in_place_searches spared new s =
+    if is_some (grow_up new s) then 1
+    else room_searches (λ run. if has_free (growth new s) run then Some run else None) spared (segments s.above).first
+
+-- where a block at a spot gets another size
+abbrev pub growth_searches : (Block → Bool) → (Block → Bool) → Block → List Block → Option Spot → ℕ
+growth_searches test spared new zone None = 0
+growth_searches test spared new zone (Some s) =
+    if nat_le (size new) (size s.here) then 0
+    else (if is_mover s.here then room_searches (grow_mover test new) spared zone else in_place_searches spared new s)
+
+-- the block of a spot at n bytes
+abbrev pub resized_at : ℕ → Option Spot → Block
+resized_at n None = Masters
+resized_at n (Some s) = resized n s.here
+
+-- where a block that passes gets n bytes
+abbrev pub size_searches : (Block → Bool) → (Block → Bool) → ℕ → List Block → ℕ
+size_searches test spared n zone = if is_some (phys n) then growth_searches test spared (resized_at n (spot test zone)) zone (spot test zone) else 0
+
+-- the looks of a call on what was found
+abbrev pub found_searches : {A : Type 0} → Result A OsErr → (A → ℕ) → ℕ
+found_searches (Err code) count = 0
+found_searches (Ok found) count = count found
+
+-- of SetHandleSize
+abbrev pub set_handle_size_searches : Option ℕ → ℕ → State → ℕ
+set_handle_size_searches handle n s = found_searches (look_up handle s) (λ held. size_searches (is_relocatable held.number) (is_relocatable held.number) n s.zone)
+
+-- of SetPtrSize
+abbrev pub set_pointer_size_searches : Option ℕ → ℕ → State → ℕ
+set_pointer_size_searches pointer n s = found_searches (pointed_at pointer s) (λ held. size_searches (is_fixed held.number) nothing n s.zone)
+
+-- of ReallocateHandle
+abbrev pub reallocate_handle_searches : Option ℕ → ℕ → State → ℕ
+reallocate_handle_searches handle n s =
+    found_searches (handle_at handle s) (λ k. if is_loose (spot (is_relocatable k.number) s.zone)
+    then (if is_some (phys n) then room_searches (put_in_place (Relocatable k.number no_flags (replicate n 0))) nothing (freed (is_relocatable k.number) s.zone) else 0)
+    else 0)
+
+-- of HandToHand
+abbrev pub hand_to_hand_searches : Option ℕ → State → ℕ
+hand_to_hand_searches handle s =
+    found_searches (look_up handle s) (λ held. slot_searches (is_relocatable held.number) s
+    + ready_searches (slotted (is_relocatable held.number) s) (block_searches (is_relocatable held.number) (content_of held.at.here)))
+
+-- of HandAndHand
+abbrev pub hand_and_hand_searches : Option ℕ → Option ℕ → State → ℕ
+hand_and_hand_searches from to s =
+    found_searches (look_up from s) (λ a. found_searches (look_up to s) (λ b.
+    size_searches (is_relocatable b.number) (λ block. is_relocatable a.number block || is_relocatable b.number block) (length (content_of b.at.here) + length (content_of a.at.here)) s.zone))
+
+-- of PtrAndHand
+abbrev pub pointer_and_hand_searches : Option ℕ → List ℕ → State → ℕ
+pointer_and_hand_searches handle x s =
+    found_searches (look_up handle s) (λ held. size_searches (is_relocatable held.number) (is_relocatable held.number) (length (content_of held.at.here) + length x) s.zone)
+
+-- of CompactMem: one more than the runs that it settles
+abbrev pub compact_mem_searches : ℕ → State → ℕ
+compact_mem_searches n s = runs_settled (phys n) s.zone + 1
+
+-- of PurgeMem: one more than the blocks that it empties
+abbrev pub purge_mem_searches : ℕ → State → ℕ
+purge_mem_searches n s = blocks_purged (phys n) s.zone + 1

@@ -1,0 +1,35 @@
+use Rattle.std.specs.Prelude.{ℕ, Bool, Option, Some, None, List, length, replicate, is_some, nat_lt, if◌then◌else◌}
+use Rattle.std.specs.Option.{option_map}
+use Rattle.mac_words.specs.Size.{phys}
+use Rattle.mac_words.specs.declared.code.TheConstants.OsErr.{MEM_FULL}
+use Rattle.block_store.specs.Block.{Block, Masters, Relocatable, no_flags}
+use Rattle.block_store.specs.Room.{put_at_base, put_in_place, room}
+use Rattle.heap_calls.specs.State.{Plain, Handle, State, used_slots, all_slots}
+use Rattle.heap_calls.specs.Answer.{Answer, refused, given, nothing}
+
+-- Slots for new handles. Inside Macintosh: Memory, chapter 2, "Allocating Master Pointers".
+
+-- MoreMasters: the zone with 64 slots more at the base of a run; the spared blocks aren't emptied for them
+abbrev pub more_masters : (Block → Bool) → State → Option State
+more_masters spared s = option_map (λ zone. record s { zone = zone }) (room (put_at_base Masters) spared s.zone)
+
+-- the heap with an unused slot: as it is, or with a new Masters block
+abbrev pub slotted : (Block → Bool) → State → Option State
+slotted spared s = if nat_lt (used_slots s) (all_slots s) then Some s else more_masters spared s
+
+-- what is answered with an unused slot, or that there is no room for one
+abbrev pub if_ready : {T : Type 0} → Option State → State → (State → Answer T) → Answer T
+if_ready None s answer = refused MEM_FULL s
+if_ready (Some ready) s answer = answer ready
+
+-- a new handle with these bytes
+abbrev pub new_block : (Block → Bool) → List ℕ → State → Answer ℕ
+new_block spared bytes s = given (Handle Plain) (room (put_in_place (Relocatable (length s.names) no_flags bytes)) spared s.zone) s
+
+-- NewHandle: a new handle with n bytes 0
+abbrev pub new_handle : ℕ → State → Answer ℕ
+new_handle n s = if_ready (slotted nothing s) s (λ ready. if is_some (phys n) then new_block nothing (replicate n 0) ready else refused MEM_FULL ready)
+
+-- NewEmptyHandle
+abbrev pub new_empty_handle : State → Answer ℕ
+new_empty_handle s = if_ready (slotted nothing s) s (λ ready. given (Handle Plain) (Some ready.zone) ready)

@@ -1,0 +1,68 @@
+//! The largest block that can be had, and compaction.
+
+ghost use Rattle.std.specs.Prelude.{◌≡◌, ◌+◌, ◌<◌, IsSome, IfSome};
+ghost use Rattle.mac_words.specs.Size.{phys as physical_size};
+ghost use Rattle.block_store.specs.Room.{place};
+ghost use Rattle.block_store.specs.Run.{runs};
+ghost use Rattle.block_store.specs.Rest.{KeepsSlots, counted};
+ghost use Rattle.block_store.specs.Compact.{has_room, runs_settled, compacted, falls};
+ghost use Rattle.heap_calls.specs.Answer.{max_block, compact_mem, noting};
+
+use crate::heap::Heap;
+use block_store::{BlockStore, Named};
+use mac_words::{OsErr, phys};
+
+impl<S: BlockStore> Heap<S> {
+    /// `MaxBlock`: the most bytes that one block can have once all runs are settled.
+    pub fn max_block(&mut self) -> u32
+        ensures answer { noting max_block self.old ≡ (Ok result, self.new) }
+        ensures room { 0 < result → IfSome (physical_size result) (λ p. IsSome (place p self.old.heap.zone)) }
+        ensures no_more { IfSome (physical_size (result + 1)) (λ p. place p self.old.heap.zone ≡ None) }
+    {
+        self.log.code = OsErr::NO_ERR;
+        self.store.largest_run().saturating_sub(16)
+    }
+
+    /// `CompactMem`: settles runs until a block of `size` bytes has room; the most bytes that a block can
+    /// then have without another being moved.
+    pub fn compact_mem(&mut self, size: u32) -> u32
+        ensures answer { noting (compact_mem size) self.old ≡ (Ok result, self.new) }
+    {
+        compact(&mut self.store, phys(size));
+        self.log.code = OsErr::NO_ERR;
+        self.store.largest_free().saturating_sub(16)
+    }
+}
+
+/// Settles runs, lowest first, until a Free block of so many bytes stands or all are settled; tells how
+/// many were. None stands where no size is given.
+///
+/// *Inside Macintosh: Memory*, chapter 1, "Heap Compaction".
+pub fn compact<S: BlockStore>(store: &mut S, bytes: Option<u32>) -> u32
+    ensures zone { S.zone store.new ≡ compacted bytes (S.zone store.old) }
+    ensures moves { (S.rest store.new).moves ≡ counted (S.rest store.old).moves (falls (runs_settled bytes (S.zone store.old)) (runs (S.zone store.old))) }
+    ensures rest { KeepsSlots (S.rest store.old) (S.rest store.new) }
+    ensures runs { result ≡ runs_settled bytes (S.zone store.old) }
+{
+    // The count of moves is known to fit its type once it is read.
+    let _moves = store.moves();
+    let mut index = 0;
+    while !has_room(store, bytes) {
+        let Some(run) = store.nth_run(index) else {
+            return index;
+        };
+        store.settle(run);
+        index += 1;
+    }
+    index
+}
+
+/// Whether a Free block of so many bytes stands; none does where no size is given.
+fn has_room<S: BlockStore>(store: &S, bytes: Option<u32>) -> bool
+    ensures { result ≡ has_room bytes (S.zone store.now) }
+{
+    match bytes {
+        None => false,
+        Some(bytes) => store.find_free(bytes, 0, Named::Nothing).is_some(),
+    }
+}

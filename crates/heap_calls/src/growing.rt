@@ -1,0 +1,231 @@
+//! The growth of a block that may move.
+
+ghost use Rattle.std.specs.Prelude.{◌≡◌, ◌+◌, ◌-◌, ◌<◌, Some, None, IsSome, IfSome, IsSomeAnd, IsTrue, IsErr, OnOk, IfOk, true, false};
+ghost use Rattle.mac_words.specs.Size.{phys as physical_size};
+ghost use Rattle.block_store.specs.Block.{is_relocatable, resized, is_mover, size as size_of};
+ghost use Rattle.block_store.specs.Room.{spot, place, room};
+ghost use Rattle.block_store.specs.Grow.{growth, grow_mover};
+ghost use Rattle.block_store.specs.Named.{purged, spared};
+ghost use Rattle.block_store.specs.Rest.{IsRest, KeepsSlots};
+ghost use Rattle.heap_calls.specs.Search.{FindsSeat, IsAt};
+ghost use Rattle.heap_calls.specs.Growing.{FindsGrowth, growing, Spares, Stays, grown, SameBlocks, IsToGrow, CanGrowUp, GrewUp};
+ghost use Rattle.heap_calls.specs.GrowingInPlace.{made_zone};
+
+use crate::growing_in_place::bytes_at;
+use crate::search::{Seat, seat_after};
+use block_store::{BlockStore, Named};
+use mac_words::phys;
+use std::alloc::AllocError;
+
+/// How an unlocked block grows: into the Free block above it, at a place of its own, or as the last of its
+/// run.
+#[derive(Clone, Copy, Debug, PartialEq, Eq)]
+pub enum Growth {
+    Up,
+    Away(Seat),
+    Last(u32),
+}
+
+/// What a search came to: how the block grows, and after how many purges.
+#[derive(Clone, Copy, Debug, PartialEq, Eq)]
+pub struct FoundGrowth {
+    pub growth: Option<Growth>,
+    pub purges: u32,
+}
+
+/// How the block of a slot grows by `more` bytes to `bytes`, and to `size` bytes of content, after so many
+/// purges.
+fn growth_after<S: BlockStore>(
+    store: &S,
+    number: u32,
+    size: u32,
+    bytes: u32,
+    more: u32,
+    purges: u32,
+    named: Named,
+) -> Option<Growth>
+    requires takes { size_of (grown size (spot (is_relocatable number) (S.zone store.now))) ≡ bytes }
+    requires more { IsSomeAnd (spot (is_relocatable number) (purged purges named (S.zone store.now))) (λ s. growth (grown size (spot (is_relocatable number) (S.zone store.now))) s ≡ more) }
+    ensures { FindsGrowth (is_relocatable number) (grown size (spot (is_relocatable number) (S.zone store.now))) (purged purges named (S.zone store.now)) result }
+{
+    if store.room_above(number, more, purges, named) {
+        return Some(Growth::Up);
+    }
+    if let Some(seat) = seat_after(store, bytes, purges, named) {
+        return Some(Growth::Away(seat));
+    }
+    let Some(run) = store.run_of(number, more, purges, named) else {
+        return None;
+    };
+    Some(Growth::Last(run))
+}
+
+/// How the block of a slot grows by `more` bytes to `bytes`, and to `size` bytes of content, after as few
+/// purges as serve.
+fn find_growth<S: BlockStore>(
+    store: &S,
+    number: u32,
+    size: u32,
+    bytes: u32,
+    more: u32,
+    named: Named,
+) -> FoundGrowth
+    requires takes { size_of (grown size (spot (is_relocatable number) (S.zone store.now))) ≡ bytes }
+    requires positive { 0 < bytes }
+    requires spared { Spares named (is_relocatable number) }
+    requires stays { Stays named (is_relocatable number) }
+    requires more { IsSomeAnd (spot (is_relocatable number) (S.zone store.now)) (λ s. growth (grown size (spot (is_relocatable number) (S.zone store.now))) s ≡ more) }
+    ensures found { FindsGrowth (is_relocatable number) (grown size (spot (is_relocatable number) (S.zone store.now))) (purged result.purges named (S.zone store.now)) result.growth }
+    ensures least { growing (is_relocatable number) (grown size (spot (is_relocatable number) (S.zone store.now))) named (S.zone store.now) ≡ grow_mover (is_relocatable number) (grown size (spot (is_relocatable number) (S.zone store.now))) (purged result.purges named (S.zone store.now)) }
+{
+    let mut purges = 0;
+    loop {
+        let growth = growth_after(store, number, size, bytes, more, purges, named);
+        if growth.is_some() {
+            return FoundGrowth { growth, purges };
+        }
+        if store.next_purgeable(purges, named).is_none() {
+            return FoundGrowth {
+                growth: None,
+                purges,
+            };
+        }
+        purges += 1;
+    }
+}
+
+/// Lets the block of a slot grow into the Free block above it.
+fn grow_up<S: BlockStore>(store: &mut S, number: u32, size: u32) -> Result<(), AllocError>
+    requires { CanGrowUp (is_relocatable number) size (S.zone store.old) }
+    ensures ok { OnOk result (GrewUp (is_relocatable number) size (S.zone store.old) (S.zone store.new)) }
+    ensures rest { IsRest (S.rest store.old) (S.rest store.new) }
+    ensures host { IsErr result → IsTrue S.TAKES_HOST }
+{
+    let Some(place) = store.place_of(number) else {
+        unreachable!()
+    };
+    store.resize(place, size)
+}
+
+/// The place of a seat, whose run is packed if it is one.
+fn pack_seat<S: BlockStore>(store: &mut S, bytes: u32, seat: Seat) -> u32
+    requires positive { 0 < bytes }
+    requires found { FindsSeat bytes (S.zone store.old) (Some seat) }
+    ensures place { IsAt (place bytes (S.zone store.old)) (S.zone store.new) (Some result) }
+    ensures blocks { SameBlocks (S.zone store.old) (S.zone store.new) }
+    ensures rest { KeepsSlots (S.rest store.old) (S.rest store.new) }
+{
+    let run = match seat {
+        Seat::Free(place) => return place,
+        Seat::Run(run) => run,
+    };
+    store.settle(run);
+    let Some(place) = store.find_free(bytes, 0, Named::Nothing) else {
+        unreachable!()
+    };
+    place
+}
+
+/// Moves the block of a slot, which takes `bytes` at its new size, to a place of its own.
+fn grow_away<S: BlockStore>(
+    store: &mut S,
+    number: u32,
+    size: u32,
+    bytes: u32,
+    seat: Seat,
+) -> Result<(), AllocError>
+    requires takes { size_of (grown size (spot (is_relocatable number) (S.zone store.old))) ≡ bytes }
+    requires positive { 0 < bytes }
+    requires found { FindsGrowth (is_relocatable number) (grown size (spot (is_relocatable number) (S.zone store.old))) (S.zone store.old) (Some (Growth.Away seat)) }
+    ensures ok { OnOk result (grow_mover (is_relocatable number) (grown size (spot (is_relocatable number) (S.zone store.old))) (S.zone store.old) ≡ Some (S.zone store.new)) }
+    ensures rest { KeepsSlots (S.rest store.old) (S.rest store.new) }
+    ensures host { IsErr result → IsTrue S.TAKES_HOST }
+{
+    let place = pack_seat(store, bytes, seat);
+    store.move_to(place, number, size)
+}
+
+/// Makes the block of a slot the last of its run, and lets it grow into the Free block above it.
+fn grow_as_last<S: BlockStore>(
+    store: &mut S,
+    number: u32,
+    size: u32,
+    run: u32,
+) -> Result<(), AllocError>
+    requires block { IsToGrow (is_relocatable number) size (S.zone store.old) }
+    requires found { FindsGrowth (is_relocatable number) (grown size (spot (is_relocatable number) (S.zone store.old))) (S.zone store.old) (Some (Growth.Last run)) }
+    ensures ok { OnOk result (grow_mover (is_relocatable number) (grown size (spot (is_relocatable number) (S.zone store.old))) (S.zone store.old) ≡ Some (S.zone store.new)) }
+    ensures rest { KeepsSlots (S.rest store.old) (S.rest store.new) }
+    ensures host { IsErr result → IsTrue S.TAKES_HOST }
+{
+    store.hoist(run, number);
+    store.settle(run);
+    grow_up(store, number, size)
+}
+
+/// Lets the block of a slot, which takes `bytes` at its new size, grow in the way that was found.
+fn carry_out<S: BlockStore>(
+    store: &mut S,
+    number: u32,
+    size: u32,
+    bytes: u32,
+    growth: Growth,
+) -> Result<(), AllocError>
+    requires block { IsToGrow (is_relocatable number) size (S.zone store.old) }
+    requires takes { size_of (grown size (spot (is_relocatable number) (S.zone store.old))) ≡ bytes }
+    requires positive { 0 < bytes }
+    requires found { FindsGrowth (is_relocatable number) (grown size (spot (is_relocatable number) (S.zone store.old))) (S.zone store.old) (Some growth) }
+    ensures ok { OnOk result (grow_mover (is_relocatable number) (grown size (spot (is_relocatable number) (S.zone store.old))) (S.zone store.old) ≡ Some (S.zone store.new)) }
+    ensures rest { KeepsSlots (S.rest store.old) (S.rest store.new) }
+    ensures host { IsErr result → IsTrue S.TAKES_HOST }
+{
+    match growth {
+        Growth::Up => grow_up(store, number, size),
+        Growth::Away(seat) => grow_away(store, number, size, bytes, seat),
+        Growth::Last(run) => grow_as_last(store, number, size, run),
+    }
+}
+
+/// The bytes that the block of a slot takes.
+fn bytes_of<S: BlockStore>(store: &S, number: u32) -> u32
+    requires { IsSome (spot (is_relocatable number) (S.zone store.now)) }
+    ensures { IfSome (spot (is_relocatable number) (S.zone store.now)) (λ s. result ≡ size_of s.here) }
+{
+    let Some(place) = store.place_of(number) else {
+        unreachable!()
+    };
+    bytes_at(store, place)
+}
+
+/// Lets the unlocked block of a slot grow to `size` bytes of content, new ones 0, after as few purges as
+/// serve: into the Free block above it, else at a place of its own, else as the last of its run. Answers
+/// whether there was room.
+///
+/// *Inside Macintosh: Memory*, chapter 2, "Changing the Sizes of Relocatable and Nonrelocatable Blocks".
+pub fn grow_movable<S: BlockStore>(
+    store: &mut S,
+    number: u32,
+    size: u32,
+) -> Result<bool, AllocError>
+    requires mover { IsSomeAnd (spot (is_relocatable number) (S.zone store.old)) (λ s. IsTrue (is_mover s.here)) }
+    requires more { IsToGrow (is_relocatable number) size (S.zone store.old) }
+    requires fits { IsSome (physical_size size) }
+    ensures zone { IfOk result (λ done. IfSome (spot (is_relocatable number) (S.zone store.old)) (λ s.
+        room (grow_mover (is_relocatable number) (resized size s.here)) (is_relocatable number) (S.zone store.old) ≡ made_zone done (S.zone store.new))) }
+    ensures full { IfOk result (λ done. done ≡ false → S.zone store.new ≡ S.zone store.old) }
+    ensures rest { KeepsSlots (S.rest store.old) (S.rest store.new) }
+    ensures host { IsErr result → IsTrue S.TAKES_HOST }
+{
+    let Some(bytes) = phys(size) else {
+        unreachable!()
+    };
+    let more = bytes - bytes_of(store, number);
+    let named = Named::One(number);
+    let found = find_growth(store, number, size, bytes, more, named);
+    let Some(growth) = found.growth else {
+        return Ok(false);
+    };
+    store.purge(found.purges, named);
+    carry_out(store, number, size, bytes, growth)?;
+    Ok(true)
+}

@@ -1,0 +1,134 @@
+//! Growth of a block where it stands.
+
+ghost use Rattle.std.specs.Prelude.{◌≡◌, ◌≤◌, ◌<◌, ◌-◌, ◌+◌, ◌%◌, ◌++◌, ◌∷◌, true, false, Some, IsSome, IfSome, IsSomeAnd, IfOk, OnOk, IsErr, IsTrue};
+ghost use Rattle.mac_words.specs.Size.{padded, phys as physical_size};
+ghost use Rattle.block_store.specs.Block.{size, sizes, resized};
+ghost use Rattle.block_store.specs.Run.{in_run, has_free, segments};
+ghost use Rattle.block_store.specs.Room.{spot_at, purge, count_of};
+ghost use Rattle.block_store.specs.Grow.{grow_fixed};
+ghost use Rattle.block_store.specs.Named.{spared};
+ghost use Rattle.block_store.specs.Rest.{IsRest};
+ghost use Rattle.heap_calls.specs.GrowingInPlace.{made_zone, seen_size, room_at, FindsPurges, pushed_up};
+
+use block_store::{BlockStore, Named, Seen};
+use mac_words::phys;
+use std::alloc::AllocError;
+
+/// Lets a Fixed or locked block at a place grow to `bytes` bytes of content where it stands; `false`, and
+/// nothing changes, where there is no room. The Free block right above it serves, else the run above it,
+/// packed upward after as few purges as serve.
+///
+/// *Inside Macintosh: Memory*, chapter 2, "Changing the Sizes of Relocatable and Nonrelocatable Blocks".
+pub fn grow_in_place<S: BlockStore>(
+    store: &mut S,
+    place: u32,
+    bytes: u32,
+    named: Named,
+) -> Result<bool, AllocError>
+    requires still { IsSomeAnd (spot_at place (S.zone store.old)) (λ s. in_run s.here ≡ false) }
+    requires grows { IsSomeAnd (spot_at place (S.zone store.old)) (λ s. size s.here < size (resized bytes s.here)) }
+    requires fits { IsSome (physical_size bytes) }
+    ensures zone { IfOk result (λ done. IfSome (spot_at place (S.zone store.old)) (λ s. grow_fixed (spared named) (resized bytes s.here) s ≡ made_zone done (S.zone store.new))) }
+    ensures none { IfOk result (λ done. done ≡ false → S.zone store.new ≡ S.zone store.old) }
+    ensures rest { IsRest (S.rest store.old) (S.rest store.new) }
+    ensures host { IsErr result → IsTrue S.TAKES_HOST }
+{
+    let taken = bytes_at(store, place);
+    let wanted = padded_size(bytes);
+    let more = wanted - taken;
+    if has_room_at(store, place + taken, more) {
+        store.resize(place, bytes)?;
+        return Ok(true);
+    }
+    let Some(purges) = least_purges(store, place, more, named) else {
+        return Ok(false);
+    };
+    push_up(store, place, taken, more, purges, named)?;
+    store.resize(place, bytes)?;
+    Ok(true)
+}
+
+/// The bytes that a block of so many bytes of content takes.
+fn padded_size(bytes: u32) -> u32
+    requires { bytes ≤ 2147483616 }
+    ensures { result ≡ padded bytes }
+{
+    let Some(taken) = phys(bytes) else {
+        unreachable!()
+    };
+    taken
+}
+
+/// The bytes that a block takes.
+fn seen_bytes(seen: Seen) -> u32
+    requires { seen_size seen ≤ 134217728 }
+    ensures { result ≡ seen_size seen }
+{
+    match seen {
+        Seen::Free(bytes) => bytes,
+        Seen::Fixed(bytes) => padded_size(bytes),
+        Seen::Masters => 272,
+        Seen::Relocatable(_, _, bytes) => padded_size(bytes),
+    }
+}
+
+/// The bytes that the block at a place takes.
+pub fn bytes_at<S: BlockStore>(store: &S, place: u32) -> u32
+    requires { IsSome (spot_at place (S.zone store.now)) }
+    ensures { IfSome (spot_at place (S.zone store.now)) (λ s. result ≡ size s.here) }
+{
+    let Some(seen) = store.block_at(place) else {
+        unreachable!()
+    };
+    seen_bytes(seen)
+}
+
+/// Whether a Free block of at least so many bytes stands at a place.
+fn has_room_at<S: BlockStore>(store: &S, place: u32, bytes: u32) -> bool
+    ensures { result ≡ room_at bytes (spot_at place (S.zone store.now)) }
+{
+    match store.block_at(place) {
+        Some(Seen::Free(free)) => free >= bytes,
+        _ => false,
+    }
+}
+
+/// How few blocks go from the run above the block at a place for it to have so many Free bytes.
+fn least_purges<S: BlockStore>(store: &S, place: u32, bytes: u32, named: Named) -> Option<u32>
+    requires { IsSome (spot_at place (S.zone store.now)) }
+    ensures { IfSome (spot_at place (S.zone store.now)) (λ s. FindsPurges bytes (spared named) (segments s.above).first result) }
+{
+    let most = store.purgeable_after(place, named);
+    let mut purges = 0;
+    loop {
+        if store.run_after(place, bytes, purges, named) {
+            return Some(purges);
+        }
+        if purges == most {
+            return None;
+        }
+        purges += 1;
+    }
+}
+
+/// Packs the run above the block at a place upward, with so many Free bytes at its bottom, after so many
+/// purges in it; `taken` is what the block takes.
+fn push_up<S: BlockStore>(
+    store: &mut S,
+    place: u32,
+    taken: u32,
+    bytes: u32,
+    purges: u32,
+    named: Named,
+) -> Result<(), AllocError>
+    requires still { IsSomeAnd (spot_at place (S.zone store.old)) (λ s. (in_run s.here ≡ false) × (taken ≡ size s.here)) }
+    requires room { IsSomeAnd (spot_at place (S.zone store.old)) (λ s. (purges ≤ count_of (spared named) (segments s.above).first)
+        × (has_free bytes (purge purges (spared named) (segments s.above).first) ≡ true)) }
+    requires even { bytes % 16 ≡ 0 }
+    ensures zone { OnOk result (IfSome (spot_at place (S.zone store.old)) (λ s. S.zone store.new ≡ s.below ++ s.here ∷ pushed_up bytes purges (spared named) s.above)) }
+    ensures rest { IsRest (S.rest store.old) (S.rest store.new) }
+    ensures host { IsErr result → IsTrue S.TAKES_HOST }
+{
+    store.purge_after(place, purges, named);
+    store.raise(place + taken, bytes)
+}

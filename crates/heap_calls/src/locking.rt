@@ -1,0 +1,115 @@
+//! Locking handles and moving them out of the way.
+
+ghost use Rattle.std.specs.Prelude.{◌≡◌, ◌≢◌};
+ghost use Rattle.heap_calls.specs.Given.{IsAnswer, seen_flags, seen_mover};
+ghost use Rattle.heap_calls.specs.Answer.{h_lock, h_unlock, change_flags, move_hhi, hlock_hi, noting, silent};
+
+use crate::heap::{Heap, find_block};
+use crate::name::slot_of;
+use crate::refusal::Refusal;
+use block_store::{BlockStore, Flags, Named, Seen};
+use mac_words::OsErr;
+
+impl<S: BlockStore> Heap<S> {
+    /// `HLock`: a handle's block doesn't move and isn't emptied.
+    pub fn h_lock(&mut self, handle: Option<usize>) -> Result<(), Refusal>
+        ensures answer { IsAnswer (noting (h_lock handle) self.old) result self.new }
+        ensures host { result ≢ Err Refusal.HostMemory }
+    {
+        let answer = self.set_lock(handle, true);
+        self.note(answer)
+    }
+
+    /// `HUnlock`: a handle's block may move.
+    pub fn h_unlock(&mut self, handle: Option<usize>) -> Result<(), Refusal>
+        ensures answer { IsAnswer (noting (h_unlock handle) self.old) result self.new }
+        ensures host { result ≢ Err Refusal.HostMemory }
+    {
+        let answer = self.set_lock(handle, false);
+        self.note(answer)
+    }
+
+    /// `MoveHHi`: a handle's block goes to the top of its run; -117 where it is locked.
+    pub fn move_hhi(&mut self, handle: Option<usize>) -> Result<(), Refusal>
+        ensures answer { IsAnswer (noting (move_hhi handle) self.old) result self.new }
+        ensures host { result ≢ Err Refusal.HostMemory }
+    {
+        let answer = self.move_high(handle);
+        self.note(answer)
+    }
+
+    /// `HLockHi`: as `MoveHHi`, and then the block is locked.
+    pub fn hlock_hi(&mut self, handle: Option<usize>) -> Result<(), Refusal>
+        ensures answer { IsAnswer (noting (hlock_hi handle) self.old) result self.new }
+        ensures host { result ≢ Err Refusal.HostMemory }
+    {
+        let answer = self.lock_high(handle);
+        self.note(answer)
+    }
+
+    /// Locks a handle's block, or unlocks it.
+    fn set_lock(&mut self, handle: Option<usize>, locked: bool) -> Result<(), Refusal>
+        ensures answer { IsAnswer (silent (change_flags (λ f. record f { locked = locked }) handle) self.old) result self.new }
+        ensures host { result ≢ Err Refusal.HostMemory }
+    {
+        let place = find_block(&self.store, &self.names, handle)?;
+        let Some(flags) = flags_of(self.store.block_at(place)) else {
+            return Ok(());
+        };
+        let changed = Flags {
+            locked,
+            purgeable: flags.purgeable,
+        };
+        self.store.set_flags(place, changed);
+        Ok(())
+    }
+
+    /// Moves a handle's block to the top of its run.
+    fn move_high(&mut self, handle: Option<usize>) -> Result<(), Refusal>
+        ensures answer { IsAnswer (silent (move_hhi handle) self.old) result self.new }
+        ensures host { result ≢ Err Refusal.HostMemory }
+    {
+        let found = slot_of(&self.names, handle)?;
+        let Some(place) = self.store.place_of(found.slot) else {
+            return Err(Refusal::Code(OsErr::NIL_HANDLE));
+        };
+        if !can_move(self.store.block_at(place)) {
+            return Err(Refusal::Code(OsErr::LOCKED));
+        }
+        let Some(run) = self.store.run_of(found.slot, 0, 0, Named::Nothing) else {
+            return Ok(());
+        };
+        self.store.hoist(run, found.slot);
+        Ok(())
+    }
+
+    /// Moves a handle's block to the top of its run, and locks it there.
+    fn lock_high(&mut self, handle: Option<usize>) -> Result<(), Refusal>
+        ensures answer { IsAnswer (silent (hlock_hi handle) self.old) result self.new }
+        ensures host { result ≢ Err Refusal.HostMemory }
+    {
+        self.move_high(handle)?;
+        self.set_lock(handle, true)?;
+        Ok(())
+    }
+}
+
+/// The flags of a block that was looked at, where it is a relocatable one.
+fn flags_of(seen: Option<Seen>) -> Option<Flags>
+    ensures { result ≡ seen_flags seen }
+{
+    match seen {
+        Some(Seen::Relocatable(_, flags, _)) => Some(flags),
+        _ => None,
+    }
+}
+
+/// Whether a block that was looked at is an unlocked relocatable one.
+pub(crate) fn can_move(seen: Option<Seen>) -> bool
+    ensures { result ≡ seen_mover seen }
+{
+    match seen {
+        Some(Seen::Relocatable(_, flags, _)) => !flags.locked,
+        _ => false,
+    }
+}
