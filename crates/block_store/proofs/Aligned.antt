@@ -1,10 +1,9 @@
 use Rattle.std.proofs.Common.{◌≡◌, ℕ, ◌+◌, ◌-◌, ◌%◌, zero, suc, Bool, true, false, ◌&&◌, not, ◌==◌, List, [], ◌∷◌, ◌++◌, filter, length, refl, sym, ◌∙◌, ap, cond, subst, arith, Option, Some, None, nat_le}
 use Rattle.std.proofs.lemmas.Option.{none-some, same_Some}
-use Rattle.std.proofs.lemmas.List.{append_assoc, append-nil}
 use Rattle.std.specs.Option.{option_map}
 use Rattle.mac_words.specs.Size.{padded}
 use Rattle.block_store.specs.Block.{Block, Free, Fixed, Masters, Relocatable, size, sizes, free, free_of, free_sum, is_room, is_mover, is_relocatable, add, tidy, with_content, resized}
-use Rattle.block_store.specs.Run.{Stretch, RunSpot, segments, joined, run_raised, run_from, run_at, with_run, movers, others, settle, low, high}
+use Rattle.block_store.specs.Run.{RunSpot, run_at, with_run, movers, others, settle, low, high}
 use Rattle.block_store.specs.Room.{Spot, raised, spot_at, filled, may_go, emptied}
 use Rattle.block_store.specs.Grow.{growth, taken, grow_up, freed}
 use Rattle.block_store.specs.Named.{spared, opened, purged}
@@ -13,7 +12,7 @@ use Rattle.block_store.specs.Seen.{with_flags}
 use Rattle.block_store.specs.declared.flags.Flags.{Flags}
 use Rattle.block_store.specs.declared.named.Named.{Named}
 use Rattle.block_store.specs.declared.named.Named.TheVariants as named
-use Rattle.block_store.proofs.Zones.{joined-segments}
+use Rattle.block_store.proofs.RunLists.{run_at-is}
 
 -- Each block takes a multiple of 16 bytes, and stays so.
 
@@ -196,31 +195,6 @@ aligned-grow_up new s after e a is = cases (taken (growth new s) s.above) refl i
     cases None same is = absurd (none-some _ is)
     cases (Some above) same is =
         subst Aligned (same_Some _ _ is) (aligned-append s.below (new ∷ above) (aligned-below s.below (s.here ∷ s.above) a) (e, aligned-taken (growth new s) s.above above even (rest s a).1 same))
-
--- the run of a place is a way to see the zone
-run_from-is : (place : ℕ) (run : List Block) (parts : List Stretch) (r : RunSpot) → run_from place run parts ≡ Some r → r.below ++ (r.run ++ r.above) ≡ joined run parts
-run_from-is place run [] r e = cases (place == 0) e
-  where
-    cases : (t : Bool) → cond t (Some (record { below = []; run = run; above = [] })) None ≡ Some r → r.below ++ (r.run ++ r.above) ≡ run
-    cases true e = ap (λ (r : RunSpot). r.below ++ (r.run ++ r.above)) (sym (same_Some _ _ e)) ∙ append-nil run
-    cases false e = absurd (none-some _ e)
-run_from-is place run (p ∷ parts) r e =
-    cases (place == 0) (nat_le (sizes (run ++ p.barrier ∷ [])) place) (run_from (place - sizes (run ++ p.barrier ∷ [])) p.run parts) (run_from-is (place - sizes (run ++ p.barrier ∷ [])) p.run parts) e
-  where
-    cases : (t u : Bool) (o : Option RunSpot) → ((r : RunSpot) → o ≡ Some r → r.below ++ (r.run ++ r.above) ≡ joined p.run parts)
-        → cond t (Some (record { below = []; run = run; above = p.barrier ∷ joined p.run parts })) (cond u (option_map (run_raised (run ++ p.barrier ∷ [])) o) None) ≡ Some r
-        → r.below ++ (r.run ++ r.above) ≡ run ++ p.barrier ∷ joined p.run parts
-    cases true u o rest e = ap (λ (r : RunSpot). r.below ++ (r.run ++ r.above)) (sym (same_Some _ _ e))
-    cases false false o rest e = absurd (none-some _ e)
-    cases false true None rest e = absurd (none-some _ e)
-    cases false true (Some r') rest e =
-        ap (λ (r : RunSpot). r.below ++ (r.run ++ r.above)) (sym (same_Some _ _ e))
-        ∙ append_assoc (run ++ p.barrier ∷ []) r'.below (r'.run ++ r'.above)
-        ∙ ap (λ l. (run ++ p.barrier ∷ []) ++ l) (rest r' refl)
-        ∙ append_assoc run (p.barrier ∷ []) (joined p.run parts)
-
-pub run_at-is : (place : ℕ) (zone : List Block) (r : RunSpot) → run_at place zone ≡ Some r → r.below ++ (r.run ++ r.above) ≡ zone
-run_at-is place zone r e = run_from-is place (segments zone).first (segments zone).rest r e ∙ joined-segments zone
 
 -- a run that is changed
 pub aligned-run : (change : List Block → List Block) (place : ℕ) (zone : List Block) (r : RunSpot) → ((run : List Block) → Aligned run → Aligned (change run)) → Aligned zone → run_at place zone ≡ Some r

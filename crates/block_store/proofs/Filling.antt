@@ -1,5 +1,6 @@
 use Rattle.std.proofs.Common.{◌≡◌, ℕ, ◌+◌, ◌-◌, ◌*◌, ◌≤◌, ◌<◌, ◌⊎◌, inl, inr, Bool, true, false, ◌==◌, List, ◌∷◌, ◌++◌, length, refl, sym, ◌∙◌, ap, cond, subst, arith, Option, Some, None, Result, Ok, Err, replicate}
 use Rattle.std.proofs.lemmas.List.{length-replicate}
+use Rattle.std.proofs.lemmas.Bool.Decides.{Decides-eqb}
 use Rattle.std.specs.Result.{OnOk, OnErr}
 use Rattle.std.proofs.lemmas.Bool.Decides.{Decides-eqb}
 use Rattle.mac_words.specs.Size.{padded}
@@ -11,13 +12,14 @@ use Rattle.block_store.specs.Room.{Spot, spot, spot_at, filled}
 use Rattle.block_store.specs.Grow.{grow_up, freed}
 use Rattle.block_store.specs.Seen.{moved_away}
 use Rattle.block_store.specs.Slot.{Slot, is_used}
-use Rattle.block_store.specs.Compact.{Aligned}
+use Rattle.block_store.specs.Compact.{Aligned, Placed}
 use Rattle.block_store.proofs.Tidy.{total-tidy, spot-passes, has-freed}
 use Rattle.block_store.proofs.Apart.{tidy-tidy, tidy-content}
 use Rattle.block_store.proofs.Spots.{room-size, sizes-carved, sizes-same, size-content, length-written}
 use Rattle.block_store.proofs.Leading.{leads-from, leads-carved, most-once, most-none, count-carved, count-same, is_relocatable-content, is_masters-content, none-count, count-none, count-freed}
 use Rattle.block_store.proofs.Listing.{size-freed}
 use Rattle.block_store.proofs.Aligned.{spot_at-is, aligned-filled, aligned-freed, aligned-grow_up, aligned-same, aligned-above, sixteens-content, sixteens-resized, sixteens-slot}
+use Rattle.block_store.proofs.Placing.{StandsAt, stands-slot, stands-resized, placed-here, placed-above, placed-filled, placed-freed, placed-grow_up, placed-spot, placed-content}
 use Rattle.block_store.proofs.Resizing.{is_relocatable-resized, is_masters-resized, sizes-grown, count-grown, tidy-grown, less_or_more, larger, found-has, is_of, not_both, freed-around, masters-freed, size-resized}
 
 -- what is known of a spot that is there
@@ -33,8 +35,9 @@ pub record Lawful (slots : ℕ → Slot) (bytes all : ℕ) (zone : List Block) :
   pub once : (number : ℕ) → count (is_relocatable number) zone ≤ 1
   pub tidied : tidy zone ≡ zone
   pub aligned : Aligned zone
+  pub placed : Placed 0 zone
 
-not_masters : (p : ℕ) (b : Block) → is_room p b ≡ true → is_masters b ≡ false
+pub not_masters : (p : ℕ) (b : Block) → is_room p b ≡ true → is_masters b ≡ false
 not_masters p (Free n) e = refl
 not_masters p (Fixed id content) e = refl
 not_masters p Masters e = let f : false ≡ true = e in cc
@@ -47,9 +50,10 @@ pub record Loose (slots : ℕ → Slot) (bytes all : ℕ) (zone : List Block) : 
   pub no_block : (number : ℕ) → is_used (slots number) ≡ false → has (is_relocatable number) zone ≡ false
   pub once : (number : ℕ) → count (is_relocatable number) zone ≤ 1
   pub aligned : Aligned zone
+  pub placed : Placed 0 zone
 
 pub loosened : (slots : ℕ → Slot) (bytes all : ℕ) (zone : List Block) → Lawful slots bytes all zone → Loose slots bytes all zone
-loosened slots bytes all zone lawful = record { covered = lawful.covered; masters = lawful.masters; no_block = lawful.no_block; once = lawful.once; aligned = lawful.aligned }
+loosened slots bytes all zone lawful = record { covered = lawful.covered; masters = lawful.masters; no_block = lawful.no_block; once = lawful.once; aligned = lawful.aligned; placed = lawful.placed }
 
 -- a slot's block is Free
 loose-freed : (slots : ℕ → Slot) (bytes all : ℕ) (zone : List Block) (number : ℕ) → Loose slots bytes all zone → Loose slots bytes all (freed (is_relocatable number) zone)
@@ -59,6 +63,7 @@ loose-freed slots bytes all zone number loose = record {
   no_block = λ k unused. none-count (is_relocatable k) (freed (is_relocatable number) zone) (let n = count-freed (is_relocatable k) (is_relocatable number) (λ n. refl) zone in let z = count-none (is_relocatable k) zone (loose.no_block k unused) in omega arith);
   once = λ k. let n = count-freed (is_relocatable k) (is_relocatable number) (λ n. refl) zone in let z = loose.once k in omega arith;
   aligned = aligned-freed (is_relocatable number) zone loose.aligned;
+  placed = placed-freed 0 (is_relocatable number) zone loose.placed;
 }
 
 -- a block of a slot of a handle that led to none, in place of a Free one
@@ -77,6 +82,7 @@ lawful-placed slots bytes all zone zone' number new s loose whole is other used 
       once = λ k. subst (λ l. count (is_relocatable k) l ≤ 1) (sym e) (most-once k (slots k) (tidy carved) (leads k));
       tidied = ap tidy e ∙ tidy-tidy carved ∙ sym e;
       aligned = subst Aligned (sym e) (aligned-filled new s (sixteens-slot number new (is number ∙ (Decides-eqb number number).1 refl)) (subst Aligned (sym whole) loose.aligned));
+      placed = subst (Placed 0) (sym e) (placed-filled 0 new s (stands-slot (0 + sizes s.below) number new (is number ∙ (Decides-eqb number number).1 refl)) fits (subst (Placed 0) (sym whole) loose.placed));
     }
   where
     same : (b : Block) (n m : ℕ) → n + cond (is_masters b) 1 0 ≡ cond (is_masters new) 1 0 + m → is_masters b ≡ false → n ≡ m
@@ -95,14 +101,15 @@ lawful-filled slots bytes all zone zone' place number new lawful is other used n
 
 -- blocks of the same counts
 pub lawful-counts : (slots : ℕ → Slot) (bytes all : ℕ) (zone zone' : List Block) → Lawful slots bytes all zone → sizes zone' ≡ sizes zone → ((k : ℕ) → count (is_relocatable k) zone' ≡ count (is_relocatable k) zone)
-    → count is_masters zone' ≡ count is_masters zone → tidy zone' ≡ zone' → Aligned zone' → Lawful slots bytes all zone'
-lawful-counts slots bytes all zone zone' lawful whole counts masters tidied aligned = record {
+    → count is_masters zone' ≡ count is_masters zone → tidy zone' ≡ zone' → Aligned zone' → Placed 0 zone' → Lawful slots bytes all zone'
+lawful-counts slots bytes all zone zone' lawful whole counts masters tidied aligned placed = record {
   covered = whole ∙ lawful.covered;
   masters = lawful.masters ∙ ap (λ n. 64 * n) (sym masters);
   no_block = λ k unused. none-count (is_relocatable k) zone' (let n = counts k in let z = count-none (is_relocatable k) zone (lawful.no_block k unused) in omega arith);
   once = λ k. let n = counts k in let z = lawful.once k in omega arith;
   tidied = tidied;
   aligned = aligned;
+  placed = placed;
 }
 
 -- another content of the same length
@@ -122,6 +129,7 @@ lawful-written slots bytes all zone zone' place from x lawful within after =
     (ap (count is_masters) e ∙ count-same is_masters s.below s.above s.here (with_content w s.here) (is_masters-content w s.here) ∙ ap (count is_masters) whole)
     (ap tidy e ∙ tidy-content w s.below s.here s.above (ap tidy whole ∙ lawful.tidied ∙ sym whole) ∙ sym e)
     (subst Aligned (sym e) (aligned-same s.below s.above s.here (with_content w s.here) (sixteens-content w s.here (aligned-above s.below (s.here ∷ s.above) aligned).0) aligned))
+    (subst (Placed 0) (sym e) (placed-content 0 w s.below s.here s.above (length-written from x (content_of s.here) at.2) (placed-spot place zone s lawful.placed at.1)))
 
 -- a new block, or the host had no memory for it
 pub lawful-carved : {T E : Type 0} (r : Result T E) (slots : ℕ → Slot) (bytes all : ℕ) (zone zone' : List Block) (place number n : ℕ) (content : List ℕ) → Lawful slots bytes all zone
@@ -139,6 +147,10 @@ count-resized test none new s zone whole same =
     let x : cond {A = ℕ} (test new) 1 0 ≡ cond (test s.here) 1 0 = ap {B = ℕ} (λ (t : Bool). cond t 1 0) same in
     omega arith
 
+-- the block of a spot at another size is named as it was
+resized-stands : (n : ℕ) (s : Spot) → Placed 0 (s.below ++ s.here ∷ s.above) → StandsAt (0 + sizes s.below) (resized n s.here)
+resized-stands n s placed = stands-resized (0 + sizes s.below) n s.here (placed-here (0 + sizes s.below) s.here s.above (placed-above 0 s.below (s.here ∷ s.above) placed))
+
 lawful-cut : (slots : ℕ → Slot) (bytes all : ℕ) (zone zone' : List Block) (n : ℕ) (s : Spot) → Lawful slots bytes all zone → s.below ++ s.here ∷ s.above ≡ zone → size (resized n s.here) ≤ size s.here → zone' ≡ filled (resized n s.here) s
     → Lawful slots bytes all zone'
 lawful-cut slots bytes all zone zone' n s lawful whole less e =
@@ -146,24 +158,28 @@ lawful-cut slots bytes all zone zone' n s lawful whole less e =
     let left = size s.here - size new in
     let carved = s.below ++ new ∷ Free left ∷ s.above in
     let aligned : Aligned (s.below ++ s.here ∷ s.above) = subst Aligned (sym whole) lawful.aligned in
+    let placed : Placed 0 (s.below ++ s.here ∷ s.above) = subst (Placed 0) (sym whole) lawful.placed in
     lawful-counts slots bytes all zone zone' lawful
     (ap sizes e ∙ total-tidy size (λ n m. refl) carved ∙ sizes-carved s.below s.above s.here new left (omega arith) ∙ ap sizes whole)
     (λ k. ap (count (is_relocatable k)) e ∙ count-resized (is_relocatable k) (λ n. refl) new s zone whole (is_relocatable-resized k n s.here))
     (ap (count is_masters) e ∙ count-resized is_masters (λ n. refl) new s zone whole (is_masters-resized n s.here))
     (ap tidy e ∙ tidy-tidy carved ∙ sym e)
     (subst Aligned (sym e) (aligned-filled new s (sixteens-resized n s.here (aligned-above s.below (s.here ∷ s.above) aligned).0) aligned))
+    (subst (Placed 0) (sym e) (placed-filled 0 new s (resized-stands n s placed) less placed))
 
 lawful-grown : (slots : ℕ → Slot) (bytes all : ℕ) (zone zone' : List Block) (n : ℕ) (s : Spot) → Lawful slots bytes all zone → s.below ++ s.here ∷ s.above ≡ zone → size s.here < size (resized n s.here) → grow_up (resized n s.here) s ≡ Some zone'
     → Lawful slots bytes all zone'
 lawful-grown slots bytes all zone zone' n s lawful whole more e =
     let new = resized n s.here in
     let aligned : Aligned (s.below ++ s.here ∷ s.above) = subst Aligned (sym whole) lawful.aligned in
+    let placed : Placed 0 (s.below ++ s.here ∷ s.above) = subst (Placed 0) (sym whole) lawful.placed in
     lawful-counts slots bytes all zone zone' lawful
     (sizes-grown new s zone' more e ∙ ap sizes whole)
     (λ k. count-grown (is_relocatable k) (λ n. refl) new s zone' (is_relocatable-resized k n s.here) e ∙ ap (count (is_relocatable k)) whole)
     (count-grown is_masters (λ n. refl) new s zone' (is_masters-resized n s.here) e ∙ ap (count is_masters) whole)
     (tidy-grown n s zone' more (ap tidy whole ∙ lawful.tidied ∙ sym whole) e)
     (aligned-grow_up new s zone' (sixteens-resized n s.here (aligned-above s.below (s.here ∷ s.above) aligned).0) aligned e)
+    (placed-grow_up 0 new s zone' (resized-stands n s placed) (omega arith) placed e)
 
 -- a block at another size, or the host had no memory for it
 pub lawful-resized : {T E : Type 0} (r : Result T E) (slots : ℕ → Slot) (bytes all : ℕ) (zone zone' : List Block) (place n : ℕ) → Lawful slots bytes all zone

@@ -14,9 +14,14 @@ pub mod RunLooks
 pub mod Filling
 pub mod Purges
 pub mod Looks
+pub mod PurgedSums
 pub mod RunLists
 pub mod Packed
 pub mod Repacked
 pub mod Aligned
 pub mod Resizing
 pub mod GrowRenaming
+pub mod Placing
+pub mod Copies
+pub mod FixedBlocks
+pub mod FixedCounts

@@ -20,9 +20,10 @@ use Rattle.block_store.proofs.Tidy.{total-tidy}
 use Rattle.block_store.proofs.Apart.{Apart, apart-tidied, tidy-apart, tidy-tidy}
 use Rattle.block_store.proofs.Spots.{sizes-same}
 use Rattle.block_store.proofs.Leading.{count-freed, count-same, count-none, none-count, masters-released}
-use Rattle.block_store.specs.Compact.{Aligned}
+use Rattle.block_store.specs.Compact.{Aligned, Placed}
 use Rattle.block_store.proofs.Filling.{Lawful}
 use Rattle.block_store.proofs.Aligned.{spot_at-is, aligned-append, aligned-below, aligned-above, aligned-tidy, aligned-emptied, aligned-opened, aligned-spot, aligned-same, sixteens-flags}
+use Rattle.block_store.proofs.Placing.{size-flags, placed-tidy, placed-emptied, placed-opened, placed-emptied_above, placed-flags, placed-spot}
 
 -- Blocks of which the lowest that may go are emptied.
 
@@ -218,8 +219,8 @@ masters-opened (named.Freed slot) bs = sym (total-tidy (λ (b : Block). cond (is
 
 -- blocks of which some became Free, with Free neighbours made one
 pub lawful-fewer : (slots : ℕ → Slot) (bytes all : ℕ) (zone fewer zone' : List Block) → Lawful slots bytes all zone → sizes fewer ≡ sizes zone → count is_masters fewer ≡ count is_masters zone
-    → ((k : ℕ) → count (is_relocatable k) fewer ≤ count (is_relocatable k) zone) → Aligned fewer → zone' ≡ tidy fewer → Lawful slots bytes all zone'
-lawful-fewer slots bytes all zone fewer zone' lawful whole same less sixteens after =
+    → ((k : ℕ) → count (is_relocatable k) fewer ≤ count (is_relocatable k) zone) → Aligned fewer → zone' ≡ tidy fewer → Placed 0 (tidy fewer) → Lawful slots bytes all zone'
+lawful-fewer slots bytes all zone fewer zone' lawful whole same less sixteens after placed =
     let counts : (k : ℕ) → count (is_relocatable k) zone' ≤ count (is_relocatable k) zone =
     λ k. let e = ap (count (is_relocatable k)) after ∙ total-tidy (λ (b : Block). cond (is_relocatable k b) 1 0) (λ n m. refl) fewer in let l = less k in omega arith in
     record {
@@ -229,6 +230,7 @@ lawful-fewer slots bytes all zone fewer zone' lawful whole same less sixteens af
       once = λ k. let n = counts k in let z = lawful.once k in omega arith;
       tidied = ap tidy after ∙ tidy-tidy fewer ∙ sym after;
       aligned = subst Aligned (sym after) (aligned-tidy fewer sixteens);
+      placed = subst (Placed 0) (sym after) placed;
     }
 
 -- the lowest blocks that may go are emptied
@@ -237,6 +239,7 @@ lawful-purged slots bytes all zone zone' k n lawful after =
     lawful-fewer slots bytes all zone (emptied k (spared n) (opened n zone)) zone' lawful (sizes-emptied k (spared n) (opened n zone) ∙ sizes-opened n zone) (masters-emptied k (spared n) (opened n zone) ∙ masters-opened n zone)
     (λ j. let e = count-emptied (is_relocatable j) (λ n. refl) k (spared n) (opened n zone) in let o = count-opened (is_relocatable j) (λ n. refl) n zone in omega arith)
     (aligned-emptied k (spared n) (opened n zone) (aligned-opened n zone lawful.aligned)) after
+    (placed-tidy 0 (emptied k (spared n) (opened n zone)) (placed-emptied 0 k (spared n) (opened n zone) (placed-opened 0 n zone lawful.placed)))
 
 -- the spot of a place, where there is one
 pub spot_there : (o : Option Spot) (P : Spot → Type 0) → IsSome o → IfSome o P → (s : Spot) × (o ≡ Some s) × P s
@@ -255,6 +258,7 @@ lawful-purged_above slots bytes all zone zone' place k sp lawful some after =
     (kept (λ b. cond (is_masters b) 1 0) s.below s.here (emptied k sp s.above) s.above (masters-emptied k sp s.above) ∙ ap (count is_masters) whole)
     (λ j. let l = less (λ b. cond (is_relocatable j b) 1 0) s.below s.here (emptied k sp s.above) s.above (count-emptied (is_relocatable j) (λ n. refl) k sp s.above) in let e = ap (count (is_relocatable j)) whole in omega arith)
     (let a = aligned-spot place zone s lawful.aligned at.1 in aligned-append s.below (s.here ∷ emptied k sp s.above) (aligned-below s.below (s.here ∷ s.above) a) ((aligned-above s.below (s.here ∷ s.above) a).0, aligned-emptied k sp s.above (aligned-above s.below (s.here ∷ s.above) a).1)) at.2
+    (placed-emptied_above 0 k sp s.below s.here s.above (placed-spot place zone s lawful.placed at.1))
   where
     kept : (of : Block → ℕ) (below : List Block) (b : Block) (new above : List Block) → total of new ≡ total of above → total of (below ++ b ∷ new) ≡ total of (below ++ b ∷ above)
     kept of [] b new above e = ap (λ n. of b + n) e
@@ -288,12 +292,6 @@ tidy-flags flags below (Fixed id content) above e = e
 tidy-flags flags below Masters above e = e
 tidy-flags flags below (Relocatable id old content) above e = tidy-apart (below ++ Relocatable id flags content ∷ above) (apart-flags id old flags content below above (apart-tidied (below ++ Relocatable id old content ∷ above) e))
 
-size-flags : (flags : Flags) (b : Block) → size (with_flags flags b) ≡ size b
-size-flags flags (Free n) = refl
-size-flags flags (Fixed id content) = refl
-size-flags flags Masters = refl
-size-flags flags (Relocatable id old content) = refl
-
 is_masters-flags : (flags : Flags) (b : Block) → is_masters (with_flags flags b) ≡ is_masters b
 is_masters-flags flags (Free n) = refl
 is_masters-flags flags (Fixed id content) = refl
@@ -323,4 +321,5 @@ lawful-flagged slots bytes all zone zone' place flags lawful some after =
       once = λ k. let n = counts k in let z = lawful.once k in omega arith;
       tidied = ap tidy e ∙ tidy-flags flags s.below s.here s.above (ap tidy whole ∙ lawful.tidied ∙ sym whole) ∙ sym e;
       aligned = let a = aligned-spot place zone s lawful.aligned at.1 in subst Aligned (sym e) (aligned-same s.below s.above s.here (with_flags flags s.here) (sixteens-flags flags s.here (aligned-above s.below (s.here ∷ s.above) a).0) a);
+      placed = subst (Placed 0) (sym e) (placed-flags 0 flags s.below s.here s.above (placed-spot place zone s lawful.placed at.1));
     }

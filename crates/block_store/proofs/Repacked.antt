@@ -7,7 +7,7 @@ use Rattle.std.specs.Bool.{IsTrue}
 use Rattle.block_store.specs.Block.{Block, Free, Fixed, Masters, Relocatable, size, sizes, total, count, free, free_sum, is_masters, is_relocatable, add, tidy}
 use Rattle.block_store.specs.Run.{RunSpot, has, has_free, movers, settle, low, high, with_run, run_at}
 use Rattle.block_store.specs.Room.{Spot, raised, spot}
-use Rattle.block_store.specs.Compact.{distance, NoneRises, Aligned}
+use Rattle.block_store.specs.Compact.{distance, NoneRises, Aligned, Placed}
 use Rattle.block_store.specs.Slot.{Slot}
 use Rattle.block_store.specs.Packing.{Loose}
 use Rattle.block_store.proofs.Tidy.{Adds, total-tidy}
@@ -15,6 +15,7 @@ use Rattle.block_store.proofs.Apart.{tidy-tidy}
 use Rattle.block_store.proofs.Leading.{count-none, none-count}
 use Rattle.block_store.proofs.Filling.{Lawful}
 use Rattle.block_store.proofs.Aligned.{aligned-tidy, aligned-run, aligned-settle, aligned-high, aligned-low}
+use Rattle.block_store.proofs.Placing.{placed-settled, placed-hoisted, placed-risen}
 use Rattle.block_store.proofs.RunLists.{run_at-parts}
 use Rattle.block_store.proofs.Packed.{total-run, settle-total, low-total, high-total, free-enough}
 
@@ -31,8 +32,8 @@ some_run (Some r) Q p q = (r, refl, q)
 
 -- a change of a run that keeps what its blocks come to
 pub lawful-run : (slots : ℕ → Slot) (bytes all : ℕ) (zone zone' : List Block) (place : ℕ) (r : RunSpot) (change : List Block → List Block) → Lawful slots bytes all zone → run_at place zone ≡ Some r → zone' ≡ tidy (with_run change r)
-    → ((of : Block → ℕ) → Adds of → Loose r.run → total of (change r.run) ≡ total of r.run) → ((run : List Block) → Aligned run → Aligned (change run)) → Lawful slots bytes all zone'
-lawful-run slots bytes all zone zone' place r change lawful found is keeps sixteens =
+    → ((of : Block → ℕ) → Adds of → Loose r.run → total of (change r.run) ≡ total of r.run) → ((run : List Block) → Aligned run → Aligned (change run)) → Placed 0 (tidy (with_run change r)) → Lawful slots bytes all zone'
+lawful-run slots bytes all zone zone' place r change lawful found is keeps sixteens placed =
     let parts = run_at-parts place zone r found in
     let same : (of : Block → ℕ) → Adds of → total of zone' ≡ total of zone =
     λ of adds. ap (total of) is ∙ total-tidy of adds (with_run change r) ∙ total-run of change r ∙ ap (λ n. total of r.below + n + total of r.above) (keeps of adds parts.loose) ∙ sym (total-run of (λ l. l) r) ∙ ap (total of) parts.whole in
@@ -44,27 +45,28 @@ lawful-run slots bytes all zone zone' place r change lawful found is keeps sixte
       once = λ k. let n = counts k in let z = lawful.once k in omega arith;
       tidied = ap tidy is ∙ tidy-tidy (with_run change r) ∙ sym is;
       aligned = subst Aligned (sym is) (aligned-tidy (with_run change r) (aligned-run change place zone r sixteens lawful.aligned found));
+      placed = subst (Placed 0) (sym is) placed;
     }
 
 -- a settled run
 pub lawful-settled : (slots : ℕ → Slot) (bytes all : ℕ) (zone zone' : List Block) (place : ℕ) → Lawful slots bytes all zone → IsSome (run_at place zone) → IfSome (run_at place zone) (λ r. zone' ≡ tidy (with_run settle r)) → Lawful slots bytes all zone'
 lawful-settled slots bytes all zone zone' place lawful there after =
     let at = some_run (run_at place zone) (λ r. zone' ≡ tidy (with_run settle r)) there after in
-    lawful-run slots bytes all zone zone' place at.0 settle lawful at.1 at.2 (λ of adds loose. settle-total of adds at.0.run loose) aligned-settle
+    lawful-run slots bytes all zone zone' place at.0 settle lawful at.1 at.2 (λ of adds loose. settle-total of adds at.0.run loose) aligned-settle (placed-settled place zone at.0 lawful.placed at.1)
 
 -- a run with a block of a slot at its top
 pub lawful-hoisted : (slots : ℕ → Slot) (bytes all : ℕ) (zone zone' : List Block) (place number : ℕ) → Lawful slots bytes all zone → IsSomeAnd (run_at place zone) (λ r. IsTrue (has (is_relocatable number) r.run))
     → IfSome (run_at place zone) (λ r. zone' ≡ tidy (with_run (high (is_relocatable number)) r)) → Lawful slots bytes all zone'
 lawful-hoisted slots bytes all zone zone' place number lawful there after =
     let at = the_run (run_at place zone) (λ r. IsTrue (has (is_relocatable number) r.run)) (λ r. zone' ≡ tidy (with_run (high (is_relocatable number)) r)) there after in
-    lawful-run slots bytes all zone zone' place at.0 (high (is_relocatable number)) lawful at.1 at.3 (λ of adds loose. high-total of adds number at.0.run loose) (aligned-high (is_relocatable number))
+    lawful-run slots bytes all zone zone' place at.0 (high (is_relocatable number)) lawful at.1 at.3 (λ of adds loose. high-total of adds number at.0.run loose) (aligned-high (is_relocatable number)) (placed-hoisted place number zone at.0 lawful.placed at.1)
 
 -- a run with Free bytes at its bottom, or the host had no memory for it
 pub lawful-raised : {T E : Type 0} (result : Result T E) (slots : ℕ → Slot) (bytes all : ℕ) (zone zone' : List Block) (place n : ℕ) → n % 16 ≡ 0 → Lawful slots bytes all zone → IsSomeAnd (run_at place zone) (λ r. IsTrue (has_free n r.run))
     → OnOk result (IfSome (run_at place zone) (λ r. zone' ≡ tidy (with_run (low (Free n)) r))) → OnErr result (zone' ≡ zone) → Lawful slots bytes all zone'
 lawful-raised (Ok x) slots bytes all zone zone' place n even lawful there ok err =
     let at = the_run (run_at place zone) (λ r. IsTrue (has_free n r.run)) (λ r. zone' ≡ tidy (with_run (low (Free n)) r)) there ok in
-    lawful-run slots bytes all zone zone' place at.0 (low (Free n)) lawful at.1 at.3 (λ of adds loose. low-total of adds n at.0.run loose (free-enough n zone place at.0 at.1 there)) (λ run a. aligned-low (Free n) run even a)
+    lawful-run slots bytes all zone zone' place at.0 (low (Free n)) lawful at.1 at.3 (λ of adds loose. low-total of adds n at.0.run loose (free-enough n zone place at.0 at.1 there)) (λ run a. aligned-low (Free n) run even a) (placed-risen place n zone at.0 at.2 lawful.placed at.1)
 lawful-raised (Err e) slots bytes all zone zone' place n even lawful there ok err = subst (Lawful slots bytes all) (sym err) lawful
 
 -- the bytes below the block of a slot, or all where it has none

@@ -68,6 +68,9 @@ run_at-parts place zone r e =
     let P : List Block → Type 0 = λ l. Parts l r in
     subst P (joined-segments zone) (run_from-parts place (segments zone).first (segments zone).rest r loose.0 loose.1 e)
 
+pub run_at-is : (place : ℕ) (zone : List Block) (r : RunSpot) → run_at place zone ≡ Some r → r.below ++ (r.run ++ r.above) ≡ zone
+run_at-is place zone r e = sym (append_assoc r.below r.run r.above) ∙ (run_at-parts place zone r e).whole
+
 -- the run whose bottom is at this distance from the bottom of a run, and isn't that one
 abbrev pub later : ℕ → List Block → List Stretch → Option RunSpot
 later place run [] = None

@@ -1,7 +1,8 @@
 use Rattle.std.specs.Prelude.{◌≡◌, ℕ, ◌+◌, ◌≤◌, ◌%◌, zero, suc, Bool, false, Option, Some, None, List, [], ◌∷◌, ◌++◌, length, max, if◌then◌else◌}
 use native.Mathlib.Nat.{ℕ_set}
 use Rattle.std.specs.Option.{option_map}
-use Rattle.block_store.specs.Block.{Block, sizes, free_of, free_sum, is_room, is_relocatable}
+use Rattle.mac_words.specs.Size.{padded}
+use Rattle.block_store.specs.Block.{Block, Free, Fixed, Masters, Relocatable, sizes, free_of, free_sum, is_room, is_relocatable}
 use Rattle.block_store.specs.Run.{Stretch, RunSpot, segments, runs, joined, run_raised, run_at, has, settle}
 use Rattle.block_store.specs.Room.{spot}
 use Rattle.block_store.specs.Rest.{falling}
@@ -92,3 +93,18 @@ Aligned (b ∷ above) = (free_of b % 16 ≡ 0) × Aligned above
 pub Aligned-prop : (zone : List Block) → IsProp (Aligned zone)
 Aligned-prop [] = hlevel
 Aligned-prop (b ∷ above) = hlevel (Aligned-prop above, ℕ_set)
+
+-- each Fixed block, of blocks that begin at a place, is named by its own place
+abbrev pub Placed : ℕ → List Block → Type 0
+Placed place [] = Unit {0}
+Placed place (Free n ∷ above) = Placed (place + n) above
+Placed place (Fixed id content ∷ above) = (id ≡ place) × Placed (place + padded (length content)) above
+Placed place (Masters ∷ above) = Placed (place + 272) above
+Placed place (Relocatable id flags content ∷ above) = Placed (place + padded (length content)) above
+
+pub Placed-prop : (place : ℕ) (zone : List Block) → IsProp (Placed place zone)
+Placed-prop place [] = hlevel
+Placed-prop place (Free n ∷ above) = Placed-prop (place + n) above
+Placed-prop place (Fixed id content ∷ above) = hlevel (Placed-prop (place + padded (length content)) above, ℕ_set)
+Placed-prop place (Masters ∷ above) = Placed-prop (place + 272) above
+Placed-prop place (Relocatable id flags content ∷ above) = Placed-prop (place + padded (length content)) above

@@ -3,7 +3,7 @@ use Rattle.std.proofs.Common.{subst, sym}
 use Rattle.block_store.specs.Block.{sizes, count, is_masters, is_relocatable, tidy}
 use Rattle.block_store.specs.Run.{has}
 use Rattle.block_store.specs.Slot.{is_used}
-use Rattle.block_store.specs.Compact.{Aligned}
+use Rattle.block_store.specs.Compact.{Aligned, Placed}
 use Rattle.block_store.specs.ListStore.{blocks_of, slots_of}
 use Rattle.block_store.specs.declared.list_store.ListStore.{ListStore}
 
@@ -26,3 +26,6 @@ store-tidied s = s.tidied
 
 pub store-aligned : (s : ListStore) → Aligned (blocks_of s.blocks.items)
 store-aligned s = s.aligned
+
+pub store-placed : (s : ListStore) → Placed 0 (blocks_of s.blocks.items)
+store-placed s = s.placed

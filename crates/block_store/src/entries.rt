@@ -182,7 +182,7 @@ fn overwrite(content: &mut Vec<u8>, from: usize, bytes: &[u8])
 }
 
 /// An entry with bytes written into its content.
-fn written_entry(entry: Entry, from: usize, bytes: &[u8]) -> Entry
+pub fn written_entry(entry: Entry, from: usize, bytes: &[u8]) -> Entry
     requires { from + length bytes.now ≤ length (content_of (block_of entry)) }
     ensures { block_of result ≡ with_content (written from bytes.now (content_of (block_of entry))) (block_of entry) }
 {

@@ -2,12 +2,19 @@
 //! definitions, the contract that every store of them meets, and a store that keeps them in a list.
 #![tactic(auto)]
 
+mod copying;
 mod entries;
+mod fixed;
+#[cfg(test)]
+mod fixed_tests;
 mod flags;
 mod list_store;
 mod looking;
 mod named;
 mod packing;
+mod purged_sums;
+#[cfg(test)]
+mod purged_tests;
 mod purging;
 mod run_search;
 mod runs;

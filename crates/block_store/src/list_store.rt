@@ -7,18 +7,21 @@ ghost use Rattle.block_store.specs.Block.{sizes, free_sum, count, is_masters, is
 ghost use Rattle.block_store.specs.Run.{has, run_at};
 ghost use Rattle.block_store.specs.Slot.{is_used};
 ghost use Rattle.block_store.specs.Rest.{Window};
-ghost use Rattle.block_store.specs.Compact.{Aligned, Aligned-prop};
+ghost use Rattle.block_store.specs.Compact.{Aligned, Aligned-prop, Placed, Placed-prop};
 ghost use Rattle.block_store.specs.ListStore.{blocks_of, slots_of};
 
+use crate::copying::copy_at;
 use crate::entries::{
     Entry, fill, find_slot, free_slot, free_total, index_at, tidy_entries, write_at, zeros,
 };
+use crate::fixed::{free_place, put_masters};
 use crate::flags::Flags;
 use crate::looking::{find_purgeable, look_at, room_follows};
 use crate::named::{Named, Seen};
 use crate::packing::{hoist_slot, raise_run, settle_run};
 #[cfg(test)]
 use crate::packing::{run_bytes, run_holds};
+use crate::purged_sums::{purged_free, purged_largest};
 use crate::purging::{flag_at, purge_above, purge_entries};
 use crate::run_search::search_runs;
 use crate::runs::{has_free_above, most_free, most_free_of_runs, place_of_run, purgeable_above};
@@ -44,6 +47,7 @@ pub struct ListStore {
     ghost once: { (number : ℕ) → count (is_relocatable number) (blocks_of blocks.items) ≤ 1 },
     ghost tidied: { tidy (blocks_of blocks.items) ≡ blocks_of blocks.items },
     ghost aligned: { Aligned (blocks_of blocks.items) } by { Aligned-prop (blocks_of blocks.items) },
+    ghost placed: { Placed 0 (blocks_of blocks.items) } by { Placed-prop 0 (blocks_of blocks.items) },
 }
 
 impl ListStore {
@@ -96,7 +100,7 @@ impl BlockStore for ListStore {
     ghost use Rattle.std.specs.Prelude.{true, count_by};
     ghost use denote.RawPtr.{null_ptr};
     ghost use Rattle.block_store.specs.ListStore.{blocks_of, slots_of, is_unused};
-    ghost use Rattle.block_store.specs.ListStoreLaws.{store-small, store-masters, store-no_block, store-once, store-tidied, store-aligned};
+    ghost use Rattle.block_store.specs.ListStoreLaws.{store-small, store-masters, store-no_block, store-once, store-tidied, store-aligned, store-placed};
 
     const TAKES_HOST: bool = true;
 
@@ -152,6 +156,14 @@ impl BlockStore for ListStore {
         room_follows(&self.blocks, number, bytes, purges, named)
     }
 
+    fn free_after(&self, purges: u32, named: Named) -> u32 {
+        purged_free(&self.blocks, purges, named)
+    }
+
+    fn largest_after(&self, purges: u32, named: Named) -> u32 {
+        purged_largest(&self.blocks, purges, named)
+    }
+
     fn purge(&mut self, purges: u32, named: Named) {
         purge_entries(&mut self.blocks, purges, named);
     }
@@ -201,6 +213,22 @@ impl BlockStore for ListStore {
         Ok(())
     }
 
+    fn carve_fixed(&mut self, place: u32, size: u32) -> Result<(), AllocError> {
+        let content = zeros(self.alloc, size as usize)?;
+        let new = Entry::Fixed(place, content);
+        fill(&mut self.blocks, place, new)?;
+        Ok(())
+    }
+
+    fn add_masters(&mut self, place: u32) -> Result<(), AllocError> {
+        put_masters(&mut self.blocks, &mut self.slots, place)?;
+        Ok(())
+    }
+
+    fn free_at(&mut self, place: u32) {
+        free_place(&mut self.blocks, place);
+    }
+
     fn release(&mut self, number: u32) {
         free_slot(&mut self.blocks, number);
         tidy_entries(&mut self.blocks);
@@ -243,6 +271,10 @@ impl BlockStore for ListStore {
         write_at(&mut self.blocks, place, from, bytes);
     }
 
+    fn copy(&mut self, source: u32, bytes: u32, place: u32, from: u32) {
+        copy_at(&mut self.blocks, source, bytes, place, from);
+    }
+
     ghost small = { store-small };
 
     ghost masters = { store-masters };
@@ -254,4 +286,6 @@ impl BlockStore for ListStore {
     ghost tidied = { store-tidied };
 
     ghost aligned = { store-aligned };
+
+    ghost placed = { store-placed };
 }

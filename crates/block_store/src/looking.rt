@@ -59,7 +59,7 @@ pub fn find_purgeable(entries: &[Entry], purges: u32, named: Named) -> Option<u3
 }
 
 /// The purges left after an entry whose block is Free or is emptied; none where it stays.
-fn left_after(entry: &Entry, left: u32, named: Named) -> Option<u32>
+pub fn left_after(entry: &Entry, left: u32, named: Named) -> Option<u32>
     ensures { result ≡ left_past (spared named) left (opened_block named (block_of entry.now)) }
 {
     if left > 0 && may_empty(entry, named) {

@@ -33,7 +33,7 @@ pub fn place_of_run(entries: &[Entry], index: u32) -> Option<u32>
 }
 
 /// The larger of two numbers.
-fn larger(a: u32, b: u32) -> u32
+pub fn larger(a: u32, b: u32) -> u32
     ensures { result ≡ max a b }
 {
     if a < b { b } else { a }

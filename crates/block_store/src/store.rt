@@ -1,14 +1,14 @@
 //! The contract of a store of blocks.
 
-ghost use Rattle.std.specs.Prelude.{◌≡◌, ℕ, ◌+◌, ◌*◌, ◌≤◌, ◌<◌, ◌%◌, ◌&&◌, ◌⊎◌, ◌∷◌, ◌++◌, List, Bool, true, false, length, replicate, is_some, IsTrue, IsSome, IfSome, IsSomeAnd, OnOk, OnErr, IsErr, MatchOption};
+ghost use Rattle.std.specs.Prelude.{◌≡◌, ℕ, ◌+◌, ◌*◌, ◌≤◌, ◌<◌, ◌%◌, ◌&&◌, ◌⊎◌, ◌∷◌, ◌++◌, List, Bool, true, false, length, take, replicate, is_some, IsTrue, IsSome, IfSome, IsSomeAnd, OnOk, OnErr, IsErr, MatchOption};
 ghost use Rattle.std.specs.Option.{option_map};
 ghost use Rattle.mac_words.specs.Size.{padded};
-ghost use Rattle.block_store.specs.Block.{Block, Free, Relocatable, size, count, sizes, free_sum, is_room, is_relocatable, is_masters, no_flags, content_of, with_content, written, resized, tidy};
+ghost use Rattle.block_store.specs.Block.{Block, Free, Fixed, Masters, Relocatable, is_fixed, size, count, sizes, free_sum, is_room, is_relocatable, is_masters, no_flags, content_of, with_content, written, resized, tidy};
 ghost use Rattle.block_store.specs.Run.{has, has_free, settle, low, high, with_run, run_at, segments};
 ghost use Rattle.block_store.specs.Room.{spot, spot_at, filled, may_go, emptied, count_of};
 ghost use Rattle.block_store.specs.Grow.{freed, grow_up, taken};
 ghost use Rattle.block_store.specs.Find.{FindsLowest, FindsLowestRun};
-ghost use Rattle.block_store.specs.Compact.{largest_free, largest_run, FindsRun, NoneRises, Aligned};
+ghost use Rattle.block_store.specs.Compact.{largest_free, largest_run, FindsRun, NoneRises, Aligned, Placed};
 ghost use Rattle.block_store.specs.Slot.{Unused, Used, is_used};
 ghost use Rattle.block_store.specs.Named.{purged, spared};
 ghost use Rattle.block_store.specs.Rest.{Rest, IsRest, with_slot, with_moves, falling};
@@ -88,6 +88,14 @@ pub trait BlockStore {
         ensures { FindsLowestRun (λ run. has (is_relocatable number) run && has_free bytes run)
             (purged purges named (zone self.now)) result };
 
+    /// The Free bytes after so many purges.
+    fn free_after(&self, purges: u32, named: Named) -> u32
+        ensures { result ≡ free_sum (purged purges named (zone self.now)) };
+
+    /// The bytes of the largest Free block after so many purges; 0 where there is none.
+    fn largest_after(&self, purges: u32, named: Named) -> u32
+        ensures { result ≡ largest_free (purged purges named (zone self.now)) };
+
     /// Empties the lowest blocks that may go, so many of them, and frees a block that counts as Free.
     fn purge(&mut self, purges: u32, named: Named)
         ensures zone { zone self.new ≡ purged purges named (zone self.old) }
@@ -147,6 +155,37 @@ pub trait BlockStore {
         ensures rest { IsRest (rest self.old) (rest self.new) }
         ensures err { OnErr result (zone self.new ≡ zone self.old) }
         ensures host { IsErr result → IsTrue TAKES_HOST };
+
+    /// Puts a new Fixed block of `size` bytes 0 at the lower end of the Free block at a place.
+    fn carve_fixed(&mut self, place: u32, size: u32) -> Result<(), AllocError>
+        requires { IsSomeAnd (spot_at place (zone self.old)) (λ s. IsTrue (is_room (padded size) s.here)) }
+        ensures ok { OnOk result (IfSome (spot_at place (zone self.old)) (λ s.
+            zone self.new ≡ filled (Fixed place (replicate size 0)) s)) }
+        ensures rest { IsRest (rest self.old) (rest self.new) }
+        ensures err { OnErr result (zone self.new ≡ zone self.old) }
+        ensures host { IsErr result → IsTrue TAKES_HOST };
+
+    /// Puts a block of 64 new slots at the lower end of the Free block at a place.
+    ///
+    /// *Inside Macintosh: Memory*, chapter 2, "Allocating Master Pointers".
+    fn add_masters(&mut self, place: u32) -> Result<(), AllocError>
+        requires { IsSomeAnd (spot_at place (zone self.old)) (λ s. IsTrue (is_room 272 s.here)) }
+        ensures ok { OnOk result (IfSome (spot_at place (zone self.old)) (λ s. zone self.new ≡ filled Masters s)) }
+        ensures unused { OnOk result ((rest self.new).unused ≡ (rest self.old).unused + 64) }
+        ensures all { OnOk result ((rest self.new).all ≡ (rest self.old).all + 64) }
+        // A slot stays what it was; what was none may now be an unused one.
+        ensures slots { OnOk result ((k : ℕ) → IsTrue (is_used ((rest self.old).slots k)) → (rest self.new).slots k ≡ (rest self.old).slots k) }
+        ensures moves { (rest self.new).moves ≡ (rest self.old).moves }
+        ensures window { (rest self.new).window ≡ (rest self.old).window }
+        ensures err { OnErr result (zone self.new ≡ zone self.old) }
+        ensures same { OnErr result (IsRest (rest self.old) (rest self.new)) }
+        ensures host { IsErr result → IsTrue TAKES_HOST };
+
+    /// Makes the Fixed block at a place Free.
+    fn free_at(&mut self, place: u32)
+        requires { IsSomeAnd (spot_at place (zone self.old)) (λ s. is_fixed place s.here ≡ true) }
+        ensures zone { zone self.new ≡ tidy (freed (is_fixed place) (zone self.old)) }
+        ensures rest { IsRest (rest self.old) (rest self.new) };
 
     /// Makes the block that a slot leads to Free.
     fn release(&mut self, number: u32)
@@ -214,6 +253,14 @@ pub trait BlockStore {
             zone self.new ≡ s.below ++ with_content (written from bytes.now (content_of s.here)) s.here ∷ s.above) }
         ensures rest { IsRest (rest self.old) (rest self.new) };
 
+    /// Writes the first bytes of one block into another, or into itself, from an offset on.
+    fn copy(&mut self, source: u32, bytes: u32, place: u32, from: u32)
+        requires source { IsSomeAnd (spot_at source (zone self.old)) (λ s. bytes ≤ length (content_of s.here)) }
+        requires within { IsSomeAnd (spot_at place (zone self.old)) (λ s. from + bytes ≤ length (content_of s.here)) }
+        ensures zone { IfSome (spot_at source (zone self.old)) (λ t. IfSome (spot_at place (zone self.old)) (λ s.
+            zone self.new ≡ s.below ++ with_content (written from (take bytes (content_of t.here)) (content_of s.here)) s.here ∷ s.above)) }
+        ensures rest { IsRest (rest self.old) (rest self.new) };
+
     /// A zone has at most 2^27 bytes.
     ghost small: { (store : Self) → sizes (zone store) ≤ 134217728 };
 
@@ -231,4 +278,7 @@ pub trait BlockStore {
 
     /// Each block takes a multiple of 16 bytes.
     ghost aligned: { (store : Self) → Aligned (zone store) };
+
+    /// A Fixed block is named by its place.
+    ghost placed: { (store : Self) → Placed 0 (zone store) };
 }

@@ -2,14 +2,14 @@ use Rattle.std.proofs.Common.{◌≡◌, ◌≢◌, ◌∙◌, ◌++◌, ℕ, �
 use Rattle.std.proofs.lemmas.List.{append-nil}
 use Rattle.std.specs.Result.{IfOk, OnOk}
 use Rattle.mac_words.specs.declared.code.OsErr.{OsErr}
-use Rattle.mac_words.specs.declared.name.Label.{Label}
 use Rattle.mac_words.specs.declared.name.Name.{Name}
 use Rattle.mac_words.specs.declared.name.OsType.{OsType}
 use Rattle.mac_words.specs.declared.reply.Reply.{Reply}
 use Rattle.mac_words.specs.declared.call.HeapCall.{HeapCall}
 use Rattle.mac_words.specs.declared.call.HeapCall.TheVariants as heap
 use Rattle.heap_calls.specs.State.{Memory, State}
-use Rattle.heap_calls.specs.Answer.{Held, new_handle, noting, show, look_up, for_found}
+use Rattle.heap_calls.specs.Pointers.{pointed_at, show_pointer}
+use Rattle.heap_calls.specs.Answer.{Held, show, look_up, for_found}
 use Rattle.block_store.specs.Block.{content_of}
 use Rattle.script_text.specs.declared.word.Word.{Word}
 use Rattle.script_text.specs.Transcript.{Number, values_of, type_shown, name_shown, bytes_shown, reply_line}
@@ -46,23 +46,22 @@ given-after answer (Ok value) after some is = sym (ap (λ (p : Result _ OsErr ×
 given-after answer (Err (Code code)) after some is = sym (ap (λ (p : Result _ OsErr × Memory). p.1) is)
 given-after answer (Err HostMemory) after some is = absurd (some refl)
 
--- a new handle, as its step tells it
-pub new-told : (r : Running) (call : HeapCall) (name : Label) (size : ℕ) (given : Result ℕ Refusal) (after : Memory) → call ≡ heap.NewHandle name size
-    → IsAnswer (noting (new_handle size) r.memory) given after → GivenAs Given given (heap_step call r).0
-new-told r call name size given after is answer =
-    let P : HeapCall → Type 0 = λ c. GivenAs Given given (heap_step c r).0 in
-    subst P (sym is) (given-told Given (noting (new_handle size) r.memory) given after answer)
+-- a new handle or pointer, as its step tells it
+pub new-told : (r : Running) (call : HeapCall) (name : List ℕ) (answer : Result ℕ OsErr × Memory) (given : Result ℕ Refusal) (after : Memory)
+    → heap_step call r ≡ (told_as Given answer.0, record { memory = answer.1; names = bound_anew name (told_as Given answer.0) r.names }) → IsAnswer answer given after → GivenAs Given given (heap_step call r).0
+new-told r call name answer given after is answers =
+    let P : Told → Type 0 = λ t. GivenAs Given given t in
+    subst P (sym (ap (λ (x : Told × Running). x.0) is)) (given-told Given answer given after answers)
 
 -- and the application after that step
-pub new-after : (r : Running) (call : HeapCall) (name : Label) (size : ℕ) (given : Result ℕ Refusal) (after : Memory) (names : Bindings) → call ≡ heap.NewHandle name size
-    → IsAnswer (noting (new_handle size) r.memory) given after → given ≢ Err HostMemory → ((told : Told) → GivenAs Given given told → names ≡ bound_anew name.0.items told r.names)
-    → (record { memory = after; names = names }) ≡ (heap_step call r).1
-new-after r call name size given after names is answer some bound =
-    let step : Running = (heap_step (heap.NewHandle name size) r).1 in
-    let told : Told = told_as Given (noting (new_handle size) r.memory).0 in
-    let n : names ≡ bound_anew name.0.items told r.names = bound told (given-told Given (noting (new_handle size) r.memory) given after answer) in
-    let m : after ≡ (noting (new_handle size) r.memory).1 = given-after (noting (new_handle size) r.memory) given after some answer in
-    (λ i. record { memory = m i; names = n i }) ∙ ap (λ c. (heap_step c r).1) (sym is)
+pub new-after : (r : Running) (call : HeapCall) (name : List ℕ) (answer : Result ℕ OsErr × Memory) (given : Result ℕ Refusal) (after : Memory) (names : Bindings)
+    → heap_step call r ≡ (told_as Given answer.0, record { memory = answer.1; names = bound_anew name (told_as Given answer.0) r.names }) → IsAnswer answer given after → given ≢ Err HostMemory
+    → ((told : Told) → GivenAs Given given told → names ≡ bound_anew name told r.names) → (record { memory = after; names = names }) ≡ (heap_step call r).1
+new-after r call name answer given after names is answers some bound =
+    let told : Told = told_as Given answer.0 in
+    let n : names ≡ bound_anew name told r.names = bound told (given-told Given answer given after answers) in
+    let m : after ≡ answer.1 = given-after answer given after some answers in
+    (λ i. record { memory = m i; names = n i }) ∙ sym (ap (λ (x : Told × Running). x.1) is)
 
 -- a reply makes the line of what it says, with the bytes that are told
 pub line-said : (line : ℕ) (word : Word) (reply : Reply) (bytes : Option (List ℕ)) (told : Told) → Says reply told → bytes ≡ bytes_told told
@@ -92,20 +91,49 @@ show-same handle s = cases (look_up handle s)
     cases (Err code) = refl
     cases (Ok k) = refl
 
+-- showing a pointer's bytes changes nothing
+show_pointer-same : (pointer : Option ℕ) (s : State) → (show_pointer pointer s).1 ≡ s
+show_pointer-same pointer s = cases (pointed_at pointer s)
+  where
+    cases : (r : Result Held OsErr) → (for_found {T = List ℕ} r s (λ (k : Held). (Ok (content_of k.at.here), s))).1 ≡ s
+    cases (Err code) = refl
+    cases (Ok k) = refl
+
 -- what a call tells in the state that it leaves shows the same bytes
 pub shown-again : (c : HeapCall) (r : Running) → bytes_told (heap_step c (heap_step c r).1).0 ≡ bytes_told (heap_step c r).0
 shown-again (heap.NewHandle name size) r = none-again {T = ℕ} Given (λ x. refl) _ _
+shown-again (heap.NewEmptyHandle name) r = none-again {T = ℕ} Given (λ x. refl) _ _
 shown-again (heap.DisposeHandle name) r = none-again {T = Unit {0}} (λ x. Done) (λ x. refl) _ _
 shown-again (heap.GetHandleSize name) r = none-again {T = ℕ} Count (λ x. refl) _ _
 shown-again (heap.SetHandleSize name size) r = none-again {T = Unit {0}} (λ x. Done) (λ x. refl) _ _
+shown-again (heap.ReallocateHandle name size) r = none-again {T = Unit {0}} (λ x. Done) (λ x. refl) _ _
+shown-again (heap.EmptyHandle name) r = none-again {T = Unit {0}} (λ x. Done) (λ x. refl) _ _
 shown-again (heap.HLock name) r = none-again {T = Unit {0}} (λ x. Done) (λ x. refl) _ _
 shown-again (heap.HUnlock name) r = none-again {T = Unit {0}} (λ x. Done) (λ x. refl) _ _
+shown-again (heap.HPurge name) r = none-again {T = Unit {0}} (λ x. Done) (λ x. refl) _ _
+shown-again (heap.HNoPurge name) r = none-again {T = Unit {0}} (λ x. Done) (λ x. refl) _ _
+shown-again (heap.HGetState name) r = none-again {T = ℕ} Count (λ x. refl) _ _
+shown-again (heap.HSetState name state) r = none-again {T = Unit {0}} (λ x. Done) (λ x. refl) _ _
 shown-again (heap.MoveHHi name) r = none-again {T = Unit {0}} (λ x. Done) (λ x. refl) _ _
 shown-again (heap.HLockHi name) r = none-again {T = Unit {0}} (λ x. Done) (λ x. refl) _ _
+shown-again (heap.HandToHand name from) r = none-again {T = ℕ} Given (λ x. refl) _ _
+shown-again (heap.HandAndHand from to) r = none-again {T = Unit {0}} (λ x. Done) (λ x. refl) _ _
+shown-again (heap.PtrAndHand name bytes) r = none-again {T = Unit {0}} (λ x. Done) (λ x. refl) _ _
+shown-again (heap.NewPtr name size) r = none-again {T = ℕ} Given (λ x. refl) _ _
+shown-again (heap.DisposePtr name) r = none-again {T = Unit {0}} (λ x. Done) (λ x. refl) _ _
+shown-again (heap.GetPtrSize name) r = none-again {T = ℕ} Count (λ x. refl) _ _
+shown-again (heap.SetPtrSize name size) r = none-again {T = Unit {0}} (λ x. Done) (λ x. refl) _ _
 shown-again heap.FreeMem r = refl
 shown-again heap.MaxBlock r = refl
+shown-again heap.PurgeSpace r = refl
 shown-again (heap.CompactMem size) r = refl
+shown-again (heap.PurgeMem size) r = none-again {T = Unit {0}} (λ x. Done) (λ x. refl) _ _
+shown-again heap.MaxMem r = refl
+shown-again (heap.ReserveMem size) r = none-again {T = Unit {0}} (λ x. Done) (λ x. refl) _ _
+shown-again heap.MoreMasters r = none-again {T = Unit {0}} (λ x. Done) (λ x. refl) _ _
 shown-again heap.MemError r = refl
 shown-again (heap.Put name from bytes) r = none-again {T = Unit {0}} (λ x. Done) (λ x. refl) _ _
 shown-again (heap.Show name) r = ap (λ (s : State). bytes_told (told_as {T = List ℕ} Bytes (show (bound_to name.0.items r.names) s).0)) (show-same (bound_to name.0.items r.names) r.memory.heap)
+shown-again (heap.PutPtr name from bytes) r = none-again {T = Unit {0}} (λ x. Done) (λ x. refl) _ _
+shown-again (heap.ShowPtr name) r = ap (λ (s : State). bytes_told (told_as {T = List ℕ} Bytes (show_pointer (bound_to name.0.items r.names) s).0)) (show_pointer-same (bound_to name.0.items r.names) r.memory.heap)
 shown-again (heap.Where name) r = none-again {T = ℕ} Count (λ x. refl) _ _

@@ -1,19 +1,26 @@
-use Rattle.std.proofs.Common.{◌≡◌, ◌∙◌, ◌≤◌, ◌-◌, arith, ℕ, refl, sym, ap, List, [], ◌∷◌, ◌++◌, take, zero, suc, Some, Result, Ok, Err}
+use Rattle.std.proofs.Common.{◌≡◌, ◌∙◌, ◌≤◌, ◌-◌, arith, ℕ, refl, sym, ap, List, [], ◌∷◌, ◌++◌, take, zero, suc, true, Some, Result, Ok, Err, inl, inr}
 use Rattle.mac_words.specs.declared.code.OsErr.{OsErr}
 use Rattle.mac_words.specs.declared.call.Call.{Call}
 use Rattle.mac_words.specs.declared.call.Call.TheVariants as call
 use Rattle.block_store.specs.Rest.{Window}
-use Rattle.block_store.specs.Block.{Block, content_of, sizes, free, fresh}
+use Rattle.block_store.specs.Block.{Block, is_relocatable, is_fixed, is_masters, content_of, sizes, free, fresh}
+use Rattle.block_store.specs.Run.{has}
+use Rattle.block_store.specs.Room.{spot}
 use Rattle.heap_calls.specs.State.{Memory}
 use Rattle.heap_calls.specs.Answer.{Held, look_up, for_found}
+use Rattle.heap_calls.specs.Pointers.{pointed_at}
 use Rattle.heap_calls.specs.Asked.{Asked, Told, Bytes, Refused, answered, told_as}
 use Rattle.heap_calls.specs.Asked as asks
 use Rattle.heap_calls.specs.LastPut.{last_put, last_put_from, put_by}
-use Rattle.heap_calls.proofs.LastPutLaws.{Known, holds-known, step-known, known-fresh}
+use Rattle.heap_calls.proofs.Knowing.{Known, look_up-spot, pointed_at-spot, known-at, known-pointed, holds-known, known-fresh}
+use Rattle.heap_calls.proofs.LastPutLaws.{step-known}
 use Rattle.heap_calls.proofs.LockedLaws.{stays-locked}
+use Rattle.heap_calls.proofs.StandingLaws.{next-new, stays-fixed}
+use Rattle.heap_calls.proofs.EmptyingLaws.{only-purgeable-go, masters-kept}
+use Rattle.heap_calls.proofs.FewSearches.{few-searches}
 use Rattle.script_text.specs.declared.script.Line.{Line}
 use Rattle.desk.specs.Application.{Running, launched, nowhere, asked, went_on, step, call_of, line_told, lines_told, after_lines}
-use Rattle.desk.specs.Laws.{entry_of, history, ShowsBytes, ShowsLastPut, HoldsLastPut, StepKeepsLocked, LockedStays}
+use Rattle.desk.specs.Laws.{entry_of, history, ShowsBytes, ShowsLastPut, HoldsLastPut, StepKeepsLocked, LockedStays, StepKeepsFixed, FixedStays, StepEmptiesPurgeable, OnlyPurgeableGo, LooksFew}
 
 -- a memory, and an application, elsewhere
 abbrev pub elsewhere : Window → Memory → Memory
@@ -25,20 +32,41 @@ moved w r = record r { memory = elsewhere w r.memory }
 -- what a call answers doesn't hang on where its memory lies
 answered-elsewhere : (w : Window) (a : Asked) (m : Memory) → answered a (elsewhere w m) ≡ ((answered a m).0, elsewhere w (answered a m).1)
 answered-elsewhere w (asks.NewHandle size) m = refl
+answered-elsewhere w asks.NewEmptyHandle m = refl
 answered-elsewhere w (asks.DisposeHandle handle) m = refl
 answered-elsewhere w (asks.GetHandleSize handle) m = refl
 answered-elsewhere w (asks.SetHandleSize handle size) m = refl
+answered-elsewhere w (asks.ReallocateHandle handle size) m = refl
+answered-elsewhere w (asks.EmptyHandle handle) m = refl
 answered-elsewhere w (asks.HLock handle) m = refl
 answered-elsewhere w (asks.HUnlock handle) m = refl
+answered-elsewhere w (asks.HPurge handle) m = refl
+answered-elsewhere w (asks.HNoPurge handle) m = refl
+answered-elsewhere w (asks.HGetState handle) m = refl
+answered-elsewhere w (asks.HSetState handle state) m = refl
 answered-elsewhere w (asks.MoveHHi handle) m = refl
 answered-elsewhere w (asks.HLockHi handle) m = refl
+answered-elsewhere w (asks.HandToHand handle) m = refl
+answered-elsewhere w (asks.HandAndHand from to) m = refl
+answered-elsewhere w (asks.PtrAndHand handle bytes) m = refl
+answered-elsewhere w (asks.NewPtr size) m = refl
+answered-elsewhere w (asks.DisposePtr pointer) m = refl
+answered-elsewhere w (asks.GetPtrSize pointer) m = refl
+answered-elsewhere w (asks.SetPtrSize pointer size) m = refl
 answered-elsewhere w asks.FreeMem m = refl
 answered-elsewhere w asks.MaxBlock m = refl
+answered-elsewhere w asks.PurgeSpace m = refl
 answered-elsewhere w (asks.CompactMem size) m = refl
+answered-elsewhere w (asks.PurgeMem size) m = refl
+answered-elsewhere w asks.MaxMem m = refl
+answered-elsewhere w (asks.ReserveMem size) m = refl
+answered-elsewhere w asks.MoreMasters m = refl
 answered-elsewhere w asks.MemError m = refl
 answered-elsewhere w (asks.Put handle from bytes) m = refl
 answered-elsewhere w (asks.Show handle) m = refl
-answered-elsewhere w (asks.Where handle) m = refl
+answered-elsewhere w (asks.PutPtr pointer from bytes) m = refl
+answered-elsewhere w (asks.ShowPtr pointer) m = refl
+answered-elsewhere w (asks.Where name) m = refl
 
 step-elsewhere : (w : Window) (c : Call) (r : Running) → step c (moved w r) ≡ ((step c r).0, moved w (step c r).1)
 step-elsewhere w (call.Heap c) r = ap (λ (x : Told × Memory). (x.0, went_on c x r)) (answered-elsewhere w (asked c r.names) r.memory)
@@ -60,11 +88,18 @@ lines-know (l ∷ lines) r bytes known =
 
 -- a call that shows bytes shows those
 shows-known : (a : Asked) (m : Memory) (bytes : ℕ → List ℕ) → Known m.heap bytes → ShowsBytes (record { asked = a; told = (answered a m).0 }) bytes
-shows-known a m bytes known h shown is tells = cases (look_up (Some h) m.heap) refl (ap (λ (x : Asked). (answered x m).0) (sym is) ∙ tells)
+shows-known a m bytes known h shown (inl is) tells = cases (look_up (Some h) m.heap) (look_up-spot h m.heap) (ap (λ (x : Asked). (answered x m).0) (sym is) ∙ tells)
   where
-    cases : (r : Result Held OsErr) → look_up (Some h) m.heap ≡ r → told_as {T = List ℕ} Bytes (for_found {T = List ℕ} r m.heap (λ (k : Held). (Ok (content_of k.at.here), m.heap))).0 ≡ Bytes shown → shown ≡ bytes h
-    cases (Err code) e t = cc
-    cases (Ok k) e t = let same : content_of k.at.here ≡ shown = cc in sym same ∙ holds-known m.heap bytes known h k e
+    cases : (r : Result Held OsErr) → ((k : Held) → r ≡ Ok k → (spot (is_relocatable h) m.heap.zone ≡ Some k.at) × (k.number ≡ h))
+        → told_as {T = List ℕ} Bytes (for_found {T = List ℕ} r m.heap (λ (k : Held). (Ok (content_of k.at.here), m.heap))).0 ≡ Bytes shown → shown ≡ bytes h
+    cases (Err code) found t = cc
+    cases (Ok k) found t = let same : content_of k.at.here ≡ shown = cc in sym same ∙ ap content_of (known-at m.heap bytes known h k.at (found k refl).0).1
+shows-known a m bytes known h shown (inr is) tells = cases (pointed_at (Some h) m.heap) (pointed_at-spot h m.heap) (ap (λ (x : Asked). (answered x m).0) (sym is) ∙ tells)
+  where
+    cases : (r : Result Held OsErr) → ((k : Held) → r ≡ Ok k → (spot (is_fixed h) m.heap.zone ≡ Some k.at) × (k.number ≡ h))
+        → told_as {T = List ℕ} Bytes (for_found {T = List ℕ} r m.heap (λ (k : Held). (Ok (content_of k.at.here), m.heap))).0 ≡ Bytes shown → shown ≡ bytes h
+    cases (Err code) found t = cc
+    cases (Ok k) found t = let same : content_of k.at.here ≡ shown = cc in sym same ∙ ap content_of (known-pointed m.heap bytes known h k.at (found k refl).0).0
 
 shows-step : (c : Call) (r : Running) (bytes : ℕ → List ℕ) → Known r.memory.heap bytes → ShowsBytes (entry_of c r) bytes
 shows-step (call.Heap c) r bytes known = shows-known (asked c r.names) r.memory bytes known
@@ -100,6 +135,51 @@ locked-from (l ∷ lines) r bytes known = (
 -- a locked block stays where it is through each script
 pub locked_stays : (n : ℕ) (lines : List Line) → LockedStays lines (launched n nowhere)
 locked_stays n lines = locked-from lines (launched n nowhere) (λ h. []) (known-fresh n)
+
+-- each step leaves pointers' blocks where they are
+fixed-step : (c : Call) (r : Running) (bytes : ℕ → List ℕ) → Known r.memory.heap bytes → StepKeepsFixed c r
+fixed-step (call.Heap c) r bytes known = stays-fixed (asked c r.names) r.memory known.once (next-new r.memory.heap bytes known)
+
+fixed-from : (lines : List Line) (r : Running) (bytes : ℕ → List ℕ) → Known r.memory.heap bytes → FixedStays lines r
+fixed-from [] r bytes known = tt
+fixed-from (l ∷ lines) r bytes known = (
+  fixed-step (call_of l) r bytes known,
+  fixed-from lines (step (call_of l) r).1 (put_by (entry_of (call_of l) r).asked (entry_of (call_of l) r).told bytes) (step-knows (call_of l) r bytes known),
+)
+
+-- a pointer's block stays where it is through each script
+pub fixed_stays : (n : ℕ) (lines : List Line) → FixedStays lines (launched n nowhere)
+fixed_stays n lines = fixed-from lines (launched n nowhere) (λ h. []) (known-fresh n)
+
+-- each step empties only blocks that may be emptied
+empties-step : (c : Call) (r : Running) (bytes : ℕ → List ℕ) → Known r.memory.heap bytes → StepEmptiesPurgeable c r
+empties-step (call.Heap c) r bytes known = only-purgeable-go (asked c r.names) r.memory known.once
+
+empties-from : (lines : List Line) (r : Running) (bytes : ℕ → List ℕ) → Known r.memory.heap bytes → OnlyPurgeableGo lines r
+empties-from [] r bytes known = tt
+empties-from (l ∷ lines) r bytes known = (
+  empties-step (call_of l) r bytes known,
+  empties-from lines (step (call_of l) r).1 (put_by (entry_of (call_of l) r).asked (entry_of (call_of l) r).told bytes) (step-knows (call_of l) r bytes known),
+)
+
+-- only blocks that may be emptied go through each script
+pub only_purgeable_go : (n : ℕ) (lines : List Line) → OnlyPurgeableGo lines (launched n nowhere)
+only_purgeable_go n lines = empties-from lines (launched n nowhere) (λ h. []) (known-fresh n)
+
+-- a zone with a Masters block has one after each step
+masters-step : (c : Call) (r : Running) (bytes : ℕ → List ℕ) → Known r.memory.heap bytes → has is_masters r.memory.heap.zone ≡ true → has is_masters (step c r).1.memory.heap.zone ≡ true
+masters-step (call.Heap c) r bytes known masters = masters-kept (asked c r.names) r.memory known.once masters
+
+looks-from : (lines : List Line) (r : Running) (bytes : ℕ → List ℕ) → Known r.memory.heap bytes → has is_masters r.memory.heap.zone ≡ true → LooksFew lines r
+looks-from [] r bytes known masters = tt
+looks-from (l ∷ lines) r bytes known masters = (
+  few-searches (entry_of (call_of l) r).asked r.memory.heap masters,
+  looks-from lines (step (call_of l) r).1 (put_by (entry_of (call_of l) r).asked (entry_of (call_of l) r).told bytes) (step-knows (call_of l) r bytes known) (masters-step (call_of l) r bytes known masters),
+)
+
+-- no step of a script looks for room more often than it may
+pub looks_few : (n : ℕ) (lines : List Line) → LooksFew lines (launched n nowhere)
+looks_few n lines = looks-from lines (launched n nowhere) (λ h. []) (known-fresh n) refl
 
 free-total : (m : ℕ) → sizes (free m) ≡ m
 free-total zero = refl

@@ -8,7 +8,7 @@ use Rattle.mac_words.specs.declared.call.HeapCall.TheVariants as heap
 use denote.RawPtr.{null_ptr}
 use Rattle.block_store.specs.Rest.{Window}
 use Rattle.heap_calls.specs.State.{Memory, fresh_memory}
-use Rattle.heap_calls.specs.Asked.{Asked, Told, Done, Given, Number, Code, Bytes, Refused, answered}
+use Rattle.heap_calls.specs.Asked.{Asked, Told, Done, Given, Number, Numbers, Code, Bytes, Refused, answered}
 use Rattle.heap_calls.specs.Asked as asks
 use Rattle.script_text.specs.Call.{word_of}
 use Rattle.script_text.specs.Transcript.{Shown, bytes_shown, launch_line, reply_line, end_line}
@@ -37,19 +37,40 @@ launched n window = record { memory = fresh_memory n window; names = [] }
 -- a call, with the numbers that its names are bound to
 abbrev pub asked : HeapCall → Bindings → Asked
 asked (heap.NewHandle name size) names = asks.NewHandle size
+asked (heap.NewEmptyHandle name) names = asks.NewEmptyHandle
 asked (heap.DisposeHandle name) names = asks.DisposeHandle (bound_to name.0.items names)
 asked (heap.GetHandleSize name) names = asks.GetHandleSize (bound_to name.0.items names)
 asked (heap.SetHandleSize name size) names = asks.SetHandleSize (bound_to name.0.items names) size
+asked (heap.ReallocateHandle name size) names = asks.ReallocateHandle (bound_to name.0.items names) size
+asked (heap.EmptyHandle name) names = asks.EmptyHandle (bound_to name.0.items names)
 asked (heap.HLock name) names = asks.HLock (bound_to name.0.items names)
 asked (heap.HUnlock name) names = asks.HUnlock (bound_to name.0.items names)
+asked (heap.HPurge name) names = asks.HPurge (bound_to name.0.items names)
+asked (heap.HNoPurge name) names = asks.HNoPurge (bound_to name.0.items names)
+asked (heap.HGetState name) names = asks.HGetState (bound_to name.0.items names)
+asked (heap.HSetState name state) names = asks.HSetState (bound_to name.0.items names) state
 asked (heap.MoveHHi name) names = asks.MoveHHi (bound_to name.0.items names)
 asked (heap.HLockHi name) names = asks.HLockHi (bound_to name.0.items names)
+asked (heap.HandToHand name from) names = asks.HandToHand (bound_to from.0.items names)
+asked (heap.HandAndHand from to) names = asks.HandAndHand (bound_to from.0.items names) (bound_to to.0.items names)
+asked (heap.PtrAndHand name bytes) names = asks.PtrAndHand (bound_to name.0.items names) bytes.items
+asked (heap.NewPtr name size) names = asks.NewPtr size
+asked (heap.DisposePtr name) names = asks.DisposePtr (bound_to name.0.items names)
+asked (heap.GetPtrSize name) names = asks.GetPtrSize (bound_to name.0.items names)
+asked (heap.SetPtrSize name size) names = asks.SetPtrSize (bound_to name.0.items names) size
 asked heap.FreeMem names = asks.FreeMem
 asked heap.MaxBlock names = asks.MaxBlock
+asked heap.PurgeSpace names = asks.PurgeSpace
 asked (heap.CompactMem size) names = asks.CompactMem size
+asked (heap.PurgeMem size) names = asks.PurgeMem size
+asked heap.MaxMem names = asks.MaxMem
+asked (heap.ReserveMem size) names = asks.ReserveMem size
+asked heap.MoreMasters names = asks.MoreMasters
 asked heap.MemError names = asks.MemError
 asked (heap.Put name from bytes) names = asks.Put (bound_to name.0.items names) from bytes.items
 asked (heap.Show name) names = asks.Show (bound_to name.0.items names)
+asked (heap.PutPtr name from bytes) names = asks.PutPtr (bound_to name.0.items names) from bytes.items
+asked (heap.ShowPtr name) names = asks.ShowPtr (bound_to name.0.items names)
 asked (heap.Where name) names = asks.Where (bound_to name.0.items names)
 
 -- the names where a call that binds one ends: the name is bound if a new number was given
@@ -60,6 +81,9 @@ bound_anew name told names = names
 -- the names after a call
 abbrev pub names_after : HeapCall → Told → Bindings → Bindings
 names_after (heap.NewHandle name size) told names = bound_anew name.0.items told names
+names_after (heap.NewEmptyHandle name) told names = bound_anew name.0.items told names
+names_after (heap.HandToHand name from) told names = bound_anew name.0.items told names
+names_after (heap.NewPtr name size) told names = bound_anew name.0.items told names
 names_after call told names = names
 
 -- what an answer makes of an application
@@ -85,6 +109,7 @@ abbrev pub code_told : Told → OsErr
 code_told Done = NO_ERR
 code_told (Given n) = NO_ERR
 code_told (Number n) = NO_ERR
+code_told (Numbers one other) = NO_ERR
 code_told (Code code) = NO_ERR
 code_told (Bytes bytes) = NO_ERR
 code_told (Refused code) = code
@@ -92,6 +117,7 @@ code_told (Refused code) = code
 -- the numbers that are told; that of a new handle or pointer is the name's alone
 abbrev pub numbers_told : Told → List ℤ
 numbers_told (Number n) = pos n ∷ []
+numbers_told (Numbers one other) = pos one ∷ pos other ∷ []
 numbers_told (Code code) = code.0 ∷ []
 numbers_told told = []
 

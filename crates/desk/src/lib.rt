@@ -9,4 +9,6 @@ pub use application::Application;
 pub use run::run_script;
 
 #[cfg(test)]
+mod table_tests;
+#[cfg(test)]
 mod tests;

@@ -14,16 +14,16 @@ use Rattle.block_store.specs.Find.{FindsLowestRun}
 use Rattle.block_store.proofs.Tidy.{spot-passes}
 use Rattle.block_store.proofs.Totals.{total-append}
 use Rattle.block_store.proofs.Leading.{none-count}
-use Rattle.block_store.specs.Named.{purged}
+use Rattle.block_store.specs.Named.{purged, spared}
+use Rattle.block_store.specs.declared.named.Named.{Named}
 use Rattle.block_store.specs.Seen.{moved_away}
 use Rattle.block_store.specs.Rest.{Rest, IsRest, KeepsSlots, with_moves, falling}
-use Rattle.block_store.specs.declared.named.Named.TheVariants as named
 use Rattle.heap_calls.specs.Search.{FindsSeat, IsAt}
 use Rattle.heap_calls.specs.declared.search.Seat.{Seat}
-use Rattle.heap_calls.specs.declared.growing.Growth.{Growth}
 use Rattle.heap_calls.specs.declared.growing.Growth.TheVariants as grows
-use Rattle.heap_calls.specs.Growing.{grown, growing, FindsGrowth, IsToGrow, block_of, SameBlocks, CanGrowUp, GrewUp}
-use Rattle.heap_calls.proofs.Growth.{first, first-purged, first-tidy, spot-first}
+use Rattle.heap_calls.specs.Growing.{grown, growing, growing_searches, Spares, Stays, FindsGrowth, IsToGrow, block_of, SameBlocks, CanGrowUp, GrewUp}
+use Rattle.heap_calls.specs.Searches.{room_searches}
+use Rattle.heap_calls.proofs.Growth.{opened-stays, first, first-purged, first-tidy, spot-first}
 use Rattle.heap_calls.proofs.Searching.{run_spot-passes}
 use Rattle.heap_calls.proofs.Changing.{phys-some}
 use Rattle.heap_calls.proofs.Regrouping.{AllIn, put_run, changed, run_at-all, run_at-is, run_at-change, tidy-change, apart-settle, apart-high, all-high}
@@ -54,11 +54,11 @@ first-settle t none (Relocatable id flags content ∷ run) all = cases (not flag
     cases true e more = ap (cond (t b) (Some b)) more
     cases false e more = let f : false ≡ true = e in cc
 
-first-free : (t : Block → Bool) → ((n : ℕ) → t (Free n) ≡ false) → (n : ℕ) → first t (free n) ≡ None
+pub first-free : (t : Block → Bool) → ((n : ℕ) → t (Free n) ≡ false) → (n : ℕ) → first t (free n) ≡ None
 first-free t none zero = refl
 first-free t none (suc n) = cond-false (t (Free (suc n))) _ _ (none (suc n))
 
-first-settled : (t : Block → Bool) → ((n : ℕ) → t (Free n) ≡ false) → (run : List Block) → AllIn run → first t (settle run) ≡ first t run
+pub first-settled : (t : Block → Bool) → ((n : ℕ) → t (Free n) ≡ false) → (run : List Block) → AllIn run → first t (settle run) ≡ first t run
 first-settled t none run all =
     first-append t (movers run) (free (free_sum run)) ∙ ap (λ (o : Option Block). option_or o (first t (free (free_sum run)))) (first-settle t none run all)
     ∙ ap (option_or (first t run)) (first-free t none (free_sum run)) ∙ or-none (first t run)
@@ -181,7 +181,7 @@ has-both t (x ∷ xs) ys a b = cases (t x) a (has-both t xs ys)
     cases false a more = more a b
 
 -- the others don't pass
-has-others : (t : Block → Bool) (run : List Block) → has t (others t run) ≡ false
+pub has-others : (t : Block → Bool) (run : List Block) → has t (others t run) ≡ false
 has-others t [] = refl
 has-others t (b ∷ run) = cases (is_mover b) (t b) refl (has-others t run)
   where
@@ -217,7 +217,7 @@ filter-one t (b ∷ bs) x le e = cases (t b) refl le e (filter-one t bs x)
         ap (λ l. b ∷ l) (filter-none t bs (none-count t bs (omega arith))) ∙ ap (λ c. c ∷ []) (same_Some _ _ e)
     cases false is le e more = more (omega arith) e
 
-first-none : (t : Block → Bool) (bs : List Block) → has t bs ≡ false → first t bs ≡ None
+pub first-none : (t : Block → Bool) (bs : List Block) → has t bs ≡ false → first t bs ≡ None
 first-none t [] e = refl
 first-none t (b ∷ bs) e = cases (t b) e (first-none t bs)
   where
@@ -454,16 +454,16 @@ module _ (number n p : ℕ) (zone zone1 : List Block) (at : ℕ) (o : Option Sea
         rw (known.1, up, spot_there) (ap Some (ap (λ b. filled (resized n b) (moved_away (is_relocatable number) there.0)) (sym from.2) ∙ sym is))
 
 -- the block is the same after purges
-module _ (number n k : ℕ) (zone : List Block)
+module _ (nd : Named) (number n k : ℕ) (zone : List Block) (spares : Spares nd (is_relocatable number)) (stays : Stays nd (is_relocatable number))
   where
-    pub purged-block : block_of number (purged k (named.One number) zone) ≡ block_of number zone
+    pub purged-block : block_of number (purged k nd zone) ≡ block_of number zone
     purged-block =
-        spot-first (is_relocatable number) (purged k (named.One number) zone) ∙ first-purged (is_relocatable number) (named.One number) (λ m. refl) (λ b e. e) tt k zone ∙ sym (spot-first (is_relocatable number) zone)
+        spot-first (is_relocatable number) (purged k nd zone) ∙ first-purged (is_relocatable number) nd (λ m. refl) spares stays k zone ∙ sym (spot-first (is_relocatable number) zone)
 
-    pub purged-grown : (zone1 : List Block) → zone1 ≡ purged k (named.One number) zone → grown n (spot (is_relocatable number) zone1) ≡ grown n (spot (is_relocatable number) zone)
+    pub purged-grown : (zone1 : List Block) → zone1 ≡ purged k nd zone → grown n (spot (is_relocatable number) zone1) ≡ grown n (spot (is_relocatable number) zone)
     purged-grown zone1 e = grown-same n (spot (is_relocatable number) zone1) (spot (is_relocatable number) zone) (ap (block_of number) e ∙ purged-block)
 
-    pub purged-grows : (zone1 : List Block) → zone1 ≡ purged k (named.One number) zone → IsToGrow (is_relocatable number) n zone → IsToGrow (is_relocatable number) n zone1
+    pub purged-grows : (zone1 : List Block) → zone1 ≡ purged k nd zone → IsToGrow (is_relocatable number) n zone → IsToGrow (is_relocatable number) n zone1
     purged-grows zone1 e = cases (spot (is_relocatable number) zone) (spot (is_relocatable number) zone1) (ap (block_of number) e ∙ purged-block)
       where
         cases : (a b : Option Spot) → option_map (λ (s : Spot). s.here) b ≡ option_map (λ (s : Spot). s.here) a → IsSomeAnd a (λ s. size s.here < size (resized n s.here)) → IsSomeAnd b (λ s. size s.here < size (resized n s.here))
@@ -471,14 +471,34 @@ module _ (number n k : ℕ) (zone : List Block)
         cases (Some s) None e h = absurd (none-some _ e)
         cases (Some s) (Some t) e h = let P : Block → Type 0 = λ b. size b < size (resized n b) in subst P (sym (same_Some _ _ e)) h
 
--- what the whole growth comes to, told of the spot that there is
-pub grown-zone : (number n : ℕ) (zone : List Block) (answer : Option (List Block)) → growing (is_relocatable number) (grown n (spot (is_relocatable number) zone)) (named.One number) zone ≡ answer
-    → IfSome (spot (is_relocatable number) zone) (λ s. room (grow_mover (is_relocatable number) (resized n s.here)) (is_relocatable number) zone ≡ answer)
-grown-zone number n zone answer is = cases (spot (is_relocatable number) zone) is
+    -- the growth that was carried out after the purges
+    pub carried : (zone1 zone2 : List Block) → zone1 ≡ purged k nd zone
+        → growing (is_relocatable number) (grown n (spot (is_relocatable number) zone)) nd zone ≡ grow_mover (is_relocatable number) (grown n (spot (is_relocatable number) zone)) (purged k nd zone)
+        → grow_mover (is_relocatable number) (grown n (spot (is_relocatable number) zone1)) zone1 ≡ Some zone2
+        → growing (is_relocatable number) (grown n (spot (is_relocatable number) zone)) nd zone ≡ Some zone2
+    carried zone1 zone2 is least done =
+        least ∙ ap (grow_mover (is_relocatable number) (grown n (spot (is_relocatable number) zone))) (sym is) ∙ ap (λ b. grow_mover (is_relocatable number) b zone1) (sym (purged-grown zone1 is)) ∙ done
+
+-- the same told of the spot that there is
+module _ (nd : Named) (number n : ℕ) (zone : List Block) (stays : Stays nd (is_relocatable number))
   where
-    cases : (o : Option Spot) → growing (is_relocatable number) (grown n o) (named.One number) zone ≡ answer → IfSome o (λ s. room (grow_mover (is_relocatable number) (resized n s.here)) (is_relocatable number) zone ≡ answer)
-    cases None is = tt
-    cases (Some s) is = is
+    -- what the whole growth comes to
+    pub grown-zone : (answer : Option (List Block)) → growing (is_relocatable number) (grown n (spot (is_relocatable number) zone)) nd zone ≡ answer
+        → IfSome (spot (is_relocatable number) zone) (λ s. room (grow_mover (is_relocatable number) (resized n s.here)) (spared nd) zone ≡ answer)
+    grown-zone answer is = cases (spot (is_relocatable number) zone) is
+      where
+        cases : (o : Option Spot) → growing (is_relocatable number) (grown n o) nd zone ≡ answer → IfSome o (λ s. room (grow_mover (is_relocatable number) (resized n s.here)) (spared nd) zone ≡ answer)
+        cases None is = tt
+        cases (Some s) is = ap (room (grow_mover (is_relocatable number) (resized n s.here)) (spared nd)) (sym (opened-stays (is_relocatable number) nd zone stays)) ∙ is
+
+    -- how many looks it takes
+    pub grown-searches : (looks : ℕ) → looks ≡ growing_searches (is_relocatable number) (grown n (spot (is_relocatable number) zone)) nd zone
+        → IfSome (spot (is_relocatable number) zone) (λ s. looks ≡ room_searches (grow_mover (is_relocatable number) (resized n s.here)) (spared nd) zone)
+    grown-searches looks is = cases (spot (is_relocatable number) zone) is
+      where
+        cases : (o : Option Spot) → looks ≡ growing_searches (is_relocatable number) (grown n o) nd zone → IfSome o (λ s. looks ≡ room_searches (grow_mover (is_relocatable number) (resized n s.here)) (spared nd) zone)
+        cases None is = tt
+        cases (Some s) is = is ∙ ap (room_searches (grow_mover (is_relocatable number) (resized n s.here)) (spared nd)) (opened-stays (is_relocatable number) nd zone stays)
 
 -- the bytes that the block takes at its new size
 pub grown-size : (number n takes : ℕ) (zone : List Block) → IsToGrow (is_relocatable number) n zone → phys n ≡ Some takes → size (grown n (spot (is_relocatable number) zone)) ≡ takes
@@ -487,14 +507,6 @@ grown-size number n takes zone grows fits = cases (spot (is_relocatable number) 
     cases : (o : Option Spot) → spot (is_relocatable number) zone ≡ o → IsSomeAnd o (λ s. size s.here < size (resized n s.here)) → size (grown n o) ≡ takes
     cases None is h = absurd h
     cases (Some s) is h = resized-size number n s.here (spot-passes (is_relocatable number) zone s is) ∙ sym ((phys-some n takes fits).1)
-
--- the growth that was carried out after the purges
-pub carried : (number n k : ℕ) (zone zone1 zone2 : List Block) → zone1 ≡ purged k (named.One number) zone
-    → growing (is_relocatable number) (grown n (spot (is_relocatable number) zone)) (named.One number) zone ≡ grow_mover (is_relocatable number) (grown n (spot (is_relocatable number) zone)) (purged k (named.One number) zone)
-    → grow_mover (is_relocatable number) (grown n (spot (is_relocatable number) zone1)) zone1 ≡ Some zone2
-    → growing (is_relocatable number) (grown n (spot (is_relocatable number) zone)) (named.One number) zone ≡ Some zone2
-carried number n k zone zone1 zone2 is least done =
-    least ∙ ap (grow_mover (is_relocatable number) (grown n (spot (is_relocatable number) zone))) (sym is) ∙ ap (λ b. grow_mover (is_relocatable number) b zone1) (sym (purged-grown number n k zone zone1 is)) ∙ done
 
 -- the slots stay while a block is moved to the top of its run, which is packed
 pub rest-last : (a b c d : Rest) (o : Option RunSpot) → IsSome o → IsRest a b → IfSome o (λ r. IsRest (with_moves (falling r.run) b) c) → IsRest c d → KeepsSlots a d
@@ -506,20 +518,3 @@ rest-last a b c d (Some r) there hoisted packed grown = record {
   moves = refl;
   window = grown.window ∙ packed.window ∙ hoisted.window;
 }
-
--- no way to grow was found
-pub not-carried : (number n k : ℕ) (zone : List Block) (o : Option Growth) → o ≡ None → FindsGrowth (is_relocatable number) (grown n (spot (is_relocatable number) zone)) (purged k (named.One number) zone) o
-    → growing (is_relocatable number) (grown n (spot (is_relocatable number) zone)) (named.One number) zone ≡ grow_mover (is_relocatable number) (grown n (spot (is_relocatable number) zone)) (purged k (named.One number) zone)
-    → growing (is_relocatable number) (grown n (spot (is_relocatable number) zone)) (named.One number) zone ≡ None
-not-carried number n k zone None is found least = least ∙ found
-not-carried number n k zone (Some way) is found least = absurd (none-some _ (sym is))
-
--- the way to grow that was found serves after the purges
-pub still-found : (number n k : ℕ) (zone zone1 : List Block) (o : Option Growth) (way : Growth) → zone1 ≡ purged k (named.One number) zone → o ≡ Some way
-    → FindsGrowth (is_relocatable number) (grown n (spot (is_relocatable number) zone)) (purged k (named.One number) zone) o
-    → FindsGrowth (is_relocatable number) (grown n (spot (is_relocatable number) zone1)) zone1 (Some way)
-still-found number n k zone zone1 o way purges is found =
-    let P : Option Growth → Type 0 = λ o. FindsGrowth (is_relocatable number) (grown n (spot (is_relocatable number) zone)) (purged k (named.One number) zone) o in
-    let Q : List Block → Type 0 = λ z. FindsGrowth (is_relocatable number) (grown n (spot (is_relocatable number) zone)) z (Some way) in
-    let R : Block → Type 0 = λ b. FindsGrowth (is_relocatable number) b zone1 (Some way) in
-    subst R (sym (purged-grown number n k zone zone1 purges)) (subst Q (sym purges) (subst P is found))

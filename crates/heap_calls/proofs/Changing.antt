@@ -1,16 +1,17 @@
-use Rattle.std.proofs.Common.{◌≡◌, ℕ, ◌+◌, ◌-◌, ◌*◌, ◌≤◌, ◌<◌, zero, suc, Bool, true, false, ◌&&◌, ◌==◌, List, [], ◌∷◌, ◌++◌, length, refl, sym, ◌∙◌, ap, cond, map, arith, Option, Some, None, Result, Ok, Err, slice_get, slice_set, get_or, count_by, subst, ◌⊎◌, inl, inr, nat_lt, nat_le}
-use Rattle.std.proofs.lemmas.List.{map-append, map_push, map-set, length-map, length-replicate}
+use Rattle.std.proofs.Common.{◌≡◌, ℕ, ◌+◌, ◌-◌, ◌≤◌, ◌<◌, zero, suc, Bool, true, false, ◌==◌, List, [], ◌∷◌, ◌++◌, length, refl, sym, ◌∙◌, ap, cond, map, arith, Option, Some, None, Result, Ok, Err, slice_get, slice_set, get_or, count_by, subst, ◌⊎◌, inl, inr, nat_le}
+use Rattle.std.proofs.lemmas.List.{map-append, map_push, map-set, length-map}
 use Rattle.std.proofs.lemmas.List.Sums.{sum_by_push, sum_by-set}
 use Rattle.std.proofs.lemmas.Option.{none-some, same_Some, slice_get_within, slice_get-map, get_or_from_slice_get}
 use Rattle.std.proofs.lemmas.Bool.{cond-true, cond-false, false_from_ne_true}
-use Rattle.std.proofs.lemmas.Bool.Decides.{Decides-eqb, Decides-ltb, nat_tests}
+use Rattle.std.proofs.lemmas.Bool.Decides.{Decides-eqb, nat_tests}
 use Rattle.std.specs.Prelude.{is_some}
-use Rattle.std.specs.Option.{option_map}
+use Rattle.std.specs.Option.{option_map, IfSome, IsSomeAnd}
+use Rattle.std.specs.Bool.{IsTrue}
 use Rattle.mac_words.specs.Size.{phys, padded}
 use Rattle.mac_words.specs.declared.code.OsErr.{OsErr}
 use Rattle.heap_calls.specs.declared.log.Log.{Log}
-use Rattle.mac_words.specs.declared.code.TheConstants.OsErr.{MEM_FULL, PROFILE}
-use Rattle.block_store.specs.Block.{Block, Free, Fixed, Masters, Relocatable, size, count, free_sum, free_of, rename, rename_block, is_relocatable, content_of, with_content, is_masters, tidy, written}
+use Rattle.mac_words.specs.declared.code.TheConstants.OsErr.{PROFILE}
+use Rattle.block_store.specs.Block.{Block, Free, Fixed, Masters, Relocatable, size, count, free_sum, free_of, rename, rename_block, is_fixed, is_relocatable, is_room, content_of, with_content, is_masters, tidy, written, no_flags}
 use Rattle.block_store.specs.Run.{has}
 use Rattle.block_store.specs.Slot.{Slot, Unused, Used, set_slot, AreSlots}
 use Rattle.block_store.specs.Rest.{Rest, IsRest, KeepsSlots}
@@ -20,15 +21,13 @@ use Rattle.block_store.proofs.Renaming.{total-rename, free_of-rename, freed-rena
 use Rattle.block_store.proofs.Tidy.{rename-unless, rename_fixed-unless, has-released}
 use Rattle.heap_calls.specs.State.{State, Memory, Name, Role, Plain, Resource, used_slots, all_slots, uses_slot}
 use Rattle.heap_calls.specs.State as names
-use Rattle.heap_calls.specs.Answer.{Answer, new_handle, nothing, given, refused, dispose_handle, disposed_of, put, written_at, look_up, for_found, known_as, silent}
+use Rattle.heap_calls.specs.Answer.{Answer, Held, given, refused, dispose_handle, disposed_of, written_at, for_found, known_as, silent}
 use Rattle.heap_calls.specs.declared.name.Entry.{Entry}
 use Rattle.heap_calls.specs.declared.name.Entry.TheVariants.{Handle, Pointer, Disposed}
-use Rattle.heap_calls.specs.Numbered.{state_of, memory_of, name_of, handle_number, pointer_number, number_from, leads_to, points_to, no_number, role_of, Agrees}
+use Rattle.heap_calls.specs.Numbered.{state_of, memory_of, name_of, handle_number, pointer_number, number_from, leads_to, points_to, no_number, role_of, KeepsFixed, Agrees}
 use Rattle.heap_calls.proofs.Answering.{content_of-rename, with_content-rename, held}
-use Rattle.heap_calls.specs.NewBlock.{fresh_block, HasNoRoom}
-use Rattle.heap_calls.specs.Search.{seat}
-use Rattle.heap_calls.proofs.Seats.{room-seat, seat-rename, no_room-no_seat}
-use Rattle.block_store.specs.declared.named.Named.TheVariants as named
+use Rattle.heap_calls.proofs.Staying.{fixed-released, fixed-filled, room-not_fixed}
+use Rattle.heap_calls.specs.Slots.{new_block}
 use Rattle.heap_calls.proofs.Numbers.{is_relocatable-number, leads_to-same, leads_to-is}
 
 -- an entry that doesn't pass changes no number
@@ -106,8 +105,8 @@ phys-some n bytes is = (ap is_some is, cases (nat_le n 2147483616) is)
     cases false e = absurd (none-some _ e)
 
 -- the names of a heap with a handle more
-module _ (zone : List Block) (rest rest' : Rest) (es : List Entry) (slot : ℕ) (masters : rest.all ≡ 64 * count is_masters zone)
-    (agrees : Agrees rest es) (was : rest.slots slot ≡ Unused) (now : AreSlots (set_slot rest.slots slot (Used false)) rest'.slots) (one : rest'.unused + 1 ≡ rest.unused) (all : rest'.all ≡ rest.all) (none : has (is_relocatable slot) zone ≡ false)
+module _ {before : List Block} (zone : List Block) (rest rest' : Rest) (es : List Entry) (slot : ℕ)
+    (agrees : Agrees before rest es) (was : rest.slots slot ≡ Unused) (now : AreSlots (set_slot rest.slots slot (Used false)) rest'.slots) (one : rest'.unused + 1 ≡ rest.unused) (all : rest'.all ≡ rest.all) (none : has (is_relocatable slot) zone ≡ false)
   where
     -- the entries with the new one
     abbrev pub es' : List Entry
@@ -143,13 +142,15 @@ module _ (zone : List Block) (rest rest' : Rest) (es : List Entry) (slot : ℕ) 
         ∙ ap (λ l. l ++ names.Handle (role_of (rest'.slots slot)) ∷ []) (names-same rest.slots rest'.slots es (λ h s at. other-slot s (apart-from h s at)))
         ∙ ap (λ t. map (name_of rest.slots) es ++ names.Handle (role_of t) ∷ []) slot-now
 
-    pub agrees-now : Agrees rest' es'
-    agrees-now = record {
+    pub agrees-now : (zone' : List Block) → KeepsFixed before zone' → Agrees zone' rest' es'
+    agrees-now zone' fixed = record {
       used = λ h s at. elim (slice_get-push es (Handle slot) h (Handle s) at) [ inl found ↦ other-slot s (apart-from h s found) ∙ agrees.used h s found | inr new ↦ (let is : s ≡ slot = handle-same s slot new.1 in ap rest'.slots is ∙ slot-now) ];
       apart = λ h k s at at'. elim (slice_get-push es (Handle slot) h (Handle s) at) [
         | inl found ↦ elim (slice_get-push es (Handle slot) k (Handle s) at') [ inl found' ↦ agrees.apart h k s found found' | inr new' ↦ absurd (clash h s found (handle-same s slot new'.1)) ]
         | inr new ↦ elim (slice_get-push es (Handle slot) k (Handle s) at') [ inl found' ↦ absurd (clash k s found' (handle-same s slot new.1)) | inr new' ↦ new.0 ∙ sym new'.0 ]
       ];
+      pointed = λ h p at. fixed p ∙ agrees.pointed h p (old h p at);
+      lone = λ h k p at at'. agrees.lone h k p (old h p at) (old k p at');
       counted =
           let a = agrees.counted in
           let e : count_by uses_slot (map (name_of rest'.slots) es') ≡ count_by uses_slot (map (name_of rest.slots) es ++ names.Handle Plain ∷ []) = ap (count_by uses_slot) names-now in
@@ -160,57 +161,41 @@ module _ (zone : List Block) (rest rest' : Rest) (es : List Entry) (slot : ℕ) 
         handle-same : (s t : ℕ) → Handle s ≡ Handle t → s ≡ t
         handle-same s t e = cc
 
+        not_handle : (p s : ℕ) → Pointer p ≡ Handle s → ⊥
+        not_handle p s e = cc
+
+        old : (h p : ℕ) → slice_get es' h ≡ Some (Pointer p) → slice_get es h ≡ Some (Pointer p)
+        old h p at = elim (slice_get-push es (Handle slot) h (Pointer p) at) [ inl found ↦ found | inr new ↦ absurd (not_handle p slot new.1) ]
+
         clash : (h s : ℕ) → slice_get es h ≡ Some (Handle s) → s ≡ slot → ⊥
         clash h s found is = unused-not_used (rest.slots s) (ap rest.slots is ∙ was) (agrees.used h s found)
 
-    -- the answer of NewHandle, where its block was put in its place
-    pub new_handle-done : (n : ℕ) → is_some (phys n) ≡ true → (zone' : List Block) → room (put_in_place (fresh_block slot n)) nothing zone ≡ Some zone'
-        → new_handle n (state_of zone rest.slots es) ≡ (Ok (length es), state_of zone' rest'.slots es')
-    new_handle-done n fits zone' done =
-        ap (λ t. cond t (given (names.Handle Plain) (room (put_in_place (fresh_block (length (map (name_of rest.slots) es)) n)) nothing (rename (handle_number es) (pointer_number es) zone)) (state_of zone rest.slots es)) (refused MEM_FULL (state_of zone rest.slots es))) room-left
-        ∙ ap (λ o. given (names.Handle Plain) o (state_of zone rest.slots es)) put
-        ∙ ap (λ k. (Ok k, record { zone = rename (handle_number es') (pointer_number es') zone'; names = map (name_of rest.slots) es ++ names.Handle Plain ∷ [] })) (length-map es (name_of rest.slots))
+    -- a new handle over another zone
+    pub handle-given : (zone' : List Block) → given (names.Handle Plain) (Some (rename (handle_number es') (pointer_number es') zone')) (state_of zone rest.slots es) ≡ (Ok (length es), state_of zone' rest'.slots es')
+    handle-given zone' =
+        ap (λ k. (Ok k, record { zone = rename (handle_number es') (pointer_number es') zone'; names = map (name_of rest.slots) es ++ names.Handle Plain ∷ [] })) (length-map es (name_of rest.slots))
         ∙ ap (λ l. (Ok (length es), record { zone = rename (handle_number es') (pointer_number es') zone'; names = l })) (sym names-now)
+
+    -- a new handle with no block
+    pub handle-empty : given (names.Handle Plain) (Some (rename (handle_number es) (pointer_number es) zone)) (state_of zone rest.slots es) ≡ (Ok (length es), state_of zone rest'.slots es')
+    handle-empty = ap (λ z. given (names.Handle Plain) (Some z) (state_of zone rest.slots es)) (sym zone-kept) ∙ handle-given zone
+
+    -- a new handle whose block was put in its place
+    pub block-given : (sp t : Block → Bool) → ((b : Block) → sp (rename_block (handle_number es') (pointer_number es') b) ≡ t b) → (bytes : List ℕ) (zone' : List Block)
+        → room (put_in_place (Relocatable slot no_flags bytes)) t zone ≡ Some zone' → new_block sp bytes (state_of zone rest.slots es) ≡ (Ok (length es), state_of zone' rest'.slots es')
+    block-given sp t same bytes zone' done = ap (λ o. given (names.Handle Plain) o (state_of zone rest.slots es)) put ∙ handle-given zone'
       where
-        room-left : (is_some (phys n) && nat_lt (used_slots (state_of zone rest.slots es)) (all_slots (state_of zone rest.slots es))) ≡ true
-        room-left =
-            let a = agrees.counted in
-            let m = masters-rename (handle_number es) (pointer_number es) zone in
-            let less : used_slots (state_of zone rest.slots es) < all_slots (state_of zone rest.slots es) = omega (arith, one, masters) in
-            rw fits ((Decides-ltb (used_slots (state_of zone rest.slots es)) (all_slots (state_of zone rest.slots es))).1 less)
-
-        put : room (put_in_place (fresh_block (length (map (name_of rest.slots) es)) n)) nothing (rename (handle_number es) (pointer_number es) zone) ≡ Some (rename (handle_number es') (pointer_number es') zone')
+        put : room (put_in_place (Relocatable (length (map (name_of rest.slots) es)) no_flags bytes)) sp (rename (handle_number es) (pointer_number es) zone) ≡ Some (rename (handle_number es') (pointer_number es') zone')
         put =
-            ap (λ k. room (put_in_place (fresh_block k n)) nothing (rename (handle_number es) (pointer_number es) zone)) (length-map es (name_of rest.slots) ∙ sym number-now)
-            ∙ ap (room (put_in_place (fresh_block (handle_number es' slot) n)) nothing) (sym zone-kept)
-            ∙ room-rename (handle_number es') (pointer_number es') nothing nothing (put_in_place (fresh_block (handle_number es' slot) n)) (put_in_place (fresh_block slot n)) (λ b. refl)
-            (put_in_place-rename (handle_number es') (pointer_number es') (fresh_block slot n)) zone
+            ap (λ k. room (put_in_place (Relocatable k no_flags bytes)) sp (rename (handle_number es) (pointer_number es) zone)) (length-map es (name_of rest.slots) ∙ sym number-now)
+            ∙ ap (room (put_in_place (Relocatable (handle_number es' slot) no_flags bytes)) sp) (sym zone-kept)
+            ∙ room-rename (handle_number es') (pointer_number es') sp t (put_in_place (Relocatable (handle_number es' slot) no_flags bytes)) (put_in_place (Relocatable slot no_flags bytes)) same
+            (put_in_place-rename (handle_number es') (pointer_number es') (Relocatable slot no_flags bytes)) zone
             ∙ ap (option_map (rename (handle_number es') (pointer_number es'))) done
-
--- no room for the block
-pub new_handle-full : (zone : List Block) (slots : ℕ → Slot) (es : List Entry) (n : ℕ) → ((number : ℕ) → room (put_in_place (fresh_block number n)) nothing zone ≡ None) → new_handle n (state_of zone slots es) ≡ (Err MEM_FULL, state_of zone slots es)
-new_handle-full zone slots es n none =
-    ap (λ o. cond (is_some (phys n) && nat_lt (used_slots s) (all_slots s)) (given (names.Handle Plain) o s) (refused MEM_FULL s)) put ∙ either (is_some (phys n) && nat_lt (used_slots s) (all_slots s))
-  where
-    s : State
-    s = state_of zone slots es
-
-    new : Block
-    new = fresh_block (length s.names) n
-
-    either : (t : Bool) → cond t (refused {T = ℕ} MEM_FULL s) (refused {T = ℕ} MEM_FULL s) ≡ refused {T = ℕ} MEM_FULL s
-    either true = refl
-    either false = refl
-
-    put : room (put_in_place new) nothing s.zone ≡ None
-    put =
-        room-seat new s.zone
-        ∙ ap (λ p. option_map (filled new) (seat p named.Nothing s.zone)) (ap padded (length-replicate n 0))
-        ∙ ap (option_map (filled new)) (seat-rename (handle_number es) (pointer_number es) (padded n) zone ∙ ap (option_map (rename_spot (handle_number es) (pointer_number es))) (no_room-no_seat n zone 0 (none 0)))
 
 -- the names of a heap with a handle disposed of
 module _ (zone : List Block) (rest rest' : Rest) (es : List Entry) (h slot : ℕ)
-    (agrees : Agrees rest es) (at : slice_get es h ≡ Some (Handle slot)) (small : h < no_number) (now : AreSlots (set_slot rest.slots slot Unused) rest'.slots) (one : rest'.unused ≡ rest.unused + 1) (all : rest'.all ≡ rest.all)
+    (agrees : Agrees zone rest es) (at : slice_get es h ≡ Some (Handle slot)) (small : h < no_number) (now : AreSlots (set_slot rest.slots slot Unused) rest'.slots) (one : rest'.unused ≡ rest.unused + 1) (all : rest'.all ≡ rest.all)
   where
     -- the entries without it
     abbrev pub left : List Entry
@@ -234,10 +219,18 @@ module _ (zone : List Block) (rest rest' : Rest) (es : List Entry) (h slot : ℕ
     pub names-left : map (name_of rest'.slots) left ≡ slice_set (map (name_of rest.slots) es) h names.Disposed
     names-left = names-same rest.slots rest'.slots left (λ k s found. slots-left s (other-left k s found).1) ∙ map-set (name_of rest.slots) es h Disposed
 
-    pub agrees-left : Agrees rest' left
+    pointer-left : (k p : ℕ) → slice_get left k ≡ Some (Pointer p) → slice_get es k ≡ Some (Pointer p)
+    pointer-left k p found = elim (slice_get-set es h Disposed k (Pointer p) found) [ inl old ↦ old | inr new ↦ absurd (gone new.1) ]
+      where
+        gone : Pointer p ≡ Disposed → ⊥
+        gone e = cc
+
+    pub agrees-left : Agrees (tidy (freed (is_relocatable slot) zone)) rest' left
     agrees-left = record {
       used = λ k s found. slots-left s (other-left k s found).1 ∙ agrees.used k s (other-left k s found).0;
       apart = λ j k s a b. agrees.apart j k s (other-left j s a).0 (other-left k s b).0;
+      pointed = λ k p found. fixed-released slot zone p ∙ agrees.pointed k p (pointer-left k p found);
+      lone = λ j k p a b. agrees.lone j k p (pointer-left j p a) (pointer-left k p b);
       counted =
           let a = agrees.counted in
           let e : count_by uses_slot (map (name_of rest'.slots) left) ≡ count_by uses_slot (slice_set (map (name_of rest.slots) es) h names.Disposed) = ap (count_by uses_slot) names-left in
@@ -274,11 +267,26 @@ spot_at-is place (b ∷ above) s e = cases (place == 0) (nat_le (size b) place) 
     cases false true None rest e = absurd (none-some _ e)
     cases false true (Some s') rest e = ap (λ l. b ∷ l) (rest s' refl) ∙ ap (λ (s : Spot). s.below ++ s.here ∷ s.above) (same_Some _ _ e)
 
+-- the Fixed blocks stay where a block is changed at the spot of a place
+pub fixed-at : (place : ℕ) (zone zone' : List Block) (s : Spot) → spot_at place zone ≡ Some s → KeepsFixed (s.below ++ s.here ∷ s.above) zone' → KeepsFixed zone zone'
+fixed-at place zone zone' s at stays p = stays p ∙ ap (has (is_fixed p)) (sym (spot_at-is place zone s at))
+
+-- and where another block than a Fixed one is put there
+pub fixed-carved : (place n : ℕ) (zone after : List Block) (new : Block) → ((p : ℕ) → is_fixed p new ≡ false) → IsSomeAnd (spot_at place zone) (λ s. IsTrue (is_room n s.here)) → IfSome (spot_at place zone) (λ s. after ≡ filled new s) → KeepsFixed zone after
+fixed-carved place n zone after new none wide done = cases (spot_at place zone) refl wide done
+  where
+    cases : (o : Option Spot) → spot_at place zone ≡ o → IsSomeAnd o (λ s. IsTrue (is_room n s.here)) → IfSome o (λ s. after ≡ filled new s) → KeepsFixed zone after
+    cases None at wide done p = absurd wide
+    cases (Some s) at wide done p =
+        ap (has (is_fixed p)) done ∙ fixed-at place zone (filled new s) s at (fixed-filled new s (λ p. none p ∙ sym (room-not_fixed n p s.here wide))) p
+
 -- the store goes on with the same slots
-pub agrees-kept : (rest rest' : Rest) (es : List Entry) → Agrees rest es → KeepsSlots rest rest' → Agrees rest' es
-agrees-kept rest rest' es agrees now = record {
+pub agrees-kept : (zone zone' : List Block) (rest rest' : Rest) (es : List Entry) → Agrees zone rest es → KeepsFixed zone zone' → KeepsSlots rest rest' → Agrees zone' rest' es
+agrees-kept zone zone' rest rest' es agrees fixed now = record {
   used = λ h s at. now.slots s ∙ agrees.used h s at;
   apart = agrees.apart;
+  pointed = λ h p at. fixed p ∙ agrees.pointed h p at;
+  lone = agrees.lone;
   counted =
       let a = agrees.counted in
       let e : count_by uses_slot (map (name_of rest'.slots) es) ≡ count_by uses_slot (map (name_of rest.slots) es) = ap (count_by uses_slot) (names-same rest.slots rest'.slots es (λ h s at. now.slots s)) in
@@ -289,8 +297,8 @@ agrees-kept rest rest' es agrees now = record {
 pub kept : (rest rest' : Rest) → IsRest rest rest' → KeepsSlots rest rest'
 kept rest rest' now = record { slots = now.slots; unused = now.unused; all = now.all; moves = refl; window = now.window }
 
-pub agrees-same : (rest rest' : Rest) (es : List Entry) → Agrees rest es → IsRest rest rest' → Agrees rest' es
-agrees-same rest rest' es agrees now = agrees-kept rest rest' es agrees (kept rest rest' now)
+pub agrees-same : (zone zone' : List Block) (rest rest' : Rest) (es : List Entry) → Agrees zone rest es → KeepsFixed zone zone' → IsRest rest rest' → Agrees zone' rest' es
+agrees-same zone zone' rest rest' es agrees fixed now = agrees-kept zone zone' rest rest' es agrees fixed (kept rest rest' now)
 
 -- a heap over another zone and the same slots
 pub memory-kept : (zone : List Block) (rest rest' : Rest) (es : List Entry) (log : Log) → KeepsSlots rest rest' → memory_of zone rest' es log ≡ memory_of zone rest es log
@@ -314,42 +322,12 @@ pub silent-refused : {T : Type 0} (row : State → Answer T) (value : Memory) (z
     → memory_of zone rest es log ≡ value → row (state_of zone rest.slots es) ≡ (Err code, state_of zone rest.slots es) → silent row value ≡ (Err code, value)
 silent-refused row value zone rest es log code is done = silent-done row value zone zone rest rest es es log (Err code) is done refl ∙ ap (λ (m : Memory). (Err code, m)) is
 
--- all slots are used
-pub new_handle-none : (zone : List Block) (rest : Rest) (es : List Entry) (n : ℕ) → rest.all ≡ 64 * count is_masters zone → Agrees rest es → rest.unused ≡ 0 → new_handle n (state_of zone rest.slots es) ≡ (Err MEM_FULL, state_of zone rest.slots es)
-new_handle-none zone rest es n masters agrees unused =
-    ap (λ t. cond (is_some (phys n) && t) (given (names.Handle Plain) (room (put_in_place (fresh_block (length s.names) n)) nothing s.zone) s) (refused MEM_FULL s)) full
-    ∙ either (is_some (phys n))
-  where
-    s : State
-    s = state_of zone rest.slots es
-
-    full : nat_lt (used_slots s) (all_slots s) ≡ false
-    full =
-        let a = agrees.counted in
-        let m = masters-rename (handle_number es) (pointer_number es) zone in
-        false_from_ne_true (nat_lt (used_slots s) (all_slots s)) (λ e. let less = (Decides-ltb (used_slots s) (all_slots s)).0 e in absurd (omega (arith, masters, unused)))
-
-    either : (t : Bool) → cond (t && false) (given (names.Handle Plain) (room (put_in_place (fresh_block (length s.names) n)) nothing s.zone) s) (refused MEM_FULL s) ≡ refused MEM_FULL s
-    either true = refl
-    either false = refl
-
--- no block can be so large
-pub new_handle-large : (n : ℕ) (s : State) → phys n ≡ None → new_handle n s ≡ (Err MEM_FULL, s)
-new_handle-large n s none = ap (λ o. cond (is_some o && nat_lt (used_slots s) (all_slots s)) (given (names.Handle Plain) (room (put_in_place (fresh_block (length s.names) n)) nothing s.zone) s) (refused MEM_FULL s)) none
-
--- no block can be made
-pub new_handle-refused : (zone : List Block) (rest : Rest) (es : List Entry) (n : ℕ) → rest.all ≡ 64 * count is_masters zone → Agrees rest es → HasNoRoom n zone rest
-    → new_handle n (state_of zone rest.slots es) ≡ (Err MEM_FULL, state_of zone rest.slots es)
-new_handle-refused zone rest es n masters agrees (inl large) = new_handle-large n (state_of zone rest.slots es) large
-new_handle-refused zone rest es n masters agrees (inr (inl used)) = new_handle-none zone rest es n masters agrees used
-new_handle-refused zone rest es n masters agrees (inr (inr full)) = new_handle-full zone rest.slots es n full
-
--- the answer of Put, where its bytes were written
-pub put-done : (value : Memory) (zone zone' : List Block) (rest rest' : Rest) (es : List Entry) (log : Log) (handle : Option ℕ) (h i : ℕ) (x : List ℕ) (s : Spot) → memory_of zone rest es log ≡ value
-    → look_up handle (state_of zone rest.slots es) ≡ Ok (held h (rename_spot (handle_number es) (pointer_number es) s))
-    → IsRest rest rest' → i + length x ≤ length (content_of s.here) → zone' ≡ s.below ++ with_content (written i x (content_of s.here)) s.here ∷ s.above → silent (put handle i x) value ≡ (Ok tt, memory_of zone' rest' es log)
-put-done value zone zone' rest rest' es log handle h i x s is found now fits done =
-    silent-done (put handle i x) value zone zone' rest rest' es es log (Ok tt) is
+-- the answer of a call that writes bytes into the block that it looks up, where they were written
+pub written-done : (value : Memory) (zone zone' : List Block) (rest rest' : Rest) (es : List Entry) (log : Log) (look : State → Result Held OsErr) (h i : ℕ) (x : List ℕ) (s : Spot) → memory_of zone rest es log ≡ value
+    → look (state_of zone rest.slots es) ≡ Ok (held h (rename_spot (handle_number es) (pointer_number es) s))
+    → IsRest rest rest' → i + length x ≤ length (content_of s.here) → zone' ≡ s.below ++ with_content (written i x (content_of s.here)) s.here ∷ s.above → silent (λ s. for_found (look s) s (λ k. written_at i x k.at s)) value ≡ (Ok tt, memory_of zone' rest' es log)
+written-done value zone zone' rest rest' es log look h i x s is found now fits done =
+    silent-done (λ s. for_found (look s) s (λ k. written_at i x k.at s)) value zone zone' rest rest' es es log (Ok tt) is
     (ap (λ r. for_found r state (λ k. written_at i x k.at state)) found
     ∙ ap (λ t. cond t (Ok tt, record state { zone = rename f g s.below ++ with_content (written i x (content_of (rename_block f g s.here))) (rename_block f g s.here) ∷ rename f g s.above }) (refused PROFILE state)) (ap (λ c. nat_le (i + length x) (length c)) (content_of-rename f g s.here) ∙ test)
     ∙ ap (λ z. (Ok tt, record state { zone = z })) (ap (λ b. rename f g s.below ++ b ∷ rename f g s.above) (with_content-rename f g _ s.here ∙ ap (λ c. rename_block f g (with_content (written i x c) s.here)) (content_of-rename f g s.here)) ∙ sym (map-append (rename_block f g) s.below (with_content (written i x (content_of s.here)) s.here ∷ s.above)) ∙ ap (rename f g) (sym done))
@@ -369,11 +347,11 @@ put-done value zone zone' rest rest' es log handle h i x s is found now fits don
     test = grind (arith, nat_tests)
 
 -- and where they don't fit
-pub put-outside : (value : Memory) (zone : List Block) (rest : Rest) (es : List Entry) (log : Log) (handle : Option ℕ) (h i : ℕ) (x : List ℕ) (s : Spot) → memory_of zone rest es log ≡ value
-    → look_up handle (state_of zone rest.slots es) ≡ Ok (held h (rename_spot (handle_number es) (pointer_number es) s))
-    → length (content_of s.here) < i + length x → silent (put handle i x) value ≡ (Err PROFILE, value)
-put-outside value zone rest es log handle h i x s is found past =
-    silent-refused (put handle i x) value zone rest es log PROFILE is
+pub written-outside : (value : Memory) (zone : List Block) (rest : Rest) (es : List Entry) (log : Log) (look : State → Result Held OsErr) (h i : ℕ) (x : List ℕ) (s : Spot) → memory_of zone rest es log ≡ value
+    → look (state_of zone rest.slots es) ≡ Ok (held h (rename_spot (handle_number es) (pointer_number es) s))
+    → length (content_of s.here) < i + length x → silent (λ s. for_found (look s) s (λ k. written_at i x k.at s)) value ≡ (Err PROFILE, value)
+written-outside value zone rest es log look h i x s is found past =
+    silent-refused (λ s. for_found (look s) s (λ k. written_at i x k.at s)) value zone rest es log PROFILE is
     (ap (λ r. for_found r state (λ k. written_at i x k.at state)) found
     ∙ ap (λ t. cond t (Ok tt, record state { zone = rename f g s.below ++ with_content (written i x (content_of (rename_block f g s.here))) (rename_block f g s.here) ∷ rename f g s.above }) (refused PROFILE state)) (ap (λ c. nat_le (i + length x) (length c)) (content_of-rename f g s.here) ∙ test))
   where

@@ -8,7 +8,8 @@ use Rattle.block_store.specs.Run.{change_run, has, high}
 use Rattle.block_store.specs.Room.{put_at_base, put_in_place, room}
 use Rattle.block_store.specs.Grow.{grow}
 use Rattle.heap_calls.specs.State.{State, fresh_heap, Handle, Plain, Pointer, used_slots, all_slots}
-use Rattle.heap_calls.specs.Answer.{Answer, given, refused, on_block, dispose_handle, get_handle_size, show, place_of, free_mem, put}
+use Rattle.heap_calls.specs.Answer.{Answer, given, refused, on_block, dispose_handle, get_handle_size, show, free_mem, put}
+use Rattle.heap_calls.specs.Pointers.{place_of}
 
 -- The worked examples of compaction, purging and growing, by the definitions alone. The calls that aren't there yet
 -- are said here as the definitions of places and of growing give them.

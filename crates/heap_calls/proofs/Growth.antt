@@ -104,7 +104,7 @@ first-tidy test none [] = refl
 first-tidy test none (b ∷ bs) = first-add test none b (tidy bs) ∙ ap (cond (test b) (Some b)) (first-tidy test none bs)
 
 -- a block that is spared stays
-first-emptied : (test sp : Block → Bool) → ((n : ℕ) → test (Free n) ≡ false) → ((b : Block) → test b ≡ true → sp b ≡ true) → (k : ℕ) (bs : List Block) → first test (emptied k sp bs) ≡ first test bs
+pub first-emptied : (test sp : Block → Bool) → ((n : ℕ) → test (Free n) ≡ false) → ((b : Block) → test b ≡ true → sp b ≡ true) → (k : ℕ) (bs : List Block) → first test (emptied k sp bs) ≡ first test bs
 first-emptied test sp none spares zero bs = refl
 first-emptied test sp none spares (suc k) [] = refl
 first-emptied test sp none spares (suc k) (b ∷ bs) = cases (may_go sp b) refl (first-emptied test sp none spares k bs) (first-emptied test sp none spares (suc k) bs)
@@ -122,11 +122,15 @@ first-emptied test sp none spares (suc k) (b ∷ bs) = cases (may_go sp b) refl 
     cases true e one more = rw (none (size b), stays (test b) refl e) one
     cases false e one more = ap (cond (test b) (Some b)) more
 
+-- a search that counts no block as Free looks at the zone as it is
+pub opened-stays : (test : Block → Bool) (n : Named) (zone : List Block) → Stays n test → opened n zone ≡ zone
+opened-stays test named.Nothing zone s = refl
+opened-stays test (named.One a) zone s = refl
+opened-stays test (named.Two a b) zone s = refl
+opened-stays test (named.Freed a) zone s = absurd s
+
 first-opened : (test : Block → Bool) (n : Named) → ((m : ℕ) → test (Free m) ≡ false) → (zone : List Block) → Stays n test → first test (opened n zone) ≡ first test zone
-first-opened test named.Nothing none zone s = refl
-first-opened test (named.One a) none zone s = refl
-first-opened test (named.Two a b) none zone s = refl
-first-opened test (named.Freed a) none zone s = absurd s
+first-opened test n none zone s = ap (first test) (opened-stays test n zone s)
 
 -- a block that is spared is the same after purges
 pub first-purged : (test : Block → Bool) (n : Named) → ((m : ℕ) → test (Free m) ≡ false) → Spares n test → Stays n test → (k : ℕ) (zone : List Block) → first test (purged k n zone) ≡ first test zone

@@ -6,7 +6,8 @@ use Rattle.std.proofs.lemmas.Option.{none-some, same_Some}
 use Rattle.std.proofs.lemmas.Bool.{cond-true, cond-false, or_parts, le-leb, leb-true}
 use Rattle.std.proofs.lemmas.Bool.Decides.{nat_tests}
 use Rattle.std.proofs.lemmas.List.{append-nil, length-append, length-take, length-replicate}
-use Rattle.heap_calls.proofs.Searching.{least-at}
+use Rattle.heap_calls.proofs.Searching.{least-at, tries-at, count-le}
+use Rattle.heap_calls.specs.Searches.{room_searches, in_place_searches}
 use Rattle.mac_words.specs.Size.{padded, phys}
 use Rattle.block_store.specs.Block.{Block, Free, Fixed, Masters, Relocatable, size, sizes, free_sum, free_of, free, is_room, add, tidy, resized, resized_content}
 use Rattle.block_store.specs.Run.{has, has_free, in_run, movers, low, with_run, RunSpot, run_raised, run_at, run_from, segments, Segments, joined, Stretch}
@@ -525,6 +526,34 @@ least-found d k sp run le has before =
 pub least-none : (d k : ℕ) (sp : Block → Bool) (run : List Block) → k ≡ count_of sp run → has_free d (emptied k sp run) ≡ false → ((j : ℕ) → j < k → enough d (purge j sp run) ≡ None) → room (enough d) sp run ≡ None
 least-none d k sp run last has before =
     least-at (λ j. enough d (purge j sp run)) (count_of sp run) k (omega (arith, last)) before (inr last) ∙ enough-none d k sp run has
+
+-- the looks that this takes
+pub looks-found : (d k : ℕ) (sp : Block → Bool) (run : List Block) → k ≤ count_of sp run → has_free d (emptied k sp run) ≡ true → ((j : ℕ) → j < k → enough d (purge j sp run) ≡ None) → k + 1 ≡ room_searches (enough d) sp run
+looks-found d k sp run le has before =
+    tries-at (λ j. enough d (purge j sp run)) (count_of sp run) k le before (inl (ap is_some (enough-some d k sp run has)))
+
+pub looks-none : (d k : ℕ) (sp : Block → Bool) (run : List Block) → k ≡ count_of sp run → has_free d (emptied k sp run) ≡ false → ((j : ℕ) → j < k → enough d (purge j sp run) ≡ None) → k + 1 ≡ room_searches (enough d) sp run
+looks-none d k sp run last has before = tries-at (λ j. enough d (purge j sp run)) (count_of sp run) k (omega (arith, last)) before (inr last)
+
+-- no more blocks go from the run above a place than the zone has bytes
+pub spot-count : (place : ℕ) (sp : Block → Bool) (zone : List Block) (most : ℕ) → IsSome (spot_at place zone) → IfSome (spot_at place zone) (λ s. most ≡ count_of sp (segments s.above).first) → most ≤ sizes zone
+spot-count place sp zone most there h =
+    let found = some_spot (spot_at place zone) there in
+    let s : Spot = found.0 in
+    let is : most ≡ count_of sp (segments s.above).first = spot_if (spot_at place zone) s (λ s. most ≡ count_of sp (segments s.above).first) found.1 h in
+    let a : sizes zone ≡ sizes (s.below ++ s.here ∷ s.above) = ap sizes (spot_at-is place zone s found.1) in
+    let b : sizes (s.below ++ s.here ∷ s.above) ≡ sizes s.below + sizes (s.here ∷ s.above) = total-append size s.below (s.here ∷ s.above) in
+    let c : sizes (joined (segments s.above).first (segments s.above).rest) ≡ sizes s.above = ap sizes (joined-segments s.above) in
+    let d : sizes (joined (segments s.above).first (segments s.above).rest) ≡ sizes ((segments s.above).first ++ beyond (segments s.above).rest) = ap sizes (joined-is (segments s.above).first (segments s.above).rest) in
+    let e : sizes ((segments s.above).first ++ beyond (segments s.above).rest) ≡ sizes (segments s.above).first + sizes (beyond (segments s.above).rest) = total-append size (segments s.above).first (beyond (segments s.above).rest) in
+    omega (arith, is, count-le sp (segments s.above).first, a, b, c, d, e)
+
+-- how many looks growth where it stands takes: one where the Free block above serves, else those at the run above
+pub looks-up : (sp : Block → Bool) (new : Block) (s : Spot) → is_some (taken (growth new s) s.above) ≡ true → 1 ≡ in_place_searches sp new s
+looks-up sp new s e = sym (cond-true _ 1 _ (up-allowed new s e))
+
+pub looks-run : (sp : Block → Bool) (new : Block) (s : Spot) (looks : ℕ) → is_some (taken (growth new s) s.above) ≡ false → looks ≡ room_searches (enough (growth new s)) sp (segments s.above).first → looks ≡ in_place_searches sp new s
+looks-run sp new s looks e is = is ∙ sym (cond-false _ 1 _ (ap is_some (no-up new s e)))
 
 -- what is known of a block that is to grow: where it is, by how much, and whether the Free block right above it serves
 pub record Grows (place : ℕ) (zone : List Block) (n more : ℕ) (up : Bool) : Type 0 where

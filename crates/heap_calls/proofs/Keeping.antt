@@ -1,15 +1,16 @@
-use Rattle.std.proofs.Common.{◌≡◌, ℕ, ◌+◌, ◌-◌, ◌≤◌, zero, suc, Bool, true, false, not, ◌&&◌, ◌||◌, List, [], ◌∷◌, ◌++◌, refl, sym, ◌∙◌, ap, subst, cond, arith, Some, filter, ◌⊎◌, inl, inr}
+use Rattle.std.proofs.Common.{◌≡◌, ℕ, ◌+◌, ◌-◌, ◌≤◌, zero, suc, Bool, true, false, not, ◌&&◌, ◌||◌, List, [], ◌∷◌, ◌++◌, refl, sym, ◌∙◌, ap, subst, cond, arith, Option, Some, filter, ◌⊎◌, inl, inr}
 use Rattle.std.proofs.lemmas.Bool.{cond-true, and_parts}
 use Rattle.std.proofs.lemmas.Option.{same_Some, option_and_then_some}
 use Rattle.std.specs.Option.{option_map, option_or}
 use Rattle.block_store.specs.Block.{Block, Free, size, total, count, free, free_sum, is_mover, is_room, resized, tidy}
-use Rattle.block_store.specs.Run.{Stretch, segments, joined, change_run, has, has_free, movers, others, settle, high}
-use Rattle.block_store.specs.Room.{Spot, spot, filled, place, put_in_place, emptied, purge, may_go, room}
+use Rattle.block_store.specs.Run.{Stretch, segments, joined, change_run, has, has_free, movers, others, settle, high, low}
+use Rattle.block_store.specs.Room.{Spot, spot, filled, place, put_in_place, put_at_base, emptied, purge, may_go, room}
 use Rattle.block_store.specs.Grow.{growth, taken, taken_low, grow_up, grow_fixed, freed, move_away, grow_last, grow_mover, grow}
 use Rattle.block_store.specs.Compact.{settled_runs, settled}
 use Rattle.block_store.proofs.Tidy.{total-tidy, spot-is, spot-passes}
 use Rattle.block_store.proofs.Totals.{total-append, total-le}
 use Rattle.block_store.proofs.Zones.{joined-segments}
+use Rattle.heap_calls.specs.Pointers.{reserved}
 use Rattle.heap_calls.proofs.Views.{map-some, or-some, room-some, change_run-some, place-some, taken-some, taken_low-some, grow-some}
 
 -- What blocks come to, by a measure that sees no Free block, isn't more after a zone was changed.
@@ -155,12 +156,35 @@ module _ (of : Block → ℕ) (none : (n : ℕ) → of (Free n) ≡ 0)
         map-some (filled new) (place (size new) zone) z (total of z ≤ of new + total of zone) e
         (λ s found is. let p = placed-le (size new) zone s found in omega (arith, ap (total of) is, filled-is new s))
 
-    pub room-le : (new : Block) (sp : Block → Bool) (zone z : List Block) → room (put_in_place new) sp zone ≡ Some z → total of z ≤ of new + total of zone
-    room-le new sp zone z e =
-        let r = room-some (put_in_place new) sp zone z e in
-        let p = put-le new (purge r.0 sp zone) z r.1 in
+    -- what is tried leaves so much more, after purges too
+    pub room-more : (try : List Block → Option (List Block)) (n : ℕ) → ((zone z : List Block) → try zone ≡ Some z → total of z ≤ n + total of zone)
+        → (sp : Block → Bool) (zone z : List Block) → room try sp zone ≡ Some z → total of z ≤ n + total of zone
+    room-more try n more sp zone z e =
+        let r = room-some try sp zone z e in
+        let p = more (purge r.0 sp zone) z r.1 in
         let q = purged-le r.0 sp zone in
         omega arith
+
+    pub room-le : (new : Block) (sp : Block → Bool) (zone z : List Block) → room (put_in_place new) sp zone ≡ Some z → total of z ≤ of new + total of zone
+    room-le new = room-more (put_in_place new) (of new) (put-le new)
+
+    -- a new block at the base of a run is all that is more
+    pub low-le : (new : Block) (run : List Block) → total of (low new run) ≤ of new + total of run
+    low-le new run = let f = filtered is_mover run in omega (arith, total-append of (movers run) (free (free_sum run - size new)), freely (free_sum run - size new))
+
+    pub based-le : (new : Block) (passes : List Block → Bool) (zone z : List Block) → option_map tidy (change_run passes (low new) zone) ≡ Some z → total of z ≤ of new + total of zone
+    based-le new passes zone z e =
+        map-some tidy (change_run passes (low new) zone) z (total of z ≤ of new + total of zone) e
+        (λ based changed is. change_run-some passes (low new) zone based (total of z ≤ of new + total of zone) changed
+        (λ r zone_is all found made. let l = low-le new r.run in
+        omega (arith, ap (total of) is, tidied based, ap (total of) zone_is, ap (total of) made, three r.below r.run r.above, three r.below (low new r.run) r.above)))
+
+    pub base-le : (new : Block) (sp : Block → Bool) (zone z : List Block) → room (put_at_base new) sp zone ≡ Some z → total of z ≤ of new + total of zone
+    base-le new = room-more (put_at_base new) (of new) (based-le new (has_free (size new)))
+
+    -- Free bytes at the base of a run
+    pub reserved-le : (p : ℕ) (sp : Block → Bool) (zone z : List Block) → room (reserved p) sp zone ≡ Some z → total of z ≤ total of zone
+    reserved-le p sp zone z e = let l = room-more (reserved p) (of (Free p)) (based-le (Free p) (has_free p)) sp zone z e in omega (arith, none p)
 
     settled-below : (k : ℕ) (run : List Block) (parts : List Stretch) → total of (settled_runs k run parts) ≤ total of (joined run parts)
     settled-below zero run parts = omega arith

@@ -11,7 +11,9 @@ use Rattle.mac_words.specs.declared.code.TheConstants.OsErr.{NO_ERR}
 use Rattle.heap_calls.specs.State.{Memory, Name}
 use Rattle.heap_calls.specs.Answer.{compact_mem, noting}
 use Rattle.heap_calls.specs.declared.name.Entry.{Entry}
+use Rattle.heap_calls.specs.Searches.{stretches}
 use Rattle.heap_calls.specs.Numbered.{memory_of, name_of, handle_number, pointer_number}
+use Rattle.heap_calls.proofs.Stretches.{stretches-rename}
 use Rattle.heap_calls.proofs.Changing.{names-same}
 
 -- The largest that can be had, and compaction, see no names.
@@ -54,6 +56,11 @@ pub runs_settled-rename : (f g : ℕ → ℕ) (p : Option ℕ) (zone : List Bloc
 runs_settled-rename f g p zone =
     ap (λ (test : ℕ → Bool). least_or_last test (length (runs (rename f g zone)))) (λ i k. (ap (has_room p) (settled-rename f g k zone) ∙ has_room-rename f g p (settled k zone)) i)
     ∙ ap (least_or_last (λ k. has_room p (settled k zone))) (ap length (runs-rename f g zone) ∙ length-map (runs zone) (rename f g))
+
+-- and the runs among them that have a block
+pub settled_stretches-rename : (f g : ℕ → ℕ) (p : Option ℕ) (zone : List Block) → stretches (runs_settled p (rename f g zone)) (runs (rename f g zone)) ≡ stretches (runs_settled p zone) (runs zone)
+settled_stretches-rename f g p zone =
+    ap (λ k. stretches k (runs (rename f g zone))) (runs_settled-rename f g p zone) ∙ ap (stretches (runs_settled p zone)) (runs-rename f g zone) ∙ stretches-rename f g (runs_settled p zone) (runs zone)
 
 pub compacted-rename : (f g : ℕ → ℕ) (p : Option ℕ) (zone : List Block) → compacted p (rename f g zone) ≡ rename f g (compacted p zone)
 compacted-rename f g p zone = ap (λ k. settled k (rename f g zone)) (runs_settled-rename f g p zone) ∙ settled-rename f g (runs_settled p zone) zone

@@ -1,303 +1,97 @@
-use Rattle.std.proofs.Common.{◌≡◌, ℕ, ◌+◌, ◌-◌, ◌≤◌, ◌<◌, zero, suc, Bool, true, false, ◌&&◌, ◌==◌, List, [], ◌∷◌, ◌++◌, length, refl, sym, ◌∙◌, ap, cond, arith, Option, Some, None, Result, Ok, Err, slice_get, replicate, subst, nat_lt, nat_le}
-use Rattle.std.proofs.lemmas.List.{length_push, length-set}
-use Rattle.std.proofs.lemmas.Bool.{cond-true, cond-false, false_from_ne_true, and_parts}
-use Rattle.std.proofs.lemmas.Bool.Decides.{Decides-eqb, Decides-ltb}
-use Rattle.std.specs.Option.{option_map, ok_or}
-use Rattle.std.proofs.lemmas.Slice.Eq.{bytes_eq-Decides}
-use Rattle.std.specs.Prelude.{is_some, unwrap_or, bytes_eq, if◌then◌else◌}
+use Rattle.std.proofs.Common.{◌≡◌, ℕ, ◌+◌, ◌≤◌, ◌/◌, ◌%◌, ◌==◌, Bool, true, false, ◌||◌, List, ◌∷◌, ◌++◌, length, replicate, refl, sym, ◌∙◌, ap, subst, cond, arith, Option, Some, None, Result, Ok, Err, slice_get, slice_set, nat_le}
+use Rattle.std.specs.Option.{option_map}
+use Rattle.std.specs.Prelude.{is_some, if◌then◌else◌}
 use Rattle.mac_words.specs.Size.{phys}
 use Rattle.mac_words.specs.declared.code.OsErr.{OsErr}
-use Rattle.mac_words.specs.declared.code.TheConstants.OsErr.{NIL_HANDLE, MEM_FULL, LOCKED, PROFILE}
-use Rattle.block_store.specs.declared.flags.Flags.{Flags}
-use Rattle.block_store.specs.Block.{Block, Free, Fixed, Masters, Relocatable, sizes, total, count, free, is_mover, is_relocatable, content_of, with_content, no_flags, tidy, written, resized, resized_content}
-use Rattle.block_store.specs.Run.{change_run, has, high}
-use Rattle.block_store.specs.Room.{Spot, spot, put_in_place, room}
+use Rattle.mac_words.specs.declared.code.TheConstants.OsErr.{MEM_FULL, PROFILE, PURGED}
+use Rattle.block_store.specs.Block.{Block, Fixed, Masters, sizes, total, is_mover, is_relocatable, is_fixed, content_of, with_content, tidy, written}
+use Rattle.block_store.specs.Run.{runs}
+use Rattle.block_store.specs.Room.{Spot, spot, put_at_base, purge, room}
 use Rattle.block_store.specs.Grow.{freed, grow}
-use Rattle.block_store.specs.Compact.{compacted, runs_settled}
-use Rattle.block_store.proofs.Tidy.{spot-is, spot-passes}
-use Rattle.block_store.proofs.Totals.{total-append, total-le}
-use Rattle.heap_calls.specs.State.{State, Memory, Name, Role, Plain, Resource, SystemResource, used_slots, all_slots, fresh_heap}
+use Rattle.block_store.specs.Compact.{compacted, runs_settled, settled}
+use Rattle.heap_calls.specs.State.{State, Memory, Name, Role, Plain, Resource, SystemResource}
 use Rattle.heap_calls.specs.State as names
-use Rattle.heap_calls.specs.Answer.{Answer, Held, nothing, given, refused, disposed_of, rebuilt, flagged, change_flags, hoisted, move_hhi, put, written_at, look_up, held_at, handle_at, for_found}
+use Rattle.heap_calls.specs.Answer.{Answer, Held, nothing, given, refused, disposed_of, rebuilt, move_hhi, look_up, handle_at, for_found, written_at, on_block}
 use Rattle.heap_calls.specs.Answer as calls
+use Rattle.heap_calls.specs.Slots.{slotted, if_ready, new_block, more_masters}
+use Rattle.heap_calls.specs.Pointers.{pointed_at, block_named, reserved, reserve_mem}
+use Rattle.heap_calls.specs.Purging.{is_resource, block_bits, emptied_at, is_loose, reallocated, blocks_purged, purgeable, purged_all}
+use Rattle.heap_calls.specs.Copying.{append}
 use Rattle.heap_calls.specs.Asked.{Asked, Told, Done, Given, answered, told_as}
 use Rattle.heap_calls.specs.Asked as asked
-use Rattle.heap_calls.specs.LastPut.{Holds, put_by}
-use Rattle.heap_calls.proofs.Keeping.{SeesNoFree, unless, unless-le, unless-none, tidied, freed-is, changed-le, high-le, room-le, settled-le, swapped-le, grown-le}
+use Rattle.heap_calls.specs.LastPut.{put_by}
+use Rattle.heap_calls.proofs.Keeping.{SeesNoFree, purged-le, settled-le, reserved-le}
+use Rattle.heap_calls.proofs.Knowing.{Known, for_handle, look_up-spot, pointed_at-spot, known-at, known-pointed, known-less, with_bytes, with-same, with-other}
+use Rattle.heap_calls.proofs.KnownChanges.{known-based, known-slotted, known-made, known-named, known-new_pointer, known-disposed, known-disposed_pointer, known-put, known-put_pointer, known-grown, known-grown_pointer, known-emptied, known-reallocated, known-flags, known-hoisted, known-appended}
 
--- 1 for a block of a number from n on, or that doesn't hold its number's bytes
-abbrev pub strange : (ℕ → List ℕ) → ℕ → Block → ℕ
-strange bytes n (Free m) = 0
-strange bytes n (Fixed id content) = 0
-strange bytes n Masters = 0
-strange bytes n (Relocatable id flags content) = cond (nat_lt id n && bytes_eq content (bytes id)) 0 1
+-- Each call keeps what is known of each block's bytes.
 
--- how many blocks are of a number
-abbrev pub named : ℕ → List Block → ℕ
-named h zone = count (is_relocatable h) zone
+-- a call that changes nothing, whatever was found
+pub found-same : {A T : Type 0} (r : Result A OsErr) (s : State) (answer : A → Answer T) → ((k : A) → (answer k).1 ≡ s) → (for_found r s answer).1 ≡ s
+found-same (Err code) s answer same = refl
+found-same (Ok k) s answer same = same k
 
--- each block is of a number given, once, and holds its bytes
-pub record Known (s : State) (bytes : ℕ → List ℕ) : Type 0 where
-  pub blocks : total (strange bytes (length s.names)) s.zone ≤ 0
-  pub once : (h : ℕ) → named h s.zone ≤ 1
-
--- a block that isn't strange
-plain-parts : (bytes : ℕ → List ℕ) (n id : ℕ) (flags : Flags) (content : List ℕ) → strange bytes n (Relocatable id flags content) ≤ 0 → (id < n) × (content ≡ bytes id)
-plain-parts bytes n id flags content le = cases (nat_lt id n && bytes_eq content (bytes id)) refl le
+-- a handle that was looked up is one
+pub handle_at-name : (h : ℕ) (s : State) (k : calls.Known) → handle_at (Some h) s ≡ Ok k → (for_handle (slice_get s.names h) ≡ true) × (k.number ≡ h)
+handle_at-name h s k e = by_name (slice_get s.names h) e
   where
-    cases : (t : Bool) → (nat_lt id n && bytes_eq content (bytes id)) ≡ t → cond {A = ℕ} t 0 1 ≤ 0 → (id < n) × (content ≡ bytes id)
-    cases true e le = let both = and_parts (nat_lt id n) (bytes_eq content (bytes id)) e in ((Decides-ltb id n).0 both.0, (bytes_eq-Decides content (bytes id)).0 both.1)
-    cases false e le = absurd (let f : 1 ≤ 0 = le in omega arith)
-
-plain-from : (bytes : ℕ → List ℕ) (n id : ℕ) (flags : Flags) (content : List ℕ) → id < n → content ≡ bytes id → strange bytes n (Relocatable id flags content) ≡ 0
-plain-from bytes n id flags content less same =
-    cond-true (nat_lt id n && bytes_eq content (bytes id)) 0 1 (rw ((Decides-ltb id n).1 less, same) ((bytes_eq-Decides (bytes id) (bytes id)).1 refl))
-
-pub look_up-spot : (h : ℕ) (s : State) (k : Held) → look_up (Some h) s ≡ Ok k → (spot (is_relocatable h) s.zone ≡ Some k.at) × (k.number ≡ h)
-look_up-spot h s k is = by_name (slice_get s.names h) is
-  where
-    by_spot : (o : Option Spot) → ok_or {E = OsErr} (option_map (λ (at : Spot). let x : Held = record { number = h; at = at } in x) o) NIL_HANDLE ≡ Ok k → (o ≡ Some k.at) × (k.number ≡ h)
-    by_spot None e = cc
-    by_spot (Some at) e = let same : (record { number = h; at = at }) ≡ k = cc in (ap (λ (x : Held). Some x.at) same, ap (λ (x : Held). x.number) (sym same))
-
-    by_name : (o : Option Name) → held_at (calls.known_as h o) s ≡ Ok k → (spot (is_relocatable h) s.zone ≡ Some k.at) × (k.number ≡ h)
+    by_name : (o : Option Name) → calls.known_as h o ≡ Ok k → (for_handle o ≡ true) × (k.number ≡ h)
     by_name None e = cc
-    by_name (Some (names.Handle role)) e = by_spot (spot (is_relocatable h) s.zone) e
+    by_name (Some (names.Handle role)) e = let same : (record { number = h; role = role }) ≡ k = cc in (refl, ap (λ (x : calls.Known). x.number) (sym same))
     by_name (Some names.Pointer) e = cc
     by_name (Some names.Disposed) e = cc
 
--- what is below and above a block, and the block, come to no more than the zone
-at-spot : (of : Block → ℕ) (test : Block → Bool) (zone : List Block) (at : Spot) → spot test zone ≡ Some at → of at.here ≤ total of zone
-at-spot of test zone at is = omega (arith, ap (total of) (spot-is test zone at is), total-append of at.below (at.here ∷ at.above))
+-- what a call tells that answers nothing else
+abbrev done : Result (Unit {0}) OsErr → Told
+done r = told_as {T = Unit {0}} (λ (u : Unit {0}). Done) r
 
--- the block of a number
-pub known-at : (s : State) (bytes : ℕ → List ℕ) → Known s bytes → (h : ℕ) (at : Spot) → spot (is_relocatable h) s.zone ≡ Some at → (flags : Flags) × (at.here ≡ Relocatable h flags (bytes h)) × (h < length s.names)
-known-at s bytes known h at is =
-    let le = at-spot (strange bytes (length s.names)) (is_relocatable h) s.zone at is in
-    let none = known.blocks in
-    here at.here (spot-passes (is_relocatable h) s.zone at is) (omega arith)
+-- a zone that was made anew, by blocks that aren't more
+known-rebuilt : (s : State) (bytes : ℕ → List ℕ) → Known s bytes → (o : Option (List Block)) → ((zone : List Block) → o ≡ Some zone → (of : Block → ℕ) → SeesNoFree of → total of zone ≤ total of s.zone) → Known (rebuilt o s).1 bytes
+known-rebuilt s bytes known None less = known
+known-rebuilt s bytes known (Some zone) less = known-less s zone bytes (less zone refl) known
+
+-- MoreMasters
+known-masters : (s : State) (bytes : ℕ → List ℕ) → Known s bytes → Known (rebuilt (option_map (λ (ready : State). ready.zone) (more_masters nothing s)) s).1 bytes
+known-masters s bytes known = by_room (room (put_at_base Masters) nothing s.zone) refl
   where
-    here : (b : Block) → is_relocatable h b ≡ true → strange bytes (length s.names) b ≤ 0 → (flags : Flags) × (b ≡ Relocatable h flags (bytes h)) × (h < length s.names)
-    here (Free m) e le = let f : false ≡ true = e in cc
-    here (Fixed id content) e le = let f : false ≡ true = e in cc
-    here Masters e le = let f : false ≡ true = e in cc
-    here (Relocatable id flags content) e le =
-        let p = plain-parts bytes (length s.names) id flags content le in
-        let same : id ≡ h = (Decides-eqb id h).0 e in
-        let less : id < length s.names = p.0 in
-        (flags, ap (λ x. Relocatable id flags x) p.1 ∙ ap (λ k. Relocatable k flags (bytes k)) same, omega (arith, same))
-
--- then each handle with a block shows its bytes
-pub holds-known : (s : State) (bytes : ℕ → List ℕ) → Known s bytes → Holds s bytes
-holds-known s bytes known h k is = ap content_of (known-at s bytes known h k.at (look_up-spot h s k is).0).1
-
--- as many blocks of a number
-abbrev is_named : ℕ → Block → ℕ
-is_named h b = cond (is_relocatable h b) 1 0
-
--- blocks that aren't more
-pub known-less : (s s' : State) (bytes : ℕ → List ℕ) → length s'.names ≡ length s.names → ((of : Block → ℕ) → SeesNoFree of → total of s'.zone ≤ total of s.zone) → Known s bytes → Known s' bytes
-known-less s s' bytes same less known = record {
-  blocks =
-      let l = less (strange bytes (length s.names)) (λ n. refl) in let k = known.blocks in
-      subst (λ (n : ℕ). total (strange bytes n) s'.zone ≤ 0) (sym same) (omega arith);
-  once = λ h. let l = less (is_named h) (λ n. refl) in let k = known.once h in omega arith;
-}
-
--- a number isn't another one
-flipped : (h k : ℕ) → (k == h) ≡ false → (h == k) ≡ false
-flipped h k e = false_from_ne_true (h == k) (λ t. let eq : h ≡ k = (Decides-eqb h k).0 t in let z : (k == h) ≡ true = (Decides-eqb k h).1 (sym eq) in let f : true ≡ false = sym z ∙ e in cc)
-
--- another block in place of that of a number, or a block of a new number
-pub known-swapped : (s s' : State) (bytes bytes' : ℕ → List ℕ) (h : ℕ) (new : Block) (flags : Flags) → new ≡ Relocatable h flags (bytes' h) → h < length s'.names → length s.names ≤ length s'.names
-    → ((k : ℕ) → (k == h) ≡ false → bytes' k ≡ bytes k)
-    → ((of : Block → ℕ) → SeesNoFree of → total of s'.zone ≤ of new + total (unless (is_relocatable h) of) s.zone)
-    → Known s bytes → Known s' bytes'
-known-swapped s s' bytes bytes' h new flags is given more same less known = record {
-  blocks =
-      let l = less (strange bytes' (length s'.names)) (λ n. refl) in
-      let k = known.blocks in
-      let z : strange bytes' (length s'.names) new ≡ 0 = ap (strange bytes' (length s'.names)) is ∙ plain-from bytes' (length s'.names) h flags (bytes' h) given refl in
-      let o = total-le (unless (is_relocatable h) (strange bytes' (length s'.names))) (strange bytes (length s.names)) others s.zone in
-      omega arith;
-  once = λ k. once k (k == h) refl;
-}
-  where
-    others : (b : Block) → unless (is_relocatable h) (strange bytes' (length s'.names)) b ≤ strange bytes (length s.names) b
-    others (Free m) = omega arith
-    others (Fixed id content) = omega arith
-    others Masters = omega arith
-    others (Relocatable id f content) = by_number (id == h) refl
-      where
-        by_test : (id == h) ≡ false → (t : Bool) → (nat_lt id (length s.names) && bytes_eq content (bytes id)) ≡ t → strange bytes' (length s'.names) (Relocatable id f content) ≤ cond {A = ℕ} t 0 1
-        by_test e true t =
-            let both = and_parts (nat_lt id (length s.names)) (bytes_eq content (bytes id)) t in
-            let low = (Decides-ltb id (length s.names)).0 both.0 in
-            let z = plain-from bytes' (length s'.names) id f content (omega arith) ((bytes_eq-Decides content (bytes id)).0 both.1 ∙ sym (same id e)) in omega arith
-        by_test e false t = at_most (nat_lt id (length s'.names) && bytes_eq content (bytes' id))
-          where
-            at_most : (u : Bool) → cond {A = ℕ} u 0 1 ≤ 1
-            at_most true = omega arith
-            at_most false = omega arith
-
-        by_number : (t : Bool) → (id == h) ≡ t → cond t 0 (strange bytes' (length s'.names) (Relocatable id f content)) ≤ strange bytes (length s.names) (Relocatable id f content)
-        by_number true e = omega arith
-        by_number false e = by_test e (nat_lt id (length s.names) && bytes_eq content (bytes id)) refl
-
-    once : (k : ℕ) (t : Bool) → (k == h) ≡ t → named k s'.zone ≤ 1
-    once k true e =
-        let l = less (is_named k) (λ n. refl) in
-        let eq : k ≡ h = (Decides-eqb k h).0 e in
-        let one : is_named k new ≤ 1 = at_most (is_relocatable k new) in
-        let z = total-le (unless (is_relocatable h) (is_named k)) (λ b. 0) (λ b. subst (λ (j : ℕ). unless (is_relocatable h) (is_named j) b ≤ 0) (sym eq) (none (is_relocatable h b))) s.zone in
-        let zeros = nothing_there s.zone in
-        omega arith
-      where
-        at_most : (u : Bool) → cond {A = ℕ} u 1 0 ≤ 1
-        at_most true = omega arith
-        at_most false = omega arith
-
-        none : (u : Bool) → cond {A = ℕ} u 0 (cond u 1 0) ≤ 0
-        none true = omega arith
-        none false = omega arith
-
-        nothing_there : (bs : List Block) → total (λ b. 0) bs ≡ 0
-        nothing_there [] = refl
-        nothing_there (b ∷ bs) = omega (arith, nothing_there bs)
-    once k false e =
-        let l = less (is_named k) (λ n. refl) in
-        let other : is_named k new ≡ 0 = ap (is_named k) is ∙ cond-false (h == k) 1 0 (flipped h k e) in
-        let u = unless-le (is_relocatable h) (is_named k) s.zone in
-        let o = known.once k in
-        omega arith
-
--- no block has a number not given yet
-named-new : (s : State) (bytes : ℕ → List ℕ) → Known s bytes → named (length s.names) s.zone ≤ 0
-named-new s bytes known = let k = known.blocks in let l = total-le (is_named (length s.names)) (strange bytes (length s.names)) one s.zone in omega arith
-  where
-    one : (b : Block) → is_named (length s.names) b ≤ strange bytes (length s.names) b
-    one (Free m) = omega arith
-    one (Fixed id content) = omega arith
-    one Masters = omega arith
-    one (Relocatable id flags content) = cases (id == length s.names) refl
-      where
-        cases : (t : Bool) → (id == length s.names) ≡ t → cond {A = ℕ} t 1 0 ≤ strange bytes (length s.names) (Relocatable id flags content)
-        cases false e = omega arith
-        cases true e =
-            let same : id ≡ length s.names = (Decides-eqb id (length s.names)).0 e in
-            let past : nat_lt id (length s.names) ≡ false = false_from_ne_true (nat_lt id (length s.names)) (λ t. let less = (Decides-ltb id (length s.names)).0 t in absurd (omega arith)) in
-            let z : strange bytes (length s.names) (Relocatable id flags content) ≡ 1 = rw past refl in
-            omega arith
-
--- with other bytes of a number
-abbrev pub with_bytes : ℕ → List ℕ → (ℕ → List ℕ) → ℕ → List ℕ
-with_bytes h x bytes k = cond (h == k) x (bytes k)
-
-with-same : (h : ℕ) (x : List ℕ) (bytes : ℕ → List ℕ) → with_bytes h x bytes h ≡ x
-with-same h x bytes = cond-true (h == h) x (bytes h) ((Decides-eqb h h).1 refl)
-
-with-other : (h : ℕ) (x : List ℕ) (bytes : ℕ → List ℕ) (k : ℕ) → (k == h) ≡ false → with_bytes h x bytes k ≡ bytes k
-with-other h x bytes k e = cond-false (h == k) x (bytes k) (flipped h k e)
-
--- a new block of the next number
-pub known-new : (s : State) (bytes : ℕ → List ℕ) → Known s bytes → (n : ℕ) (zone : List Block) (name : Name) → room (put_in_place (Relocatable (length s.names) no_flags (replicate n 0))) nothing s.zone ≡ Some zone
-    → Known (record { zone = zone; names = s.names ++ name ∷ [] }) (with_bytes (length s.names) (replicate n 0) bytes)
-known-new s bytes known n zone name is =
-    known-swapped s (record { zone = zone; names = s.names ++ name ∷ [] }) bytes (with_bytes h (replicate n 0) bytes) h new no_flags
-    (ap (λ x. Relocatable h no_flags x) (sym (with-same h (replicate n 0) bytes))) (omega (arith, length_push s.names name)) (omega (arith, length_push s.names name)) (with-other h (replicate n 0) bytes)
-    (λ of none. let l = room-le of none new nothing s.zone zone is in omega (arith, unless-none (is_relocatable h) of s.zone (named-new s bytes known))) known
-  where
-    h : ℕ
-    h = length s.names
-
-    new : Block
-    new = Relocatable h no_flags (replicate n 0)
-
--- a disposed handle leaves the others
-pub known-disposed : (s : State) (bytes : ℕ → List ℕ) → Known s bytes → (h : ℕ) → Known (calls.without h s) bytes
-known-disposed s bytes known h =
-    known-less s (calls.without h s) bytes (length-set s.names h names.Disposed)
-    (λ of none. let u = unless-le (is_relocatable h) of s.zone in omega (arith, tidied of none (freed (is_relocatable h) s.zone), freed-is of none (is_relocatable h) s.zone)) known
-
--- another block in place of the only block of a handle
-pub known-put : (s : State) (bytes : ℕ → List ℕ) → Known s bytes → (h : ℕ) (at : Spot) → spot (is_relocatable h) s.zone ≡ Some at → (x : List ℕ) (flags : Flags) (new : Block) → new ≡ Relocatable h flags x
-    → Known (record s { zone = at.below ++ new ∷ at.above }) (with_bytes h x bytes)
-known-put s bytes known h at is x flags new eq =
-    known-swapped s (record s { zone = at.below ++ new ∷ at.above }) bytes (with_bytes h x bytes) h new flags (eq ∙ ap (λ y. Relocatable h flags y) (sym (with-same h x bytes))) (known-at s bytes known h at is).2 (omega arith) (with-other h x bytes)
-    (λ of none. swapped-le of none (is_relocatable h) (λ n. refl) s.zone at new is (known.once h)) known
-
--- a block that grew or was cut
-pub known-grown : (s : State) (bytes : ℕ → List ℕ) → Known s bytes → (h n : ℕ) (at : Spot) (zone : List Block) → spot (is_relocatable h) s.zone ≡ Some at → grow (is_relocatable h) (is_relocatable h) n s.zone ≡ Some zone
-    → Known (record s { zone = zone }) (with_bytes h (resized_content n (bytes h)) bytes)
-known-grown s bytes known h n at zone is grew =
-    let here = known-at s bytes known h at is in
-    known-swapped s (record s { zone = zone }) bytes (with_bytes h (resized_content n (bytes h)) bytes) h (resized n at.here) here.0 (ap (resized n) here.1 ∙ ap (λ y. Relocatable h here.0 y) (sym (with-same h (resized_content n (bytes h)) bytes))) here.2 (omega arith) (with-other h (resized_content n (bytes h)) bytes)
-    (λ of none. grown-le of none (is_relocatable h) (λ n. refl) (is_relocatable h) n s.zone zone at is (known.once h) grew) known
-
--- a block with other flags
-pub known-flags : (change : Flags → Flags) (handle : Option ℕ) (s : State) (bytes : ℕ → List ℕ) → Known s bytes → Known (change_flags change handle s).1 bytes
-known-flags change None s bytes known = known
-known-flags change (Some h) s bytes known = by_spot (look_up (Some h) s) (λ k is. (look_up-spot h s k is).0)
-  where
-    by_spot : (r : Result Held OsErr) → ((k : Held) → r ≡ Ok k → spot (is_relocatable h) s.zone ≡ Some k.at)
-        → Known (for_found {T = Unit {0}} r s (λ held. (Ok tt, record s { zone = held.at.below ++ flagged change held.at.here ∷ held.at.above }))).1 bytes
-    by_spot (Err code) found = known
-    by_spot (Ok k) found =
-        let here = known-at s bytes known h k.at (found k refl) in
-        known-swapped s (record s { zone = k.at.below ++ flagged change k.at.here ∷ k.at.above }) bytes bytes h (flagged change k.at.here) (change here.0) (ap (flagged change) here.1) here.2 (omega arith) (λ j e. refl)
-        (λ of none. swapped-le of none (is_relocatable h) (λ n. refl) s.zone k.at (flagged change k.at.here) (found k refl) (known.once h)) known
-
--- a block moved to the top of its run
-hoisted-le : (of : Block → ℕ) → SeesNoFree of → (h : ℕ) (zone : List Block) → total of (hoisted h zone) ≤ total of zone
-hoisted-le of none h zone = cases (change_run (has (is_relocatable h)) (high (is_relocatable h)) zone) (λ z e. changed-le of none (has (is_relocatable h)) (high (is_relocatable h)) (high-le of none (is_relocatable h)) zone z e)
-  where
-    cases : (o : Option (List Block)) → ((z : List Block) → o ≡ Some z → total of z ≤ total of zone) → total of (unwrap_or (option_map tidy o) zone) ≤ total of zone
-    cases None less = omega arith
-    cases (Some z) less = let l = less z refl in omega (arith, tidied of none z)
-
-pub known-hoisted : (handle : Option ℕ) (s : State) (bytes : ℕ → List ℕ) → Known s bytes → Known (move_hhi handle s).1 bytes
-known-hoisted handle s bytes known = by_spot (look_up handle s)
-  where
-    by_mover : (h : ℕ) (t : Bool) → Known (cond t (let done : Answer (Unit {0}) = (Ok tt, record s { zone = hoisted h s.zone }) in done) (refused LOCKED s)).1 bytes
-    by_mover h true = known-less s (record s { zone = hoisted h s.zone }) bytes refl (λ of none. hoisted-le of none h s.zone) known
-    by_mover h false = known
-
-    by_spot : (r : Result Held OsErr) → Known (for_found {T = Unit {0}} r s (λ held. if is_mover held.at.here then (Ok tt, record s { zone = hoisted held.number s.zone }) else refused LOCKED s)).1 bytes
-    by_spot (Err code) = known
-    by_spot (Ok k) = by_mover k.number (is_mover k.at.here)
+    by_room : (o : Option (List Block)) → room (put_at_base Masters) nothing s.zone ≡ o → Known (rebuilt (option_map (λ (ready : State). ready.zone) (option_map (λ zone. record s { zone = zone }) o)) s).1 bytes
+    by_room None e = known
+    by_room (Some zone) e = known-based s bytes known nothing zone e
 
 -- each call keeps what is known, with the bytes that it put
 pub step-known : (a : Asked) (m : Memory) (bytes : ℕ → List ℕ) → Known m.heap bytes → Known (answered a m).1.heap (put_by a (answered a m).0 bytes)
-step-known (asked.NewHandle n) m bytes known = by_test (is_some (phys n) && nat_lt (used_slots s) (all_slots s))
+step-known (asked.NewHandle n) m bytes known = by_ready (slotted nothing m.heap) (known-slotted nothing m.heap bytes known)
   where
-    s : State
-    s = m.heap
+    tells : Told → ℕ → List ℕ
+    tells t = put_by (asked.NewHandle n) t bytes
 
-    made : Option (List Block)
-    made = room (put_in_place (Relocatable (length m.heap.names) no_flags (replicate n 0))) nothing m.heap.zone
+    by_size : (s : State) → Known s bytes → (t : Bool) → Known (cond t (new_block nothing (replicate n 0) s) (refused MEM_FULL s)).1 (tells (told_as {T = ℕ} Given (cond t (new_block nothing (replicate n 0) s) (refused MEM_FULL s)).0))
+    by_size s known true = known-made s bytes known nothing (replicate n 0) tells (λ k. refl) (λ code. refl)
+    by_size s known false = known
 
-    by_room : (o : Option (List Block)) → made ≡ o → Known (given (names.Handle Plain) o m.heap).1 (put_by (asked.NewHandle n) (told_as Given (given (names.Handle Plain) o m.heap).0) bytes)
-    by_room None e = known
-    by_room (Some zone) e = known-new m.heap bytes known n zone (names.Handle Plain) e
-
-    by_test : (t : Bool) → Known (cond t (given (names.Handle Plain) made m.heap) (refused MEM_FULL m.heap)).1 (put_by (asked.NewHandle n) (told_as Given (cond t (given (names.Handle Plain) made m.heap) (refused MEM_FULL m.heap)).0) bytes)
-    by_test true = by_room made refl
-    by_test false = known
-step-known (asked.DisposeHandle handle) m bytes known = by_name (handle_at handle m.heap)
+    by_ready : (o : Option State) → ((s : State) → o ≡ Some s → Known s bytes)
+        → Known (if_ready o m.heap (λ ready. if is_some (phys n) then new_block nothing (replicate n 0) ready else refused MEM_FULL ready)).1
+        (tells (told_as {T = ℕ} Given (if_ready o m.heap (λ ready. if is_some (phys n) then new_block nothing (replicate n 0) ready else refused MEM_FULL ready)).0))
+    by_ready None ready = known
+    by_ready (Some s) ready = by_size s (ready s refl) (is_some (phys n))
+step-known asked.NewEmptyHandle m bytes known = by_ready (slotted nothing m.heap) (known-slotted nothing m.heap bytes known)
   where
-    by_role : (h : ℕ) (role : Role) → Known (disposed_of role h m.heap).1 bytes
-    by_role h Plain = known-disposed m.heap bytes known h
-    by_role h Resource = known
-    by_role h SystemResource = known
-
-    by_name : (r : Result calls.Known OsErr) → Known (for_found r m.heap (λ k. disposed_of k.role k.number m.heap)).1 bytes
-    by_name (Err code) = known
-    by_name (Ok k) = by_role k.number k.role
-step-known (asked.GetHandleSize handle) m bytes known = by_spot (look_up handle m.heap)
+    by_ready : (o : Option State) → ((s : State) → o ≡ Some s → Known s bytes) → Known (if_ready o m.heap (λ ready. given (names.Handle Plain) (Some ready.zone) ready)).1 bytes
+    by_ready None ready = known
+    by_ready (Some s) ready = known-named s bytes (ready s refl) (names.Handle Plain)
+step-known (asked.DisposeHandle None) m bytes known = known
+step-known (asked.DisposeHandle (Some h)) m bytes known = by_name (handle_at (Some h) m.heap) (handle_at-name h m.heap)
   where
-    by_spot : (r : Result Held OsErr) → Known (for_found {T = ℕ} r m.heap (λ k. (Ok (length (content_of k.at.here)), m.heap))).1 bytes
-    by_spot (Err code) = known
-    by_spot (Ok k) = known
+    by_role : (k : ℕ) → for_handle (slice_get m.heap.names k) ≡ true → (role : Role) → Known (disposed_of role k m.heap).1 bytes
+    by_role k is Plain = known-disposed m.heap bytes known k is
+    by_role k is Resource = known
+    by_role k is SystemResource = known
+
+    by_name : (r : Result calls.Known OsErr) → ((k : calls.Known) → r ≡ Ok k → (for_handle (slice_get m.heap.names h) ≡ true) × (k.number ≡ h)) → Known (for_found r m.heap (λ k. disposed_of k.role k.number m.heap)).1 bytes
+    by_name (Err code) found = known
+    by_name (Ok k) found = let f = found k refl in by_role k.number (ap (λ j. for_handle (slice_get m.heap.names j)) f.1 ∙ f.0) k.role
+step-known (asked.GetHandleSize handle) m bytes known =
+    subst (λ (s : State). Known s bytes) (sym (found-same (look_up handle m.heap) m.heap (λ held. (Ok (length (content_of held.at.here)), m.heap)) (λ held. refl))) known
 step-known (asked.SetHandleSize None n) m bytes known = known
 step-known (asked.SetHandleSize (Some h) n) m bytes known = by_spot (look_up (Some h) m.heap) (look_up-spot h m.heap)
   where
@@ -307,68 +101,262 @@ step-known (asked.SetHandleSize (Some h) n) m bytes known = by_spot (look_up (So
     tells : Told → ℕ → List ℕ
     tells t = put_by (asked.SetHandleSize (Some h) n) t bytes
 
-    by_zone : (k : Held) → (spot (is_relocatable h) s.zone ≡ Some k.at) × (k.number ≡ h) → (o : Option (List Block)) → grow (is_relocatable k.number) (is_relocatable k.number) n s.zone ≡ o → Known (rebuilt o s).1 (tells (told_as (λ (u : Unit {0}). Done) (rebuilt o s).0))
+    by_zone : (k : Held) → (spot (is_relocatable h) s.zone ≡ Some k.at) × (k.number ≡ h) → (o : Option (List Block)) → grow (is_relocatable k.number) (is_relocatable k.number) n s.zone ≡ o → Known (rebuilt o s).1 (tells (done (rebuilt o s).0))
     by_zone k found None e = known
-    by_zone k found (Some zone) e = known-grown s bytes known h n k.at zone found.0 (subst (λ (j : ℕ). grow (is_relocatable j) (is_relocatable j) n s.zone ≡ Some zone) found.1 e)
+    by_zone k found (Some zone) e = known-grown s bytes known h n (is_relocatable h) k.at zone found.0 (subst (λ (j : ℕ). grow (is_relocatable j) (is_relocatable j) n s.zone ≡ Some zone) found.1 e)
 
     by_size : (k : Held) → (spot (is_relocatable h) s.zone ≡ Some k.at) × (k.number ≡ h) → (t : Bool)
         → Known (cond t (rebuilt (grow (is_relocatable k.number) (is_relocatable k.number) n s.zone) s) (refused MEM_FULL s)).1
-        (tells (told_as (λ (u : Unit {0}). Done) (cond t (rebuilt (grow (is_relocatable k.number) (is_relocatable k.number) n s.zone) s) (refused MEM_FULL s)).0))
+        (tells (done (cond t (rebuilt (grow (is_relocatable k.number) (is_relocatable k.number) n s.zone) s) (refused MEM_FULL s)).0))
     by_size k found true = by_zone k found (grow (is_relocatable k.number) (is_relocatable k.number) n s.zone) refl
     by_size k found false = known
 
     by_spot : (r : Result Held OsErr) → ((k : Held) → r ≡ Ok k → (spot (is_relocatable h) s.zone ≡ Some k.at) × (k.number ≡ h))
         → Known (for_found r s (λ k. if is_some (phys n) then rebuilt (grow (is_relocatable k.number) (is_relocatable k.number) n s.zone) s else refused MEM_FULL s)).1
-        (tells (told_as (λ (u : Unit {0}). Done) (for_found r s (λ k. if is_some (phys n) then rebuilt (grow (is_relocatable k.number) (is_relocatable k.number) n s.zone) s else refused MEM_FULL s)).0))
+        (tells (done (for_found r s (λ k. if is_some (phys n) then rebuilt (grow (is_relocatable k.number) (is_relocatable k.number) n s.zone) s else refused MEM_FULL s)).0))
     by_spot (Err code) found = known
     by_spot (Ok k) found = by_size k (found k refl) (is_some (phys n))
+step-known (asked.ReallocateHandle None n) m bytes known = known
+step-known (asked.ReallocateHandle (Some h) n) m bytes known = by_name (handle_at (Some h) m.heap) (handle_at-name h m.heap)
+  where
+    s : State
+    s = m.heap
+
+    tells : Told → ℕ → List ℕ
+    tells t = put_by (asked.ReallocateHandle (Some h) n) t bytes
+
+    by_zone : for_handle (slice_get s.names h) ≡ true → (o : Option (List Block)) → reallocated h n s.zone ≡ o → Known (rebuilt o s).1 (tells (done (rebuilt o s).0))
+    by_zone is None e = known
+    by_zone is (Some zone) e = known-reallocated s bytes known h n is zone e
+
+    by_tests : for_handle (slice_get s.names h) ≡ true → (t u : Bool)
+        → Known (cond t (cond u (rebuilt (reallocated h n s.zone) s) (refused MEM_FULL s)) (refused PURGED s)).1 (tells (done (cond t (cond u (rebuilt (reallocated h n s.zone) s) (refused MEM_FULL s)) (refused PURGED s)).0))
+    by_tests is true true = by_zone is (reallocated h n s.zone) refl
+    by_tests is true false = known
+    by_tests is false u = known
+
+    answer : ℕ → Answer (Unit {0})
+    answer j = if is_loose (spot (is_relocatable j) s.zone) then (if is_some (phys n) then rebuilt (reallocated j n s.zone) s else refused MEM_FULL s) else refused PURGED s
+
+    by_name : (r : Result calls.Known OsErr) → ((k : calls.Known) → r ≡ Ok k → (for_handle (slice_get s.names h) ≡ true) × (k.number ≡ h)) → Known (for_found r s (λ k. answer k.number)).1 (tells (done (for_found r s (λ k. answer k.number)).0))
+    by_name (Err code) found = known
+    by_name (Ok k) found =
+        let f = found k refl in
+        subst (λ (j : ℕ). Known (answer j).1 (tells (done (answer j).0))) (sym f.1) (by_tests f.0 (is_loose (spot (is_relocatable h) s.zone)) (is_some (phys n)))
+step-known (asked.EmptyHandle handle) m bytes known = by_name (handle_at handle m.heap)
+  where
+    by_mover : (h : ℕ) (t : Bool) → Known (cond t (let gone : Answer (Unit {0}) = (Ok tt, record m.heap { zone = tidy (freed (is_relocatable h) m.heap.zone) }) in gone) (refused PURGED m.heap)).1 bytes
+    by_mover h true = known-emptied m.heap bytes known h
+    by_mover h false = known
+
+    by_spot : (h : ℕ) (o : Option Spot) → Known (emptied_at h o m.heap).1 bytes
+    by_spot h None = known
+    by_spot h (Some at) = by_mover h (is_mover at.here)
+
+    by_name : (r : Result calls.Known OsErr) → Known (for_found r m.heap (λ k. emptied_at k.number (spot (is_relocatable k.number) m.heap.zone) m.heap)).1 bytes
+    by_name (Err code) = known
+    by_name (Ok k) = by_spot k.number (spot (is_relocatable k.number) m.heap.zone)
 step-known (asked.HLock handle) m bytes known = known-flags (λ f. record f { locked = true }) handle m.heap bytes known
 step-known (asked.HUnlock handle) m bytes known = known-flags (λ f. record f { locked = false }) handle m.heap bytes known
+step-known (asked.HPurge handle) m bytes known = known-flags (λ f. record f { purgeable = true }) handle m.heap bytes known
+step-known (asked.HNoPurge handle) m bytes known = known-flags (λ f. record f { purgeable = false }) handle m.heap bytes known
+step-known (asked.HGetState handle) m bytes known =
+    subst (λ (s : State). Known s bytes)
+    (sym (found-same (handle_at handle m.heap) m.heap (λ k. on_block handle m.heap (λ held. (Ok (block_bits held.at.here + cond (is_resource k.role) 32 0), m.heap)))
+    (λ k. found-same (look_up handle m.heap) m.heap (λ held. (Ok (block_bits held.at.here + cond (is_resource k.role) 32 0), m.heap)) (λ held. refl)))) known
+step-known (asked.HSetState handle byte) m bytes known = known-flags (λ f. record { locked = byte / 128 % 2 == 1; purgeable = byte / 64 % 2 == 1 }) handle m.heap bytes known
 step-known (asked.MoveHHi handle) m bytes known = known-hoisted handle m.heap bytes known
 step-known (asked.HLockHi handle) m bytes known = cases (move_hhi handle m.heap).0
   where
     cases : (r : Result (Unit {0}) OsErr) → Known (for_found r m.heap (λ (u : Unit {0}). calls.h_lock handle (move_hhi handle m.heap).1)).1 bytes
     cases (Err code) = known
     cases (Ok u) = known-flags (λ f. record f { locked = true }) handle (move_hhi handle m.heap).1 bytes (known-hoisted handle m.heap bytes known)
+step-known (asked.HandToHand None) m bytes known = known
+step-known (asked.HandToHand (Some h)) m bytes known = by_spot (look_up (Some h) m.heap) (look_up-spot h m.heap)
+  where
+    s : State
+    s = m.heap
+
+    tells : Told → ℕ → List ℕ
+    tells t = put_by (asked.HandToHand (Some h)) t bytes
+
+    by_ready : (sp : Block → Bool) (x : List ℕ) → x ≡ bytes h → (o : Option State) → ((r : State) → o ≡ Some r → Known r bytes) → Known (if_ready o s (new_block sp x)).1 (tells (told_as {T = ℕ} Given (if_ready o s (new_block sp x)).0))
+    by_ready sp x is None ready = known
+    by_ready sp x is (Some r) ready = known-made r bytes (ready r refl) sp x tells (λ k. ap (λ (y : List ℕ). with_bytes k y bytes) is) (λ code. refl)
+
+    by_spot : (r : Result Held OsErr) → ((k : Held) → r ≡ Ok k → (spot (is_relocatable h) s.zone ≡ Some k.at) × (k.number ≡ h))
+        → Known (for_found r s (λ k. if_ready (slotted (is_relocatable k.number) s) s (new_block (is_relocatable k.number) (content_of k.at.here)))).1
+        (tells (told_as {T = ℕ} Given (for_found r s (λ k. if_ready (slotted (is_relocatable k.number) s) s (new_block (is_relocatable k.number) (content_of k.at.here)))).0))
+    by_spot (Err code) found = known
+    by_spot (Ok k) found =
+        by_ready (is_relocatable k.number) (content_of k.at.here) (ap content_of (known-at s bytes known h k.at (found k refl).0).1) (slotted (is_relocatable k.number) s) (known-slotted (is_relocatable k.number) s bytes known)
+step-known (asked.HandAndHand None to) m bytes known = known
+step-known (asked.HandAndHand (Some h) None) m bytes known = by_spot (look_up (Some h) m.heap)
+  where
+    tells : Told → ℕ → List ℕ
+    tells t = put_by (asked.HandAndHand (Some h) None) t bytes
+
+    by_spot : (r : Result Held OsErr)
+        → Known (for_found {T = Unit {0}} r m.heap (λ a. on_block None m.heap (λ b. append (λ block. is_relocatable a.number block || is_relocatable b.number block) b.number (length (content_of b.at.here)) (content_of a.at.here) m.heap))).1
+        (tells (done (for_found {T = Unit {0}} r m.heap (λ a. on_block None m.heap (λ b. append (λ block. is_relocatable a.number block || is_relocatable b.number block) b.number (length (content_of b.at.here)) (content_of a.at.here) m.heap))).0))
+    by_spot (Err code) = known
+    by_spot (Ok a) = known
+step-known (asked.HandAndHand (Some h) (Some to)) m bytes known = by_from (look_up (Some h) m.heap) (look_up-spot h m.heap)
+  where
+    s : State
+    s = m.heap
+
+    tells : Told → ℕ → List ℕ
+    tells t = put_by (asked.HandAndHand (Some h) (Some to)) t bytes
+
+    answer : ℕ → ℕ → ℕ → List ℕ → Answer (Unit {0})
+    answer i j len x = append (λ block. is_relocatable i block || is_relocatable j block) j len x s
+
+    by_to : (a : Held) → content_of a.at.here ≡ bytes h → (r : Result Held OsErr) → ((b : Held) → r ≡ Ok b → (spot (is_relocatable to) s.zone ≡ Some b.at) × (b.number ≡ to))
+        → Known (for_found r s (λ b. answer a.number b.number (length (content_of b.at.here)) (content_of a.at.here))).1 (tells (done (for_found r s (λ b. answer a.number b.number (length (content_of b.at.here)) (content_of a.at.here))).0))
+    by_to a is (Err code) found = known
+    by_to a is (Ok b) found =
+        let f = found b refl in
+        let len : ℕ = length (content_of b.at.here) in
+        subst (λ (j : ℕ). Known (answer a.number j len (content_of a.at.here)).1 (tells (done (answer a.number j len (content_of a.at.here)).0))) (sym f.1)
+        (known-appended s bytes known (λ block. is_relocatable a.number block || is_relocatable to block) to b.at f.0 (content_of a.at.here) tells (ap (λ (y : List ℕ). with_bytes to (bytes to ++ y) bytes) is) (λ code. refl))
+
+    by_from : (r : Result Held OsErr) → ((a : Held) → r ≡ Ok a → (spot (is_relocatable h) s.zone ≡ Some a.at) × (a.number ≡ h))
+        → Known (for_found r s (λ a. for_found (look_up (Some to) s) s (λ b. answer a.number b.number (length (content_of b.at.here)) (content_of a.at.here)))).1
+        (tells (done (for_found r s (λ a. for_found (look_up (Some to) s) s (λ b. answer a.number b.number (length (content_of b.at.here)) (content_of a.at.here)))).0))
+    by_from (Err code) found = known
+    by_from (Ok a) found = by_to a (ap content_of (known-at s bytes known h a.at (found a refl).0).1) (look_up (Some to) s) (look_up-spot to s)
+step-known (asked.PtrAndHand None x) m bytes known = known
+step-known (asked.PtrAndHand (Some h) x) m bytes known = by_spot (look_up (Some h) m.heap) (look_up-spot h m.heap)
+  where
+    s : State
+    s = m.heap
+
+    tells : Told → ℕ → List ℕ
+    tells t = put_by (asked.PtrAndHand (Some h) x) t bytes
+
+    by_spot : (r : Result Held OsErr) → ((k : Held) → r ≡ Ok k → (spot (is_relocatable h) s.zone ≡ Some k.at) × (k.number ≡ h))
+        → Known (for_found r s (λ k. append (is_relocatable k.number) k.number (length (content_of k.at.here)) x s)).1 (tells (done (for_found r s (λ k. append (is_relocatable k.number) k.number (length (content_of k.at.here)) x s)).0))
+    by_spot (Err code) found = known
+    by_spot (Ok k) found =
+        let f = found k refl in
+        let len : ℕ = length (content_of k.at.here) in
+        subst (λ (j : ℕ). Known (append (is_relocatable j) j len x s).1 (tells (done (append (is_relocatable j) j len x s).0))) (sym f.1) (known-appended s bytes known (is_relocatable h) h k.at f.0 x tells refl (λ code. refl))
+step-known (asked.NewPtr n) m bytes known = by_size (is_some (phys n))
+  where
+    made : Option (List Block)
+    made = room (put_at_base (Fixed (length m.heap.names) (replicate n 0))) nothing m.heap.zone
+
+    tells : Told → ℕ → List ℕ
+    tells t = put_by (asked.NewPtr n) t bytes
+
+    by_room : (o : Option (List Block)) → made ≡ o → Known (given names.Pointer o m.heap).1 (tells (told_as {T = ℕ} Given (given names.Pointer o m.heap).0))
+    by_room None e = known
+    by_room (Some zone) e = known-new_pointer m.heap bytes known (replicate n 0) zone e
+
+    by_size : (t : Bool) → Known (cond t (given names.Pointer made m.heap) (refused MEM_FULL m.heap)).1 (tells (told_as {T = ℕ} Given (cond t (given names.Pointer made m.heap) (refused MEM_FULL m.heap)).0))
+    by_size true = by_room made refl
+    by_size false = known
+step-known (asked.DisposePtr None) m bytes known = known
+step-known (asked.DisposePtr (Some p)) m bytes known = by_spot (pointed_at (Some p) m.heap) (pointed_at-spot p m.heap)
+  where
+    s : State
+    s = m.heap
+
+    answer : ℕ → Answer (Unit {0})
+    answer j = (Ok tt, record { zone = tidy (freed (is_fixed j) s.zone); names = slice_set s.names j names.Disposed })
+
+    by_spot : (r : Result Held OsErr) → ((k : Held) → r ≡ Ok k → (spot (is_fixed p) s.zone ≡ Some k.at) × (k.number ≡ p)) → Known (for_found r s (λ k. answer k.number)).1 bytes
+    by_spot (Err code) found = known
+    by_spot (Ok k) found =
+        let f = found k refl in
+        subst (λ (j : ℕ). Known (answer j).1 bytes) (sym f.1) (known-disposed_pointer s bytes known p (known-pointed s bytes known p k.at f.0).1)
+step-known (asked.GetPtrSize pointer) m bytes known =
+    subst (λ (s : State). Known s bytes) (sym (found-same (pointed_at pointer m.heap) m.heap (λ held. (Ok (length (content_of held.at.here)), m.heap)) (λ held. refl))) known
+step-known (asked.SetPtrSize None n) m bytes known = known
+step-known (asked.SetPtrSize (Some p) n) m bytes known = by_spot (pointed_at (Some p) m.heap) (pointed_at-spot p m.heap)
+  where
+    s : State
+    s = m.heap
+
+    tells : Told → ℕ → List ℕ
+    tells t = put_by (asked.SetPtrSize (Some p) n) t bytes
+
+    answer : ℕ → Answer (Unit {0})
+    answer j = if is_some (phys n) then rebuilt (grow (is_fixed j) nothing n s.zone) s else refused MEM_FULL s
+
+    by_zone : (at : Spot) → spot (is_fixed p) s.zone ≡ Some at → (o : Option (List Block)) → grow (is_fixed p) nothing n s.zone ≡ o → Known (rebuilt o s).1 (tells (done (rebuilt o s).0))
+    by_zone at found None e = known
+    by_zone at found (Some zone) e = known-grown_pointer s bytes known p n at zone found e
+
+    by_size : (at : Spot) → spot (is_fixed p) s.zone ≡ Some at → (t : Bool)
+        → Known (cond t (rebuilt (grow (is_fixed p) nothing n s.zone) s) (refused MEM_FULL s)).1 (tells (done (cond t (rebuilt (grow (is_fixed p) nothing n s.zone) s) (refused MEM_FULL s)).0))
+    by_size at found true = by_zone at found (grow (is_fixed p) nothing n s.zone) refl
+    by_size at found false = known
+
+    by_spot : (r : Result Held OsErr) → ((k : Held) → r ≡ Ok k → (spot (is_fixed p) s.zone ≡ Some k.at) × (k.number ≡ p)) → Known (for_found r s (λ k. answer k.number)).1 (tells (done (for_found r s (λ k. answer k.number)).0))
+    by_spot (Err code) found = known
+    by_spot (Ok k) found =
+        let f = found k refl in
+        subst (λ (j : ℕ). Known (answer j).1 (tells (done (answer j).0))) (sym f.1) (by_size k.at f.0 (is_some (phys n)))
 step-known asked.FreeMem m bytes known = known
 step-known asked.MaxBlock m bytes known = known
-step-known (asked.CompactMem n) m bytes known =
-    known-less m.heap (record m.heap { zone = compacted (phys n) m.heap.zone }) bytes refl (λ of none. settled-le of none (runs_settled (phys n) m.heap.zone) m.heap.zone) known
+step-known asked.PurgeSpace m bytes known = known
+step-known (asked.CompactMem n) m bytes known = known-less m.heap (compacted (phys n) m.heap.zone) bytes (λ of none. settled-le of none (runs_settled (phys n) m.heap.zone) m.heap.zone) known
+step-known (asked.PurgeMem n) m bytes known =
+    known-less m.heap (purge (blocks_purged (phys n) m.heap.zone) nothing m.heap.zone) bytes (λ of none. purged-le of none (blocks_purged (phys n) m.heap.zone) nothing m.heap.zone) known
+step-known asked.MaxMem m bytes known =
+    let left : List Block = purged_all m.heap.zone in
+    known-less m.heap (settled (length (runs left)) left) bytes
+    (λ of none. let p = purged-le of none (purgeable m.heap.zone) nothing m.heap.zone in let q = settled-le of none (length (runs left)) left in omega arith) known
+step-known (asked.ReserveMem n) m bytes known = by_size (phys n) refl
+  where
+    by_size : (o : Option ℕ) → phys n ≡ o → Known (reserve_mem n m.heap).1 bytes
+    by_size None e = rw e known
+    by_size (Some p) e = rw e (known-rebuilt m.heap bytes known (room (reserved p) nothing m.heap.zone) (λ zone made of none. reserved-le of none p nothing m.heap.zone zone made))
+step-known asked.MoreMasters m bytes known = known-masters m.heap bytes known
 step-known asked.MemError m bytes known = known
 step-known (asked.Put None i x) m bytes known = known
 step-known (asked.Put (Some h) i x) m bytes known = by_spot (look_up (Some h) m.heap) (λ k is. (look_up-spot h m.heap k is).0)
   where
-    by_test : (k : Held) → spot (is_relocatable h) m.heap.zone ≡ Some k.at → (t : Bool) → Known (cond t (let done : Answer (Unit {0}) = (Ok tt, record m.heap { zone = k.at.below ++ with_content (written i x (content_of k.at.here)) k.at.here ∷ k.at.above }) in done) (refused PROFILE m.heap)).1
-        (put_by (asked.Put (Some h) i x) (told_as (λ (u : Unit {0}). Done) (cond t (let done : Answer (Unit {0}) = (Ok tt, record m.heap { zone = k.at.below ++ with_content (written i x (content_of k.at.here)) k.at.here ∷ k.at.above }) in done) (refused PROFILE m.heap)).0) bytes)
-    by_test k found true =
-        let here = known-at m.heap bytes known h k.at found in
-        known-put m.heap bytes known h k.at found (written i x (bytes h)) here.0 (with_content (written i x (content_of k.at.here)) k.at.here)
-        (ap (λ b. with_content (written i x (content_of b)) b) here.1)
-    by_test k found false = known
+    s : State
+    s = m.heap
 
-    by_spot : (r : Result Held OsErr) → ((k : Held) → r ≡ Ok k → spot (is_relocatable h) m.heap.zone ≡ Some k.at)
-        → Known (for_found r m.heap (λ k. written_at i x k.at m.heap)).1 (put_by (asked.Put (Some h) i x) (told_as (λ (u : Unit {0}). Done) (for_found r m.heap (λ k. written_at i x k.at m.heap)).0) bytes)
+    tells : Told → ℕ → List ℕ
+    tells t = put_by (asked.Put (Some h) i x) t bytes
+
+    put_at : Spot → Bool → Answer (Unit {0})
+    put_at at t = cond t (Ok tt, record s { zone = at.below ++ with_content (written i x (content_of at.here)) at.here ∷ at.above }) (refused PROFILE s)
+
+    by_test : (at : Spot) → spot (is_relocatable h) s.zone ≡ Some at → (t : Bool) → Known (put_at at t).1 (tells (done (put_at at t).0))
+    by_test at found true = known-put s bytes known h i x at found (with_bytes h (written i x (bytes h)) bytes) (with-other h (written i x (bytes h)) bytes) (sym (with-same h (written i x (bytes h)) bytes))
+    by_test at found false = known
+
+    by_spot : (r : Result Held OsErr) → ((k : Held) → r ≡ Ok k → spot (is_relocatable h) s.zone ≡ Some k.at) → Known (for_found r s (λ k. written_at i x k.at s)).1 (tells (done (for_found r s (λ k. written_at i x k.at s)).0))
     by_spot (Err code) found = known
-    by_spot (Ok k) found = by_test k (found k refl) (nat_le (i + length x) (length (content_of k.at.here)))
-step-known (asked.Show handle) m bytes known = by_spot (look_up handle m.heap)
+    by_spot (Ok k) found = by_test k.at (found k refl) (nat_le (i + length x) (length (content_of k.at.here)))
+step-known (asked.Show handle) m bytes known =
+    subst (λ (s : State). Known s bytes) (sym (found-same (look_up handle m.heap) m.heap (λ held. (Ok (content_of held.at.here), m.heap)) (λ held. refl))) known
+step-known (asked.PutPtr None i x) m bytes known = known
+step-known (asked.PutPtr (Some p) i x) m bytes known = by_spot (pointed_at (Some p) m.heap) (λ k is. (pointed_at-spot p m.heap k is).0)
   where
-    by_spot : (r : Result Held OsErr) → Known (for_found {T = List ℕ} r m.heap (λ k. (Ok (content_of k.at.here), m.heap))).1 bytes
-    by_spot (Err code) = known
-    by_spot (Ok k) = known
-step-known (asked.Where handle) m bytes known = by_spot (look_up handle m.heap)
-  where
-    by_spot : (r : Result Held OsErr) → Known (for_found {T = ℕ} r m.heap (λ k. (Ok (sizes k.at.below + 16), m.heap))).1 bytes
-    by_spot (Err code) = known
-    by_spot (Ok k) = known
+    s : State
+    s = m.heap
 
--- in a fresh zone nothing was put
-pub known-fresh : (n : ℕ) → Known (fresh_heap n) (λ h. [])
-known-fresh n = record { blocks = rest (n - 272); once = λ h. none h (n - 272) }
-  where
-    rest : (m : ℕ) → total (strange (λ h. []) 0) (Masters ∷ free m) ≤ 0
-    rest zero = omega arith
-    rest (suc m) = omega arith
+    tells : Told → ℕ → List ℕ
+    tells t = put_by (asked.PutPtr (Some p) i x) t bytes
 
-    none : (h m : ℕ) → named h (Masters ∷ free m) ≤ 1
-    none h zero = omega arith
-    none h (suc m) = omega arith
+    put_at : Spot → Bool → Answer (Unit {0})
+    put_at at t = cond t (Ok tt, record s { zone = at.below ++ with_content (written i x (content_of at.here)) at.here ∷ at.above }) (refused PROFILE s)
+
+    by_test : (at : Spot) → spot (is_fixed p) s.zone ≡ Some at → (t : Bool) → Known (put_at at t).1 (tells (done (put_at at t).0))
+    by_test at found true = known-put_pointer s bytes known p i x at found
+    by_test at found false = known
+
+    by_spot : (r : Result Held OsErr) → ((k : Held) → r ≡ Ok k → spot (is_fixed p) s.zone ≡ Some k.at) → Known (for_found r s (λ k. written_at i x k.at s)).1 (tells (done (for_found r s (λ k. written_at i x k.at s)).0))
+    by_spot (Err code) found = known
+    by_spot (Ok k) found = by_test k.at (found k refl) (nat_le (i + length x) (length (content_of k.at.here)))
+step-known (asked.ShowPtr pointer) m bytes known =
+    subst (λ (s : State). Known s bytes) (sym (found-same (pointed_at pointer m.heap) m.heap (λ held. (Ok (content_of held.at.here), m.heap)) (λ held. refl))) known
+step-known (asked.Where name) m bytes known =
+    subst (λ (s : State). Known s bytes) (sym (found-same (block_named name m.heap) m.heap (λ held. (Ok (sizes held.at.below + 16), m.heap)) (λ held. refl))) known

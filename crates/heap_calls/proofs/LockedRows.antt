@@ -3,7 +3,9 @@ use Rattle.block_store.specs.declared.flags.Flags.{Flags}
 use Rattle.block_store.specs.Block.{Free, Masters, Relocatable, no_flags}
 use Rattle.heap_calls.specs.State.{State, Handle, Plain}
 use Rattle.heap_calls.specs.Answer.{set_handle_size, h_unlock, move_hhi, dispose_handle}
-use Rattle.heap_calls.specs.Locked.{locked_place}
+use Rattle.heap_calls.specs.Purging.{h_set_state}
+use Rattle.heap_calls.specs.Locked.{locked_place, releases}
+use Rattle.heap_calls.specs.Asked.{HSetState}
 
 -- The place of a locked block, on a small zone.
 
@@ -38,3 +40,16 @@ locked-alone = refl
 -- it has no place once it is unlocked
 locked-no_more : locked_place 1 (h_unlock (Some 1) heap).1.zone ≡ None
 locked-no_more = refl
+
+-- flags with the lock leave it, and flags without it release it
+locked-flags : locked_place 1 (h_set_state (Some 1) 192 heap).1.zone ≡ Some 368
+locked-flags = refl
+
+unlocked-flags : locked_place 1 (h_set_state (Some 1) 96 heap).1.zone ≡ None
+unlocked-flags = refl
+
+flags-keep : releases 1 (HSetState (Some 1) 192) ≡ false
+flags-keep = refl
+
+flags-release : releases 1 (HSetState (Some 1) 96) ≡ true
+flags-release = refl

@@ -1,31 +1,24 @@
-use Rattle.std.proofs.Common.{arith, ◌≡◌, ℕ, ◌<◌, Bool, true, false, List, refl, sym, ◌∙◌, ap, cond, Option, Some, None, Result, Ok, Err, slice_get, is_some}
+use Rattle.std.proofs.Common.{arith, ◌≡◌, ℕ, ◌≤◌, ◌<◌, Bool, true, false, List, refl, sym, ◌∙◌, ap, subst, cond, Option, Some, Result, Ok, Err, is_some}
 use Rattle.std.proofs.lemmas.Bool.{cond-true, cond-false, lt-leb}
-use Rattle.std.specs.Option.{option_map, ok_or, IfSome}
+use Rattle.std.specs.Option.{option_map, IfSome}
 use Rattle.std.specs.Result.{IfOk}
 use Rattle.mac_words.specs.Size.{phys, padded}
-use Rattle.heap_calls.specs.declared.log.Log.{Log}
-use Rattle.mac_words.specs.declared.code.TheConstants.OsErr.{NIL_HANDLE, MEM_FULL}
-use Rattle.block_store.specs.Block.{Block, Free, Fixed, Masters, Relocatable, size, rename, is_relocatable, is_mover, resized}
+use Rattle.block_store.specs.Block.{Block, Free, Fixed, Masters, Relocatable, size, is_relocatable, is_mover, resized}
 use Rattle.block_store.specs.Run.{in_run}
-use Rattle.block_store.specs.Room.{Spot, rename_spot, spot, spot_at}
-use Rattle.block_store.specs.Grow.{grow_fixed, grow}
+use Rattle.block_store.specs.Room.{Spot, spot, spot_at}
+use Rattle.block_store.specs.Grow.{grow_mover, grow_fixed, grow}
 use Rattle.block_store.specs.Find.{FindsLowest}
-use Rattle.block_store.specs.Rest.{Rest, KeepsSlots}
 use Rattle.block_store.specs.Seen.{seen}
 use Rattle.block_store.specs.declared.named.Seen.{Seen}
 use Rattle.block_store.proofs.Tidy.{spot-passes}
-use Rattle.block_store.proofs.GrowRenaming.{grow-rename}
-use Rattle.heap_calls.specs.State.{Memory}
-use Rattle.heap_calls.specs.Answer.{set_handle_size, rebuilt, refused, for_found, look_up, silent}
 use Rattle.heap_calls.specs.Given.{seen_mover}
 use Rattle.heap_calls.specs.GrowingInPlace.{made_zone}
-use Rattle.heap_calls.specs.declared.name.Entry.{Entry}
-use Rattle.heap_calls.specs.declared.name.Entry.TheVariants.{Handle}
-use Rattle.heap_calls.specs.Numbered.{state_of, memory_of, handle_number, pointer_number, no_number}
-use Rattle.heap_calls.proofs.Answering.{held, look_up-by, at_place}
+use Rattle.heap_calls.specs.declared.growing_in_place.Grown.{Grown}
+use Rattle.heap_calls.specs.Searches.{room_searches, in_place_searches, size_searches}
+use Rattle.heap_calls.proofs.Hoisting.{seen_mover-is}
+use Rattle.heap_calls.proofs.Answering.{at_place}
 use Rattle.heap_calls.proofs.Carrying.{resized-size}
-use Rattle.heap_calls.proofs.Numbers.{Apart, is_relocatable-number}
-use Rattle.heap_calls.proofs.Changing.{phys-some, names-same, silent-done, silent-refused}
+use Rattle.heap_calls.proofs.Changing.{phys-some}
 
 -- The size of a handle's block.
 
@@ -50,71 +43,63 @@ stands-still number zone at o t found is told not_mover =
     two Masters e = refl
     two (Relocatable id flags content) e = refl
 
+-- the block that a slot leads to may move
+pub moves : (number : ℕ) (zone : List Block) (at : ℕ) (o : Option Seen) (t : Bool) → FindsLowest (is_relocatable number) zone (Some at) → o ≡ option_map (λ (s : Spot). seen s.here) (spot_at at zone) → t ≡ seen_mover o → t ≡ true
+    → (s : Spot) × (spot (is_relocatable number) zone ≡ Some s) × (is_mover s.here ≡ true)
+moves number zone at o t found is told mover =
+    let s = found.0 in
+    (s, found.1, sym (seen_mover-is s.here) ∙ sym (told ∙ ap seen_mover (is ∙ ap (option_map (λ (s : Spot). seen s.here)) found.2)) ∙ mover)
+
 -- a locked block that grows where it stands
-pub grown-still : (number n : ℕ) (zone : List Block) (answer : Option (List Block)) (s : Spot) → spot (is_relocatable number) zone ≡ Some s → is_mover s.here ≡ false → size s.here < size (resized n s.here)
-    → grow_fixed (is_relocatable number) (resized n s.here) s ≡ answer → grow (is_relocatable number) (is_relocatable number) n zone ≡ answer
-grown-still number n zone answer s found still more is =
+pub grown-still : (t sp : Block → Bool) (n : ℕ) (zone : List Block) (answer : Option (List Block)) (s : Spot) → spot t zone ≡ Some s → is_mover s.here ≡ false → size s.here < size (resized n s.here)
+    → grow_fixed sp (resized n s.here) s ≡ answer → grow t sp n zone ≡ answer
+grown-still t sp n zone answer s found still more is =
     rw found (cond-false _ _ _ (lt-leb (size (resized n s.here)) (size s.here) more) ∙ cond-false _ _ _ still ∙ is)
 
--- what SetHandleSize answers at the block that was found
-module _ (value : Memory) (zone : List Block) (rest : Rest) (es : List Entry) (log : Log) (handle : Option ℕ) (h slot n : ℕ) (is : memory_of zone rest es log ≡ value)
-    (named : handle ≡ Some h) (at : slice_get es h ≡ Some (Handle slot)) (apart : Apart es) (small : h < no_number)
-  where
-    found_is : (s : Spot) → spot (is_relocatable slot) zone ≡ Some s → look_up handle (state_of zone rest.slots es) ≡ Ok (held h (rename_spot (handle_number es) (pointer_number es) s))
-    found_is s found =
-        look_up-by zone rest.slots es handle h slot named at apart small
-        ∙ ap (λ o. ok_or (option_map (held h) (option_map (rename_spot (handle_number es) (pointer_number es)) o)) NIL_HANDLE) found
+-- how many looks the growth of a block takes
+looks-is : (t sp : Block → Bool) (n : ℕ) (zone : List Block) (s : Spot) → spot t zone ≡ Some s → is_some (phys n) ≡ true → size s.here < size (resized n s.here)
+    → size_searches t sp n zone ≡ cond (is_mover s.here) (room_searches (grow_mover t (resized n s.here)) sp zone) (in_place_searches sp (resized n s.here) s)
+looks-is t sp n zone s found fits more = cond-true _ _ 0 fits ∙ rw found (cond-false _ 0 _ (lt-leb (size (resized n s.here)) (size s.here) more))
 
-    answer_is : (s : Spot) → spot (is_relocatable slot) zone ≡ Some s → set_handle_size handle n (state_of zone rest.slots es)
-        ≡ cond (is_some (phys n)) (rebuilt (grow (is_relocatable h) (is_relocatable h) n (rename (handle_number es) (pointer_number es) zone)) (state_of zone rest.slots es)) (refused MEM_FULL (state_of zone rest.slots es))
-    answer_is s found =
-        ap (λ r. for_found r (state_of zone rest.slots es) (λ k. cond (is_some (phys n)) (rebuilt (grow (is_relocatable k.number) (is_relocatable k.number) n (rename (handle_number es) (pointer_number es) zone)) (state_of zone rest.slots es)) (refused MEM_FULL (state_of zone rest.slots es)))) (found_is s found)
+-- where it may move
+pub looks-moved : {E : Type 0} (t sp : Block → Bool) (n : ℕ) (zone : List Block) (r : Result Grown E) (s : Spot) → spot t zone ≡ Some s → is_mover s.here ≡ true → is_some (phys n) ≡ true → size s.here < size (resized n s.here)
+    → IfOk r (λ g. IfSome (spot t zone) (λ s. g.searches ≡ room_searches (grow_mover t (resized n s.here)) sp zone))
+    → IfOk r (λ g. g.searches ≡ size_searches t sp n zone)
+looks-moved t sp n zone (Err e) s found mover fits more is = tt
+looks-moved t sp n zone (Ok g) s found mover fits more is =
+    let P : Option Spot → Type 0 = λ o. IfSome o (λ s. g.searches ≡ room_searches (grow_mover t (resized n s.here)) sp zone) in
+    subst P found is ∙ sym (looks-is t sp n zone s found fits more ∙ cond-true _ _ _ mover)
 
-    -- the handle is emptied
-    pub no-block : spot (is_relocatable slot) zone ≡ None → silent (set_handle_size handle n) value ≡ (Err NIL_HANDLE, value)
-    no-block none =
-        silent-refused (set_handle_size handle n) value zone rest es log NIL_HANDLE is
-        (ap (λ r. for_found r (state_of zone rest.slots es) (λ k. cond (is_some (phys n)) (rebuilt (grow (is_relocatable k.number) (is_relocatable k.number) n (rename (handle_number es) (pointer_number es) zone)) (state_of zone rest.slots es)) (refused MEM_FULL (state_of zone rest.slots es))))
-        (look_up-by zone rest.slots es handle h slot named at apart small
-        ∙ ap (λ o. ok_or (option_map (held h) (option_map (rename_spot (handle_number es) (pointer_number es)) o)) NIL_HANDLE) none))
-
-    -- no block can be so large
-    pub too-large : (s : Spot) → spot (is_relocatable slot) zone ≡ Some s → is_some (phys n) ≡ false → silent (set_handle_size handle n) value ≡ (Err MEM_FULL, value)
-    too-large s found none = silent-refused (set_handle_size handle n) value zone rest es log MEM_FULL is (answer_is s found ∙ cond-false _ _ _ none)
-
-    growth_is : (zone' : List Block) (done : Bool) → grow (is_relocatable slot) (is_relocatable slot) n zone ≡ made_zone done zone'
-        → grow (is_relocatable h) (is_relocatable h) n (rename (handle_number es) (pointer_number es) zone) ≡ option_map (rename (handle_number es) (pointer_number es)) (made_zone done zone')
-    growth_is zone' done grown =
-        grow-rename (handle_number es) (pointer_number es) (is_relocatable h) (is_relocatable slot) (is_relocatable h) (is_relocatable slot) (is_relocatable-number es h slot at apart small) (is_relocatable-number es h slot at apart small) n zone
-        ∙ ap (option_map (rename (handle_number es) (pointer_number es))) grown
-
-    -- there is no room
-    pub not-resized : (s : Spot) → spot (is_relocatable slot) zone ≡ Some s → is_some (phys n) ≡ true → grow (is_relocatable slot) (is_relocatable slot) n zone ≡ None → silent (set_handle_size handle n) value ≡ (Err MEM_FULL, value)
-    not-resized s found fits grown =
-        silent-refused (set_handle_size handle n) value zone rest es log MEM_FULL is
-        (answer_is s found ∙ cond-true _ _ _ fits ∙ ap (λ o. rebuilt o (state_of zone rest.slots es)) (growth_is zone false grown))
-
-    -- the block has another size
-    pub is-resized : (zone' : List Block) (rest' : Rest) (s : Spot) → spot (is_relocatable slot) zone ≡ Some s → is_some (phys n) ≡ true → KeepsSlots rest rest' → grow (is_relocatable slot) (is_relocatable slot) n zone ≡ Some zone' → silent (set_handle_size handle n) value ≡ (Ok tt, memory_of zone' rest' es log)
-    is-resized zone' rest' s found fits now grown =
-        silent-done (set_handle_size handle n) value zone zone' rest rest' es es log (Ok tt) is
-        (answer_is s found ∙ cond-true _ _ _ fits ∙ ap (λ o. rebuilt o (state_of zone rest.slots es)) (growth_is zone' true grown)
-        ∙ ap (λ l. (Ok tt, record { zone = rename (handle_number es) (pointer_number es) zone'; names = l })) (sym (names-same rest.slots rest'.slots es (λ h s at. now.slots s))))
-        now.window
+-- where it doesn't
+pub looks-still : {E : Type 0} (t sp : Block → Bool) (n at : ℕ) (zone : List Block) (r : Result Grown E) (s : Spot) → spot t zone ≡ Some s → spot_at at zone ≡ Some s → is_mover s.here ≡ false → is_some (phys n) ≡ true → size s.here < size (resized n s.here)
+    → IfOk r (λ g. IfSome (spot_at at zone) (λ s. g.searches ≡ in_place_searches sp (resized n s.here) s))
+    → IfOk r (λ g. g.searches ≡ size_searches t sp n zone)
+looks-still t sp n at zone (Err e) s found stands still fits more is = tt
+looks-still t sp n at zone (Ok g) s found stands still fits more is =
+    at_place at zone s (λ s. g.searches ≡ in_place_searches sp (resized n s.here) s) stands is ∙ sym (looks-is t sp n zone s found fits more ∙ cond-false _ _ _ still)
 
 -- the block is to grow
-pub is-to-grow : (number n at bytes taken : ℕ) (zone : List Block) (s : Spot) → spot (is_relocatable number) zone ≡ Some s → spot_at at zone ≡ Some s → phys n ≡ Some bytes → IfSome (spot_at at zone) (λ s. taken ≡ size s.here) → taken < bytes
-    → size s.here < size (resized n s.here)
-is-to-grow number n at bytes taken zone s found stands fits takes more =
-    let now : taken ≡ size s.here = at_place at zone s (λ s. taken ≡ size s.here) stands takes in
+pub is-to-grow : (number n bytes taken : ℕ) (zone : List Block) (s : Spot) → spot (is_relocatable number) zone ≡ Some s → phys n ≡ Some bytes → IfSome (spot (is_relocatable number) zone) (λ s. taken ≡ size s.here) → taken < bytes → size s.here < size (resized n s.here)
+is-to-grow number n bytes taken zone s found fits takes more =
+    let P : Option Spot → Type 0 = λ o. IfSome o (λ s. taken ≡ size s.here) in
+    let now : taken ≡ size s.here = subst P found takes in
     let new : size (resized n s.here) ≡ padded n = resized-size number n s.here (spot-passes (is_relocatable number) zone s found) in
     let e : bytes ≡ padded n = (phys-some n bytes fits).1 in
     omega (arith, now, new, e, more)
 
+-- the block is to be cut
+pub is-to-fit : (number n bytes taken : ℕ) (zone : List Block) (s : Spot) → spot (is_relocatable number) zone ≡ Some s → phys n ≡ Some bytes → IfSome (spot (is_relocatable number) zone) (λ s. taken ≡ size s.here) → bytes ≤ taken → size (resized n s.here) ≤ size s.here
+is-to-fit number n bytes taken zone s found fits takes less =
+    let P : Option Spot → Type 0 = λ o. IfSome o (λ s. taken ≡ size s.here) in
+    let now : taken ≡ size s.here = subst P found takes in
+    let new : size (resized n s.here) ≡ padded n = resized-size number n s.here (spot-passes (is_relocatable number) zone s found) in
+    let e : bytes ≡ padded n = (phys-some n bytes fits).1 in
+    omega (arith, now, new, e, less)
+
 -- what growth where it stands came to
-pub grown-done : {E : Type 0} (number n at : ℕ) (zone zone' : List Block) (r : Result Bool E) (s : Spot) → spot (is_relocatable number) zone ≡ Some s → spot_at at zone ≡ Some s → is_mover s.here ≡ false → size s.here < size (resized n s.here)
-    → IfOk r (λ done. IfSome (spot_at at zone) (λ s. grow_fixed (is_relocatable number) (resized n s.here) s ≡ made_zone done zone'))
-    → IfOk r (λ done. grow (is_relocatable number) (is_relocatable number) n zone ≡ made_zone done zone')
-grown-done number n at zone zone' (Err e) s found stands still more is = tt
-grown-done number n at zone zone' (Ok done) s found stands still more is =
-    grown-still number n zone (made_zone done zone') s found still more (at_place at zone s (λ s. grow_fixed (is_relocatable number) (resized n s.here) s ≡ made_zone done zone') stands is)
+pub grown-done : {E : Type 0} (t sp : Block → Bool) (n at : ℕ) (zone zone' : List Block) (r : Result Grown E) (s : Spot) → spot t zone ≡ Some s → spot_at at zone ≡ Some s → is_mover s.here ≡ false → size s.here < size (resized n s.here)
+    → IfOk r (λ g. IfSome (spot_at at zone) (λ s. grow_fixed sp (resized n s.here) s ≡ made_zone g.done zone'))
+    → IfOk r (λ g. grow t sp n zone ≡ made_zone g.done zone')
+grown-done t sp n at zone zone' (Err e) s found stands still more is = tt
+grown-done t sp n at zone zone' (Ok g) s found stands still more is =
+    grown-still t sp n zone (made_zone g.done zone') s found still more (at_place at zone s (λ s. grow_fixed sp (resized n s.here) s ≡ made_zone g.done zone') stands is)

@@ -85,7 +85,7 @@ count-some t (b ∷ bs) s e = cases (t b) refl (spot t bs) (count-some t bs) e
     cases false is None more e = absurd (none-some _ e)
 
 -- each block that may go takes bytes
-count-le : (t : Block → Bool) (bs : List Block) → count_of t bs ≤ sizes bs
+pub count-le : (t : Block → Bool) (bs : List Block) → count_of t bs ≤ sizes bs
 count-le t bs = total-le (λ (b : Block). cond (may_go t b) 1 0) size one bs
   where
     one : (b : Block) → cond (may_go t b) 1 0 ≤ size b

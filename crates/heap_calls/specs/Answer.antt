@@ -1,16 +1,16 @@
-use Rattle.std.specs.Prelude.{ℕ, ◌+◌, ◌-◌, ◌&&◌, Bool, true, false, Option, Some, None, Result, Ok, Err, List, [], ◌∷◌, ◌++◌, length, replicate, slice_get, slice_set, is_some, unwrap_or, nat_le, nat_lt, if◌then◌else◌}
+use Rattle.std.specs.Prelude.{ℕ, ◌+◌, ◌-◌, Bool, true, false, Option, Some, None, Result, Ok, Err, List, [], ◌∷◌, ◌++◌, length, slice_get, slice_set, is_some, unwrap_or, nat_le, if◌then◌else◌}
 use Rattle.std.specs.Option.{option_map, ok_or}
 use Rattle.mac_words.specs.Size.{phys}
 use Rattle.mac_words.specs.declared.code.OsErr.{OsErr}
 use Rattle.mac_words.specs.declared.code.TheConstants.OsErr.{NO_ERR, NIL_HANDLE, WRONG_ZONE, MEM_FULL, LOCKED, PROFILE}
 use Rattle.block_store.specs.declared.flags.Flags.{Flags}
-use Rattle.block_store.specs.Block.{Block, Free, Fixed, Masters, Relocatable, sizes, free_sum, is_mover, is_relocatable, no_flags, content_of, with_content, written, tidy}
+use Rattle.block_store.specs.Block.{Block, Free, Fixed, Masters, Relocatable, free_sum, is_mover, is_relocatable, content_of, with_content, written, tidy}
 use Rattle.block_store.specs.Run.{change_run, has, high}
-use Rattle.block_store.specs.Room.{Spot, spot, put_in_place, room}
+use Rattle.block_store.specs.Room.{Spot, spot}
 use Rattle.block_store.specs.Grow.{freed, grow}
 use Rattle.block_store.specs.Compact.{largest_free, largest_run, compacted}
 use Rattle.block_store.specs.Rest.{counted}
-use Rattle.heap_calls.specs.State.{Role, Plain, Resource, SystemResource, Name, Handle, Pointer, Disposed, State, Memory, used_slots, all_slots}
+use Rattle.heap_calls.specs.State.{Role, Plain, Resource, SystemResource, Name, Handle, Pointer, Disposed, State, Memory}
 
 -- The calls of the Memory Manager. Inside Macintosh: Memory, chapter 2, "Memory Manager Routines".
 -- A handle is given as the number that a name is bound to, or none for an unbound name.
@@ -72,13 +72,6 @@ given name (Some zone) s = (Ok (length s.names), record { zone = zone; names = s
 abbrev pub nothing : Block → Bool
 nothing b = false
 
--- NewHandle: a new handle with n bytes 0, where a slot is unused and there is room for the block
-abbrev pub new_handle : ℕ → State → Answer ℕ
-new_handle n s =
-    if is_some (phys n) && nat_lt (used_slots s) (all_slots s)
-    then given (Handle Plain) (room (put_in_place (Relocatable (length s.names) no_flags (replicate n 0))) nothing s.zone) s
-    else refused MEM_FULL s
-
 -- the handle is disposed of, and its block, if it has one, is Free
 abbrev pub without : ℕ → State → State
 without h s = record { zone = tidy (freed (is_relocatable h) s.zone); names = slice_set s.names h Disposed }
@@ -104,10 +97,6 @@ free_mem s = (Ok (free_sum s.zone), s)
 -- the bytes of a handle's block
 abbrev pub show : Option ℕ → State → Answer (List ℕ)
 show handle s = on_block handle s (λ held. (Ok (content_of held.at.here), s))
-
--- the offset of a block's content from the zone's start: its header stands before it
-abbrev pub place_of : Option ℕ → State → Answer ℕ
-place_of handle s = on_block handle s (λ held. (Ok (sizes held.at.below + 16), s))
 
 -- bytes are written from i on, if they end within the block's content
 abbrev pub written_at : ℕ → List ℕ → Spot → State → Answer (Unit {0})

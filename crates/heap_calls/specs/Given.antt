@@ -1,4 +1,4 @@
-use Rattle.std.specs.Prelude.{◌≡◌, ◌≤◌, ℕ, ◌+◌, Bool, false, not, Option, Some, None, Result, Ok, Err, List, length, slice_get}
+use Rattle.std.specs.Prelude.{◌≡◌, ◌≤◌, ℕ, ◌+◌, Bool, true, false, not, Option, Some, None, Result, Ok, Err, List, length, slice_get}
 use Rattle.std.specs.Borrow.{Bor}
 use Rattle.mac_words.specs.declared.code.OsErr.{OsErr}
 use Rattle.mac_words.specs.declared.code.TheConstants.OsErr.{NO_ERR, NIL_HANDLE, WRONG_ZONE}
@@ -78,3 +78,11 @@ seen_mover (Some (see.Free n)) = false
 seen_mover (Some (see.Fixed n)) = false
 seen_mover (Some see.Masters) = false
 seen_mover (Some (see.Relocatable slot flags n)) = not flags.locked
+
+-- a block that was looked at, if there was one, is of those that a run is made of
+abbrev pub seen_in_run : Option Seen → Bool
+seen_in_run None = false
+seen_in_run (Some (see.Free n)) = true
+seen_in_run (Some (see.Fixed n)) = false
+seen_in_run (Some see.Masters) = false
+seen_in_run (Some (see.Relocatable slot flags n)) = not flags.locked

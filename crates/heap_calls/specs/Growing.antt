@@ -1,14 +1,15 @@
-use Rattle.std.specs.Prelude.{◌≡◌, ℕ, ◌<◌, Bool, true, ◌&&◌, Option, Some, None, List, is_some, IsSomeAnd, IfSome}
+use Rattle.std.specs.Prelude.{◌≡◌, ℕ, ◌<◌, Bool, true, ◌&&◌, Option, Some, None, List, is_some, IsSomeAnd, IfSome, if◌then◌else◌}
 use Rattle.std.specs.Option.{option_map}
+use Rattle.mac_words.specs.Size.{phys}
 use Rattle.block_store.specs.Block.{Block, Masters, size, resized, is_relocatable}
 use Rattle.block_store.specs.Run.{has, has_free}
 use Rattle.block_store.specs.Room.{Spot, spot, place, least}
-use Rattle.block_store.specs.Grow.{growth, grow_up, grow_mover}
+use Rattle.block_store.specs.Grow.{growth, grow_up, grow_mover, grow}
 use Rattle.block_store.specs.Find.{FindsLowestRun}
 use Rattle.block_store.specs.Named.{purged, most_purges, spared}
 use Rattle.block_store.specs.declared.named.Named.{Named}
 use Rattle.block_store.specs.declared.named.Named.TheVariants as named
-use Rattle.heap_calls.specs.Search.{FindsSeat}
+use Rattle.heap_calls.specs.Search.{FindsSeat, tries}
 use Rattle.heap_calls.specs.declared.growing.Growth.{Growth}
 use Rattle.heap_calls.specs.declared.growing.Growth.TheVariants as grows
 
@@ -40,6 +41,10 @@ Stays (named.Freed slot) test = ⊥
 abbrev pub growing : (Block → Bool) → Block → Named → List Block → Option (List Block)
 growing test new named zone = least (λ k. grow_mover test new (purged k named zone)) (most_purges named zone)
 
+-- the looks that this takes
+abbrev pub growing_searches : (Block → Bool) → Block → Named → List Block → ℕ
+growing_searches test new named zone = tries (λ k. grow_mover test new (purged k named zone)) (most_purges named zone)
+
 -- the block that passes is there, and is to grow to n bytes of content
 abbrev pub IsToGrow : (Block → Bool) → ℕ → List Block → Type 0
 IsToGrow test n zone = IsSomeAnd (spot test zone) (λ s. size s.here < size (resized n s.here))
@@ -59,3 +64,7 @@ CanGrowUp test n zone = (s : Spot) × (spot test zone ≡ Some s) × (size s.her
 -- and did
 abbrev pub GrewUp : (Block → Bool) → ℕ → List Block → List Block → Type 0
 GrewUp test n old new = IfSome (spot test old) (λ s. grow_up (resized n s.here) s ≡ Some new)
+
+-- the zone with the block that passes at n bytes of content, if a block can have so many
+abbrev pub fitted : (Block → Bool) → (Block → Bool) → ℕ → List Block → Option (List Block)
+fitted test spared n zone = if is_some (phys n) then grow test spared n zone else None

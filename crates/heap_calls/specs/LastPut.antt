@@ -1,10 +1,11 @@
-use Rattle.std.specs.Prelude.{◌≡◌, ℕ, ◌==◌, Some, Ok, List, [], ◌∷◌, replicate, if◌then◌else◌}
+use Rattle.std.specs.Prelude.{◌≡◌, ℕ, ◌==◌, ◌++◌, Some, Ok, List, [], ◌∷◌, replicate, if◌then◌else◌}
 use Rattle.block_store.specs.Block.{content_of, written, resized_content}
 use Rattle.heap_calls.specs.State.{State}
-use Rattle.heap_calls.specs.Answer.{Held, look_up}
-use Rattle.heap_calls.specs.Asked.{Asked, NewHandle, SetHandleSize, Put, Told, Done, Given}
+use Rattle.heap_calls.specs.Answer.{Held}
+use Rattle.heap_calls.specs.Pointers.{block_named}
+use Rattle.heap_calls.specs.Asked.{Asked, NewHandle, SetHandleSize, ReallocateHandle, HandToHand, HandAndHand, PtrAndHand, NewPtr, SetPtrSize, Put, PutPtr, Told, Done, Given}
 
--- The bytes last put into each handle, told from the history of calls alone: no block is in it.
+-- The bytes last put into each handle and pointer, told from the history of calls alone: no block is in it.
 
 -- a call, and what it told
 pub record Entry : Type 0 where
@@ -16,6 +17,13 @@ abbrev pub put_by : Asked → Told → (ℕ → List ℕ) → ℕ → List ℕ
 put_by (NewHandle n) (Given k) bytes h = if k == h then replicate n 0 else bytes h
 put_by (SetHandleSize (Some k) n) Done bytes h = if k == h then resized_content n (bytes k) else bytes h
 put_by (Put (Some k) from x) Done bytes h = if k == h then written from x (bytes k) else bytes h
+put_by (PutPtr (Some k) from x) Done bytes h = if k == h then written from x (bytes k) else bytes h
+put_by (ReallocateHandle (Some k) n) Done bytes h = if k == h then replicate n 0 else bytes h
+put_by (HandToHand (Some a)) (Given k) bytes h = if k == h then bytes a else bytes h
+put_by (HandAndHand (Some a) (Some b)) Done bytes h = if b == h then bytes b ++ bytes a else bytes h
+put_by (PtrAndHand (Some k) x) Done bytes h = if k == h then bytes k ++ x else bytes h
+put_by (NewPtr n) (Given k) bytes h = if k == h then replicate n 0 else bytes h
+put_by (SetPtrSize (Some k) n) Done bytes h = if k == h then resized_content n (bytes k) else bytes h
 put_by asked told bytes h = bytes h
 
 -- the bytes last put into each handle by the calls of a history, from those before it
@@ -27,6 +35,6 @@ last_put_from bytes (e ∷ entries) = last_put_from (put_by e.asked e.told bytes
 abbrev pub last_put : List Entry → ℕ → List ℕ
 last_put entries = last_put_from (λ h. []) entries
 
--- each handle with a block holds these bytes
+-- each handle with a block, and each pointer, holds these bytes
 abbrev pub Holds : State → (ℕ → List ℕ) → Type 0
-Holds s bytes = (h : ℕ) (held : Held) → look_up (Some h) s ≡ Ok held → content_of held.at.here ≡ bytes h
+Holds s bytes = (h : ℕ) (held : Held) → block_named (Some h) s ≡ Ok held → content_of held.at.here ≡ bytes h

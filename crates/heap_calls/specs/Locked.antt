@@ -1,9 +1,9 @@
-use Rattle.std.specs.Prelude.{◌≡◌, ◌≤◌, ℕ, ◌==◌, ◌&&◌, Bool, false, Option, Some, List}
+use Rattle.std.specs.Prelude.{◌≡◌, ◌≤◌, ℕ, ◌/◌, ◌%◌, ◌==◌, not, ◌&&◌, Bool, false, Option, Some, List}
 use Rattle.std.specs.Option.{option_map}
 use Rattle.block_store.specs.Block.{Block, Free, Fixed, Masters, Relocatable, sizes, count, is_relocatable}
 use Rattle.block_store.specs.Room.{spot}
 use Rattle.heap_calls.specs.State.{Memory}
-use Rattle.heap_calls.specs.Asked.{Asked, DisposeHandle, HUnlock, answered}
+use Rattle.heap_calls.specs.Asked.{Asked, DisposeHandle, HUnlock, HSetState, answered}
 
 -- A locked block stays where it is. Inside Macintosh: Memory, chapter 1, "Properties of Relocatable Blocks".
 
@@ -22,6 +22,7 @@ locked_place h zone = option_map (λ s. sizes s.below) (spot (is_locked h) zone)
 abbrev pub releases : ℕ → Asked → Bool
 releases h (DisposeHandle (Some k)) = k == h
 releases h (HUnlock (Some k)) = k == h
+releases h (HSetState (Some k) state) = k == h && not (state / 128 % 2 == 1)
 releases h asked = false
 
 -- no handle has two blocks

@@ -1,5 +1,6 @@
 use Rattle.std.specs.Prelude.{◌≡◌, ℕ, ◌+◌, ◌^◌, ◌==◌, Bool, true, false, Some, List, [], ◌∷◌, map, count_by, slice_get, if◌then◌else◌}
-use Rattle.block_store.specs.Block.{Block, rename}
+use Rattle.block_store.specs.Block.{Block, is_fixed, rename}
+use Rattle.block_store.specs.Run.{has}
 use Rattle.block_store.specs.Slot.{Slot, NoSlot, Unused, Used}
 use Rattle.block_store.specs.Rest.{Rest}
 use Rattle.heap_calls.specs.declared.log.Log.{Log}
@@ -59,10 +60,17 @@ state_of zone slots entries = record { zone = rename (handle_number entries) (po
 abbrev pub memory_of : List Block → Rest → List Entry → Log → Memory
 memory_of zone rest entries log = record { heap = state_of zone rest.slots entries; log = log; window = rest.window }
 
+-- the Fixed blocks are those that there were
+abbrev pub KeepsFixed : List Block → List Block → Type 0
+KeepsFixed old new = (place : ℕ) → has (is_fixed place) new ≡ has (is_fixed place) old
+
 -- the names and the store agree
-pub record Agrees (rest : Rest) (entries : List Entry) : Type 0 where
+pub record Agrees (zone : List Block) (rest : Rest) (entries : List Entry) : Type 0 where
   -- a handle's slot is used, and by no other handle
   pub used : (h slot : ℕ) → slice_get entries h ≡ Some (entry.Handle slot) → rest.slots slot ≡ Used false
   pub apart : (h k slot : ℕ) → slice_get entries h ≡ Some (entry.Handle slot) → slice_get entries k ≡ Some (entry.Handle slot) → h ≡ k
+  -- a pointer's block is there, and is no other pointer's
+  pub pointed : (h place : ℕ) → slice_get entries h ≡ Some (entry.Pointer place) → has (is_fixed place) zone ≡ true
+  pub lone : (h k place : ℕ) → slice_get entries h ≡ Some (entry.Pointer place) → slice_get entries k ≡ Some (entry.Pointer place) → h ≡ k
   -- each slot is a handle's or unused
   pub counted : rest.unused + count_by uses_slot (map (name_of rest.slots) entries) ≡ rest.all

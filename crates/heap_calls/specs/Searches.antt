@@ -1,8 +1,8 @@
-use Rattle.std.specs.Prelude.{ℕ, ◌+◌, Bool, ◌||◌, Option, Some, None, Result, Ok, Err, List, length, replicate, is_some, nat_lt, nat_le, if◌then◌else◌}
+use Rattle.std.specs.Prelude.{ℕ, ◌+◌, zero, suc, Bool, true, false, ◌||◌, Option, Some, None, Result, Ok, Err, List, [], ◌∷◌, length, replicate, is_some, nat_lt, nat_le, if◌then◌else◌}
 use Rattle.mac_words.specs.Size.{phys}
 use Rattle.mac_words.specs.declared.code.OsErr.{OsErr}
 use Rattle.block_store.specs.Block.{Block, Fixed, Masters, Relocatable, size, is_mover, is_relocatable, is_fixed, no_flags, resized, content_of}
-use Rattle.block_store.specs.Run.{has_free, segments}
+use Rattle.block_store.specs.Run.{has_free, segments, runs}
 use Rattle.block_store.specs.Room.{Spot, spot, put_at_base, put_in_place, purge, count_of}
 use Rattle.block_store.specs.Grow.{growth, grow_up, grow_mover, freed}
 use Rattle.block_store.specs.Compact.{runs_settled}
@@ -114,9 +114,20 @@ abbrev pub pointer_and_hand_searches : Option ℕ → List ℕ → State → ℕ
 pointer_and_hand_searches handle x s =
     found_searches (look_up handle s) (λ held. size_searches (is_relocatable held.number) (is_relocatable held.number) (length (content_of held.at.here) + length x) s.zone)
 
--- of CompactMem: one more than the runs that it settles
+-- a run that has a block; there is a run without one between two barriers that are neighbours
+abbrev pub has_block : List Block → Bool
+has_block [] = false
+has_block (b ∷ run) = true
+
+-- how many of the k lowest runs have a block
+abbrev pub stretches : ℕ → List (List Block) → ℕ
+stretches zero runs = 0
+stretches (suc k) [] = 0
+stretches (suc k) (run ∷ runs) = (if has_block run then 1 else 0) + stretches k runs
+
+-- of CompactMem: one more than the runs with blocks that it takes in turn
 abbrev pub compact_mem_searches : ℕ → State → ℕ
-compact_mem_searches n s = runs_settled (phys n) s.zone + 1
+compact_mem_searches n s = stretches (runs_settled (phys n) s.zone) (runs s.zone) + 1
 
 -- of PurgeMem: one more than the blocks that it empties
 abbrev pub purge_mem_searches : ℕ → State → ℕ

@@ -5,11 +5,14 @@ ghost use Rattle.mac_words.specs.Size.{phys as physical_size};
 ghost use Rattle.block_store.specs.Room.{place};
 ghost use Rattle.block_store.specs.Run.{runs};
 ghost use Rattle.block_store.specs.Rest.{KeepsSlots, counted};
+ghost use Rattle.block_store.specs.Named.{purged};
 ghost use Rattle.block_store.specs.Compact.{has_room, runs_settled, compacted, falls};
-ghost use Rattle.heap_calls.specs.Answer.{max_block, compact_mem, noting};
+ghost use Rattle.heap_calls.specs.Given.{seen_in_run};
+ghost use Rattle.heap_calls.specs.Answer.{max_block, compact_mem, noting, searching};
+ghost use Rattle.heap_calls.specs.Searches.{stretches, compact_mem_searches};
 
 use crate::heap::Heap;
-use block_store::{BlockStore, Named};
+use block_store::{BlockStore, Named, Seen};
 use mac_words::{OsErr, phys};
 
 impl<S: BlockStore> Heap<S> {
@@ -26,43 +29,59 @@ impl<S: BlockStore> Heap<S> {
     /// `CompactMem`: settles runs until a block of `size` bytes has room; the most bytes that a block can
     /// then have without another being moved.
     pub fn compact_mem(&mut self, size: u32) -> u32
-        ensures answer { noting (compact_mem size) self.old ≡ (Ok result, self.new) }
+        ensures answer { searching (compact_mem_searches size self.old.heap) (noting (compact_mem size) self.old) ≡ (Ok result, self.new) }
     {
-        compact(&mut self.store, phys(size));
+        let stretches = compact(&mut self.store, phys(size));
+        let most = self.store.largest_free().saturating_sub(16);
         self.log.code = OsErr::NO_ERR;
-        self.store.largest_free().saturating_sub(16)
+        self.log.count(stretches + 1);
+        most
     }
 }
 
 /// Settles runs, lowest first, until a Free block of so many bytes stands or all are settled; tells how
-/// many were. None stands where no size is given.
+/// many with a block were. None stands where no size is given.
 ///
 /// *Inside Macintosh: Memory*, chapter 1, "Heap Compaction".
 pub fn compact<S: BlockStore>(store: &mut S, bytes: Option<u32>) -> u32
     ensures zone { S.zone store.new ≡ compacted bytes (S.zone store.old) }
     ensures moves { (S.rest store.new).moves ≡ counted (S.rest store.old).moves (falls (runs_settled bytes (S.zone store.old)) (runs (S.zone store.old))) }
     ensures rest { KeepsSlots (S.rest store.old) (S.rest store.new) }
-    ensures runs { result ≡ runs_settled bytes (S.zone store.old) }
+    ensures runs { result ≡ stretches (runs_settled bytes (S.zone store.old)) (runs (S.zone store.old)) }
 {
     // The count of moves is known to fit its type once it is read.
     let _moves = store.moves();
     let mut index = 0;
-    while !has_room(store, bytes) {
+    let mut stretches = 0;
+    while !has_room(store, bytes, 0) {
         let Some(run) = store.nth_run(index) else {
-            return index;
+            return stretches;
         };
+        stretches += u32::from(in_run(store.block_at(run)));
         store.settle(run);
         index += 1;
     }
-    index
+    stretches
 }
 
-/// Whether a Free block of so many bytes stands; none does where no size is given.
-fn has_room<S: BlockStore>(store: &S, bytes: Option<u32>) -> bool
-    ensures { result ≡ has_room bytes (S.zone store.now) }
+/// Whether a block that was looked at is of those that a run is made of.
+fn in_run(seen: Option<Seen>) -> bool
+    ensures { result ≡ seen_in_run seen }
+{
+    match seen {
+        Some(Seen::Free(_)) => true,
+        Some(Seen::Relocatable(_, flags, _)) => !flags.locked,
+        _ => false,
+    }
+}
+
+/// Whether a Free block of so many bytes stands after so many purges; none does where no size is given.
+pub fn has_room<S: BlockStore>(store: &S, bytes: Option<u32>, purges: u32) -> bool
+    ensures after { result ≡ has_room bytes (purged purges Named.Nothing (S.zone store.now)) }
+    ensures now { purges ≡ 0 → result ≡ has_room bytes (S.zone store.now) }
 {
     match bytes {
         None => false,
-        Some(bytes) => store.find_free(bytes, 0, Named::Nothing).is_some(),
+        Some(bytes) => store.find_free(bytes, purges, Named::Nothing).is_some(),
     }
 }

@@ -1,24 +1,25 @@
 //! The growth of a block that may move.
 
-ghost use Rattle.std.specs.Prelude.{◌≡◌, ◌+◌, ◌-◌, ◌<◌, Some, None, IsSome, IfSome, IsSomeAnd, IsTrue, IsErr, OnOk, IfOk, true, false};
+ghost use Rattle.std.specs.Prelude.{◌≡◌, ◌+◌, ◌-◌, ◌≤◌, ◌<◌, ◌&&◌, Some, None, IsSome, IfSome, IsSomeAnd, IsTrue, IsErr, OnOk, OnErr, IfOk, is_some, true, false};
 ghost use Rattle.mac_words.specs.Size.{phys as physical_size};
 ghost use Rattle.block_store.specs.Block.{is_relocatable, resized, is_mover, size as size_of};
 ghost use Rattle.block_store.specs.Room.{spot, place, room};
-ghost use Rattle.block_store.specs.Grow.{growth, grow_mover};
-ghost use Rattle.block_store.specs.Named.{purged, spared};
+ghost use Rattle.block_store.specs.Grow.{growth, grow_mover, move_away};
+ghost use Rattle.block_store.specs.Named.{purged, most_purges, spared};
 ghost use Rattle.block_store.specs.Rest.{IsRest, KeepsSlots};
 ghost use Rattle.heap_calls.specs.Search.{FindsSeat, IsAt};
-ghost use Rattle.heap_calls.specs.Growing.{FindsGrowth, growing, Spares, Stays, grown, SameBlocks, IsToGrow, CanGrowUp, GrewUp};
+ghost use Rattle.heap_calls.specs.Growing.{FindsGrowth, growing, growing_searches, Spares, Stays, grown, SameBlocks, IsToGrow, CanGrowUp, GrewUp};
 ghost use Rattle.heap_calls.specs.GrowingInPlace.{made_zone};
+ghost use Rattle.heap_calls.specs.Numbered.{KeepsFixed};
+ghost use Rattle.heap_calls.specs.Searches.{room_searches};
 
-use crate::growing_in_place::bytes_at;
+use crate::growing_in_place::{Grown, bytes_at};
 use crate::search::{Seat, seat_after};
 use block_store::{BlockStore, Named};
 use mac_words::phys;
 use std::alloc::AllocError;
 
-/// How an unlocked block grows: into the Free block above it, at a place of its own, or as the last of its
-/// run.
+/// How an unlocked block grows: into the Free block above it, at a place of its own, or as the last of its run.
 #[derive(Clone, Copy, Debug, PartialEq, Eq)]
 pub enum Growth {
     Up,
@@ -33,8 +34,7 @@ pub struct FoundGrowth {
     pub purges: u32,
 }
 
-/// How the block of a slot grows by `more` bytes to `bytes`, and to `size` bytes of content, after so many
-/// purges.
+/// How the block of a slot grows by `more` bytes to `bytes`, and to `size` bytes of content, after so many purges.
 fn growth_after<S: BlockStore>(
     store: &S,
     number: u32,
@@ -60,9 +60,8 @@ fn growth_after<S: BlockStore>(
     Some(Growth::Last(run))
 }
 
-/// How the block of a slot grows by `more` bytes to `bytes`, and to `size` bytes of content, after as few
-/// purges as serve.
-fn find_growth<S: BlockStore>(
+/// How the block of a slot grows by `more` bytes to `bytes`, and to `size` bytes of content, after as few purges as serve.
+pub fn find_growth<S: BlockStore>(
     store: &S,
     number: u32,
     size: u32,
@@ -77,6 +76,8 @@ fn find_growth<S: BlockStore>(
     requires more { IsSomeAnd (spot (is_relocatable number) (S.zone store.now)) (λ s. growth (grown size (spot (is_relocatable number) (S.zone store.now))) s ≡ more) }
     ensures found { FindsGrowth (is_relocatable number) (grown size (spot (is_relocatable number) (S.zone store.now))) (purged result.purges named (S.zone store.now)) result.growth }
     ensures least { growing (is_relocatable number) (grown size (spot (is_relocatable number) (S.zone store.now))) named (S.zone store.now) ≡ grow_mover (is_relocatable number) (grown size (spot (is_relocatable number) (S.zone store.now))) (purged result.purges named (S.zone store.now)) }
+    ensures searches { result.purges + 1 ≡ growing_searches (is_relocatable number) (grown size (spot (is_relocatable number) (S.zone store.now))) named (S.zone store.now) }
+    ensures few { result.purges ≤ 134217728 }
 {
     let mut purges = 0;
     loop {
@@ -98,6 +99,7 @@ fn find_growth<S: BlockStore>(
 fn grow_up<S: BlockStore>(store: &mut S, number: u32, size: u32) -> Result<(), AllocError>
     requires { CanGrowUp (is_relocatable number) size (S.zone store.old) }
     ensures ok { OnOk result (GrewUp (is_relocatable number) size (S.zone store.old) (S.zone store.new)) }
+    ensures fixed { KeepsFixed (S.zone store.old) (S.zone store.new) }
     ensures rest { IsRest (S.rest store.old) (S.rest store.new) }
     ensures host { IsErr result → IsTrue S.TAKES_HOST }
 {
@@ -113,6 +115,7 @@ fn pack_seat<S: BlockStore>(store: &mut S, bytes: u32, seat: Seat) -> u32
     requires found { FindsSeat bytes (S.zone store.old) (Some seat) }
     ensures place { IsAt (place bytes (S.zone store.old)) (S.zone store.new) (Some result) }
     ensures blocks { SameBlocks (S.zone store.old) (S.zone store.new) }
+    ensures fixed { KeepsFixed (S.zone store.old) (S.zone store.new) }
     ensures rest { KeepsSlots (S.rest store.old) (S.rest store.new) }
 {
     let run = match seat {
@@ -138,6 +141,7 @@ fn grow_away<S: BlockStore>(
     requires positive { 0 < bytes }
     requires found { FindsGrowth (is_relocatable number) (grown size (spot (is_relocatable number) (S.zone store.old))) (S.zone store.old) (Some (Growth.Away seat)) }
     ensures ok { OnOk result (grow_mover (is_relocatable number) (grown size (spot (is_relocatable number) (S.zone store.old))) (S.zone store.old) ≡ Some (S.zone store.new)) }
+    ensures fixed { KeepsFixed (S.zone store.old) (S.zone store.new) }
     ensures rest { KeepsSlots (S.rest store.old) (S.rest store.new) }
     ensures host { IsErr result → IsTrue S.TAKES_HOST }
 {
@@ -155,6 +159,7 @@ fn grow_as_last<S: BlockStore>(
     requires block { IsToGrow (is_relocatable number) size (S.zone store.old) }
     requires found { FindsGrowth (is_relocatable number) (grown size (spot (is_relocatable number) (S.zone store.old))) (S.zone store.old) (Some (Growth.Last run)) }
     ensures ok { OnOk result (grow_mover (is_relocatable number) (grown size (spot (is_relocatable number) (S.zone store.old))) (S.zone store.old) ≡ Some (S.zone store.new)) }
+    ensures fixed { KeepsFixed (S.zone store.old) (S.zone store.new) }
     ensures rest { KeepsSlots (S.rest store.old) (S.rest store.new) }
     ensures host { IsErr result → IsTrue S.TAKES_HOST }
 {
@@ -176,6 +181,7 @@ fn carry_out<S: BlockStore>(
     requires positive { 0 < bytes }
     requires found { FindsGrowth (is_relocatable number) (grown size (spot (is_relocatable number) (S.zone store.old))) (S.zone store.old) (Some growth) }
     ensures ok { OnOk result (grow_mover (is_relocatable number) (grown size (spot (is_relocatable number) (S.zone store.old))) (S.zone store.old) ≡ Some (S.zone store.new)) }
+    ensures fixed { KeepsFixed (S.zone store.old) (S.zone store.new) }
     ensures rest { KeepsSlots (S.rest store.old) (S.rest store.new) }
     ensures host { IsErr result → IsTrue S.TAKES_HOST }
 {
@@ -187,7 +193,7 @@ fn carry_out<S: BlockStore>(
 }
 
 /// The bytes that the block of a slot takes.
-fn bytes_of<S: BlockStore>(store: &S, number: u32) -> u32
+pub fn bytes_of<S: BlockStore>(store: &S, number: u32) -> u32
     requires { IsSome (spot (is_relocatable number) (S.zone store.now)) }
     ensures { IfSome (spot (is_relocatable number) (S.zone store.now)) (λ s. result ≡ size_of s.here) }
 {
@@ -197,35 +203,44 @@ fn bytes_of<S: BlockStore>(store: &S, number: u32) -> u32
     bytes_at(store, place)
 }
 
-/// Lets the unlocked block of a slot grow to `size` bytes of content, new ones 0, after as few purges as
-/// serve: into the Free block above it, else at a place of its own, else as the last of its run. Answers
-/// whether there was room.
-///
-/// *Inside Macintosh: Memory*, chapter 2, "Changing the Sizes of Relocatable and Nonrelocatable Blocks".
+/// Gives the unlocked block of a slot more bytes of content, new ones 0, after as few purges as serve: into the Free
+/// block above it, else at a place of its own, else as the last of its run.
 pub fn grow_movable<S: BlockStore>(
     store: &mut S,
-    number: u32,
-    size: u32,
-) -> Result<bool, AllocError>
-    requires mover { IsSomeAnd (spot (is_relocatable number) (S.zone store.old)) (λ s. IsTrue (is_mover s.here)) }
-    requires more { IsToGrow (is_relocatable number) size (S.zone store.old) }
-    requires fits { IsSome (physical_size size) }
-    ensures zone { IfOk result (λ done. IfSome (spot (is_relocatable number) (S.zone store.old)) (λ s.
-        room (grow_mover (is_relocatable number) (resized size s.here)) (is_relocatable number) (S.zone store.old) ≡ made_zone done (S.zone store.new))) }
-    ensures full { IfOk result (λ done. done ≡ false → S.zone store.new ≡ S.zone store.old) }
+    slot: u32,
+    bytes: u32,
+    named: Named,
+) -> Result<Grown, AllocError>
+    requires spared { Spares named (is_relocatable slot) }
+    requires stays { Stays named (is_relocatable slot) }
+    requires mover { IsSomeAnd (spot (is_relocatable slot) (S.zone store.old)) (λ s. IsTrue (is_mover s.here)) }
+    requires more { IsToGrow (is_relocatable slot) bytes (S.zone store.old) }
+    requires fits { IsSome (physical_size bytes) }
+    ensures zone { IfOk result (λ grown. IfSome (spot (is_relocatable slot) (S.zone store.old)) (λ s.
+        room (grow_mover (is_relocatable slot) (resized bytes s.here)) (spared named) (S.zone store.old) ≡ made_zone grown.done (S.zone store.new))) }
+    ensures full { IfOk result (λ grown. grown.done ≡ false → S.zone store.new ≡ S.zone store.old) }
+    ensures searches { IfOk result (λ grown. IfSome (spot (is_relocatable slot) (S.zone store.old)) (λ s.
+        grown.searches ≡ room_searches (grow_mover (is_relocatable slot) (resized bytes s.here)) (spared named) (S.zone store.old))) }
+    ensures fixed { KeepsFixed (S.zone store.old) (S.zone store.new) }
     ensures rest { KeepsSlots (S.rest store.old) (S.rest store.new) }
     ensures host { IsErr result → IsTrue S.TAKES_HOST }
 {
-    let Some(bytes) = phys(size) else {
+    let Some(takes) = phys(bytes) else {
         unreachable!()
     };
-    let more = bytes - bytes_of(store, number);
-    let named = Named::One(number);
-    let found = find_growth(store, number, size, bytes, more, named);
+    let more = takes - bytes_of(store, slot);
+    let found = find_growth(store, slot, bytes, takes, more, named);
+    let searches = found.purges + 1;
     let Some(growth) = found.growth else {
-        return Ok(false);
+        return Ok(Grown {
+            done: false,
+            searches,
+        });
     };
     store.purge(found.purges, named);
-    carry_out(store, number, size, bytes, growth)?;
-    Ok(true)
+    carry_out(store, slot, bytes, takes, growth)?;
+    Ok(Grown {
+        done: true,
+        searches,
+    })
 }

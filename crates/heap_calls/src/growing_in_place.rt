@@ -8,14 +8,30 @@ ghost use Rattle.block_store.specs.Room.{spot_at, purge, count_of};
 ghost use Rattle.block_store.specs.Grow.{grow_fixed};
 ghost use Rattle.block_store.specs.Named.{spared};
 ghost use Rattle.block_store.specs.Rest.{IsRest};
-ghost use Rattle.heap_calls.specs.GrowingInPlace.{made_zone, seen_size, room_at, FindsPurges, pushed_up};
+ghost use Rattle.heap_calls.specs.GrowingInPlace.{made_zone, enough, seen_size, room_at, FindsPurges, pushed_up};
+ghost use Rattle.heap_calls.specs.Numbered.{KeepsFixed};
+ghost use Rattle.heap_calls.specs.Searches.{room_searches, in_place_searches};
 
 use block_store::{BlockStore, Named, Seen};
 use mac_words::phys;
 use std::alloc::AllocError;
 
-/// Lets a Fixed or locked block at a place grow to `bytes` bytes of content where it stands; `false`, and
-/// nothing changes, where there is no room. The Free block right above it serves, else the run above it,
+/// Whether a block got another size, and how many looks for room that took.
+#[derive(Clone, Copy, Debug, PartialEq, Eq)]
+pub struct Grown {
+    pub done: bool,
+    pub searches: u32,
+}
+
+/// How few blocks go, where that gives room, and how many looks it took to find out.
+#[derive(Clone, Copy, Debug, PartialEq, Eq)]
+struct Fewest {
+    purges: Option<u32>,
+    searches: u32,
+}
+
+/// Lets a Fixed or locked block at a place grow to `bytes` bytes of content where it stands; where there
+/// is no room nothing changes. The Free block right above it serves, else the run above it,
 /// packed upward after as few purges as serve.
 ///
 /// *Inside Macintosh: Memory*, chapter 2, "Changing the Sizes of Relocatable and Nonrelocatable Blocks".
@@ -24,12 +40,14 @@ pub fn grow_in_place<S: BlockStore>(
     place: u32,
     bytes: u32,
     named: Named,
-) -> Result<bool, AllocError>
+) -> Result<Grown, AllocError>
     requires still { IsSomeAnd (spot_at place (S.zone store.old)) (λ s. in_run s.here ≡ false) }
     requires grows { IsSomeAnd (spot_at place (S.zone store.old)) (λ s. size s.here < size (resized bytes s.here)) }
     requires fits { IsSome (physical_size bytes) }
-    ensures zone { IfOk result (λ done. IfSome (spot_at place (S.zone store.old)) (λ s. grow_fixed (spared named) (resized bytes s.here) s ≡ made_zone done (S.zone store.new))) }
-    ensures none { IfOk result (λ done. done ≡ false → S.zone store.new ≡ S.zone store.old) }
+    ensures zone { IfOk result (λ grown. IfSome (spot_at place (S.zone store.old)) (λ s. grow_fixed (spared named) (resized bytes s.here) s ≡ made_zone grown.done (S.zone store.new))) }
+    ensures none { IfOk result (λ grown. grown.done ≡ false → S.zone store.new ≡ S.zone store.old) }
+    ensures searches { IfOk result (λ grown. IfSome (spot_at place (S.zone store.old)) (λ s. grown.searches ≡ in_place_searches (spared named) (resized bytes s.here) s)) }
+    ensures fixed { KeepsFixed (S.zone store.old) (S.zone store.new) }
     ensures rest { IsRest (S.rest store.old) (S.rest store.new) }
     ensures host { IsErr result → IsTrue S.TAKES_HOST }
 {
@@ -38,14 +56,24 @@ pub fn grow_in_place<S: BlockStore>(
     let more = wanted - taken;
     if has_room_at(store, place + taken, more) {
         store.resize(place, bytes)?;
-        return Ok(true);
+        return Ok(Grown {
+            done: true,
+            searches: 1,
+        });
     }
-    let Some(purges) = least_purges(store, place, more, named) else {
-        return Ok(false);
+    let fewest = least_purges(store, place, more, named);
+    let Some(purges) = fewest.purges else {
+        return Ok(Grown {
+            done: false,
+            searches: fewest.searches,
+        });
     };
     push_up(store, place, taken, more, purges, named)?;
     store.resize(place, bytes)?;
-    Ok(true)
+    Ok(Grown {
+        done: true,
+        searches: fewest.searches,
+    })
 }
 
 /// The bytes that a block of so many bytes of content takes.
@@ -94,18 +122,25 @@ fn has_room_at<S: BlockStore>(store: &S, place: u32, bytes: u32) -> bool
 }
 
 /// How few blocks go from the run above the block at a place for it to have so many Free bytes.
-fn least_purges<S: BlockStore>(store: &S, place: u32, bytes: u32, named: Named) -> Option<u32>
+fn least_purges<S: BlockStore>(store: &S, place: u32, bytes: u32, named: Named) -> Fewest
     requires { IsSome (spot_at place (S.zone store.now)) }
-    ensures { IfSome (spot_at place (S.zone store.now)) (λ s. FindsPurges bytes (spared named) (segments s.above).first result) }
+    ensures found { IfSome (spot_at place (S.zone store.now)) (λ s. FindsPurges bytes (spared named) (segments s.above).first result.purges) }
+    ensures searches { IfSome (spot_at place (S.zone store.now)) (λ s. result.searches ≡ room_searches (enough bytes) (spared named) (segments s.above).first) }
 {
     let most = store.purgeable_after(place, named);
     let mut purges = 0;
     loop {
         if store.run_after(place, bytes, purges, named) {
-            return Some(purges);
+            return Fewest {
+                purges: Some(purges),
+                searches: purges + 1,
+            };
         }
         if purges == most {
-            return None;
+            return Fewest {
+                purges: None,
+                searches: purges + 1,
+            };
         }
         purges += 1;
     }
@@ -126,6 +161,7 @@ fn push_up<S: BlockStore>(
         × (has_free bytes (purge purges (spared named) (segments s.above).first) ≡ true)) }
     requires even { bytes % 16 ≡ 0 }
     ensures zone { OnOk result (IfSome (spot_at place (S.zone store.old)) (λ s. S.zone store.new ≡ s.below ++ s.here ∷ pushed_up bytes purges (spared named) s.above)) }
+    ensures fixed { KeepsFixed (S.zone store.old) (S.zone store.new) }
     ensures rest { IsRest (S.rest store.old) (S.rest store.new) }
     ensures host { IsErr result → IsTrue S.TAKES_HOST }
 {

@@ -5,13 +5,17 @@ ghost use Rattle.block_store.specs.Block.{fresh, sizes};
 ghost use Rattle.heap_calls.specs.Given.{IsAnswer, IsShown, KeepsNames, FindsBlock, last_after};
 ghost use Rattle.heap_calls.specs.Numbered.{Agrees};
 ghost use Rattle.heap_calls.specs.State.{fresh_memory};
-ghost use Rattle.heap_calls.specs.Answer.{new_handle, dispose_handle, get_handle_size, free_mem, put, show, place_of, noting, silent};
+ghost use Rattle.heap_calls.specs.Answer.{dispose_handle, get_handle_size, free_mem, put, show, noting, searching, silent};
+ghost use Rattle.heap_calls.specs.Slots.{new_handle};
+ghost use Rattle.heap_calls.specs.Searches.{new_handle_searches};
+ghost use Rattle.heap_calls.specs.Pointers.{place_of};
 
 use crate::log::Log;
 use crate::name::{Entry, slot_of};
-use crate::new_block::add_block;
+use crate::new_block::new_block;
+use crate::pointers::find_named;
 use crate::refusal::Refusal;
-use block_store::BlockStore;
+use block_store::{BlockStore, Named};
 use mac_words::OsErr;
 use std::alloc::{AllocError, Global};
 use std::marker::Model;
@@ -36,7 +40,7 @@ impl<S: BlockStore> Model for Heap<S> {
 
     ghost view = { λ a. memory_of (S.zone a.store) (S.rest a.store) a.names.items a.log };
 
-    ghost invariant = { λ a. Agrees (S.rest a.store) a.names.items };
+    ghost invariant = { λ a. Agrees (S.zone a.store) (S.rest a.store) a.names.items };
 }
 
 impl<S: BlockStore> Heap<S> {
@@ -57,11 +61,11 @@ impl<S: BlockStore> Heap<S> {
         }
     }
 
-    /// `NewHandle`: a new handle with `size` bytes 0. -108 where there is no room for its block or all slots
-    /// are used. A want of host memory leaves all but the zone as it was, and the zone too over a store that
-    /// takes no host memory.
+    /// `NewHandle`: a new handle with `size` bytes 0. -108 where there is no room for its block, or all slots
+    /// are used and there is no room for more. A want of host memory leaves all but the zone as it was, and
+    /// the zone too over a store that takes no host memory.
     pub fn new_handle(&mut self, size: u32) -> Result<usize, Refusal>
-        ensures answer { IsAnswer (noting (new_handle size) self.old) result self.new }
+        ensures answer { IsAnswer (searching (new_handle_searches size self.old.heap) (noting (new_handle size) self.old)) result self.new }
         ensures host { result ≡ Err Refusal.HostMemory → IsTrue S.TAKES_HOST ⊎ (self.new ≡ self.old) }
         ensures kept { result ≡ Err Refusal.HostMemory → KeepsNames self.old self.new }
     {
@@ -95,6 +99,14 @@ impl<S: BlockStore> Heap<S> {
         self.store.free_bytes()
     }
 
+    /// How many looks for room the calls so far took; the count stays at its greatest value.
+    pub fn searches(&self) -> u64
+        ensures { result ≡ self.now.log.searches }
+    {
+        let looks = self.log;
+        looks.searches
+    }
+
     /// `MemError`: the code of the last call that has one.
     pub fn mem_error(&self) -> OsErr
         ensures { result ≡ self.now.log.code }
@@ -126,23 +138,25 @@ impl<S: BlockStore> Heap<S> {
         Ok(self.store.bytes(place))
     }
 
-    /// The offset of a handle's bytes from the zone's start.
-    pub fn place_of(&self, handle: Option<usize>) -> Result<u32, Refusal>
-        ensures answer { IsAnswer (silent (place_of handle) self.now) result self.now }
+    /// The offset of a handle's or a pointer's bytes from the zone's start.
+    pub fn place_of(&self, name: Option<usize>) -> Result<u32, Refusal>
+        ensures answer { IsAnswer (silent (place_of name) self.now) result self.now }
         ensures host { result ≢ Err Refusal.HostMemory }
     {
-        let place = find_block(&self.store, &self.names, handle)?;
+        let place = find_named(&self.store, &self.names, name)?;
         Ok(place + 16)
     }
 
     /// A new handle.
     fn make_handle(&mut self, size: u32) -> Result<usize, Refusal>
-        ensures answer { IsAnswer (silent (new_handle size) self.old) result self.new }
+        ensures answer { IsAnswer (searching (new_handle_searches size self.old.heap) (silent (new_handle size) self.old)) result self.new }
         ensures host { result ≡ Err Refusal.HostMemory → IsTrue S.TAKES_HOST ⊎ (self.new ≡ self.old) }
         ensures kept { result ≡ Err Refusal.HostMemory → KeepsNames self.old self.new }
     {
         self.names.reserve(1)?;
-        let Some(slot) = add_block(&mut self.store, size)? else {
+        let made = new_block(&mut self.store, size, Named::Nothing)?;
+        self.log.count(made.searches);
+        let Some(slot) = made.slot else {
             return Err(Refusal::Code(OsErr::MEM_FULL));
         };
         let number = self.names.len();
@@ -191,7 +205,7 @@ pub(crate) fn find_block<S: BlockStore>(
     names: &[Entry],
     handle: Option<usize>,
 ) -> Result<u32, Refusal>
-    requires { Agrees (S.rest store.now) names.now }
+    requires { Agrees (S.zone store.now) (S.rest store.now) names.now }
     ensures { FindsBlock (S.zone store.now) (S.rest store.now).slots names.now handle result }
 {
     let found = slot_of(names, handle)?;

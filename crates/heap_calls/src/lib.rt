@@ -2,14 +2,24 @@
 //! definition answers it.
 #![tactic(auto)]
 
+mod appending;
+mod base;
 mod compaction;
+mod copying;
+mod emptying;
+mod flags;
 mod growing;
 mod growing_in_place;
 mod heap;
 mod locking;
 mod log;
+mod masters;
 mod name;
 mod new_block;
+mod pointer_sizing;
+mod pointers;
+mod purging;
+mod reaching;
 mod refusal;
 mod search;
 mod sizing;
@@ -17,6 +27,7 @@ mod sizing;
 pub use heap::Heap;
 pub use log::Log;
 pub use name::Entry;
+pub use purging::Space;
 pub use refusal::Refusal;
 
 #[cfg(test)]

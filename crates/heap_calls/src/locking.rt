@@ -1,13 +1,13 @@
 //! Locking handles and moving them out of the way.
 
 ghost use Rattle.std.specs.Prelude.{◌≡◌, ◌≢◌};
-ghost use Rattle.heap_calls.specs.Given.{IsAnswer, seen_flags, seen_mover};
-ghost use Rattle.heap_calls.specs.Answer.{h_lock, h_unlock, change_flags, move_hhi, hlock_hi, noting, silent};
+ghost use Rattle.heap_calls.specs.Given.{IsAnswer, seen_mover};
+ghost use Rattle.heap_calls.specs.Answer.{h_lock, h_unlock, move_hhi, hlock_hi, noting, silent};
 
-use crate::heap::{Heap, find_block};
+use crate::heap::Heap;
 use crate::name::slot_of;
 use crate::refusal::Refusal;
-use block_store::{BlockStore, Flags, Named, Seen};
+use block_store::{BlockStore, Named, Seen};
 use mac_words::OsErr;
 
 impl<S: BlockStore> Heap<S> {
@@ -16,7 +16,7 @@ impl<S: BlockStore> Heap<S> {
         ensures answer { IsAnswer (noting (h_lock handle) self.old) result self.new }
         ensures host { result ≢ Err Refusal.HostMemory }
     {
-        let answer = self.set_lock(handle, true);
+        let answer = self.set_flags(handle, Some(true), None);
         self.note(answer)
     }
 
@@ -25,7 +25,7 @@ impl<S: BlockStore> Heap<S> {
         ensures answer { IsAnswer (noting (h_unlock handle) self.old) result self.new }
         ensures host { result ≢ Err Refusal.HostMemory }
     {
-        let answer = self.set_lock(handle, false);
+        let answer = self.set_flags(handle, Some(false), None);
         self.note(answer)
     }
 
@@ -45,23 +45,6 @@ impl<S: BlockStore> Heap<S> {
     {
         let answer = self.lock_high(handle);
         self.note(answer)
-    }
-
-    /// Locks a handle's block, or unlocks it.
-    fn set_lock(&mut self, handle: Option<usize>, locked: bool) -> Result<(), Refusal>
-        ensures answer { IsAnswer (silent (change_flags (λ f. record f { locked = locked }) handle) self.old) result self.new }
-        ensures host { result ≢ Err Refusal.HostMemory }
-    {
-        let place = find_block(&self.store, &self.names, handle)?;
-        let Some(flags) = flags_of(self.store.block_at(place)) else {
-            return Ok(());
-        };
-        let changed = Flags {
-            locked,
-            purgeable: flags.purgeable,
-        };
-        self.store.set_flags(place, changed);
-        Ok(())
     }
 
     /// Moves a handle's block to the top of its run.
@@ -89,23 +72,13 @@ impl<S: BlockStore> Heap<S> {
         ensures host { result ≢ Err Refusal.HostMemory }
     {
         self.move_high(handle)?;
-        self.set_lock(handle, true)?;
+        self.set_flags(handle, Some(true), None)?;
         Ok(())
     }
 }
 
-/// The flags of a block that was looked at, where it is a relocatable one.
-fn flags_of(seen: Option<Seen>) -> Option<Flags>
-    ensures { result ≡ seen_flags seen }
-{
-    match seen {
-        Some(Seen::Relocatable(_, flags, _)) => Some(flags),
-        _ => None,
-    }
-}
-
 /// Whether a block that was looked at is an unlocked relocatable one.
-pub(crate) fn can_move(seen: Option<Seen>) -> bool
+pub fn can_move(seen: Option<Seen>) -> bool
     ensures { result ≡ seen_mover seen }
 {
     match seen {

@@ -2,6 +2,7 @@
 
 ghost use Rattle.std.specs.Prelude.{◌≡◌, slice_get, option_and_then, Some, None, Err};
 ghost use Rattle.heap_calls.specs.Given.{slot_of};
+ghost use Rattle.heap_calls.specs.Pointing.{target_of};
 
 use crate::refusal::Refusal;
 use mac_words::OsErr;
@@ -24,6 +25,13 @@ pub struct Found {
     pub slot: u32,
 }
 
+/// A pointer that was looked up, and the place of its block.
+#[derive(Clone, Copy, Debug, PartialEq, Eq)]
+pub struct Target {
+    pub number: usize,
+    pub place: u32,
+}
+
 /// The slot of the handle that a name is bound to.
 pub fn slot_of(names: &[Entry], handle: Option<usize>) -> Result<Found, Refusal>
     ensures { result ≡ slot_of handle names.now }
@@ -38,5 +46,22 @@ pub fn slot_of(names: &[Entry], handle: Option<usize>) -> Result<Found, Refusal>
             slot: *slot,
         }),
         Some(_) => Err(Refusal::Code(OsErr::WRONG_ZONE)),
+    }
+}
+
+/// The place of the block of the pointer that a name is bound to.
+pub fn target_of(names: &[Entry], pointer: Option<usize>) -> Result<Target, Refusal>
+    ensures { result ≡ target_of pointer names.now }
+{
+    let Some(number) = pointer else {
+        return Err(Refusal::Code(OsErr::NIL_HANDLE));
+    };
+    match names.get(number) {
+        None => Err(Refusal::Code(OsErr::NIL_HANDLE)),
+        Some(Entry::Pointer(place)) => Ok(Target {
+            number,
+            place: *place,
+        }),
+        Some(Entry::Handle(_) | Entry::Disposed) => Err(Refusal::Code(OsErr::WRONG_ZONE)),
     }
 }

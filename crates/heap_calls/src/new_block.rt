@@ -1,36 +1,83 @@
 //! New relocatable blocks.
 
-ghost use Rattle.std.specs.Prelude.{IsErr, IsTrue};
-ghost use Rattle.heap_calls.specs.NewBlock.{IsNewBlock};
+ghost use Rattle.heap_calls.specs.Numbered.{KeepsFixed};
+ghost use Rattle.std.specs.Prelude.{◌≡◌, ◌≤◌, false, IfOk, OnErr, IsErr, IsTrue};
+ghost use Rattle.block_store.specs.Block.{is_relocatable};
+ghost use Rattle.block_store.specs.Rest.{KeepsSlots};
+ghost use Rattle.block_store.specs.Run.{has};
+ghost use Rattle.block_store.specs.Slot.{is_used};
+ghost use Rattle.heap_calls.specs.NewBlock.{IsAdded, IsNewBlock, given_back, new_searches, place_searches};
+ghost use Rattle.heap_calls.specs.NewSlot.{HasMore};
 
-use crate::search::make_room;
+use crate::base::{Taken, make_slot};
+use crate::search::{Room, make_room};
 use block_store::{BlockStore, Named};
 use mac_words::phys;
 use std::alloc::AllocError;
 
-/// Puts a new block of `size` bytes 0 where there is room, and answers its slot; `None` where it would be
-/// too large, no slot is unused, or there is no room.
+/// Puts a new block of `size` bytes 0 where there is room, and answers its place; `None` where it would be
+/// too large or there is no room. The slot that it was to have is then unused again.
 ///
 /// *Inside Macintosh: Memory*, chapter 1, "Allocating Blocks of Memory".
-pub fn add_block<S: BlockStore>(store: &mut S, size: u32) -> Result<Option<u32>, AllocError>
-    ensures answer { IsNewBlock size (S.zone store.old) (S.rest store.old) result (S.zone store.new) (S.rest store.new) }
+fn add_block<S: BlockStore>(
+    store: &mut S,
+    slot: u32,
+    size: u32,
+    named: Named,
+) -> Result<Room, AllocError>
+    requires used { IsTrue (is_used ((S.rest store.old).slots slot)) }
+    requires none { has (is_relocatable slot) (S.zone store.old) ≡ false }
+    ensures added { IfOk result (λ r. IsAdded named slot size (S.zone store.old) (S.rest store.old) r.place (S.zone store.new) (S.rest store.new)) }
+    ensures kept { OnErr result (KeepsSlots (given_back slot (S.rest store.old)) (S.rest store.new)) }
+    ensures searches { IfOk result (λ r. r.searches ≡ place_searches named size (S.zone store.old)) }
+    ensures fixed { KeepsFixed (S.zone store.old) (S.zone store.new) }
+    ensures few { IfOk result (λ r. r.searches ≤ 134217729) }
     ensures host { IsErr result → IsTrue S.TAKES_HOST }
 {
     let Some(bytes) = phys(size) else {
-        return Ok(None);
-    };
-    let Some(slot) = store.take_slot() else {
-        return Ok(None);
-    };
-    let Some(place) = make_room(store, bytes, Named::Nothing).place else {
         store.give_slot(slot);
-        return Ok(None);
+        return Ok(Room {
+            place: None,
+            searches: 0,
+        });
+    };
+    let room = make_room(store, bytes, named);
+    let Some(place) = room.place else {
+        store.give_slot(slot);
+        return Ok(room);
     };
     match store.carve(place, slot, size) {
-        Ok(()) => Ok(Some(slot)),
+        Ok(()) => Ok(room),
         Err(error) => {
             store.give_slot(slot);
             Err(error)
         }
     }
+}
+
+/// Puts a new block of `size` bytes 0 where there is room, for a slot of its own, and answers that; `None`
+/// where no slot can be had, the block would be too large, or there is no room.
+pub fn new_block<S: BlockStore>(store: &mut S, size: u32, named: Named) -> Result<Taken, AllocError>
+    ensures answer { IfOk result (λ r. IsNewBlock named size (S.zone store.old) (S.rest store.old) r.slot (S.zone store.new) (S.rest store.new)) }
+    ensures kept { OnErr result (HasMore (S.rest store.old) (S.rest store.new)) }
+    ensures fixed { KeepsFixed (S.zone store.old) (S.zone store.new) }
+    ensures searches { IfOk result (λ r. r.searches ≡ new_searches named size (S.rest store.old).unused (S.zone store.old)) }
+    ensures host { IsErr result → IsTrue S.TAKES_HOST }
+{
+    let taken = make_slot(store, named)?;
+    let Some(slot) = taken.slot else {
+        return Ok(taken);
+    };
+    let room = add_block(store, slot, size, named)?;
+    let searches = taken.searches + room.searches;
+    let Some(_) = room.place else {
+        return Ok(Taken {
+            slot: None,
+            searches,
+        });
+    };
+    Ok(Taken {
+        slot: Some(slot),
+        searches,
+    })
 }

@@ -6,6 +6,7 @@ ghost use Rattle.block_store.specs.Run.{has};
 ghost use Rattle.block_store.specs.Room.{place};
 ghost use Rattle.block_store.specs.Named.{purged};
 ghost use Rattle.block_store.specs.Rest.{KeepsSlots};
+ghost use Rattle.heap_calls.specs.Numbered.{KeepsFixed};
 ghost use Rattle.heap_calls.specs.Search.{FindsSeat, IsAt, seat, seat_searches};
 
 use block_store::{BlockStore, Named};
@@ -69,6 +70,7 @@ fn take_seat<S: BlockStore>(store: &mut S, bytes: u32, purges: u32, named: Named
     requires found { FindsSeat bytes (purged purges named (S.zone store.old)) (Some seat) }
     ensures place { IsAt (place bytes (purged purges named (S.zone store.old))) (S.zone store.new) (Some result) }
     ensures kept { (number : ℕ) → has (is_relocatable number) (S.zone store.old) ≡ false → has (is_relocatable number) (S.zone store.new) ≡ false }
+    ensures fixed { KeepsFixed (S.zone store.old) (S.zone store.new) }
     ensures rest { KeepsSlots (S.rest store.old) (S.rest store.new) }
 {
     store.purge(purges, named);
@@ -90,7 +92,9 @@ pub fn make_room<S: BlockStore>(store: &mut S, bytes: u32, named: Named) -> Room
     ensures place { IsAt (seat bytes named (S.zone store.old)) (S.zone store.new) result.place }
     ensures none { MatchOption result.place (S.zone store.new ≡ S.zone store.old) (λ _. Unit {0}) }
     ensures kept { (number : ℕ) → has (is_relocatable number) (S.zone store.old) ≡ false → has (is_relocatable number) (S.zone store.new) ≡ false }
+    ensures fixed { KeepsFixed (S.zone store.old) (S.zone store.new) }
     ensures searches { result.searches ≡ seat_searches bytes named (S.zone store.old) }
+    ensures few { result.searches ≤ 134217729 }
     ensures rest { KeepsSlots (S.rest store.old) (S.rest store.new) }
 {
     let found = find_seat(store, bytes, named);

@@ -5,16 +5,21 @@ ghost use Rattle.mac_words.specs.Size.{phys as physical_size};
 ghost use Rattle.block_store.specs.Block.{is_relocatable};
 ghost use Rattle.block_store.specs.Find.{FindsLowest};
 ghost use Rattle.block_store.specs.Grow.{grow};
-ghost use Rattle.block_store.specs.Rest.{KeepsSlots};
+ghost use Rattle.block_store.specs.Rest.{KeepsSlots, counted};
+ghost use Rattle.heap_calls.specs.Reaching.{sized_reply};
 ghost use Rattle.heap_calls.specs.GrowingInPlace.{made_zone};
+ghost use Rattle.heap_calls.specs.Numbered.{KeepsFixed};
 ghost use Rattle.heap_calls.specs.Given.{IsAnswer, KeepsNames};
-ghost use Rattle.heap_calls.specs.Answer.{set_handle_size, noting, silent};
+ghost use Rattle.heap_calls.specs.Answer.{set_handle_size, noting, silent, searching};
+ghost use Rattle.heap_calls.specs.Searches.{size_searches, set_handle_size_searches};
+ghost use Rattle.heap_calls.specs.Growing.{Spares, Stays, fitted};
+ghost use Rattle.block_store.specs.Named.{spared};
 
-use crate::growing::grow_movable;
-use crate::growing_in_place::{bytes_at, grow_in_place};
+use crate::growing::{bytes_of, grow_movable};
+use crate::growing_in_place::{Grown, grow_in_place};
 use crate::heap::Heap;
 use crate::locking::can_move;
-use crate::name::slot_of;
+use crate::reaching::reach;
 use crate::refusal::Refusal;
 use block_store::{BlockStore, Named};
 use mac_words::{OsErr, phys};
@@ -26,7 +31,7 @@ impl<S: BlockStore> Heap<S> {
     ///
     /// *Inside Macintosh: Memory*, chapter 2, "Changing the Sizes of Relocatable and Nonrelocatable Blocks".
     pub fn set_handle_size(&mut self, handle: Option<usize>, size: u32) -> Result<(), Refusal>
-        ensures answer { IsAnswer (noting (set_handle_size handle size) self.old) result self.new }
+        ensures answer { IsAnswer (searching (set_handle_size_searches handle size self.old.heap) (noting (set_handle_size handle size) self.old)) result self.new }
         ensures host { result ≡ Err Refusal.HostMemory → IsTrue S.TAKES_HOST }
         ensures kept { result ≡ Err Refusal.HostMemory → KeepsNames self.old self.new }
     {
@@ -36,49 +41,91 @@ impl<S: BlockStore> Heap<S> {
 
     /// Gives a handle another size.
     fn give_size(&mut self, handle: Option<usize>, size: u32) -> Result<(), Refusal>
-        ensures answer { IsAnswer (silent (set_handle_size handle size) self.old) result self.new }
+        ensures answer { IsAnswer (searching (set_handle_size_searches handle size self.old.heap) (silent (set_handle_size handle size) self.old)) result self.new }
         ensures host { result ≡ Err Refusal.HostMemory → IsTrue S.TAKES_HOST }
         ensures kept { result ≡ Err Refusal.HostMemory → KeepsNames self.old self.new }
     {
-        let found = slot_of(&self.names, handle)?;
-        let Some(place) = self.store.place_of(found.slot) else {
-            return Err(Refusal::Code(OsErr::NIL_HANDLE));
-        };
-        if phys(size).is_none() {
-            return Err(Refusal::Code(OsErr::MEM_FULL));
+        // The count of looks is known to fit its type once it is read.
+        let _searches = self.log.searches;
+        let held = reach(&self.store, &self.names, handle)?;
+        let named = Named::One(held.slot);
+        let grown = fit_block(&mut self.store, held.slot, held.place, size, named)?;
+        self.account(grown)
+    }
+
+    /// Counts the looks that a growth took, and answers whether there was room.
+    pub(crate) fn account(&mut self, grown: Grown) -> Result<(), Refusal>
+        ensures reply { result ≡ sized_reply grown.done }
+        ensures counted { self.new ≡ record self.old { log = record self.old.log { searches = counted self.old.log.searches grown.searches } } }
+    {
+        self.log.count(grown.searches);
+        if grown.done {
+            Ok(())
+        } else {
+            Err(Refusal::Code(OsErr::MEM_FULL))
         }
-        let done = resize_block(&mut self.store, found.slot, place, size)?;
-        if !done {
-            return Err(Refusal::Code(OsErr::MEM_FULL));
-        }
-        Ok(())
     }
 }
 
-/// Gives the block of a slot, which stands at a place, another size: cuts it where it stands, or lets it grow,
-/// where it stands if it is locked. Answers whether there was room.
-fn resize_block<S: BlockStore>(
+/// Gives the block of a slot, which stands at a place, another size, if a block can have that.
+fn fit_block<S: BlockStore>(
     store: &mut S,
     slot: u32,
     place: u32,
     size: u32,
-) -> Result<bool, AllocError>
-    requires fits { IsSome (physical_size size) }
+    named: Named,
+) -> Result<Grown, AllocError>
+    requires spared { Spares named (is_relocatable slot) }
+    requires stays { Stays named (is_relocatable slot) }
     requires found { FindsLowest (is_relocatable slot) (S.zone store.old) (Some place) }
-    ensures zone { IfOk result (λ done. grow (is_relocatable slot) (is_relocatable slot) size (S.zone store.old) ≡ made_zone done (S.zone store.new)) }
-    ensures full { IfOk result (λ done. done ≡ false → S.zone store.new ≡ S.zone store.old) }
+    ensures zone { IfOk result (λ grown. fitted (is_relocatable slot) (spared named) size (S.zone store.old) ≡ made_zone grown.done (S.zone store.new)) }
+    ensures full { IfOk result (λ grown. grown.done ≡ false → S.zone store.new ≡ S.zone store.old) }
+    ensures searches { IfOk result (λ grown. grown.searches ≡ size_searches (is_relocatable slot) (spared named) size (S.zone store.old)) }
+    ensures fixed { KeepsFixed (S.zone store.old) (S.zone store.new) }
+    ensures rest { KeepsSlots (S.rest store.old) (S.rest store.new) }
+    ensures host { IsErr result → IsTrue S.TAKES_HOST }
+{
+    if phys(size).is_none() {
+        return Ok(Grown {
+            done: false,
+            searches: 0,
+        });
+    }
+    resize_block(store, slot, place, size, named)
+}
+
+/// Gives the block of a slot, which stands at a place, another size: cuts it where it stands, or lets it grow,
+/// where it stands if it is locked.
+pub fn resize_block<S: BlockStore>(
+    store: &mut S,
+    slot: u32,
+    place: u32,
+    size: u32,
+    named: Named,
+) -> Result<Grown, AllocError>
+    requires fits { IsSome (physical_size size) }
+    requires spared { Spares named (is_relocatable slot) }
+    requires stays { Stays named (is_relocatable slot) }
+    requires found { FindsLowest (is_relocatable slot) (S.zone store.old) (Some place) }
+    ensures zone { IfOk result (λ grown. grow (is_relocatable slot) (spared named) size (S.zone store.old) ≡ made_zone grown.done (S.zone store.new)) }
+    ensures full { IfOk result (λ grown. grown.done ≡ false → S.zone store.new ≡ S.zone store.old) }
+    ensures searches { IfOk result (λ grown. grown.searches ≡ size_searches (is_relocatable slot) (spared named) size (S.zone store.old)) }
+    ensures fixed { KeepsFixed (S.zone store.old) (S.zone store.new) }
     ensures rest { KeepsSlots (S.rest store.old) (S.rest store.new) }
     ensures host { IsErr result → IsTrue S.TAKES_HOST }
 {
     let Some(bytes) = phys(size) else {
         unreachable!()
     };
-    if bytes <= bytes_at(store, place) {
+    if bytes <= bytes_of(store, slot) {
         store.resize(place, size)?;
-        return Ok(true);
+        return Ok(Grown {
+            done: true,
+            searches: 0,
+        });
     }
     if can_move(store.block_at(place)) {
-        return grow_movable(store, slot, size);
+        return grow_movable(store, slot, size, named);
     }
-    grow_in_place(store, place, size, Named::One(slot))
+    grow_in_place(store, place, size, named)
 }

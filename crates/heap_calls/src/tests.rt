@@ -53,17 +53,86 @@ fn refuses_names_that_are_no_handles(rt: HostRuntime) -> Result<(), Fail> {
 }
 
 #[test]
-fn has_64_slots(rt: HostRuntime) -> Result<(), Fail> {
+fn makes_64_slots_more_where_all_are_used(rt: HostRuntime) -> Result<(), Fail> {
     let store = ListStore::new(rt.alloc(), 4096)?;
     let mut heap = Heap::new(rt.alloc(), store);
     for _ in 0..64 {
         assert!(rt; heap.new_handle(0).is_ok());
     }
     assert_eq!(rt; heap.free_mem(), 2800);
-    assert_eq!(rt; heap.new_handle(0), Err(Refusal::Code(OsErr::MEM_FULL)));
-    assert_eq!(rt; heap.free_mem(), 2800);
+    assert_eq!(rt; heap.new_handle(0), Ok(64));
+    assert_eq!(rt; heap.free_mem(), 2512);
+    assert_eq!(rt; heap.place_of(Some(0)), Ok(560));
     assert_eq!(rt; heap.dispose_handle(Some(5)), Ok(()));
-    let again = heap.new_handle(0);
-    assert_eq!(rt; again, Ok(64));
+    assert_eq!(rt; heap.new_handle(0), Ok(65));
+    assert_eq!(rt; heap.free_mem(), 2512);
+    Ok(())
+}
+
+#[test]
+fn looks_for_room_are_counted(rt: HostRuntime) -> Result<(), Fail> {
+    let store = ListStore::new(rt.alloc(), 1024)?;
+    let mut heap = Heap::new(rt.alloc(), store);
+    assert_eq!(rt; heap.searches(), 0);
+    let a = heap.new_handle(300).ok();
+    let b = heap.new_handle(300).ok();
+    assert_eq!(rt; heap.searches(), 2);
+    assert_eq!(rt; heap.h_purge(a), Ok(()));
+    assert_eq!(rt; heap.searches(), 2);
+    // No room, and then with a emptied.
+    assert!(rt; heap.new_handle(200).is_ok());
+    assert_eq!(rt; heap.searches(), 4);
+    // No room, and nothing left to empty.
+    assert_eq!(rt; heap.new_handle(737), Err(Refusal::Code(OsErr::MEM_FULL)));
+    assert_eq!(rt; heap.searches(), 5);
+    // A size that no block can have, and a block that is cut, take no look.
+    assert_eq!(rt;
+        heap.new_handle(2147483647),
+        Err(Refusal::Code(OsErr::MEM_FULL))
+    );
+    assert_eq!(rt; heap.set_handle_size(b, 100), Ok(()));
+    assert_eq!(rt; heap.searches(), 5);
+    // A Free block stands already.
+    assert_eq!(rt; heap.compact_mem(16), 288);
+    assert_eq!(rt; heap.searches(), 6);
+    assert_eq!(rt; heap.purge_mem(5000), Err(Refusal::Code(OsErr::MEM_FULL)));
+    assert_eq!(rt; heap.searches(), 7);
+    // All runs are settled: there is one with blocks.
+    assert_eq!(rt; heap.compact_mem(5000), 384);
+    assert_eq!(rt; heap.searches(), 9);
+    Ok(())
+}
+
+#[test]
+fn pointers_and_handles_are_told_apart(rt: HostRuntime) -> Result<(), Fail> {
+    let store = ListStore::new(rt.alloc(), 1024)?;
+    let mut heap = Heap::new(rt.alloc(), store);
+    let p = heap.new_pointer(20).ok();
+    let h = heap.new_handle(20).ok();
+    assert_eq!(rt; heap.place_of(p), Ok(288));
+    assert_eq!(rt; heap.put_pointer(p, 18, b"xy"), Ok(()));
+    assert_eq!(rt;
+        heap.put_pointer(p, 19, b"xy"),
+        Err(Refusal::Code(OsErr::PROFILE))
+    );
+    assert_eq!(rt;
+        heap.get_pointer_size(h),
+        Err(Refusal::Code(OsErr::WRONG_ZONE))
+    );
+    assert_eq!(rt;
+        heap.get_handle_size(p),
+        Err(Refusal::Code(OsErr::WRONG_ZONE))
+    );
+    assert_eq!(rt;
+        heap.get_pointer_size(None),
+        Err(Refusal::Code(OsErr::NIL_HANDLE))
+    );
+    assert_eq!(rt; heap.dispose_pointer(p), Ok(()));
+    assert_eq!(rt; heap.place_of(p), Err(Refusal::Code(OsErr::WRONG_ZONE)));
+    assert_eq!(rt;
+        heap.get_pointer_size(p),
+        Err(Refusal::Code(OsErr::WRONG_ZONE))
+    );
+    assert_eq!(rt; heap.place_of(h), Ok(336));
     Ok(())
 }

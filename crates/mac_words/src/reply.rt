@@ -49,6 +49,24 @@ impl Reply {
         }
     }
 
+    /// Code 0 and two numbers.
+    pub fn pair(one: u32, other: u32) -> Reply
+        ensures code { result.code ≡ OsErr.NO_ERR }
+        ensures numbers { result.numbers.items ≡ pos one ∷ pos other ∷ [] }
+        ensures ty { result.ty ≡ None }
+        ensures name { result.name ≡ None }
+    {
+        let mut numbers = ArrayVec::new();
+        numbers.push(one as i64);
+        numbers.push(other as i64);
+        Reply {
+            code: OsErr::NO_ERR,
+            numbers,
+            ty: None,
+            name: None,
+        }
+    }
+
     /// Code 0 and a number.
     pub fn number(number: u32) -> Reply
         ensures code { result.code ≡ OsErr.NO_ERR }

@@ -11,6 +11,7 @@ use Rattle.script_text.specs.Token.{after_blanks, token_at}
 pub data Kind : Type 0 where
   Name : Kind
   Size : Kind
+  Byte : Kind
   Bytes : Kind
 
 -- what an argument says
@@ -76,6 +77,7 @@ bytes (c ∷ rest) = if c == 34 then unquoted rest else if c == 36 then hex_byte
 abbrev pub value : Kind → List ℕ → Option Value
 value Name token = option_map Letters (name token)
 value Size token = option_map Number (number 10 2147483647 token)
+value Byte token = option_map Number (number 3 255 token)
 value Bytes token = option_map Raw (bytes token)
 
 -- the argument of this kind at the front, and the text behind it

@@ -2,7 +2,7 @@
 
 ghost use Rattle.std.specs.Prelude.{◌≡◌, is_some, IfOk};
 ghost use Rattle.std.specs.List.{list_all};
-ghost use Rattle.script_text.specs.Argument.{Kind, Name, Size, Bytes, Value, Letters, Number, Raw, is_name_byte as is_name_byte_of, begins_name as begins_name_of, name, number, number_within, digit, byte_at, hex_bytes, bytes as bytes_of, value};
+ghost use Rattle.script_text.specs.Argument.{Kind, Name, Size, Byte, Bytes, Value, Letters, Number, Raw, is_name_byte as is_name_byte_of, begins_name as begins_name_of, name, number, number_within, digit, byte_at, hex_bytes, bytes as bytes_of, value};
 ghost use Rattle.script_text.specs.Reading.{Finds};
 
 use arrayvec::ArrayVec;
@@ -144,6 +144,17 @@ impl Argument for u32 {
 
     fn find(_alloc: Global, token: &[u8]) -> Result<Option<Self>, AllocError> {
         Ok(number_in(token, 10, 2_147_483_647))
+    }
+}
+
+impl Argument for u8 {
+    ghost kind = { Byte };
+
+    ghost seen = { λ byte. Number byte };
+
+    fn find(_alloc: Global, token: &[u8]) -> Result<Option<Self>, AllocError> {
+        let found = number_in(token, 3, 255);
+        Ok(found.map(|number| number as u8))
     }
 }
 

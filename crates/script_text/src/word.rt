@@ -14,19 +14,40 @@ use std::alloc::Global;
 #[derive(Clone, Copy, Debug, PartialEq, Eq)]
 pub enum Word {
     NewHandle,
+    NewEmptyHandle,
     DisposeHandle,
     GetHandleSize,
     SetHandleSize,
+    ReallocateHandle,
+    EmptyHandle,
     HLock,
     HUnlock,
+    HPurge,
+    HNoPurge,
+    HGetState,
+    HSetState,
     MoveHHi,
     HLockHi,
+    HandToHand,
+    HandAndHand,
+    PtrAndHand,
+    NewPtr,
+    DisposePtr,
+    GetPtrSize,
+    SetPtrSize,
     FreeMem,
     MaxBlock,
+    PurgeSpace,
     CompactMem,
+    PurgeMem,
+    MaxMem,
+    ReserveMem,
+    MoreMasters,
     MemError,
     Put,
     Show,
+    PutPtr,
+    ShowPtr,
     Where,
 }
 
@@ -35,20 +56,41 @@ macro_rules! calls {
     ($part:ident $($given:expr),*) => {
         $part! { $($given),* ;
             NewHandle = Heap HeapCall two(h, size);
+            NewEmptyHandle = Heap HeapCall one(h);
             DisposeHandle = Heap HeapCall one(h);
             GetHandleSize = Heap HeapCall one(h);
             SetHandleSize = Heap HeapCall two(h, size);
+            ReallocateHandle = Heap HeapCall two(h, size);
+            EmptyHandle = Heap HeapCall one(h);
             HLock = Heap HeapCall one(h);
             HUnlock = Heap HeapCall one(h);
+            HPurge = Heap HeapCall one(h);
+            HNoPurge = Heap HeapCall one(h);
+            HGetState = Heap HeapCall one(h);
+            HSetState = Heap HeapCall two(h, byte);
             MoveHHi = Heap HeapCall one(h);
             HLockHi = Heap HeapCall one(h);
+            HandToHand = Heap HeapCall two(b, a);
+            HandAndHand = Heap HeapCall two(a, b);
+            PtrAndHand = Heap HeapCall two(h, bytes);
+            NewPtr = Heap HeapCall two(p, size);
+            DisposePtr = Heap HeapCall one(p);
+            GetPtrSize = Heap HeapCall one(p);
+            SetPtrSize = Heap HeapCall two(p, size);
             FreeMem = Heap HeapCall none();
             MaxBlock = Heap HeapCall none();
+            PurgeSpace = Heap HeapCall none();
             CompactMem = Heap HeapCall one(size);
+            PurgeMem = Heap HeapCall one(size);
+            MaxMem = Heap HeapCall none();
+            ReserveMem = Heap HeapCall one(size);
+            MoreMasters = Heap HeapCall none();
             MemError = Heap HeapCall none();
             Put = Heap HeapCall three(h, offset, bytes);
             Show = Heap HeapCall one(h);
-            Where = Heap HeapCall one(h);
+            PutPtr = Heap HeapCall three(p, offset, bytes);
+            ShowPtr = Heap HeapCall one(p);
+            Where = Heap HeapCall one(name);
         }
     };
 }
@@ -89,7 +131,7 @@ macro_rules! word_of_call {
     };
 }
 
-static WORDS: [Word; 15] = calls!(words);
+static WORDS: [Word; 36] = calls!(words);
 
 impl Word {
     /// The word of a call.

@@ -1,32 +1,43 @@
-use Rattle.std.proofs.Common.{sym, ◌∙◌, arith, inl, inr}
+use Rattle.std.proofs.Common.{◌≡◌, ◌+◌, refl, sym, ◌∙◌, arith, inl, inr}
 use Rattle.block_store.specs.Run.{runs}
 use Rattle.block_store.specs.Compact.{runs_settled}
 use Rattle.block_store.proofs.Zones.{joined-segments}
 use Rattle.heap_calls.proofs.Hoisting.{rest-same}
 use Rattle.heap_calls.proofs.Settling.{settled-next, moves-next, keeps-next, next-within, next-past, none-next, settled-enough, zone-end, moves-end, runs-few}
+use Rattle.heap_calls.proofs.Stretches.{stretches-end, stretches-next, stretches-le}
 use Rattle.heap_calls.proofs.compaction.compact.Goals as goal
 
 pub loop-bytes-init : goal.loop-bytes-init
 loop-bytes-init g c =
     let start = g.S.BlockStore.zone c.args.store.now in
-    record { within = omega arith; zone = sym (joined-segments start); moves = omega arith; rest = rest-same (g.S.BlockStore.rest c.args.store.now); none = λ j less. absurd (omega arith) }
+    record { within = omega arith; zone = sym (joined-segments start); moves = omega arith; rest = rest-same (g.S.BlockStore.rest c.args.store.now); stretches = refl; none = λ j less. absurd (omega arith) }
 
 pub returns-in_default-clause-runs : goal.returns-in_default-clause-runs
 returns-in_default-clause-runs g c =
     let start = g.S.BlockStore.zone c.args.store.now in
     let zone = g.S.BlockStore.zone c.loop-bytes.store in
+    let k = c.loop-bytes.index in
     let i = c.loop-bytes.invariant in
-    sym (settled-enough c.args.bytes start zone c.loop-bytes.index i.zone i.within i.none (inr (next-past c.loop-bytes.index start zone i.zone c.in_default.ensures)))
+    let all : k ≡ runs_settled c.args.bytes start = sym (settled-enough c.args.bytes start zone k i.zone i.within i.none (inr (next-past k start zone i.zone c.in_default.ensures))) in
+    stretches-end c.loop-bytes.stretches (runs_settled c.args.bytes start) k (runs start) i.stretches all
 
 pub returns-in_default-clause-zone : goal.returns-in_default-clause-zone
 returns-in_default-clause-zone g c =
     let start = g.S.BlockStore.zone c.args.store.now in
-    zone-end c.loop-bytes.index (runs_settled c.args.bytes start) start (g.S.BlockStore.zone c.loop-bytes.store) c.loop-bytes.invariant.zone (returns-in_default-clause-runs g c)
+    let zone = g.S.BlockStore.zone c.loop-bytes.store in
+    let k = c.loop-bytes.index in
+    let i = c.loop-bytes.invariant in
+    let all : k ≡ runs_settled c.args.bytes start = sym (settled-enough c.args.bytes start zone k i.zone i.within i.none (inr (next-past k start zone i.zone c.in_default.ensures))) in
+    zone-end k (runs_settled c.args.bytes start) start zone i.zone all
 
 pub returns-in_default-clause-moves : goal.returns-in_default-clause-moves
 returns-in_default-clause-moves g c =
     let start = g.S.BlockStore.zone c.args.store.now in
-    moves-end c.loop-bytes.index (runs_settled c.args.bytes start) (g.S.BlockStore.rest c.args.store.now).moves (g.S.BlockStore.rest c.loop-bytes.store).moves (runs start) c.loop-bytes.invariant.moves (returns-in_default-clause-runs g c)
+    let zone = g.S.BlockStore.zone c.loop-bytes.store in
+    let k = c.loop-bytes.index in
+    let i = c.loop-bytes.invariant in
+    let all : k ≡ runs_settled c.args.bytes start = sym (settled-enough c.args.bytes start zone k i.zone i.within i.none (inr (next-past k start zone i.zone c.in_default.ensures))) in
+    moves-end k (runs_settled c.args.bytes start) (g.S.BlockStore.rest c.args.store.now).moves (g.S.BlockStore.rest c.loop-bytes.store).moves (runs start) i.moves all
 
 pub overflow_add-index : goal.overflow_add-index
 overflow_add-index g c =
@@ -36,6 +47,17 @@ overflow_add-index g c =
     let few = runs-few start in
     let small = g.met.S.BlockStore.small c.args.store.now in
     omega arith
+
+pub overflow_add-stretches : goal.overflow_add-stretches
+overflow_add-stretches g c =
+    let start = g.S.BlockStore.zone c.args.store.now in
+    let zone = g.S.BlockStore.zone c.loop-bytes.store in
+    let k = c.loop-bytes.index in
+    let i = c.loop-bytes.invariant in
+    let found = c.in-Some.ensures in
+    let sum = stretches-next k c.in-Some.run' start zone c.block_at.result c.in_run.result c.from-stretches.result c.loop-bytes.stretches (g.met.S.BlockStore.tidied c.loop-bytes.store) i.zone found c.block_at.ensures c.in_run.ensures c.from-stretches.ensures i.stretches in
+    let within = next-within k c.in-Some.run' start zone i.zone found in
+    omega (arith, stretches-le (k + 1) (runs start), runs-few start, g.met.S.BlockStore.small c.args.store.now)
 
 pub loop-bytes-smaller : goal.loop-bytes-smaller
 loop-bytes-smaller g c =
@@ -60,23 +82,34 @@ loop-bytes-preserved g c =
       within = omega arith;
       zone = settled-next k c.in-Some.run' start zone zone' (g.met.S.BlockStore.tidied c.args.store.now) i.zone found c.settle.ensures.zone;
       moves = moves-next k c.in-Some.run' start zone first rest rest' i.zone found c.settle.ensures.rest i.moves;
+      stretches = stretches-next k c.in-Some.run' start zone c.block_at.result c.in_run.result c.from-stretches.result c.loop-bytes.stretches (g.met.S.BlockStore.tidied c.loop-bytes.store) i.zone found c.block_at.ensures c.in_run.ensures c.from-stretches.ensures i.stretches;
       rest = keeps-next c.in-Some.run' zone found.0 first rest rest' found.2 c.settle.ensures.rest i.rest;
-      none = none-next c.args.bytes start zone k i.zone (sym c.has_room.ensures ∙ c.loop-bytes-test.true) i.none;
+      none = none-next c.args.bytes start zone k i.zone (sym (c.has_room.ensures.now refl) ∙ c.loop-bytes-test.true) i.none;
     }
 
 pub returns-clause-runs : goal.returns-clause-runs
 returns-clause-runs g c =
     let start = g.S.BlockStore.zone c.args.store.now in
     let zone = g.S.BlockStore.zone c.loop-bytes.store in
+    let k = c.loop-bytes.index in
     let i = c.loop-bytes.invariant in
-    sym (settled-enough c.args.bytes start zone c.loop-bytes.index i.zone i.within i.none (inl (sym c.has_room.ensures ∙ c.loop-bytes-test.false)))
+    let all : k ≡ runs_settled c.args.bytes start = sym (settled-enough c.args.bytes start zone k i.zone i.within i.none (inl (sym (c.has_room.ensures.now refl) ∙ c.loop-bytes-test.false))) in
+    stretches-end c.loop-bytes.stretches (runs_settled c.args.bytes start) k (runs start) i.stretches all
 
 pub returns-clause-zone : goal.returns-clause-zone
 returns-clause-zone g c =
     let start = g.S.BlockStore.zone c.args.store.now in
-    zone-end c.loop-bytes.index (runs_settled c.args.bytes start) start (g.S.BlockStore.zone c.loop-bytes.store) c.loop-bytes.invariant.zone (returns-clause-runs g c)
+    let zone = g.S.BlockStore.zone c.loop-bytes.store in
+    let k = c.loop-bytes.index in
+    let i = c.loop-bytes.invariant in
+    let all : k ≡ runs_settled c.args.bytes start = sym (settled-enough c.args.bytes start zone k i.zone i.within i.none (inl (sym (c.has_room.ensures.now refl) ∙ c.loop-bytes-test.false))) in
+    zone-end k (runs_settled c.args.bytes start) start zone i.zone all
 
 pub returns-clause-moves : goal.returns-clause-moves
 returns-clause-moves g c =
     let start = g.S.BlockStore.zone c.args.store.now in
-    moves-end c.loop-bytes.index (runs_settled c.args.bytes start) (g.S.BlockStore.rest c.args.store.now).moves (g.S.BlockStore.rest c.loop-bytes.store).moves (runs start) c.loop-bytes.invariant.moves (returns-clause-runs g c)
+    let zone = g.S.BlockStore.zone c.loop-bytes.store in
+    let k = c.loop-bytes.index in
+    let i = c.loop-bytes.invariant in
+    let all : k ≡ runs_settled c.args.bytes start = sym (settled-enough c.args.bytes start zone k i.zone i.within i.none (inl (sym (c.has_room.ensures.now refl) ∙ c.loop-bytes-test.false))) in
+    moves-end k (runs_settled c.args.bytes start) (g.S.BlockStore.rest c.args.store.now).moves (g.S.BlockStore.rest c.loop-bytes.store).moves (runs start) i.moves all

@@ -2,6 +2,7 @@ use Rattle.std.proofs.Common.{◌≡◌, ℕ, ◌-◌, ◌<◌, ◌≤◌, lengt
 use Rattle.block_store.specs.Run.{runs}
 use Rattle.block_store.specs.Rest.{KeepsSlots, counted}
 use Rattle.block_store.specs.Compact.{has_room, settled, falls}
+use Rattle.heap_calls.specs.Searches.{stretches}
 use Rattle.heap_calls.proofs.compaction.compact.Given as goal
 
 -- so many runs are settled, and there was no room before the last of them was
@@ -11,6 +12,7 @@ invariant-loop-bytes g l = record {
   zone : g.S.BlockStore.zone l.store ≡ settled l.index (g.S.BlockStore.zone l.initial.store);
   moves : (g.S.BlockStore.rest l.store).moves ≡ counted (g.S.BlockStore.rest l.initial.store).moves (falls l.index (runs (g.S.BlockStore.zone l.initial.store)));
   rest : KeepsSlots (g.S.BlockStore.rest l.initial.store) (g.S.BlockStore.rest l.store);
+  stretches : l.stretches ≡ stretches l.index (runs (g.S.BlockStore.zone l.initial.store));
   none : (j : ℕ) → j < l.index → has_room l.bytes (settled j (g.S.BlockStore.zone l.initial.store)) ≡ false;
 }
 

@@ -1,67 +1,72 @@
-use Rattle.std.proofs.Common.{◌≡◌, ◌+◌, sym, ◌∙◌, ap, inr, refl, subst, List}
-use Rattle.block_store.specs.Block.{is_relocatable, Block}
+use Rattle.std.proofs.Common.{Some, None, ℕ, Option, sym, ◌∙◌, ap, subst, inr, refl}
+use Rattle.mac_words.specs.Size.{padded}
+use Rattle.block_store.specs.Block.{is_relocatable, is_fixed}
 use Rattle.block_store.specs.Run.{has}
-use Rattle.block_store.specs.Slot.{is_used}
-use Rattle.heap_calls.proofs.Changing.{phys-some}
-use Rattle.heap_calls.proofs.Seats.{no_seat-no_room, carve-room, carved-put, given-back, at_none}
-use Rattle.heap_calls.specs.Search.{seat, IsAt}
-use Rattle.block_store.specs.declared.named.Named.TheVariants as named
+use Rattle.block_store.specs.Rest.{KeepsSlots}
+use Rattle.heap_calls.specs.NewBlock.{IsAdded, fresh_block}
+use Rattle.heap_calls.proofs.Changing.{phys-some, fixed-carved}
+use Rattle.heap_calls.proofs.Seats.{no_seat-no_room, carve-room, carved-put, at_none, kept-back}
 use Rattle.heap_calls.proofs.new_block.add_block.Goals as goal
 
-pub returns-in_default-place-clause-answer : goal.returns-in_default-place-clause-answer
-returns-in_default-place-clause-answer g c =
+pub returns-in_default-place-clause-added : goal.returns-in_default-place-clause-added
+returns-in_default-place-clause-added g c =
     let zone = g.S.BlockStore.zone c.args.store.now in
-    let zone' = g.S.BlockStore.zone c.make_room.new.store in
-    let took = c.in-Some-take_slot.ensures in
+    let rest = g.S.BlockStore.rest c.args.store.now in
+    let room = c.make_room-room in
+    let zone1 = g.S.BlockStore.zone room.new.store in
+    let back = c.give_slot-in_default-place in
     let fits = phys-some c.args.size c.in-Some.bytes (sym c.phys.ensures ∙ c.in-Some.is) in
-    let same : zone' ≡ g.S.BlockStore.zone c.take_slot.new.self = at_none c.make_room.result.place _ _ c.in_default-place.is c.make_room.ensures.none in
-    let P : List Block → Type 0 = λ z. IsAt (seat c.in-Some.bytes named.Nothing z) zone' c.make_room.result.place in
-    let found : P zone = subst P took.zone c.make_room.ensures.place in (
-      c.give_slot.ensures.zone ∙ same ∙ took.zone,
-      given-back (g.S.BlockStore.rest c.args.store.now) (g.S.BlockStore.rest c.take_slot.new.self) (g.S.BlockStore.rest c.make_room.new.store) (g.S.BlockStore.rest c.give_slot.new.self)
-          c.in-Some-take_slot.slot took.was took.one took.rest c.make_room.ensures.rest c.give_slot.ensures.rest,
-      inr (inr (no_seat-no_room c.args.size c.in-Some.bytes fits.1 zone zone' c.make_room.result.place c.in_default-place.is found)),
-    )
+    let P : Option ℕ → Type 0 = λ o. IsAdded c.args.named c.args.slot c.args.size zone rest o (g.S.BlockStore.zone back.new.self) (g.S.BlockStore.rest back.new.self) in
+    let done : P None = (
+      inr (no_seat-no_room c.args.size c.in-Some.bytes fits.1 c.args.named zone zone1 room.result.place c.in_default-place.is room.ensures.place c.args.slot),
+      back.ensures.zone ∙ at_none room.result.place _ _ c.in_default-place.is room.ensures.none,
+      kept-back rest (g.S.BlockStore.rest room.new.store) (g.S.BlockStore.rest back.new.self) c.args.slot room.ensures.rest back.ensures.rest,
+    ) in
+    subst P (sym c.in_default-place.is) done
 
 pub carve-requires-clause-room : goal.carve-requires-clause-room
 carve-requires-clause-room g c =
     let fits = phys-some c.args.size c.in-Some.bytes (sym c.phys.ensures ∙ c.in-Some.is) in
-    carve-room c.args.size c.in-Some.bytes fits.1 (g.S.BlockStore.zone c.take_slot.new.self) (g.S.BlockStore.zone c.make_room.new.store) c.make_room.result.place c.in-Some-place.place c.in-Some-place.is c.make_room.ensures.place
+    carve-room c.args.size c.in-Some.bytes fits.1 c.args.named (g.S.BlockStore.zone c.args.store.now) (g.S.BlockStore.zone c.make_room-room.new.store) c.make_room-room.result.place c.in-Some-place.place c.in-Some-place.is c.make_room-room.ensures.place
 
 pub carve-requires-clause-no_block : goal.carve-requires-clause-no_block
-carve-requires-clause-no_block g c =
-    let took = c.in-Some-take_slot.ensures in
-    let slot = c.in-Some-take_slot.slot in
-    c.make_room.ensures.kept slot (ap (has (is_relocatable slot)) took.zone ∙ g.met.S.BlockStore.no_block c.args.store.now slot (ap is_used took.was))
+carve-requires-clause-no_block g c = c.make_room-room.ensures.kept c.args.slot c.requires.none
 
 pub give_slot-requires-in-Err-clause-no_block : goal.give_slot-requires-in-Err-clause-no_block
-give_slot-requires-in-Err-clause-no_block g c =
-    let took = c.in-Some-take_slot.ensures in
-    let slot = c.in-Some-take_slot.slot in
-    ap (has (is_relocatable slot)) c.in-Err.ensures.err ∙ c.make_room.ensures.kept slot (ap (has (is_relocatable slot)) took.zone ∙ g.met.S.BlockStore.no_block c.args.store.now slot (ap is_used took.was))
+give_slot-requires-in-Err-clause-no_block g c = ap (has (is_relocatable c.args.slot)) c.in-Err.ensures.err ∙ c.make_room-room.ensures.kept c.args.slot c.requires.none
 
-pub returns-in-Ok-clause-answer : goal.returns-in-Ok-clause-answer
-returns-in-Ok-clause-answer g c =
+pub returns-in-Ok-clause-added : goal.returns-in-Ok-clause-added
+returns-in-Ok-clause-added g c =
     let zone = g.S.BlockStore.zone c.args.store.now in
-    let zone' = g.S.BlockStore.zone c.make_room.new.store in
-    let took = c.in-Some-take_slot.ensures in
-    let room = c.make_room.ensures.rest in
-    let carved = c.in-Ok.ensures.rest in
-    let slot = c.in-Some-take_slot.slot in
+    let rest = g.S.BlockStore.rest c.args.store.now in
+    let room = c.make_room-room in
     let fits = phys-some c.args.size c.in-Some.bytes (sym c.phys.ensures ∙ c.in-Some.is) in
-    let P : List Block → Type 0 = λ z. IsAt (seat c.in-Some.bytes named.Nothing z) zone' c.make_room.result.place in
-    let found : P zone = subst P took.zone c.make_room.ensures.place in
-    record {
-      fits = fits.0;
-      was = took.was;
-      none = g.met.S.BlockStore.no_block c.args.store.now slot (ap is_used took.was);
-      put = carved-put c.args.size c.in-Some.bytes fits.1 zone zone' (g.S.BlockStore.zone c.carve.new.self) c.make_room.result.place c.in-Some-place.place slot c.in-Some-place.is found c.in-Ok.ensures.ok;
-      one = ap (λ n. n + 1) (carved.unused ∙ room.unused) ∙ took.one;
-      slots = record {
-        slots = λ k. carved.slots k ∙ room.slots k ∙ took.rest.slots k;
-        unused = refl;
-        all = carved.all ∙ room.all ∙ took.rest.all;
-        moves = refl;
-        window = carved.window ∙ room.window ∙ took.rest.window;
-      };
-    }
+    let zone' = g.S.BlockStore.zone c.carve.new.self in
+    let rest' = g.S.BlockStore.rest c.carve.new.self in
+    let carved = c.in-Ok.ensures.rest in
+    let P : Option ℕ → Type 0 = λ o. IsAdded c.args.named c.args.slot c.args.size zone rest o zone' rest' in
+    let kept : KeepsSlots rest rest' = record {
+      slots = λ k. carved.slots k ∙ room.ensures.rest.slots k;
+      unused = carved.unused ∙ room.ensures.rest.unused;
+      all = carved.all ∙ room.ensures.rest.all;
+      moves = refl;
+      window = carved.window ∙ room.ensures.rest.window;
+    } in
+    let done : P (Some c.in-Some-place.place) = (
+      fits.0,
+      carved-put c.args.size c.in-Some.bytes fits.1 c.args.named zone (g.S.BlockStore.zone room.new.store) zone' room.result.place c.in-Some-place.place c.args.slot c.in-Some-place.is room.ensures.place c.in-Ok.ensures.ok,
+      kept,
+    ) in
+    subst P (sym c.in-Some-place.is) done
+
+pub returns-in-Ok-clause-fixed : goal.returns-in-Ok-clause-fixed
+returns-in-Ok-clause-fixed g c place =
+    let room = c.make_room-room in
+    let fits = phys-some c.args.size c.in-Some.bytes (sym c.phys.ensures ∙ c.in-Some.is) in
+    let wide = carve-room c.args.size c.in-Some.bytes fits.1 c.args.named (g.S.BlockStore.zone c.args.store.now) (g.S.BlockStore.zone room.new.store) room.result.place c.in-Some-place.place c.in-Some-place.is room.ensures.place in
+    fixed-carved c.in-Some-place.place (padded c.args.size) (g.S.BlockStore.zone room.new.store) (g.S.BlockStore.zone c.carve.new.self) (fresh_block c.args.slot c.args.size) (λ p. refl) wide c.in-Ok.ensures.ok place
+    ∙ room.ensures.fixed place
+
+pub returns-in-Err-clause-fixed : goal.returns-in-Err-clause-fixed
+returns-in-Err-clause-fixed g c place =
+    ap (has (is_fixed place)) (c.give_slot-in-Err.ensures.zone ∙ c.in-Err.ensures.err) ∙ c.make_room-room.ensures.fixed place

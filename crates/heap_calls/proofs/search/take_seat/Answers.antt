@@ -1,9 +1,10 @@
 use Rattle.std.proofs.Common.{◌≡◌, Some, sym, ◌∙◌, ap, subst, refl}
-use Rattle.block_store.specs.Block.{is_room, tidy, is_relocatable}
+use Rattle.block_store.specs.Block.{is_room, tidy, is_relocatable, is_fixed}
 use Rattle.block_store.specs.Room.{spot}
 use Rattle.block_store.specs.Run.{settle, with_run, has, has_free}
 use Rattle.heap_calls.proofs.Absence.{none-purged, none-settled}
 use Rattle.block_store.specs.Named.{purged}
+use Rattle.heap_calls.proofs.Staying.{fixed-purged, fixed-run, none-settle}
 use Rattle.heap_calls.specs.Search.{FindsSeat}
 use Rattle.heap_calls.specs.declared.search.Seat.{Seat}
 use Rattle.heap_calls.specs.declared.search.Seat.TheVariants as see
@@ -36,3 +37,18 @@ returns-in-Some-clause-kept g c number none =
     ap (has (is_relocatable number)) after
     ∙ none-settled (is_relocatable number) (λ n. refl) (has_free c.args.bytes) zone r found.1.1
     (none-purged (is_relocatable number) (λ n. refl) c.args.purges c.args.named (g.S.BlockStore.zone c.args.store.now) none)
+
+pub returns-in-Free-clause-fixed : goal.returns-in-Free-clause-fixed
+returns-in-Free-clause-fixed g c place =
+    ap (has (is_fixed place)) c.purge.ensures.zone ∙ fixed-purged c.args.purges c.args.named (g.S.BlockStore.zone c.args.store.now) place
+
+pub returns-in-Some-clause-fixed : goal.returns-in-Some-clause-fixed
+returns-in-Some-clause-fixed g c place =
+    let zone = purged c.args.purges c.args.named (g.S.BlockStore.zone c.args.store.now) in
+    let store' = c.settle.new.self in
+    let P : Seat → Type 0 = λ s. FindsSeat c.args.bytes zone (Some s) in
+    let found : P (see.Run c.in-Run.run') = subst P c.in-Run.is c.requires.found in
+    let r = found.1.0 in
+    let after = at_run c.in-Run.run' zone (g.S.BlockStore.zone c.purge.new.self) r (λ r. g.S.BlockStore.zone store' ≡ tidy (with_run settle r)) c.purge.ensures.zone found.1.2 c.settle.ensures.zone in
+    ap (has (is_fixed place)) after ∙ fixed-run settle none-settle (has_free c.args.bytes) zone r found.1.1 place
+    ∙ fixed-purged c.args.purges c.args.named (g.S.BlockStore.zone c.args.store.now) place

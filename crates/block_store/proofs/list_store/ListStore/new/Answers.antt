@@ -3,7 +3,7 @@ use Rattle.std.proofs.lemmas.List.{length-replicate}
 use Rattle.block_store.specs.Block.{Masters, Free, sizes, tidy, count, is_masters, is_relocatable}
 use Rattle.block_store.specs.Run.{has}
 use Rattle.block_store.specs.Slot.{is_used}
-use Rattle.block_store.specs.Compact.{Aligned}
+use Rattle.block_store.specs.Compact.{Aligned, Placed}
 use Rattle.block_store.specs.declared.entries.Entry.TheVariants as entry
 use Rattle.block_store.specs.declared.slots.SlotEntry.TheVariants as slot_entry
 use Rattle.block_store.specs.ListStore.{blocks_of, slots_of}
@@ -32,4 +32,5 @@ invariant_of-result c =
       once = λ number. subst (λ l. count (is_relocatable number) l ≤ 1) (sym zone) (omega arith);
       tidied = ap tidy zone ∙ ap (λ l. Masters ∷ l) (free-apart (c.args.len - 272) (omega arith)) ∙ sym zone;
       aligned = subst Aligned (sym zone) (refl, (let z : (c.args.len - 272) % 16 ≡ 0 = omega (arith, c.requires.even) in z, tt));
+      placed = subst (Placed 0) (sym zone) tt;
     }

@@ -20,6 +20,7 @@ invariant_of-self c =
       once = c.args.self.now.once;
       tidied = c.args.self.now.tidied;
       aligned = c.args.self.now.aligned;
+      placed = c.args.self.now.placed;
     }
 
 pub returns-clause-rest : goal.returns-clause-rest

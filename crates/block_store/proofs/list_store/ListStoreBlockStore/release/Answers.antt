@@ -3,8 +3,9 @@ use Rattle.block_store.specs.Block.{is_relocatable, is_masters, sizes, tidy, siz
 use Rattle.block_store.specs.Run.{has}
 use Rattle.block_store.specs.Grow.{freed}
 use Rattle.block_store.specs.ListStore.{blocks_of}
-use Rattle.block_store.specs.Compact.{Aligned}
+use Rattle.block_store.specs.Compact.{Aligned, Placed}
 use Rattle.block_store.proofs.Aligned.{aligned-tidy, aligned-freed}
+use Rattle.block_store.proofs.Placing.{placed-tidy, placed-freed}
 use Rattle.block_store.proofs.Apart.{tidy-tidy}
 use Rattle.block_store.proofs.Tidy.{total-tidy}
 use Rattle.block_store.proofs.Listing.{size-freed}
@@ -31,4 +32,5 @@ invariant_of-self c =
       once = λ k. subst (λ l. count (is_relocatable k) l ≤ 1) (sym after) (released-once k t bs (c.args.self.now.once k));
       tidied = ap tidy after ∙ tidy-tidy (freed t bs) ∙ sym after;
       aligned = subst Aligned (sym after) (aligned-tidy (freed t bs) (aligned-freed t bs c.args.self.now.aligned));
+      placed = subst (Placed 0) (sym after) (placed-tidy 0 (freed t bs) (placed-freed 0 t bs c.args.self.now.placed));
     }

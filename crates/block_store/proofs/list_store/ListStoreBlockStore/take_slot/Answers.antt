@@ -23,6 +23,7 @@ invariant_of-self c =
       once = c.args.self.now.once;
       tidied = c.args.self.now.tidied;
       aligned = c.args.self.now.aligned;
+      placed = c.args.self.now.placed;
     }
 
 pub overflow_cast-result : goal.overflow_cast-result

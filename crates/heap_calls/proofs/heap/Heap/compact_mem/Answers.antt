@@ -1,13 +1,44 @@
-use Rattle.std.proofs.Common.{◌∙◌, ap}
-use Rattle.block_store.specs.Compact.{compacted}
-use Rattle.heap_calls.proofs.Largest.{compact_mem-done}
+use Rattle.std.proofs.Common.{◌≡◌, ◌+◌, sym, ◌∙◌, ap, Ok, arith}
+use Rattle.mac_words.specs.declared.code.TheConstants.OsErr.{NO_ERR}
+use Rattle.block_store.specs.Run.{runs}
+use Rattle.block_store.specs.Compact.{compacted, runs_settled}
+use Rattle.heap_calls.specs.State.{Memory}
+use Rattle.heap_calls.specs.Answer.{compact_mem, noting}
+use Rattle.heap_calls.specs.Searches.{stretches, compact_mem_searches}
+use Rattle.heap_calls.specs.Numbered.{memory_of, handle_number, pointer_number}
+use Rattle.heap_calls.proofs.Changing.{agrees-kept}
+use Rattle.heap_calls.proofs.Staying.{fixed-settled, fixed-same, fixed-then}
+use Rattle.heap_calls.proofs.Largest.{compact_mem-done, settled_stretches-rename}
+use Rattle.heap_calls.proofs.PurgeTrials.{searching-done, runs_settled-few}
+use Rattle.heap_calls.proofs.Stretches.{stretches-le}
 use Rattle.heap_calls.proofs.heap.Heap.compact_mem.Goals as goal
+
+pub overflow_add-stretches : goal.overflow_add-stretches
+overflow_add-stretches g c =
+    let zone = g.S.BlockStore.zone c.self.inside.store in
+    omega (arith, c.compact-stretches.ensures.runs, stretches-le (runs_settled c.phys.result zone) (runs zone), runs_settled-few c.phys.result zone, g.met.S.BlockStore.small c.self.inside.store)
 
 pub returns : goal.returns
 returns g c =
     let a = c.self.inside in
     let zone = g.S.BlockStore.zone a.store in
+    let zone' = g.S.BlockStore.zone c.compact-stretches.new.store in
+    let rest' = g.S.BlockStore.rest c.compact-stretches.new.store in
+    let es = a.names.items in
+    let searches : compact_mem_searches c.args.size c.args.self.now.heap ≡ c.compact-stretches.result + 1 =
+    ap (λ (m : Memory). compact_mem_searches c.args.size m.heap) (sym c.self.view_is)
+    ∙ ap (λ k. k + 1) (settled_stretches-rename (handle_number es) (pointer_number es) _ zone ∙ ap (λ p. stretches (runs_settled p zone) (runs zone)) (sym c.phys.ensures) ∙ sym c.compact-stretches.ensures.runs) in
     record {
-      answer = compact_mem-done c.args.self.now c.args.size zone (g.S.BlockStore.zone c.compact.new.store) (g.S.BlockStore.rest a.store) (g.S.BlockStore.rest c.compact.new.store) a.names.items a.log c.largest_free.result c.saturating_sub.result
-          c.self.view_is (c.compact.ensures.zone ∙ ap (λ p. compacted p zone) c.phys.ensures) c.compact.ensures.rest c.largest_free.ensures c.saturating_sub.ensures;
+      answer = searching-done _ _ (noting (compact_mem c.args.size) c.args.self.now) (Ok c.saturating_sub-most.result) (memory_of zone' rest' es (record a.log { code = NO_ERR })) (memory_of zone' rest' es c.count.new.self)
+          (compact_mem-done c.args.self.now c.args.size zone zone' (g.S.BlockStore.rest a.store) rest' es a.log c.largest_free.result c.saturating_sub-most.result
+          c.self.view_is (c.compact-stretches.ensures.zone ∙ ap (λ p. compacted p zone) c.phys.ensures) c.compact-stretches.ensures.rest c.largest_free.ensures c.saturating_sub-most.ensures)
+          searches (ap (memory_of zone' rest' es) c.count.ensures);
     }
+
+pub invariant_of-self : goal.invariant_of-self
+invariant_of-self g c =
+    let a = c.self.inside in
+    let zone = g.S.BlockStore.zone a.store in
+    let zone' = g.S.BlockStore.zone c.compact-stretches.new.store in
+    agrees-kept zone zone' (g.S.BlockStore.rest a.store) (g.S.BlockStore.rest c.compact-stretches.new.store) a.names.items c.self.invariant
+    (fixed-then zone (compacted c.phys.result zone) zone' (fixed-settled (runs_settled c.phys.result zone) zone) (fixed-same (compacted c.phys.result zone) zone' c.compact-stretches.ensures.zone)) c.compact-stretches.ensures.rest

@@ -1,64 +1,54 @@
-use Rattle.std.proofs.Common.{◌≡◌, Some, None, Err, false, true, not, sym, ◌∙◌, ap, arith, Bool, List, slice_get, is_some}
-use Rattle.mac_words.specs.Size.{phys as physical_size}
-use Rattle.mac_words.specs.declared.code.TheConstants.OsErr.{MEM_FULL}
-use Rattle.block_store.specs.Block.{Block, is_relocatable}
-use Rattle.block_store.specs.Grow.{grow}
-use Rattle.heap_calls.specs.GrowingInPlace.{made_zone}
-use Rattle.heap_calls.specs.State.{Memory}
-use Rattle.heap_calls.specs.Numbered.{memory_of}
-use Rattle.heap_calls.specs.declared.name.Entry.{Entry}
-use Rattle.heap_calls.specs.declared.name.Entry.TheVariants.{Handle}
-use Rattle.heap_calls.proofs.Answering.{slot_of-ok}
-use Rattle.heap_calls.proofs.Changing.{memory-kept}
-use Rattle.heap_calls.proofs.Resizing.{no-block, too-large, not-resized, is-resized}
+use Rattle.std.proofs.Common.{Err, Ok, sym, ◌∙◌, ap, arith}
+use Rattle.std.proofs.lemmas.Result.{err_from_is_err_and}
+use Rattle.block_store.specs.Block.{is_relocatable, rename}
+use Rattle.heap_calls.specs.Answer.{Held, set_handle_size, rebuilt}
+use Rattle.heap_calls.specs.Growing.{fitted}
+use Rattle.heap_calls.specs.Searches.{set_handle_size_searches, found_searches, size_searches}
+use Rattle.heap_calls.specs.Numbered.{state_of, handle_number, pointer_number}
+use Rattle.heap_calls.proofs.Numbers.{is_relocatable-number}
+use Rattle.heap_calls.proofs.Looking.{size_searches-rename, fitted-rename}
+use Rattle.heap_calls.proofs.Rebuilding.{not-reached, rebuilt-reply, reached_in, resize-row, not-resized}
+use Rattle.heap_calls.proofs.Changing.{agrees-kept}
 use Rattle.heap_calls.proofs.heap.Heap.give_size.Goals as goal
 
-pub returns-in_default-clause-answer : goal.returns-in_default-clause-answer
-returns-in_default-clause-answer g c =
+pub returns-in_err-held-clause-answer : goal.returns-in_err-held-clause-answer
+returns-in_err-held-clause-answer g c =
+    let p = err_from_is_err_and c.from_residual.result c.from_residual.ensures.1 in
     let a = c.self.inside in
-    let f = c.in_ok-found.found in
-    let is = slot_of-ok c.args.handle _ f (sym c.slot_of.ensures ∙ c.in_ok-found.was) in
-    let at : slice_get a.names.items f.number ≡ Some (Handle f.slot) = ap (λ (l : List Entry). slice_get l f.number) (sym c.deref.ensures.value) ∙ is.1 in
-    no-block c.args.self.now (g.S.BlockStore.zone a.store) (g.S.BlockStore.rest a.store) a.names.items a.log c.args.handle f.number f.slot c.args.size c.self.view_is is.0 at c.self.invariant.apart (omega arith) c.in_default.ensures
-
-pub returns-then-is_none-clause-answer : goal.returns-then-is_none-clause-answer
-returns-then-is_none-clause-answer g c =
-    let a = c.self.inside in
-    let f = c.in_ok-found.found in
-    let is = slot_of-ok c.args.handle _ f (sym c.slot_of.ensures ∙ c.in_ok-found.was) in
-    let at : slice_get a.names.items f.number ≡ Some (Handle f.slot) = ap (λ (l : List Entry). slice_get l f.number) (sym c.deref.ensures.value) ∙ is.1 in
-    let there = c.in-Some.ensures in
-    let none : is_some (physical_size c.args.size) ≡ false = ap is_some (sym c.phys.ensures) ∙ c.is_none.ensures ∙ ap not c.if-is_none.true in
-    too-large c.args.self.now (g.S.BlockStore.zone a.store) (g.S.BlockStore.rest a.store) a.names.items a.log c.args.handle f.number f.slot c.args.size c.self.view_is is.0 at c.self.invariant.apart (omega arith) there.0 there.1 none
-
-pub returns-then-not-done-clause-answer : goal.returns-then-not-done-clause-answer
-returns-then-not-done-clause-answer g c =
-    let a = c.self.inside in
-    let zone = g.S.BlockStore.zone a.store in
     let rest = g.S.BlockStore.rest a.store in
-    let zone' = g.S.BlockStore.zone c.resize_block.new.store in
-    let rest' = g.S.BlockStore.rest c.resize_block.new.store in
-    let es = a.names.items in
-    let f = c.in_ok-found.found in
-    let is = slot_of-ok c.args.handle _ f (sym c.slot_of.ensures ∙ c.in_ok-found.was) in
-    let at : slice_get es f.number ≡ Some (Handle f.slot) = ap (λ (l : List Entry). slice_get l f.number) (sym c.deref.ensures.value) ∙ is.1 in
-    let there = c.in-Some.ensures in
-    let fits : is_some (physical_size c.args.size) ≡ true = ap is_some (sym c.phys.ensures) ∙ c.is_none.ensures ∙ ap not c.if-is_none.false in
-    let none : grow (is_relocatable f.slot) (is_relocatable f.slot) c.args.size zone ≡ None = c.in_ok-done.ensures.zone ∙ ap (λ (t : Bool). made_zone t zone') c.if-not-done.true in
-    not-resized c.args.self.now zone rest es a.log c.args.handle f.number f.slot c.args.size c.self.view_is is.0 at c.self.invariant.apart (omega arith) there.0 there.1 fits none
-    ∙ ap (λ (m : Memory). (Err MEM_FULL, m))
-    (sym c.self.view_is ∙ sym (memory-kept zone rest rest' es a.log c.in_ok-done.ensures.rest) ∙ ap (λ (z : List Block). memory_of z rest' es a.log) (sym (c.in_ok-done.ensures.full c.if-not-done.true)))
+    let e = c.in_err-held.field-0.0 in
+    let none = reached_in (g.S.BlockStore.zone a.store) rest.slots a.names.items _ c.args.handle (Err e) c.deref.ensures.value c.in_err-held.ensures in
+    rw (p.1, p.2) (not-reached c.args.self.now (g.S.BlockStore.zone a.store) rest a.names.items a.log c.self.view_is (set_handle_size c.args.handle c.args.size) (set_handle_size_searches c.args.handle c.args.size) e c.args.handle none
+    (λ code is. not-resized c.args.handle c.args.size _ code is) (omega arith))
 
 pub returns-clause-answer : goal.returns-clause-answer
 returns-clause-answer g c =
     let a = c.self.inside in
     let zone = g.S.BlockStore.zone a.store in
-    let zone' = g.S.BlockStore.zone c.resize_block.new.store in
-    let rest' = g.S.BlockStore.rest c.resize_block.new.store in
-    let f = c.in_ok-found.found in
-    let is = slot_of-ok c.args.handle _ f (sym c.slot_of.ensures ∙ c.in_ok-found.was) in
-    let at : slice_get a.names.items f.number ≡ Some (Handle f.slot) = ap (λ (l : List Entry). slice_get l f.number) (sym c.deref.ensures.value) ∙ is.1 in
-    let there = c.in-Some.ensures in
-    let fits : is_some (physical_size c.args.size) ≡ true = ap is_some (sym c.phys.ensures) ∙ c.is_none.ensures ∙ ap not c.if-is_none.false in
-    let grown : grow (is_relocatable f.slot) (is_relocatable f.slot) c.args.size zone ≡ Some zone' = c.in_ok-done.ensures.zone ∙ ap (λ (t : Bool). made_zone t zone') c.if-not-done.false in
-    is-resized c.args.self.now zone (g.S.BlockStore.rest a.store) a.names.items a.log c.args.handle f.number f.slot c.args.size c.self.view_is is.0 at c.self.invariant.apart (omega arith) zone' rest' there.0 there.1 fits c.in_ok-done.ensures.rest grown
+    let rest = g.S.BlockStore.rest a.store in
+    let es = a.names.items in
+    let n = c.args.size in
+    let held = c.in_ok-held.held in
+    let there = reached_in zone rest.slots es _ c.args.handle (Ok held) c.deref.ensures.value c.in_ok-held.ensures in
+    let same = is_relocatable-number es held.number held.slot there.4 c.self.invariant.apart there.5 in
+    let f = handle_number es in
+    let h = pointer_number es in
+    let t = is_relocatable held.number in
+    let u = is_relocatable held.slot in
+    rw (c.account.ensures.reply, c.account.ensures.counted)
+    (rebuilt-reply c.args.self.now zone rest es a.log c.self.view_is (set_handle_size c.args.handle n) (set_handle_size_searches c.args.handle n)
+    (g.S.BlockStore.zone c.fit_block.new.store) (g.S.BlockStore.rest c.fit_block.new.store) c.in_ok-grown.ensures.rest c.in_ok-grown.grown.searches
+    (ap (λ r. found_searches r (λ (k : Held). size_searches (is_relocatable k.number) (is_relocatable k.number) n (rename f h zone))) there.1 ∙ size_searches-rename f h t u same t u same n zone ∙ sym c.in_ok-grown.ensures.searches)
+    c.in_ok-grown.grown.done (fitted u u n zone)
+    (resize-row c.args.handle n (state_of zone rest.slots es) _ there.1 ∙ ap (λ o. rebuilt o (state_of zone rest.slots es)) (fitted-rename f h t u same t u same n zone))
+    c.in_ok-grown.ensures.zone c.in_ok-grown.ensures.full)
+
+pub invariant_of-self : goal.invariant_of-self
+invariant_of-self g c =
+    let a = c.self.inside in
+    agrees-kept (g.S.BlockStore.zone a.store) (g.S.BlockStore.zone c.fit_block.new.store) (g.S.BlockStore.rest a.store) (g.S.BlockStore.rest c.fit_block.new.store) a.names.items c.self.invariant c.fit_block.ensures.fixed c.fit_block.ensures.rest
+
+pub invariant_of-self-2 : goal.invariant_of-self-2
+invariant_of-self-2 g c =
+    let a = c.self.inside in
+    agrees-kept (g.S.BlockStore.zone a.store) (g.S.BlockStore.zone c.fit_block.new.store) (g.S.BlockStore.rest a.store) (g.S.BlockStore.rest c.fit_block.new.store) a.names.items c.self.invariant c.fit_block.ensures.fixed c.fit_block.ensures.rest

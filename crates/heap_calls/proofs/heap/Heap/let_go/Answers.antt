@@ -1,4 +1,4 @@
-use Rattle.std.proofs.Common.{◌≡◌, ◌+◌, slice_get, slice_set, cond, ◌==◌, Some, sym, ◌∙◌, ap, arith, Ok, List}
+use Rattle.std.proofs.Common.{◌≡◌, ◌+◌, slice_get, slice_set, cond, ◌==◌, Some, sym, ◌∙◌, ap, arith, Ok, List, subst}
 use Rattle.std.proofs.lemmas.Option.{slice_get_within}
 use Rattle.block_store.specs.Block.{Block, is_relocatable, tidy}
 use Rattle.block_store.specs.Run.{has}
@@ -6,7 +6,7 @@ use Rattle.block_store.specs.Grow.{freed}
 use Rattle.block_store.specs.Slot.{Unused, set_slot, AreSlots}
 use Rattle.block_store.proofs.Tidy.{has-released}
 use Rattle.heap_calls.specs.Answer.{dispose_handle}
-use Rattle.heap_calls.specs.Numbered.{state_of}
+use Rattle.heap_calls.specs.Numbered.{state_of, Agrees}
 use Rattle.heap_calls.specs.declared.name.Entry.{Entry}
 use Rattle.heap_calls.specs.declared.name.Entry.TheVariants.{Handle, Disposed}
 use Rattle.heap_calls.proofs.Answering.{slot_of-ok}
@@ -39,7 +39,9 @@ invariant_of-self g c =
     let now : AreSlots (set_slot rest.slots f.slot Unused) rest'.slots = λ k. gave.slots k ∙ ap (cond (k == f.slot) Unused) (released.slots k) in
     let one : rest'.unused ≡ rest.unused + 1 = gave.unused ∙ ap (λ n. n + 1) released.unused in
     let all : rest'.all ≡ rest.all = gave.all ∙ released.all in
-    agrees-left zone rest rest' es f.number f.slot c.self.invariant at (omega arith) now one all
+    let freed_zone : g.S.BlockStore.zone c.give_slot.new.self ≡ tidy (freed (is_relocatable f.slot) zone) = c.give_slot.ensures.zone ∙ c.release.ensures.zone in
+    let P : List Block → Type 0 = λ z. Agrees z rest' (slice_set es f.number Disposed) in
+    subst P (sym freed_zone) (agrees-left zone rest rest' es f.number f.slot c.self.invariant at (omega arith) now one all)
 
 pub returns-clause-answer : goal.returns-clause-answer
 returns-clause-answer g c =

@@ -1,11 +1,13 @@
-use Rattle.std.proofs.Common.{◌≡◌, true, false, Ok, Some, None, sym, ◌∙◌, ap, arith, slice_get, List}
-use Rattle.block_store.specs.Block.{is_relocatable, is_mover}
-use Rattle.block_store.specs.Run.{has}
+use Rattle.std.proofs.Common.{◌≡◌, refl, true, false, Ok, Some, None, sym, ◌∙◌, ap, arith, slice_get, List}
+use Rattle.block_store.specs.Block.{is_relocatable, is_mover, tidy}
+use Rattle.block_store.specs.Run.{has, high, with_run}
 use Rattle.heap_calls.specs.Given.{seen_mover}
 use Rattle.heap_calls.specs.declared.name.Entry.{Entry}
 use Rattle.heap_calls.specs.declared.name.Entry.TheVariants.{Handle}
 use Rattle.heap_calls.proofs.Answering.{slot_of-ok}
 use Rattle.heap_calls.proofs.Changing.{agrees-same}
+use Rattle.heap_calls.proofs.Searching.{at_run}
+use Rattle.heap_calls.proofs.Staying.{fixed-run, fixed-same, fixed-then, none-high}
 use Rattle.heap_calls.proofs.Hoisting.{seen-at, seen_mover-is, rest-same, run-found, hoist-allowed, hoisted-done, hoisted-none, move_hhi-emptied, move_hhi-locked, move_hhi-done}
 use Rattle.heap_calls.proofs.heap.Heap.move_high.Goals as goal
 
@@ -59,7 +61,15 @@ hoist-requires g c =
 pub invariant_of-self : goal.invariant_of-self
 invariant_of-self g c =
     let a = c.self.inside in
-    agrees-same (g.S.BlockStore.rest a.store) (g.S.BlockStore.rest c.hoist.new.self) a.names.items c.self.invariant c.hoist.ensures.rest
+    let zone = g.S.BlockStore.zone a.store in
+    let zone' = g.S.BlockStore.zone c.hoist.new.self in
+    let slot = c.in_ok-found.found.slot in
+    let run = c.in-Some-run_of.run' in
+    let found = run-found (has (is_relocatable slot)) zone _ (Some run) (g.met.S.BlockStore.tidied a.store) c.in-Some-run_of.ensures in
+    let now = tidy (with_run (high (is_relocatable slot)) found.0) in
+    let done = at_run run zone zone found.0 (λ r. zone' ≡ tidy (with_run (high (is_relocatable slot)) r)) refl found.2 c.hoist.ensures.zone in
+    agrees-same zone zone' (g.S.BlockStore.rest a.store) (g.S.BlockStore.rest c.hoist.new.self) a.names.items c.self.invariant
+    (fixed-then zone now zone' (fixed-run (high (is_relocatable slot)) (none-high (is_relocatable slot)) (has (is_relocatable slot)) zone found.0 found.1) (fixed-same now zone' done)) c.hoist.ensures.rest
 
 pub returns-clause-answer : goal.returns-clause-answer
 returns-clause-answer g c =

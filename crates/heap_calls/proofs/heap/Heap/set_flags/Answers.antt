@@ -1,13 +1,16 @@
 use Rattle.std.proofs.Common.{◌≡◌, ◌∷◌, ◌++◌, Ok, Err, Some, None, sym, ◌∙◌, ap}
+use Rattle.std.specs.Prelude.{unwrap_or}
 use Rattle.std.proofs.lemmas.Result.{err_from_is_err_and}
 use Rattle.block_store.specs.declared.flags.Flags.{Flags}
 use Rattle.block_store.specs.Seen.{seen, with_flags}
 use Rattle.heap_calls.specs.Answer.{flagged}
 use Rattle.heap_calls.specs.Given.{seen_flags}
+use Rattle.heap_calls.specs.Loose.{flags_with}
 use Rattle.heap_calls.proofs.Answering.{refused_for, found_in, at_place}
-use Rattle.heap_calls.proofs.Changing.{spot_at-is}
+use Rattle.heap_calls.proofs.Changing.{spot_at-is, fixed-at, agrees-same}
+use Rattle.heap_calls.proofs.Staying.{fixed-spot, alike-flags, fixed-same, fixed-then}
 use Rattle.heap_calls.proofs.Hoisting.{flags-none, flags-some, seen-at, rest-same, change_flags-done}
-use Rattle.heap_calls.proofs.heap.Heap.set_lock.Goals as goal
+use Rattle.heap_calls.proofs.heap.Heap.set_flags.Goals as goal
 
 pub returns-in_err-place-clause-answer : goal.returns-in_err-place-clause-answer
 returns-in_err-place-clause-answer g c =
@@ -15,14 +18,14 @@ returns-in_err-place-clause-answer g c =
     let a = c.self.inside in
     let found = found_in (g.S.BlockStore.zone a.store) (g.S.BlockStore.rest a.store).slots a.names.items _ c.args.handle (Err c.in_err-place.field-0.0) c.deref.ensures.value c.in_err-place.ensures in
     rw (p.1, p.2) (refused_for c.in_err-place.field-0.0 (g.S.BlockStore.zone a.store) (g.S.BlockStore.rest a.store) a.names.items a.log c.args.handle c.args.self.now c.self.view_is found
-    (λ s k. (Ok tt, record s { zone = k.at.below ++ flagged (λ f. record f { locked = c.args.locked }) k.at.here ∷ k.at.above })))
+    (λ s k. (Ok tt, record s { zone = k.at.below ++ flagged (flags_with c.args.locked c.args.purgeable) k.at.here ∷ k.at.above })))
 
 pub returns-in_default-clause-answer : goal.returns-in_default-clause-answer
 returns-in_default-clause-answer g c =
     let a = c.self.inside in
     let zone = g.S.BlockStore.zone a.store in
     let rest = g.S.BlockStore.rest a.store in
-    let change : Flags → Flags = λ f. record f { locked = c.args.locked } in
+    let change : Flags → Flags = flags_with c.args.locked c.args.purgeable in
     let found = found_in zone rest.slots a.names.items _ c.args.handle (Ok c.in_ok-place.place) c.deref.ensures.value c.in_ok-place.ensures in
     let none : seen_flags (Some (seen found.1.here)) ≡ None = sym (seen-at seen_flags c.in_ok-place.place zone found.1 c.block_at.result found.3 c.block_at.ensures) ∙ sym c.flags_of.ensures ∙ c.in_default.is in
     change_flags-done change c.args.self.now zone zone rest rest a.names.items a.log c.args.handle found.0 found.1 c.self.view_is found.2 (rest-same rest)
@@ -35,9 +38,26 @@ returns-clause-answer g c =
     let zone = g.S.BlockStore.zone a.store in
     let rest = g.S.BlockStore.rest a.store in
     let zone' = g.S.BlockStore.zone c.set_flags.new.self in
-    let change : Flags → Flags = λ f. record f { locked = c.args.locked } in
+    let change : Flags → Flags = flags_with c.args.locked c.args.purgeable in
     let found = found_in zone rest.slots a.names.items _ c.args.handle (Ok c.in_ok-place.place) c.deref.ensures.value c.in_ok-place.ensures in
     let flags : seen_flags (Some (seen found.1.here)) ≡ Some c.in-Some.flags = sym (seen-at seen_flags c.in_ok-place.place zone found.1 c.block_at.result found.3 c.block_at.ensures) ∙ sym c.flags_of.ensures ∙ c.in-Some.is in
-    let done = at_place c.in_ok-place.place zone found.1 (λ s. zone' ≡ s.below ++ with_flags (change c.in-Some.flags) s.here ∷ s.above) found.3 c.set_flags.ensures.zone in
+    let first : Flags = record { locked = c.unwrap_or.result; purgeable = c.unwrap_or-2.result } in
+    let same : first ≡ change c.in-Some.flags =
+    ap (λ t. let f : Flags = record { locked = t; purgeable = c.unwrap_or-2.result } in f) c.unwrap_or.ensures ∙ ap (λ t. let f : Flags = record { locked = unwrap_or c.args.locked c.in-Some.flags.locked; purgeable = t } in f) c.unwrap_or-2.ensures in
+    let done = at_place c.in_ok-place.place zone found.1 (λ s. zone' ≡ s.below ++ with_flags first s.here ∷ s.above) found.3 c.set_flags.ensures.zone in
     change_flags-done change c.args.self.now zone zone' rest (g.S.BlockStore.rest c.set_flags.new.self) a.names.items a.log c.args.handle found.0 found.1 c.self.view_is found.2 c.set_flags.ensures.rest
-    (done ∙ ap (λ b. found.1.below ++ b ∷ found.1.above) (flags-some change c.in-Some.flags found.1.here flags))
+    (done ∙ ap (λ f. found.1.below ++ with_flags f found.1.here ∷ found.1.above) same ∙ ap (λ b. found.1.below ++ b ∷ found.1.above) (flags-some change c.in-Some.flags found.1.here flags))
+
+pub invariant_of-self : goal.invariant_of-self
+invariant_of-self g c =
+    let a = c.self.inside in
+    let zone = g.S.BlockStore.zone a.store in
+    let rest = g.S.BlockStore.rest a.store in
+    let zone' = g.S.BlockStore.zone c.set_flags.new.self in
+    let flags : Flags = record { locked = c.unwrap_or.result; purgeable = c.unwrap_or-2.result } in
+    let found = found_in zone rest.slots a.names.items _ c.args.handle (Ok c.in_ok-place.place) c.deref.ensures.value c.in_ok-place.ensures in
+    let s = found.1 in
+    let now = s.below ++ with_flags flags s.here ∷ s.above in
+    let done = at_place c.in_ok-place.place zone s (λ s. zone' ≡ s.below ++ with_flags flags s.here ∷ s.above) found.3 c.set_flags.ensures.zone in
+    agrees-same zone zone' rest (g.S.BlockStore.rest c.set_flags.new.self) a.names.items c.self.invariant
+    (fixed-then zone now zone' (fixed-at c.in_ok-place.place zone now s found.3 (fixed-spot s.below s.above s.here (with_flags flags s.here) (alike-flags flags s.here))) (fixed-same now zone' done)) c.set_flags.ensures.rest

@@ -1,0 +1,14 @@
+use Rattle.std.proofs.Common.{List, subst}
+use Rattle.std.specs.Option.{IsSomeAnd}
+use Rattle.std.specs.Bool.{IsTrue}
+use Rattle.mac_words.specs.Size.{padded}
+use Rattle.block_store.specs.Block.{Block, is_room, tidy}
+use Rattle.block_store.specs.Room.{spot_at}
+use Rattle.block_store.specs.ListStore.{blocks_of}
+use Rattle.block_store.proofs.Spots.{found-passes}
+use Rattle.block_store.proofs.fixed_tests.make_fixed.Goals as goal
+
+pub carve_fixed-requires : goal.carve_fixed-requires
+carve_fixed-requires c =
+    let zone = blocks_of c.args.store.now.blocks.items in
+    subst (λ (l : List Block). IsSomeAnd (spot_at c.in-Some.place l) (λ s. IsTrue (is_room (padded c.args.size) s.here))) c.args.store.now.tidied (found-passes (is_room (padded c.args.size)) (tidy zone) c.in-Some.place c.in-Some.ensures)

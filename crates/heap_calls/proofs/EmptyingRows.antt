@@ -1,0 +1,37 @@
+use Rattle.std.proofs.Common.{◌≡◌, true, false, [], ◌∷◌, replicate, refl}
+use Rattle.block_store.specs.declared.flags.Flags.{Flags}
+use Rattle.block_store.specs.Block.{Free, Masters, Relocatable, no_flags, is_relocatable}
+use Rattle.block_store.specs.Run.{has}
+use Rattle.heap_calls.specs.State.{State, Handle, Plain}
+use Rattle.heap_calls.specs.Slots.{new_handle}
+use Rattle.heap_calls.specs.Purging.{purge_mem}
+use Rattle.heap_calls.specs.Emptying.{may_be_emptied}
+
+-- Blocks that may be emptied, on a small zone.
+
+abbrev purgeable : Flags
+purgeable = record { locked = false; purgeable = true }
+
+-- the blocks of handles 0 and 1 stand below 16 Free bytes; that of 0 may be emptied
+abbrev heap : State
+heap = record {
+  zone = Masters ∷ Relocatable 0 purgeable (replicate 8 0) ∷ Relocatable 1 no_flags (replicate 8 0) ∷ Free 16 ∷ [];
+  names = Handle Plain ∷ Handle Plain ∷ [];
+}
+
+may-go : may_be_emptied 0 heap.zone ≡ true
+may-go = refl
+
+may-stay : may_be_emptied 1 heap.zone ≡ false
+may-stay = refl
+
+-- it goes for a new block, and the other stays
+goes-for-new : has (is_relocatable 0) (new_handle 4 heap).1.zone ≡ false
+goes-for-new = refl
+
+stays-for-new : has (is_relocatable 1) (new_handle 4 heap).1.zone ≡ true
+stays-for-new = refl
+
+-- and so it does where so much isn't to be had
+stays-for-much : has (is_relocatable 1) (purge_mem 1000 heap).1.zone ≡ true
+stays-for-much = refl

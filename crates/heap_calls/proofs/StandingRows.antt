@@ -1,0 +1,44 @@
+use Rattle.std.proofs.Common.{◌≡◌, true, [], ◌∷◌, replicate, refl, Some, None}
+use Rattle.block_store.specs.Block.{Free, Fixed, Masters, Relocatable, no_flags}
+use Rattle.heap_calls.specs.State.{State, Handle, Pointer, Plain}
+use Rattle.heap_calls.specs.Pointers.{new_pointer, dispose_pointer, set_pointer_size}
+use Rattle.heap_calls.specs.Purging.{max_mem}
+use Rattle.heap_calls.specs.Standing.{pointer_place, disposes}
+use Rattle.heap_calls.specs.Asked.{DisposePtr}
+
+-- The place of a pointer's block, on a small zone.
+
+-- pointer 1 stands above the block of handle 0 and 64 Free bytes
+abbrev heap : State
+heap = record {
+  zone = Masters ∷ Relocatable 0 no_flags (replicate 8 0) ∷ Free 64 ∷ Fixed 1 (replicate 8 0) ∷ Free 64 ∷ [];
+  names = Handle Plain ∷ Pointer ∷ [];
+}
+
+pointer-here : pointer_place 1 heap.zone ≡ Some 368
+pointer-here = refl
+
+handle-none : pointer_place 0 heap.zone ≡ None
+handle-none = refl
+
+-- it grows where it is
+pointer-grows : pointer_place 1 (set_pointer_size (Some 1) 40 heap).1.zone ≡ Some 368
+pointer-grows = refl
+
+-- what is new below it goes around it
+pointer-alone : pointer_place 1 (new_pointer 32 heap).1.zone ≡ Some 368
+pointer-alone = refl
+
+pointer-next : pointer_place 2 (new_pointer 32 heap).1.zone ≡ Some 272
+pointer-next = refl
+
+-- no compaction moves it
+pointer-stays : pointer_place 1 (max_mem heap).1.zone ≡ Some 368
+pointer-stays = refl
+
+-- it has no place once it is disposed of
+pointer-gone : pointer_place 1 (dispose_pointer (Some 1) heap).1.zone ≡ None
+pointer-gone = refl
+
+pointer-disposed : disposes 1 (DisposePtr (Some 1)) ≡ true
+pointer-disposed = refl

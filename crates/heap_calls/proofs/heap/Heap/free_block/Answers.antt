@@ -1,0 +1,55 @@
+use Rattle.std.proofs.Common.{◌≡◌, true, sym, ◌∙◌, ap, subst, arith, Option, List, Ok, slice_set}
+use Rattle.std.proofs.lemmas.Option.{slice_get_within}
+use Rattle.std.specs.Option.{IsSomeAnd}
+use Rattle.block_store.specs.Block.{Block, is_fixed}
+use Rattle.block_store.specs.Room.{Spot}
+use Rattle.heap_calls.specs.Numbered.{state_of, Agrees}
+use Rattle.heap_calls.specs.Pointers.{dispose_pointer}
+use Rattle.heap_calls.specs.declared.name.Entry.TheVariants.{Disposed}
+use Rattle.heap_calls.proofs.Changing.{kept, silent-done}
+use Rattle.heap_calls.proofs.Pointing.{pointer-held, target_in, agrees-left, dispose_pointer-done}
+use Rattle.heap_calls.proofs.heap.Heap.free_block.Goals as goal
+
+pub free_at-requires : goal.free_at-requires
+free_at-requires g c =
+    let a = c.self.inside in
+    let there = pointer-held (g.S.BlockStore.zone a.store) (g.S.BlockStore.rest a.store) a.names.items c.args.pointer c.in_ok-target.target c.self.invariant (g.met.S.BlockStore.placed a.store) (g.met.S.BlockStore.tidied a.store) (omega arith)
+    (target_in a.names.items _ c.args.pointer (Ok c.in_ok-target.target) c.deref.ensures.value c.in_ok-target.ensures) in
+    let P : Option Spot → Type 0 = λ o. IsSomeAnd o (λ s. is_fixed c.in_ok-target.target.place s.here ≡ true) in
+    subst P (sym there.at) there.fixed
+
+pub index_mut-requires : goal.index_mut-requires
+index_mut-requires g c =
+    let a = c.self.inside in
+    let there = pointer-held (g.S.BlockStore.zone a.store) (g.S.BlockStore.rest a.store) a.names.items c.args.pointer c.in_ok-target.target c.self.invariant (g.met.S.BlockStore.placed a.store) (g.met.S.BlockStore.tidied a.store) (omega arith)
+    (target_in a.names.items _ c.args.pointer (Ok c.in_ok-target.target) c.deref.ensures.value c.in_ok-target.ensures) in
+    let within = slice_get_within _ c.in_ok-target.target.number _ there.entry in
+    omega (arith, within)
+
+pub invariant_of-self : goal.invariant_of-self
+invariant_of-self g c =
+    let a = c.self.inside in
+    let there = pointer-held (g.S.BlockStore.zone a.store) (g.S.BlockStore.rest a.store) a.names.items c.args.pointer c.in_ok-target.target c.self.invariant (g.met.S.BlockStore.placed a.store) (g.met.S.BlockStore.tidied a.store) (omega arith)
+    (target_in a.names.items _ c.args.pointer (Ok c.in_ok-target.target) c.deref.ensures.value c.in_ok-target.ensures) in
+    let zone = g.S.BlockStore.zone a.store in
+    let rest = g.S.BlockStore.rest a.store in
+    let rest' = g.S.BlockStore.rest c.free_at.new.self in
+    let t = c.in_ok-target.target in
+    let P : List Block → Type 0 = λ z. Agrees z rest' (slice_set a.names.items t.number Disposed) in
+    subst P (sym c.free_at.ensures.zone) (agrees-left zone rest rest' a.names.items t.number t.place c.self.invariant there.entry (omega arith) (kept rest rest' c.free_at.ensures.rest))
+
+pub returns-clause-answer : goal.returns-clause-answer
+returns-clause-answer g c =
+    let a = c.self.inside in
+    let there = pointer-held (g.S.BlockStore.zone a.store) (g.S.BlockStore.rest a.store) a.names.items c.args.pointer c.in_ok-target.target c.self.invariant (g.met.S.BlockStore.placed a.store) (g.met.S.BlockStore.tidied a.store) (omega arith)
+    (target_in a.names.items _ c.args.pointer (Ok c.in_ok-target.target) c.deref.ensures.value c.in_ok-target.ensures) in
+    let zone = g.S.BlockStore.zone a.store in
+    let rest = g.S.BlockStore.rest a.store in
+    let zone' = g.S.BlockStore.zone c.free_at.new.self in
+    let rest' = g.S.BlockStore.rest c.free_at.new.self in
+    let es = a.names.items in
+    let t = c.in_ok-target.target in
+    silent-done (dispose_pointer c.args.pointer) c.args.self.now zone zone' rest rest' es (slice_set es t.number Disposed) a.log (Ok tt) c.self.view_is
+    (dispose_pointer-done zone rest rest' es t.number t.place c.self.invariant there.entry (omega arith) (kept rest rest' c.free_at.ensures.rest) c.args.pointer _ there.looked
+    ∙ ap (λ (z : List Block). (Ok tt, state_of z rest'.slots (slice_set es t.number Disposed))) (sym c.free_at.ensures.zone))
+    c.free_at.ensures.rest.window

@@ -1,0 +1,44 @@
+use Rattle.std.proofs.Common.{◌≡◌, ◌+◌, ℕ, Ok, Err, Result, sym, ◌∙◌, ap, arith, subst}
+use Rattle.std.proofs.lemmas.Result.{err_from_is_err_and}
+use Rattle.mac_words.specs.declared.code.OsErr.{OsErr}
+use Rattle.block_store.specs.Block.{rename_block}
+use Rattle.block_store.specs.Room.{rename_spot}
+use Rattle.heap_calls.specs.State.{Memory}
+use Rattle.heap_calls.specs.Given.{IsAnswer, seen_flags}
+use Rattle.heap_calls.specs.Purging.{block_bits}
+use Rattle.heap_calls.specs.Loose.{bits_of}
+use Rattle.heap_calls.specs.Numbered.{handle_number, pointer_number}
+use Rattle.heap_calls.proofs.Answering.{refused_for, found_in, on_found, held}
+use Rattle.heap_calls.proofs.Hoisting.{seen-at}
+use Rattle.heap_calls.proofs.Loosening.{bits_answer, h_get_state-bits, block_bits-rename}
+use Rattle.heap_calls.proofs.heap.Heap.state_of.Goals as goal
+
+pub returns-in_err-place-clause-answer : goal.returns-in_err-place-clause-answer
+returns-in_err-place-clause-answer g c =
+    let p = err_from_is_err_and c.from_residual.result c.from_residual.ensures.1 in
+    let a = c.self.inside in
+    let zone = g.S.BlockStore.zone a.store in
+    let rest = g.S.BlockStore.rest a.store in
+    let value = c.args.self.now in
+    let e = c.in_err-place.field-0.0 in
+    let found = found_in zone rest.slots a.names.items _ c.args.handle (Err e) c.deref.ensures.value c.in_err-place.ensures in
+    let Q : Result ℕ OsErr × Memory → Type 0 = λ x. IsAnswer x (Err e) value in
+    rw (p.1, p.2) (subst Q (sym (h_get_state-bits c.args.handle value zone rest a.names.items a.log c.self.invariant.used c.self.view_is))
+    (refused_for e zone rest a.names.items a.log c.args.handle value c.self.view_is found bits_answer))
+
+pub returns-clause-answer : goal.returns-clause-answer
+returns-clause-answer g c =
+    let a = c.self.inside in
+    let zone = g.S.BlockStore.zone a.store in
+    let rest = g.S.BlockStore.rest a.store in
+    let es = a.names.items in
+    let value = c.args.self.now in
+    let found = found_in zone rest.slots es _ c.args.handle (Ok c.in_ok-place.place) c.deref.ensures.value c.in_ok-place.ensures in
+    let bits : block_bits (rename_block (handle_number es) (pointer_number es) found.1.here) ≡ c.bits_of.result =
+    block_bits-rename (handle_number es) (pointer_number es) found.1.here
+    ∙ sym (seen-at (λ o. bits_of (seen_flags o)) c.in_ok-place.place zone found.1 c.block_at.result found.3 c.block_at.ensures)
+    ∙ sym (ap bits_of c.flags_of.ensures) ∙ sym c.bits_of.ensures in
+    let sum : block_bits (rename_block (handle_number es) (pointer_number es) found.1.here) + 0 ≡ c.bits_of.result = omega (arith, bits) in
+    h_get_state-bits c.args.handle value zone rest es a.log c.self.invariant.used c.self.view_is
+    ∙ on_found zone rest es a.log c.args.handle value (held found.0 (rename_spot (handle_number es) (pointer_number es) found.1)) c.self.view_is found.2 bits_answer
+    ∙ ap (λ (k : ℕ). (Ok k, value)) sum

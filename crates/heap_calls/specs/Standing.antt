@@ -1,0 +1,25 @@
+use Rattle.std.specs.Prelude.{◌≡◌, ◌≤◌, ℕ, ◌==◌, Bool, false, Option, Some, List, length}
+use Rattle.std.specs.Option.{option_map}
+use Rattle.block_store.specs.Block.{Block, sizes, count, is_fixed}
+use Rattle.block_store.specs.Room.{spot}
+use Rattle.heap_calls.specs.State.{State, Memory}
+use Rattle.heap_calls.specs.Asked.{Asked, DisposePtr, answered}
+
+-- A pointer's block stays where it is. Inside Macintosh: Memory, chapter 1, "Nonrelocatable Blocks".
+
+-- the distance of a pointer's block from the zone's bottom; none where there is none
+abbrev pub pointer_place : ℕ → List Block → Option ℕ
+pointer_place p zone = option_map (λ s. sizes s.below) (spot (is_fixed p) zone)
+
+-- a call that disposes of a pointer
+abbrev pub disposes : ℕ → Asked → Bool
+disposes p (DisposePtr (Some k)) = k == p
+disposes p asked = false
+
+-- the next number is no pointer's yet
+abbrev pub NextIsNew : State → Type 0
+NextIsNew s = count (is_fixed (length s.names)) s.zone ≤ 0
+
+-- each pointer's block is after a call at the distance from the bottom where it was, unless the call disposes of it
+abbrev pub StaysFixed : Asked → Memory → Type 0
+StaysFixed asked m = (p place : ℕ) → disposes p asked ≡ false → pointer_place p m.heap.zone ≡ Some place → pointer_place p (answered asked m).1.heap.zone ≡ Some place

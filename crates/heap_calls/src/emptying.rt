@@ -1,0 +1,105 @@
+//! Emptied handles.
+
+ghost use Rattle.std.specs.Prelude.{◌≡◌, ◌≢◌, IsTrue, IsErr};
+ghost use Rattle.heap_calls.specs.Given.{IsAnswer};
+ghost use Rattle.heap_calls.specs.Numbered.{Agrees, KeepsFixed};
+ghost use Rattle.heap_calls.specs.Answer.{noting, silent, searching};
+ghost use Rattle.heap_calls.specs.Purging.{empty_handle, reallocate_handle};
+ghost use Rattle.heap_calls.specs.Searches.{reallocate_handle_searches};
+ghost use Rattle.heap_calls.specs.Loose.{FindsLoose, IsRenewed};
+ghost use Rattle.block_store.specs.Slot.{is_used};
+
+use crate::heap::Heap;
+use crate::locking::can_move;
+use crate::name::{Entry, slot_of};
+use crate::refusal::Refusal;
+use crate::search::{Room, make_room};
+use block_store::{BlockStore, Named};
+use mac_words::{OsErr, phys};
+use std::alloc::AllocError;
+
+impl<S: BlockStore> Heap<S> {
+    /// `EmptyHandle`: a handle's block is Free, and the handle stays, emptied; -112 where it is locked.
+    pub fn empty_handle(&mut self, handle: Option<usize>) -> Result<(), Refusal>
+        ensures answer { IsAnswer (noting (empty_handle handle) self.old) result self.new }
+        ensures host { result ≢ Err Refusal.HostMemory }
+    {
+        let answer = self.empty(handle);
+        self.note(answer)
+    }
+
+    /// `ReallocateHandle`: a handle gets a new block of `size` bytes 0, and its old one is Free; -112 where
+    /// that is locked.
+    pub fn reallocate_handle(&mut self, handle: Option<usize>, size: u32) -> Result<(), Refusal>
+        ensures answer { IsAnswer (searching (reallocate_handle_searches handle size self.old.heap) (noting (reallocate_handle handle size) self.old)) result self.new }
+        ensures host { result ≡ Err Refusal.HostMemory → IsTrue S.TAKES_HOST }
+    {
+        let answer = self.reallocate(handle, size);
+        self.note(answer)
+    }
+
+    /// Empties a handle.
+    fn empty(&mut self, handle: Option<usize>) -> Result<(), Refusal>
+        ensures answer { IsAnswer (silent (empty_handle handle) self.old) result self.new }
+        ensures host { result ≢ Err Refusal.HostMemory }
+    {
+        let slot = loose_slot(&self.store, &self.names, handle)?;
+        self.store.release(slot);
+        Ok(())
+    }
+
+    /// Gives a handle a new block, and counts the looks for its room.
+    fn reallocate(&mut self, handle: Option<usize>, size: u32) -> Result<(), Refusal>
+        ensures answer { IsAnswer (searching (reallocate_handle_searches handle size self.old.heap) (silent (reallocate_handle handle size) self.old)) result self.new }
+        ensures host { result ≡ Err Refusal.HostMemory → IsTrue S.TAKES_HOST }
+    {
+        let slot = loose_slot(&self.store, &self.names, handle)?;
+        let room = renew_block(&mut self.store, slot, size)?;
+        self.log.count(room.searches);
+        if room.place.is_none() {
+            return Err(Refusal::Code(OsErr::MEM_FULL));
+        }
+        Ok(())
+    }
+}
+
+/// The slot of the handle that a name is bound to, if it has no block that is locked.
+fn loose_slot<S: BlockStore>(
+    store: &S,
+    names: &[Entry],
+    handle: Option<usize>,
+) -> Result<u32, Refusal>
+    requires { Agrees (S.zone store.now) (S.rest store.now) names.now }
+    ensures { FindsLoose (S.zone store.now) (S.rest store.now).slots names.now handle result }
+{
+    let found = slot_of(names, handle)?;
+    let Some(place) = store.place_of(found.slot) else {
+        return Ok(found.slot);
+    };
+    if !can_move(store.block_at(place)) {
+        return Err(Refusal::Code(OsErr::PURGED));
+    }
+    Ok(found.slot)
+}
+
+/// Puts a new block of `size` bytes 0 where there is room once the block of a slot is Free. Nothing changes
+/// where there is none.
+fn renew_block<S: BlockStore>(store: &mut S, slot: u32, size: u32) -> Result<Room, AllocError>
+    requires { IsTrue (is_used ((S.rest store.old).slots slot)) }
+    ensures answer { IsRenewed slot size (S.zone store.old) (S.rest store.old) result (S.zone store.new) (S.rest store.new) }
+    ensures fixed { KeepsFixed (S.zone store.old) (S.zone store.new) }
+    ensures host { IsErr result → IsTrue S.TAKES_HOST }
+{
+    let Some(bytes) = phys(size) else {
+        return Ok(Room {
+            place: None,
+            searches: 0,
+        });
+    };
+    let room = make_room(store, bytes, Named::Freed(slot));
+    let Some(place) = room.place else {
+        return Ok(room);
+    };
+    store.carve(place, slot, size)?;
+    Ok(room)
+}

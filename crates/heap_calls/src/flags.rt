@@ -1,0 +1,102 @@
+//! The flags of handles.
+
+ghost use Rattle.std.specs.Prelude.{◌≡◌, ◌≢◌};
+ghost use Rattle.heap_calls.specs.Given.{IsAnswer, seen_flags};
+ghost use Rattle.heap_calls.specs.Answer.{change_flags, noting, silent};
+ghost use Rattle.heap_calls.specs.Purging.{h_purge, h_no_purge, h_get_state, h_set_state};
+ghost use Rattle.heap_calls.specs.Loose.{flags_with, bits_of};
+
+use crate::heap::{Heap, find_block};
+use crate::refusal::Refusal;
+use block_store::{BlockStore, Flags, Seen};
+
+impl<S: BlockStore> Heap<S> {
+    /// `HPurge`: a handle's block may be emptied.
+    pub fn h_purge(&mut self, handle: Option<usize>) -> Result<(), Refusal>
+        ensures answer { IsAnswer (noting (h_purge handle) self.old) result self.new }
+        ensures host { result ≢ Err Refusal.HostMemory }
+    {
+        let answer = self.set_flags(handle, None, Some(true));
+        self.note(answer)
+    }
+
+    /// `HNoPurge`: a handle's block isn't emptied.
+    pub fn h_no_purge(&mut self, handle: Option<usize>) -> Result<(), Refusal>
+        ensures answer { IsAnswer (noting (h_no_purge handle) self.old) result self.new }
+        ensures host { result ≢ Err Refusal.HostMemory }
+    {
+        let answer = self.set_flags(handle, None, Some(false));
+        self.note(answer)
+    }
+
+    /// `HGetState`: a handle's flags as bits of a byte: locked 128, purgeable 64.
+    pub fn h_get_state(&mut self, handle: Option<usize>) -> Result<u8, Refusal>
+        ensures answer { IsAnswer (noting (h_get_state handle) self.old) result self.new }
+        ensures host { result ≢ Err Refusal.HostMemory }
+    {
+        let answer = self.state_of(handle);
+        self.note(answer)
+    }
+
+    /// `HSetState`: a handle's flags become those of a byte as `HGetState` tells it.
+    pub fn h_set_state(&mut self, handle: Option<usize>, byte: u8) -> Result<(), Refusal>
+        ensures answer { IsAnswer (noting (h_set_state handle byte) self.old) result self.new }
+        ensures host { result ≢ Err Refusal.HostMemory }
+    {
+        let locked = byte / 128 % 2 == 1;
+        let purgeable = byte / 64 % 2 == 1;
+        let answer = self.set_flags(handle, Some(locked), Some(purgeable));
+        self.note(answer)
+    }
+
+    /// Sets the flags that are given of a handle's block; the others stay.
+    pub(crate) fn set_flags(
+        &mut self,
+        handle: Option<usize>,
+        locked: Option<bool>,
+        purgeable: Option<bool>,
+    ) -> Result<(), Refusal>
+        ensures answer { IsAnswer (silent (change_flags (flags_with locked purgeable) handle) self.old) result self.new }
+        ensures host { result ≢ Err Refusal.HostMemory }
+    {
+        let place = find_block(&self.store, &self.names, handle)?;
+        let Some(flags) = flags_of(self.store.block_at(place)) else {
+            return Ok(());
+        };
+        let changed = Flags {
+            locked: locked.unwrap_or(flags.locked),
+            purgeable: purgeable.unwrap_or(flags.purgeable),
+        };
+        self.store.set_flags(place, changed);
+        Ok(())
+    }
+
+    /// The flags of a handle's block as bits.
+    fn state_of(&self, handle: Option<usize>) -> Result<u8, Refusal>
+        ensures answer { IsAnswer (silent (h_get_state handle) self.now) result self.now }
+        ensures host { result ≢ Err Refusal.HostMemory }
+    {
+        let place = find_block(&self.store, &self.names, handle)?;
+        Ok(bits_of(flags_of(self.store.block_at(place))))
+    }
+}
+
+/// The flags of a block that was looked at, where it is a relocatable one.
+fn flags_of(seen: Option<Seen>) -> Option<Flags>
+    ensures { result ≡ seen_flags seen }
+{
+    match seen {
+        Some(Seen::Relocatable(_, flags, _)) => Some(flags),
+        _ => None,
+    }
+}
+
+/// Flags as bits of a byte: locked 128, purgeable 64.
+fn bits_of(flags: Option<Flags>) -> u8
+    ensures { result ≡ bits_of flags }
+{
+    let Some(flags) = flags else { return 0 };
+    let locked = if flags.locked { 128 } else { 0 };
+    let purgeable = if flags.purgeable { 64 } else { 0 };
+    locked + purgeable
+}

@@ -1,0 +1,94 @@
+//! Purging.
+
+ghost use Rattle.std.specs.Prelude.{◌≡◌, ◌≢◌};
+ghost use Rattle.heap_calls.specs.Given.{IsAnswer};
+ghost use Rattle.heap_calls.specs.Answer.{noting, silent, searching};
+ghost use Rattle.heap_calls.specs.Purging.{blocks_purged, purge_mem, purge_space, max_mem};
+ghost use Rattle.heap_calls.specs.Searches.{purge_mem_searches};
+
+use crate::compaction::{compact, has_room};
+use crate::heap::Heap;
+use crate::refusal::Refusal;
+use block_store::{BlockStore, Named};
+use mac_words::{OsErr, phys};
+
+/// What could be had if all blocks were emptied that may be.
+#[derive(Clone, Copy, Debug, PartialEq, Eq)]
+pub struct Space {
+    /// The bytes of all Free blocks, headers included.
+    pub total: u32,
+    /// The most bytes that one block could have without another being moved.
+    pub contiguous: u32,
+}
+
+impl<S: BlockStore> Heap<S> {
+    /// `PurgeMem`: empties blocks until a block of `size` bytes has room; -108 where all that may be are
+    /// emptied and it has none.
+    pub fn purge_mem(&mut self, size: u32) -> Result<(), Refusal>
+        ensures answer { IsAnswer (searching (purge_mem_searches size self.old.heap) (noting (purge_mem size) self.old)) result self.new }
+        ensures host { result ≢ Err Refusal.HostMemory }
+    {
+        let answer = self.purge_for(size);
+        self.note(answer)
+    }
+
+    /// `PurgeSpace`: what could be had if all blocks were emptied that may be.
+    pub fn purge_space(&mut self) -> Space
+        ensures { noting purge_space self.old ≡ (Ok (result.total, result.contiguous), self.new) }
+    {
+        self.log.code = OsErr::NO_ERR;
+        let purges = purges_for(&self.store, None);
+        Space {
+            total: self.store.free_after(purges, Named::Nothing),
+            contiguous: self
+                .store
+                .largest_after(purges, Named::Nothing)
+                .saturating_sub(16),
+        }
+    }
+
+    /// `MaxMem`: empties all blocks that may be, and settles all runs; the most bytes that one block can then
+    /// have.
+    pub fn max_mem(&mut self) -> u32
+        ensures { noting max_mem self.old ≡ (Ok result, self.new) }
+    {
+        let purges = purges_for(&self.store, None);
+        self.store.purge(purges, Named::Nothing);
+        compact(&mut self.store, None);
+        self.log.code = OsErr::NO_ERR;
+        self.store.largest_free().saturating_sub(16)
+    }
+
+    /// Empties blocks until a block of `size` bytes has room, and counts the looks for it.
+    fn purge_for(&mut self, size: u32) -> Result<(), Refusal>
+        ensures answer { IsAnswer (searching (purge_mem_searches size self.old.heap) (silent (purge_mem size) self.old)) result self.new }
+        ensures host { result ≢ Err Refusal.HostMemory }
+    {
+        let bytes = phys(size);
+        let purges = purges_for(&self.store, bytes);
+        self.store.purge(purges, Named::Nothing);
+        let served = has_room(&self.store, bytes, 0);
+        self.log.count(purges + 1);
+        if !served {
+            return Err(Refusal::Code(OsErr::MEM_FULL));
+        }
+        Ok(())
+    }
+}
+
+/// How many blocks are emptied, lowest first, until a Free block of so many bytes stands; all that may be
+/// where none does or no size is given.
+///
+/// *Inside Macintosh: Memory*, chapter 1, "Purging and Reallocating Blocks".
+fn purges_for<S: BlockStore>(store: &S, bytes: Option<u32>) -> u32
+    ensures { result ≡ blocks_purged bytes (S.zone store.now) }
+{
+    let mut purges = 0;
+    while store.next_purgeable(purges, Named::Nothing).is_some() {
+        if has_room(store, bytes, purges) {
+            return purges;
+        }
+        purges += 1;
+    }
+    purges
+}

@@ -1,0 +1,37 @@
+//! The block of a handle.
+
+ghost use Rattle.heap_calls.specs.Numbered.{Agrees};
+ghost use Rattle.heap_calls.specs.Reaching.{Reaches};
+
+use crate::name::{Entry, slot_of};
+use crate::refusal::Refusal;
+use block_store::BlockStore;
+use mac_words::OsErr;
+
+/// A handle with a block: its number, the slot that leads to the block, and the block's place.
+#[derive(Clone, Copy, Debug, PartialEq, Eq)]
+pub struct Reached {
+    pub number: usize,
+    pub slot: u32,
+    pub place: u32,
+}
+
+/// The block of the handle that a name is bound to.
+pub fn reach<S: BlockStore>(
+    store: &S,
+    names: &[Entry],
+    handle: Option<usize>,
+) -> Result<Reached, Refusal>
+    requires { Agrees (S.zone store.now) (S.rest store.now) names.now }
+    ensures { Reaches (S.zone store.now) (S.rest store.now).slots names.now handle result }
+{
+    let found = slot_of(names, handle)?;
+    let Some(place) = store.place_of(found.slot) else {
+        return Err(Refusal::Code(OsErr::NIL_HANDLE));
+    };
+    Ok(Reached {
+        number: found.number,
+        slot: found.slot,
+        place,
+    })
+}
