@@ -138,3 +138,14 @@ fn purge_mem_stops_where_there_is_room(rt: HostRuntime) -> Result<(), Fail> {
     assert_eq!(rt; text.as_slice(), expected.as_slice());
     Ok(())
 }
+
+#[test]
+fn masters_block_has_its_run_packed_first(rt: HostRuntime) -> Result<(), Fail> {
+    let script =
+        b"NewPtr p 100\nNewHandle h 0\nNewHandle h0 0\nNewHandle h1 0\nNewHandle h2 0\nNewHandle h3 0\nNewHandle h4 0\nNewHandle h5 0\nNewHandle h6 0\nNewHandle h7 0\nNewHandle h8 0\nNewHandle h9 0\nNewHandle h10 0\nNewHandle h11 0\nNewHandle h12 0\nNewHandle h13 0\nNewHandle h14 0\nNewHandle h15 0\nNewHandle h16 0\nNewHandle h17 0\nNewHandle h18 0\nNewHandle h19 0\nNewHandle h20 0\nNewHandle h21 0\nNewHandle h22 0\nNewHandle h23 0\nNewHandle h24 0\nNewHandle h25 0\nNewHandle h26 0\nNewHandle h27 0\nNewHandle h28 0\nNewHandle h29 0\nNewHandle h30 0\nNewHandle h31 0\nNewHandle h32 0\nNewHandle h33 0\nNewHandle h34 0\nNewHandle h35 0\nNewHandle h36 0\nNewHandle h37 0\nNewHandle h38 0\nNewHandle h39 0\nNewHandle h40 0\nNewHandle h41 0\nNewHandle h42 0\nNewHandle h43 0\nNewHandle h44 0\nNewHandle h45 0\nNewHandle h46 0\nNewHandle h47 0\nNewHandle h48 0\nNewHandle h49 0\nNewHandle h50 0\nNewHandle h51 0\nNewHandle h52 0\nNewHandle h53 0\nNewHandle h54 0\nNewHandle h55 0\nNewHandle h56 0\nNewHandle h57 0\nNewHandle h58 0\nNewHandle h59 0\nNewHandle h60 0\nNewHandle h61 0\nNewHandle h62 0\nWhere h\nDisposePtr p\nFreeMem\nMaxBlock\nNewHandle k 0\nWhere h\nWhere k\nFreeMem\n";
+    let expected =
+        b"launch 0 1584\n1 NewPtr 0\n2 NewHandle 0\n3 NewHandle 0\n4 NewHandle 0\n5 NewHandle 0\n6 NewHandle 0\n7 NewHandle 0\n8 NewHandle 0\n9 NewHandle 0\n10 NewHandle 0\n11 NewHandle 0\n12 NewHandle 0\n13 NewHandle 0\n14 NewHandle 0\n15 NewHandle 0\n16 NewHandle 0\n17 NewHandle 0\n18 NewHandle 0\n19 NewHandle 0\n20 NewHandle 0\n21 NewHandle 0\n22 NewHandle 0\n23 NewHandle 0\n24 NewHandle 0\n25 NewHandle 0\n26 NewHandle 0\n27 NewHandle 0\n28 NewHandle 0\n29 NewHandle 0\n30 NewHandle 0\n31 NewHandle 0\n32 NewHandle 0\n33 NewHandle 0\n34 NewHandle 0\n35 NewHandle 0\n36 NewHandle 0\n37 NewHandle 0\n38 NewHandle 0\n39 NewHandle 0\n40 NewHandle 0\n41 NewHandle 0\n42 NewHandle 0\n43 NewHandle 0\n44 NewHandle 0\n45 NewHandle 0\n46 NewHandle 0\n47 NewHandle 0\n48 NewHandle 0\n49 NewHandle 0\n50 NewHandle 0\n51 NewHandle 0\n52 NewHandle 0\n53 NewHandle 0\n54 NewHandle 0\n55 NewHandle 0\n56 NewHandle 0\n57 NewHandle 0\n58 NewHandle 0\n59 NewHandle 0\n60 NewHandle 0\n61 NewHandle 0\n62 NewHandle 0\n63 NewHandle 0\n64 NewHandle 0\n65 NewHandle 0\n66 Where 0 416\n67 DisposePtr 0\n68 FreeMem 0 288\n69 MaxBlock 0 272\n70 NewHandle 0\n71 Where 0 560\n72 Where 0 1584\n73 FreeMem 0 0\nend 0\n";
+    let text = transcript(rt.alloc(), 1584, script)?;
+    assert_eq!(rt; text.as_slice(), expected.as_slice());
+    Ok(())
+}

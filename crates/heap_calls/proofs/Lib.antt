@@ -21,6 +21,7 @@ pub mod MostRoom
 pub mod Knowing
 pub mod KnownChanges
 pub mod LastPutLaws
+pub mod Fullness
 pub mod Alike
 pub mod AlikeCalls
 pub mod LockedLaws

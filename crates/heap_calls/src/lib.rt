@@ -11,6 +11,7 @@ mod flags;
 mod growing;
 mod growing_in_place;
 mod heap;
+mod laws;
 mod locking;
 mod log;
 mod masters;
@@ -25,6 +26,7 @@ mod search;
 mod sizing;
 
 pub use heap::Heap;
+pub use laws::new_handle_is_full_only_without_room;
 pub use log::Log;
 pub use name::Entry;
 pub use purging::Space;
