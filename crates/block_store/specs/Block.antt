@@ -1,6 +1,8 @@
-use Rattle.std.specs.Prelude.{ℕ, ◌+◌, ◌-◌, Bool, true, false, not, ◌&&◌, ◌==◌, List, [], ◌∷◌, ◌++◌, length, take, drop, replicate, map, nat_le, zero, suc, if◌then◌else◌}
+use Rattle.std.specs.Prelude.{ℕ, ◌+◌, ◌-◌, Bool, true, false, not, ◌&&◌, ◌==◌, List, [], ◌∷◌, ◌++◌, length, take}
+use Rattle.std.specs.Prelude.{replicate, map, nat_le, zero, suc, if◌then◌else◌}
 use Rattle.mac_words.specs.Size.{padded}
 use Rattle.block_store.specs.declared.flags.Flags.{Flags}
+use Rattle.block_store.specs.declared.measures.TheConstants.{MASTERS_SIZE}
 
 -- The blocks of a heap zone, from bottom to top. Inside Macintosh: Memory, chapter 1, "Heap Zones", and chapter 2,
 -- "Blocks" and "Heap Zones".
@@ -21,7 +23,7 @@ pub data Block : Type 0 where
 abbrev pub size : Block → ℕ
 size (Free n) = n
 size (Fixed id content) = padded (length content)
-size Masters = 272
+size Masters = MASTERS_SIZE
 size (Relocatable id flags content) = padded (length content)
 
 -- what blocks come to together
@@ -114,7 +116,7 @@ rename f g blocks = map (rename_block f g) blocks
 
 -- a fresh zone of n bytes
 abbrev pub fresh : ℕ → List Block
-fresh n = Masters ∷ free (n - 272)
+fresh n = Masters ∷ free (n - MASTERS_SIZE)
 
 -- the relocatable block of a name
 abbrev pub is_relocatable : ℕ → Block → Bool
@@ -150,7 +152,3 @@ with_content bytes (Free n) = Free n
 with_content bytes (Fixed id content) = Fixed id bytes
 with_content bytes Masters = Masters
 with_content bytes (Relocatable id flags content) = Relocatable id flags bytes
-
--- bytes with x in place from i on
-abbrev pub written : ℕ → List ℕ → List ℕ → List ℕ
-written i x bytes = take i bytes ++ x ++ drop (i + length x) bytes

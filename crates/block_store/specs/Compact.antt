@@ -1,8 +1,11 @@
-use Rattle.std.specs.Prelude.{◌≡◌, ℕ, ◌+◌, ◌≤◌, ◌%◌, zero, suc, Bool, false, Option, Some, None, List, [], ◌∷◌, ◌++◌, length, max, if◌then◌else◌}
+use Rattle.std.specs.Prelude.{◌≡◌, ℕ, ◌+◌, ◌≤◌, ◌%◌, zero, suc, Bool, false, Option, Some, None, List, [], ◌∷◌, ◌++◌}
+use Rattle.std.specs.Prelude.{length, max, nat_lt, if◌then◌else◌}
 use native.Mathlib.Nat.{ℕ_set}
 use Rattle.std.specs.Option.{option_map}
 use Rattle.mac_words.specs.Size.{padded}
-use Rattle.block_store.specs.Block.{Block, Free, Fixed, Masters, Relocatable, sizes, free_of, free_sum, is_room, is_relocatable}
+use Rattle.block_store.specs.declared.measures.TheConstants.{MASTERS_SIZE, UNIT}
+use Rattle.block_store.specs.Block.{Block, Free, Fixed, Masters, Relocatable, count, sizes, free_of, free_sum, is_room}
+use Rattle.block_store.specs.Block.{is_relocatable}
 use Rattle.block_store.specs.Run.{Stretch, RunSpot, segments, runs, joined, run_raised, run_at, has, settle}
 use Rattle.block_store.specs.Room.{spot}
 use Rattle.block_store.specs.Rest.{falling}
@@ -41,7 +44,8 @@ nth_run i zone = nth_run_of i (segments zone).first (segments zone).rest
 -- the place of the run of an index, if there is one
 abbrev pub FindsRun : ℕ → List Block → Option ℕ → Type 0
 FindsRun i zone None = nth_run i zone ≡ None
-FindsRun i zone (Some place) = (r : RunSpot) × (nth_run i zone ≡ Some r) × (run_at place zone ≡ Some r) × (sizes r.below ≡ place)
+FindsRun i zone (Some place) = (r : RunSpot) × (nth_run i zone ≡ Some r) × (run_at place zone ≡ Some r)
+    × (sizes r.below ≡ place)
 
 -- a run and the parts above it, of which the k lowest runs are settled
 abbrev pub settled_runs : ℕ → List Block → List Stretch → List Block
@@ -81,6 +85,23 @@ compacted p zone = settled (runs_settled p zone) zone
 abbrev pub distance : ℕ → List Block → Option ℕ
 distance number zone = option_map (λ s. sizes s.below) (spot (is_relocatable number) zone)
 
+-- there are both distances, and the first is less
+abbrev pub is_less : Option ℕ → Option ℕ → Bool
+is_less None was = false
+is_less (Some is) None = false
+is_less (Some is) (Some was) = nat_lt is was
+
+-- a relocatable block stands lower in the new list than in the old one
+abbrev pub stands_lower : List Block → List Block → Block → Bool
+stands_lower old new (Free n) = false
+stands_lower old new (Fixed id content) = false
+stands_lower old new Masters = false
+stands_lower old new (Relocatable id flags content) = is_less (distance id new) (distance id old)
+
+-- how many relocatable blocks of the old list stand lower in the new one
+abbrev pub lowered : List Block → List Block → ℕ
+lowered old new = count (stands_lower old new) old
+
 -- no block is higher than it was
 abbrev pub NoneRises : List Block → List Block → Type 0
 NoneRises old new = (number was is : ℕ) → distance number old ≡ Some was → distance number new ≡ Some is → is ≤ was
@@ -88,7 +109,7 @@ NoneRises old new = (number was is : ℕ) → distance number old ≡ Some was �
 -- each Free block takes a multiple of 16 bytes; all other blocks do by their sizes
 abbrev pub Aligned : List Block → Type 0
 Aligned [] = Unit {0}
-Aligned (b ∷ above) = (free_of b % 16 ≡ 0) × Aligned above
+Aligned (b ∷ above) = (free_of b % UNIT ≡ 0) × Aligned above
 
 pub Aligned-prop : (zone : List Block) → IsProp (Aligned zone)
 Aligned-prop [] = hlevel
@@ -99,12 +120,12 @@ abbrev pub Placed : ℕ → List Block → Type 0
 Placed place [] = Unit {0}
 Placed place (Free n ∷ above) = Placed (place + n) above
 Placed place (Fixed id content ∷ above) = (id ≡ place) × Placed (place + padded (length content)) above
-Placed place (Masters ∷ above) = Placed (place + 272) above
+Placed place (Masters ∷ above) = Placed (place + MASTERS_SIZE) above
 Placed place (Relocatable id flags content ∷ above) = Placed (place + padded (length content)) above
 
 pub Placed-prop : (place : ℕ) (zone : List Block) → IsProp (Placed place zone)
 Placed-prop place [] = hlevel
 Placed-prop place (Free n ∷ above) = Placed-prop (place + n) above
 Placed-prop place (Fixed id content ∷ above) = hlevel (Placed-prop (place + padded (length content)) above, ℕ_set)
-Placed-prop place (Masters ∷ above) = Placed-prop (place + 272) above
+Placed-prop place (Masters ∷ above) = Placed-prop (place + MASTERS_SIZE) above
 Placed-prop place (Relocatable id flags content ∷ above) = Placed-prop (place + padded (length content)) above

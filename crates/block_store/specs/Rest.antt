@@ -1,13 +1,13 @@
 use Rattle.std.specs.Prelude.{◌≡◌, ℕ, ◌+◌, List, [], ◌∷◌, min}
 use denote.RawPtr.{Ptr}
+use Rattle.windows.specs.declared.Window.{Window}
 use Rattle.block_store.specs.Block.{Block, Free, Fixed, Masters, Relocatable, is_mover, count}
 use Rattle.block_store.specs.Slot.{Slot, set_slot, AreSlots}
 
--- where a store lies: in the memory that begins at home, from where on, and how many bytes
-pub record Window : Type 0 where
+-- where a store lies: in a window of the memory that begins at home
+pub record Site : Type 0 where
   pub home : Ptr
-  pub at : ℕ
-  pub len : ℕ
+  pub window : Window
 
 -- what a store has beside its blocks: what each number is as a slot, how many slots lead to no handle and how many
 -- there are, how often a block was moved down, and where the store lies
@@ -16,7 +16,7 @@ pub record Rest : Type 0 where
   pub unused : ℕ
   pub all : ℕ
   pub moves : ℕ
-  pub window : Window
+  pub window : Site
 
 -- what a store has beside its blocks is as expected
 pub record IsRest (expected : Rest) (found : Rest) : Type 0 where

@@ -1,4 +1,5 @@
-use Rattle.std.specs.Prelude.{ℕ, ◌-◌, ◌==◌, Bool, not, ◌&&◌, Option, Some, None, List, [], ◌∷◌, ◌++◌, if◌then◌else◌, nat_le, option_and_then, zero, suc}
+use Rattle.std.specs.Prelude.{ℕ, ◌-◌, ◌==◌, Bool, not, ◌&&◌, Option, Some, None, List, [], ◌∷◌, ◌++◌, if◌then◌else◌}
+use Rattle.std.specs.Prelude.{nat_le, option_and_then, zero, suc}
 use Rattle.std.specs.Option.{option_map, option_or}
 use Rattle.block_store.specs.Block.{Block, Free, size, count, is_purgeable, is_room, tidy, rename, rename_block}
 use Rattle.block_store.specs.Run.{change_run, has_free, settle, low}
@@ -20,7 +21,8 @@ rename_spot f g s = record { below = rename f g s.below; here = rename_block f g
 -- the lowest block that passes
 abbrev pub spot : (Block → Bool) → List Block → Option Spot
 spot test [] = None
-spot test (b ∷ above) = if test b then Some (record { below = []; here = b; above = above }) else option_map (raised b) (spot test above)
+spot test (b ∷ above) = if test b then Some (record { below = []; here = b; above = above })
+    else option_map (raised b) (spot test above)
 
 -- the block whose distance from the bottom is this place
 abbrev pub spot_at : ℕ → List Block → Option Spot
@@ -44,7 +46,8 @@ least answer (suc n) = option_or (answer zero) (least (λ k. answer (suc k)) n)
 
 -- the lowest Free block of at least p bytes; else the lowest run with so many Free bytes is settled, and its Free block
 abbrev pub place : ℕ → List Block → Option Spot
-place p zone = option_or (spot (is_room p) zone) (option_and_then (spot (is_room p)) (option_map tidy (change_run (has_free p) settle zone)))
+place p zone = option_or (spot (is_room p) zone)
+    (option_and_then (spot (is_room p)) (option_map tidy (change_run (has_free p) settle zone)))
 
 -- a relocatable block put at the lower end of its place
 abbrev pub put_in_place : Block → List Block → Option (List Block)
@@ -62,7 +65,8 @@ may_go spared b = is_purgeable b && not (spared b)
 abbrev pub emptied : ℕ → (Block → Bool) → List Block → List Block
 emptied zero spared blocks = blocks
 emptied (suc k) spared [] = []
-emptied (suc k) spared (b ∷ above) = if may_go spared b then Free (size b) ∷ emptied k spared above else b ∷ emptied (suc k) spared above
+emptied (suc k) spared (b ∷ above) = if may_go spared b then Free (size b) ∷ emptied k spared above
+    else b ∷ emptied (suc k) spared above
 
 -- the same, joined with their Free neighbours
 abbrev pub purge : ℕ → (Block → Bool) → List Block → List Block

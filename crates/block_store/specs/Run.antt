@@ -1,4 +1,5 @@
-use Rattle.std.specs.Prelude.{ℕ, ◌-◌, ◌==◌, Bool, true, false, not, ◌&&◌, Option, Some, None, List, [], ◌∷◌, ◌++◌, filter, map, if◌then◌else◌, nat_le}
+use Rattle.std.specs.Prelude.{ℕ, ◌-◌, ◌==◌, Bool, true, false, not, ◌&&◌, Option, Some, None, List, [], ◌∷◌, ◌++◌}
+use Rattle.std.specs.Prelude.{filter, map, if◌then◌else◌, nat_le}
 use Rattle.std.specs.Option.{option_map}
 use Rattle.std.specs.List.{list_any}
 use Rattle.block_store.specs.Block.{Block, Free, Fixed, Masters, Relocatable, size, sizes, free_sum, is_mover, free}
@@ -22,7 +23,8 @@ pub record Segments : Type 0 where
 
 -- the segments with one block more at the bottom
 abbrev pub put_below : Block → Segments → Segments
-put_below b s = if in_run b then record { first = b ∷ s.first; rest = s.rest } else record { first = []; rest = record { barrier = b; run = s.first } ∷ s.rest }
+put_below b s = if in_run b then record { first = b ∷ s.first; rest = s.rest }
+    else record { first = []; rest = record { barrier = b; run = s.first } ∷ s.rest }
 
 -- the zone cut at its barriers
 abbrev pub segments : List Block → Segments
@@ -72,7 +74,8 @@ abbrev pub run_from : ℕ → List Block → List Stretch → Option RunSpot
 run_from place run [] = if place == 0 then Some (record { below = []; run = run; above = [] }) else None
 run_from place run (p ∷ parts) =
     if place == 0 then Some (record { below = []; run = run; above = p.barrier ∷ joined p.run parts })
-    else (if nat_le (sizes (run ++ p.barrier ∷ [])) place then option_map (run_raised (run ++ p.barrier ∷ [])) (run_from (place - sizes (run ++ p.barrier ∷ [])) p.run parts) else None)
+    else (if nat_le (sizes (run ++ p.barrier ∷ [])) place then option_map (run_raised (run ++ p.barrier ∷ []))
+    (run_from (place - sizes (run ++ p.barrier ∷ [])) p.run parts) else None)
 
 -- the run whose bottom is at this place
 abbrev pub run_at : ℕ → List Block → Option RunSpot

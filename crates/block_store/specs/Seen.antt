@@ -3,8 +3,8 @@ use Rattle.block_store.specs.Block.{Block, Free, Fixed, Masters, Relocatable}
 use Rattle.block_store.specs.Room.{Spot}
 use Rattle.block_store.specs.Grow.{freed}
 use Rattle.block_store.specs.declared.flags.Flags.{Flags}
-use Rattle.block_store.specs.declared.named.Seen.{Seen}
-use Rattle.block_store.specs.declared.named.Seen.TheVariants as see
+use Rattle.block_store.specs.declared.sparing.Seen.{Seen}
+use Rattle.block_store.specs.declared.sparing.Seen.TheVariants as see
 
 -- a block without its bytes
 abbrev pub seen : Block → Seen

@@ -1,19 +1,20 @@
 //! Bytes copied from one block of a list into another, or into itself.
 
 ghost use Rattle.std.specs.Prelude.{◌≡◌, ◌+◌, ◌≤◌, ◌<◌, ◌^◌, ◌++◌, ◌∷◌, take, length, vec_len, IfSome, IsSomeAnd};
-ghost use Rattle.block_store.specs.Block.{sizes, content_of, with_content, written};
+ghost use Rattle.block_store.specs.Block.{sizes, content_of, with_content};
+ghost use Rattle.windows.specs.Writes.{written};
 ghost use Rattle.block_store.specs.Room.{spot_at};
-ghost use Rattle.block_store.specs.ListStore.{block_of, blocks_of, nth_spot};
+ghost use Rattle.block_store.specs.Inner.ListStore.{block_of, blocks_of, nth_spot};
 
-use crate::entries::{Entry, index_at, written_entry};
+use crate::entries::{StoredBlock, index_at, written_entry};
 
 /// The bytes that an entry's block holds.
-fn content(entry: &Entry) -> &[u8]
+fn content(entry: &StoredBlock) -> &[u8]
     ensures { result.now ≡ content_of (block_of entry.now) }
 {
     match entry {
-        Entry::Fixed(_, content) => content.as_slice(),
-        Entry::Relocatable(_, _, content) => content.as_slice(),
+        StoredBlock::Fixed(_, content) => content.as_slice(),
+        StoredBlock::Relocatable(_, _, content) => content.as_slice(),
         _ => &[],
     }
 }
@@ -27,56 +28,66 @@ fn repeat(content: &mut Vec<u8>, bytes: usize, from: usize)
 }
 
 /// An entry with the first bytes of its content written into it, from an offset on.
-fn repeated_entry(entry: Entry, bytes: usize, from: usize) -> Entry
+fn repeated_entry(entry: StoredBlock, bytes: usize, from: usize) -> StoredBlock
     requires { from + bytes ≤ length (content_of (block_of entry)) }
-    ensures { block_of result ≡ with_content (written from (take bytes (content_of (block_of entry))) (content_of (block_of entry))) (block_of entry) }
+    ensures { block_of result ≡ with_content
+        (written from (take bytes (content_of (block_of entry))) (content_of (block_of entry))) (block_of entry) }
 {
     match entry {
-        Entry::Fixed(place, mut content) => {
+        StoredBlock::Fixed(place, mut content) => {
             repeat(&mut content, bytes, from);
-            Entry::Fixed(place, content)
+            StoredBlock::Fixed(place, content)
         }
-        Entry::Relocatable(slot, flags, mut content) => {
+        StoredBlock::Relocatable(slot, flags, mut content) => {
             repeat(&mut content, bytes, from);
-            Entry::Relocatable(slot, flags, content)
+            StoredBlock::Relocatable(slot, flags, content)
         }
         other => other,
     }
 }
 
 /// Writes the first bytes of the entry at an index into itself, from an offset on.
-fn copy_inside(entries: &mut Vec<Entry>, i: usize, bytes: usize, from: usize)
+fn copy_inside(entries: &mut Vec<StoredBlock>, i: usize, bytes: usize, from: usize)
     requires index { i < vec_len entries.old }
-    requires within { IsSomeAnd (nth_spot i (blocks_of entries.old.items)) (λ s. from + bytes ≤ length (content_of s.here)) }
+    requires within { IsSomeAnd (nth_spot i (blocks_of entries.old.items)) (λ s.
+        from + bytes ≤ length (content_of s.here)) }
     ensures { IfSome (nth_spot i (blocks_of entries.old.items)) (λ s.
-        blocks_of entries.new.items ≡ s.below ++ with_content (written from (take bytes (content_of s.here)) (content_of s.here)) s.here ∷ s.above) }
+        blocks_of entries.new.items ≡ s.below
+        ++ with_content (written from (take bytes (content_of s.here)) (content_of s.here)) s.here ∷ s.above) }
 {
-    let entry = std::mem::replace(&mut entries[i], Entry::Masters);
+    let entry = std::mem::replace(&mut entries[i], StoredBlock::Masters);
     entries[i] = repeated_entry(entry, bytes, from);
 }
 
 /// Writes the first bytes of the entry at an index into that at another, from an offset on.
-fn copy_between(entries: &mut Vec<Entry>, i: usize, bytes: usize, j: usize, from: usize)
+fn copy_between(entries: &mut Vec<StoredBlock>, i: usize, bytes: usize, j: usize, from: usize)
     requires first { i < vec_len entries.old }
     requires second { j < vec_len entries.old }
     requires two { (i ≡ j) → ⊥ }
     requires source { IsSomeAnd (nth_spot i (blocks_of entries.old.items)) (λ s. bytes ≤ length (content_of s.here)) }
-    requires within { IsSomeAnd (nth_spot j (blocks_of entries.old.items)) (λ s. from + bytes ≤ length (content_of s.here)) }
-    ensures { IfSome (nth_spot i (blocks_of entries.old.items)) (λ t. IfSome (nth_spot j (blocks_of entries.old.items)) (λ s.
-        blocks_of entries.new.items ≡ s.below ++ with_content (written from (take bytes (content_of t.here)) (content_of s.here)) s.here ∷ s.above)) }
+    requires within { IsSomeAnd (nth_spot j (blocks_of entries.old.items)) (λ s.
+        from + bytes ≤ length (content_of s.here)) }
+    ensures { IfSome (nth_spot i (blocks_of entries.old.items)) (λ t.
+        IfSome (nth_spot j (blocks_of entries.old.items)) (λ s.
+        blocks_of entries.new.items ≡ s.below
+        ++ with_content (written from (take bytes (content_of t.here)) (content_of s.here)) s.here ∷ s.above)) }
 {
-    let entry = std::mem::replace(&mut entries[j], Entry::Masters);
+    let entry = std::mem::replace(&mut entries[j], StoredBlock::Masters);
     let source = content(&entries[i]);
     entries[j] = written_entry(entry, from, &source[..bytes]);
 }
 
 /// Writes the first bytes of the entry at a place into one at another, from an offset on.
-pub fn copy_at(entries: &mut Vec<Entry>, source: u32, bytes: u32, place: u32, from: u32)
+pub fn copy_at(entries: &mut Vec<StoredBlock>, source: u32, bytes: u32, place: u32, from: u32)
     requires fits { sizes (blocks_of entries.old.items) < 2 ^ 32 }
-    requires source { IsSomeAnd (spot_at source (blocks_of entries.old.items)) (λ s. bytes ≤ length (content_of s.here)) }
-    requires within { IsSomeAnd (spot_at place (blocks_of entries.old.items)) (λ s. from + bytes ≤ length (content_of s.here)) }
-    ensures { IfSome (spot_at source (blocks_of entries.old.items)) (λ t. IfSome (spot_at place (blocks_of entries.old.items)) (λ s.
-        blocks_of entries.new.items ≡ s.below ++ with_content (written from (take bytes (content_of t.here)) (content_of s.here)) s.here ∷ s.above)) }
+    requires source { IsSomeAnd (spot_at source (blocks_of entries.old.items)) (λ s.
+        bytes ≤ length (content_of s.here)) }
+    requires within { IsSomeAnd (spot_at place (blocks_of entries.old.items)) (λ s.
+        from + bytes ≤ length (content_of s.here)) }
+    ensures { IfSome (spot_at source (blocks_of entries.old.items)) (λ t.
+        IfSome (spot_at place (blocks_of entries.old.items)) (λ s.
+        blocks_of entries.new.items ≡ s.below
+        ++ with_content (written from (take bytes (content_of t.here)) (content_of s.here)) s.here ∷ s.above)) }
 {
     let Some(i) = index_at(entries, source) else {
         unreachable!()

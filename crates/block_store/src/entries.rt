@@ -1,19 +1,23 @@
 //! The list of a store's blocks.
 
-ghost use Rattle.std.specs.Prelude.{◌≡◌, ◌+◌, ◌≤◌, ◌<◌, ◌^◌, ◌++◌, length, take, drop, MatchOption, IfOk, OnOk, OnErr, IfSome, IsSomeAnd, ◌∷◌, replicate, vec_len};
+ghost use Rattle.std.specs.Prelude.{◌≡◌, ◌+◌, ◌≤◌, ◌<◌, ◌^◌, ◌++◌, length, take, drop, MatchOption, IfOk, OnOk, OnErr};
+ghost use Rattle.std.specs.Prelude.{IfSome, IsSomeAnd, ◌∷◌, replicate, vec_len};
 ghost use Rattle.std.specs.Option.{option_map};
 ghost use Rattle.mac_words.specs.Size.{padded};
-ghost use Rattle.block_store.specs.Block.{size, sizes, free_sum, tidy, tidy_top, is_relocatable, content_of, with_content, written};
+ghost use Rattle.block_store.specs.Block.{size, sizes, free_sum, tidy, tidy_top, is_relocatable, content_of};
+ghost use Rattle.block_store.specs.Block.{with_content};
+ghost use Rattle.windows.specs.Writes.{written};
 ghost use Rattle.block_store.specs.Room.{spot, spot_at, filled};
 ghost use Rattle.block_store.specs.Grow.{freed};
-ghost use Rattle.block_store.specs.ListStore.{block_of, blocks_of, nth_spot, freed_first};
+ghost use Rattle.block_store.specs.Inner.ListStore.{block_of, blocks_of, nth_spot, freed_first};
 
 use crate::flags::Flags;
+use crate::measures::{HEADER_SIZE, MASTERS_SIZE, UNIT};
 use std::alloc::{AllocError, Global};
 
 /// A block and what it holds: a Fixed one with its place, a relocatable one with its slot.
 #[derive(Debug, Drop)]
-pub enum Entry {
+pub enum StoredBlock {
     Free(u32),
     Fixed(u32, Vec<u8>),
     Masters,
@@ -25,34 +29,34 @@ pub fn padded_size(bytes: usize) -> u32
     requires { padded bytes < 2 ^ 32 }
     ensures { result ≡ padded bytes }
 {
-    (16 + 16 * ((bytes + 15) / 16)) as u32
+    HEADER_SIZE + UNIT * ((bytes + 15) / UNIT as usize) as u32
 }
 
 /// The bytes that an entry's block takes.
-pub fn entry_size(entry: &Entry) -> u32
+pub fn entry_size(entry: &StoredBlock) -> u32
     requires { size (block_of entry.now) < 2 ^ 32 }
     ensures { result ≡ size (block_of entry.now) }
 {
     match entry {
-        Entry::Free(n) => *n,
-        Entry::Fixed(_, content) => padded_size(content.len()),
-        Entry::Masters => 272,
-        Entry::Relocatable(_, _, content) => padded_size(content.len()),
+        StoredBlock::Free(n) => *n,
+        StoredBlock::Fixed(_, content) => padded_size(content.len()),
+        StoredBlock::Masters => MASTERS_SIZE,
+        StoredBlock::Relocatable(_, _, content) => padded_size(content.len()),
     }
 }
 
 /// Whether a slot leads to an entry's block.
-pub fn is_of_slot(entry: &Entry, number: u32) -> bool
+pub fn is_of_slot(entry: &StoredBlock, number: u32) -> bool
     ensures { result ≡ is_relocatable number (block_of entry.now) }
 {
     match entry {
-        Entry::Relocatable(slot, _, _) => *slot == number,
+        StoredBlock::Relocatable(slot, _, _) => *slot == number,
         _ => false,
     }
 }
 
 /// The place of the block that a slot leads to.
-pub fn find_slot(entries: &[Entry], number: u32) -> Option<u32>
+pub fn find_slot(entries: &[StoredBlock], number: u32) -> Option<u32>
     requires { sizes (blocks_of entries.now) < 2 ^ 32 }
     ensures { result ≡ option_map (λ s. sizes s.below) (spot (is_relocatable number) (blocks_of entries.now)) }
 {
@@ -67,7 +71,7 @@ pub fn find_slot(entries: &[Entry], number: u32) -> Option<u32>
 }
 
 /// The index of the entry at a place.
-pub fn index_at(entries: &[Entry], place: u32) -> Option<usize>
+pub fn index_at(entries: &[StoredBlock], place: u32) -> Option<usize>
     requires { sizes (blocks_of entries.now) < 2 ^ 32 }
     ensures { MatchOption result (spot_at place (blocks_of entries.now) ≡ None)
         (λ i. (i < length entries.now) × (spot_at place (blocks_of entries.now) ≡ nth_spot i (blocks_of entries.now))) }
@@ -87,13 +91,13 @@ pub fn index_at(entries: &[Entry], place: u32) -> Option<usize>
 }
 
 /// The Free bytes of entries.
-pub fn free_total(entries: &[Entry]) -> u32
+pub fn free_total(entries: &[StoredBlock]) -> u32
     requires { sizes (blocks_of entries.now) < 2 ^ 32 }
     ensures { result ≡ free_sum (blocks_of entries.now) }
 {
     let mut total = 0;
     for entry in entries {
-        if let Entry::Free(n) = entry {
+        if let StoredBlock::Free(n) = entry {
             total += *n;
         }
     }
@@ -101,12 +105,13 @@ pub fn free_total(entries: &[Entry]) -> u32
 }
 
 /// Makes the entry at an index one with the next where both are Free, and drops it where it is of no bytes.
-fn join_at(entries: &mut Vec<Entry>, i: usize)
+fn join_at(entries: &mut Vec<StoredBlock>, i: usize)
     requires within { i < vec_len entries.old }
     requires fits { sizes (blocks_of entries.old.items) < 2 ^ 32 }
-    ensures { blocks_of entries.new.items ≡ take i (blocks_of entries.old.items) ++ tidy_top (drop i (blocks_of entries.old.items)) }
+    ensures { blocks_of entries.new.items
+        ≡ take i (blocks_of entries.old.items) ++ tidy_top (drop i (blocks_of entries.old.items)) }
 {
-    let Entry::Free(n) = entries[i] else {
+    let StoredBlock::Free(n) = entries[i] else {
         return;
     };
     if n == 0 {
@@ -114,15 +119,15 @@ fn join_at(entries: &mut Vec<Entry>, i: usize)
         return;
     }
     if i + 1 < entries.len() {
-        if let Entry::Free(m) = entries[i + 1] {
+        if let StoredBlock::Free(m) = entries[i + 1] {
             entries.remove(i + 1);
-            entries[i] = Entry::Free(n + m);
+            entries[i] = StoredBlock::Free(n + m);
         }
     }
 }
 
 /// Makes neighbouring Free entries one, and drops those of no bytes.
-pub fn tidy_entries(entries: &mut Vec<Entry>)
+pub fn tidy_entries(entries: &mut Vec<StoredBlock>)
     requires { sizes (blocks_of entries.old.items) < 2 ^ 32 }
     ensures { blocks_of entries.new.items ≡ tidy (blocks_of entries.old.items) }
 {
@@ -134,20 +139,21 @@ pub fn tidy_entries(entries: &mut Vec<Entry>)
 }
 
 /// Makes the entry at an index Free, where it is the slot's.
-fn free_if(entries: &mut Vec<Entry>, i: usize, number: u32)
+fn free_if(entries: &mut Vec<StoredBlock>, i: usize, number: u32)
     requires within { i < vec_len entries.old }
     requires fits { sizes (blocks_of entries.old.items) < 2 ^ 32 }
-    ensures { blocks_of entries.new.items ≡ take i (blocks_of entries.old.items) ++ freed_first (is_relocatable number) (drop i (blocks_of entries.old.items)) }
+    ensures { blocks_of entries.new.items ≡ take i (blocks_of entries.old.items)
+        ++ freed_first (is_relocatable number) (drop i (blocks_of entries.old.items)) }
 {
     let entry = &entries[i];
     if is_of_slot(entry, number) {
         let bytes = entry_size(entry);
-        entries[i] = Entry::Free(bytes);
+        entries[i] = StoredBlock::Free(bytes);
     }
 }
 
 /// Makes the entries of a slot Free.
-pub fn free_slot(entries: &mut Vec<Entry>, number: u32)
+pub fn free_slot(entries: &mut Vec<StoredBlock>, number: u32)
     requires { sizes (blocks_of entries.old.items) < 2 ^ 32 }
     ensures { blocks_of entries.new.items ≡ freed (is_relocatable number) (blocks_of entries.old.items) }
 {
@@ -157,17 +163,18 @@ pub fn free_slot(entries: &mut Vec<Entry>, number: u32)
 }
 
 /// Puts an entry at the lower end of the one at a place, and what it leaves of it above as Free.
-pub fn fill(entries: &mut Vec<Entry>, place: u32, new: Entry) -> Result<(), AllocError>
+pub fn fill(entries: &mut Vec<StoredBlock>, place: u32, new: StoredBlock) -> Result<(), AllocError>
     requires fits { sizes (blocks_of entries.old.items) < 2 ^ 32 }
     requires room { IsSomeAnd (spot_at place (blocks_of entries.old.items)) (λ s. size (block_of new) ≤ size s.here) }
-    ensures ok { OnOk result (IfSome (spot_at place (blocks_of entries.old.items)) (λ s. blocks_of entries.new.items ≡ filled (block_of new) s)) }
+    ensures ok { OnOk result (IfSome (spot_at place (blocks_of entries.old.items)) (λ s.
+        blocks_of entries.new.items ≡ filled (block_of new) s)) }
     ensures err { OnErr result (entries.new.items ≡ entries.old.items) }
 {
     let Some(i) = index_at(entries, place) else {
         unreachable!()
     };
     let left = entry_size(&entries[i]) - entry_size(&new);
-    entries.insert(i + 1, Entry::Free(left))?;
+    entries.insert(i + 1, StoredBlock::Free(left))?;
     entries[i] = new;
     tidy_entries(entries);
     Ok(())
@@ -182,35 +189,37 @@ fn overwrite(content: &mut Vec<u8>, from: usize, bytes: &[u8])
 }
 
 /// An entry with bytes written into its content.
-pub fn written_entry(entry: Entry, from: usize, bytes: &[u8]) -> Entry
+pub fn written_entry(entry: StoredBlock, from: usize, bytes: &[u8]) -> StoredBlock
     requires { from + length bytes.now ≤ length (content_of (block_of entry)) }
     ensures { block_of result ≡ with_content (written from bytes.now (content_of (block_of entry))) (block_of entry) }
 {
     match entry {
-        Entry::Free(n) => Entry::Free(n),
-        Entry::Fixed(place, mut content) => {
+        StoredBlock::Free(n) => StoredBlock::Free(n),
+        StoredBlock::Fixed(place, mut content) => {
             overwrite(&mut content, from, bytes);
-            Entry::Fixed(place, content)
+            StoredBlock::Fixed(place, content)
         }
-        Entry::Masters => Entry::Masters,
-        Entry::Relocatable(slot, flags, mut content) => {
+        StoredBlock::Masters => StoredBlock::Masters,
+        StoredBlock::Relocatable(slot, flags, mut content) => {
             overwrite(&mut content, from, bytes);
-            Entry::Relocatable(slot, flags, content)
+            StoredBlock::Relocatable(slot, flags, content)
         }
     }
 }
 
 /// Writes bytes into the content of the entry at a place, from an offset on.
-pub fn write_at(entries: &mut Vec<Entry>, place: u32, from: u32, bytes: &[u8])
+pub fn write_at(entries: &mut Vec<StoredBlock>, place: u32, from: u32, bytes: &[u8])
     requires fits { sizes (blocks_of entries.old.items) < 2 ^ 32 }
-    requires within { IsSomeAnd (spot_at place (blocks_of entries.old.items)) (λ s. from + length bytes.now ≤ length (content_of s.here)) }
+    requires within { IsSomeAnd (spot_at place (blocks_of entries.old.items)) (λ s.
+        from + length bytes.now ≤ length (content_of s.here)) }
     ensures { IfSome (spot_at place (blocks_of entries.old.items)) (λ s.
-        blocks_of entries.new.items ≡ s.below ++ with_content (written from bytes.now (content_of s.here)) s.here ∷ s.above) }
+        blocks_of entries.new.items
+        ≡ s.below ++ with_content (written from bytes.now (content_of s.here)) s.here ∷ s.above) }
 {
     let Some(i) = index_at(entries, place) else {
         unreachable!()
     };
-    let entry = std::mem::replace(&mut entries[i], Entry::Masters);
+    let entry = std::mem::replace(&mut entries[i], StoredBlock::Masters);
     entries[i] = written_entry(entry, from as usize, bytes);
 }
 

@@ -1,42 +1,45 @@
 //! Fixed blocks of a list, and new blocks of master pointers.
 
-ghost use Rattle.std.specs.Prelude.{◌≡◌, ◌+◌, ◌<◌, ◌^◌, ◌++◌, take, drop, ◌≤◌, vec_len, replicate, IsTrue, IfSome, IsSomeAnd, OnOk, OnErr};
+ghost use Rattle.std.specs.Prelude.{◌≡◌, ◌+◌, ◌<◌, ◌^◌, ◌++◌, take, drop, ◌≤◌, vec_len, replicate, IsTrue, IfSome};
+ghost use Rattle.std.specs.Prelude.{IsSomeAnd, OnOk, OnErr};
 ghost use Rattle.std.specs.Vec.{vec_capacity};
 ghost use Rattle.block_store.specs.Block.{Masters, sizes, is_fixed, is_room, tidy};
 ghost use Rattle.block_store.specs.Room.{spot_at, filled};
 ghost use Rattle.block_store.specs.Grow.{freed};
-ghost use Rattle.block_store.specs.ListStore.{block_of, blocks_of, freed_first};
+ghost use Rattle.block_store.specs.Inner.ListStore.{block_of, blocks_of, freed_first};
 ghost use Rattle.block_store.specs.declared.slots.SlotEntry.TheVariants.{Unused};
 
-use crate::entries::{Entry, entry_size, fill, tidy_entries};
+use crate::entries::{StoredBlock, entry_size, fill, tidy_entries};
+use crate::measures::{MASTERS_SIZE, SLOTS_A_BLOCK};
 use crate::slots::SlotEntry;
 use std::alloc::AllocError;
 
 /// Whether an entry is the Fixed block of a place.
-fn is_fixed_at(entry: &Entry, place: u32) -> bool
+fn is_fixed_at(entry: &StoredBlock, place: u32) -> bool
     ensures { result ≡ is_fixed place (block_of entry.now) }
 {
     match entry {
-        Entry::Fixed(own, _) => *own == place,
+        StoredBlock::Fixed(own, _) => *own == place,
         _ => false,
     }
 }
 
 /// Makes the entry at an index Free, where it is the Fixed block of a place.
-fn free_if(entries: &mut Vec<Entry>, i: usize, place: u32)
+fn free_if(entries: &mut Vec<StoredBlock>, i: usize, place: u32)
     requires within { i < vec_len entries.old }
     requires fits { sizes (blocks_of entries.old.items) < 2 ^ 32 }
-    ensures { blocks_of entries.new.items ≡ take i (blocks_of entries.old.items) ++ freed_first (is_fixed place) (drop i (blocks_of entries.old.items)) }
+    ensures { blocks_of entries.new.items
+        ≡ take i (blocks_of entries.old.items) ++ freed_first (is_fixed place) (drop i (blocks_of entries.old.items)) }
 {
     let entry = &entries[i];
     if is_fixed_at(entry, place) {
         let bytes = entry_size(entry);
-        entries[i] = Entry::Free(bytes);
+        entries[i] = StoredBlock::Free(bytes);
     }
 }
 
 /// Makes the Fixed entries of a place Free.
-fn free_fixed(entries: &mut Vec<Entry>, place: u32)
+fn free_fixed(entries: &mut Vec<StoredBlock>, place: u32)
     requires { sizes (blocks_of entries.old.items) < 2 ^ 32 }
     ensures { blocks_of entries.new.items ≡ freed (is_fixed place) (blocks_of entries.old.items) }
 {
@@ -46,7 +49,7 @@ fn free_fixed(entries: &mut Vec<Entry>, place: u32)
 }
 
 /// Makes the Fixed block at a place Free, and its Free neighbours one with it.
-pub fn free_place(entries: &mut Vec<Entry>, place: u32)
+pub fn free_place(entries: &mut Vec<StoredBlock>, place: u32)
     requires { sizes (blocks_of entries.old.items) < 2 ^ 32 }
     ensures { blocks_of entries.new.items ≡ tidy (freed (is_fixed place) (blocks_of entries.old.items)) }
 {
@@ -56,10 +59,10 @@ pub fn free_place(entries: &mut Vec<Entry>, place: u32)
 
 /// Adds the slots of a new block of master pointers, for which there is room.
 fn add_slots(slots: &mut Vec<SlotEntry>)
-    requires { vec_len slots.old + 64 ≤ vec_capacity slots.old }
-    ensures { slots.new.items ≡ slots.old.items ++ replicate 64 Unused }
+    requires { vec_len slots.old + SLOTS_A_BLOCK ≤ vec_capacity slots.old }
+    ensures { slots.new.items ≡ slots.old.items ++ replicate SLOTS_A_BLOCK Unused }
 {
-    match slots.resize(slots.len() + 64, SlotEntry::Unused) {
+    match slots.resize(slots.len() + SLOTS_A_BLOCK, SlotEntry::Unused) {
         Ok(()) => {}
         Err(_) => unreachable!(),
     }
@@ -67,19 +70,21 @@ fn add_slots(slots: &mut Vec<SlotEntry>)
 
 /// Puts a block of master pointers at the lower end of the Free one at a place, and adds its slots.
 pub fn put_masters(
-    entries: &mut Vec<Entry>,
+    entries: &mut Vec<StoredBlock>,
     slots: &mut Vec<SlotEntry>,
     place: u32,
 ) -> Result<(), AllocError>
     requires fits { sizes (blocks_of entries.old.items) < 2 ^ 32 }
-    requires room { IsSomeAnd (spot_at place (blocks_of entries.old.items)) (λ s. IsTrue (is_room 272 s.here)) }
-    ensures ok { OnOk result (IfSome (spot_at place (blocks_of entries.old.items)) (λ s. blocks_of entries.new.items ≡ filled Masters s)) }
-    ensures more { OnOk result (slots.new.items ≡ slots.old.items ++ replicate 64 Unused) }
+    requires room { IsSomeAnd (spot_at place (blocks_of entries.old.items)) (λ s.
+        IsTrue (is_room MASTERS_SIZE s.here)) }
+    ensures ok { OnOk result
+        (IfSome (spot_at place (blocks_of entries.old.items)) (λ s. blocks_of entries.new.items ≡ filled Masters s)) }
+    ensures more { OnOk result (slots.new.items ≡ slots.old.items ++ replicate SLOTS_A_BLOCK Unused) }
     ensures err { OnErr result (entries.new.items ≡ entries.old.items) }
     ensures same { OnErr result (slots.new.items ≡ slots.old.items) }
 {
-    slots.reserve(64)?;
-    fill(entries, place, Entry::Masters)?;
+    slots.reserve(SLOTS_A_BLOCK)?;
+    fill(entries, place, StoredBlock::Masters)?;
     add_slots(slots);
     Ok(())
 }

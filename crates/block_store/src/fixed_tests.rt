@@ -2,7 +2,7 @@
 
 ghost use Rattle.std.specs.Prelude.{◌≤◌};
 
-use super::{BlockStore, ListStore, Named, Seen};
+use super::{BlockStore, ListStore, Seen, Sparing};
 use crate::tests::{make, put, shown};
 use std::alloc::AllocError;
 use std::test::Fail;
@@ -12,7 +12,7 @@ fn make_fixed(store: &mut ListStore, size: u32) -> Result<Option<u32>, AllocErro
     requires { size ≤ 1024 }
 {
     let bytes = 16 + 16 * ((size + 15) / 16);
-    let Some(place) = store.find_free(bytes, 0, Named::Nothing) else {
+    let Some(place) = store.find_free(bytes, 0, Sparing::Nothing) else {
         return Ok(None);
     };
     store.carve_fixed(place, size)?;
@@ -30,7 +30,7 @@ fn free_fixed(store: &mut ListStore, place: u32) -> bool {
 
 // A new block of master pointers at the lowest place with room; whether there is room.
 fn make_masters(store: &mut ListStore) -> Result<bool, AllocError> {
-    let Some(place) = store.find_free(272, 0, Named::Nothing) else {
+    let Some(place) = store.find_free(272, 0, Sparing::Nothing) else {
         return Ok(false);
     };
     store.add_masters(place)?;

@@ -10,7 +10,7 @@ mod fixed_tests;
 mod flags;
 mod list_store;
 mod looking;
-mod named;
+mod measures;
 mod packing;
 mod purged_sums;
 #[cfg(test)]
@@ -22,6 +22,7 @@ mod sizing;
 #[cfg(test)]
 mod sizing_tests;
 mod slots;
+mod sparing;
 mod store;
 mod stretch;
 #[cfg(test)]
@@ -29,5 +30,6 @@ mod tests;
 
 pub use flags::Flags;
 pub use list_store::ListStore;
-pub use named::{Named, Seen};
+pub use measures::{GREATEST_ZONE, HEADER_SIZE, LEAST_ZONE, MASTERS_SIZE, SLOTS_A_BLOCK, UNIT};
+pub use sparing::{Seen, Sparing};
 pub use store::BlockStore;

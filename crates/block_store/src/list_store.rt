@@ -6,18 +6,18 @@ ghost use Rattle.std.specs.Option.{option_map};
 ghost use Rattle.block_store.specs.Block.{sizes, free_sum, count, is_masters, is_relocatable, tidy, fresh};
 ghost use Rattle.block_store.specs.Run.{has, run_at};
 ghost use Rattle.block_store.specs.Slot.{is_used};
-ghost use Rattle.block_store.specs.Rest.{Window};
 ghost use Rattle.block_store.specs.Compact.{Aligned, Aligned-prop, Placed, Placed-prop};
-ghost use Rattle.block_store.specs.ListStore.{blocks_of, slots_of};
+ghost use Rattle.block_store.specs.Inner.ListStore.{blocks_of, slots_of};
+ghost use Rattle.block_store.specs.declared.measures.TheConstants.{GREATEST_ZONE, SLOTS_A_BLOCK};
 
 use crate::copying::copy_at;
 use crate::entries::{
-    Entry, fill, find_slot, free_slot, free_total, index_at, tidy_entries, write_at, zeros,
+    StoredBlock, fill, find_slot, free_slot, free_total, index_at, tidy_entries, write_at, zeros,
 };
 use crate::fixed::{free_place, put_masters};
 use crate::flags::Flags;
 use crate::looking::{find_purgeable, look_at, room_follows};
-use crate::named::{Named, Seen};
+use crate::measures::{GREATEST_ZONE, LEAST_ZONE, MASTERS_SIZE, SLOTS_A_BLOCK, UNIT};
 use crate::packing::{hoist_slot, raise_run, settle_run};
 #[cfg(test)]
 use crate::packing::{run_bytes, run_holds};
@@ -27,6 +27,7 @@ use crate::run_search::search_runs;
 use crate::runs::{has_free_above, most_free, most_free_of_runs, place_of_run, purgeable_above};
 use crate::sizing::{move_slot, resize_at};
 use crate::slots::{SlotEntry, first_unused};
+use crate::sparing::{Seen, Sparing};
 use crate::store::BlockStore;
 use crate::stretch::find_room;
 use std::alloc::{AllocError, Global};
@@ -38,12 +39,13 @@ pub struct ListStore {
     alloc: Global,
     bytes: u32,
     moves: u64,
-    blocks: Vec<Entry>,
+    blocks: Vec<StoredBlock>,
     slots: Vec<SlotEntry>,
     ghost covered: { sizes (blocks_of blocks.items) ≡ bytes },
-    ghost small: { bytes ≤ 134217728 },
-    ghost masters: { length slots.items ≡ 64 * count is_masters (blocks_of blocks.items) },
-    ghost no_block: { (number : ℕ) → is_used (slots_of slots.items number) ≡ false → has (is_relocatable number) (blocks_of blocks.items) ≡ false },
+    ghost small: { bytes ≤ GREATEST_ZONE },
+    ghost masters: { length slots.items ≡ SLOTS_A_BLOCK * count is_masters (blocks_of blocks.items) },
+    ghost no_block: { (number : ℕ) → is_used (slots_of slots.items number) ≡ false
+        → has (is_relocatable number) (blocks_of blocks.items) ≡ false },
     ghost once: { (number : ℕ) → count (is_relocatable number) (blocks_of blocks.items) ≤ 1 },
     ghost tidied: { tidy (blocks_of blocks.items) ≡ blocks_of blocks.items },
     ghost aligned: { Aligned (blocks_of blocks.items) } by { Aligned-prop (blocks_of blocks.items) },
@@ -55,20 +57,22 @@ impl ListStore {
     ///
     /// *Inside Macintosh: Memory*, chapter 2, "Heap Zones".
     pub fn new(alloc: Global, len: u32) -> Result<ListStore, AllocError>
-        requires even { len % 16 ≡ 0 }
-        requires low { 512 ≤ len }
-        requires high { len ≤ 134217728 }
+        requires even { len % UNIT ≡ 0 }
+        requires low { LEAST_ZONE ≤ len }
+        requires high { len ≤ GREATEST_ZONE }
         ensures zone { IfOk result (λ s. ⟦<ListStore as BlockStore>⟧.zone s ≡ fresh len) }
-        ensures no_handle { IfOk result (λ s. (number : ℕ) → is_used ((⟦<ListStore as BlockStore>⟧.rest s).slots number) ≡ false) }
-        ensures unused { IfOk result (λ s. (⟦<ListStore as BlockStore>⟧.rest s).unused ≡ 64) }
-        ensures all { IfOk result (λ s. (⟦<ListStore as BlockStore>⟧.rest s).all ≡ 64) }
+        ensures no_handle { IfOk result (λ s.
+            (number : ℕ) → is_used ((⟦<ListStore as BlockStore>⟧.rest s).slots number) ≡ false) }
+        ensures unused { IfOk result (λ s. (⟦<ListStore as BlockStore>⟧.rest s).unused ≡ SLOTS_A_BLOCK) }
+        ensures all { IfOk result (λ s. (⟦<ListStore as BlockStore>⟧.rest s).all ≡ SLOTS_A_BLOCK) }
         ensures moves { IfOk result (λ s. (⟦<ListStore as BlockStore>⟧.rest s).moves ≡ 0) }
-        ensures window { IfOk result (λ s. (⟦<ListStore as BlockStore>⟧.rest s).window ≡ record { home = null_ptr; at = 0; len = len }) }
+        ensures window { IfOk result (λ s. (⟦<ListStore as BlockStore>⟧.rest s).window
+            ≡ record { home = null_ptr; window = record { at = 0; len = len } }) }
     {
         let mut blocks = Vec::new(alloc);
-        blocks.push(Entry::Masters)?;
-        blocks.push(Entry::Free(len - 272))?;
-        let slots = vec![in alloc; SlotEntry::Unused; 64]?;
+        blocks.push(StoredBlock::Masters)?;
+        blocks.push(StoredBlock::Free(len - MASTERS_SIZE))?;
+        let slots = vec![in alloc; SlotEntry::Unused; SLOTS_A_BLOCK]?;
         Ok(ListStore {
             alloc,
             bytes: len,
@@ -90,7 +94,8 @@ impl ListStore {
 
     /// Whether the run at a place has the block of a slot, if there is one.
     pub fn run_holds(&self, place: u32, number: u32) -> Option<bool>
-        ensures { result ≡ option_map (λ r. has (is_relocatable number) r.run) (run_at place (⟦<ListStore as BlockStore>⟧.zone self.now)) }
+        ensures { result ≡ option_map (λ r. has (is_relocatable number) r.run)
+            (run_at place (⟦<ListStore as BlockStore>⟧.zone self.now)) }
     {
         run_holds(&self.blocks, place, number)
     }
@@ -99,8 +104,9 @@ impl ListStore {
 impl BlockStore for ListStore {
     ghost use Rattle.std.specs.Prelude.{true, count_by};
     ghost use denote.RawPtr.{null_ptr};
-    ghost use Rattle.block_store.specs.ListStore.{blocks_of, slots_of, is_unused};
-    ghost use Rattle.block_store.specs.ListStoreLaws.{store-small, store-masters, store-no_block, store-once, store-tidied, store-aligned, store-placed};
+    ghost use Rattle.block_store.specs.Inner.ListStore.{blocks_of, slots_of, is_unused};
+    ghost use Rattle.block_store.specs.Inner.ListStoreLaws.{store-small, store-masters, store-no_block, store-once};
+    ghost use Rattle.block_store.specs.Inner.ListStoreLaws.{store-tidied, store-aligned, store-placed};
 
     const TAKES_HOST: bool = true;
 
@@ -113,7 +119,7 @@ impl BlockStore for ListStore {
       unused = count_by is_unused s.slots.items;
       all = length s.slots.items;
       moves = s.moves;
-      window = record { home = null_ptr; at = 0; len = s.bytes };
+      window = record { home = null_ptr; window = record { at = 0; len = s.bytes } };
     } };
 
     fn len(&self) -> u32 {
@@ -144,52 +150,52 @@ impl BlockStore for ListStore {
         find_slot(&self.blocks, number)
     }
 
-    fn find_free(&self, bytes: u32, purges: u32, named: Named) -> Option<u32> {
-        find_room(&self.blocks, bytes, purges, named)
+    fn find_free(&self, bytes: u32, purges: u32, sparing: Sparing) -> Option<u32> {
+        find_room(&self.blocks, bytes, purges, sparing)
     }
 
-    fn next_purgeable(&self, purges: u32, named: Named) -> Option<u32> {
-        find_purgeable(&self.blocks, purges, named)
+    fn next_purgeable(&self, purges: u32, sparing: Sparing) -> Option<u32> {
+        find_purgeable(&self.blocks, purges, sparing)
     }
 
-    fn room_above(&self, number: u32, bytes: u32, purges: u32, named: Named) -> bool {
-        room_follows(&self.blocks, number, bytes, purges, named)
+    fn room_above(&self, number: u32, bytes: u32, purges: u32, sparing: Sparing) -> bool {
+        room_follows(&self.blocks, number, bytes, purges, sparing)
     }
 
-    fn free_after(&self, purges: u32, named: Named) -> u32 {
-        purged_free(&self.blocks, purges, named)
+    fn free_after(&self, purges: u32, sparing: Sparing) -> u32 {
+        purged_free(&self.blocks, purges, sparing)
     }
 
-    fn largest_after(&self, purges: u32, named: Named) -> u32 {
-        purged_largest(&self.blocks, purges, named)
+    fn largest_after(&self, purges: u32, sparing: Sparing) -> u32 {
+        purged_largest(&self.blocks, purges, sparing)
     }
 
-    fn purge(&mut self, purges: u32, named: Named) {
-        purge_entries(&mut self.blocks, purges, named);
+    fn purge(&mut self, purges: u32, sparing: Sparing) {
+        purge_entries(&mut self.blocks, purges, sparing);
     }
 
-    fn purge_after(&mut self, place: u32, purges: u32, named: Named) {
-        purge_above(&mut self.blocks, place, purges, named);
+    fn purge_after(&mut self, place: u32, purges: u32, sparing: Sparing) {
+        purge_above(&mut self.blocks, place, purges, sparing);
     }
 
-    fn find_run(&self, bytes: u32, purges: u32, named: Named) -> Option<u32> {
-        search_runs(&self.blocks, None, bytes, purges, named)
+    fn find_run(&self, bytes: u32, purges: u32, sparing: Sparing) -> Option<u32> {
+        search_runs(&self.blocks, None, bytes, purges, sparing)
     }
 
     fn nth_run(&self, index: u32) -> Option<u32> {
         place_of_run(&self.blocks, index)
     }
 
-    fn run_of(&self, number: u32, bytes: u32, purges: u32, named: Named) -> Option<u32> {
-        search_runs(&self.blocks, Some(number), bytes, purges, named)
+    fn run_of(&self, number: u32, bytes: u32, purges: u32, sparing: Sparing) -> Option<u32> {
+        search_runs(&self.blocks, Some(number), bytes, purges, sparing)
     }
 
-    fn run_after(&self, place: u32, bytes: u32, purges: u32, named: Named) -> bool {
-        has_free_above(&self.blocks, place, bytes, purges, named)
+    fn run_after(&self, place: u32, bytes: u32, purges: u32, sparing: Sparing) -> bool {
+        has_free_above(&self.blocks, place, bytes, purges, sparing)
     }
 
-    fn purgeable_after(&self, place: u32, named: Named) -> u32 {
-        purgeable_above(&self.blocks, place, named)
+    fn purgeable_after(&self, place: u32, sparing: Sparing) -> u32 {
+        purgeable_above(&self.blocks, place, sparing)
     }
 
     fn settle(&mut self, run: u32) {
@@ -208,14 +214,14 @@ impl BlockStore for ListStore {
 
     fn carve(&mut self, place: u32, number: u32, size: u32) -> Result<(), AllocError> {
         let content = zeros(self.alloc, size as usize)?;
-        let new = Entry::Relocatable(number, Flags::NONE, content);
+        let new = StoredBlock::Relocatable(number, Flags::NONE, content);
         fill(&mut self.blocks, place, new)?;
         Ok(())
     }
 
     fn carve_fixed(&mut self, place: u32, size: u32) -> Result<(), AllocError> {
         let content = zeros(self.alloc, size as usize)?;
-        let new = Entry::Fixed(place, content);
+        let new = StoredBlock::Fixed(place, content);
         fill(&mut self.blocks, place, new)?;
         Ok(())
     }
@@ -261,8 +267,8 @@ impl BlockStore for ListStore {
             unreachable!()
         };
         match &self.blocks[i] {
-            Entry::Fixed(_, content) => content.as_slice(),
-            Entry::Relocatable(_, _, content) => content.as_slice(),
+            StoredBlock::Fixed(_, content) => content.as_slice(),
+            StoredBlock::Relocatable(_, _, content) => content.as_slice(),
             _ => &[],
         }
     }

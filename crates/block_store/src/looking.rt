@@ -5,33 +5,33 @@ ghost use Rattle.std.specs.Option.{option_map};
 ghost use Rattle.block_store.specs.Block.{size, sizes, is_relocatable};
 ghost use Rattle.block_store.specs.Room.{spot, spot_at, may_go, emptied};
 ghost use Rattle.block_store.specs.Grow.{taken};
-ghost use Rattle.block_store.specs.Named.{spared, opened, purged};
+ghost use Rattle.block_store.specs.Sparing.{spared, opened, purged};
 ghost use Rattle.block_store.specs.Seen.{seen};
-ghost use Rattle.block_store.specs.ListStore.{block_of, blocks_of};
-ghost use Rattle.block_store.specs.Stretch.{opened_block};
-ghost use Rattle.block_store.specs.Purging.{left_past, leading_free};
+ghost use Rattle.block_store.specs.Inner.ListStore.{block_of, blocks_of};
+ghost use Rattle.block_store.specs.Inner.Stretch.{opened_block};
+ghost use Rattle.block_store.specs.Inner.Purging.{left_past, leading_free};
 
-use crate::entries::{Entry, entry_size, index_at, is_of_slot};
-use crate::named::{Named, Seen};
+use crate::entries::{StoredBlock, entry_size, index_at, is_of_slot};
+use crate::sparing::{Seen, Sparing};
 use crate::stretch::{counts_free, may_empty, suffices};
 
 /// An entry's block without its bytes.
-fn look(entry: &Entry) -> Seen
+fn look(entry: &StoredBlock) -> Seen
     requires { size (block_of entry.now) < 2 ^ 32 }
     ensures { result ≡ seen (block_of entry.now) }
 {
     match entry {
-        Entry::Free(n) => Seen::Free(*n),
-        Entry::Fixed(_, content) => Seen::Fixed(content.len() as u32),
-        Entry::Masters => Seen::Masters,
-        Entry::Relocatable(slot, flags, content) => {
+        StoredBlock::Free(n) => Seen::Free(*n),
+        StoredBlock::Fixed(_, content) => Seen::Fixed(content.len() as u32),
+        StoredBlock::Masters => Seen::Masters,
+        StoredBlock::Relocatable(slot, flags, content) => {
             Seen::Relocatable(*slot, *flags, content.len() as u32)
         }
     }
 }
 
 /// The block at a place, without its bytes.
-pub fn look_at(entries: &[Entry], place: u32) -> Option<Seen>
+pub fn look_at(entries: &[StoredBlock], place: u32) -> Option<Seen>
     requires { sizes (blocks_of entries.now) < 2 ^ 32 }
     ensures { result ≡ option_map (λ s. seen s.here) (spot_at place (blocks_of entries.now)) }
 {
@@ -40,14 +40,15 @@ pub fn look_at(entries: &[Entry], place: u32) -> Option<Seen>
 }
 
 /// The place of the lowest block that may be emptied, after so many purges.
-pub fn find_purgeable(entries: &[Entry], purges: u32, named: Named) -> Option<u32>
+pub fn find_purgeable(entries: &[StoredBlock], purges: u32, sparing: Sparing) -> Option<u32>
     requires { sizes (blocks_of entries.now) < 2 ^ 32 }
-    ensures { result ≡ option_map (λ s. sizes s.below) (spot (may_go (spared named)) (purged purges named (blocks_of entries.now))) }
+    ensures { result ≡ option_map (λ s. sizes s.below)
+        (spot (may_go (spared sparing)) (purged purges sparing (blocks_of entries.now))) }
 {
     let mut left = purges;
     let mut place = 0;
     for entry in entries {
-        if may_empty(entry, named) {
+        if may_empty(entry, sparing) {
             if left == 0 {
                 return Some(place);
             }
@@ -59,12 +60,12 @@ pub fn find_purgeable(entries: &[Entry], purges: u32, named: Named) -> Option<u3
 }
 
 /// The purges left after an entry whose block is Free or is emptied; none where it stays.
-pub fn left_after(entry: &Entry, left: u32, named: Named) -> Option<u32>
-    ensures { result ≡ left_past (spared named) left (opened_block named (block_of entry.now)) }
+pub fn left_after(entry: &StoredBlock, left: u32, sparing: Sparing) -> Option<u32>
+    ensures { result ≡ left_past (spared sparing) left (opened_block sparing (block_of entry.now)) }
 {
-    if left > 0 && may_empty(entry, named) {
+    if left > 0 && may_empty(entry, sparing) {
         Some(left - 1)
-    } else if counts_free(entry, named) {
+    } else if counts_free(entry, sparing) {
         Some(left)
     } else {
         None
@@ -72,14 +73,20 @@ pub fn left_after(entry: &Entry, left: u32, named: Named) -> Option<u32>
 }
 
 /// The index above the block of a slot, where it stays after so many purges, and the purges left there.
-fn above_slot(entries: &[Entry], number: u32, purges: u32, named: Named) -> Option<(usize, u32)>
+fn above_slot(
+    entries: &[StoredBlock],
+    number: u32,
+    purges: u32,
+    sparing: Sparing,
+) -> Option<(usize, u32)>
     ensures within { IfSome result (λ r. r.0 ≤ length entries.now) }
-    ensures above { option_map (λ s. s.above) (spot (is_relocatable number) (emptied purges (spared named) (opened named (blocks_of entries.now))))
-        ≡ option_map (λ r. emptied r.1 (spared named) (opened named (drop r.0 (blocks_of entries.now)))) result }
+    ensures above { option_map (λ s. s.above)
+        (spot (is_relocatable number) (emptied purges (spared sparing) (opened sparing (blocks_of entries.now))))
+        ≡ option_map (λ r. emptied r.1 (spared sparing) (opened sparing (drop r.0 (blocks_of entries.now)))) result }
 {
     let mut left = purges;
     for (i, entry) in entries.iter().enumerate() {
-        let next = left_after(entry, left, named);
+        let next = left_after(entry, left, sparing);
         if next.is_none() && is_of_slot(entry, number) {
             return Some((i + 1, left));
         }
@@ -89,14 +96,14 @@ fn above_slot(entries: &[Entry], number: u32, purges: u32, named: Named) -> Opti
 }
 
 /// The bytes of the Free blocks that come first, after so many purges.
-fn free_first(entries: &[Entry], purges: u32, named: Named) -> u32
+fn free_first(entries: &[StoredBlock], purges: u32, sparing: Sparing) -> u32
     requires { sizes (blocks_of entries.now) < 2 ^ 32 }
-    ensures { result ≡ leading_free (spared named) purges (opened named (blocks_of entries.now)) }
+    ensures { result ≡ leading_free (spared sparing) purges (opened sparing (blocks_of entries.now)) }
 {
     let mut left = purges;
     let mut total = 0;
     for entry in entries {
-        let Some(next) = left_after(entry, left, named) else {
+        let Some(next) = left_after(entry, left, sparing) else {
             return total;
         };
         left = next;
@@ -106,12 +113,19 @@ fn free_first(entries: &[Entry], purges: u32, named: Named) -> u32
 }
 
 /// Whether so many Free bytes follow the block of a slot, after so many purges.
-pub fn room_follows(entries: &[Entry], number: u32, bytes: u32, purges: u32, named: Named) -> bool
+pub fn room_follows(
+    entries: &[StoredBlock],
+    number: u32,
+    bytes: u32,
+    purges: u32,
+    sparing: Sparing,
+) -> bool
     requires { sizes (blocks_of entries.now) < 2 ^ 32 }
-    ensures { IfSome (spot (is_relocatable number) (purged purges named (blocks_of entries.now))) (λ s. result ≡ is_some (taken bytes s.above)) }
+    ensures { IfSome (spot (is_relocatable number) (purged purges sparing (blocks_of entries.now))) (λ s.
+        result ≡ is_some (taken bytes s.above)) }
 {
-    let Some((i, left)) = above_slot(entries, number, purges, named) else {
+    let Some((i, left)) = above_slot(entries, number, purges, sparing) else {
         return false;
     };
-    suffices(free_first(&entries[i..], left, named), bytes)
+    suffices(free_first(&entries[i..], left, sparing), bytes)
 }

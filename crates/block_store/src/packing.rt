@@ -1,41 +1,44 @@
 //! The runs of a list of blocks, and how they are packed.
 
-ghost use Rattle.std.specs.Prelude.{◌≡◌, ℕ, ◌+◌, ◌-◌, ◌≤◌, ◌<◌, ◌^◌, ◌++◌, ◌∷◌, List, [], Bool, true, false, IsTrue, length, take, drop, map, slice_index, MatchOption, IsSome, IfSome, IsSomeAnd, OnOk, OnErr, vec_len};
+ghost use Rattle.std.specs.Prelude.{◌≡◌, ℕ, ◌+◌, ◌-◌, ◌≤◌, ◌<◌, ◌^◌, ◌++◌, ◌∷◌, List, [], Bool, true, false, IsTrue};
+ghost use Rattle.std.specs.Prelude.{length, take, drop, map, slice_index, MatchOption, IsSome, IfSome, IsSomeAnd, OnOk};
+ghost use Rattle.std.specs.Prelude.{OnErr, vec_len};
 ghost use Rattle.std.specs.Option.{option_map};
 ghost use Rattle.block_store.specs.Block.{Block, Free, sizes, free_sum, is_relocatable, count, free, tidy};
 ghost use Rattle.block_store.specs.Run.{run_at, in_run, has, has_free, segments, movers, settle, low, high, with_run};
 ghost use Rattle.block_store.specs.Compact.{beyond};
 ghost use Rattle.block_store.specs.Rest.{falling};
-ghost use Rattle.block_store.specs.Stretch.{is_free};
-ghost use Rattle.block_store.specs.ListStore.{block_of, blocks_of, nth_spot};
-ghost use Rattle.block_store.specs.Packing.{Loose, cleared, cleared_first, packed, run_of_index, run_between};
+ghost use Rattle.block_store.specs.Inner.Stretch.{is_free};
+ghost use Rattle.block_store.specs.Inner.ListStore.{block_of, blocks_of, nth_spot};
+ghost use Rattle.block_store.specs.Inner.Packing.{Loose, cleared, cleared_first, packed, run_of_index, run_between};
 
-use crate::entries::{Entry, entry_size, free_total, is_of_slot, tidy_entries};
+use crate::entries::{StoredBlock, entry_size, free_total, is_of_slot, tidy_entries};
 use std::alloc::AllocError;
 
 /// Whether a run may have an entry's block.
-pub fn is_loose(entry: &Entry) -> bool
+pub fn is_loose(entry: &StoredBlock) -> bool
     ensures { result ≡ in_run (block_of entry.now) }
 {
     match entry {
-        Entry::Free(_) => true,
-        Entry::Relocatable(_, flags, _) => !flags.locked,
+        StoredBlock::Free(_) => true,
+        StoredBlock::Relocatable(_, flags, _) => !flags.locked,
         _ => false,
     }
 }
 
 /// Whether an entry's block is Free.
-fn is_free_entry(entry: &Entry) -> bool
+fn is_free_entry(entry: &StoredBlock) -> bool
     ensures { result ≡ is_free (block_of entry.now) }
 {
-    matches!(entry, Entry::Free(_))
+    matches!(entry, StoredBlock::Free(_))
 }
 
 /// The index at the bottom of the run at a place.
-fn run_start(entries: &[Entry], place: u32) -> Option<usize>
+fn run_start(entries: &[StoredBlock], place: u32) -> Option<usize>
     requires { sizes (blocks_of entries.now) < 2 ^ 32 }
     ensures { MatchOption result (run_at place (blocks_of entries.now) ≡ None)
-        (λ i. (i ≤ length entries.now) × (run_at place (blocks_of entries.now) ≡ Some (run_of_index i (blocks_of entries.now)))) }
+        (λ i. (i ≤ length entries.now)
+        × (run_at place (blocks_of entries.now) ≡ Some (run_of_index i (blocks_of entries.now)))) }
 {
     let mut rest = place;
     let mut bottom = true;
@@ -58,7 +61,7 @@ fn run_start(entries: &[Entry], place: u32) -> Option<usize>
 }
 
 /// How many entries the lowest run has.
-fn run_length(entries: &[Entry]) -> usize
+fn run_length(entries: &[StoredBlock]) -> usize
     ensures within { result ≤ length entries.now }
     ensures run { (segments (blocks_of entries.now)).first ≡ take result (blocks_of entries.now) }
     ensures above { beyond (segments (blocks_of entries.now)).rest ≡ drop result (blocks_of entries.now) }
@@ -72,7 +75,7 @@ fn run_length(entries: &[Entry]) -> usize
 }
 
 /// The indexes between which the run at a place lies.
-fn run_bounds(entries: &[Entry], place: u32) -> (usize, usize)
+fn run_bounds(entries: &[StoredBlock], place: u32) -> (usize, usize)
     requires fits { sizes (blocks_of entries.now) < 2 ^ 32 }
     requires run { IsSome (run_at place (blocks_of entries.now)) }
     ensures order { result.0 ≤ result.1 }
@@ -86,7 +89,7 @@ fn run_bounds(entries: &[Entry], place: u32) -> (usize, usize)
 }
 
 /// How many entries of a run move where it is settled.
-fn count_falling(run: &[Entry]) -> u64
+fn count_falling(run: &[StoredBlock]) -> u64
     ensures { result ≡ falling (blocks_of run.now) }
 {
     let mut below = false;
@@ -102,9 +105,10 @@ fn count_falling(run: &[Entry]) -> u64
 }
 
 /// The index of the first Free entry.
-fn first_free(entries: &[Entry]) -> Option<usize>
+fn first_free(entries: &[StoredBlock]) -> Option<usize>
     ensures { MatchOption result (has is_free (blocks_of entries.now) ≡ false)
-        (λ i. (i < length entries.now) × IsSomeAnd (nth_spot i (blocks_of entries.now)) (λ s. IsTrue (is_free s.here))) }
+        (λ i. (i < length entries.now) × IsSomeAnd (nth_spot i (blocks_of entries.now)) (λ s.
+        IsTrue (is_free s.here))) }
 {
     for (i, entry) in entries.iter().enumerate() {
         if is_free_entry(entry) {
@@ -115,9 +119,10 @@ fn first_free(entries: &[Entry]) -> Option<usize>
 }
 
 /// The index of the first entry of a slot.
-fn index_of(entries: &[Entry], number: u32) -> Option<usize>
+fn index_of(entries: &[StoredBlock], number: u32) -> Option<usize>
     ensures { MatchOption result (has (is_relocatable number) (blocks_of entries.now) ≡ false)
-        (λ i. (i < length entries.now) × IsSomeAnd (nth_spot i (blocks_of entries.now)) (λ s. IsTrue (is_relocatable number s.here))) }
+        (λ i. (i < length entries.now) × IsSomeAnd (nth_spot i (blocks_of entries.now)) (λ s.
+        IsTrue (is_relocatable number s.here))) }
 {
     for (i, entry) in entries.iter().enumerate() {
         if is_of_slot(entry, number) {
@@ -128,25 +133,26 @@ fn index_of(entries: &[Entry], number: u32) -> Option<usize>
 }
 
 /// Moves the entry at an index to the end.
-fn move_last(entries: &mut [Entry], i: usize)
+fn move_last(entries: &mut [StoredBlock], i: usize)
     requires { i < length entries.old }
-    ensures { IfSome (nth_spot i (blocks_of entries.old)) (λ s. blocks_of entries.new ≡ s.below ++ s.above ++ s.here ∷ []) }
+    ensures { IfSome (nth_spot i (blocks_of entries.old)) (λ s.
+        blocks_of entries.new ≡ s.below ++ s.above ++ s.here ∷ []) }
 {
     entries[i..].rotate_left(1);
 }
 
 /// Leaves no bytes to the entry at an index, where it is Free.
-fn clear_if(run: &mut [Entry], i: usize)
+fn clear_if(run: &mut [StoredBlock], i: usize)
     requires { i < length run.old }
     ensures { blocks_of run.new ≡ take i (blocks_of run.old) ++ cleared_first (drop i (blocks_of run.old)) }
 {
     if is_free_entry(&run[i]) {
-        run[i] = Entry::Free(0);
+        run[i] = StoredBlock::Free(0);
     }
 }
 
 /// Leaves no bytes to the Free entries.
-fn clear(run: &mut [Entry])
+fn clear(run: &mut [StoredBlock])
     ensures { blocks_of run.new ≡ map cleared (blocks_of run.old) }
 {
     for i in 0..run.len() {
@@ -156,11 +162,12 @@ fn clear(run: &mut [Entry])
 
 /// Packs a run, where so many of its Free bytes are left out: its relocatable entries in order, then a Free
 /// one, and Free ones of no bytes among them.
-fn pack(run: &mut [Entry], less: u32)
+fn pack(run: &mut [StoredBlock], less: u32)
     requires loose { Loose (blocks_of run.old) }
     requires fits { sizes (blocks_of run.old) < 2 ^ 32 }
     requires less { less ≤ free_sum (blocks_of run.old) }
-    ensures { (above : List Block) → tidy (blocks_of run.new ++ above) ≡ tidy (packed less (blocks_of run.old) ++ above) }
+    ensures { (above : List Block)
+        → tidy (blocks_of run.new ++ above) ≡ tidy (packed less (blocks_of run.old) ++ above) }
 {
     let Some(i) = first_free(run) else {
         return;
@@ -169,16 +176,17 @@ fn pack(run: &mut [Entry], less: u32)
     move_last(run, i);
     clear(run);
     let last = run.len() - 1;
-    run[last] = Entry::Free(left);
+    run[last] = StoredBlock::Free(left);
 }
 
 /// Moves the entry of a slot to the end of its run, and packs the others.
-fn pack_below(run: &mut [Entry], number: u32)
+fn pack_below(run: &mut [StoredBlock], number: u32)
     requires loose { Loose (blocks_of run.old) }
     requires fits { sizes (blocks_of run.old) < 2 ^ 32 }
     requires has { has (is_relocatable number) (blocks_of run.old) ≡ true }
     requires once { count (is_relocatable number) (blocks_of run.old) ≤ 1 }
-    ensures { (above : List Block) → tidy (blocks_of run.new ++ above) ≡ tidy (high (is_relocatable number) (blocks_of run.old) ++ above) }
+    ensures { (above : List Block)
+        → tidy (blocks_of run.new ++ above) ≡ tidy (high (is_relocatable number) (blocks_of run.old) ++ above) }
 {
     let Some(i) = index_of(run, number) else {
         unreachable!()
@@ -189,23 +197,25 @@ fn pack_below(run: &mut [Entry], number: u32)
 }
 
 /// Packs the run between two indexes, where so many of its Free bytes are left out.
-fn pack_between(entries: &mut Vec<Entry>, start: usize, end: usize, less: u32)
+fn pack_between(entries: &mut Vec<StoredBlock>, start: usize, end: usize, less: u32)
     requires order { start ≤ end }
     requires within { end ≤ vec_len entries.old }
     requires fits { sizes (blocks_of entries.old.items) < 2 ^ 32 }
     requires loose { Loose (run_between start end (blocks_of entries.old.items)).run }
     requires less { less ≤ free_sum (run_between start end (blocks_of entries.old.items)).run }
-    ensures { blocks_of entries.new.items ≡ tidy (with_run (packed less) (run_between start end (blocks_of entries.old.items))) }
+    ensures { blocks_of entries.new.items
+        ≡ tidy (with_run (packed less) (run_between start end (blocks_of entries.old.items))) }
 {
     pack(&mut entries[start..end], less);
     tidy_entries(entries);
 }
 
 /// Packs the run at a place, and counts the entries that move.
-pub fn settle_run(entries: &mut Vec<Entry>, place: u32) -> u64
+pub fn settle_run(entries: &mut Vec<StoredBlock>, place: u32) -> u64
     requires fits { sizes (blocks_of entries.old.items) < 2 ^ 32 }
     requires run { IsSome (run_at place (blocks_of entries.old.items)) }
-    ensures zone { IfSome (run_at place (blocks_of entries.old.items)) (λ r. blocks_of entries.new.items ≡ tidy (with_run settle r)) }
+    ensures zone { IfSome (run_at place (blocks_of entries.old.items)) (λ r.
+        blocks_of entries.new.items ≡ tidy (with_run settle r)) }
     ensures falls { IfSome (run_at place (blocks_of entries.old.items)) (λ r. result ≡ falling r.run) }
 {
     let (start, end) = run_bounds(entries, place);
@@ -215,46 +225,50 @@ pub fn settle_run(entries: &mut Vec<Entry>, place: u32) -> u64
 }
 
 /// Packs the run between two indexes, with the entry of a slot at its top.
-fn hoist_between(entries: &mut Vec<Entry>, start: usize, end: usize, number: u32)
+fn hoist_between(entries: &mut Vec<StoredBlock>, start: usize, end: usize, number: u32)
     requires order { start ≤ end }
     requires within { end ≤ vec_len entries.old }
     requires fits { sizes (blocks_of entries.old.items) < 2 ^ 32 }
     requires loose { Loose (run_between start end (blocks_of entries.old.items)).run }
     requires has { has (is_relocatable number) (run_between start end (blocks_of entries.old.items)).run ≡ true }
     requires once { count (is_relocatable number) (blocks_of entries.old.items) ≤ 1 }
-    ensures { blocks_of entries.new.items ≡ tidy (with_run (high (is_relocatable number)) (run_between start end (blocks_of entries.old.items))) }
+    ensures { blocks_of entries.new.items
+        ≡ tidy (with_run (high (is_relocatable number)) (run_between start end (blocks_of entries.old.items))) }
 {
     pack_below(&mut entries[start..end], number);
     tidy_entries(entries);
 }
 
 /// Packs the run at a place, with the entry of a slot at its top.
-pub fn hoist_slot(entries: &mut Vec<Entry>, place: u32, number: u32)
+pub fn hoist_slot(entries: &mut Vec<StoredBlock>, place: u32, number: u32)
     requires fits { sizes (blocks_of entries.old.items) < 2 ^ 32 }
-    requires run { IsSomeAnd (run_at place (blocks_of entries.old.items)) (λ r. IsTrue (has (is_relocatable number) r.run)) }
+    requires run { IsSomeAnd (run_at place (blocks_of entries.old.items)) (λ r.
+        IsTrue (has (is_relocatable number) r.run)) }
     requires once { count (is_relocatable number) (blocks_of entries.old.items) ≤ 1 }
-    ensures { IfSome (run_at place (blocks_of entries.old.items)) (λ r. blocks_of entries.new.items ≡ tidy (with_run (high (is_relocatable number)) r)) }
+    ensures { IfSome (run_at place (blocks_of entries.old.items)) (λ r.
+        blocks_of entries.new.items ≡ tidy (with_run (high (is_relocatable number)) r)) }
 {
     let (start, end) = run_bounds(entries, place);
     hoist_between(entries, start, end, number);
 }
 
 /// Packs the run at a place upward, with so many Free bytes at its bottom.
-pub fn raise_run(entries: &mut Vec<Entry>, place: u32, bytes: u32) -> Result<(), AllocError>
+pub fn raise_run(entries: &mut Vec<StoredBlock>, place: u32, bytes: u32) -> Result<(), AllocError>
     requires fits { sizes (blocks_of entries.old.items) < 2 ^ 31 }
     requires run { IsSomeAnd (run_at place (blocks_of entries.old.items)) (λ r. IsTrue (has_free bytes r.run)) }
-    ensures ok { OnOk result (IfSome (run_at place (blocks_of entries.old.items)) (λ r. blocks_of entries.new.items ≡ tidy (with_run (low (Free bytes)) r))) }
+    ensures ok { OnOk result (IfSome (run_at place (blocks_of entries.old.items)) (λ r.
+        blocks_of entries.new.items ≡ tidy (with_run (low (Free bytes)) r))) }
     ensures err { OnErr result (entries.new.items ≡ entries.old.items) }
 {
     let (start, end) = run_bounds(entries, place);
-    entries.insert(start, Entry::Free(bytes))?;
+    entries.insert(start, StoredBlock::Free(bytes))?;
     pack_between(entries, start + 1, end + 1, bytes);
     Ok(())
 }
 
 /// The Free bytes of the run at a place, if there is one.
 #[cfg(test)]
-pub fn run_bytes(entries: &[Entry], place: u32) -> Option<u32>
+pub fn run_bytes(entries: &[StoredBlock], place: u32) -> Option<u32>
     requires { sizes (blocks_of entries.now) < 2 ^ 32 }
     ensures { result ≡ option_map (λ r. free_sum r.run) (run_at place (blocks_of entries.now)) }
 {
@@ -265,7 +279,7 @@ pub fn run_bytes(entries: &[Entry], place: u32) -> Option<u32>
 
 /// Whether the run at a place has the entry of a slot, if there is one.
 #[cfg(test)]
-pub fn run_holds(entries: &[Entry], place: u32, number: u32) -> Option<bool>
+pub fn run_holds(entries: &[StoredBlock], place: u32, number: u32) -> Option<bool>
     requires { sizes (blocks_of entries.now) < 2 ^ 32 }
     ensures { result ≡ option_map (λ r. has (is_relocatable number) r.run) (run_at place (blocks_of entries.now)) }
 {

@@ -3,28 +3,29 @@
 ghost use Rattle.std.specs.Prelude.{◌≡◌, ◌+◌, ◌≤◌, ◌<◌, ◌^◌, ◌∷◌, ◌++◌, take, drop, length, vec_len, IsSome, IfSome};
 ghost use Rattle.block_store.specs.Block.{sizes, tidy};
 ghost use Rattle.block_store.specs.Room.{spot_at, emptied};
-ghost use Rattle.block_store.specs.Named.{spared, opened, purged};
+ghost use Rattle.block_store.specs.Sparing.{spared, opened, purged};
 ghost use Rattle.block_store.specs.Seen.{with_flags};
-ghost use Rattle.block_store.specs.ListStore.{block_of, blocks_of};
+ghost use Rattle.block_store.specs.Inner.ListStore.{block_of, blocks_of};
 
-use crate::entries::{Entry, entry_size, free_slot, index_at, tidy_entries};
+use crate::entries::{StoredBlock, entry_size, free_slot, index_at, tidy_entries};
 use crate::flags::Flags;
-use crate::named::Named;
 use crate::runs::may_go_now;
+use crate::sparing::Sparing;
 
 /// Makes the entry at an index Free where purges are left and it may be emptied; the purges left above it.
-fn empty_at(entries: &mut Vec<Entry>, i: usize, left: u32, named: Named) -> u32
+fn empty_at(entries: &mut Vec<StoredBlock>, i: usize, left: u32, sparing: Sparing) -> u32
     requires within { i < vec_len entries.old }
     requires fits { sizes (blocks_of entries.old.items) < 2 ^ 32 }
-    ensures blocks { take (i + 1) (blocks_of entries.new.items) ++ emptied result (spared named) (drop (i + 1) (blocks_of entries.new.items))
-        ≡ take i (blocks_of entries.old.items) ++ emptied left (spared named) (drop i (blocks_of entries.old.items)) }
+    ensures blocks { take (i + 1) (blocks_of entries.new.items)
+        ++ emptied result (spared sparing) (drop (i + 1) (blocks_of entries.new.items))
+        ≡ take i (blocks_of entries.old.items) ++ emptied left (spared sparing) (drop i (blocks_of entries.old.items)) }
     ensures bytes { sizes (blocks_of entries.new.items) ≡ sizes (blocks_of entries.old.items) }
     ensures many { length entries.new.items ≡ length entries.old.items }
 {
     let entry = &entries[i];
-    if left > 0 && may_go_now(entry, named) {
+    if left > 0 && may_go_now(entry, sparing) {
         let bytes = entry_size(entry);
-        entries[i] = Entry::Free(bytes);
+        entries[i] = StoredBlock::Free(bytes);
         left - 1
     } else {
         left
@@ -32,64 +33,67 @@ fn empty_at(entries: &mut Vec<Entry>, i: usize, left: u32, named: Named) -> u32
 }
 
 /// Makes the lowest entries Free that may be emptied, so many of those from an index on.
-fn empty_from(entries: &mut Vec<Entry>, from: usize, purges: u32, named: Named)
+fn empty_from(entries: &mut Vec<StoredBlock>, from: usize, purges: u32, sparing: Sparing)
     requires within { from ≤ vec_len entries.old }
     requires fits { sizes (blocks_of entries.old.items) < 2 ^ 32 }
-    ensures blocks { blocks_of entries.new.items ≡ take from (blocks_of entries.old.items) ++ emptied purges (spared named) (drop from (blocks_of entries.old.items)) }
+    ensures blocks { blocks_of entries.new.items ≡ take from (blocks_of entries.old.items)
+        ++ emptied purges (spared sparing) (drop from (blocks_of entries.old.items)) }
     ensures bytes { sizes (blocks_of entries.new.items) ≡ sizes (blocks_of entries.old.items) }
 {
     let mut left = purges;
     for i in from..entries.len() {
-        left = empty_at(entries, i, left, named);
+        left = empty_at(entries, i, left, sparing);
     }
 }
 
 /// Makes the entries Free that count as Free.
-fn open_entries(entries: &mut Vec<Entry>, named: Named)
+fn open_entries(entries: &mut Vec<StoredBlock>, sparing: Sparing)
     requires { sizes (blocks_of entries.old.items) < 2 ^ 32 }
-    ensures { blocks_of entries.new.items ≡ opened named (blocks_of entries.old.items) }
+    ensures { blocks_of entries.new.items ≡ opened sparing (blocks_of entries.old.items) }
 {
-    if let Named::Freed(slot) = named {
+    if let Sparing::Freed(slot) = sparing {
         free_slot(entries, slot);
     }
 }
 
 /// Empties the lowest blocks that may go, so many of them, and frees a block that counts as Free.
-pub fn purge_entries(entries: &mut Vec<Entry>, purges: u32, named: Named)
+pub fn purge_entries(entries: &mut Vec<StoredBlock>, purges: u32, sparing: Sparing)
     requires { sizes (blocks_of entries.old.items) < 2 ^ 32 }
-    ensures { blocks_of entries.new.items ≡ purged purges named (blocks_of entries.old.items) }
+    ensures { blocks_of entries.new.items ≡ purged purges sparing (blocks_of entries.old.items) }
 {
-    open_entries(entries, named);
-    empty_from(entries, 0, purges, named);
+    open_entries(entries, sparing);
+    empty_from(entries, 0, purges, sparing);
     tidy_entries(entries);
 }
 
 /// Empties the lowest blocks that may go above the block at a place, so many of them.
-pub fn purge_above(entries: &mut Vec<Entry>, place: u32, purges: u32, named: Named)
+pub fn purge_above(entries: &mut Vec<StoredBlock>, place: u32, purges: u32, sparing: Sparing)
     requires fits { sizes (blocks_of entries.old.items) < 2 ^ 32 }
     requires spot { IsSome (spot_at place (blocks_of entries.old.items)) }
     ensures { IfSome (spot_at place (blocks_of entries.old.items)) (λ s.
-        blocks_of entries.new.items ≡ tidy (s.below ++ s.here ∷ emptied purges (spared named) s.above)) }
+        blocks_of entries.new.items ≡ tidy (s.below ++ s.here ∷ emptied purges (spared sparing) s.above)) }
 {
     let Some(i) = index_at(entries, place) else {
         unreachable!()
     };
-    empty_from(entries, i + 1, purges, named);
+    empty_from(entries, i + 1, purges, sparing);
     tidy_entries(entries);
 }
 
 /// An entry with other flags, where its block is relocatable.
-fn flagged_entry(entry: Entry, flags: Flags) -> Entry
+fn flagged_entry(entry: StoredBlock, flags: Flags) -> StoredBlock
     ensures { block_of result ≡ with_flags flags (block_of entry) }
 {
     match entry {
-        Entry::Relocatable(slot, _, content) => Entry::Relocatable(slot, flags, content),
+        StoredBlock::Relocatable(slot, _, content) => StoredBlock::Relocatable(
+            slot, flags, content,
+        ),
         other => other,
     }
 }
 
 /// Sets the flags of the block at a place, where it is a relocatable one.
-pub fn flag_at(entries: &mut Vec<Entry>, place: u32, flags: Flags)
+pub fn flag_at(entries: &mut Vec<StoredBlock>, place: u32, flags: Flags)
     requires fits { sizes (blocks_of entries.old.items) < 2 ^ 32 }
     requires spot { IsSome (spot_at place (blocks_of entries.old.items)) }
     ensures { IfSome (spot_at place (blocks_of entries.old.items)) (λ s.
@@ -98,6 +102,6 @@ pub fn flag_at(entries: &mut Vec<Entry>, place: u32, flags: Flags)
     let Some(i) = index_at(entries, place) else {
         unreachable!()
     };
-    let entry = std::mem::replace(&mut entries[i], Entry::Masters);
+    let entry = std::mem::replace(&mut entries[i], StoredBlock::Masters);
     entries[i] = flagged_entry(entry, flags);
 }

@@ -5,16 +5,16 @@ ghost use Rattle.std.specs.Option.{option_map};
 ghost use Rattle.block_store.specs.Block.{Relocatable, sizes, free_of, free_sum, no_flags};
 ghost use Rattle.block_store.specs.Run.{segments, has_free};
 ghost use Rattle.block_store.specs.Room.{spot_at, may_go, emptied, count_of};
-ghost use Rattle.block_store.specs.Named.{spared};
+ghost use Rattle.block_store.specs.Sparing.{spared};
 ghost use Rattle.block_store.specs.Compact.{nth_run, largest_free, largest_run};
-ghost use Rattle.block_store.specs.ListStore.{block_of, blocks_of};
+ghost use Rattle.block_store.specs.Inner.ListStore.{block_of, blocks_of};
 
-use crate::entries::{Entry, entry_size, index_at};
-use crate::named::Named;
+use crate::entries::{StoredBlock, entry_size, index_at};
 use crate::run_search::ends_run;
+use crate::sparing::Sparing;
 
 /// The place of the run of an index, counted from 0 at the lowest.
-pub fn place_of_run(entries: &[Entry], index: u32) -> Option<u32>
+pub fn place_of_run(entries: &[StoredBlock], index: u32) -> Option<u32>
     requires { sizes (blocks_of entries.now) < 2 ^ 32 }
     ensures { result ≡ option_map (λ r. sizes r.below) (nth_run index (blocks_of entries.now)) }
 {
@@ -40,17 +40,17 @@ pub fn larger(a: u32, b: u32) -> u32
 }
 
 /// The Free bytes of an entry.
-fn entry_free(entry: &Entry) -> u32
+fn entry_free(entry: &StoredBlock) -> u32
     ensures { result ≡ free_of (block_of entry.now) }
 {
     match entry {
-        Entry::Free(n) => *n,
+        StoredBlock::Free(n) => *n,
         _ => 0,
     }
 }
 
 /// The bytes of the largest Free entry.
-pub fn most_free(entries: &[Entry]) -> u32
+pub fn most_free(entries: &[StoredBlock]) -> u32
     ensures { result ≡ largest_free (blocks_of entries.now) }
 {
     let mut most = 0;
@@ -61,7 +61,7 @@ pub fn most_free(entries: &[Entry]) -> u32
 }
 
 /// The most Free bytes that one run has.
-pub fn most_free_of_runs(entries: &[Entry]) -> u32
+pub fn most_free_of_runs(entries: &[StoredBlock]) -> u32
     requires { sizes (blocks_of entries.now) < 2 ^ 32 }
     ensures { result ≡ largest_run (blocks_of entries.now) }
 {
@@ -79,39 +79,39 @@ pub fn most_free_of_runs(entries: &[Entry]) -> u32
 }
 
 /// Whether a search spares the block of a slot.
-fn is_spared(slot: u32, named: Named) -> bool
-    ensures { result ≡ spared named (Relocatable slot no_flags []) }
+fn is_spared(slot: u32, sparing: Sparing) -> bool
+    ensures { result ≡ spared sparing (Relocatable slot no_flags []) }
 {
-    match named {
-        Named::One(one) => slot == one,
-        Named::Two(one, other) => slot == one || slot == other,
+    match sparing {
+        Sparing::One(one) => slot == one,
+        Sparing::Two(one, other) => slot == one || slot == other,
         _ => false,
     }
 }
 
 /// Whether an entry's block may be emptied as it stands.
-pub fn may_go_now(entry: &Entry, named: Named) -> bool
-    ensures { result ≡ may_go (spared named) (block_of entry.now) }
+pub fn may_go_now(entry: &StoredBlock, sparing: Sparing) -> bool
+    ensures { result ≡ may_go (spared sparing) (block_of entry.now) }
 {
     match entry {
-        Entry::Relocatable(slot, flags, _) => {
-            !flags.locked && flags.purgeable && !is_spared(*slot, named)
+        StoredBlock::Relocatable(slot, flags, _) => {
+            !flags.locked && flags.purgeable && !is_spared(*slot, sparing)
         }
         _ => false,
     }
 }
 
 /// Whether an entry's block is emptied where so many purges are left.
-fn goes(entry: &Entry, left: u32, named: Named) -> bool
-    ensures { result ≡ (nat_lt 0 left && may_go (spared named) (block_of entry.now)) }
+fn goes(entry: &StoredBlock, left: u32, sparing: Sparing) -> bool
+    ensures { result ≡ (nat_lt 0 left && may_go (spared sparing) (block_of entry.now)) }
 {
-    left > 0 && may_go_now(entry, named)
+    left > 0 && may_go_now(entry, sparing)
 }
 
 /// The Free bytes of the lowest run, after so many purges in it.
-fn free_after_purges(entries: &[Entry], purges: u32, named: Named) -> u32
+fn free_after_purges(entries: &[StoredBlock], purges: u32, sparing: Sparing) -> u32
     requires { sizes (blocks_of entries.now) < 2 ^ 32 }
-    ensures { result ≡ free_sum (emptied purges (spared named) (segments (blocks_of entries.now)).first) }
+    ensures { result ≡ free_sum (emptied purges (spared sparing) (segments (blocks_of entries.now)).first) }
 {
     let mut left = purges;
     let mut free = 0;
@@ -119,7 +119,7 @@ fn free_after_purges(entries: &[Entry], purges: u32, named: Named) -> u32
         if ends_run(entry) {
             return free;
         }
-        if goes(entry, left, named) {
+        if goes(entry, left, sparing) {
             left -= 1;
             free += entry_size(entry);
         } else {
@@ -130,16 +130,16 @@ fn free_after_purges(entries: &[Entry], purges: u32, named: Named) -> u32
 }
 
 /// How many blocks of the lowest run may be emptied.
-fn purgeable_in_run(entries: &[Entry], named: Named) -> u32
+fn purgeable_in_run(entries: &[StoredBlock], sparing: Sparing) -> u32
     requires { sizes (blocks_of entries.now) < 2 ^ 32 }
-    ensures { result ≡ count_of (spared named) (segments (blocks_of entries.now)).first }
+    ensures { result ≡ count_of (spared sparing) (segments (blocks_of entries.now)).first }
 {
     let mut total = 0;
     for entry in entries {
         if ends_run(entry) {
             return total;
         }
-        if may_go_now(entry, named) {
+        if may_go_now(entry, sparing) {
             total += 1;
         }
     }
@@ -147,27 +147,33 @@ fn purgeable_in_run(entries: &[Entry], named: Named) -> u32
 }
 
 /// Whether the run above the block at a place has so many Free bytes, after so many purges in it.
-pub fn has_free_above(entries: &[Entry], place: u32, bytes: u32, purges: u32, named: Named) -> bool
+pub fn has_free_above(
+    entries: &[StoredBlock],
+    place: u32,
+    bytes: u32,
+    purges: u32,
+    sparing: Sparing,
+) -> bool
     requires fits { sizes (blocks_of entries.now) < 2 ^ 32 }
     requires there { IsSome (spot_at place (blocks_of entries.now)) }
     ensures { IfSome (spot_at place (blocks_of entries.now)) (λ s.
-        result ≡ has_free bytes (emptied purges (spared named) (segments s.above).first)) }
+        result ≡ has_free bytes (emptied purges (spared sparing) (segments s.above).first)) }
 {
     let Some(i) = index_at(entries, place) else {
         unreachable!()
     };
-    bytes <= free_after_purges(&entries[i + 1..], purges, named)
+    bytes <= free_after_purges(&entries[i + 1..], purges, sparing)
 }
 
 /// How many blocks may go in the run above the block at a place.
-pub fn purgeable_above(entries: &[Entry], place: u32, named: Named) -> u32
+pub fn purgeable_above(entries: &[StoredBlock], place: u32, sparing: Sparing) -> u32
     requires fits { sizes (blocks_of entries.now) < 2 ^ 32 }
     requires there { IsSome (spot_at place (blocks_of entries.now)) }
     ensures { IfSome (spot_at place (blocks_of entries.now)) (λ s.
-        result ≡ count_of (spared named) (segments s.above).first) }
+        result ≡ count_of (spared sparing) (segments s.above).first) }
 {
     let Some(i) = index_at(entries, place) else {
         unreachable!()
     };
-    purgeable_in_run(&entries[i + 1..], named)
+    purgeable_in_run(&entries[i + 1..], sparing)
 }

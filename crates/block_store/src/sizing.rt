@@ -1,14 +1,17 @@
 //! Blocks at another size, where they stand or at another place.
 
-ghost use Rattle.std.specs.Prelude.{◌≡◌, ◌≤◌, ◌<◌, ◌^◌, ◌++◌, ◌⊎◌, take, drop, IfOk, OnOk, OnErr, IfSome, IsSome, IsSomeAnd, IsTrue};
+ghost use Rattle.std.specs.Prelude.{◌≡◌, ◌≤◌, ◌<◌, ◌^◌, ◌++◌, ◌⊎◌, take, drop, IfOk, OnOk, OnErr, IfSome, IsSome};
+ghost use Rattle.std.specs.Prelude.{IsSomeAnd, IsTrue};
 ghost use Rattle.mac_words.specs.Size.{padded};
 ghost use Rattle.block_store.specs.Block.{size, sizes, is_room, is_relocatable, resized, resized_content};
 ghost use Rattle.block_store.specs.Room.{spot, spot_at, filled};
 ghost use Rattle.block_store.specs.Grow.{grow_up, taken};
 ghost use Rattle.block_store.specs.Seen.{moved_away};
-ghost use Rattle.block_store.specs.ListStore.{block_of, blocks_of};
+ghost use Rattle.block_store.specs.Inner.ListStore.{block_of, blocks_of};
 
-use crate::entries::{Entry, entry_size, fill, free_slot, index_at, is_of_slot, tidy_entries};
+use crate::entries::{
+    StoredBlock, entry_size, fill, free_slot, index_at, is_of_slot, tidy_entries,
+};
 use std::alloc::{AllocError, Global};
 
 /// Bytes cut, or filled with zeros, to a size.
@@ -23,19 +26,23 @@ fn resized_bytes(alloc: Global, content: &[u8], bytes: usize) -> Result<Vec<u8>,
 }
 
 /// An entry like this one with its content at another size.
-fn resized_entry(alloc: Global, entry: &Entry, bytes: usize) -> Result<Entry, AllocError>
+fn resized_entry(
+    alloc: Global,
+    entry: &StoredBlock,
+    bytes: usize,
+) -> Result<StoredBlock, AllocError>
     ensures { IfOk result (λ e. block_of e ≡ resized bytes (block_of entry.now)) }
 {
     match entry {
-        Entry::Free(n) => Ok(Entry::Free(*n)),
-        Entry::Fixed(place, content) => {
+        StoredBlock::Free(n) => Ok(StoredBlock::Free(*n)),
+        StoredBlock::Fixed(place, content) => {
             let content = resized_bytes(alloc, content, bytes)?;
-            Ok(Entry::Fixed(*place, content))
+            Ok(StoredBlock::Fixed(*place, content))
         }
-        Entry::Masters => Ok(Entry::Masters),
-        Entry::Relocatable(slot, flags, content) => {
+        StoredBlock::Masters => Ok(StoredBlock::Masters),
+        StoredBlock::Relocatable(slot, flags, content) => {
             let content = resized_bytes(alloc, content, bytes)?;
-            Ok(Entry::Relocatable(*slot, *flags, content))
+            Ok(StoredBlock::Relocatable(*slot, *flags, content))
         }
     }
 }
@@ -43,12 +50,13 @@ fn resized_entry(alloc: Global, entry: &Entry, bytes: usize) -> Result<Entry, Al
 /// An entry like a slot's with its content at another size.
 fn resized_slot(
     alloc: Global,
-    entries: &[Entry],
+    entries: &[StoredBlock],
     number: u32,
     bytes: usize,
-) -> Result<Entry, AllocError>
+) -> Result<StoredBlock, AllocError>
     requires { IsSome (spot (is_relocatable number) (blocks_of entries.now)) }
-    ensures { IfOk result (λ e. IfSome (spot (is_relocatable number) (blocks_of entries.now)) (λ from. block_of e ≡ resized bytes from.here)) }
+    ensures { IfOk result (λ e.
+        IfSome (spot (is_relocatable number) (blocks_of entries.now)) (λ from. block_of e ≡ resized bytes from.here)) }
 {
     for entry in entries {
         if is_of_slot(entry, number) {
@@ -59,25 +67,27 @@ fn resized_slot(
 }
 
 /// Takes bytes from the Free entry at an index, and drops it where none are left.
-fn take_bytes(entries: &mut Vec<Entry>, i: usize, bytes: u32)
+fn take_bytes(entries: &mut Vec<StoredBlock>, i: usize, bytes: u32)
     requires fits { sizes (blocks_of entries.old.items) < 2 ^ 32 }
     requires room { IsSome (taken bytes (drop i (blocks_of entries.old.items))) }
-    ensures { IfSome (taken bytes (drop i (blocks_of entries.old.items))) (λ above. blocks_of entries.new.items ≡ take i (blocks_of entries.old.items) ++ above) }
+    ensures { IfSome (taken bytes (drop i (blocks_of entries.old.items))) (λ above.
+        blocks_of entries.new.items ≡ take i (blocks_of entries.old.items) ++ above) }
 {
     let left = entry_size(&entries[i]) - bytes;
     if left == 0 {
         entries.remove(i);
     } else {
-        entries[i] = Entry::Free(left);
+        entries[i] = StoredBlock::Free(left);
     }
 }
 
 /// Puts an entry in place of a smaller one, and takes the bytes from the Free entry that follows.
-fn grow(entries: &mut Vec<Entry>, place: u32, new: Entry)
+fn grow(entries: &mut Vec<StoredBlock>, place: u32, new: StoredBlock)
     requires fits { sizes (blocks_of entries.old.items) < 2 ^ 31 }
     requires more { IsSomeAnd (spot_at place (blocks_of entries.old.items)) (λ s. size s.here < size (block_of new)) }
     requires room { IsSomeAnd (spot_at place (blocks_of entries.old.items)) (λ s. IsSome (grow_up (block_of new) s)) }
-    ensures { IfSome (spot_at place (blocks_of entries.old.items)) (λ s. IfSome (grow_up (block_of new) s) (λ after. blocks_of entries.new.items ≡ after)) }
+    ensures { IfSome (spot_at place (blocks_of entries.old.items)) (λ s.
+        IfSome (grow_up (block_of new) s) (λ after. blocks_of entries.new.items ≡ after)) }
 {
     let Some(i) = index_at(entries, place) else {
         unreachable!()
@@ -90,7 +100,7 @@ fn grow(entries: &mut Vec<Entry>, place: u32, new: Entry)
 
 /// Puts an entry in place of the one at a place: what is left is Free, and what is wanted is taken from the
 /// Free entry that follows.
-fn replace(entries: &mut Vec<Entry>, place: u32, new: Entry) -> Result<(), AllocError>
+fn replace(entries: &mut Vec<StoredBlock>, place: u32, new: StoredBlock) -> Result<(), AllocError>
     requires fits { sizes (blocks_of entries.old.items) < 2 ^ 31 }
     requires room { IsSomeAnd (spot_at place (blocks_of entries.old.items)) (λ s.
         (size (block_of new) ≤ size s.here) ⊎ IsSome (grow_up (block_of new) s)) }
@@ -116,7 +126,7 @@ fn replace(entries: &mut Vec<Entry>, place: u32, new: Entry) -> Result<(), Alloc
 /// entry that follows.
 pub fn resize_at(
     alloc: Global,
-    entries: &mut Vec<Entry>,
+    entries: &mut Vec<StoredBlock>,
     place: u32,
     bytes: usize,
 ) -> Result<(), AllocError>
@@ -138,9 +148,15 @@ pub fn resize_at(
 }
 
 /// Makes a slot's entry Free, and puts another at the lower end of the Free one at a place.
-fn put_away(entries: &mut Vec<Entry>, place: u32, number: u32, new: Entry) -> Result<(), AllocError>
+fn put_away(
+    entries: &mut Vec<StoredBlock>,
+    place: u32,
+    number: u32,
+    new: StoredBlock,
+) -> Result<(), AllocError>
     requires fits { sizes (blocks_of entries.old.items) < 2 ^ 31 }
-    requires room { IsSomeAnd (spot_at place (blocks_of entries.old.items)) (λ s. IsTrue (is_room (size (block_of new)) s.here)) }
+    requires room { IsSomeAnd (spot_at place (blocks_of entries.old.items)) (λ s.
+        IsTrue (is_room (size (block_of new)) s.here)) }
     ensures ok { OnOk result (IfSome (spot_at place (blocks_of entries.old.items)) (λ s.
         blocks_of entries.new.items ≡ filled (block_of new) (moved_away (is_relocatable number) s))) }
     ensures err { OnErr result (entries.new.items ≡ entries.old.items) }
@@ -149,7 +165,7 @@ fn put_away(entries: &mut Vec<Entry>, place: u32, number: u32, new: Entry) -> Re
         unreachable!()
     };
     let left = entry_size(&entries[i]) - entry_size(&new);
-    entries.insert(i + 1, Entry::Free(left))?;
+    entries.insert(i + 1, StoredBlock::Free(left))?;
     free_slot(entries, number);
     entries[i] = new;
     tidy_entries(entries);
@@ -159,13 +175,14 @@ fn put_away(entries: &mut Vec<Entry>, place: u32, number: u32, new: Entry) -> Re
 /// Moves the entry of a slot, at another size, to the lower end of the Free one at a place.
 pub fn move_slot(
     alloc: Global,
-    entries: &mut Vec<Entry>,
+    entries: &mut Vec<StoredBlock>,
     place: u32,
     number: u32,
     bytes: usize,
 ) -> Result<(), AllocError>
     requires fits { sizes (blocks_of entries.old.items) < 2 ^ 31 }
-    requires room { IsSomeAnd (spot_at place (blocks_of entries.old.items)) (λ s. IsTrue (is_room (padded bytes) s.here)) }
+    requires room { IsSomeAnd (spot_at place (blocks_of entries.old.items)) (λ s.
+        IsTrue (is_room (padded bytes) s.here)) }
     requires block { IsSome (spot (is_relocatable number) (blocks_of entries.old.items)) }
     ensures ok { OnOk result (IfSome (spot_at place (blocks_of entries.old.items)) (λ s.
         IfSome (spot (is_relocatable number) (blocks_of entries.old.items)) (λ from.

@@ -3,7 +3,7 @@
 ghost use Rattle.std.specs.Prelude.{◌≡◌, ◌≤◌};
 ghost use Rattle.mac_words.specs.Size.{padded};
 
-use super::{BlockStore, ListStore, Named};
+use super::{BlockStore, ListStore, Sparing};
 use crate::tests::{make, put, shown};
 use std::alloc::AllocError;
 use std::test::Fail;
@@ -41,7 +41,7 @@ fn grown(store: &mut ListStore, number: u32, was: u32, bytes: u32) -> Result<boo
     let Some(next) = place.checked_add(taken(was)) else {
         return Ok(false);
     };
-    let Some(above) = store.find_free(taken(bytes) - taken(was), 0, Named::Nothing) else {
+    let Some(above) = store.find_free(taken(bytes) - taken(was), 0, Sparing::Nothing) else {
         return Ok(false);
     };
     if above != next {
@@ -58,7 +58,7 @@ fn moved(store: &mut ListStore, number: u32, bytes: u32) -> Result<bool, AllocEr
     if store.place_of(number).is_none() {
         return Ok(false);
     }
-    let Some(place) = store.find_free(taken(bytes), 0, Named::Nothing) else {
+    let Some(place) = store.find_free(taken(bytes), 0, Sparing::Nothing) else {
         return Ok(false);
     };
     store.move_to(place, number, bytes)?;
@@ -73,17 +73,17 @@ fn a_block_is_cut_where_it_stands(rt: HostRuntime) -> Result<(), Fail> {
     assert!(rt; put(&mut store, a, 0, b"Macintosh"));
     assert!(rt; cut(&mut store, a, 33)?);
     assert_eq!(rt; store.free_bytes(), 656);
-    assert_eq!(rt; store.find_free(1, 0, Named::Nothing), Some(336));
+    assert_eq!(rt; store.find_free(1, 0, Sparing::Nothing), Some(336));
     assert!(rt; cut(&mut store, a, 3)?);
     assert_eq!(rt; shown(&store, a), Some(b"Mac".as_slice()));
     assert_eq!(rt; store.place_of(a), Some(272));
     assert_eq!(rt; store.place_of(b), Some(400));
     assert_eq!(rt; store.free_bytes(), 688);
-    assert_eq!(rt; store.find_free(97, 0, Named::Nothing), Some(432));
+    assert_eq!(rt; store.find_free(97, 0, Sparing::Nothing), Some(432));
     assert!(rt; !cut(&mut store, a, 4)?);
     assert!(rt; cut(&mut store, b, 0)?);
     assert_eq!(rt; store.free_bytes(), 704);
-    assert_eq!(rt; store.find_free(608, 0, Named::Nothing), Some(416));
+    assert_eq!(rt; store.find_free(608, 0, Sparing::Nothing), Some(416));
     Ok(())
 }
 
@@ -105,7 +105,7 @@ fn a_block_moves_at_another_size(rt: HostRuntime) -> Result<(), Fail> {
     assert_eq!(rt; store.place_of(b), Some(272));
     assert_eq!(rt; shown(&store, b), Some(b"Fin".as_slice()));
     assert_eq!(rt; store.free_bytes(), 688);
-    assert_eq!(rt; store.find_free(48, 0, Named::Nothing), Some(304));
+    assert_eq!(rt; store.find_free(48, 0, Sparing::Nothing), Some(304));
     assert!(rt; !moved(&mut store, b, 1000)?);
     Ok(())
 }
@@ -121,12 +121,12 @@ fn a_block_grows_into_the_free_one_above(rt: HostRuntime) -> Result<(), Fail> {
     store.release(b);
     assert!(rt; grown(&mut store, a, 4, 17)?);
     assert_eq!(rt; store.free_bytes(), 672);
-    assert_eq!(rt; store.find_free(1, 0, Named::Nothing), Some(320));
+    assert_eq!(rt; store.find_free(1, 0, Sparing::Nothing), Some(320));
     assert!(rt; grown(&mut store, a, 17, 64)?);
     assert_eq!(rt; store.place_of(a), Some(272));
     assert_eq!(rt; store.place_of(c), Some(352));
     assert_eq!(rt; store.free_bytes(), 640);
-    assert_eq!(rt; store.find_free(1, 0, Named::Nothing), Some(384));
+    assert_eq!(rt; store.find_free(1, 0, Sparing::Nothing), Some(384));
     let bytes = shown(&store, a).expect(&rt, "a block");
     assert_eq!(rt; bytes.len(), 64);
     assert_eq!(rt; bytes.iter().filter(|byte| **byte == 0).count(), 60);

@@ -2,7 +2,7 @@
 
 ghost use Rattle.std.specs.Prelude.{◌≡◌, ◌<◌, length, count_by, MatchOption};
 ghost use Rattle.block_store.specs.Slot.{Unused};
-ghost use Rattle.block_store.specs.ListStore.{is_unused, slots_of};
+ghost use Rattle.block_store.specs.Inner.ListStore.{is_unused, slots_of};
 
 /// A slot: of no handle, or of one, with its resource flag.
 #[derive(Clone, Copy, Debug, PartialEq, Eq)]
@@ -13,7 +13,8 @@ pub enum SlotEntry {
 
 /// The index of the first slot of no handle.
 pub fn first_unused(slots: &[SlotEntry]) -> Option<usize>
-    ensures { MatchOption result (count_by is_unused slots.now ≡ 0) (λ i. (i < length slots.now) × (slots_of slots.now i ≡ Unused)) }
+    ensures { MatchOption result (count_by is_unused slots.now ≡ 0) (λ i.
+        (i < length slots.now) × (slots_of slots.now i ≡ Unused)) }
 {
     for (i, slot) in slots.iter().enumerate() {
         if *slot == SlotEntry::Unused {

@@ -1,21 +1,28 @@
 //! The contract of a store of blocks.
 
-ghost use Rattle.std.specs.Prelude.{◌≡◌, ℕ, ◌+◌, ◌*◌, ◌≤◌, ◌<◌, ◌%◌, ◌&&◌, ◌⊎◌, ◌∷◌, ◌++◌, List, Bool, true, false, length, take, replicate, is_some, IsTrue, IsSome, IfSome, IsSomeAnd, OnOk, OnErr, IsErr, MatchOption};
+ghost use Rattle.std.specs.Prelude.{◌≡◌, ℕ, ◌+◌, ◌*◌, ◌≤◌, ◌<◌, ◌%◌, ◌&&◌, ◌⊎◌, ◌∷◌, ◌++◌, List, Bool, true, false};
+ghost use Rattle.std.specs.Prelude.{length, take, replicate, is_some, IsTrue, IsSome, IfSome, IsSomeAnd, OnOk, OnErr};
+ghost use Rattle.std.specs.Prelude.{IsErr, MatchOption};
 ghost use Rattle.std.specs.Option.{option_map};
 ghost use Rattle.mac_words.specs.Size.{padded};
-ghost use Rattle.block_store.specs.Block.{Block, Free, Fixed, Masters, Relocatable, is_fixed, size, count, sizes, free_sum, is_room, is_relocatable, is_masters, no_flags, content_of, with_content, written, resized, tidy};
+ghost use Rattle.block_store.specs.Block.{Block, Free, Fixed, Masters, Relocatable, is_fixed, size, count, sizes};
+ghost use Rattle.block_store.specs.Block.{free_sum, is_room, is_relocatable, is_masters, no_flags, content_of};
+ghost use Rattle.block_store.specs.Block.{with_content, resized, tidy};
+ghost use Rattle.windows.specs.Writes.{written};
 ghost use Rattle.block_store.specs.Run.{has, has_free, settle, low, high, with_run, run_at, segments};
 ghost use Rattle.block_store.specs.Room.{spot, spot_at, filled, may_go, emptied, count_of};
 ghost use Rattle.block_store.specs.Grow.{freed, grow_up, taken};
 ghost use Rattle.block_store.specs.Find.{FindsLowest, FindsLowestRun};
-ghost use Rattle.block_store.specs.Compact.{largest_free, largest_run, FindsRun, NoneRises, Aligned, Placed};
+ghost use Rattle.block_store.specs.Compact.{largest_free, largest_run, FindsRun, NoneRises, lowered, Aligned, Placed};
 ghost use Rattle.block_store.specs.Slot.{Unused, Used, is_used};
-ghost use Rattle.block_store.specs.Named.{purged, spared};
+ghost use Rattle.block_store.specs.Sparing.{purged, spared};
 ghost use Rattle.block_store.specs.Rest.{Rest, IsRest, with_slot, with_moves, falling};
+ghost use Rattle.block_store.specs.declared.measures.TheConstants.{GREATEST_ZONE, SLOTS_A_BLOCK};
 ghost use Rattle.block_store.specs.Seen.{seen, with_flags, moved_away};
 
 use crate::flags::Flags;
-use crate::named::{Named, Seen};
+use crate::measures::{MASTERS_SIZE, SLOTS_A_BLOCK, UNIT};
+use crate::sparing::{Seen, Sparing};
 use std::alloc::AllocError;
 
 /// The blocks of a zone, and the slots through which its relocatable blocks are reached. A place is a
@@ -23,7 +30,8 @@ use std::alloc::AllocError;
 ///
 /// *Inside Macintosh: Memory*, chapter 1, "Heap Zones" and "Master Pointers".
 pub trait BlockStore {
-    /// Whether its calls may answer that the host has no memory.
+    /// Whether its calls may answer that the host has no memory. A store gives the constant, and the value
+    /// that clauses name: both are proved equal.
     const TAKES_HOST: bool;
 
     ghost TAKES_HOST: { Bool };
@@ -63,61 +71,61 @@ pub trait BlockStore {
         ensures { FindsLowest (is_relocatable number) (zone self.now) result };
 
     /// The place of the lowest Free block of at least so many bytes, after so many purges.
-    fn find_free(&self, bytes: u32, purges: u32, named: Named) -> Option<u32>
-        ensures { FindsLowest (is_room bytes) (purged purges named (zone self.now)) result };
+    fn find_free(&self, bytes: u32, purges: u32, sparing: Sparing) -> Option<u32>
+        ensures { FindsLowest (is_room bytes) (purged purges sparing (zone self.now)) result };
 
     /// The lowest run with at least so many Free bytes, after so many purges.
-    fn find_run(&self, bytes: u32, purges: u32, named: Named) -> Option<u32>
-        ensures { FindsLowestRun (has_free bytes) (purged purges named (zone self.now)) result };
+    fn find_run(&self, bytes: u32, purges: u32, sparing: Sparing) -> Option<u32>
+        ensures { FindsLowestRun (has_free bytes) (purged purges sparing (zone self.now)) result };
 
     /// The run of an index, counted from 0 at the lowest.
     fn nth_run(&self, index: u32) -> Option<u32>
         ensures { FindsRun index (zone self.now) result };
 
     /// The place of the block that is emptied next, after so many purges.
-    fn next_purgeable(&self, purges: u32, named: Named) -> Option<u32>
-        ensures { FindsLowest (may_go (spared named)) (purged purges named (zone self.now)) result };
+    fn next_purgeable(&self, purges: u32, sparing: Sparing) -> Option<u32>
+        ensures { FindsLowest (may_go (spared sparing)) (purged purges sparing (zone self.now)) result };
 
     /// Whether so many Free bytes follow the block of a slot, after so many purges.
-    fn room_above(&self, number: u32, bytes: u32, purges: u32, named: Named) -> bool
-        ensures { IfSome (spot (is_relocatable number) (purged purges named (zone self.now))) (λ s.
+    fn room_above(&self, number: u32, bytes: u32, purges: u32, sparing: Sparing) -> bool
+        ensures { IfSome (spot (is_relocatable number) (purged purges sparing (zone self.now))) (λ s.
             result ≡ is_some (taken bytes s.above)) };
 
     /// The run of the block of a slot, if it has so many Free bytes after so many purges.
-    fn run_of(&self, number: u32, bytes: u32, purges: u32, named: Named) -> Option<u32>
+    fn run_of(&self, number: u32, bytes: u32, purges: u32, sparing: Sparing) -> Option<u32>
         ensures { FindsLowestRun (λ run. has (is_relocatable number) run && has_free bytes run)
-            (purged purges named (zone self.now)) result };
+            (purged purges sparing (zone self.now)) result };
 
     /// The Free bytes after so many purges.
-    fn free_after(&self, purges: u32, named: Named) -> u32
-        ensures { result ≡ free_sum (purged purges named (zone self.now)) };
+    fn free_after(&self, purges: u32, sparing: Sparing) -> u32
+        ensures { result ≡ free_sum (purged purges sparing (zone self.now)) };
 
     /// The bytes of the largest Free block after so many purges; 0 where there is none.
-    fn largest_after(&self, purges: u32, named: Named) -> u32
-        ensures { result ≡ largest_free (purged purges named (zone self.now)) };
+    fn largest_after(&self, purges: u32, sparing: Sparing) -> u32
+        ensures { result ≡ largest_free (purged purges sparing (zone self.now)) };
 
     /// Empties the lowest blocks that may go, so many of them, and frees a block that counts as Free.
-    fn purge(&mut self, purges: u32, named: Named)
-        ensures zone { zone self.new ≡ purged purges named (zone self.old) }
+    fn purge(&mut self, purges: u32, sparing: Sparing)
+        ensures zone { zone self.new ≡ purged purges sparing (zone self.old) }
         ensures rest { IsRest (rest self.old) (rest self.new) };
 
     /// Whether the run above the block at a place has so many Free bytes, after so many purges in it.
-    fn run_after(&self, place: u32, bytes: u32, purges: u32, named: Named) -> bool
+    fn run_after(&self, place: u32, bytes: u32, purges: u32, sparing: Sparing) -> bool
         requires { IsSome (spot_at place (zone self.now)) }
         ensures { IfSome (spot_at place (zone self.now)) (λ s.
-            result ≡ has_free bytes (emptied purges (spared named) (segments s.above).first)) };
+            result ≡ has_free bytes (emptied purges (spared sparing) (segments s.above).first)) };
 
     /// How many blocks may go in the run above the block at a place.
-    fn purgeable_after(&self, place: u32, named: Named) -> u32
+    fn purgeable_after(&self, place: u32, sparing: Sparing) -> u32
         requires { IsSome (spot_at place (zone self.now)) }
         ensures { IfSome (spot_at place (zone self.now)) (λ s.
-            result ≡ count_of (spared named) (segments s.above).first) };
+            result ≡ count_of (spared sparing) (segments s.above).first) };
 
     /// Empties the lowest blocks that may go above the block at a place, so many of them.
-    fn purge_after(&mut self, place: u32, purges: u32, named: Named)
+    fn purge_after(&mut self, place: u32, purges: u32, sparing: Sparing)
         requires { IsSome (spot_at place (zone self.old)) }
         ensures zone { IfSome (spot_at place (zone self.old)) (λ s.
-            zone self.new ≡ tidy (s.below ++ s.here ∷ emptied purges (spared named) s.above)) }
+            zone self.new ≡ tidy (s.below ++ s.here ∷ emptied purges (spared sparing) s.above)) }
         ensures rest { IsRest (rest self.old) (rest self.new) };
 
     /// Packs a run: its relocatable blocks in order, then one Free block.
@@ -128,13 +136,17 @@ pub trait BlockStore {
         ensures zone { IfSome (run_at run (zone self.old)) (λ r. zone self.new ≡ tidy (with_run settle r)) }
         ensures rest { IfSome (run_at run (zone self.old)) (λ r.
             IsRest (with_moves (falling r.run) (rest self.old)) (rest self.new)) }
+        // What is counted are the relocatable blocks that stand lower afterwards.
+        ensures counted { IfSome (run_at run (zone self.old)) (λ r.
+            falling r.run ≡ lowered (zone self.old) (zone self.new)) }
         ensures lower { NoneRises (zone self.old) (zone self.new) };
 
     /// Packs a run upward, with so many Free bytes at its bottom.
     fn raise(&mut self, run: u32, bytes: u32) -> Result<(), AllocError>
         requires run { IsSomeAnd (run_at run (zone self.old)) (λ r. IsTrue (has_free bytes r.run)) }
-        requires even { bytes % 16 ≡ 0 }
-        ensures ok { OnOk result (IfSome (run_at run (zone self.old)) (λ r. zone self.new ≡ tidy (with_run (low (Free bytes)) r))) }
+        requires even { bytes % UNIT ≡ 0 }
+        ensures ok { OnOk result
+            (IfSome (run_at run (zone self.old)) (λ r. zone self.new ≡ tidy (with_run (low (Free bytes)) r))) }
         ensures rest { IsRest (rest self.old) (rest self.new) }
         ensures err { OnErr result (zone self.new ≡ zone self.old) }
         ensures host { IsErr result → IsTrue TAKES_HOST };
@@ -142,7 +154,8 @@ pub trait BlockStore {
     /// Moves the block of a slot to the top of its run.
     fn hoist(&mut self, run: u32, number: u32)
         requires { IsSomeAnd (run_at run (zone self.old)) (λ r. IsTrue (has (is_relocatable number) r.run)) }
-        ensures zone { IfSome (run_at run (zone self.old)) (λ r. zone self.new ≡ tidy (with_run (high (is_relocatable number)) r)) }
+        ensures zone { IfSome (run_at run (zone self.old)) (λ r.
+            zone self.new ≡ tidy (with_run (high (is_relocatable number)) r)) }
         ensures rest { IsRest (rest self.old) (rest self.new) };
 
     /// Puts a new block of `size` bytes 0 at the lower end of the Free block at a place.
@@ -169,12 +182,13 @@ pub trait BlockStore {
     ///
     /// *Inside Macintosh: Memory*, chapter 2, "Allocating Master Pointers".
     fn add_masters(&mut self, place: u32) -> Result<(), AllocError>
-        requires { IsSomeAnd (spot_at place (zone self.old)) (λ s. IsTrue (is_room 272 s.here)) }
+        requires { IsSomeAnd (spot_at place (zone self.old)) (λ s. IsTrue (is_room MASTERS_SIZE s.here)) }
         ensures ok { OnOk result (IfSome (spot_at place (zone self.old)) (λ s. zone self.new ≡ filled Masters s)) }
-        ensures unused { OnOk result ((rest self.new).unused ≡ (rest self.old).unused + 64) }
-        ensures all { OnOk result ((rest self.new).all ≡ (rest self.old).all + 64) }
+        ensures unused { OnOk result ((rest self.new).unused ≡ (rest self.old).unused + SLOTS_A_BLOCK) }
+        ensures all { OnOk result ((rest self.new).all ≡ (rest self.old).all + SLOTS_A_BLOCK) }
         // A slot stays what it was; what was none may now be an unused one.
-        ensures slots { OnOk result ((k : ℕ) → IsTrue (is_used ((rest self.old).slots k)) → (rest self.new).slots k ≡ (rest self.old).slots k) }
+        ensures slots { OnOk result
+            ((k : ℕ) → IsTrue (is_used ((rest self.old).slots k)) → (rest self.new).slots k ≡ (rest self.old).slots k) }
         ensures moves { (rest self.new).moves ≡ (rest self.old).moves }
         ensures window { (rest self.new).window ≡ (rest self.old).window }
         ensures err { OnErr result (zone self.new ≡ zone self.old) }
@@ -229,7 +243,8 @@ pub trait BlockStore {
     fn take_slot(&mut self) -> Option<u32>
         ensures was { IfSome result (λ number. (rest self.old).slots number ≡ Unused) }
         ensures one { IfSome result (λ number. (rest self.new).unused + 1 ≡ (rest self.old).unused) }
-        ensures rest { IfSome result (λ number. IsRest (with_slot number (Used false) (rest self.new).unused (rest self.old)) (rest self.new)) }
+        ensures rest { IfSome result (λ number.
+            IsRest (with_slot number (Used false) (rest self.new).unused (rest self.old)) (rest self.new)) }
         ensures none { MatchOption result ((rest self.old).unused ≡ 0) (λ _. Unit {0}) }
         ensures same { MatchOption result (IsRest (rest self.old) (rest self.new)) (λ _. Unit {0}) }
         ensures zone { zone self.new ≡ zone self.old };
@@ -248,7 +263,8 @@ pub trait BlockStore {
 
     /// Writes bytes into the block at a place, from an offset on.
     fn write(&mut self, place: u32, from: u32, bytes: &[u8])
-        requires { IsSomeAnd (spot_at place (zone self.old)) (λ s. from + length bytes.now ≤ length (content_of s.here)) }
+        requires { IsSomeAnd (spot_at place (zone self.old)) (λ s.
+            from + length bytes.now ≤ length (content_of s.here)) }
         ensures zone { IfSome (spot_at place (zone self.old)) (λ s.
             zone self.new ≡ s.below ++ with_content (written from bytes.now (content_of s.here)) s.here ∷ s.above) }
         ensures rest { IsRest (rest self.old) (rest self.new) };
@@ -258,17 +274,19 @@ pub trait BlockStore {
         requires source { IsSomeAnd (spot_at source (zone self.old)) (λ s. bytes ≤ length (content_of s.here)) }
         requires within { IsSomeAnd (spot_at place (zone self.old)) (λ s. from + bytes ≤ length (content_of s.here)) }
         ensures zone { IfSome (spot_at source (zone self.old)) (λ t. IfSome (spot_at place (zone self.old)) (λ s.
-            zone self.new ≡ s.below ++ with_content (written from (take bytes (content_of t.here)) (content_of s.here)) s.here ∷ s.above)) }
+            zone self.new ≡ s.below
+            ++ with_content (written from (take bytes (content_of t.here)) (content_of s.here)) s.here ∷ s.above)) }
         ensures rest { IsRest (rest self.old) (rest self.new) };
 
     /// A zone has at most 2^27 bytes.
-    ghost small: { (store : Self) → sizes (zone store) ≤ 134217728 };
+    ghost small: { (store : Self) → sizes (zone store) ≤ GREATEST_ZONE };
 
     /// A Masters block has 64 slots.
-    ghost masters: { (store : Self) → (rest store).all ≡ 64 * count is_masters (zone store) };
+    ghost masters: { (store : Self) → (rest store).all ≡ SLOTS_A_BLOCK * count is_masters (zone store) };
 
     /// A slot of no handle leads to no block.
-    ghost no_block: { (store : Self) (number : ℕ) → is_used ((rest store).slots number) ≡ false → has (is_relocatable number) (zone store) ≡ false };
+    ghost no_block: { (store : Self) (number : ℕ) → is_used ((rest store).slots number) ≡ false
+        → has (is_relocatable number) (zone store) ≡ false };
 
     /// No two blocks have one slot.
     ghost once: { (store : Self) (number : ℕ) → count (is_relocatable number) (zone store) ≤ 1 };

@@ -4,12 +4,12 @@ ghost use Rattle.std.specs.Prelude.{◌≡◌, ◌+◌, ◌≤◌, ◌<◌, ◌^
 ghost use Rattle.std.specs.Option.{option_map};
 ghost use Rattle.block_store.specs.Block.{Block, size, sizes, is_room};
 ghost use Rattle.block_store.specs.Room.{spot, may_go};
-ghost use Rattle.block_store.specs.Named.{spared, opened, purged};
-ghost use Rattle.block_store.specs.ListStore.{block_of, blocks_of};
-ghost use Rattle.block_store.specs.Stretch.{is_free, opened_block, names, is_enough, stretch, after_scan};
+ghost use Rattle.block_store.specs.Sparing.{spared, opened, purged};
+ghost use Rattle.block_store.specs.Inner.ListStore.{block_of, blocks_of};
+ghost use Rattle.block_store.specs.Inner.Stretch.{is_free, opened_block, names, is_enough, stretch, after_scan};
 
-use crate::entries::{Entry, entry_size};
-use crate::named::Named;
+use crate::entries::{StoredBlock, entry_size};
+use crate::sparing::Sparing;
 
 /// How far a search is: the purges left, where the stretch began, its bytes so far, and the place.
 #[derive(Clone, Copy, Debug, PartialEq, Eq)]
@@ -21,35 +21,35 @@ pub struct Scan {
 }
 
 /// Whether an entry's block is Free, or counts as Free.
-pub fn counts_free(entry: &Entry, named: Named) -> bool
-    ensures { result ≡ is_free (opened_block named (block_of entry.now)) }
+pub fn counts_free(entry: &StoredBlock, sparing: Sparing) -> bool
+    ensures { result ≡ is_free (opened_block sparing (block_of entry.now)) }
 {
-    match (entry, named) {
-        (Entry::Free(_), _) => true,
-        (Entry::Relocatable(slot, _, _), Named::Freed(freed)) => *slot == freed,
+    match (entry, sparing) {
+        (StoredBlock::Free(_), _) => true,
+        (StoredBlock::Relocatable(slot, _, _), Sparing::Freed(freed)) => *slot == freed,
         _ => false,
     }
 }
 
 /// Whether a call names a slot.
-fn is_named(slot: u32, named: Named) -> bool
-    ensures { result ≡ names named slot }
+fn is_named(slot: u32, sparing: Sparing) -> bool
+    ensures { result ≡ names sparing slot }
 {
-    match named {
-        Named::Nothing => false,
-        Named::One(one) => slot == one,
-        Named::Two(one, other) => slot == one || slot == other,
-        Named::Freed(freed) => slot == freed,
+    match sparing {
+        Sparing::Nothing => false,
+        Sparing::One(one) => slot == one,
+        Sparing::Two(one, other) => slot == one || slot == other,
+        Sparing::Freed(freed) => slot == freed,
     }
 }
 
 /// Whether an entry's block is emptied where purges are left.
-pub fn may_empty(entry: &Entry, named: Named) -> bool
-    ensures { result ≡ may_go (spared named) (opened_block named (block_of entry.now)) }
+pub fn may_empty(entry: &StoredBlock, sparing: Sparing) -> bool
+    ensures { result ≡ may_go (spared sparing) (opened_block sparing (block_of entry.now)) }
 {
     match entry {
-        Entry::Relocatable(slot, flags, _) => {
-            !flags.locked && flags.purgeable && !is_named(*slot, named)
+        StoredBlock::Relocatable(slot, flags, _) => {
+            !flags.locked && flags.purgeable && !is_named(*slot, sparing)
         }
         _ => false,
     }
@@ -63,16 +63,18 @@ pub fn suffices(free: u32, bytes: u32) -> bool
 }
 
 /// The search after an entry; none where the stretch is the one.
-fn scan_entry(entry: &Entry, bytes: u32, scan: Scan, named: Named) -> Option<Scan>
+fn scan_entry(entry: &StoredBlock, bytes: u32, scan: Scan, sparing: Sparing) -> Option<Scan>
     requires room { scan.place + size (block_of entry.now) < 2 ^ 32 }
     requires free { scan.free ≤ scan.place }
-    ensures scan { (above : List Block) → stretch bytes (spared named) scan.left scan.start scan.free scan.place (opened named (block_of entry.now ∷ above)) ≡ after_scan bytes (spared named) scan.start result (opened named above) }
+    ensures scan { (above : List Block)
+        → stretch bytes (spared sparing) scan.left scan.start scan.free scan.place (opened sparing
+        (block_of entry.now ∷ above)) ≡ after_scan bytes (spared sparing) scan.start result (opened sparing above) }
     ensures place { IfSome result (λ s. s.place ≡ scan.place + size (block_of entry.now)) }
     ensures free { IfSome result (λ s. s.free ≤ s.place) }
 {
     let size = entry_size(entry);
     let place = scan.place + size;
-    if scan.left > 0 && may_empty(entry, named) {
+    if scan.left > 0 && may_empty(entry, sparing) {
         return Some(Scan {
             left: scan.left - 1,
             start: scan.start,
@@ -80,7 +82,7 @@ fn scan_entry(entry: &Entry, bytes: u32, scan: Scan, named: Named) -> Option<Sca
             place,
         });
     }
-    if counts_free(entry, named) {
+    if counts_free(entry, sparing) {
         return Some(Scan {
             left: scan.left,
             start: scan.start,
@@ -100,9 +102,10 @@ fn scan_entry(entry: &Entry, bytes: u32, scan: Scan, named: Named) -> Option<Sca
 }
 
 /// The place of the lowest stretch that is room for so many bytes, after so many purges.
-pub fn find_room(entries: &[Entry], bytes: u32, purges: u32, named: Named) -> Option<u32>
+pub fn find_room(entries: &[StoredBlock], bytes: u32, purges: u32, sparing: Sparing) -> Option<u32>
     requires { sizes (blocks_of entries.now) < 2 ^ 32 }
-    ensures { result ≡ option_map (λ s. sizes s.below) (spot (is_room bytes) (purged purges named (blocks_of entries.now))) }
+    ensures { result ≡ option_map (λ s. sizes s.below)
+        (spot (is_room bytes) (purged purges sparing (blocks_of entries.now))) }
 {
     let mut scan = Scan {
         left: purges,
@@ -111,14 +114,10 @@ pub fn find_room(entries: &[Entry], bytes: u32, purges: u32, named: Named) -> Op
         place: 0,
     };
     for entry in entries {
-        let Some(next) = scan_entry(entry, bytes, scan, named) else {
+        let Some(next) = scan_entry(entry, bytes, scan, sparing) else {
             return Some(scan.start);
         };
         scan = next;
     }
-    if suffices(scan.free, bytes) {
-        Some(scan.start)
-    } else {
-        None
-    }
+    suffices(scan.free, bytes).then_some(scan.start)
 }

@@ -1,7 +1,7 @@
 ghost use Rattle.std.specs.Prelude.{◌≤◌};
 
-use super::{BlockStore, Flags, ListStore, Named, Seen};
-use crate::entries::Entry;
+use super::{BlockStore, Flags, ListStore, Seen, Sparing};
+use crate::entries::StoredBlock;
 use crate::run_search::search_runs;
 use crate::runs::{has_free_above, most_free, most_free_of_runs, place_of_run, purgeable_above};
 use std::alloc::AllocError;
@@ -23,7 +23,7 @@ pub(crate) fn make(store: &mut ListStore, size: u32) -> Result<Option<u32>, Allo
     requires { size ≤ 1024 }
 {
     let bytes = 16 + 16 * ((size + 15) / 16);
-    let Some(place) = store.find_free(bytes, 0, Named::Nothing) else {
+    let Some(place) = store.find_free(bytes, 0, Sparing::Nothing) else {
         return Ok(None);
     };
     let Some(number) = store.take_slot() else {
@@ -55,7 +55,7 @@ pub(crate) fn put(store: &mut ListStore, number: u32, from: u32, bytes: &[u8]) -
 // Whether so many Free bytes are in the run above a slot's block.
 fn room_after(store: &ListStore, number: u32, bytes: u32) -> Option<bool> {
     let place = store.place_of(number)?;
-    Some(store.run_after(place, bytes, 0, Named::Nothing))
+    Some(store.run_after(place, bytes, 0, Sparing::Nothing))
 }
 
 // Takes a slot and gives it back.
@@ -73,9 +73,9 @@ fn flag(store: &mut ListStore, number: u32, locked: bool, purgeable: bool) {
 }
 
 // Empties blocks above a slot's block.
-fn purge_above(store: &mut ListStore, number: u32, purges: u32, named: Named) {
+fn purge_above(store: &mut ListStore, number: u32, purges: u32, sparing: Sparing) {
     if let Some(place) = store.place_of(number) {
-        store.purge_after(place, purges, named);
+        store.purge_after(place, purges, sparing);
     }
 }
 
@@ -102,20 +102,20 @@ fn blocks_come_and_go(rt: HostRuntime) -> Result<(), Fail> {
         (593, None),
     ] {
         assert_eq!(rt;
-            store.find_free(bytes, 0, Named::Nothing),
+            store.find_free(bytes, 0, Sparing::Nothing),
             place,
             "for {bytes}"
         );
     }
-    for (bytes, named, place) in [
-        (160, Named::Freed(a), Some(432)),
-        (752, Named::Freed(b), Some(272)),
-        (752, Named::Two(a, b), None),
+    for (bytes, sparing, place) in [
+        (160, Sparing::Freed(a), Some(432)),
+        (752, Sparing::Freed(b), Some(272)),
+        (752, Sparing::Two(a, b), None),
     ] {
-        assert_eq!(rt; store.find_free(bytes, 2, named), place, "for {bytes}");
+        assert_eq!(rt; store.find_free(bytes, 2, sparing), place, "for {bytes}");
     }
     store.release(b);
-    assert_eq!(rt; store.find_free(752, 0, Named::Nothing), Some(272));
+    assert_eq!(rt; store.find_free(752, 0, Sparing::Nothing), Some(272));
     Ok(())
 }
 
@@ -130,23 +130,27 @@ fn runs_are_looked_at(rt: HostRuntime) -> Result<(), Fail> {
     assert_eq!(rt; store.nth_run(0), Some(0));
     assert_eq!(rt; store.nth_run(1), Some(272));
     assert_eq!(rt; store.nth_run(2), None);
-    for (bytes, named, place) in [
-        (0, Named::Nothing, Some(0)),
-        (1, Named::Nothing, Some(272)),
-        (720, Named::One(b), Some(272)),
-        (721, Named::Nothing, None),
-        (752, Named::Freed(b), Some(272)),
-        (753, Named::Freed(b), None),
+    for (bytes, sparing, place) in [
+        (0, Sparing::Nothing, Some(0)),
+        (1, Sparing::Nothing, Some(272)),
+        (720, Sparing::One(b), Some(272)),
+        (721, Sparing::Nothing, None),
+        (752, Sparing::Freed(b), Some(272)),
+        (753, Sparing::Freed(b), None),
     ] {
-        assert_eq!(rt; store.find_run(bytes, 1, named), place, "for {bytes}");
+        assert_eq!(rt; store.find_run(bytes, 1, sparing), place, "for {bytes}");
     }
-    for (number, bytes, named, place) in [
-        (a, 0, Named::Nothing, None),
-        (b, 720, Named::Two(a, b), Some(272)),
-        (b, 721, Named::Nothing, None),
-        (b, 0, Named::Freed(b), None),
+    for (number, bytes, sparing, place) in [
+        (a, 0, Sparing::Nothing, None),
+        (b, 720, Sparing::Two(a, b), Some(272)),
+        (b, 721, Sparing::Nothing, None),
+        (b, 0, Sparing::Freed(b), None),
     ] {
-        assert_eq!(rt; store.run_of(number, bytes, 1, named), place, "for {bytes}");
+        assert_eq!(rt;
+            store.run_of(number, bytes, 1, sparing),
+            place,
+            "for {bytes}"
+        );
     }
     assert_eq!(rt; room_after(&store, b, 592), Some(true));
     assert_eq!(rt; room_after(&store, b, 593), Some(false));
@@ -157,30 +161,30 @@ fn runs_are_looked_at(rt: HostRuntime) -> Result<(), Fail> {
 #[test]
 fn purges_give_runs_room(rt: HostRuntime) -> Result<(), Fail> {
     let entries = [
-        Entry::Free(16),
-        Entry::Relocatable(1, GOES, Vec::new(rt.alloc())),
-        Entry::Masters,
-        Entry::Relocatable(2, GOES, Vec::new(rt.alloc())),
-        Entry::Relocatable(3, GOES, Vec::new(rt.alloc())),
-        Entry::Free(32),
-        Entry::Relocatable(4, LOCKED, Vec::new(rt.alloc())),
-        Entry::Free(48),
-        Entry::Relocatable(5, Flags::NONE, Vec::new(rt.alloc())),
+        StoredBlock::Free(16),
+        StoredBlock::Relocatable(1, GOES, Vec::new(rt.alloc())),
+        StoredBlock::Masters,
+        StoredBlock::Relocatable(2, GOES, Vec::new(rt.alloc())),
+        StoredBlock::Relocatable(3, GOES, Vec::new(rt.alloc())),
+        StoredBlock::Free(32),
+        StoredBlock::Relocatable(4, LOCKED, Vec::new(rt.alloc())),
+        StoredBlock::Free(48),
+        StoredBlock::Relocatable(5, Flags::NONE, Vec::new(rt.alloc())),
     ];
-    for (number, bytes, purges, named, place) in [
-        (None, 33, 0, Named::Nothing, Some(384)),
-        (None, 32, 1, Named::Nothing, Some(0)),
-        (None, 32, 1, Named::One(1), Some(304)),
-        (None, 48, 2, Named::Nothing, Some(304)),
-        (None, 64, 3, Named::Nothing, Some(304)),
-        (None, 64, 0, Named::Freed(5), Some(384)),
-        (None, 80, 0, Named::Freed(4), Some(304)),
-        (Some(3), 48, 2, Named::Nothing, Some(304)),
-        (Some(3), 64, 3, Named::Nothing, None),
-        (Some(4), 0, 0, Named::Nothing, None),
+    for (number, bytes, purges, sparing, place) in [
+        (None, 33, 0, Sparing::Nothing, Some(384)),
+        (None, 32, 1, Sparing::Nothing, Some(0)),
+        (None, 32, 1, Sparing::One(1), Some(304)),
+        (None, 48, 2, Sparing::Nothing, Some(304)),
+        (None, 64, 3, Sparing::Nothing, Some(304)),
+        (None, 64, 0, Sparing::Freed(5), Some(384)),
+        (None, 80, 0, Sparing::Freed(4), Some(304)),
+        (Some(3), 48, 2, Sparing::Nothing, Some(304)),
+        (Some(3), 64, 3, Sparing::Nothing, None),
+        (Some(4), 0, 0, Sparing::Nothing, None),
     ] {
         assert_eq!(rt;
-            search_runs(&entries, number, bytes, purges, named),
+            search_runs(&entries, number, bytes, purges, sparing),
             place,
             "for {bytes}"
         );
@@ -191,34 +195,34 @@ fn purges_give_runs_room(rt: HostRuntime) -> Result<(), Fail> {
 #[test]
 fn runs_end_at_barriers(rt: HostRuntime) -> Result<(), Fail> {
     let entries = [
-        Entry::Masters,
-        Entry::Relocatable(2, GOES, Vec::new(rt.alloc())),
-        Entry::Relocatable(3, GOES, Vec::new(rt.alloc())),
-        Entry::Free(32),
-        Entry::Relocatable(4, LOCKED, Vec::new(rt.alloc())),
-        Entry::Free(48),
+        StoredBlock::Masters,
+        StoredBlock::Relocatable(2, GOES, Vec::new(rt.alloc())),
+        StoredBlock::Relocatable(3, GOES, Vec::new(rt.alloc())),
+        StoredBlock::Free(32),
+        StoredBlock::Relocatable(4, LOCKED, Vec::new(rt.alloc())),
+        StoredBlock::Free(48),
     ];
     assert_eq!(rt; most_free(&entries), 48);
     assert_eq!(rt; most_free_of_runs(&entries), 48);
     for (index, place) in [(0, Some(0)), (1, Some(272)), (2, Some(352)), (3, None)] {
         assert_eq!(rt; place_of_run(&entries, index), place, "for {index}");
     }
-    for (bytes, purges, named, has_room) in [
-        (32, 0, Named::Nothing, true),
-        (48, 1, Named::Nothing, true),
-        (49, 1, Named::Nothing, false),
-        (64, 2, Named::Freed(3), true),
-        (64, 2, Named::One(2), false),
+    for (bytes, purges, sparing, has_room) in [
+        (32, 0, Sparing::Nothing, true),
+        (48, 1, Sparing::Nothing, true),
+        (49, 1, Sparing::Nothing, false),
+        (64, 2, Sparing::Freed(3), true),
+        (64, 2, Sparing::One(2), false),
     ] {
         assert_eq!(rt;
-            has_free_above(&entries, 0, bytes, purges, named),
+            has_free_above(&entries, 0, bytes, purges, sparing),
             has_room,
             "for {bytes}"
         );
     }
-    assert_eq!(rt; purgeable_above(&entries, 0, Named::Nothing), 2);
-    assert_eq!(rt; purgeable_above(&entries, 0, Named::Two(1, 3)), 1);
-    assert_eq!(rt; purgeable_above(&entries, 272, Named::One(3)), 0);
+    assert_eq!(rt; purgeable_above(&entries, 0, Sparing::Nothing), 2);
+    assert_eq!(rt; purgeable_above(&entries, 0, Sparing::Two(1, 3)), 1);
+    assert_eq!(rt; purgeable_above(&entries, 272, Sparing::One(3)), 0);
     Ok(())
 }
 
@@ -294,26 +298,26 @@ fn runs_are_packed(rt: HostRuntime) -> Result<(), Fail> {
     assert!(rt; put(&mut store, d, 0, b"last"));
     store.release(a);
     store.release(c);
-    assert_eq!(rt; store.find_free(32, 0, Named::Nothing), Some(272));
+    assert_eq!(rt; store.find_free(32, 0, Sparing::Nothing), Some(272));
     assert!(rt; !settle(&mut store, 304));
     assert!(rt; settle(&mut store, 272));
     assert_eq!(rt; store.place_of(b), Some(272));
     assert_eq!(rt; store.place_of(d), Some(304));
     assert_eq!(rt; shown(&store, d), Some(b"last".as_slice()));
-    assert_eq!(rt; store.find_free(1, 0, Named::Nothing), Some(336));
+    assert_eq!(rt; store.find_free(1, 0, Sparing::Nothing), Some(336));
     assert_eq!(rt; store.free_bytes(), 688);
     assert!(rt; hoist(&mut store, 272, b));
     assert!(rt; !hoist(&mut store, 272, a));
     assert_eq!(rt; store.place_of(d), Some(272));
     assert_eq!(rt; store.place_of(b), Some(992));
-    assert_eq!(rt; store.find_free(688, 0, Named::Nothing), Some(304));
+    assert_eq!(rt; store.find_free(688, 0, Sparing::Nothing), Some(304));
     assert!(rt; raise(&mut store, 272, 4)?);
     assert!(rt; !raise(&mut store, 272, 44)?);
     assert_eq!(rt; store.place_of(d), Some(336));
     assert_eq!(rt; store.place_of(b), Some(368));
     assert_eq!(rt; shown(&store, d), Some(b"last".as_slice()));
-    assert_eq!(rt; store.find_free(64, 0, Named::Nothing), Some(272));
-    assert_eq!(rt; store.find_free(624, 0, Named::Nothing), Some(400));
+    assert_eq!(rt; store.find_free(64, 0, Sparing::Nothing), Some(272));
+    assert_eq!(rt; store.find_free(624, 0, Sparing::Nothing), Some(400));
     Ok(())
 }
 
@@ -327,7 +331,7 @@ fn refused_memory_changes_no_block(rt: HostRuntime) -> Result<(), Fail> {
         if make(&mut store, 1).is_err() {
             assert_eq!(rt; store.free_bytes(), 752 - 32 * made);
             assert_eq!(rt;
-                store.find_free(1, 0, Named::Nothing),
+                store.find_free(1, 0, Sparing::Nothing),
                 Some(272 + 32 * made)
             );
             assert!(rt; make(&mut store, 1)?.is_some());
@@ -356,8 +360,8 @@ fn blocks_are_seen(rt: HostRuntime) -> Result<(), Fail> {
     ] {
         assert_eq!(rt; store.block_at(place), seen, "at {place}");
     }
-    assert!(rt; store.room_above(a, 624, 0, Named::Nothing));
-    assert!(rt; !store.room_above(a, 625, 0, Named::Nothing));
+    assert!(rt; store.room_above(a, 624, 0, Sparing::Nothing));
+    assert!(rt; !store.room_above(a, 625, 0, Sparing::Nothing));
     Ok(())
 }
 
@@ -368,41 +372,41 @@ fn blocks_are_emptied(rt: HostRuntime) -> Result<(), Fail> {
     let b = make(&mut store, 100)?.expect(&rt, "room for a block");
     let c = make(&mut store, 100)?.expect(&rt, "room for a block");
     let d = make(&mut store, 100)?.expect(&rt, "room for a block");
-    assert_eq!(rt; store.next_purgeable(0, Named::Nothing), None);
+    assert_eq!(rt; store.next_purgeable(0, Sparing::Nothing), None);
     flag(&mut store, a, false, true);
     flag(&mut store, b, false, true);
     flag(&mut store, c, false, true);
     flag(&mut store, d, true, true);
-    for (purges, named, place) in [
-        (0, Named::Nothing, Some(272)),
-        (1, Named::Nothing, Some(400)),
-        (2, Named::Nothing, Some(528)),
-        (3, Named::Nothing, None),
-        (0, Named::One(a), Some(400)),
-        (1, Named::Two(a, b), None),
-        (1, Named::Freed(b), Some(528)),
+    for (purges, sparing, place) in [
+        (0, Sparing::Nothing, Some(272)),
+        (1, Sparing::Nothing, Some(400)),
+        (2, Sparing::Nothing, Some(528)),
+        (3, Sparing::Nothing, None),
+        (0, Sparing::One(a), Some(400)),
+        (1, Sparing::Two(a, b), None),
+        (1, Sparing::Freed(b), Some(528)),
     ] {
         assert_eq!(rt;
-            store.next_purgeable(purges, named),
+            store.next_purgeable(purges, sparing),
             place,
             "after {purges} purges"
         );
     }
-    assert!(rt; !store.room_above(a, 16, 0, Named::One(a)));
-    assert!(rt; store.room_above(a, 256, 2, Named::One(a)));
-    assert!(rt; !store.room_above(a, 257, 2, Named::One(a)));
-    assert!(rt; store.room_above(d, 240, 0, Named::Nothing));
-    purge_above(&mut store, a, 1, Named::Nothing);
+    assert!(rt; !store.room_above(a, 16, 0, Sparing::One(a)));
+    assert!(rt; store.room_above(a, 256, 2, Sparing::One(a)));
+    assert!(rt; !store.room_above(a, 257, 2, Sparing::One(a)));
+    assert!(rt; store.room_above(d, 240, 0, Sparing::Nothing));
+    purge_above(&mut store, a, 1, Sparing::Nothing);
     assert_eq!(rt; store.place_of(a), Some(272));
     assert_eq!(rt; store.block_at(400), Some(Seen::Free(128)));
     assert_eq!(rt; store.place_of(c), Some(528));
-    store.purge(2, Named::One(a));
+    store.purge(2, Sparing::One(a));
     assert_eq!(rt; store.block_at(400), Some(Seen::Free(256)));
     assert_eq!(rt; store.place_of(c), None);
     assert_eq!(rt; store.place_of(d), Some(656));
-    store.purge(0, Named::Freed(d));
+    store.purge(0, Sparing::Freed(d));
     assert_eq!(rt; store.block_at(400), Some(Seen::Free(624)));
-    store.purge(1, Named::Nothing);
+    store.purge(1, Sparing::Nothing);
     assert_eq!(rt; store.block_at(272), Some(Seen::Free(752)));
     assert_eq!(rt; store.free_bytes(), 752);
     Ok(())
@@ -422,7 +426,7 @@ fn refused_memory_raises_no_run(rt: HostRuntime) -> Result<(), Fail> {
     };
     if raise(&mut store, 272, 4).is_err() {
         assert_eq!(rt; store.place_of(a), Some(272));
-        assert_eq!(rt; store.find_free(688, 0, Named::Nothing), Some(336));
+        assert_eq!(rt; store.find_free(688, 0, Sparing::Nothing), Some(336));
         assert!(rt; raise(&mut store, 272, 4)?);
     }
     assert_eq!(rt; store.place_of(a), Some(336));

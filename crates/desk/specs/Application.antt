@@ -6,7 +6,7 @@ use Rattle.mac_words.specs.declared.call.Call.TheVariants as call
 use Rattle.mac_words.specs.declared.call.HeapCall.{HeapCall}
 use Rattle.mac_words.specs.declared.call.HeapCall.TheVariants as heap
 use denote.RawPtr.{null_ptr}
-use Rattle.block_store.specs.Rest.{Window}
+use Rattle.block_store.specs.Rest.{Site}
 use Rattle.heap_calls.specs.State.{Memory, fresh_memory}
 use Rattle.heap_calls.specs.Asked.{Asked, Told, Done, Given, Number, Numbers, Code, Bytes, Refused, answered}
 use Rattle.heap_calls.specs.Asked as asks
@@ -27,11 +27,11 @@ pub record Running : Type 0 where
   pub names : Bindings
 
 -- no place: a transcript doesn't hang on where its partition lies
-abbrev pub nowhere : Window
-nowhere = record { home = null_ptr; at = 0; len = 0 }
+abbrev pub nowhere : Site
+nowhere = record { home = null_ptr; window = record { at = 0; len = 0 } }
 
 -- an application in a fresh partition of n bytes, before its first step
-abbrev pub launched : ℕ → Window → Running
+abbrev pub launched : ℕ → Site → Running
 launched n window = record { memory = fresh_memory n window; names = [] }
 
 -- a call, with the numbers that its names are bound to

@@ -4,7 +4,8 @@ ghost use Rattle.std.specs.Prelude.{◌≡◌, ◌≢◌, ◌++◌, IfOk, OnOk};
 ghost use Rattle.std.specs.Option.{option_map};
 ghost use Rattle.block_store.specs.Block.{fresh, sizes};
 ghost use Rattle.heap_calls.specs.Asked.{Told, Done, Given, Number, Numbers, Bytes, answered};
-ghost use Rattle.desk.specs.Application.{Running, launched, asked, went_on, bound_anew, heap_step, step, bytes_told, told_line, line_told, call_of};
+ghost use Rattle.desk.specs.Application.{Running, launched, asked, went_on, bound_anew, heap_step, step, bytes_told};
+ghost use Rattle.desk.specs.Application.{told_line, line_told, call_of};
 ghost use Rattle.desk.specs.Replies.{Says, GivenAs};
 
 use crate::names::Names;
@@ -34,6 +35,7 @@ impl<S: BlockStore> Application<S> {
         requires zone { S.zone store ≡ fresh (sizes (S.zone store)) }
         requires unused { (S.rest store).unused ≡ 64 }
         requires all { (S.rest store).all ≡ 64 }
+        requires moves { (S.rest store).moves ≡ 0 }
         ensures { result ≡ launched (sizes (S.zone store)) (S.rest store).window }
     {
         Application {
@@ -147,7 +149,8 @@ impl<S: BlockStore> Application<S> {
         call: &HeapCall,
         text: &mut Vec<u8>,
     ) -> Result<(), AllocError>
-        ensures text { OnOk result (text.new.items ≡ text.old.items ++ told_line number word (heap_step call.now self.old).0) }
+        ensures text { OnOk result (text.new.items ≡ text.old.items
+            ++ told_line number word (heap_step call.now self.old).0) }
         ensures after { OnOk result (self.new ≡ (heap_step call.now self.old).1) }
     {
         let reply = self.answer(call)?;
@@ -156,7 +159,8 @@ impl<S: BlockStore> Application<S> {
 
     /// Answers the call of a line, and appends the line's transcript line to a text.
     pub fn step(&mut self, line: &Line, text: &mut Vec<u8>) -> Result<(), AllocError>
-        ensures text { OnOk result (text.new.items ≡ text.old.items ++ line_told line.now (step (call_of line.now) self.old).0) }
+        ensures text { OnOk result (text.new.items ≡ text.old.items
+            ++ line_told line.now (step (call_of line.now) self.old).0) }
         ensures after { OnOk result (self.new ≡ (step (call_of line.now) self.old).1) }
     {
         let Said::Call(call) = &line.said;
@@ -172,7 +176,8 @@ fn bind_new(
     given: Result<usize, Refusal>,
 ) -> Result<Reply, AllocError>
     ensures reply { IfOk result (λ reply. (told : Told) → GivenAs Given given told → Says reply told) }
-    ensures names { OnOk result ((told : Told) → GivenAs Given given told → names.new ≡ bound_anew name.now.0.items told names.old) }
+    ensures names { OnOk result ((told : Told) → GivenAs Given given told
+        → names.new ≡ bound_anew name.now.0.items told names.old) }
     ensures host { OnOk result (given ≢ Err Refusal.HostMemory) }
 {
     match given {
@@ -187,7 +192,8 @@ fn bind_new(
 
 /// The reply of a call that shows bytes, without them.
 fn shown_reply(given: Result<&[u8], Refusal>) -> Result<Reply, AllocError>
-    ensures { IfOk result (λ reply. (told : Told) → GivenAs (λ bytes. Bytes bytes.now) given.entry told → Says reply told) }
+    ensures { IfOk result (λ reply. (told : Told) → GivenAs (λ bytes. Bytes bytes.now) given.entry told
+        → Says reply told) }
 {
     match given {
         Ok(_) => Ok(Reply::of(OsErr::NO_ERR)),

@@ -2,7 +2,8 @@
 
 ghost use Rattle.std.specs.Prelude.{◌≡◌, ◌%◌, ◌≤◌, [], IfOk, OnOk};
 ghost use Rattle.desk.specs.Application.{transcript, launched, nowhere};
-ghost use Rattle.desk.specs.Laws.{ShowsLastPut, HoldsLastPut, LockedStays, FixedStays, OnlyPurgeableGo, LooksFew};
+ghost use Rattle.desk.specs.Laws.{ShowsLastPut, HoldsLastPut, LockedStays, FixedStays};
+ghost use Rattle.desk.specs.Laws.{OnlyPurgeableGo, LooksFew, RefusedLeave};
 
 use crate::application::Application;
 use block_store::ListStore;
@@ -16,7 +17,7 @@ use std::alloc::{AllocError, Global};
 /// # Errors
 ///
 /// Where the host refuses memory there is no transcript.
-#[tactic(auto, using(crate::proofs::Telling::shows_last_put, crate::proofs::Telling::holds_last_put, crate::proofs::Telling::locked_stays, crate::proofs::Telling::fixed_stays, crate::proofs::Telling::only_purgeable_go, crate::proofs::Telling::looks_few))]
+#[tactic(auto, using(crate::proofs::Telling::shows_last_put, crate::proofs::Telling::holds_last_put, crate::proofs::Telling::locked_stays, crate::proofs::Telling::fixed_stays, crate::proofs::Telling::only_purgeable_go, crate::proofs::Telling::looks_few, crate::proofs::Telling::refused_leave))]
 pub fn run_script(alloc: Global, size: u32, script: &Script) -> Result<Vec<u8>, AllocError>
     requires even { size % 16 ≡ 0 }
     requires low { 512 ≤ size }
@@ -42,6 +43,10 @@ pub fn run_script(alloc: Global, size: u32, script: &Script) -> Result<Vec<u8>, 
 
     // A step looks for room at most once more than there are blocks at its start.
     ensures looks { LooksFew script.now (launched size nowhere) }
+
+    // A refused step leaves the heap as it was, but for the zone where the table says so, and each name bound as
+    // it was.
+    ensures refused { RefusedLeave script.now (launched size nowhere) }
 {
     let store = ListStore::new(alloc, size)?;
     let mut application = Application::launch(alloc, store);

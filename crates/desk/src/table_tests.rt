@@ -21,9 +21,22 @@ fn transcript(alloc: Global, size: u32, script: &[u8]) -> Result<Vec<u8>, Fail>
 
 #[test]
 fn purgeable_block_is_emptied_for_a_new_one(rt: HostRuntime) -> Result<(), Fail> {
-    let script = b"NewHandle a 300\nNewHandle b 300\nHPurge a\nNewHandle c 200\nWhere c\nShow a\n";
-    let expected =
-        b"launch 0 1024\n1 NewHandle 0\n2 NewHandle 0\n3 HPurge 0\n4 NewHandle 0\n5 Where 0 288\n6 Show -109\nend 0\n";
+    let script = b"NewHandle a 300
+NewHandle b 300
+HPurge a
+NewHandle c 200
+Where c
+Show a
+";
+    let expected = b"launch 0 1024
+1 NewHandle 0
+2 NewHandle 0
+3 HPurge 0
+4 NewHandle 0
+5 Where 0 288
+6 Show -109
+end 0
+";
     let text = transcript(rt.alloc(), 1024, script)?;
     assert_eq!(rt; text.as_slice(), expected.as_slice());
     Ok(())
@@ -31,10 +44,22 @@ fn purgeable_block_is_emptied_for_a_new_one(rt: HostRuntime) -> Result<(), Fail>
 
 #[test]
 fn locked_block_is_not_emptied(rt: HostRuntime) -> Result<(), Fail> {
-    let script =
-        b"NewHandle a 300\nNewHandle b 300\nHPurge a\nHLock a\nNewHandle c 200\nGetHandleSize a\n";
-    let expected =
-        b"launch 0 1024\n1 NewHandle 0\n2 NewHandle 0\n3 HPurge 0\n4 HLock 0\n5 NewHandle -108\n6 GetHandleSize 0 300\nend 0\n";
+    let script = b"NewHandle a 300
+NewHandle b 300
+HPurge a
+HLock a
+NewHandle c 200
+GetHandleSize a
+";
+    let expected = b"launch 0 1024
+1 NewHandle 0
+2 NewHandle 0
+3 HPurge 0
+4 HLock 0
+5 NewHandle -108
+6 GetHandleSize 0 300
+end 0
+";
     let text = transcript(rt.alloc(), 1024, script)?;
     assert_eq!(rt; text.as_slice(), expected.as_slice());
     Ok(())
@@ -42,10 +67,22 @@ fn locked_block_is_not_emptied(rt: HostRuntime) -> Result<(), Fail> {
 
 #[test]
 fn unpurgeable_block_is_not_emptied(rt: HostRuntime) -> Result<(), Fail> {
-    let script =
-        b"NewHandle a 300\nNewHandle b 300\nHPurge a\nHNoPurge a\nNewHandle c 200\nGetHandleSize a\n";
-    let expected =
-        b"launch 0 1024\n1 NewHandle 0\n2 NewHandle 0\n3 HPurge 0\n4 HNoPurge 0\n5 NewHandle -108\n6 GetHandleSize 0 300\nend 0\n";
+    let script = b"NewHandle a 300
+NewHandle b 300
+HPurge a
+HNoPurge a
+NewHandle c 200
+GetHandleSize a
+";
+    let expected = b"launch 0 1024
+1 NewHandle 0
+2 NewHandle 0
+3 HPurge 0
+4 HNoPurge 0
+5 NewHandle -108
+6 GetHandleSize 0 300
+end 0
+";
     let text = transcript(rt.alloc(), 1024, script)?;
     assert_eq!(rt; text.as_slice(), expected.as_slice());
     Ok(())
@@ -53,10 +90,30 @@ fn unpurgeable_block_is_not_emptied(rt: HostRuntime) -> Result<(), Fail> {
 
 #[test]
 fn pointer_goes_to_the_base_of_a_run(rt: HostRuntime) -> Result<(), Fail> {
-    let script =
-        b"NewHandle a 100\nNewHandle b 100\nMoveHHi a\nWhere a\nWhere b\nHLock a\nNewPtr p 32\nWhere p\nWhere b\nFreeMem\n";
-    let expected =
-        b"launch 0 1024\n1 NewHandle 0\n2 NewHandle 0\n3 MoveHHi 0\n4 Where 0 912\n5 Where 0 288\n6 HLock 0\n7 NewPtr 0\n8 Where 0 288\n9 Where 0 336\n10 FreeMem 0 448\nend 0\n";
+    let script = b"NewHandle a 100
+NewHandle b 100
+MoveHHi a
+Where a
+Where b
+HLock a
+NewPtr p 32
+Where p
+Where b
+FreeMem
+";
+    let expected = b"launch 0 1024
+1 NewHandle 0
+2 NewHandle 0
+3 MoveHHi 0
+4 Where 0 912
+5 Where 0 288
+6 HLock 0
+7 NewPtr 0
+8 Where 0 288
+9 Where 0 336
+10 FreeMem 0 448
+end 0
+";
     let text = transcript(rt.alloc(), 1024, script)?;
     assert_eq!(rt; text.as_slice(), expected.as_slice());
     Ok(())
@@ -64,10 +121,150 @@ fn pointer_goes_to_the_base_of_a_run(rt: HostRuntime) -> Result<(), Fail> {
 
 #[test]
 fn masters_block_is_made_where_all_slots_are_used(rt: HostRuntime) -> Result<(), Fail> {
-    let script =
-        b"NewHandle h 0\nNewHandle h0 0\nNewHandle h1 0\nNewHandle h2 0\nNewHandle h3 0\nNewHandle h4 0\nNewHandle h5 0\nNewHandle h6 0\nNewHandle h7 0\nNewHandle h8 0\nNewHandle h9 0\nNewHandle h10 0\nNewHandle h11 0\nNewHandle h12 0\nNewHandle h13 0\nNewHandle h14 0\nNewHandle h15 0\nNewHandle h16 0\nNewHandle h17 0\nNewHandle h18 0\nNewHandle h19 0\nNewHandle h20 0\nNewHandle h21 0\nNewHandle h22 0\nNewHandle h23 0\nNewHandle h24 0\nNewHandle h25 0\nNewHandle h26 0\nNewHandle h27 0\nNewHandle h28 0\nNewHandle h29 0\nNewHandle h30 0\nNewHandle h31 0\nNewHandle h32 0\nNewHandle h33 0\nNewHandle h34 0\nNewHandle h35 0\nNewHandle h36 0\nNewHandle h37 0\nNewHandle h38 0\nNewHandle h39 0\nNewHandle h40 0\nNewHandle h41 0\nNewHandle h42 0\nNewHandle h43 0\nNewHandle h44 0\nNewHandle h45 0\nNewHandle h46 0\nNewHandle h47 0\nNewHandle h48 0\nNewHandle h49 0\nNewHandle h50 0\nNewHandle h51 0\nNewHandle h52 0\nNewHandle h53 0\nNewHandle h54 0\nNewHandle h55 0\nNewHandle h56 0\nNewHandle h57 0\nNewHandle h58 0\nNewHandle h59 0\nNewHandle h60 0\nNewHandle h61 0\nNewHandle h62 0\nWhere h\nFreeMem\nNewHandle k 0\nWhere h\nWhere k\nFreeMem\n";
-    let expected =
-        b"launch 0 4096\n1 NewHandle 0\n2 NewHandle 0\n3 NewHandle 0\n4 NewHandle 0\n5 NewHandle 0\n6 NewHandle 0\n7 NewHandle 0\n8 NewHandle 0\n9 NewHandle 0\n10 NewHandle 0\n11 NewHandle 0\n12 NewHandle 0\n13 NewHandle 0\n14 NewHandle 0\n15 NewHandle 0\n16 NewHandle 0\n17 NewHandle 0\n18 NewHandle 0\n19 NewHandle 0\n20 NewHandle 0\n21 NewHandle 0\n22 NewHandle 0\n23 NewHandle 0\n24 NewHandle 0\n25 NewHandle 0\n26 NewHandle 0\n27 NewHandle 0\n28 NewHandle 0\n29 NewHandle 0\n30 NewHandle 0\n31 NewHandle 0\n32 NewHandle 0\n33 NewHandle 0\n34 NewHandle 0\n35 NewHandle 0\n36 NewHandle 0\n37 NewHandle 0\n38 NewHandle 0\n39 NewHandle 0\n40 NewHandle 0\n41 NewHandle 0\n42 NewHandle 0\n43 NewHandle 0\n44 NewHandle 0\n45 NewHandle 0\n46 NewHandle 0\n47 NewHandle 0\n48 NewHandle 0\n49 NewHandle 0\n50 NewHandle 0\n51 NewHandle 0\n52 NewHandle 0\n53 NewHandle 0\n54 NewHandle 0\n55 NewHandle 0\n56 NewHandle 0\n57 NewHandle 0\n58 NewHandle 0\n59 NewHandle 0\n60 NewHandle 0\n61 NewHandle 0\n62 NewHandle 0\n63 NewHandle 0\n64 NewHandle 0\n65 Where 0 288\n66 FreeMem 0 2800\n67 NewHandle 0\n68 Where 0 560\n69 Where 0 1584\n70 FreeMem 0 2512\nend 0\n";
+    let script = b"NewHandle h 0
+NewHandle h0 0
+NewHandle h1 0
+NewHandle h2 0
+NewHandle h3 0
+NewHandle h4 0
+NewHandle h5 0
+NewHandle h6 0
+NewHandle h7 0
+NewHandle h8 0
+NewHandle h9 0
+NewHandle h10 0
+NewHandle h11 0
+NewHandle h12 0
+NewHandle h13 0
+NewHandle h14 0
+NewHandle h15 0
+NewHandle h16 0
+NewHandle h17 0
+NewHandle h18 0
+NewHandle h19 0
+NewHandle h20 0
+NewHandle h21 0
+NewHandle h22 0
+NewHandle h23 0
+NewHandle h24 0
+NewHandle h25 0
+NewHandle h26 0
+NewHandle h27 0
+NewHandle h28 0
+NewHandle h29 0
+NewHandle h30 0
+NewHandle h31 0
+NewHandle h32 0
+NewHandle h33 0
+NewHandle h34 0
+NewHandle h35 0
+NewHandle h36 0
+NewHandle h37 0
+NewHandle h38 0
+NewHandle h39 0
+NewHandle h40 0
+NewHandle h41 0
+NewHandle h42 0
+NewHandle h43 0
+NewHandle h44 0
+NewHandle h45 0
+NewHandle h46 0
+NewHandle h47 0
+NewHandle h48 0
+NewHandle h49 0
+NewHandle h50 0
+NewHandle h51 0
+NewHandle h52 0
+NewHandle h53 0
+NewHandle h54 0
+NewHandle h55 0
+NewHandle h56 0
+NewHandle h57 0
+NewHandle h58 0
+NewHandle h59 0
+NewHandle h60 0
+NewHandle h61 0
+NewHandle h62 0
+Where h
+FreeMem
+NewHandle k 0
+Where h
+Where k
+FreeMem
+";
+    let expected = b"launch 0 4096
+1 NewHandle 0
+2 NewHandle 0
+3 NewHandle 0
+4 NewHandle 0
+5 NewHandle 0
+6 NewHandle 0
+7 NewHandle 0
+8 NewHandle 0
+9 NewHandle 0
+10 NewHandle 0
+11 NewHandle 0
+12 NewHandle 0
+13 NewHandle 0
+14 NewHandle 0
+15 NewHandle 0
+16 NewHandle 0
+17 NewHandle 0
+18 NewHandle 0
+19 NewHandle 0
+20 NewHandle 0
+21 NewHandle 0
+22 NewHandle 0
+23 NewHandle 0
+24 NewHandle 0
+25 NewHandle 0
+26 NewHandle 0
+27 NewHandle 0
+28 NewHandle 0
+29 NewHandle 0
+30 NewHandle 0
+31 NewHandle 0
+32 NewHandle 0
+33 NewHandle 0
+34 NewHandle 0
+35 NewHandle 0
+36 NewHandle 0
+37 NewHandle 0
+38 NewHandle 0
+39 NewHandle 0
+40 NewHandle 0
+41 NewHandle 0
+42 NewHandle 0
+43 NewHandle 0
+44 NewHandle 0
+45 NewHandle 0
+46 NewHandle 0
+47 NewHandle 0
+48 NewHandle 0
+49 NewHandle 0
+50 NewHandle 0
+51 NewHandle 0
+52 NewHandle 0
+53 NewHandle 0
+54 NewHandle 0
+55 NewHandle 0
+56 NewHandle 0
+57 NewHandle 0
+58 NewHandle 0
+59 NewHandle 0
+60 NewHandle 0
+61 NewHandle 0
+62 NewHandle 0
+63 NewHandle 0
+64 NewHandle 0
+65 Where 0 288
+66 FreeMem 0 2800
+67 NewHandle 0
+68 Where 0 560
+69 Where 0 1584
+70 FreeMem 0 2512
+end 0
+";
     let text = transcript(rt.alloc(), 4096, script)?;
     assert_eq!(rt; text.as_slice(), expected.as_slice());
     Ok(())
@@ -75,10 +272,148 @@ fn masters_block_is_made_where_all_slots_are_used(rt: HostRuntime) -> Result<(),
 
 #[test]
 fn masters_block_stays_though_the_call_is_refused(rt: HostRuntime) -> Result<(), Fail> {
-    let script =
-        b"NewHandle h 0\nNewHandle h0 0\nNewHandle h1 0\nNewHandle h2 0\nNewHandle h3 0\nNewHandle h4 0\nNewHandle h5 0\nNewHandle h6 0\nNewHandle h7 0\nNewHandle h8 0\nNewHandle h9 0\nNewHandle h10 0\nNewHandle h11 0\nNewHandle h12 0\nNewHandle h13 0\nNewHandle h14 0\nNewHandle h15 0\nNewHandle h16 0\nNewHandle h17 0\nNewHandle h18 0\nNewHandle h19 0\nNewHandle h20 0\nNewHandle h21 0\nNewHandle h22 0\nNewHandle h23 0\nNewHandle h24 0\nNewHandle h25 0\nNewHandle h26 0\nNewHandle h27 0\nNewHandle h28 0\nNewHandle h29 0\nNewHandle h30 0\nNewHandle h31 0\nNewHandle h32 0\nNewHandle h33 0\nNewHandle h34 0\nNewHandle h35 0\nNewHandle h36 0\nNewHandle h37 0\nNewHandle h38 0\nNewHandle h39 0\nNewHandle h40 0\nNewHandle h41 0\nNewHandle h42 0\nNewHandle h43 0\nNewHandle h44 0\nNewHandle h45 0\nNewHandle h46 0\nNewHandle h47 0\nNewHandle h48 0\nNewHandle h49 0\nNewHandle h50 0\nNewHandle h51 0\nNewHandle h52 0\nNewHandle h53 0\nNewHandle h54 0\nNewHandle h55 0\nNewHandle h56 0\nNewHandle h57 0\nNewHandle h58 0\nNewHandle h59 0\nNewHandle h60 0\nNewHandle h61 0\nNewHandle h62 0\nNewHandle k 600\nWhere h\nFreeMem\nNewHandle k 464\nFreeMem\n";
-    let expected =
-        b"launch 0 2048\n1 NewHandle 0\n2 NewHandle 0\n3 NewHandle 0\n4 NewHandle 0\n5 NewHandle 0\n6 NewHandle 0\n7 NewHandle 0\n8 NewHandle 0\n9 NewHandle 0\n10 NewHandle 0\n11 NewHandle 0\n12 NewHandle 0\n13 NewHandle 0\n14 NewHandle 0\n15 NewHandle 0\n16 NewHandle 0\n17 NewHandle 0\n18 NewHandle 0\n19 NewHandle 0\n20 NewHandle 0\n21 NewHandle 0\n22 NewHandle 0\n23 NewHandle 0\n24 NewHandle 0\n25 NewHandle 0\n26 NewHandle 0\n27 NewHandle 0\n28 NewHandle 0\n29 NewHandle 0\n30 NewHandle 0\n31 NewHandle 0\n32 NewHandle 0\n33 NewHandle 0\n34 NewHandle 0\n35 NewHandle 0\n36 NewHandle 0\n37 NewHandle 0\n38 NewHandle 0\n39 NewHandle 0\n40 NewHandle 0\n41 NewHandle 0\n42 NewHandle 0\n43 NewHandle 0\n44 NewHandle 0\n45 NewHandle 0\n46 NewHandle 0\n47 NewHandle 0\n48 NewHandle 0\n49 NewHandle 0\n50 NewHandle 0\n51 NewHandle 0\n52 NewHandle 0\n53 NewHandle 0\n54 NewHandle 0\n55 NewHandle 0\n56 NewHandle 0\n57 NewHandle 0\n58 NewHandle 0\n59 NewHandle 0\n60 NewHandle 0\n61 NewHandle 0\n62 NewHandle 0\n63 NewHandle 0\n64 NewHandle 0\n65 NewHandle -108\n66 Where 0 560\n67 FreeMem 0 480\n68 NewHandle 0\n69 FreeMem 0 0\nend 0\n";
+    let script = b"NewHandle h 0
+NewHandle h0 0
+NewHandle h1 0
+NewHandle h2 0
+NewHandle h3 0
+NewHandle h4 0
+NewHandle h5 0
+NewHandle h6 0
+NewHandle h7 0
+NewHandle h8 0
+NewHandle h9 0
+NewHandle h10 0
+NewHandle h11 0
+NewHandle h12 0
+NewHandle h13 0
+NewHandle h14 0
+NewHandle h15 0
+NewHandle h16 0
+NewHandle h17 0
+NewHandle h18 0
+NewHandle h19 0
+NewHandle h20 0
+NewHandle h21 0
+NewHandle h22 0
+NewHandle h23 0
+NewHandle h24 0
+NewHandle h25 0
+NewHandle h26 0
+NewHandle h27 0
+NewHandle h28 0
+NewHandle h29 0
+NewHandle h30 0
+NewHandle h31 0
+NewHandle h32 0
+NewHandle h33 0
+NewHandle h34 0
+NewHandle h35 0
+NewHandle h36 0
+NewHandle h37 0
+NewHandle h38 0
+NewHandle h39 0
+NewHandle h40 0
+NewHandle h41 0
+NewHandle h42 0
+NewHandle h43 0
+NewHandle h44 0
+NewHandle h45 0
+NewHandle h46 0
+NewHandle h47 0
+NewHandle h48 0
+NewHandle h49 0
+NewHandle h50 0
+NewHandle h51 0
+NewHandle h52 0
+NewHandle h53 0
+NewHandle h54 0
+NewHandle h55 0
+NewHandle h56 0
+NewHandle h57 0
+NewHandle h58 0
+NewHandle h59 0
+NewHandle h60 0
+NewHandle h61 0
+NewHandle h62 0
+NewHandle k 600
+Where h
+FreeMem
+NewHandle k 464
+FreeMem
+";
+    let expected = b"launch 0 2048
+1 NewHandle 0
+2 NewHandle 0
+3 NewHandle 0
+4 NewHandle 0
+5 NewHandle 0
+6 NewHandle 0
+7 NewHandle 0
+8 NewHandle 0
+9 NewHandle 0
+10 NewHandle 0
+11 NewHandle 0
+12 NewHandle 0
+13 NewHandle 0
+14 NewHandle 0
+15 NewHandle 0
+16 NewHandle 0
+17 NewHandle 0
+18 NewHandle 0
+19 NewHandle 0
+20 NewHandle 0
+21 NewHandle 0
+22 NewHandle 0
+23 NewHandle 0
+24 NewHandle 0
+25 NewHandle 0
+26 NewHandle 0
+27 NewHandle 0
+28 NewHandle 0
+29 NewHandle 0
+30 NewHandle 0
+31 NewHandle 0
+32 NewHandle 0
+33 NewHandle 0
+34 NewHandle 0
+35 NewHandle 0
+36 NewHandle 0
+37 NewHandle 0
+38 NewHandle 0
+39 NewHandle 0
+40 NewHandle 0
+41 NewHandle 0
+42 NewHandle 0
+43 NewHandle 0
+44 NewHandle 0
+45 NewHandle 0
+46 NewHandle 0
+47 NewHandle 0
+48 NewHandle 0
+49 NewHandle 0
+50 NewHandle 0
+51 NewHandle 0
+52 NewHandle 0
+53 NewHandle 0
+54 NewHandle 0
+55 NewHandle 0
+56 NewHandle 0
+57 NewHandle 0
+58 NewHandle 0
+59 NewHandle 0
+60 NewHandle 0
+61 NewHandle 0
+62 NewHandle 0
+63 NewHandle 0
+64 NewHandle 0
+65 NewHandle -108
+66 Where 0 560
+67 FreeMem 0 480
+68 NewHandle 0
+69 FreeMem 0 0
+end 0
+";
     let text = transcript(rt.alloc(), 2048, script)?;
     assert_eq!(rt; text.as_slice(), expected.as_slice());
     Ok(())
@@ -86,10 +421,56 @@ fn masters_block_stays_though_the_call_is_refused(rt: HostRuntime) -> Result<(),
 
 #[test]
 fn bytes_are_copied_and_appended(rt: HostRuntime) -> Result<(), Fail> {
-    let script =
-        b"NewHandle a 3\nPut a 0 \"abc\"\nHandToHand b a\nHandAndHand a b\nPtrAndHand b \"de\"\nShow b\nNewEmptyHandle e\nGetHandleSize e\nReallocateHandle e 5\nShow e\nHPurge e\nHGetState e\nEmptyHandle e\nEmptyHandle e\nHGetState e\nHLock a\nEmptyHandle a\nMoveHHi a\nHLockHi a\nHSetState a 64\nPurgeSpace\nDisposeHandle a\nHLock a\n";
-    let expected =
-        b"launch 0 1024\n1 NewHandle 0\n2 Put 0\n3 HandToHand 0\n4 HandAndHand 0\n5 PtrAndHand 0\n6 Show 0 $6162636162636465\n7 NewEmptyHandle 0\n8 GetHandleSize -109\n9 ReallocateHandle 0\n10 Show 0 $0000000000\n11 HPurge 0\n12 HGetState 0 64\n13 EmptyHandle 0\n14 EmptyHandle 0\n15 HGetState -109\n16 HLock 0\n17 EmptyHandle -112\n18 MoveHHi -117\n19 HLockHi -117\n20 HSetState 0\n21 PurgeSpace 0 720 672\n22 DisposeHandle 0\n23 HLock -111\nend 0\n";
+    let script = b"NewHandle a 3
+Put a 0 \"abc\"
+HandToHand b a
+HandAndHand a b
+PtrAndHand b \"de\"
+Show b
+NewEmptyHandle e
+GetHandleSize e
+ReallocateHandle e 5
+Show e
+HPurge e
+HGetState e
+EmptyHandle e
+EmptyHandle e
+HGetState e
+HLock a
+EmptyHandle a
+MoveHHi a
+HLockHi a
+HSetState a 64
+PurgeSpace
+DisposeHandle a
+HLock a
+";
+    let expected = b"launch 0 1024
+1 NewHandle 0
+2 Put 0
+3 HandToHand 0
+4 HandAndHand 0
+5 PtrAndHand 0
+6 Show 0 $6162636162636465
+7 NewEmptyHandle 0
+8 GetHandleSize -109
+9 ReallocateHandle 0
+10 Show 0 $0000000000
+11 HPurge 0
+12 HGetState 0 64
+13 EmptyHandle 0
+14 EmptyHandle 0
+15 HGetState -109
+16 HLock 0
+17 EmptyHandle -112
+18 MoveHHi -117
+19 HLockHi -117
+20 HSetState 0
+21 PurgeSpace 0 720 672
+22 DisposeHandle 0
+23 HLock -111
+end 0
+";
     let text = transcript(rt.alloc(), 1024, script)?;
     assert_eq!(rt; text.as_slice(), expected.as_slice());
     Ok(())
@@ -97,10 +478,54 @@ fn bytes_are_copied_and_appended(rt: HostRuntime) -> Result<(), Fail> {
 
 #[test]
 fn pointers_and_room_at_the_base(rt: HostRuntime) -> Result<(), Fail> {
-    let script =
-        b"NewHandle a 100\nNewPtr p 20\nWhere p\nWhere a\nPutPtr p 0 \"Q\"\nSetPtrSize p 40\nWhere a\nShowPtr p\nReserveMem 200\nWhere a\nFreeMem\nMaxBlock\nNewPtr q 200\nWhere q\nMoreMasters\nWhere a\nFreeMem\nDisposePtr q\nGetPtrSize p\nCompactMem 300\nMaxMem\nDisposePtr a\n";
-    let expected =
-        b"launch 0 1024\n1 NewHandle 0\n2 NewPtr 0\n3 Where 0 288\n4 Where 0 336\n5 PutPtr 0\n6 SetPtrSize 0\n7 Where 0 352\n8 ShowPtr 0 $51000000000000000000000000000000000000000000000000000000000000000000000000000000\n9 ReserveMem 0\n10 Where 0 576\n11 FreeMem 0 560\n12 MaxBlock 0 544\n13 NewPtr 0\n14 Where 0 352\n15 MoreMasters 0\n16 Where 0 848\n17 FreeMem 0 64\n18 DisposePtr 0\n19 GetPtrSize 0 40\n20 CompactMem 0 208\n21 MaxMem 0 208\n22 DisposePtr -111\nend 0\n";
+    let script = b"NewHandle a 100
+NewPtr p 20
+Where p
+Where a
+PutPtr p 0 \"Q\"
+SetPtrSize p 40
+Where a
+ShowPtr p
+ReserveMem 200
+Where a
+FreeMem
+MaxBlock
+NewPtr q 200
+Where q
+MoreMasters
+Where a
+FreeMem
+DisposePtr q
+GetPtrSize p
+CompactMem 300
+MaxMem
+DisposePtr a
+";
+    let expected = b"launch 0 1024
+1 NewHandle 0
+2 NewPtr 0
+3 Where 0 288
+4 Where 0 336
+5 PutPtr 0
+6 SetPtrSize 0
+7 Where 0 352
+8 ShowPtr 0 $51000000000000000000000000000000000000000000000000000000000000000000000000000000
+9 ReserveMem 0
+10 Where 0 576
+11 FreeMem 0 560
+12 MaxBlock 0 544
+13 NewPtr 0
+14 Where 0 352
+15 MoreMasters 0
+16 Where 0 848
+17 FreeMem 0 64
+18 DisposePtr 0
+19 GetPtrSize 0 40
+20 CompactMem 0 208
+21 MaxMem 0 208
+22 DisposePtr -111
+end 0
+";
     let text = transcript(rt.alloc(), 1024, script)?;
     assert_eq!(rt; text.as_slice(), expected.as_slice());
     Ok(())
@@ -108,10 +533,36 @@ fn pointers_and_room_at_the_base(rt: HostRuntime) -> Result<(), Fail> {
 
 #[test]
 fn lowest_purgeable_block_goes_first(rt: HostRuntime) -> Result<(), Fail> {
-    let script =
-        b"NewHandle a 100\nNewHandle b 100\nNewHandle c 400\nHPurge a\nHPurge b\nNewHandle d 100\nWhere d\nShow a\nGetHandleSize b\nNewHandle e 737\nGetHandleSize b\nSetHandleSize b 300\nGetHandleSize b\n";
-    let expected =
-        b"launch 0 1024\n1 NewHandle 0\n2 NewHandle 0\n3 NewHandle 0\n4 HPurge 0\n5 HPurge 0\n6 NewHandle 0\n7 Where 0 288\n8 Show -109\n9 GetHandleSize 0 100\n10 NewHandle -108\n11 GetHandleSize 0 100\n12 SetHandleSize -108\n13 GetHandleSize 0 100\nend 0\n";
+    let script = b"NewHandle a 100
+NewHandle b 100
+NewHandle c 400
+HPurge a
+HPurge b
+NewHandle d 100
+Where d
+Show a
+GetHandleSize b
+NewHandle e 737
+GetHandleSize b
+SetHandleSize b 300
+GetHandleSize b
+";
+    let expected = b"launch 0 1024
+1 NewHandle 0
+2 NewHandle 0
+3 NewHandle 0
+4 HPurge 0
+5 HPurge 0
+6 NewHandle 0
+7 Where 0 288
+8 Show -109
+9 GetHandleSize 0 100
+10 NewHandle -108
+11 GetHandleSize 0 100
+12 SetHandleSize -108
+13 GetHandleSize 0 100
+end 0
+";
     let text = transcript(rt.alloc(), 1024, script)?;
     assert_eq!(rt; text.as_slice(), expected.as_slice());
     Ok(())
@@ -119,10 +570,22 @@ fn lowest_purgeable_block_goes_first(rt: HostRuntime) -> Result<(), Fail> {
 
 #[test]
 fn handle_is_doubled_by_itself(rt: HostRuntime) -> Result<(), Fail> {
-    let script =
-        b"NewHandle a 3\nPut a 0 \"abc\"\nHandAndHand a a\nShow a\nPtrAndHand a \"\"\nGetHandleSize a\n";
-    let expected =
-        b"launch 0 1024\n1 NewHandle 0\n2 Put 0\n3 HandAndHand 0\n4 Show 0 $616263616263\n5 PtrAndHand 0\n6 GetHandleSize 0 6\nend 0\n";
+    let script = b"NewHandle a 3
+Put a 0 \"abc\"
+HandAndHand a a
+Show a
+PtrAndHand a \"\"
+GetHandleSize a
+";
+    let expected = b"launch 0 1024
+1 NewHandle 0
+2 Put 0
+3 HandAndHand 0
+4 Show 0 $616263616263
+5 PtrAndHand 0
+6 GetHandleSize 0 6
+end 0
+";
     let text = transcript(rt.alloc(), 1024, script)?;
     assert_eq!(rt; text.as_slice(), expected.as_slice());
     Ok(())
@@ -130,10 +593,32 @@ fn handle_is_doubled_by_itself(rt: HostRuntime) -> Result<(), Fail> {
 
 #[test]
 fn purge_mem_stops_where_there_is_room(rt: HostRuntime) -> Result<(), Fail> {
-    let script =
-        b"NewHandle a 300\nNewHandle b 300\nHPurge a\nHPurge b\nPurgeMem 300\nGetHandleSize a\nGetHandleSize b\nPurgeMem 2000\nMemError\nGetHandleSize b\nFreeMem\n";
-    let expected =
-        b"launch 0 1024\n1 NewHandle 0\n2 NewHandle 0\n3 HPurge 0\n4 HPurge 0\n5 PurgeMem 0\n6 GetHandleSize -109\n7 GetHandleSize 0 300\n8 PurgeMem -108\n9 MemError 0 -108\n10 GetHandleSize -109\n11 FreeMem 0 752\nend 0\n";
+    let script = b"NewHandle a 300
+NewHandle b 300
+HPurge a
+HPurge b
+PurgeMem 300
+GetHandleSize a
+GetHandleSize b
+PurgeMem 2000
+MemError
+GetHandleSize b
+FreeMem
+";
+    let expected = b"launch 0 1024
+1 NewHandle 0
+2 NewHandle 0
+3 HPurge 0
+4 HPurge 0
+5 PurgeMem 0
+6 GetHandleSize -109
+7 GetHandleSize 0 300
+8 PurgeMem -108
+9 MemError 0 -108
+10 GetHandleSize -109
+11 FreeMem 0 752
+end 0
+";
     let text = transcript(rt.alloc(), 1024, script)?;
     assert_eq!(rt; text.as_slice(), expected.as_slice());
     Ok(())
@@ -141,11 +626,179 @@ fn purge_mem_stops_where_there_is_room(rt: HostRuntime) -> Result<(), Fail> {
 
 #[test]
 fn masters_block_has_its_run_packed_first(rt: HostRuntime) -> Result<(), Fail> {
-    let script =
-        b"NewPtr p 100\nNewHandle h 0\nNewHandle h0 0\nNewHandle h1 0\nNewHandle h2 0\nNewHandle h3 0\nNewHandle h4 0\nNewHandle h5 0\nNewHandle h6 0\nNewHandle h7 0\nNewHandle h8 0\nNewHandle h9 0\nNewHandle h10 0\nNewHandle h11 0\nNewHandle h12 0\nNewHandle h13 0\nNewHandle h14 0\nNewHandle h15 0\nNewHandle h16 0\nNewHandle h17 0\nNewHandle h18 0\nNewHandle h19 0\nNewHandle h20 0\nNewHandle h21 0\nNewHandle h22 0\nNewHandle h23 0\nNewHandle h24 0\nNewHandle h25 0\nNewHandle h26 0\nNewHandle h27 0\nNewHandle h28 0\nNewHandle h29 0\nNewHandle h30 0\nNewHandle h31 0\nNewHandle h32 0\nNewHandle h33 0\nNewHandle h34 0\nNewHandle h35 0\nNewHandle h36 0\nNewHandle h37 0\nNewHandle h38 0\nNewHandle h39 0\nNewHandle h40 0\nNewHandle h41 0\nNewHandle h42 0\nNewHandle h43 0\nNewHandle h44 0\nNewHandle h45 0\nNewHandle h46 0\nNewHandle h47 0\nNewHandle h48 0\nNewHandle h49 0\nNewHandle h50 0\nNewHandle h51 0\nNewHandle h52 0\nNewHandle h53 0\nNewHandle h54 0\nNewHandle h55 0\nNewHandle h56 0\nNewHandle h57 0\nNewHandle h58 0\nNewHandle h59 0\nNewHandle h60 0\nNewHandle h61 0\nNewHandle h62 0\nWhere h\nDisposePtr p\nFreeMem\nMaxBlock\nNewHandle k 0\nWhere h\nWhere k\nFreeMem\n";
-    let expected =
-        b"launch 0 1584\n1 NewPtr 0\n2 NewHandle 0\n3 NewHandle 0\n4 NewHandle 0\n5 NewHandle 0\n6 NewHandle 0\n7 NewHandle 0\n8 NewHandle 0\n9 NewHandle 0\n10 NewHandle 0\n11 NewHandle 0\n12 NewHandle 0\n13 NewHandle 0\n14 NewHandle 0\n15 NewHandle 0\n16 NewHandle 0\n17 NewHandle 0\n18 NewHandle 0\n19 NewHandle 0\n20 NewHandle 0\n21 NewHandle 0\n22 NewHandle 0\n23 NewHandle 0\n24 NewHandle 0\n25 NewHandle 0\n26 NewHandle 0\n27 NewHandle 0\n28 NewHandle 0\n29 NewHandle 0\n30 NewHandle 0\n31 NewHandle 0\n32 NewHandle 0\n33 NewHandle 0\n34 NewHandle 0\n35 NewHandle 0\n36 NewHandle 0\n37 NewHandle 0\n38 NewHandle 0\n39 NewHandle 0\n40 NewHandle 0\n41 NewHandle 0\n42 NewHandle 0\n43 NewHandle 0\n44 NewHandle 0\n45 NewHandle 0\n46 NewHandle 0\n47 NewHandle 0\n48 NewHandle 0\n49 NewHandle 0\n50 NewHandle 0\n51 NewHandle 0\n52 NewHandle 0\n53 NewHandle 0\n54 NewHandle 0\n55 NewHandle 0\n56 NewHandle 0\n57 NewHandle 0\n58 NewHandle 0\n59 NewHandle 0\n60 NewHandle 0\n61 NewHandle 0\n62 NewHandle 0\n63 NewHandle 0\n64 NewHandle 0\n65 NewHandle 0\n66 Where 0 416\n67 DisposePtr 0\n68 FreeMem 0 288\n69 MaxBlock 0 272\n70 NewHandle 0\n71 Where 0 560\n72 Where 0 1584\n73 FreeMem 0 0\nend 0\n";
+    let script = b"NewPtr p 100
+NewHandle h 0
+NewHandle h0 0
+NewHandle h1 0
+NewHandle h2 0
+NewHandle h3 0
+NewHandle h4 0
+NewHandle h5 0
+NewHandle h6 0
+NewHandle h7 0
+NewHandle h8 0
+NewHandle h9 0
+NewHandle h10 0
+NewHandle h11 0
+NewHandle h12 0
+NewHandle h13 0
+NewHandle h14 0
+NewHandle h15 0
+NewHandle h16 0
+NewHandle h17 0
+NewHandle h18 0
+NewHandle h19 0
+NewHandle h20 0
+NewHandle h21 0
+NewHandle h22 0
+NewHandle h23 0
+NewHandle h24 0
+NewHandle h25 0
+NewHandle h26 0
+NewHandle h27 0
+NewHandle h28 0
+NewHandle h29 0
+NewHandle h30 0
+NewHandle h31 0
+NewHandle h32 0
+NewHandle h33 0
+NewHandle h34 0
+NewHandle h35 0
+NewHandle h36 0
+NewHandle h37 0
+NewHandle h38 0
+NewHandle h39 0
+NewHandle h40 0
+NewHandle h41 0
+NewHandle h42 0
+NewHandle h43 0
+NewHandle h44 0
+NewHandle h45 0
+NewHandle h46 0
+NewHandle h47 0
+NewHandle h48 0
+NewHandle h49 0
+NewHandle h50 0
+NewHandle h51 0
+NewHandle h52 0
+NewHandle h53 0
+NewHandle h54 0
+NewHandle h55 0
+NewHandle h56 0
+NewHandle h57 0
+NewHandle h58 0
+NewHandle h59 0
+NewHandle h60 0
+NewHandle h61 0
+NewHandle h62 0
+Where h
+DisposePtr p
+FreeMem
+MaxBlock
+NewHandle k 0
+Where h
+Where k
+FreeMem
+";
+    let expected = b"launch 0 1584
+1 NewPtr 0
+2 NewHandle 0
+3 NewHandle 0
+4 NewHandle 0
+5 NewHandle 0
+6 NewHandle 0
+7 NewHandle 0
+8 NewHandle 0
+9 NewHandle 0
+10 NewHandle 0
+11 NewHandle 0
+12 NewHandle 0
+13 NewHandle 0
+14 NewHandle 0
+15 NewHandle 0
+16 NewHandle 0
+17 NewHandle 0
+18 NewHandle 0
+19 NewHandle 0
+20 NewHandle 0
+21 NewHandle 0
+22 NewHandle 0
+23 NewHandle 0
+24 NewHandle 0
+25 NewHandle 0
+26 NewHandle 0
+27 NewHandle 0
+28 NewHandle 0
+29 NewHandle 0
+30 NewHandle 0
+31 NewHandle 0
+32 NewHandle 0
+33 NewHandle 0
+34 NewHandle 0
+35 NewHandle 0
+36 NewHandle 0
+37 NewHandle 0
+38 NewHandle 0
+39 NewHandle 0
+40 NewHandle 0
+41 NewHandle 0
+42 NewHandle 0
+43 NewHandle 0
+44 NewHandle 0
+45 NewHandle 0
+46 NewHandle 0
+47 NewHandle 0
+48 NewHandle 0
+49 NewHandle 0
+50 NewHandle 0
+51 NewHandle 0
+52 NewHandle 0
+53 NewHandle 0
+54 NewHandle 0
+55 NewHandle 0
+56 NewHandle 0
+57 NewHandle 0
+58 NewHandle 0
+59 NewHandle 0
+60 NewHandle 0
+61 NewHandle 0
+62 NewHandle 0
+63 NewHandle 0
+64 NewHandle 0
+65 NewHandle 0
+66 Where 0 416
+67 DisposePtr 0
+68 FreeMem 0 288
+69 MaxBlock 0 272
+70 NewHandle 0
+71 Where 0 560
+72 Where 0 1584
+73 FreeMem 0 0
+end 0
+";
     let text = transcript(rt.alloc(), 1584, script)?;
     assert_eq!(rt; text.as_slice(), expected.as_slice());
+    Ok(())
+}
+
+#[test]
+fn refused_new_handle_leaves_what_was_emptied_for_its_slot(rt: HostRuntime) -> Result<(), Fail> {
+    let mut script = Vec::new(rt.alloc());
+    script.extend_from_slice(b"NewHandle a 480\n")?;
+    script.extend_from_slice(b"HPurge a\n")?;
+    for _ in 0..63 {
+        script.extend_from_slice(b"NewEmptyHandle e\n")?;
+    }
+    script.extend_from_slice(b"NewHandle k 700\n")?;
+    script.extend_from_slice(b"Show a\n")?;
+    script.extend_from_slice(b"FreeMem\n")?;
+    let text = transcript(rt.alloc(), 1024, script.as_slice())?;
+    let expected = b"\
+        65 NewEmptyHandle 0\n\
+        66 NewHandle -108\n\
+        67 Show -109\n\
+        68 FreeMem 0 480\n\
+        end 0\n";
+    assert!(rt; text.as_slice().ends_with(expected));
     Ok(())
 }

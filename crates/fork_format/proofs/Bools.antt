@@ -2,11 +2,6 @@ use Rattle.std.proofs.Common.{◌≡◌, ℕ, Bool, true, false, not, ◌&&◌, 
 use Rattle.std.specs.Prelude.{◌==◌}
 use Rattle.std.proofs.lemmas.Bool.Decides.{eqb_tells}
 
--- both tests pass
-pub and_parts : (a b : Bool) → (a && b) ≡ true → (a ≡ true) × (b ≡ true)
-and_parts true b h = (refl, h)
-and_parts false b h = cc
-
 pub and_both : (a b : Bool) → a ≡ true → b ≡ true → (a && b) ≡ true
 and_both true b p q = q
 and_both false b p q = cc
@@ -22,7 +17,8 @@ same_self n = cases (eqb_tells n n)
 pub not_same : (m n : ℕ) → not (m == n) ≡ true → (n == m) ≡ false
 not_same m n h = cases (eqb_tells m n) (eqb_tells n m)
   where
-    cases : ((m == n ≡ true) × (m ≡ n)) ⊎ ((m == n ≡ false) × (m ≢ n)) → ((n == m ≡ true) × (n ≡ m)) ⊎ ((n == m ≡ false) × (n ≢ m)) → (n == m) ≡ false
+    cases : ((m == n ≡ true) × (m ≡ n)) ⊎ ((m == n ≡ false) × (m ≢ n))
+        → ((n == m ≡ true) × (n ≡ m)) ⊎ ((n == m ≡ false) × (n ≢ m)) → (n == m) ≡ false
     cases (inl e) other = let f : not (m == n) ≡ false = ap not e.0 in cc
     cases (inr e) (inl f) = absurd (e.1 (sym f.1))
     cases (inr e) (inr f) = f.0

@@ -13,3 +13,5 @@ pub mod Placing
 pub mod Extending
 pub mod Rest
 pub mod Putting
+pub mod Apart
+pub mod Sized

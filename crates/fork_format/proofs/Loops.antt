@@ -1,4 +1,6 @@
-use Rattle.std.proofs.Common.{◌≡◌, ℕ, ◌+◌, ◌*◌, ◌-◌, ◌<◌, ◌≤◌, Bool, true, false, ◌&&◌, cond, List, [], ◌∷◌, Option, Some, None, refl, sym, ◌∙◌, ap, arith, suc, zero, add_assoc, sum_by, map, ◌++◌, append_assoc}
+use Rattle.std.proofs.Common.{◌≡◌, ℕ, ◌+◌, ◌*◌, ◌-◌, ◌<◌, ◌≤◌, Bool, true, false, ◌&&◌, cond, List, [], ◌∷◌, Option}
+use Rattle.std.proofs.Common.{Some, None, refl, sym, ◌∙◌, ap, arith, suc, zero, add_assoc, sum_by, map, ◌++◌}
+use Rattle.std.proofs.Common.{append_assoc}
 use Rattle.std.specs.List.{list_all}
 use Rattle.std.specs.Option.{option_map}
 use Rattle.std.proofs.lemmas.List.Sums.{sum_by-cons}
@@ -18,19 +20,23 @@ abbrev pub tally : (ℕ → Bool) → (ℕ → ℕ) → List ℕ → Option ℕ
 tally test size xs = sizes_if (list_all test xs) (sum_by size xs)
 
 -- an item that doesn't pass ends the count
-pub tally-stops : (test : ℕ → Bool) (size : ℕ → ℕ) (d at step n k : ℕ) (total : Option ℕ) → k < n → cond (test at) (Some (size at)) None ≡ None
+pub tally-stops : (test : ℕ → Bool) (size : ℕ → ℕ) (d at step n k : ℕ) (total : Option ℕ) → k < n
+    → cond (test at) (Some (size at)) None ≡ None
     → counted d (tally test size (offsets at step (n - k))) ≡ total → None ≡ total
 tally-stops test size d at step n k total h stops e =
     cases (test at) stops (ap (λ xs. counted d (tally test size xs)) (sym (offsets-left at step n k h)) ∙ e)
   where
     cases : (t : Bool) → cond t (Some (size at)) None ≡ None
-        → counted d (sizes_if (t && list_all test (offsets (at + step) step (n - (k + 1)))) (sum_by size (at ∷ offsets (at + step) step (n - (k + 1))))) ≡ total → None ≡ total
+        → counted d (sizes_if (t && list_all test (offsets (at + step) step (n - (k + 1))))
+        (sum_by size (at ∷ offsets (at + step) step (n - (k + 1))))) ≡ total → None ≡ total
     cases true s e = cc
     cases false s e = e
 
 -- one that passes is counted
-pub tally-goes_on : (test : ℕ → Bool) (size : ℕ → ℕ) (d at step n k s : ℕ) (total : Option ℕ) → k < n → cond (test at) (Some (size at)) None ≡ Some s
-    → counted d (tally test size (offsets at step (n - k))) ≡ total → counted (d + s) (tally test size (offsets (at + step) step (n - (k + 1)))) ≡ total
+pub tally-goes_on : (test : ℕ → Bool) (size : ℕ → ℕ) (d at step n k s : ℕ) (total : Option ℕ) → k < n
+    → cond (test at) (Some (size at)) None ≡ Some s
+    → counted d (tally test size (offsets at step (n - k))) ≡ total
+    → counted (d + s) (tally test size (offsets (at + step) step (n - (k + 1)))) ≡ total
 tally-goes_on test size d at step n k s total h passes e =
     cases (test at) passes (ap (λ xs. counted d (tally test size xs)) (sym (offsets-left at step n k h)) ∙ e)
   where
@@ -41,34 +47,44 @@ tally-goes_on test size d at step n k s total h passes e =
     more true m is = ap Some (rw (← is) (add_assoc d (size at) m))
     more false m is = refl
 
-    cases : (t : Bool) → cond t (Some (size at)) None ≡ Some s → counted d (sizes_if (t && list_all test rest) (sum_by size (at ∷ rest))) ≡ total
+    cases : (t : Bool) → cond t (Some (size at)) None ≡ Some s
+        → counted d (sizes_if (t && list_all test rest) (sum_by size (at ∷ rest))) ≡ total
         → counted (d + s) (tally test size rest) ≡ total
-    cases true p e = more (list_all test rest) (sum_by size rest) (cc) ∙ ap (λ m. counted d (sizes_if (list_all test rest) m)) (sym (sum_by-cons size at rest)) ∙ e
+    cases true p e = more (list_all test rest) (sum_by size rest) (cc)
+        ∙ ap (λ m. counted d (sizes_if (list_all test rest) m)) (sym (sum_by-cons size at rest)) ∙ e
     cases false p e = cc
 
 -- an item of a sum
-pub sum-goes_on : (size : ℕ → ℕ) (d at step n k total : ℕ) → k < n → d + sum_by size (offsets at step (n - k)) ≡ total → (d + size at) + sum_by size (offsets (at + step) step (n - (k + 1))) ≡ total
+pub sum-goes_on : (size : ℕ → ℕ) (d at step n k total : ℕ) → k < n → d + sum_by size (offsets at step (n - k)) ≡ total
+    → (d + size at) + sum_by size (offsets (at + step) step (n - (k + 1))) ≡ total
 sum-goes_on size d at step n k total h e =
-    add_assoc d (size at) _ ∙ ap (λ m. d + m) (sym (sum_by-cons size at (offsets (at + step) step (n - (k + 1)))) ∙ ap (sum_by size) (sym (offsets-left at step n k h))) ∙ e
+    add_assoc d (size at) _ ∙ ap (λ m. d + m) (sym (sum_by-cons size at (offsets (at + step) step (n - (k + 1))))
+    ∙ ap (sum_by size) (sym (offsets-left at step n k h))) ∙ e
 
 -- nothing is left
-pub tally-ends : (test : ℕ → Bool) (size : ℕ → ℕ) (d at step n k : ℕ) (total : Option ℕ) → n ≤ k → counted d (tally test size (offsets at step (n - k))) ≡ total → Some d ≡ total
+pub tally-ends : (test : ℕ → Bool) (size : ℕ → ℕ) (d at step n k : ℕ) (total : Option ℕ) → n ≤ k
+    → counted d (tally test size (offsets at step (n - k))) ≡ total → Some d ≡ total
 tally-ends test size d at step n k total h e =
     let none : n - k ≡ 0 = omega arith in
     let zero_more : d ≡ d + 0 = omega arith in
     ap Some zero_more ∙ ap (λ m. counted d (tally test size (offsets at step m))) (sym none) ∙ e
 
 -- items that all pass, and those that are read from them
-pub all-goes_on : (test : ℕ → Bool) (at step n k : ℕ) → k < n → list_all test (offsets at step (n - k)) ≡ true → (test at ≡ true) × (list_all test (offsets (at + step) step (n - (k + 1))) ≡ true)
-all-goes_on test at step n k h e = both (test at) (list_all test (offsets (at + step) step (n - (k + 1)))) (ap (list_all test) (sym (offsets-left at step n k h)) ∙ e)
+pub all-goes_on : (test : ℕ → Bool) (at step n k : ℕ) → k < n → list_all test (offsets at step (n - k)) ≡ true
+    → (test at ≡ true) × (list_all test (offsets (at + step) step (n - (k + 1))) ≡ true)
+all-goes_on test at step n k h e = both (test at) (list_all test (offsets (at + step) step (n - (k + 1))))
+    (ap (list_all test) (sym (offsets-left at step n k h)) ∙ e)
   where
     both : (a b : Bool) → (a && b) ≡ true → (a ≡ true) × (b ≡ true)
     both true b h = (refl, h)
     both false b h = cc
 
-pub map-goes_on : {A : Type 0} (f : ℕ → A) (front : List A) (at step n k : ℕ) (total : List A) → k < n → front ++ map f (offsets at step (n - k)) ≡ total
+pub map-goes_on : {A : Type 0} (f : ℕ → A) (front : List A) (at step n k : ℕ) (total : List A) → k < n
+    → front ++ map f (offsets at step (n - k)) ≡ total
     → (front ++ f at ∷ []) ++ map f (offsets (at + step) step (n - (k + 1))) ≡ total
-map-goes_on f front at step n k total h e = append_assoc front (f at ∷ []) (map f (offsets (at + step) step (n - (k + 1)))) ∙ ap (λ l. front ++ map f l) (sym (offsets-left at step n k h)) ∙ e
+map-goes_on f front at step n k total h e = append_assoc front (f at ∷ [])
+    (map f (offsets (at + step) step (n - (k + 1)))) ∙ ap (λ l. front ++ map f l) (sym (offsets-left at step n k h))
+    ∙ e
 
 -- one offset more
 pub offsets-push : (first k : ℕ) → offsets first 8 (k + 1) ≡ offsets first 8 k ++ (first + 8 * k) ∷ []
@@ -76,4 +92,5 @@ offsets-push first k = let e : k + 1 ≡ suc k = omega arith in ap (offsets firs
   where
     rest : (first k : ℕ) → offsets first 8 (suc k) ≡ offsets first 8 k ++ (first + 8 * k) ∷ []
     rest first zero = let e : first ≡ first + 8 * 0 = omega arith in ap (λ n. n ∷ []) e
-    rest first (suc k) = let e : first + 8 + 8 * k ≡ first + 8 * suc k = omega arith in ap (λ l. first ∷ l) (rest (first + 8) k ∙ ap (λ n. offsets (first + 8) 8 k ++ n ∷ []) e)
+    rest first (suc k) = let e : first + 8 + 8 * k ≡ first + 8 * suc k = omega arith in
+        ap (λ l. first ∷ l) (rest (first + 8) k ∙ ap (λ n. offsets (first + 8) 8 k ++ n ∷ []) e)

@@ -1,4 +1,6 @@
-use Rattle.std.proofs.Common.{◌≡◌, ℕ, ◌+◌, ◌-◌, ◌*◌, ◌%◌, ◌≤◌, Bool, true, false, cond, ◌&&◌, List, [], ◌∷◌, ◌++◌, length, refl, sym, ◌∙◌, ap, subst, arith, Option, Some, None, lit<, ◌⊎◌, inl, inr, ◌≢◌, length-append, sum_by}
+use Rattle.std.proofs.Common.{◌≡◌, ℕ, ◌+◌, ◌-◌, ◌*◌, ◌%◌, ◌≤◌, Bool, true, false, cond, ◌&&◌, List, [], ◌∷◌, ◌++◌}
+use Rattle.std.proofs.Common.{length, refl, sym, ◌∙◌, ap, subst, arith, Option, Some, None, lit<, ◌⊎◌, inl, inr, ◌≢◌}
+use Rattle.std.proofs.Common.{length-append, sum_by}
 use Rattle.std.specs.Prelude.{nat_le, ◌==◌, IfSome}
 use Rattle.std.specs.List.{flat_map, list_all}
 use Rattle.std.proofs.lemmas.List.Sums.{sum_by-cons}
@@ -6,11 +8,15 @@ use Rattle.std.proofs.lemmas.Bool.Decides.{eqb_tells}
 use Rattle.std.proofs.lemmas.Bool.{le-leb}
 use Rattle.byteorder.specs.Endian.{big_bytes, big_number}
 use Rattle.fork_format.specs.Content.{Ref, Group, Content, refs_of}
-use Rattle.fork_format.specs.Fork.{number, offsets, data_start, data_end, map_start, map_end, name_list, type_list, name_place, name_fits, datum_place, datum_fits, ref_fits, ref_size, refs_fit, types_fit, parts_fit, type_count, all_refs, all_data, ref_places, ref_count, type_size, type_places, is_fork, Spells}
-use Rattle.fork_format.specs.Canonical.{datum, name, name_offset, name_or_none, entry, entries, types}
-use Rattle.fork_format.proofs.Standing.{StandsAt, stands_first, stands_second, stands_same, stands_drop, number-stands, stands_inside}
-use Rattle.fork_format.proofs.Again.{AreLow, IsSized, EntryStands, entry_stands}
-use Rattle.fork_format.proofs.Groups.{AreLowGroups, length-entries, entries-two, flat_map-two}
+use Rattle.fork_format.specs.Fork.{number, offsets, data_start, data_end, map_start, map_end, name_list, type_list}
+use Rattle.fork_format.specs.Fork.{name_place, name_fits, datum_place, datum_fits, ref_fits, ref_size, refs_fit}
+use Rattle.fork_format.specs.Fork.{types_fit, parts_fit, type_count, all_refs, all_data, ref_places, ref_count}
+use Rattle.fork_format.specs.Fork.{type_size, type_places, is_fork, Spells}
+use Rattle.fork_format.specs.Canonical.{datum, name, name_offset, name_or_none, reference, references, types}
+use Rattle.fork_format.proofs.Standing.{StandsAt, stands_first, stands_second, stands_same, stands_drop}
+use Rattle.fork_format.proofs.Standing.{number-stands, stands_inside}
+use Rattle.fork_format.proofs.Again.{AreLow, IsSized, ReferenceStands, reference_stands}
+use Rattle.fork_format.proofs.Groups.{AreLowGroups, length-references, references-two, flat_map-two}
 use Rattle.fork_format.proofs.Whole.{CanSpell, CanonStands, canon_stands, length-types, content_again}
 use Rattle.fork_format.specs.Canonical.{canon, refs_offset, names_offset, names_of, data_of, lists, clear}
 use Rattle.fork_format.proofs.Bools.{and_both}
@@ -25,57 +31,78 @@ and_five : (a b d e f : Bool) → a ≡ true → b ≡ true → d ≡ true → e
 and_five a b d e f p q r s t = and_both (a && b && d && e) f (and_four a b d e p q r s) t
 
 -- a reference whose parts stand before the ends lies where it must, and its datum takes what it stores
-pub ref_lies : (d n : ℕ) (r : Ref) (at : ℕ) (bytes : List ℕ) → IsSized r → d ≤ 16777215 → IfSome r.name (λ text. n ≤ 65534) → StandsAt (entry d n r) at bytes
+pub ref_lies : (d n : ℕ) (r : Ref) (at : ℕ) (bytes : List ℕ) → IsSized r → d ≤ 16777215
+    → IfSome r.name (λ text. n ≤ 65534) → StandsAt (reference d n r) at bytes
     → StandsAt (datum r) (data_start bytes + d) bytes → StandsAt (name r) (name_list bytes + n) bytes
-    → map_end bytes ≡ length bytes → data_start bytes + d + length (datum r) ≤ data_end bytes → (ref_fits bytes at ≡ true) × (ref_size bytes at ≡ length (datum r))
+    → map_end bytes ≡ length bytes → data_start bytes + d + length (datum r) ≤ data_end bytes
+    → (ref_fits bytes at ≡ true) × (ref_size bytes at ≡ length (datum r))
 ref_lies d n r at bytes sized low named s in_data in_names to_end inside =
-    let e : EntryStands d n r at bytes = entry_stands d n r at bytes s in
+    let e : ReferenceStands d n r at bytes = reference_stands d n r at bytes s in
     let o : number 3 (at + 5) bytes ≡ d = number-stands 3 d (at + 5) bytes (omega arith) e.datum in
     let place : datum_place at bytes ≡ data_start bytes + d = ap (λ k. data_start bytes + k) o in
-    let size : number 4 (data_start bytes + d) bytes ≡ length r.datum = number-stands 4 (length r.datum) (data_start bytes + d) bytes sized.datum (stands_first (big_bytes 4 (length r.datum)) r.datum _ bytes in_data) in
+    let size : number 4 (data_start bytes + d) bytes ≡ length r.datum =
+    number-stands 4 (length r.datum) (data_start bytes + d) bytes sized.datum
+    (stands_first (big_bytes 4 (length r.datum)) r.datum _ bytes in_data) in
     let size_at : number 4 (datum_place at bytes) bytes ≡ length r.datum = ap (λ k. number 4 k bytes) place ∙ size in
-    let here : at + 12 ≤ length bytes = stands_inside (entry d n r) at bytes s in (
-      and_three (nat_le (at + 12) (map_end bytes)) (name_fits (name_place at bytes) bytes) (datum_fits (datum_place at bytes) bytes)
+    let here : at + 12 ≤ length bytes = stands_inside (reference d n r) at bytes s in (
+      and_three (nat_le (at + 12) (map_end bytes)) (name_fits (name_place at bytes) bytes)
+          (datum_fits (datum_place at bytes) bytes)
           (le-leb (at + 12) (map_end bytes) (omega arith))
           (name_lies r.name in_names e.name named)
-          (and_both (nat_le (datum_place at bytes + 4) (data_end bytes)) (nat_le (datum_place at bytes + 4 + number 4 (datum_place at bytes) bytes) (data_end bytes))
+          (and_both (nat_le (datum_place at bytes + 4) (data_end bytes))
+          (nat_le (datum_place at bytes + 4 + number 4 (datum_place at bytes) bytes) (data_end bytes))
           (le-leb _ _ (omega arith)) (le-leb _ _ (omega arith))),
       ap (λ k. 4 + k) size_at ∙ omega arith,
     )
   where
-    name_lies : (m : Option (List ℕ)) → StandsAt (name_or_none m) (name_list bytes + n) bytes → StandsAt (big_bytes 2 (name_offset m n)) (at + 2) bytes → IfSome m (λ text. n ≤ 65534)
+    name_lies : (m : Option (List ℕ)) → StandsAt (name_or_none m) (name_list bytes + n) bytes
+        → StandsAt (big_bytes 2 (name_offset m n)) (at + 2) bytes → IfSome m (λ text. n ≤ 65534)
         → name_fits (name_place at bytes) bytes ≡ true
     name_lies None t offset low = rw (number-stands 2 65535 (at + 2) bytes (lit< tt) offset) refl
     name_lies (Some text) t offset low =
-        let first : number 1 (name_list bytes + n) bytes ≡ length text = ap (big_number 1) (stands_drop (length text ∷ text) (name_list bytes + n) bytes t) ∙ omega arith in
-        let inside : name_list bytes + n + length (length text ∷ text) ≤ length bytes = stands_inside (length text ∷ text) (name_list bytes + n) bytes t in
+        let first : number 1 (name_list bytes + n) bytes ≡ length text =
+        ap (big_number 1) (stands_drop (length text ∷ text) (name_list bytes + n) bytes t) ∙ omega arith in
+        let inside : name_list bytes + n + length (length text ∷ text) ≤ length bytes =
+        stands_inside (length text ∷ text) (name_list bytes + n) bytes t in
         let fits : name_fits (Some (name_list bytes + n)) bytes ≡ true =
-        and_both (nat_le (name_list bytes + n + 1) (map_end bytes)) (nat_le (name_list bytes + n + 1 + number 1 (name_list bytes + n) bytes) (map_end bytes)) (le-leb _ _ (omega arith)) (le-leb _ _ (omega arith)) in
+        and_both (nat_le (name_list bytes + n + 1) (map_end bytes))
+        (nat_le (name_list bytes + n + 1 + number 1 (name_list bytes + n) bytes) (map_end bytes))
+        (le-leb _ _ (omega arith)) (le-leb _ _ (omega arith)) in
         rw (number-stands 2 n (at + 2) bytes (omega arith) offset) (cases (eqb_tells n 65535) fits)
       where
-        cases : ((n == 65535 ≡ true) × (n ≡ 65535)) ⊎ ((n == 65535 ≡ false) × (n ≢ 65535)) → name_fits (Some (name_list bytes + n)) bytes ≡ true → name_fits (cond (n == 65535) None (Some (name_list bytes + n))) bytes ≡ true
+        cases : ((n == 65535 ≡ true) × (n ≡ 65535)) ⊎ ((n == 65535 ≡ false) × (n ≢ 65535))
+            → name_fits (Some (name_list bytes + n)) bytes ≡ true
+            → name_fits (cond (n == 65535) None (Some (name_list bytes + n))) bytes ≡ true
         cases (inl h) f = absurd (omega arith)
         cases (inr h) f = rw h.0 f
 
 -- references whose parts stand before the ends lie where they must
-pub refs_lie : (refs : List Ref) (d n at : ℕ) (bytes : List ℕ) → AreLow d n refs → StandsAt (entries d n refs) at bytes
-    → StandsAt (flat_map datum refs) (data_start bytes + d) bytes → StandsAt (flat_map name refs) (name_list bytes + n) bytes
+pub refs_lie : (refs : List Ref) (d n at : ℕ) (bytes : List ℕ) → AreLow d n refs
+    → StandsAt (references d n refs) at bytes
+    → StandsAt (flat_map datum refs) (data_start bytes + d) bytes
+    → StandsAt (flat_map name refs) (name_list bytes + n) bytes
     → map_end bytes ≡ length bytes → data_start bytes + d + length (flat_map datum refs) ≤ data_end bytes
-    → (list_all (ref_fits bytes) (offsets at 12 (length refs)) ≡ true) × (sum_by (ref_size bytes) (offsets at 12 (length refs)) ≡ length (flat_map datum refs))
+    → (list_all (ref_fits bytes) (offsets at 12 (length refs)) ≡ true)
+    × (sum_by (ref_size bytes) (offsets at 12 (length refs)) ≡ length (flat_map datum refs))
 refs_lie [] d n at bytes low s in_data in_names to_end inside = (refl, refl)
 refs_lie (r ∷ refs) d n at bytes low s in_data in_names to_end inside =
-    let e : List ℕ = entry d n r in
+    let e : List ℕ = reference d n r in
     let d' : ℕ = d + length (datum r) in
     let n' : ℕ = n + length (name r) in
-    let es : List ℕ = entries d' n' refs in
-    let size : length (flat_map datum (r ∷ refs)) ≡ length (datum r) + length (flat_map datum refs) = length-append (datum r) (flat_map datum refs) in
+    let es : List ℕ = references d' n' refs in
+    let size : length (flat_map datum (r ∷ refs)) ≡ length (datum r) + length (flat_map datum refs) =
+    length-append (datum r) (flat_map datum refs) in
     let one : (ref_fits bytes at ≡ true) × (ref_size bytes at ≡ length (datum r)) =
     ref_lies d n r at bytes low.0 low.1 low.2 (stands_first e es at bytes s)
-    (stands_first (datum r) (flat_map datum refs) (data_start bytes + d) bytes in_data) (stands_first (name r) (flat_map name refs) (name_list bytes + n) bytes in_names) to_end (omega arith) in
-    let others : (list_all (ref_fits bytes) (offsets (at + 12) 12 (length refs)) ≡ true) × (sum_by (ref_size bytes) (offsets (at + 12) 12 (length refs)) ≡ length (flat_map datum refs)) =
+    (stands_first (datum r) (flat_map datum refs) (data_start bytes + d) bytes in_data)
+    (stands_first (name r) (flat_map name refs) (name_list bytes + n) bytes in_names) to_end (omega arith) in
+    let others : (list_all (ref_fits bytes) (offsets (at + 12) 12 (length refs)) ≡ true)
+    × (sum_by (ref_size bytes) (offsets (at + 12) 12 (length refs)) ≡ length (flat_map datum refs)) =
     refs_lie refs d' n' (at + 12) bytes low.3 (stands_second e es at bytes s)
-    (stands_same (flat_map datum refs) _ _ bytes (omega arith) (stands_second (datum r) (flat_map datum refs) (data_start bytes + d) bytes in_data))
-    (stands_same (flat_map name refs) _ _ bytes (omega arith) (stands_second (name r) (flat_map name refs) (name_list bytes + n) bytes in_names)) to_end (omega arith) in (
+    (stands_same (flat_map datum refs) _ _ bytes (omega arith)
+    (stands_second (datum r) (flat_map datum refs) (data_start bytes + d) bytes in_data))
+    (stands_same (flat_map name refs) _ _ bytes (omega arith)
+    (stands_second (name r) (flat_map name refs) (name_list bytes + n) bytes in_names)) to_end (omega arith) in (
       and_both _ _ one.0 others.0,
       sum_by-cons (ref_size bytes) at (offsets (at + 12) 12 (length refs)) ∙ omega (arith, one.1, others.1),
     )
@@ -87,12 +114,15 @@ pub record TypesLie (bytes : List ℕ) (places : List ℕ) (groups : List Group)
   pub size : sum_by (type_size bytes) places ≡ length (flat_map datum (refs_of groups))
 
 -- types whose parts stand before the ends lie where they must
-pub groups_lie : (groups : List Group) (t at d n : ℕ) (bytes : List ℕ) → AreLowGroups at d n groups → StandsAt (types at groups) t bytes
-    → StandsAt (entries d n (refs_of groups)) (type_list bytes + at) bytes
-    → StandsAt (flat_map datum (refs_of groups)) (data_start bytes + d) bytes → StandsAt (flat_map name (refs_of groups)) (name_list bytes + n) bytes
+pub groups_lie : (groups : List Group) (t at d n : ℕ) (bytes : List ℕ) → AreLowGroups at d n groups
+    → StandsAt (types at groups) t bytes
+    → StandsAt (references d n (refs_of groups)) (type_list bytes + at) bytes
+    → StandsAt (flat_map datum (refs_of groups)) (data_start bytes + d) bytes
+    → StandsAt (flat_map name (refs_of groups)) (name_list bytes + n) bytes
     → map_end bytes ≡ length bytes → data_start bytes + d + length (flat_map datum (refs_of groups)) ≤ data_end bytes
     → TypesLie bytes (offsets t 8 (length groups)) groups
-groups_lie [] t at d n bytes low s in_list in_data in_names to_end inside = record { fit = refl; refs = refl; size = refl }
+groups_lie [] t at d n bytes low s in_list in_data in_names to_end inside =
+    record { fit = refl; refs = refl; size = refl }
 groups_lie (g ∷ groups) t at d n bytes low s in_list in_data in_names to_end inside =
     let k : List ℕ = big_bytes 4 g.kind in
     let c : List ℕ = big_bytes 2 (length g.refs - 1) in
@@ -102,28 +132,48 @@ groups_lie (g ∷ groups) t at d n bytes low s in_list in_data in_names to_end i
     let n' : ℕ = n + length (flat_map name g.refs) in
     let s3 : StandsAt (k ++ c ++ a) t bytes = stands_first (k ++ c ++ a) more t bytes s in
     let s2 : StandsAt (k ++ c) t bytes = stands_first (k ++ c) a t bytes s3 in
-    let count : number 2 (t + 4) bytes ≡ length g.refs - 1 = number-stands 2 (length g.refs - 1) (t + 4) bytes (omega arith) (stands_second k c t bytes s2) in
-    let place : number 2 (t + 6) bytes ≡ at = number-stands 2 at (t + 6) bytes (omega arith) (stands_second (k ++ c) a t bytes s3) in
+    let count : number 2 (t + 4) bytes ≡ length g.refs - 1 =
+    number-stands 2 (length g.refs - 1) (t + 4) bytes (omega arith) (stands_second k c t bytes s2) in
+    let place : number 2 (t + 6) bytes ≡ at = number-stands 2 at (t + 6) bytes (omega arith)
+    (stands_second (k ++ c) a t bytes s3) in
     let full : number 2 (t + 4) bytes + 1 ≡ length g.refs = omega arith in
-    let list : StandsAt (entries d n g.refs ++ entries d' n' (refs_of groups)) (type_list bytes + at) bytes = subst (λ l. StandsAt l (type_list bytes + at) bytes) (entries-two d n g.refs (refs_of groups)) in_list in
-    let datas : StandsAt (flat_map datum g.refs ++ flat_map datum (refs_of groups)) (data_start bytes + d) bytes = subst (λ l. StandsAt l (data_start bytes + d) bytes) (flat_map-two datum g.refs (refs_of groups)) in_data in
-    let names : StandsAt (flat_map name g.refs ++ flat_map name (refs_of groups)) (name_list bytes + n) bytes = subst (λ l. StandsAt l (name_list bytes + n) bytes) (flat_map-two name g.refs (refs_of groups)) in_names in
-    let size : length (flat_map datum (refs_of (g ∷ groups))) ≡ length (flat_map datum g.refs) + length (flat_map datum (refs_of groups)) =
-    ap length (flat_map-two datum g.refs (refs_of groups)) ∙ length-append (flat_map datum g.refs) (flat_map datum (refs_of groups)) in
-    let refs : (list_all (ref_fits bytes) (offsets (type_list bytes + at) 12 (length g.refs)) ≡ true) × (sum_by (ref_size bytes) (offsets (type_list bytes + at) 12 (length g.refs)) ≡ length (flat_map datum g.refs)) =
-    refs_lie g.refs d n (type_list bytes + at) bytes low.4 (stands_first (entries d n g.refs) _ _ bytes list) (stands_first (flat_map datum g.refs) _ _ bytes datas) (stands_first (flat_map name g.refs) _ _ bytes names) to_end (omega arith) in
-    let places : ref_places t bytes ≡ offsets (type_list bytes + at) 12 (length g.refs) = ap (λ p. offsets (type_list bytes + p) 12 (ref_count bytes t)) place ∙ ap (λ p. offsets (type_list bytes + at) 12 p) full in
-    let len : length (entries d n g.refs) ≡ 12 * length g.refs = length-entries d n g.refs in
+    let list : StandsAt (references d n g.refs ++ references d' n' (refs_of groups)) (type_list bytes + at) bytes =
+    subst (λ l. StandsAt l (type_list bytes + at) bytes) (references-two d n g.refs (refs_of groups)) in_list in
+    let datas : StandsAt (flat_map datum g.refs ++ flat_map datum (refs_of groups)) (data_start bytes + d) bytes =
+    subst (λ l. StandsAt l (data_start bytes + d) bytes) (flat_map-two datum g.refs (refs_of groups)) in_data in
+    let names : StandsAt (flat_map name g.refs ++ flat_map name (refs_of groups)) (name_list bytes + n) bytes =
+    subst (λ l. StandsAt l (name_list bytes + n) bytes) (flat_map-two name g.refs (refs_of groups)) in_names in
+    let size : length (flat_map datum (refs_of (g ∷ groups)))
+    ≡ length (flat_map datum g.refs) + length (flat_map datum (refs_of groups)) =
+    ap length (flat_map-two datum g.refs (refs_of groups))
+    ∙ length-append (flat_map datum g.refs) (flat_map datum (refs_of groups)) in
+    let refs : (list_all (ref_fits bytes) (offsets (type_list bytes + at) 12 (length g.refs)) ≡ true)
+    × (sum_by (ref_size bytes) (offsets (type_list bytes + at) 12 (length g.refs))
+    ≡ length (flat_map datum g.refs)) =
+    refs_lie g.refs d n (type_list bytes + at) bytes low.4 (stands_first (references d n g.refs) _ _ bytes list)
+    (stands_first (flat_map datum g.refs) _ _ bytes datas) (stands_first (flat_map name g.refs) _ _ bytes names)
+    to_end (omega arith) in
+    let places : ref_places t bytes ≡ offsets (type_list bytes + at) 12 (length g.refs) =
+    ap (λ p. offsets (type_list bytes + p) 12 (ref_count bytes t)) place
+    ∙ ap (λ p. offsets (type_list bytes + at) 12 p) full in
+    let len : length (references d n g.refs) ≡ 12 * length g.refs = length-references d n g.refs in
     let others : TypesLie bytes (offsets (t + 8) 8 (length groups)) groups =
     groups_lie groups (t + 8) (at + 12 * length g.refs) d' n' bytes low.5 (stands_second (k ++ c ++ a) more t bytes s)
-    (stands_same (entries d' n' (refs_of groups)) _ _ bytes (omega arith) (stands_second (entries d n g.refs) _ _ bytes list))
-    (stands_same (flat_map datum (refs_of groups)) _ _ bytes (omega arith) (stands_second (flat_map datum g.refs) _ _ bytes datas))
-    (stands_same (flat_map name (refs_of groups)) _ _ bytes (omega arith) (stands_second (flat_map name g.refs) _ _ bytes names)) to_end (omega arith) in
-    let own : sum_by (ref_size bytes) (ref_places t bytes) ≡ length (flat_map datum g.refs) = ap (sum_by (ref_size bytes)) places ∙ refs.1 in
+    (stands_same (references d' n' (refs_of groups)) _ _ bytes (omega arith)
+    (stands_second (references d n g.refs) _ _ bytes list))
+    (stands_same (flat_map datum (refs_of groups)) _ _ bytes (omega arith)
+    (stands_second (flat_map datum g.refs) _ _ bytes datas))
+    (stands_same (flat_map name (refs_of groups)) _ _ bytes (omega arith)
+    (stands_second (flat_map name g.refs) _ _ bytes names)) to_end (omega arith) in
+    let own : sum_by (ref_size bytes) (ref_places t bytes) ≡ length (flat_map datum g.refs) =
+    ap (sum_by (ref_size bytes)) places ∙ refs.1 in
     record {
       fit = and_both (refs_fit bytes t) _ (ap (list_all (ref_fits bytes)) places ∙ refs.0) others.fit;
-      refs = sum_by-cons (ref_count bytes) t (offsets (t + 8) 8 (length groups)) ∙ ap (λ m. ref_count bytes t + m) others.refs ∙ ap (λ m. m + length (refs_of groups)) full ∙ sym (length-append g.refs (refs_of groups));
-      size = sum_by-cons (type_size bytes) t (offsets (t + 8) 8 (length groups)) ∙ omega (arith, own, others.size, size);
+      refs = sum_by-cons (ref_count bytes) t (offsets (t + 8) 8 (length groups))
+          ∙ ap (λ m. ref_count bytes t + m) others.refs ∙ ap (λ m. m + length (refs_of groups)) full
+          ∙ sym (length-append g.refs (refs_of groups));
+      size = sum_by-cons (type_size bytes) t (offsets (t + 8) 8 (length groups))
+          ∙ omega (arith, own, others.size, size);
     }
 
 -- a canonical fork is a fork
@@ -135,35 +185,46 @@ fork_again c can =
     let t : ℕ = type_list bytes in
     let l1 : List ℕ = big_bytes 2 ((length gs + 65535) % 65536) in
     let l2 : List ℕ = types (refs_offset gs) gs in
-    let l3 : List ℕ = entries 0 0 (refs_of gs) in
+    let l3 : List ℕ = references 0 0 (refs_of gs) in
     let l4 : List ℕ = names_of gs in
     let s3 : StandsAt (l1 ++ l2 ++ l3) t bytes = stands_first (l1 ++ l2 ++ l3) l4 t bytes s.in_lists in
     let s2 : StandsAt (l1 ++ l2) t bytes = stands_first (l1 ++ l2) l3 t bytes s3 in
     let few : length gs ≤ 65535 = can.few in
-    let count : number 2 t bytes ≡ (length gs + 65535) % 65536 = number-stands 2 ((length gs + 65535) % 65536) t bytes (omega arith) (stands_first l1 l2 t bytes s2) in
+    let count : number 2 t bytes ≡ (length gs + 65535) % 65536 =
+    number-stands 2 ((length gs + 65535) % 65536) t bytes (omega arith) (stands_first l1 l2 t bytes s2) in
     let counted : type_count bytes ≡ length gs = ap (λ n. (n + 1) % 65536) count ∙ omega arith in
     let n2 : length l2 ≡ 8 * length gs = length-types (refs_offset gs) gs in
-    let n3 : length l3 ≡ 12 * length (refs_of gs) = length-entries 0 0 (refs_of gs) in
+    let n3 : length l3 ≡ 12 * length (refs_of gs) = length-references 0 0 (refs_of gs) in
     let n12 : length (l1 ++ l2) ≡ refs_offset gs = length-append l1 l2 ∙ omega arith in
     let p3 : t + length (l1 ++ l2) ≡ t + refs_offset gs = ap (λ n. t + n) n12 in
-    let p4 : t + length (l1 ++ l2 ++ l3) ≡ name_list bytes + 0 = ap (λ n. t + n) (length-append (l1 ++ l2) l3 ∙ ap (λ n. n + length l3) (length-append l1 l2)) ∙ omega (arith, s.at_types, s.at_names) in
-    let data_end_is : data_end bytes ≡ 256 + length (data_of gs) = ap (λ n. n + number 4 8 bytes) s.at_data ∙ ap (λ n. 256 + n) s.data_length in
+    let p4 : t + length (l1 ++ l2 ++ l3) ≡ name_list bytes + 0 =
+    ap (λ n. t + n) (length-append (l1 ++ l2) l3 ∙ ap (λ n. n + length l3) (length-append l1 l2))
+    ∙ omega (arith, s.at_types, s.at_names) in
+    let data_end_is : data_end bytes ≡ 256 + length (data_of gs) =
+    ap (λ n. n + number 4 8 bytes) s.at_data ∙ ap (λ n. 256 + n) s.data_length in
     let map_end_is : map_end bytes ≡ length bytes = ap (λ n. map_start bytes + n) s.map_length ∙ sym s.whole in
     let lie : TypesLie bytes (offsets (t + 2) 8 (length gs)) gs =
-    groups_lie gs (t + 2) (refs_offset gs) 0 0 bytes can.low (stands_second l1 l2 t bytes s2) (stands_same l3 _ _ bytes p3 (stands_second (l1 ++ l2) l3 t bytes s3))
-    (stands_same (data_of gs) _ _ bytes (omega (arith, s.at_data)) s.datas) (stands_same l4 _ _ bytes p4 (stands_second (l1 ++ l2 ++ l3) l4 t bytes s.in_lists))
+    groups_lie gs (t + 2) (refs_offset gs) 0 0 bytes can.low (stands_second l1 l2 t bytes s2)
+    (stands_same l3 _ _ bytes p3 (stands_second (l1 ++ l2) l3 t bytes s3))
+    (stands_same (data_of gs) _ _ bytes (omega (arith, s.at_data)) s.datas)
+    (stands_same l4 _ _ bytes p4 (stands_second (l1 ++ l2 ++ l3) l4 t bytes s.in_lists))
     map_end_is (omega (arith, s.at_data, data_end_is)) in
     let places : type_places bytes ≡ offsets (t + 2) 8 (length gs) = ap (λ n. offsets (t + 2) 8 n) counted in
     let refs : all_refs bytes ≡ length (refs_of gs) = ap (sum_by (ref_count bytes)) places ∙ lie.refs in
     let size : all_data bytes ≡ length (data_of gs) = ap (sum_by (type_size bytes)) places ∙ lie.size in
     let fit : list_all (refs_fit bytes) (type_places bytes) ≡ true = ap (list_all (refs_fit bytes)) places ∙ lie.fit in
-    let n4 : length (lists gs) ≡ refs_offset gs + 12 * length (refs_of gs) + length l4 = length-append (l1 ++ l2 ++ l3) l4 ∙ ap (λ n. n + length l4) (length-append (l1 ++ l2) l3 ∙ ap (λ n. n + length l3) n12) ∙ omega arith in
+    let n4 : length (lists gs) ≡ refs_offset gs + 12 * length (refs_of gs) + length l4 =
+    length-append (l1 ++ l2 ++ l3) l4 ∙ ap (λ n. n + length l4) (length-append (l1 ++ l2) l3
+    ∙ ap (λ n. n + length l3) n12) ∙ omega arith in
     let names : names_offset gs ≤ 65535 = can.names in
     let small : length (data_of gs) ≤ 134217728 = can.small in
     and_five (parts_fit bytes) (types_fit bytes) _ _ _
-    (and_four (nat_le 16 (length bytes)) (nat_le (data_end bytes) (length bytes)) (nat_le (map_end bytes) (length bytes)) (nat_le (map_start bytes + 30) (map_end bytes))
-    (le-leb _ _ (omega (arith, s.whole, s.at_map))) (le-leb _ _ (omega (arith, s.whole, s.at_map, data_end_is))) (le-leb _ _ (omega arith)) (le-leb _ _ (omega (arith, s.whole))))
-    (and_both (nat_le (type_list bytes + 2) (map_end bytes)) (nat_le (type_list bytes + 2 + 8 * type_count bytes) (map_end bytes))
+    (and_four (nat_le 16 (length bytes)) (nat_le (data_end bytes) (length bytes))
+    (nat_le (map_end bytes) (length bytes)) (nat_le (map_start bytes + 30) (map_end bytes))
+    (le-leb _ _ (omega (arith, s.whole, s.at_map))) (le-leb _ _ (omega (arith, s.whole, s.at_map, data_end_is)))
+    (le-leb _ _ (omega arith)) (le-leb _ _ (omega (arith, s.whole))))
+    (and_both (nat_le (type_list bytes + 2) (map_end bytes))
+    (nat_le (type_list bytes + 2 + 8 * type_count bytes) (map_end bytes))
     (le-leb _ _ (omega (arith, s.whole, s.at_types))) (le-leb _ _ (omega (arith, s.whole, s.at_types, counted))))
     (le-leb _ _ (omega arith)) fit (le-leb _ _ (omega arith))
 

@@ -1,4 +1,5 @@
-use Rattle.std.proofs.Common.{◌≡◌, ℕ, ◌+◌, ◌<◌, ◌≤◌, ◌^◌, List, [], ◌++◌, length, take, drop, refl, sym, ◌∙◌, ap, append_assoc, length-append, arith}
+use Rattle.std.proofs.Common.{◌≡◌, ℕ, ◌+◌, ◌<◌, ◌≤◌, ◌^◌, List, [], ◌++◌, length, take, drop, refl, sym, ◌∙◌, ap}
+use Rattle.std.proofs.Common.{append_assoc, length-append, arith}
 use Rattle.std.proofs.Math.Seq.{drop-append_seam, take-append_seam}
 use Rattle.std.proofs.lemmas.List.{append-nil}
 use Rattle.byteorder.specs.Numbers.{big_number-reads_back}
@@ -17,13 +18,21 @@ stands_whole bytes = record { before = []; after = []; whole = sym (append-nil b
 
 -- the first and the second of two parts
 pub stands_first : (xs ys : List ℕ) (at : ℕ) (bytes : List ℕ) → StandsAt (xs ++ ys) at bytes → StandsAt xs at bytes
-stands_first xs ys at bytes s = record { before = s.before; after = ys ++ s.after; whole = s.whole ∙ ap (λ l. s.before ++ l) (append_assoc xs ys s.after); place = s.place }
+stands_first xs ys at bytes s = record {
+  before = s.before;
+  after = ys ++ s.after;
+  whole =
+      s.whole ∙ ap (λ l. s.before ++ l) (append_assoc xs ys s.after);
+  place = s.place;
+}
 
-pub stands_second : (xs ys : List ℕ) (at : ℕ) (bytes : List ℕ) → StandsAt (xs ++ ys) at bytes → StandsAt ys (at + length xs) bytes
+pub stands_second : (xs ys : List ℕ) (at : ℕ) (bytes : List ℕ) → StandsAt (xs ++ ys) at bytes
+    → StandsAt ys (at + length xs) bytes
 stands_second xs ys at bytes s = record {
   before = s.before ++ xs;
   after = s.after;
-  whole = s.whole ∙ ap (λ l. s.before ++ l) (append_assoc xs ys s.after) ∙ sym (append_assoc s.before xs (ys ++ s.after));
+  whole = s.whole ∙ ap (λ l. s.before ++ l) (append_assoc xs ys s.after)
+      ∙ sym (append_assoc s.before xs (ys ++ s.after));
   place = length-append s.before xs ∙ ap (λ n. n + length xs) s.place;
 }
 
@@ -33,11 +42,14 @@ stands_same xs at at' bytes e s = record { before = s.before; after = s.after; w
 
 -- what is read from there on
 pub stands_drop : (xs : List ℕ) (at : ℕ) (bytes : List ℕ) → (s : StandsAt xs at bytes) → drop at bytes ≡ xs ++ s.after
-stands_drop xs at bytes s = ap (λ b. drop at b) s.whole ∙ ap (λ n. drop n (s.before ++ (xs ++ s.after))) (sym s.place) ∙ drop-append_seam s.before (xs ++ s.after)
+stands_drop xs at bytes s = ap (λ b. drop at b) s.whole ∙ ap (λ n. drop n (s.before ++ (xs ++ s.after))) (sym s.place)
+    ∙ drop-append_seam s.before (xs ++ s.after)
 
 -- a number that stands there is read
-pub number-stands : (n x at : ℕ) (bytes : List ℕ) → x < 256 ^ n → StandsAt (big_bytes n x) at bytes → number n at bytes ≡ x
-number-stands n x at bytes small s = ap (big_number n) (stands_drop (big_bytes n x) at bytes s) ∙ big_number-reads_back n x s.after small
+pub number-stands : (n x at : ℕ) (bytes : List ℕ) → x < 256 ^ n → StandsAt (big_bytes n x) at bytes
+    → number n at bytes ≡ x
+number-stands n x at bytes small s = ap (big_number n) (stands_drop (big_bytes n x) at bytes s)
+    ∙ big_number-reads_back n x s.after small
 
 -- a part that stands there is read
 pub part-stands : (xs : List ℕ) (at : ℕ) (bytes : List ℕ) → StandsAt xs at bytes → part (length xs) at bytes ≡ xs
@@ -46,7 +58,8 @@ part-stands xs at bytes s = ap (take (length xs)) (stands_drop xs at bytes s) �
 -- it lies in the bytes
 pub stands_inside : (xs : List ℕ) (at : ℕ) (bytes : List ℕ) → StandsAt xs at bytes → at + length xs ≤ length bytes
 stands_inside xs at bytes s =
-    let e : length bytes ≡ length s.before + length (xs ++ s.after) = ap length s.whole ∙ length-append s.before (xs ++ s.after) in
+    let e : length bytes ≡ length s.before + length (xs ++ s.after) =
+    ap length s.whole ∙ length-append s.before (xs ++ s.after) in
     let f : length (xs ++ s.after) ≡ length xs + length s.after = length-append xs s.after in
     let p : length s.before ≡ at = s.place in
     omega arith

@@ -1,4 +1,5 @@
-use Rattle.std.specs.Prelude.{ℕ, ◌+◌, ◌-◌, ◌*◌, ◌%◌, Bool, true, ◌&&◌, not, ◌==◌, nat_le, Option, Some, None, List, [], ◌∷◌, ◌++◌, length, map, replicate}
+use Rattle.std.specs.Prelude.{ℕ, ◌+◌, ◌-◌, ◌*◌, ◌%◌, Bool, true, ◌&&◌, not, ◌==◌, nat_le, Option, Some, None, List}
+use Rattle.std.specs.Prelude.{[], ◌∷◌, ◌++◌, length, map, replicate}
 use Rattle.std.specs.List.{flat_map, list_all}
 use Rattle.std.specs.Int.{cast_unsigned, w16}
 use Rattle.byteorder.specs.Endian.{big_bytes}
@@ -26,18 +27,21 @@ name_offset None at = 65535
 name_offset (Some name) at = at
 
 -- a reference whose datum and name stand at these offsets
-abbrev pub entry : ℕ → ℕ → Ref → List ℕ
-entry datum_start name_start r = big_bytes 2 (cast_unsigned w16 r.id) ++ big_bytes 2 (name_offset r.name name_start) ++ big_bytes 1 r.attrs ++ big_bytes 3 datum_start ++ big_bytes 4 0
+abbrev pub reference : ℕ → ℕ → Ref → List ℕ
+reference datum_start name_start r = big_bytes 2 (cast_unsigned w16 r.id) ++ big_bytes 2 (name_offset r.name name_start)
+    ++ big_bytes 1 r.attrs ++ big_bytes 3 datum_start ++ big_bytes 4 0
 
 -- references whose data and names stand one after the other from these offsets on
-abbrev pub entries : ℕ → ℕ → List Ref → List ℕ
-entries datum_start name_start [] = []
-entries datum_start name_start (r ∷ refs) = entry datum_start name_start r ++ entries (datum_start + length (datum r)) (name_start + length (name r)) refs
+abbrev pub references : ℕ → ℕ → List Ref → List ℕ
+references datum_start name_start [] = []
+references datum_start name_start (r ∷ refs) = reference datum_start name_start r
+    ++ references (datum_start + length (datum r)) (name_start + length (name r)) refs
 
 -- types whose references stand one after the other from this offset on
 abbrev pub types : ℕ → List Group → List ℕ
 types at [] = []
-types at (g ∷ groups) = big_bytes 4 g.kind ++ big_bytes 2 (length g.refs - 1) ++ big_bytes 2 at ++ types (at + 12 * length g.refs) groups
+types at (g ∷ groups) = big_bytes 4 g.kind ++ big_bytes 2 (length g.refs - 1) ++ big_bytes 2 at
+    ++ types (at + 12 * length g.refs) groups
 
 -- where references and names stand, from the type list and from the map
 abbrev pub refs_offset : List Group → ℕ
@@ -54,15 +58,18 @@ names_of groups = flat_map name (refs_of groups)
 
 -- type list, references and names
 abbrev pub lists : List Group → List ℕ
-lists groups = big_bytes 2 ((length groups + 65535) % 65536) ++ types (refs_offset groups) groups ++ entries 0 0 (refs_of groups) ++ names_of groups
+lists groups = big_bytes 2 ((length groups + 65535) % 65536) ++ types (refs_offset groups) groups
+    ++ references 0 0 (refs_of groups) ++ names_of groups
 
 -- offsets and lengths of data and map
 abbrev pub header : List Group → List ℕ
-header groups = big_bytes 4 256 ++ big_bytes 4 (256 + length (data_of groups)) ++ big_bytes 4 (length (data_of groups)) ++ big_bytes 4 (28 + length (lists groups))
+header groups = big_bytes 4 256 ++ big_bytes 4 (256 + length (data_of groups))
+    ++ big_bytes 4 (length (data_of groups)) ++ big_bytes 4 (28 + length (lists groups))
 
 -- the map: the header again, next map, file number, attributes, the offsets of type list and name list, the lists
 abbrev pub map_of : ℕ → List Group → List ℕ
-map_of attrs groups = header groups ++ replicate 6 0 ++ big_bytes 2 attrs ++ big_bytes 2 28 ++ big_bytes 2 (names_offset groups) ++ lists groups
+map_of attrs groups = header groups ++ replicate 6 0 ++ big_bytes 2 attrs ++ big_bytes 2 28
+    ++ big_bytes 2 (names_offset groups) ++ lists groups
 
 -- the one fork that is written for a content
 abbrev pub canon : Content → List ℕ
@@ -116,5 +123,6 @@ are_distinct (n ∷ ns) = list_all (λ m. not (m == n)) ns && are_distinct ns
 abbrev pub fits : Content → Bool
 fits c =
     list_all has_refs c.groups && are_distinct (map (λ g. g.kind) c.groups) && nat_le (length c.groups) 65535
-    && all_within 65535 (list_starts c.groups) && nat_le (names_offset c.groups) 65535 && all_within 65534 (name_starts 0 (refs_of c.groups))
+    && all_within 65535 (list_starts c.groups) && nat_le (names_offset c.groups) 65535
+    && all_within 65534 (name_starts 0 (refs_of c.groups))
     && all_within 16777215 (data_starts (refs_of c.groups)) && nat_le (length (data_of c.groups)) 134217728

@@ -1,4 +1,5 @@
-use Rattle.std.specs.Prelude.{◌≡◌, ◌<◌, ◌≤◌, ◌^◌, IfSome, FitsSigned, ℕ, ℤ, Bool, not, ◌==◌, Option, List, [], ◌∷◌, length, map, filter}
+use Rattle.std.specs.Prelude.{◌≡◌, ◌<◌, ◌≤◌, ◌^◌, IfSome, FitsSigned, ℕ, ℤ, Bool, not, ◌==◌, Option, List, [], ◌∷◌}
+use Rattle.std.specs.Prelude.{length, map, filter}
 use Rattle.std.specs.List.{flat_map, AllByRecursion}
 use Rattle.std.specs.Int.{w16}
 
@@ -34,7 +35,8 @@ distinct (n ∷ ns) = n ∷ filter (λ m. not (m == n)) (distinct ns)
 
 -- all resources of a type in one group, the types by first occurrence
 abbrev pub joined : List Group → List Group
-joined groups = map (λ kind. record { kind = kind; refs = flat_map (λ g. g.refs) (filter (is_of kind) groups) }) (distinct (map (λ g. g.kind) groups))
+joined groups = map (λ kind. record { kind = kind; refs = flat_map (λ g. g.refs) (filter (is_of kind) groups) })
+    (distinct (map (λ g. g.kind) groups))
 
 -- all resources in order
 abbrev pub refs_of : List Group → List Ref
@@ -46,9 +48,19 @@ pub record IsRef (r : Ref) : Type 0 where
   pub attrs : r.attrs < 256
   pub name : IfSome r.name (λ text. length text ≤ 255)
 
+abbrev pub AreRefs : List Ref → Type 0
+AreRefs refs = AllByRecursion IsRef refs
+
 pub record IsGroup (g : Group) : Type 0 where
   pub kind : g.kind < 2 ^ 32
-  pub refs : AllByRecursion IsRef g.refs
+  pub refs : AreRefs g.refs
+
+-- the types have four bytes; the resources of groups are resources
+abbrev pub AreKinds : List Group → Type 0
+AreKinds groups = AllByRecursion (λ (g : Group). g.kind < 2 ^ 32) groups
+
+abbrev pub HaveRefs : List Group → Type 0
+HaveRefs groups = AllByRecursion (λ (g : Group). AreRefs g.refs) groups
 
 pub record IsContent (c : Content) : Type 0 where
   pub area : length c.area ≡ 240

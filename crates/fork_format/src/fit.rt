@@ -1,6 +1,7 @@
 //! Whether a content can be written, and what the parts of its fork take.
 
-ghost use Rattle.std.specs.Prelude.{◌≡◌, ◌+◌, ◌≤◌, ◌==◌, ◌↔◌, ℕ, not, length, map, IsTrue, IsSome, IfSome, Some, None, if◌then◌else◌};
+ghost use Rattle.std.specs.Prelude.{◌≡◌, ◌+◌, ◌≤◌, ◌==◌, ◌↔◌, ℕ, not, length, map, IsTrue, IsSome, IfSome, Some};
+ghost use Rattle.std.specs.Prelude.{None, if◌then◌else◌};
 ghost use Rattle.std.specs.List.{list_all};
 ghost use Rattle.byteorder.specs.Endian.{big_number};
 ghost use Rattle.fork_format.specs.Content.{Group as GroupValue, refs_of};
@@ -48,7 +49,7 @@ pub fn kind_of(ty: OsType) -> u32
 }
 
 /// Whether a resource's datum and name may begin where they do, and its datum ends in time.
-fn may_begin(r: &Ref, starts: Starts) -> bool
+fn may_begin(r: &Ref<'_>, starts: Starts) -> bool
     ensures { result ≡ is_low starts (view_ref r.now) }
 {
     starts.datum <= MAX_DATUM_OFFSET
@@ -57,7 +58,7 @@ fn may_begin(r: &Ref, starts: Starts) -> bool
 }
 
 /// Where the datum and the name of the next resource begin.
-pub fn starts_after(r: &Ref, starts: Starts) -> Starts
+pub fn starts_after(r: &Ref<'_>, starts: Starts) -> Starts
     requires { IsTrue (is_low starts (view_ref r.now)) }
     ensures next { result ≡ next starts (view_ref r.now) }
     ensures datum { result.datum ≤ 134217728 }
@@ -65,7 +66,7 @@ pub fn starts_after(r: &Ref, starts: Starts) -> Starts
 {
     let name_len = match &r.name {
         None => 0,
-        Some(name) => 1 + name.0.len(),
+        Some(name) => 1 + name.bytes.len(),
     };
     Starts {
         datum: starts.datum + 4 + r.datum.len(),
@@ -74,7 +75,7 @@ pub fn starts_after(r: &Ref, starts: Starts) -> Starts
 }
 
 /// Where data and names begin behind resources, if those of the resources may begin where they do.
-fn starts_behind(refs: &[Ref], starts: Starts) -> Option<Starts>
+fn starts_behind(refs: &[Ref<'_>], starts: Starts) -> Option<Starts>
     requires datum { starts.datum ≤ 134217728 }
     requires name { starts.name ≤ 65790 }
     ensures behind { result ≡ behind starts (map view_ref refs.now) }
@@ -92,7 +93,7 @@ fn starts_behind(refs: &[Ref], starts: Starts) -> Option<Starts>
 }
 
 /// What all data and names take, if each may begin where it does.
-fn ends_of(groups: &[Group]) -> Option<Starts>
+fn ends_of(groups: &[Group<'_>]) -> Option<Starts>
     ensures behind { result ≡ behind no_starts (refs_of (map view_group groups.now)) }
     ensures datum { IfSome result (λ s. s.datum ≤ 134217728) }
     ensures name { IfSome result (λ s. s.name ≤ 65790) }
@@ -108,7 +109,7 @@ fn ends_of(groups: &[Group]) -> Option<Starts>
 }
 
 /// Where the references end, from the type list, if no group is empty and the name list may begin there.
-fn refs_end_of(groups: &[Group]) -> Option<usize>
+fn refs_end_of(groups: &[Group<'_>]) -> Option<usize>
     ensures end { result ≡ refs_end (refs_offset (map view_group groups.now)) (map view_group groups.now) }
     ensures low { IfSome result (λ at. at ≤ 65507) }
 {
@@ -127,7 +128,7 @@ fn refs_end_of(groups: &[Group]) -> Option<usize>
 }
 
 /// Whether no group is of the type.
-fn is_type_new(kind: u32, groups: &[Group]) -> bool
+fn is_type_new(kind: u32, groups: &[Group<'_>]) -> bool
     ensures { result ≡ list_all (λ m. not (m == kind)) (map (λ (g : GroupValue). g.kind) (map view_group groups.now)) }
 {
     for group in groups {
@@ -139,7 +140,7 @@ fn is_type_new(kind: u32, groups: &[Group]) -> bool
 }
 
 /// Whether no two groups are of one type.
-fn are_types_different(groups: &[Group]) -> bool
+fn are_types_different(groups: &[Group<'_>]) -> bool
     ensures { result ≡ are_distinct (map (λ (g : GroupValue). g.kind) (map view_group groups.now)) }
 {
     for (i, group) in groups.iter().enumerate() {
@@ -152,7 +153,7 @@ fn are_types_different(groups: &[Group]) -> bool
 
 /// What the parts of the canonical fork take, if the content fits. The types are compared last, when
 /// there are few.
-pub fn extents_of(content: &Content) -> Option<Extents>
+pub fn extents_of(content: &Content<'_>) -> Option<Extents>
     ensures found { IfSome result (λ e. AreExtents e (view content.now).groups) }
     ensures fits { IsSome result ↔ IsTrue (canonical.fits (view content.now)) }
 {
@@ -179,7 +180,7 @@ pub fn extents_of(content: &Content) -> Option<Extents>
 /// 134,217,728 bytes with their lengths.
 ///
 /// *More Macintosh Toolbox*, chapter 1, "Resource File Format".
-pub fn fits(content: &Content) -> bool
+pub fn fits(content: &Content<'_>) -> bool
     ensures { result ≡ canonical.fits (view content.now) }
 {
     extents_of(content).is_some()

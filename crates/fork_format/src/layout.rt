@@ -1,8 +1,11 @@
 //! Where the parts of a fork lie, and whether they lie in it.
 
-ghost use Rattle.std.specs.Prelude.{◌≡◌, ◌+◌, ◌*◌, ◌≤◌, ◌<◌, ◌^◌, length, ℕ, IsTrue, IfSome, IsNone, IsSome, ◌↔◌, Some, None, if◌then◌else◌, sum_by};
+ghost use Rattle.std.specs.Prelude.{◌≡◌, ◌+◌, ◌*◌, ◌≤◌, ◌<◌, ◌^◌, length, ℕ, IsTrue, IfSome, IsNone, IsSome, ◌↔◌};
+ghost use Rattle.std.specs.Prelude.{Some, None, if◌then◌else◌, sum_by};
 ghost use Rattle.std.specs.List.{list_all};
-ghost use Rattle.fork_format.specs.Fork.{number, parts_fit, types_fit, ref_size, name_place, name_fits, datum_place, datum_fits, ref_fits, refs_fit, offsets, type_count, type_places, ref_count, ref_places, type_size, is_fork};
+ghost use Rattle.fork_format.specs.Fork.{number, parts_fit, types_fit, ref_size, name_place, name_fits, datum_place};
+ghost use Rattle.fork_format.specs.Fork.{datum_fits, ref_fits, refs_fit, offsets, type_count, type_places, ref_count};
+ghost use Rattle.fork_format.specs.Fork.{ref_places, type_size, is_fork};
 ghost use Rattle.fork_format.specs.Layout.{IsLayout, sizes_if};
 
 use byteorder::{BigEndian, ByteOrder};
@@ -160,7 +163,8 @@ fn refs_size_of(l: Layout, bytes: &[u8], first: usize, count: usize) -> Option<u
     requires layout { IsLayout l bytes.now }
     requires small { first < 2 ^ 35 }
     requires few { count ≤ 65536 }
-    ensures size { result ≡ sizes_if (list_all (ref_fits bytes.now) (offsets first 12 count)) (sum_by (ref_size bytes.now) (offsets first 12 count)) }
+    ensures size { result ≡ sizes_if (list_all (ref_fits bytes.now) (offsets first 12 count))
+        (sum_by (ref_size bytes.now) (offsets first 12 count)) }
     ensures small { IfSome result (λ size. size ≤ count * (2 ^ 32 + 3)) }
 {
     let mut at = first;
@@ -195,7 +199,8 @@ fn types_size_of(l: Layout, bytes: &[u8], first: usize, count: usize) -> Option<
     requires layout { IsLayout l bytes.now }
     requires room { first + 8 * count ≤ length bytes.now }
     requires few { count ≤ 65535 }
-    ensures { result ≡ sizes_if (list_all (refs_fit bytes.now) (offsets first 8 count)) (sum_by (type_size bytes.now) (offsets first 8 count)) }
+    ensures { result ≡ sizes_if (list_all (refs_fit bytes.now) (offsets first 8 count))
+        (sum_by (type_size bytes.now) (offsets first 8 count)) }
 {
     let mut at = first;
     let mut data = 0;

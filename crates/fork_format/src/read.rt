@@ -1,39 +1,46 @@
 //! Reading a fork: the content that bytes spell.
 
-ghost use Rattle.std.specs.Prelude.{◌≡◌, ◌+◌, ◌*◌, ◌≤◌, ◌<◌, ◌^◌, ◌++◌, length, IsTrue, IfOk, OnOk, ◌↔◌, ◌≢◌, [], map, Some};
+ghost use Rattle.std.specs.Prelude.{◌≡◌, ◌+◌, ◌*◌, ◌≤◌, ◌<◌, ◌^◌, ◌++◌, length, IsTrue, IfOk, OnOk, ◌↔◌, ◌≢◌, []};
+ghost use Rattle.std.specs.Prelude.{map, Some};
 ghost use Rattle.std.specs.List.{list_all};
 ghost use Rattle.std.specs.Int.{cast_signed, w16};
 ghost use Rattle.byteorder.specs.Endian.{big_number};
-ghost use Rattle.fork_format.specs.Content.{joined};
-ghost use Rattle.fork_format.specs.Fork.{number, name_place, name_at, name_fits, ref_at, ref_fits, ref_count, ref_places, refs_fit, group_at, datum_at, offsets, kept, map_kept, map_start, types_fit, type_places, is_fork, content_of, Spells, IsUnspelled};
+ghost use Rattle.std.specs.List.Sorted.{IsStrictlyIncreasing};
+ghost use Rattle.fork_format.specs.Canonical.{are_distinct};
+ghost use Rattle.fork_format.specs.Content.{Content as ContentValue, joined};
+ghost use Rattle.fork_format.specs.Fork.{number, kind_in, name_place, name_at, name_fits, ref_at, ref_fits};
+ghost use Rattle.fork_format.specs.Fork.{ref_count, ref_places, refs_fit, group_at, datum_at, offsets, kept};
+ghost use Rattle.fork_format.specs.Fork.{map_kept, map_start, types_fit, type_places, is_fork, content_of, Spells};
+ghost use Rattle.fork_format.specs.Fork.{IsUnspelled};
 ghost use Rattle.fork_format.specs.Fork as fork;
 ghost use Rattle.fork_format.specs.Layout.{IsLayout};
 ghost use Rattle.fork_format.specs.Place.{ArePlaces, put, opened, place};
 ghost use Rattle.fork_format.specs.View.{view_name, view_ref, view_group, view};
 
-use crate::content::{Content, Group, Ref};
+use crate::content::{Content, Group, Ref, RefName};
 use crate::fault::ForkFault;
 use crate::layout::{
     Layout, byte, datum_place_of, half, layout_of_fork, name_place_of, type_count_of, word,
 };
-use arrayvec::ArrayVec;
 use byteorder::{BigEndian, ByteOrder};
-use mac_words::{Attrs, Name, OsType};
+use mac_words::{Attrs, OsType};
 use std::alloc::{AllocError, Global};
 use std::collections::BTreeMap;
 
-fn name_of(l: Layout, bytes: &[u8], place: Option<usize>) -> Option<Name>
+/// The name at a place, if there is one.
+fn name_of<'b>(l: Layout, bytes: &'b [u8], place: Option<usize>) -> Option<RefName<'b>>
     requires layout { IsLayout l bytes.now }
     requires fits { IsTrue (name_fits place bytes.now) }
     ensures { view_name result ≡ name_at place bytes.now }
 {
     let at = place?;
     let len = byte(bytes, at);
-    let mut name = ArrayVec::new();
-    let _fits = name.try_extend_from_slice(&bytes[at + 1..at + 1 + len]);
-    Some(Name(name))
+    Some(RefName {
+        bytes: &bytes[at + 1..at + 1 + len],
+    })
 }
 
+/// The ID in the reference at an offset.
 fn id_of(bytes: &[u8], at: usize) -> i16
     requires { at + 2 ≤ length bytes.now }
     ensures { result ≡ cast_signed w16 (number 2 at bytes.now) }
@@ -41,6 +48,7 @@ fn id_of(bytes: &[u8], at: usize) -> i16
     BigEndian::read_i16(&bytes[at..])
 }
 
+/// The attributes at an offset, without `resChanged`.
 fn attrs_of(bytes: &[u8], at: usize) -> Attrs
     requires { at + 1 ≤ length bytes.now }
     ensures { result.0 ≡ kept (number 1 at bytes.now) }
@@ -48,57 +56,59 @@ fn attrs_of(bytes: &[u8], at: usize) -> Attrs
     Attrs(bytes[at]).unchanged()
 }
 
-fn datum_of(alloc: Global, bytes: &[u8], at: usize) -> Result<Vec<u8>, AllocError>
+/// The datum at an offset, without its length.
+fn datum_of<'b>(bytes: &'b [u8], at: usize) -> &'b [u8]
     requires room { at + 4 ≤ length bytes.now }
     requires inside { at + 4 + number 4 at bytes.now ≤ length bytes.now }
-    ensures { IfOk result (λ v. v.items ≡ datum_at at bytes.now) }
+    ensures { result.now ≡ datum_at at bytes.now }
 {
     let size = word(bytes, at);
-    Vec::from_slice(alloc, &bytes[at + 4..at + 4 + size])
+    &bytes[at + 4..at + 4 + size]
 }
 
 /// The resource of the reference at an offset.
-fn ref_of(alloc: Global, l: Layout, bytes: &[u8], at: usize) -> Result<Ref, AllocError>
+fn ref_of<'b>(l: Layout, bytes: &'b [u8], at: usize) -> Ref<'b>
     requires layout { IsLayout l bytes.now }
     requires fits { IsTrue (ref_fits bytes.now at) }
-    ensures { IfOk result (λ r. view_ref r ≡ ref_at bytes.now at) }
+    ensures { view_ref result ≡ ref_at bytes.now at }
 {
-    let datum = datum_of(alloc, bytes, datum_place_of(l, bytes, at))?;
+    let datum = datum_of(bytes, datum_place_of(l, bytes, at));
     let name = name_of(l, bytes, name_place_of(l, bytes, at));
     let id = id_of(bytes, at);
-    Ok(Ref {
+    Ref {
         id,
         name,
         attrs: attrs_of(bytes, at + 4),
         datum,
-    })
+    }
 }
 
 /// Puts the resources of references that follow one another behind those that are there.
-fn read_refs(
-    alloc: Global,
+fn read_refs<'b>(
     l: Layout,
-    bytes: &[u8],
+    bytes: &'b [u8],
     first: usize,
     count: usize,
-    refs: &mut Vec<Ref>,
+    refs: &mut Vec<Ref<'b>>,
 ) -> Result<(), AllocError>
     requires layout { IsLayout l bytes.now }
     requires small { first < 2 ^ 35 }
     requires few { count ≤ 65536 }
     requires fits { IsTrue (list_all (ref_fits bytes.now) (offsets first 12 count)) }
-    ensures { OnOk result (map view_ref refs.new.items ≡ map view_ref refs.old.items ++ map (ref_at bytes.now) (offsets first 12 count)) }
+    ensures { OnOk result (map view_ref refs.new.items ≡ map view_ref refs.old.items
+        ++ map (ref_at bytes.now) (offsets first 12 count)) }
 {
     refs.reserve(count)?;
     let mut at = first;
     for _ in 0..count {
-        let next = ref_of(alloc, l, bytes, at)?;
+        let next = ref_of(l, bytes, at);
         refs.push(next)?;
         at += 12;
     }
     Ok(())
 }
 
+/// The type at an offset, as a number.
 fn kind_at(bytes: &[u8], at: usize) -> u32
     requires { at + 4 ≤ length bytes.now }
     ensures { result ≡ number 4 at bytes.now }
@@ -106,6 +116,7 @@ fn kind_at(bytes: &[u8], at: usize) -> u32
     BigEndian::read_u32(&bytes[at..])
 }
 
+/// The type whose four bytes a number is.
 fn type_of(kind: u32) -> OsType
     ensures { big_number 4 result.0 ≡ kind }
 {
@@ -113,28 +124,25 @@ fn type_of(kind: u32) -> OsType
 }
 
 /// Puts the resources of a type's entry into a group.
-fn fill(
-    alloc: Global,
-    l: Layout,
-    bytes: &[u8],
-    at: usize,
-    group: &mut Group,
-) -> Result<(), AllocError>
+fn fill<'b>(l: Layout, bytes: &'b [u8], at: usize, group: &mut Group<'b>) -> Result<(), AllocError>
     requires layout { IsLayout l bytes.now }
     requires room { at + 8 ≤ length bytes.now }
     requires fits { IsTrue (refs_fit bytes.now at) }
-    ensures { OnOk result (view_group group.new ≡ record (view_group group.old) { refs = (view_group group.old).refs ++ map (ref_at bytes.now) (ref_places at bytes.now) }) }
+    ensures { OnOk result (view_group group.new ≡ record (view_group group.old) {
+      refs =
+          (view_group group.old).refs ++ map (ref_at bytes.now) (ref_places at bytes.now);
+    }) }
 {
     let first = l.type_list + half(bytes, at + 6);
     let count = half(bytes, at + 4) + 1;
-    read_refs(alloc, l, bytes, first, count, &mut group.refs)
+    read_refs(l, bytes, first, count, &mut group.refs)
 }
 
 /// The place of a type's group. The group of a new type is put behind the others, with no resource yet.
-fn place_of(
+fn place_of<'b>(
     alloc: Global,
     kind: u32,
-    groups: &mut Vec<Group>,
+    groups: &mut Vec<Group<'b>>,
     places: &mut BTreeMap<u32, usize>,
 ) -> Result<usize, AllocError>
     requires { ArePlaces places.old (map view_group groups.old.items) }
@@ -155,12 +163,12 @@ fn place_of(
 }
 
 /// Puts the resources of a type's entry behind those of its type.
-fn read_type(
+fn read_type<'b>(
     alloc: Global,
     l: Layout,
-    bytes: &[u8],
+    bytes: &'b [u8],
     at: usize,
-    groups: &mut Vec<Group>,
+    groups: &mut Vec<Group<'b>>,
     places: &mut BTreeMap<u32, usize>,
 ) -> Result<(), AllocError>
     requires layout { IsLayout l bytes.now }
@@ -168,21 +176,22 @@ fn read_type(
     requires fits { IsTrue (refs_fit bytes.now at) }
     requires places { ArePlaces places.old (map view_group groups.old.items) }
     ensures places { OnOk result (ArePlaces places.new (map view_group groups.new.items)) }
-    ensures groups { OnOk result (map view_group groups.new.items ≡ put (group_at bytes.now at) (map view_group groups.old.items)) }
+    ensures groups { OnOk result (map view_group groups.new.items
+        ≡ put (group_at bytes.now at) (map view_group groups.old.items)) }
 {
     let place = place_of(alloc, kind_at(bytes, at), groups, places)?;
-    fill(alloc, l, bytes, at, &mut groups[place])?;
+    fill(l, bytes, at, &mut groups[place])?;
     Ok(())
 }
 
-/// The groups of types that follow one another.
-fn read_types(
+/// The groups of types that follow one another, of which some are the same.
+fn read_joined<'b>(
     alloc: Global,
     l: Layout,
-    bytes: &[u8],
+    bytes: &'b [u8],
     first: usize,
     count: usize,
-) -> Result<Vec<Group>, AllocError>
+) -> Result<Vec<Group<'b>>, AllocError>
     requires layout { IsLayout l bytes.now }
     requires room { first + 8 * count ≤ length bytes.now }
     requires few { count ≤ 65535 }
@@ -197,6 +206,108 @@ fn read_types(
         at += 8;
     }
     Ok(groups)
+}
+
+/// The group of a type's entry.
+fn group_of<'b>(
+    alloc: Global,
+    l: Layout,
+    bytes: &'b [u8],
+    at: usize,
+) -> Result<Group<'b>, AllocError>
+    requires layout { IsLayout l bytes.now }
+    requires room { at + 8 ≤ length bytes.now }
+    requires fits { IsTrue (refs_fit bytes.now at) }
+    ensures { IfOk result (λ g. view_group g ≡ group_at bytes.now at) }
+{
+    let first = l.type_list + half(bytes, at + 6);
+    let count = half(bytes, at + 4) + 1;
+    let mut refs = Vec::with_capacity(alloc, count)?;
+    read_refs(l, bytes, first, count, &mut refs)?;
+    Ok(Group {
+        ty: type_of(kind_at(bytes, at)),
+        refs,
+    })
+}
+
+/// The groups of types that follow one another, each for itself.
+fn read_apart<'b>(
+    alloc: Global,
+    l: Layout,
+    bytes: &'b [u8],
+    first: usize,
+    count: usize,
+) -> Result<Vec<Group<'b>>, AllocError>
+    requires layout { IsLayout l bytes.now }
+    requires room { first + 8 * count ≤ length bytes.now }
+    requires few { count ≤ 65535 }
+    requires fits { IsTrue (list_all (refs_fit bytes.now) (offsets first 8 count)) }
+    ensures { IfOk result (λ v. map view_group v.items ≡ map (group_at bytes.now) (offsets first 8 count)) }
+{
+    let mut groups = Vec::with_capacity(alloc, count)?;
+    let mut at = first;
+    for _ in 0..count {
+        let group = group_of(alloc, l, bytes, at)?;
+        groups.push(group)?;
+        at += 8;
+    }
+    Ok(groups)
+}
+
+/// The types of entries that follow one another, as numbers.
+fn kinds_of(alloc: Global, bytes: &[u8], first: usize, count: usize) -> Result<Vec<u32>, AllocError>
+    requires { first + 8 * count ≤ length bytes.now }
+    ensures { IfOk result (λ v. v.items ≡ map (kind_in bytes.now) (offsets first 8 count)) }
+{
+    let mut kinds = Vec::with_capacity(alloc, count)?;
+    let mut at = first;
+    for _ in 0..count {
+        kinds.push(kind_at(bytes, at))?;
+        at += 8;
+    }
+    Ok(kinds)
+}
+
+/// Whether each number is below the next.
+fn do_rise(numbers: &[u32]) -> bool
+    ensures { IsTrue result ↔ IsStrictlyIncreasing numbers.now }
+{
+    for i in 1..numbers.len() {
+        if numbers[i] <= numbers[i - 1] {
+            return false;
+        }
+    }
+    true
+}
+
+/// Whether no two numbers are the same. They are sorted.
+fn are_apart(numbers: &mut [u32]) -> bool
+    ensures { result ≡ are_distinct numbers.old }
+{
+    numbers.sort_unstable();
+    do_rise(numbers)
+}
+
+/// The groups of types that follow one another. Types are joined only where some are the same.
+fn read_types<'b>(
+    alloc: Global,
+    l: Layout,
+    bytes: &'b [u8],
+    first: usize,
+    count: usize,
+) -> Result<Vec<Group<'b>>, AllocError>
+    requires layout { IsLayout l bytes.now }
+    requires room { first + 8 * count ≤ length bytes.now }
+    requires few { count ≤ 65535 }
+    requires fits { IsTrue (list_all (refs_fit bytes.now) (offsets first 8 count)) }
+    ensures { IfOk result (λ v. map view_group v.items ≡ joined (map (group_at bytes.now) (offsets first 8 count))) }
+{
+    let mut kinds = kinds_of(alloc, bytes, first, count)?;
+    if are_apart(kinds.as_mut_slice()) {
+        read_apart(alloc, l, bytes, first, count)
+    } else {
+        read_joined(alloc, l, bytes, first, count)
+    }
 }
 
 /// The bytes behind the header.
@@ -221,7 +332,7 @@ fn map_attrs_of(l: Layout, bytes: &[u8]) -> u16
 }
 
 /// The content of a fork.
-fn read_content(alloc: Global, l: Layout, bytes: &[u8]) -> Result<Content, AllocError>
+fn read_content<'b>(alloc: Global, l: Layout, bytes: &'b [u8]) -> Result<Content<'b>, AllocError>
     requires layout { IsLayout l bytes.now }
     requires fork { IsTrue (is_fork bytes.now) }
     ensures { IfOk result (λ c. view c ≡ content_of bytes.now) }
@@ -242,8 +353,12 @@ fn read_content(alloc: Global, l: Layout, bytes: &[u8]) -> Result<Content, Alloc
 /// these limits are known to hold.
 ///
 /// *More Macintosh Toolbox*, chapter 1, "Resource File Format".
-pub fn read_fork(alloc: Global, bytes: &[u8]) -> Result<Content, ForkFault>
+pub fn read_fork<'b>(alloc: Global, bytes: &'b [u8]) -> Result<Content<'b>, ForkFault>
+    // The bytes spell the content, and no other.
     ensures content { IfOk result (λ c. Spells bytes.now (view c)) }
+    ensures only { IfOk result (λ c. (d : ContentValue) → Spells bytes.now d → d ≡ view c) }
+
+    // No bytes, or bytes that spell no content.
     ensures empty { (result ≡ Err ForkFault.Empty) ↔ (bytes.now ≡ []) }
     ensures bad_map { (result ≡ Err ForkFault.BadMap) ↔ ((bytes.now ≢ []) × IsUnspelled bytes.now) }
 {

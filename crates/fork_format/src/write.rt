@@ -4,17 +4,19 @@ ghost use Rattle.std.specs.Prelude.{◌≡◌, ◌<◌, ◌^◌, ◌++◌, map, 
 ghost use Rattle.std.specs.List.{list_all, flat_map};
 ghost use Rattle.std.specs.Int.{cast_unsigned, w16};
 ghost use Rattle.byteorder.specs.Endian.{big_bytes};
-ghost use Rattle.fork_format.specs.Content.{refs_of};
-ghost use Rattle.fork_format.specs.Canonical.{datum, name, entry, entries, types, header, lists, map_of, canon, data_of, names_of, name_offset};
+ghost use Rattle.fork_format.specs.Content.{refs_of, IsRef, AreRefs, AreKinds, HaveRefs, IsContent};
+ghost use Rattle.fork_format.specs.Fork.{Spells};
+ghost use Rattle.fork_format.specs.Canonical.{datum, name, reference, references, types, header, lists, map_of, canon};
+ghost use Rattle.fork_format.specs.Canonical.{clear, data_of, names_of, name_offset};
 ghost use Rattle.fork_format.specs.Canonical as canonical;
-ghost use Rattle.fork_format.specs.Extent.{is_low, is_name_low, behind, no_starts, refs_end, is_short, are_short, AreExtents};
+ghost use Rattle.fork_format.specs.Extent.{is_low, is_name_low, behind, no_starts, refs_end, is_short, are_short};
+ghost use Rattle.fork_format.specs.Extent.{AreExtents};
 ghost use Rattle.fork_format.specs.View.{view_name, view_ref, view_group, view};
 
-use crate::content::{Content, Group, Ref};
+use crate::content::{Content, Group, Ref, RefName};
 use crate::fault::WriteFault;
 use crate::fit::{Extents, Starts, extents_of, kind_of, starts_after};
 use byteorder::{BigEndian, ByteOrder};
-use mac_words::Name;
 use std::alloc::{AllocError, Global};
 
 /// What stands for the offset of a name where there is none.
@@ -65,7 +67,7 @@ fn put_id(out: &mut Vec<u8>, id: i16) -> Result<(), AllocError>
 }
 
 /// Offsets and lengths of data and map.
-fn put_header(out: &mut Vec<u8>, extents: Extents, content: &Content) -> Result<(), AllocError>
+fn put_header(out: &mut Vec<u8>, extents: Extents, content: &Content<'_>) -> Result<(), AllocError>
     requires { AreExtents extents (view content.now).groups }
     ensures { OnOk result (out.new.items ≡ out.old.items ++ header (view content.now).groups) }
 {
@@ -78,19 +80,19 @@ fn put_header(out: &mut Vec<u8>, extents: Extents, content: &Content) -> Result<
 }
 
 /// The data of resources, each with its length.
-fn put_data(out: &mut Vec<u8>, refs: &[Ref]) -> Result<(), AllocError>
+fn put_data(out: &mut Vec<u8>, refs: &[Ref<'_>]) -> Result<(), AllocError>
     requires { IsTrue (list_all is_short (map view_ref refs.now)) }
     ensures { OnOk result (out.new.items ≡ out.old.items ++ flat_map datum (map view_ref refs.now)) }
 {
     for r in refs {
         put_word(out, r.datum.len() as u32)?;
-        out.extend_from_slice(r.datum.as_slice())?;
+        out.extend_from_slice(r.datum)?;
     }
     Ok(())
 }
 
 /// The data of all types' resources.
-fn put_all_data(out: &mut Vec<u8>, groups: &[Group]) -> Result<(), AllocError>
+fn put_all_data(out: &mut Vec<u8>, groups: &[Group<'_>]) -> Result<(), AllocError>
     requires { IsTrue (list_all are_short (map view_group groups.now)) }
     ensures { OnOk result (out.new.items ≡ out.old.items ++ data_of (map view_group groups.now)) }
 {
@@ -101,9 +103,10 @@ fn put_all_data(out: &mut Vec<u8>, groups: &[Group]) -> Result<(), AllocError>
 }
 
 /// The entries of the types, whose references stand one after the other.
-fn put_types(out: &mut Vec<u8>, groups: &[Group], first: usize) -> Result<(), AllocError>
+fn put_types(out: &mut Vec<u8>, groups: &[Group<'_>], first: usize) -> Result<(), AllocError>
     requires { IsSome (refs_end first (map view_group groups.now)) }
-    ensures { OnOk result (out.new.items ≡ out.old.items ++ types first (map view_group groups.now)) }
+    ensures types { OnOk result (out.new.items ≡ out.old.items ++ types first (map view_group groups.now)) }
+    ensures kinds { OnOk result (AreKinds (map view_group groups.now)) }
 {
     let mut at = first;
     for group in groups {
@@ -116,7 +119,7 @@ fn put_types(out: &mut Vec<u8>, groups: &[Group], first: usize) -> Result<(), Al
 }
 
 /// The offset of a name, or what stands for none.
-fn name_offset_of(name: &Option<Name>, at: usize) -> u16
+fn name_offset_of(name: &Option<RefName<'_>>, at: usize) -> u16
     requires { IsTrue (is_name_low at (view_name name.now)) }
     ensures { result ≡ name_offset (view_name name.now) at }
 {
@@ -127,58 +130,65 @@ fn name_offset_of(name: &Option<Name>, at: usize) -> u16
 }
 
 /// The reference of a resource whose datum and name begin where they do.
-fn put_entry(out: &mut Vec<u8>, r: &Ref, starts: Starts) -> Result<(), AllocError>
+fn put_reference(out: &mut Vec<u8>, r: &Ref<'_>, starts: Starts) -> Result<(), AllocError>
     requires { IsTrue (is_low starts (view_ref r.now)) }
-    ensures { OnOk result (out.new.items ≡ out.old.items ++ entry starts.datum starts.name (view_ref r.now)) }
+    ensures reference { OnOk result (out.new.items ≡ out.old.items
+        ++ reference starts.datum starts.name (view_ref r.now)) }
+    ensures sized { OnOk result (IsRef (view_ref r.now)) }
 {
     let id = r.id;
+    let attrs = r.attrs.0;
     put_id(out, id)?;
     put_half(out, name_offset_of(&r.name, starts.name))?;
-    put_byte(out, r.attrs.0)?;
+    put_byte(out, attrs)?;
     put_three(out, starts.datum as u32)?;
     put_word(out, 0)?;
     Ok(())
 }
 
 /// The references of resources, and where the datum and the name of the next one begin.
-fn put_entries(out: &mut Vec<u8>, refs: &[Ref], starts: Starts) -> Result<Starts, AllocError>
+fn put_references(out: &mut Vec<u8>, refs: &[Ref<'_>], starts: Starts) -> Result<Starts, AllocError>
     requires { IsSome (behind starts (map view_ref refs.now)) }
-    ensures entries { OnOk result (out.new.items ≡ out.old.items ++ entries starts.datum starts.name (map view_ref refs.now)) }
+    ensures references { OnOk result (out.new.items ≡ out.old.items
+        ++ references starts.datum starts.name (map view_ref refs.now)) }
     ensures behind { IfOk result (λ s. Some s ≡ behind starts (map view_ref refs.now)) }
+    ensures sized { OnOk result (AreRefs (map view_ref refs.now)) }
 {
     let mut next = starts;
     for r in refs {
-        put_entry(out, r, next)?;
+        put_reference(out, r, next)?;
         next = starts_after(r, next);
     }
     Ok(next)
 }
 
 /// The references of all types' resources.
-fn put_all_entries(out: &mut Vec<u8>, groups: &[Group]) -> Result<(), AllocError>
+fn put_all_references(out: &mut Vec<u8>, groups: &[Group<'_>]) -> Result<(), AllocError>
     requires { IsSome (behind no_starts (refs_of (map view_group groups.now))) }
-    ensures { OnOk result (out.new.items ≡ out.old.items ++ entries 0 0 (refs_of (map view_group groups.now))) }
+    ensures references { OnOk result (out.new.items ≡ out.old.items
+        ++ references 0 0 (refs_of (map view_group groups.now))) }
+    ensures sized { OnOk result (HaveRefs (map view_group groups.now)) }
 {
     let mut starts = Starts { datum: 0, name: 0 };
     for group in groups {
-        starts = put_entries(out, group.refs.as_slice(), starts)?;
+        starts = put_references(out, group.refs.as_slice(), starts)?;
     }
     Ok(())
 }
 
 /// The name of a resource with its length, if it has one.
-fn put_name(out: &mut Vec<u8>, r: &Ref) -> Result<(), AllocError>
+fn put_name(out: &mut Vec<u8>, r: &Ref<'_>) -> Result<(), AllocError>
     ensures { OnOk result (out.new.items ≡ out.old.items ++ name (view_ref r.now)) }
 {
     if let Some(name) = &r.name {
-        out.push(name.0.len() as u8)?;
-        out.extend_from_slice(name.0.as_slice())?;
+        out.push(name.bytes.len() as u8)?;
+        out.extend_from_slice(name.bytes)?;
     }
     Ok(())
 }
 
 /// The names of resources.
-fn put_names(out: &mut Vec<u8>, refs: &[Ref]) -> Result<(), AllocError>
+fn put_names(out: &mut Vec<u8>, refs: &[Ref<'_>]) -> Result<(), AllocError>
     ensures { OnOk result (out.new.items ≡ out.old.items ++ flat_map name (map view_ref refs.now)) }
 {
     for r in refs {
@@ -188,7 +198,7 @@ fn put_names(out: &mut Vec<u8>, refs: &[Ref]) -> Result<(), AllocError>
 }
 
 /// The names of all types' resources.
-fn put_all_names(out: &mut Vec<u8>, groups: &[Group]) -> Result<(), AllocError>
+fn put_all_names(out: &mut Vec<u8>, groups: &[Group<'_>]) -> Result<(), AllocError>
     ensures { OnOk result (out.new.items ≡ out.old.items ++ names_of (map view_group groups.now)) }
 {
     for group in groups {
@@ -198,27 +208,33 @@ fn put_all_names(out: &mut Vec<u8>, groups: &[Group]) -> Result<(), AllocError>
 }
 
 /// Type list, references and names.
-fn put_lists(out: &mut Vec<u8>, content: &Content) -> Result<(), AllocError>
+fn put_lists(out: &mut Vec<u8>, content: &Content<'_>) -> Result<(), AllocError>
     requires { IsTrue (canonical.fits (view content.now)) }
-    ensures { OnOk result (out.new.items ≡ out.old.items ++ lists (view content.now).groups) }
+    ensures lists { OnOk result (out.new.items ≡ out.old.items ++ lists (view content.now).groups) }
+    ensures kinds { OnOk result (AreKinds (view content.now).groups) }
+    ensures sized { OnOk result (HaveRefs (view content.now).groups) }
 {
     let groups = content.groups.as_slice();
     put_half(out, ((groups.len() + 65_535) % 65_536) as u16)?;
     put_types(out, groups, 2 + 8 * groups.len())?;
-    put_all_entries(out, groups)?;
+    put_all_references(out, groups)?;
     put_all_names(out, groups)?;
     Ok(())
 }
 
 /// The map.
-fn put_map(out: &mut Vec<u8>, extents: Extents, content: &Content) -> Result<(), AllocError>
+fn put_map(out: &mut Vec<u8>, extents: Extents, content: &Content<'_>) -> Result<(), AllocError>
     requires extents { AreExtents extents (view content.now).groups }
     requires fits { IsTrue (canonical.fits (view content.now)) }
-    ensures { OnOk result (out.new.items ≡ out.old.items ++ map_of content.now.attrs (view content.now).groups) }
+    ensures map { OnOk result (out.new.items ≡ out.old.items ++ map_of content.now.attrs (view content.now).groups) }
+    ensures attrs { OnOk result (content.now.attrs < 65536) }
+    ensures kinds { OnOk result (AreKinds (view content.now).groups) }
+    ensures sized { OnOk result (HaveRefs (view content.now).groups) }
 {
+    let attrs = content.attrs;
     put_header(out, extents, content)?;
     out.extend_from_slice(&[0; 6])?;
-    put_half(out, content.attrs)?;
+    put_half(out, attrs)?;
     put_half(out, 28)?;
     put_half(out, (28 + extents.refs_end) as u16)?;
     put_lists(out, content)?;
@@ -226,10 +242,11 @@ fn put_map(out: &mut Vec<u8>, extents: Extents, content: &Content) -> Result<(),
 }
 
 /// The canonical fork.
-fn put_fork(out: &mut Vec<u8>, extents: Extents, content: &Content) -> Result<(), AllocError>
+fn put_fork(out: &mut Vec<u8>, extents: Extents, content: &Content<'_>) -> Result<(), AllocError>
     requires extents { AreExtents extents (view content.now).groups }
     requires fits { IsTrue (canonical.fits (view content.now)) }
-    ensures { OnOk result (out.new.items ≡ out.old.items ++ canon (view content.now)) }
+    ensures fork { OnOk result (out.new.items ≡ out.old.items ++ canon (view content.now)) }
+    ensures content { OnOk result (IsContent (view content.now)) }
 {
     put_header(out, extents, content)?;
     out.extend_from_slice(&content.area)?;
@@ -242,8 +259,12 @@ fn put_fork(out: &mut Vec<u8>, extents: Extents, content: &Content) -> Result<()
 /// follow one another without gaps, in the order of the resources.
 ///
 /// *More Macintosh Toolbox*, chapter 1, "Resource File Format".
-pub fn write_fork(alloc: Global, content: &Content) -> Result<Vec<u8>, WriteFault>
+pub fn write_fork(alloc: Global, content: &Content<'_>) -> Result<Vec<u8>, WriteFault>
+    // The fork is the canonical one, and is read again, without the bits that a reader clears.
     ensures fork { IfOk result (λ fork. fork.items ≡ canon (view content.now)) }
+    ensures read_again { IfOk result (λ fork. Spells fork.items (clear (view content.now))) }
+
+    // Just what doesn't fit is refused.
     ensures fits { OnOk result (IsTrue (canonical.fits (view content.now))) }
     ensures too_large { (result ≡ Err WriteFault.TooLarge) ↔ (canonical.fits (view content.now) ≡ false) }
 {

@@ -1,7 +1,9 @@
-use Rattle.std.specs.Prelude.{ℕ, ◌+◌, Bool, ◌||◌, Option, Some, None, Ok, List, ◌∷◌, ◌++◌, length, is_some, if◌then◌else◌}
+use Rattle.std.specs.Prelude.{ℕ, ◌+◌, Bool, ◌||◌, Option, Some, None, Ok, List, ◌∷◌, ◌++◌, length, is_some}
+use Rattle.std.specs.Prelude.{if◌then◌else◌}
 use Rattle.mac_words.specs.Size.{phys}
 use Rattle.mac_words.specs.declared.code.TheConstants.OsErr.{MEM_FULL}
-use Rattle.block_store.specs.Block.{Block, is_relocatable, content_of, with_content, written}
+use Rattle.block_store.specs.Block.{Block, is_relocatable, content_of, with_content}
+use Rattle.windows.specs.Writes.{written}
 use Rattle.block_store.specs.Room.{Spot, spot}
 use Rattle.block_store.specs.Grow.{grow}
 use Rattle.heap_calls.specs.State.{State}
@@ -13,7 +15,8 @@ use Rattle.heap_calls.specs.Slots.{slotted, if_ready, new_block}
 -- HandToHand: a new handle with the bytes of another, which isn't emptied for it
 abbrev pub hand_to_hand : Option ℕ → State → Answer ℕ
 hand_to_hand handle s =
-    on_block handle s (λ held. if_ready (slotted (is_relocatable held.number) s) s (new_block (is_relocatable held.number) (content_of held.at.here)))
+    on_block handle s (λ held. if_ready (slotted (is_relocatable held.number) s) s
+    (new_block (is_relocatable held.number) (content_of held.at.here)))
 
 -- the zone with bytes written into the block of a handle from i on
 abbrev pub written_in : ℕ → ℕ → List ℕ → List Block → Option Spot → List Block
@@ -23,19 +26,28 @@ written_in h i x zone (Some at) = at.below ++ with_content (written i x (content
 -- the bytes appended to the block of a handle, for which it grows
 abbrev pub appended : (Block → Bool) → ℕ → ℕ → List ℕ → Option (List Block) → State → Answer (Unit {0})
 appended spared h len x None s = refused MEM_FULL s
-appended spared h len x (Some zone) s = (Ok tt, record s { zone = written_in h len x zone (spot (is_relocatable h) zone) })
+appended spared h len x (Some zone) s = (
+  Ok tt,
+  record s {
+    zone = written_in h len x zone
+        (spot (is_relocatable h) zone);
+  },
+)
 
 -- a block of len bytes gets more behind them
 abbrev pub append : (Block → Bool) → ℕ → ℕ → List ℕ → State → Answer (Unit {0})
 append spared h len x s =
-    if is_some (phys (len + length x)) then appended spared h len x (grow (is_relocatable h) spared (len + length x) s.zone) s else refused MEM_FULL s
+    if is_some (phys (len + length x)) then appended spared h len x
+    (grow (is_relocatable h) spared (len + length x) s.zone) s else refused MEM_FULL s
 
 -- HandAndHand: the bytes of one handle are appended to another, which may be the same; neither is emptied for it
 abbrev pub hand_and_hand : Option ℕ → Option ℕ → State → Answer (Unit {0})
 hand_and_hand from to s =
     on_block from s (λ a. on_block to s (λ b.
-    append (λ block. is_relocatable a.number block || is_relocatable b.number block) b.number (length (content_of b.at.here)) (content_of a.at.here) s))
+    append (λ block. is_relocatable a.number block || is_relocatable b.number block) b.number
+    (length (content_of b.at.here)) (content_of a.at.here) s))
 
 -- PtrAndHand: bytes are appended to a handle
 abbrev pub pointer_and_hand : Option ℕ → List ℕ → State → Answer (Unit {0})
-pointer_and_hand handle x s = on_block handle s (λ held. append (is_relocatable held.number) held.number (length (content_of held.at.here)) x s)
+pointer_and_hand handle x s = on_block handle s (λ held. append (is_relocatable held.number) held.number
+    (length (content_of held.at.here)) x s)

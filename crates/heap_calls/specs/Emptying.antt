@@ -4,7 +4,8 @@ use Rattle.block_store.specs.Run.{has}
 use Rattle.heap_calls.specs.State.{Memory}
 use Rattle.heap_calls.specs.Asked.{Asked, DisposeHandle, EmptyHandle, ReallocateHandle, answered}
 
--- No call empties a block that may not be emptied. Inside Macintosh: Memory, chapter 1, "Purging and Reallocating Memory Blocks".
+-- No call empties a block that may not be emptied. Inside Macintosh: Memory, chapter 1, "Purging and Reallocating
+-- Memory Blocks".
 
 -- the block of a handle is unlocked and purgeable
 abbrev pub may_be_emptied : ℕ → List Block → Bool
@@ -20,4 +21,5 @@ lets_go h asked = false
 -- a handle that has a block before a call and none after it had one that might be emptied, unless the call let it go
 abbrev pub OnlyPurgeableGo : Asked → Memory → Type 0
 OnlyPurgeableGo asked m =
-    (h : ℕ) → lets_go h asked ≡ false → has (is_relocatable h) m.heap.zone ≡ true → has (is_relocatable h) (answered asked m).1.heap.zone ≡ false → may_be_emptied h m.heap.zone ≡ true
+    (h : ℕ) → lets_go h asked ≡ false → has (is_relocatable h) m.heap.zone ≡ true
+    → has (is_relocatable h) (answered asked m).1.heap.zone ≡ false → may_be_emptied h m.heap.zone ≡ true

@@ -1,9 +1,11 @@
 use Rattle.std.specs.Prelude.{◌≡◌, ℕ, ◌==◌, ◌++◌, Some, Ok, List, [], ◌∷◌, replicate, if◌then◌else◌}
-use Rattle.block_store.specs.Block.{content_of, written, resized_content}
+use Rattle.block_store.specs.Block.{content_of, resized_content}
+use Rattle.windows.specs.Writes.{written}
 use Rattle.heap_calls.specs.State.{State}
 use Rattle.heap_calls.specs.Answer.{Held}
 use Rattle.heap_calls.specs.Pointers.{block_named}
-use Rattle.heap_calls.specs.Asked.{Asked, NewHandle, SetHandleSize, ReallocateHandle, HandToHand, HandAndHand, PtrAndHand, NewPtr, SetPtrSize, Put, PutPtr, Told, Done, Given}
+use Rattle.heap_calls.specs.Asked.{Asked, NewHandle, SetHandleSize, ReallocateHandle, HandToHand, HandAndHand}
+use Rattle.heap_calls.specs.Asked.{PtrAndHand, NewPtr, SetPtrSize, Put, PutPtr, Told, Done, Given}
 
 -- The bytes last put into each handle and pointer, told from the history of calls alone: no block is in it.
 

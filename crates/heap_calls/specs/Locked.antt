@@ -29,6 +29,8 @@ releases h asked = false
 abbrev pub OneBlockEach : List Block → Type 0
 OneBlockEach zone = (h : ℕ) → count (is_relocatable h) zone ≤ 1
 
--- each block that is locked before a call is locked after it, at the same distance from the bottom, unless the call releases it
+-- each block that is locked before a call is locked after it, at the same distance from the bottom, unless the call
+-- releases it
 abbrev pub StaysLocked : Asked → Memory → Type 0
-StaysLocked asked m = (h place : ℕ) → releases h asked ≡ false → locked_place h m.heap.zone ≡ Some place → locked_place h (answered asked m).1.heap.zone ≡ Some place
+StaysLocked asked m = (h place : ℕ) → releases h asked ≡ false → locked_place h m.heap.zone ≡ Some place
+    → locked_place h (answered asked m).1.heap.zone ≡ Some place

@@ -1,4 +1,5 @@
-use Rattle.std.specs.Prelude.{ℕ, ◌+◌, Option, Some, None, Result, Ok, Err, List, length, replicate, slice_get, slice_set, is_some, if◌then◌else◌}
+use Rattle.std.specs.Prelude.{ℕ, ◌+◌, Option, Some, None, Result, Ok, Err, List, length, replicate, slice_get}
+use Rattle.std.specs.Prelude.{slice_set, is_some, if◌then◌else◌}
 use Rattle.std.specs.Option.{option_map, ok_or}
 use Rattle.mac_words.specs.Size.{phys}
 use Rattle.mac_words.specs.declared.code.OsErr.{OsErr}
@@ -7,18 +8,20 @@ use Rattle.block_store.specs.Block.{Block, Free, Fixed, is_fixed, content_of, ti
 use Rattle.block_store.specs.Run.{change_run, has_free, low}
 use Rattle.block_store.specs.Room.{Spot, spot, put_at_base, room}
 use Rattle.block_store.specs.Grow.{freed, grow}
-use Rattle.heap_calls.specs.State.{Name, Handle, Pointer, Disposed, State}
+use Rattle.heap_calls.specs.State.{Meaning, Handle, Pointer, Disposed, State}
 use Rattle.heap_calls.specs.Answer.{Answer, Held, refused, for_found, given, nothing, rebuilt, written_at, look_up}
 use Rattle.heap_calls.specs.Slots.{more_masters}
+use Rattle.block_store.specs.declared.measures.TheConstants.{HEADER_SIZE}
 
 -- Nonrelocatable blocks, and room at the base of a run. Inside Macintosh: Memory, chapter 2, "Allocating and Releasing
 -- Nonrelocatable Blocks" and "Memory Reservation".
 
 -- the block of a pointer's number, by what the number stands for
-abbrev pub pointed : ℕ → Option Name → State → Result Held OsErr
+abbrev pub pointed : ℕ → Option Meaning → State → Result Held OsErr
 pointed p None s = Err NIL_HANDLE
 pointed p (Some (Handle role)) s = Err WRONG_ZONE
-pointed p (Some Pointer) s = ok_or (option_map (λ (at : Spot). let held : Held = record { number = p; at = at } in held) (spot (is_fixed p) s.zone)) NIL_HANDLE
+pointed p (Some Pointer) s = ok_or (option_map (λ (at : Spot). let held : Held = record { number = p; at = at } in
+    held) (spot (is_fixed p) s.zone)) NIL_HANDLE
 pointed p (Some Disposed) s = Err WRONG_ZONE
 
 -- the block of the pointer that a name is bound to
@@ -32,11 +35,15 @@ on_pointer pointer s answer = for_found (pointed_at pointer s) s answer
 
 -- NewPtr: a new pointer to n bytes 0, at the base of a run
 abbrev pub new_pointer : ℕ → State → Answer ℕ
-new_pointer n s = if is_some (phys n) then given Pointer (room (put_at_base (Fixed (length s.names) (replicate n 0))) nothing s.zone) s else refused MEM_FULL s
+new_pointer n s = if is_some (phys n) then given Pointer (room (put_at_base (Fixed (length s.names) (replicate n 0)))
+    nothing s.zone) s else refused MEM_FULL s
 
 -- DisposePtr
 abbrev pub dispose_pointer : Option ℕ → State → Answer (Unit {0})
-dispose_pointer pointer s = on_pointer pointer s (λ held. (Ok tt, record { zone = tidy (freed (is_fixed held.number) s.zone); names = slice_set s.names held.number Disposed }))
+dispose_pointer pointer s = on_pointer pointer s (λ held. (
+  Ok tt,
+  record { zone = tidy (freed (is_fixed held.number) s.zone); names = slice_set s.names held.number Disposed },
+))
 
 -- GetPtrSize
 abbrev pub get_pointer_size : Option ℕ → State → Answer ℕ
@@ -44,7 +51,8 @@ get_pointer_size pointer s = on_pointer pointer s (λ held. (Ok (length (content
 
 -- SetPtrSize
 abbrev pub set_pointer_size : Option ℕ → ℕ → State → Answer (Unit {0})
-set_pointer_size pointer n s = on_pointer pointer s (λ held. if is_some (phys n) then rebuilt (grow (is_fixed held.number) nothing n s.zone) s else refused MEM_FULL s)
+set_pointer_size pointer n s = on_pointer pointer s (λ held. if is_some (phys n)
+    then rebuilt (grow (is_fixed held.number) nothing n s.zone) s else refused MEM_FULL s)
 
 -- the bytes of a pointer's block
 abbrev pub show_pointer : Option ℕ → State → Answer (List ℕ)
@@ -55,7 +63,7 @@ abbrev pub put_pointer : Option ℕ → ℕ → List ℕ → State → Answer (U
 put_pointer pointer i x s = on_pointer pointer s (λ held. written_at i x held.at s)
 
 -- the block of the handle or pointer of a number
-abbrev pub named_block : ℕ → Option Name → State → Result Held OsErr
+abbrev pub named_block : ℕ → Option Meaning → State → Result Held OsErr
 named_block n None s = look_up (Some n) s
 named_block n (Some (Handle role)) s = look_up (Some n) s
 named_block n (Some Pointer) s = pointed n (Some Pointer) s
@@ -68,7 +76,7 @@ block_named (Some n) s = named_block n (slice_get s.names n) s
 
 -- the offset of a block's content from the zone's start: its header stands before it
 abbrev pub place_of : Option ℕ → State → Answer ℕ
-place_of name s = for_found (block_named name s) s (λ held. (Ok (sizes held.at.below + 16), s))
+place_of name s = for_found (block_named name s) s (λ held. (Ok (sizes held.at.below + HEADER_SIZE), s))
 
 -- the zone with p Free bytes at the base of a run
 abbrev pub reserved : ℕ → List Block → Option (List Block)

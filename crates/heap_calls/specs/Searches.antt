@@ -1,7 +1,9 @@
-use Rattle.std.specs.Prelude.{ℕ, ◌+◌, zero, suc, Bool, true, false, ◌||◌, Option, Some, None, Result, Ok, Err, List, [], ◌∷◌, length, replicate, is_some, nat_lt, nat_le, if◌then◌else◌}
+use Rattle.std.specs.Prelude.{ℕ, ◌+◌, zero, suc, Bool, true, false, ◌||◌, Option, Some, None, Result, Ok, Err, List, []}
+use Rattle.std.specs.Prelude.{◌∷◌, length, replicate, is_some, nat_lt, nat_le, if◌then◌else◌}
 use Rattle.mac_words.specs.Size.{phys}
 use Rattle.mac_words.specs.declared.code.OsErr.{OsErr}
-use Rattle.block_store.specs.Block.{Block, Fixed, Masters, Relocatable, size, is_mover, is_relocatable, is_fixed, no_flags, resized, content_of}
+use Rattle.block_store.specs.Block.{Block, Fixed, Masters, Relocatable, size, is_mover, is_relocatable, is_fixed}
+use Rattle.block_store.specs.Block.{no_flags, resized, content_of}
 use Rattle.block_store.specs.Run.{has_free, segments, runs}
 use Rattle.block_store.specs.Room.{Spot, spot, put_at_base, put_in_place, purge, count_of}
 use Rattle.block_store.specs.Grow.{growth, grow_up, grow_mover, freed}
@@ -11,7 +13,7 @@ use Rattle.heap_calls.specs.Answer.{handle_at, look_up, nothing}
 use Rattle.heap_calls.specs.Slots.{slotted}
 use Rattle.heap_calls.specs.Pointers.{pointed_at, reserved}
 use Rattle.heap_calls.specs.Purging.{is_loose, blocks_purged}
-use Rattle.heap_calls.specs.Search.{tries}
+use Rattle.heap_calls.specs.Inner.Search.{tries}
 
 -- How often a call looks for room: one look at each number of purges, up to the first that serves.
 
@@ -21,7 +23,8 @@ room_searches try spared zone = tries (λ k. try (purge k spared zone)) (count_o
 
 -- the looks for an unused slot
 abbrev pub slot_searches : (Block → Bool) → State → ℕ
-slot_searches spared s = if nat_lt (used_slots s) (all_slots s) then 0 else room_searches (put_at_base Masters) spared s.zone
+slot_searches spared s = if nat_lt (used_slots s) (all_slots s) then 0
+    else room_searches (put_at_base Masters) spared s.zone
 
 -- the looks of what is done with an unused slot
 abbrev pub ready_searches : Option State → (State → ℕ) → ℕ
@@ -35,7 +38,8 @@ block_searches spared bytes s = room_searches (put_in_place (Relocatable (length
 -- of NewHandle
 abbrev pub new_handle_searches : ℕ → State → ℕ
 new_handle_searches n s =
-    slot_searches nothing s + ready_searches (slotted nothing s) (λ ready. if is_some (phys n) then block_searches nothing (replicate n 0) ready else 0)
+    slot_searches nothing s + ready_searches (slotted nothing s)
+    (λ ready. if is_some (phys n) then block_searches nothing (replicate n 0) ready else 0)
 
 -- of NewEmptyHandle
 abbrev pub new_empty_handle_searches : State → ℕ
@@ -47,7 +51,8 @@ more_masters_searches s = room_searches (put_at_base Masters) nothing s.zone
 
 -- of NewPtr
 abbrev pub new_pointer_searches : ℕ → State → ℕ
-new_pointer_searches n s = if is_some (phys n) then room_searches (put_at_base (Fixed (length s.names) (replicate n 0))) nothing s.zone else 0
+new_pointer_searches n s = if is_some (phys n) then room_searches (put_at_base (Fixed (length s.names) (replicate n 0)))
+    nothing s.zone else 0
 
 -- of ReserveMem
 abbrev pub reserve_searches : Option ℕ → State → ℕ
@@ -75,7 +80,8 @@ resized_at n (Some s) = resized n s.here
 
 -- where a block that passes gets n bytes
 abbrev pub size_searches : (Block → Bool) → (Block → Bool) → ℕ → List Block → ℕ
-size_searches test spared n zone = if is_some (phys n) then growth_searches test spared (resized_at n (spot test zone)) zone (spot test zone) else 0
+size_searches test spared n zone = if is_some (phys n) then growth_searches test spared (resized_at n (spot test zone))
+    zone (spot test zone) else 0
 
 -- the looks of a call on what was found
 abbrev pub found_searches : {A : Type 0} → Result A OsErr → (A → ℕ) → ℕ
@@ -84,35 +90,41 @@ found_searches (Ok found) count = count found
 
 -- of SetHandleSize
 abbrev pub set_handle_size_searches : Option ℕ → ℕ → State → ℕ
-set_handle_size_searches handle n s = found_searches (look_up handle s) (λ held. size_searches (is_relocatable held.number) (is_relocatable held.number) n s.zone)
+set_handle_size_searches handle n s = found_searches (look_up handle s)
+    (λ held. size_searches (is_relocatable held.number) (is_relocatable held.number) n s.zone)
 
 -- of SetPtrSize
 abbrev pub set_pointer_size_searches : Option ℕ → ℕ → State → ℕ
-set_pointer_size_searches pointer n s = found_searches (pointed_at pointer s) (λ held. size_searches (is_fixed held.number) nothing n s.zone)
+set_pointer_size_searches pointer n s = found_searches (pointed_at pointer s)
+    (λ held. size_searches (is_fixed held.number) nothing n s.zone)
 
 -- of ReallocateHandle
 abbrev pub reallocate_handle_searches : Option ℕ → ℕ → State → ℕ
 reallocate_handle_searches handle n s =
     found_searches (handle_at handle s) (λ k. if is_loose (spot (is_relocatable k.number) s.zone)
-    then (if is_some (phys n) then room_searches (put_in_place (Relocatable k.number no_flags (replicate n 0))) nothing (freed (is_relocatable k.number) s.zone) else 0)
+    then (if is_some (phys n) then room_searches (put_in_place (Relocatable k.number no_flags (replicate n 0))) nothing
+    (freed (is_relocatable k.number) s.zone) else 0)
     else 0)
 
 -- of HandToHand
 abbrev pub hand_to_hand_searches : Option ℕ → State → ℕ
 hand_to_hand_searches handle s =
     found_searches (look_up handle s) (λ held. slot_searches (is_relocatable held.number) s
-    + ready_searches (slotted (is_relocatable held.number) s) (block_searches (is_relocatable held.number) (content_of held.at.here)))
+    + ready_searches (slotted (is_relocatable held.number) s) (block_searches (is_relocatable held.number)
+    (content_of held.at.here)))
 
 -- of HandAndHand
 abbrev pub hand_and_hand_searches : Option ℕ → Option ℕ → State → ℕ
 hand_and_hand_searches from to s =
     found_searches (look_up from s) (λ a. found_searches (look_up to s) (λ b.
-    size_searches (is_relocatable b.number) (λ block. is_relocatable a.number block || is_relocatable b.number block) (length (content_of b.at.here) + length (content_of a.at.here)) s.zone))
+    size_searches (is_relocatable b.number) (λ block. is_relocatable a.number block || is_relocatable b.number block)
+    (length (content_of b.at.here) + length (content_of a.at.here)) s.zone))
 
 -- of PtrAndHand
 abbrev pub pointer_and_hand_searches : Option ℕ → List ℕ → State → ℕ
 pointer_and_hand_searches handle x s =
-    found_searches (look_up handle s) (λ held. size_searches (is_relocatable held.number) (is_relocatable held.number) (length (content_of held.at.here) + length x) s.zone)
+    found_searches (look_up handle s) (λ held. size_searches (is_relocatable held.number) (is_relocatable held.number)
+    (length (content_of held.at.here) + length x) s.zone)
 
 -- a run that has a block; there is a run without one between two barriers that are neighbours
 abbrev pub has_block : List Block → Bool

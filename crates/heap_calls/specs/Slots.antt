@@ -24,11 +24,13 @@ if_ready (Some ready) s answer = answer ready
 
 -- a new handle with these bytes
 abbrev pub new_block : (Block → Bool) → List ℕ → State → Answer ℕ
-new_block spared bytes s = given (Handle Plain) (room (put_in_place (Relocatable (length s.names) no_flags bytes)) spared s.zone) s
+new_block spared bytes s = given (Handle Plain) (room (put_in_place (Relocatable (length s.names) no_flags bytes))
+    spared s.zone) s
 
 -- NewHandle: a new handle with n bytes 0
 abbrev pub new_handle : ℕ → State → Answer ℕ
-new_handle n s = if_ready (slotted nothing s) s (λ ready. if is_some (phys n) then new_block nothing (replicate n 0) ready else refused MEM_FULL ready)
+new_handle n s = if_ready (slotted nothing s) s (λ ready. if is_some (phys n)
+    then new_block nothing (replicate n 0) ready else refused MEM_FULL ready)
 
 -- NewEmptyHandle
 abbrev pub new_empty_handle : State → Answer ℕ

@@ -22,4 +22,5 @@ NextIsNew s = count (is_fixed (length s.names)) s.zone ≤ 0
 
 -- each pointer's block is after a call at the distance from the bottom where it was, unless the call disposes of it
 abbrev pub StaysFixed : Asked → Memory → Type 0
-StaysFixed asked m = (p place : ℕ) → disposes p asked ≡ false → pointer_place p m.heap.zone ≡ Some place → pointer_place p (answered asked m).1.heap.zone ≡ Some place
+StaysFixed asked m = (p place : ℕ) → disposes p asked ≡ false → pointer_place p m.heap.zone ≡ Some place
+    → pointer_place p (answered asked m).1.heap.zone ≡ Some place

@@ -1,8 +1,9 @@
 use Rattle.std.specs.Prelude.{ℕ, ◌*◌, Bool, true, false, List, [], count_by}
 use Rattle.block_store.specs.Block.{Block, count, fresh, is_masters}
-use Rattle.block_store.specs.Rest.{Window}
+use Rattle.block_store.specs.Rest.{Site}
 use Rattle.heap_calls.specs.declared.log.Log.{Log}
 use Rattle.mac_words.specs.declared.code.TheConstants.OsErr.{NO_ERR}
+use Rattle.block_store.specs.declared.measures.TheConstants.{SLOTS_A_BLOCK}
 
 -- A heap: its zone, and its handles and pointers by numbers. Inside Macintosh: Memory, chapter 1, "Heap Management".
 
@@ -13,32 +14,40 @@ pub data Role : Type 0 where
   SystemResource : Role
 
 -- what a number stands for: a handle, with a block or emptied; a pointer; or nothing any more
-pub data Name : Type 0 where
-  Handle : (role : Role) → Name
-  Pointer : Name
-  Disposed : Name
+pub data Meaning : Type 0 where
+  Handle : (role : Role) → Meaning
+  Pointer : Meaning
+  Disposed : Meaning
 
--- a heap: the blocks of its zone, named by number, and what each number given so far stands for. A number is never given twice
+-- a heap: the blocks of its zone, named by number, and what each number given so far stands for. A number is never
+-- given twice
 pub record State : Type 0 where
   pub zone : List Block
-  pub names : List Name
+  pub names : List Meaning
 
--- a heap with what its calls so far came to, and where it lies
+-- a heap with what its calls so far came to, how often packing moved a block down, and where it lies
 pub record Memory : Type 0 where
   pub heap : State
   pub log : Log
-  pub window : Window
+  pub moves : ℕ
+  pub window : Site
 
 -- the heap of a fresh zone of n bytes
 abbrev pub fresh_heap : ℕ → State
 fresh_heap n = record { zone = fresh n; names = [] }
 
 -- a fresh zone's heap before its first call
-abbrev pub fresh_memory : ℕ → Window → Memory
-fresh_memory n window = record { heap = fresh_heap n; log = record { code = NO_ERR; searches = 0 }; window = window }
+abbrev pub fresh_memory : ℕ → Site → Memory
+fresh_memory n window = record {
+  heap = fresh_heap n;
+  log = record { code = NO_ERR; searches = 0 };
+  moves = 0;
+  window =
+      window;
+}
 
 -- a handle that wasn't disposed of
-abbrev pub uses_slot : Name → Bool
+abbrev pub uses_slot : Meaning → Bool
 uses_slot (Handle role) = true
 uses_slot Pointer = false
 uses_slot Disposed = false
@@ -49,4 +58,4 @@ used_slots s = count_by uses_slot s.names
 
 -- the slots that there are: 64 a Masters block
 abbrev pub all_slots : State → ℕ
-all_slots s = 64 * count is_masters s.zone
+all_slots s = SLOTS_A_BLOCK * count is_masters s.zone

@@ -1,26 +1,31 @@
 //! Bytes behind those of a handle's block.
 
-ghost use Rattle.std.specs.Prelude.{◌≡◌, ◌≤◌, ◌+◌, ◌||◌, Some, false, length, take, IsSome, IsSomeAnd, IfSome, IsTrue, IsErr, IfOk};
+ghost use Rattle.std.specs.Prelude.{◌≡◌, ◌≤◌, ◌+◌, ◌||◌, Some, false, length, take, IsSome, IsSomeAnd, IfSome, IsTrue};
+ghost use Rattle.std.specs.Prelude.{IsErr, IfOk};
 ghost use Rattle.block_store.specs.Block.{is_relocatable, content_of};
 ghost use Rattle.block_store.specs.Find.{FindsLowest};
-ghost use Rattle.block_store.specs.Named.{spared};
+ghost use Rattle.block_store.specs.Sparing.{spared};
 ghost use Rattle.block_store.specs.Rest.{IsRest, KeepsSlots};
 ghost use Rattle.block_store.specs.Room.{spot, spot_at};
-ghost use Rattle.heap_calls.specs.Answer.{noting, silent, searching};
-ghost use Rattle.heap_calls.specs.Appending.{size_for, behind, lengthened, bytes_of};
+ghost use Rattle.heap_calls.specs.Asked.{packing};
+ghost use Rattle.heap_calls.specs.Answer.{silent, searching, moving};
+ghost use Rattle.heap_calls.specs.Inner.Appending.{size_for, behind, lengthened, bytes_of};
 ghost use Rattle.heap_calls.specs.Copying.{hand_and_hand, pointer_and_hand};
-ghost use Rattle.heap_calls.specs.Given.{IsAnswer, KeepsNames};
-ghost use Rattle.heap_calls.specs.Growing.{Spares, Stays};
-ghost use Rattle.heap_calls.specs.GrowingInPlace.{made_zone};
-ghost use Rattle.heap_calls.specs.Numbered.{KeepsFixed};
+ghost use Rattle.heap_calls.specs.Inner.Given.{IsAnswer, KeepsNames};
+ghost use Rattle.heap_calls.specs.Inner.Growing.{Spares, Stays};
+ghost use Rattle.heap_calls.specs.Inner.GrowingInPlace.{made_zone};
+ghost use Rattle.heap_calls.specs.Moves.{size_moves, hand_and_hand_moves, pointer_and_hand_moves};
+ghost use Rattle.heap_calls.specs.Inner.Numbered.{KeepsFixed};
+ghost use Rattle.heap_calls.specs.Inner.Packed.{Packs};
 ghost use Rattle.heap_calls.specs.Searches.{size_searches, hand_and_hand_searches, pointer_and_hand_searches};
+ghost use Rattle.block_store.specs.declared.measures.TheConstants.{GREATEST_ZONE};
 
 use crate::growing_in_place::Grown;
 use crate::heap::Heap;
 use crate::reaching::reach;
 use crate::refusal::Refusal;
 use crate::sizing::resize_block;
-use block_store::{BlockStore, Named};
+use block_store::{BlockStore, Sparing};
 use std::alloc::AllocError;
 
 impl<S: BlockStore> Heap<S> {
@@ -29,7 +34,8 @@ impl<S: BlockStore> Heap<S> {
     ///
     /// *Inside Macintosh: Memory*, chapter 2, "Manipulating Blocks of Memory".
     pub fn hand_and_hand(&mut self, from: Option<usize>, to: Option<usize>) -> Result<(), Refusal>
-        ensures answer { IsAnswer (searching (hand_and_hand_searches from to self.old.heap) (noting (hand_and_hand from to) self.old)) result self.new }
+        ensures answer { IsAnswer (packing (hand_and_hand_moves from to) (hand_and_hand_searches from to)
+            (hand_and_hand from to) self.old) result self.new }
         ensures host { result ≡ Err Refusal.HostMemory → IsTrue S.TAKES_HOST }
         ensures kept { result ≡ Err Refusal.HostMemory → KeepsNames self.old self.new }
     {
@@ -42,7 +48,8 @@ impl<S: BlockStore> Heap<S> {
     ///
     /// *Inside Macintosh: Memory*, chapter 2, "Manipulating Blocks of Memory".
     pub fn pointer_and_hand(&mut self, handle: Option<usize>, bytes: &[u8]) -> Result<(), Refusal>
-        ensures answer { IsAnswer (searching (pointer_and_hand_searches handle bytes.now self.old.heap) (noting (pointer_and_hand handle bytes.now) self.old)) result self.new }
+        ensures answer { IsAnswer (packing (pointer_and_hand_moves handle bytes.now)
+            (pointer_and_hand_searches handle bytes.now) (pointer_and_hand handle bytes.now) self.old) result self.new }
         ensures host { result ≡ Err Refusal.HostMemory → IsTrue S.TAKES_HOST }
         ensures kept { result ≡ Err Refusal.HostMemory → KeepsNames self.old self.new }
     {
@@ -52,12 +59,15 @@ impl<S: BlockStore> Heap<S> {
 
     /// Appends the bytes of one handle to another.
     fn append_handle(&mut self, from: Option<usize>, to: Option<usize>) -> Result<(), Refusal>
-        ensures answer { IsAnswer (searching (hand_and_hand_searches from to self.old.heap) (silent (hand_and_hand from to) self.old)) result self.new }
+        ensures answer { IsAnswer (moving (hand_and_hand_moves from to self.old.heap)
+            (searching (hand_and_hand_searches from to self.old.heap) (silent (hand_and_hand from to) self.old))) result
+            self.new }
         ensures host { result ≡ Err Refusal.HostMemory → IsTrue S.TAKES_HOST }
         ensures kept { result ≡ Err Refusal.HostMemory → KeepsNames self.old self.new }
     {
-        // The count of looks is known to fit its type once it is read.
+        // The counts of looks and of moves are known to fit their types once they are read.
         let _searches = self.log.searches;
+        let _moves = self.store.moves();
         let source = reach(&self.store, &self.names, from)?;
         let held = reach(&self.store, &self.names, to)?;
         let grown = append_block(&mut self.store, source.slot, held.slot, held.place)?;
@@ -66,12 +76,15 @@ impl<S: BlockStore> Heap<S> {
 
     /// Appends bytes to a handle.
     fn append_slice(&mut self, handle: Option<usize>, bytes: &[u8]) -> Result<(), Refusal>
-        ensures answer { IsAnswer (searching (pointer_and_hand_searches handle bytes.now self.old.heap) (silent (pointer_and_hand handle bytes.now) self.old)) result self.new }
+        ensures answer { IsAnswer (moving (pointer_and_hand_moves handle bytes.now self.old.heap)
+            (searching (pointer_and_hand_searches handle bytes.now self.old.heap)
+            (silent (pointer_and_hand handle bytes.now) self.old))) result self.new }
         ensures host { result ≡ Err Refusal.HostMemory → IsTrue S.TAKES_HOST }
         ensures kept { result ≡ Err Refusal.HostMemory → KeepsNames self.old self.new }
     {
-        // The count of looks is known to fit its type once it is read.
+        // The counts of looks and of moves are known to fit their types once they are read.
         let _searches = self.log.searches;
+        let _moves = self.store.moves();
         let held = reach(&self.store, &self.names, handle)?;
         let grown = append_bytes(&mut self.store, held.slot, held.place, bytes)?;
         self.account(grown)
@@ -82,14 +95,14 @@ impl<S: BlockStore> Heap<S> {
 fn length_at<S: BlockStore>(store: &S, place: u32) -> u32
     requires { IsSome (spot_at place (S.zone store.now)) }
     ensures is { IfSome (spot_at place (S.zone store.now)) (λ s. result ≡ length (content_of s.here)) }
-    ensures small { result ≤ 134217728 }
+    ensures small { result ≤ GREATEST_ZONE }
 {
     store.bytes(place).len() as u32
 }
 
 /// The size of so many bytes with more behind them, if a block can have it.
 fn joined_size(len: u32, more: usize) -> Option<u32>
-    requires { len ≤ 134217728 }
+    requires { len ≤ GREATEST_ZONE }
     ensures { result ≡ size_for (len + more) }
 {
     let most = 2_147_483_616 - len;
@@ -101,7 +114,8 @@ fn joined_size(len: u32, more: usize) -> Option<u32>
 
 /// Writes bytes behind the first `len` bytes of the block of a slot.
 fn write_behind<S: BlockStore>(store: &mut S, slot: u32, len: u32, bytes: &[u8])
-    requires { IsSomeAnd (spot (is_relocatable slot) (S.zone store.old)) (λ s. len + length bytes.now ≤ length (content_of s.here)) }
+    requires { IsSomeAnd (spot (is_relocatable slot) (S.zone store.old))
+        (λ s. len + length bytes.now ≤ length (content_of s.here)) }
     ensures zone { S.zone store.new ≡ behind slot len bytes.now (S.zone store.old) }
     ensures rest { IsRest (S.rest store.old) (S.rest store.new) }
 {
@@ -114,9 +128,12 @@ fn write_behind<S: BlockStore>(store: &mut S, slot: u32, len: u32, bytes: &[u8])
 /// Copies the first bytes of the block of one slot behind the first `len` bytes of the block of another, or
 /// of the same.
 fn copy_behind<S: BlockStore>(store: &mut S, source: u32, bytes: u32, slot: u32, len: u32)
-    requires source { IsSomeAnd (spot (is_relocatable source) (S.zone store.old)) (λ s. bytes ≤ length (content_of s.here)) }
-    requires within { IsSomeAnd (spot (is_relocatable slot) (S.zone store.old)) (λ s. len + bytes ≤ length (content_of s.here)) }
-    ensures zone { S.zone store.new ≡ behind slot len (take bytes (bytes_of (spot (is_relocatable source) (S.zone store.old)))) (S.zone store.old) }
+    requires source { IsSomeAnd (spot (is_relocatable source) (S.zone store.old))
+        (λ s. bytes ≤ length (content_of s.here)) }
+    requires within { IsSomeAnd (spot (is_relocatable slot) (S.zone store.old))
+        (λ s. len + bytes ≤ length (content_of s.here)) }
+    ensures zone { S.zone store.new ≡ behind slot len (take bytes
+        (bytes_of (spot (is_relocatable source) (S.zone store.old)))) (S.zone store.old) }
     ensures rest { IsRest (S.rest store.old) (S.rest store.new) }
 {
     let Some(from) = store.place_of(source) else {
@@ -137,14 +154,22 @@ fn append_bytes<S: BlockStore>(
 ) -> Result<Grown, AllocError>
     requires found { FindsLowest (is_relocatable slot) (S.zone store.old) (Some place) }
     ensures zone { IfOk result (λ grown. IfSome (spot (is_relocatable slot) (S.zone store.old)) (λ s.
-        lengthened (is_relocatable slot) slot (length (content_of s.here)) bytes.now (S.zone store.old) ≡ made_zone grown.done (S.zone store.new))) }
+        lengthened (is_relocatable slot) slot (length (content_of s.here)) bytes.now (S.zone store.old)
+        ≡ made_zone grown.done (S.zone store.new))) }
     ensures full { IfOk result (λ grown. grown.done ≡ false → S.zone store.new ≡ S.zone store.old) }
     ensures searches { IfOk result (λ grown. IfSome (spot (is_relocatable slot) (S.zone store.old)) (λ s.
-        grown.searches ≡ size_searches (is_relocatable slot) (is_relocatable slot) (length (content_of s.here) + length bytes.now) (S.zone store.old))) }
+        grown.searches ≡ size_searches (is_relocatable slot) (is_relocatable slot)
+        (length (content_of s.here) + length bytes.now) (S.zone store.old))) }
     ensures fixed { KeepsFixed (S.zone store.old) (S.zone store.new) }
     ensures rest { KeepsSlots (S.rest store.old) (S.rest store.new) }
+    ensures moves { IfOk result (λ _. IfSome (spot (is_relocatable slot) (S.zone store.old)) (λ s.
+        Packs (size_moves (is_relocatable slot) (is_relocatable slot)
+        (length (content_of s.here) + length bytes.now) (S.zone store.old))
+        (S.rest store.old) (S.rest store.new))) }
     ensures host { IsErr result → IsTrue S.TAKES_HOST }
 {
+    // The count of moves is known to fit its type once it is read.
+    let _moves = store.moves();
     let len = length_at(store, place);
     let Some(size) = joined_size(len, bytes.len()) else {
         return Ok(Grown {
@@ -152,7 +177,7 @@ fn append_bytes<S: BlockStore>(
             searches: 0,
         });
     };
-    let grown = resize_block(store, slot, place, size, Named::One(slot))?;
+    let grown = resize_block(store, slot, place, size, Sparing::One(slot))?;
     if grown.done {
         write_behind(store, slot, len, bytes);
     }
@@ -169,14 +194,25 @@ fn append_block<S: BlockStore>(
     requires source { IsSome (spot (is_relocatable source) (S.zone store.old)) }
     requires found { FindsLowest (is_relocatable slot) (S.zone store.old) (Some place) }
     ensures zone { IfOk result (λ grown. IfSome (spot (is_relocatable slot) (S.zone store.old)) (λ s.
-        lengthened (spared (Named.Two source slot)) slot (length (content_of s.here)) (bytes_of (spot (is_relocatable source) (S.zone store.old))) (S.zone store.old) ≡ made_zone grown.done (S.zone store.new))) }
+        lengthened (spared (Sparing.Two source slot)) slot (length (content_of s.here))
+        (bytes_of (spot (is_relocatable source) (S.zone store.old))) (S.zone store.old)
+        ≡ made_zone grown.done (S.zone store.new))) }
     ensures full { IfOk result (λ grown. grown.done ≡ false → S.zone store.new ≡ S.zone store.old) }
     ensures searches { IfOk result (λ grown. IfSome (spot (is_relocatable slot) (S.zone store.old)) (λ s.
-        grown.searches ≡ size_searches (is_relocatable slot) (spared (Named.Two source slot)) (length (content_of s.here) + length (bytes_of (spot (is_relocatable source) (S.zone store.old)))) (S.zone store.old))) }
+        grown.searches ≡ size_searches (is_relocatable slot) (spared (Sparing.Two source slot))
+        (length (content_of s.here) + length (bytes_of (spot (is_relocatable source) (S.zone store.old))))
+        (S.zone store.old))) }
     ensures fixed { KeepsFixed (S.zone store.old) (S.zone store.new) }
     ensures rest { KeepsSlots (S.rest store.old) (S.rest store.new) }
+    ensures moves { IfOk result (λ _. IfSome (spot (is_relocatable slot) (S.zone store.old)) (λ s.
+        Packs (size_moves (is_relocatable slot) (spared (Sparing.Two source slot))
+        (length (content_of s.here) + length (bytes_of (spot (is_relocatable source) (S.zone store.old))))
+        (S.zone store.old))
+        (S.rest store.old) (S.rest store.new))) }
     ensures host { IsErr result → IsTrue S.TAKES_HOST }
 {
+    // The count of moves is known to fit its type once it is read.
+    let _moves = store.moves();
     let Some(from) = store.place_of(source) else {
         unreachable!()
     };
@@ -188,7 +224,7 @@ fn append_block<S: BlockStore>(
             searches: 0,
         });
     };
-    let grown = resize_block(store, slot, place, size, Named::Two(source, slot))?;
+    let grown = resize_block(store, slot, place, size, Sparing::Two(source, slot))?;
     if grown.done {
         copy_behind(store, source, more, slot, len);
     }

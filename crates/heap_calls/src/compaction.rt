@@ -5,14 +5,16 @@ ghost use Rattle.mac_words.specs.Size.{phys as physical_size};
 ghost use Rattle.block_store.specs.Room.{place};
 ghost use Rattle.block_store.specs.Run.{runs};
 ghost use Rattle.block_store.specs.Rest.{KeepsSlots, counted};
-ghost use Rattle.block_store.specs.Named.{purged};
+ghost use Rattle.block_store.specs.Sparing.{purged};
 ghost use Rattle.block_store.specs.Compact.{has_room, runs_settled, compacted, falls};
-ghost use Rattle.heap_calls.specs.Given.{seen_in_run};
-ghost use Rattle.heap_calls.specs.Answer.{max_block, compact_mem, noting, searching};
+ghost use Rattle.heap_calls.specs.Asked.{packing};
+ghost use Rattle.heap_calls.specs.Inner.Given.{seen_in_run};
+ghost use Rattle.heap_calls.specs.Answer.{max_block, compact_mem, noting};
+ghost use Rattle.heap_calls.specs.Moves.{compact_mem_moves};
 ghost use Rattle.heap_calls.specs.Searches.{stretches, compact_mem_searches};
 
 use crate::heap::Heap;
-use block_store::{BlockStore, Named, Seen};
+use block_store::{BlockStore, HEADER_SIZE, Seen, Sparing};
 use mac_words::{OsErr, phys};
 
 impl<S: BlockStore> Heap<S> {
@@ -23,16 +25,17 @@ impl<S: BlockStore> Heap<S> {
         ensures no_more { IfSome (physical_size (result + 1)) (λ p. place p self.old.heap.zone ≡ None) }
     {
         self.log.code = OsErr::NO_ERR;
-        self.store.largest_run().saturating_sub(16)
+        self.store.largest_run().saturating_sub(HEADER_SIZE)
     }
 
     /// `CompactMem`: settles runs until a block of `size` bytes has room; the most bytes that a block can
     /// then have without another being moved.
     pub fn compact_mem(&mut self, size: u32) -> u32
-        ensures answer { searching (compact_mem_searches size self.old.heap) (noting (compact_mem size) self.old) ≡ (Ok result, self.new) }
+        ensures answer { packing (compact_mem_moves size) (compact_mem_searches size) (compact_mem size) self.old
+            ≡ (Ok result, self.new) }
     {
         let stretches = compact(&mut self.store, phys(size));
-        let most = self.store.largest_free().saturating_sub(16);
+        let most = self.store.largest_free().saturating_sub(HEADER_SIZE);
         self.log.code = OsErr::NO_ERR;
         self.log.count(stretches + 1);
         most
@@ -45,7 +48,8 @@ impl<S: BlockStore> Heap<S> {
 /// *Inside Macintosh: Memory*, chapter 1, "Heap Compaction".
 pub fn compact<S: BlockStore>(store: &mut S, bytes: Option<u32>) -> u32
     ensures zone { S.zone store.new ≡ compacted bytes (S.zone store.old) }
-    ensures moves { (S.rest store.new).moves ≡ counted (S.rest store.old).moves (falls (runs_settled bytes (S.zone store.old)) (runs (S.zone store.old))) }
+    ensures moves { (S.rest store.new).moves ≡ counted (S.rest store.old).moves
+        (falls (runs_settled bytes (S.zone store.old)) (runs (S.zone store.old))) }
     ensures rest { KeepsSlots (S.rest store.old) (S.rest store.new) }
     ensures runs { result ≡ stretches (runs_settled bytes (S.zone store.old)) (runs (S.zone store.old)) }
 {
@@ -77,11 +81,11 @@ fn in_run(seen: Option<Seen>) -> bool
 
 /// Whether a Free block of so many bytes stands after so many purges; none does where no size is given.
 pub fn has_room<S: BlockStore>(store: &S, bytes: Option<u32>, purges: u32) -> bool
-    ensures after { result ≡ has_room bytes (purged purges Named.Nothing (S.zone store.now)) }
+    ensures after { result ≡ has_room bytes (purged purges Sparing.Nothing (S.zone store.now)) }
     ensures now { purges ≡ 0 → result ≡ has_room bytes (S.zone store.now) }
 {
     match bytes {
         None => false,
-        Some(bytes) => store.find_free(bytes, purges, Named::Nothing).is_some(),
+        Some(bytes) => store.find_free(bytes, purges, Sparing::Nothing).is_some(),
     }
 }

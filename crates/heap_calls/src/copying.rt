@@ -4,22 +4,25 @@ ghost use Rattle.std.specs.Prelude.{◌≡◌, ◌⊎◌, length, IfOk, OnErr, I
 ghost use Rattle.block_store.specs.Block.{content_of, is_relocatable};
 ghost use Rattle.block_store.specs.Room.{spot};
 ghost use Rattle.block_store.specs.Slot.{is_used};
-ghost use Rattle.block_store.specs.declared.named.Named.TheVariants.{One};
-ghost use Rattle.heap_calls.specs.Given.{IsAnswer, KeepsNames};
-ghost use Rattle.heap_calls.specs.Answer.{noting, searching, silent};
-ghost use Rattle.heap_calls.specs.Copied.{IsCopy};
+ghost use Rattle.block_store.specs.declared.sparing.Sparing.TheVariants.{One};
+ghost use Rattle.heap_calls.specs.Asked.{packing};
+ghost use Rattle.heap_calls.specs.Inner.Given.{IsAnswer, KeepsNames};
+ghost use Rattle.heap_calls.specs.Answer.{searching, silent, moving};
+ghost use Rattle.heap_calls.specs.Inner.Copied.{IsCopy};
 ghost use Rattle.heap_calls.specs.Copying.{hand_to_hand};
-ghost use Rattle.heap_calls.specs.NewBlock.{new_searches};
-ghost use Rattle.heap_calls.specs.NewSlot.{HasMore};
-ghost use Rattle.heap_calls.specs.Numbered.{KeepsFixed};
+ghost use Rattle.heap_calls.specs.Inner.NewBlock.{new_searches};
+ghost use Rattle.heap_calls.specs.Inner.NewSlot.{HasMore};
+ghost use Rattle.heap_calls.specs.Moves.{hand_to_hand_moves};
+ghost use Rattle.heap_calls.specs.Inner.Numbered.{KeepsFixed};
+ghost use Rattle.heap_calls.specs.Inner.Packed.{Packs, new_moves};
 ghost use Rattle.heap_calls.specs.Searches.{hand_to_hand_searches};
 
+use crate::anchor::{Anchor, slot_of};
 use crate::base::Taken;
 use crate::heap::Heap;
-use crate::name::{Entry, slot_of};
 use crate::new_block::new_block;
 use crate::refusal::Refusal;
-use block_store::{BlockStore, Named};
+use block_store::{BlockStore, Sparing};
 use mac_words::OsErr;
 use std::alloc::AllocError;
 
@@ -27,7 +30,8 @@ impl<S: BlockStore> Heap<S> {
     /// `HandToHand`: a new handle with the bytes of another, which isn't emptied for it. -108 where there is no
     /// room for its block, or all slots are used and there is no room for more.
     pub fn hand_to_hand(&mut self, handle: Option<usize>) -> Result<usize, Refusal>
-        ensures answer { IsAnswer (searching (hand_to_hand_searches handle self.old.heap) (noting (hand_to_hand handle) self.old)) result self.new }
+        ensures answer { IsAnswer (packing (hand_to_hand_moves handle) (hand_to_hand_searches handle)
+            (hand_to_hand handle) self.old) result self.new }
         ensures host { result ≡ Err Refusal.HostMemory → IsTrue S.TAKES_HOST ⊎ (self.new ≡ self.old) }
         ensures kept { result ≡ Err Refusal.HostMemory → KeepsNames self.old self.new }
     {
@@ -37,12 +41,15 @@ impl<S: BlockStore> Heap<S> {
 
     /// A new handle with the bytes of another.
     fn copy_handle(&mut self, handle: Option<usize>) -> Result<usize, Refusal>
-        ensures answer { IsAnswer (searching (hand_to_hand_searches handle self.old.heap) (silent (hand_to_hand handle) self.old)) result self.new }
+        ensures answer { IsAnswer (moving (hand_to_hand_moves handle self.old.heap)
+            (searching (hand_to_hand_searches handle self.old.heap) (silent (hand_to_hand handle) self.old))) result
+            self.new }
         ensures host { result ≡ Err Refusal.HostMemory → IsTrue S.TAKES_HOST ⊎ (self.new ≡ self.old) }
         ensures kept { result ≡ Err Refusal.HostMemory → KeepsNames self.old self.new }
     {
-        // The count of searches is known to fit its type once it is read.
+        // The counts of looks and of moves are known to fit their types once they are read.
         let _searches = self.log.searches;
+        let _moves = self.store.moves();
         let found = slot_of(&self.names, handle)?;
         let Some(place) = self.store.place_of(found.slot) else {
             return Err(Refusal::Code(OsErr::NIL_HANDLE));
@@ -55,7 +62,7 @@ impl<S: BlockStore> Heap<S> {
             return Err(Refusal::Code(OsErr::MEM_FULL));
         };
         let number = self.names.len();
-        self.names.push_reserved(Entry::Handle(slot));
+        self.names.push_reserved(Anchor::Handle(slot));
         Ok(number)
     }
 }
@@ -64,14 +71,19 @@ impl<S: BlockStore> Heap<S> {
 /// and answers that; `None` where no slot can be had or there is no room.
 fn copy_block<S: BlockStore>(store: &mut S, source: u32, size: u32) -> Result<Taken, AllocError>
     requires used { IsTrue (is_used ((S.rest store.old).slots source)) }
-    requires size { IsSomeAnd (spot (is_relocatable source) (S.zone store.old)) (λ s. length (content_of s.here) ≡ size) }
-    ensures answer { IfOk result (λ r. IsCopy source size (S.zone store.old) (S.rest store.old) r.slot (S.zone store.new) (S.rest store.new)) }
+    requires size { IsSomeAnd (spot (is_relocatable source) (S.zone store.old))
+        (λ s. length (content_of s.here) ≡ size) }
+    ensures answer { IfOk result (λ r. IsCopy source size (S.zone store.old) (S.rest store.old) r.slot
+        (S.zone store.new) (S.rest store.new)) }
     ensures fixed { KeepsFixed (S.zone store.old) (S.zone store.new) }
     ensures kept { OnErr result (HasMore (S.rest store.old) (S.rest store.new)) }
-    ensures searches { IfOk result (λ r. r.searches ≡ new_searches (One source) size (S.rest store.old).unused (S.zone store.old)) }
+    ensures searches { IfOk result (λ r. r.searches ≡ new_searches (One source) size (S.rest store.old).unused
+        (S.zone store.old)) }
+    ensures moves { IfOk result (λ _. Packs (new_moves (One source) size (S.rest store.old).unused (S.zone store.old))
+        (S.rest store.old) (S.rest store.new)) }
     ensures host { IsErr result → IsTrue S.TAKES_HOST }
 {
-    let made = new_block(store, size, Named::One(source))?;
+    let made = new_block(store, size, Sparing::One(source))?;
     let Some(slot) = made.slot else {
         return Ok(made);
     };

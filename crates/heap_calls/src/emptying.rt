@@ -1,20 +1,23 @@
 //! Emptied handles.
 
 ghost use Rattle.std.specs.Prelude.{◌≡◌, ◌≢◌, IsTrue, IsErr};
-ghost use Rattle.heap_calls.specs.Given.{IsAnswer};
-ghost use Rattle.heap_calls.specs.Numbered.{Agrees, KeepsFixed};
-ghost use Rattle.heap_calls.specs.Answer.{noting, silent, searching};
+ghost use Rattle.heap_calls.specs.Inner.Given.{IsAnswer, KeepsNames};
+ghost use Rattle.heap_calls.specs.Asked.{packing};
+ghost use Rattle.heap_calls.specs.Inner.Numbered.{Agrees, KeepsFixed};
+ghost use Rattle.heap_calls.specs.Answer.{noting, silent, searching, moving};
 ghost use Rattle.heap_calls.specs.Purging.{empty_handle, reallocate_handle};
 ghost use Rattle.heap_calls.specs.Searches.{reallocate_handle_searches};
-ghost use Rattle.heap_calls.specs.Loose.{FindsLoose, IsRenewed};
+ghost use Rattle.heap_calls.specs.Inner.Loose.{FindsLoose, IsRenewed, renewed_moves};
+ghost use Rattle.heap_calls.specs.Moves.{reallocate_handle_moves};
+ghost use Rattle.heap_calls.specs.Inner.Packed.{Packs};
 ghost use Rattle.block_store.specs.Slot.{is_used};
 
+use crate::anchor::{Anchor, slot_of};
 use crate::heap::Heap;
 use crate::locking::can_move;
-use crate::name::{Entry, slot_of};
 use crate::refusal::Refusal;
 use crate::search::{Room, make_room};
-use block_store::{BlockStore, Named};
+use block_store::{BlockStore, Sparing};
 use mac_words::{OsErr, phys};
 use std::alloc::AllocError;
 
@@ -29,10 +32,12 @@ impl<S: BlockStore> Heap<S> {
     }
 
     /// `ReallocateHandle`: a handle gets a new block of `size` bytes 0, and its old one is Free; -112 where
-    /// that is locked.
+    /// that is locked. A want of host memory leaves all but the zone as it was.
     pub fn reallocate_handle(&mut self, handle: Option<usize>, size: u32) -> Result<(), Refusal>
-        ensures answer { IsAnswer (searching (reallocate_handle_searches handle size self.old.heap) (noting (reallocate_handle handle size) self.old)) result self.new }
+        ensures answer { IsAnswer (packing (reallocate_handle_moves handle size)
+            (reallocate_handle_searches handle size) (reallocate_handle handle size) self.old) result self.new }
         ensures host { result ≡ Err Refusal.HostMemory → IsTrue S.TAKES_HOST }
+        ensures kept { result ≡ Err Refusal.HostMemory → KeepsNames self.old self.new }
     {
         let answer = self.reallocate(handle, size);
         self.note(answer)
@@ -50,9 +55,14 @@ impl<S: BlockStore> Heap<S> {
 
     /// Gives a handle a new block, and counts the looks for its room.
     fn reallocate(&mut self, handle: Option<usize>, size: u32) -> Result<(), Refusal>
-        ensures answer { IsAnswer (searching (reallocate_handle_searches handle size self.old.heap) (silent (reallocate_handle handle size) self.old)) result self.new }
+        ensures answer { IsAnswer (moving (reallocate_handle_moves handle size self.old.heap)
+            (searching (reallocate_handle_searches handle size self.old.heap)
+            (silent (reallocate_handle handle size) self.old))) result self.new }
         ensures host { result ≡ Err Refusal.HostMemory → IsTrue S.TAKES_HOST }
+        ensures kept { result ≡ Err Refusal.HostMemory → KeepsNames self.old self.new }
     {
+        // The count of moves is known to fit its type once it is read.
+        let _moves = self.store.moves();
         let slot = loose_slot(&self.store, &self.names, handle)?;
         let room = renew_block(&mut self.store, slot, size)?;
         self.log.count(room.searches);
@@ -66,7 +76,7 @@ impl<S: BlockStore> Heap<S> {
 /// The slot of the handle that a name is bound to, if it has no block that is locked.
 fn loose_slot<S: BlockStore>(
     store: &S,
-    names: &[Entry],
+    names: &[Anchor],
     handle: Option<usize>,
 ) -> Result<u32, Refusal>
     requires { Agrees (S.zone store.now) (S.rest store.now) names.now }
@@ -86,17 +96,21 @@ fn loose_slot<S: BlockStore>(
 /// where there is none.
 fn renew_block<S: BlockStore>(store: &mut S, slot: u32, size: u32) -> Result<Room, AllocError>
     requires { IsTrue (is_used ((S.rest store.old).slots slot)) }
-    ensures answer { IsRenewed slot size (S.zone store.old) (S.rest store.old) result (S.zone store.new) (S.rest store.new) }
+    ensures answer { IsRenewed slot size (S.zone store.old) (S.rest store.old) result (S.zone store.new)
+        (S.rest store.new) }
     ensures fixed { KeepsFixed (S.zone store.old) (S.zone store.new) }
+    ensures moves { Packs (renewed_moves slot size (S.zone store.old)) (S.rest store.old) (S.rest store.new) }
     ensures host { IsErr result → IsTrue S.TAKES_HOST }
 {
+    // The count of moves is known to fit its type once it is read.
+    let _moves = store.moves();
     let Some(bytes) = phys(size) else {
         return Ok(Room {
             place: None,
             searches: 0,
         });
     };
-    let room = make_room(store, bytes, Named::Freed(slot));
+    let room = make_room(store, bytes, Sparing::Freed(slot));
     let Some(place) = room.place else {
         return Ok(room);
     };

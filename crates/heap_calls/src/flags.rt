@@ -1,10 +1,10 @@
 //! The flags of handles.
 
 ghost use Rattle.std.specs.Prelude.{◌≡◌, ◌≢◌};
-ghost use Rattle.heap_calls.specs.Given.{IsAnswer, seen_flags};
+ghost use Rattle.heap_calls.specs.Inner.Given.{IsAnswer, seen_flags};
 ghost use Rattle.heap_calls.specs.Answer.{change_flags, noting, silent};
 ghost use Rattle.heap_calls.specs.Purging.{h_purge, h_no_purge, h_get_state, h_set_state};
-ghost use Rattle.heap_calls.specs.Loose.{flags_with, bits_of};
+ghost use Rattle.heap_calls.specs.Inner.Loose.{flags_with, bits_of};
 
 use crate::heap::{Heap, find_block};
 use crate::refusal::Refusal;
@@ -56,7 +56,8 @@ impl<S: BlockStore> Heap<S> {
         locked: Option<bool>,
         purgeable: Option<bool>,
     ) -> Result<(), Refusal>
-        ensures answer { IsAnswer (silent (change_flags (flags_with locked purgeable) handle) self.old) result self.new }
+        ensures answer { IsAnswer (silent (change_flags (flags_with locked purgeable) handle) self.old) result
+            self.new }
         ensures host { result ≢ Err Refusal.HostMemory }
     {
         let place = find_block(&self.store, &self.names, handle)?;

@@ -1,21 +1,28 @@
 //! The growth of a block that may move.
 
-ghost use Rattle.std.specs.Prelude.{◌≡◌, ◌+◌, ◌-◌, ◌≤◌, ◌<◌, ◌&&◌, Some, None, IsSome, IfSome, IsSomeAnd, IsTrue, IsErr, OnOk, OnErr, IfOk, is_some, true, false};
+ghost use Rattle.std.specs.Prelude.{◌≡◌, ◌+◌, ◌-◌, ◌≤◌, ◌<◌, ◌&&◌, Some, None, IsSome, IfSome, IsSomeAnd, IsTrue};
+ghost use Rattle.std.specs.Prelude.{IsErr, OnOk, OnErr, IfOk, is_some, true, false};
 ghost use Rattle.mac_words.specs.Size.{phys as physical_size};
 ghost use Rattle.block_store.specs.Block.{is_relocatable, resized, is_mover, size as size_of};
 ghost use Rattle.block_store.specs.Room.{spot, place, room};
 ghost use Rattle.block_store.specs.Grow.{growth, grow_mover, move_away};
-ghost use Rattle.block_store.specs.Named.{purged, most_purges, spared};
+ghost use Rattle.block_store.specs.Sparing.{purged, most_purges, spared};
 ghost use Rattle.block_store.specs.Rest.{IsRest, KeepsSlots};
-ghost use Rattle.heap_calls.specs.Search.{FindsSeat, IsAt};
-ghost use Rattle.heap_calls.specs.Growing.{FindsGrowth, growing, growing_searches, Spares, Stays, grown, SameBlocks, IsToGrow, CanGrowUp, GrewUp};
-ghost use Rattle.heap_calls.specs.GrowingInPlace.{made_zone};
-ghost use Rattle.heap_calls.specs.Numbered.{KeepsFixed};
+ghost use Rattle.heap_calls.specs.Inner.Search.{FindsSeat, IsAt};
+ghost use Rattle.heap_calls.specs.Inner.Growing.{FindsGrowth, growing, growing_searches, Spares, Stays, grown};
+ghost use Rattle.heap_calls.specs.Inner.Growing.{SameBlocks, IsToGrow, CanGrowUp, GrewUp};
+ghost use Rattle.heap_calls.specs.Inner.GrowingInPlace.{made_zone};
+ghost use Rattle.heap_calls.specs.Moves.{place_moves, grow_moves, room_moves};
+ghost use Rattle.heap_calls.specs.Inner.Least.{CanGrow};
+ghost use Rattle.heap_calls.specs.Inner.Numbered.{KeepsFixed};
+ghost use Rattle.heap_calls.specs.Inner.Packed.{Packs};
 ghost use Rattle.heap_calls.specs.Searches.{room_searches};
+ghost use Rattle.block_store.specs.declared.measures.TheConstants.{GREATEST_ZONE};
 
 use crate::growing_in_place::{Grown, bytes_at};
+use crate::least::{Look, least_look, next_goes};
 use crate::search::{Seat, seat_after};
-use block_store::{BlockStore, Named};
+use block_store::{BlockStore, Sparing};
 use mac_words::phys;
 use std::alloc::AllocError;
 
@@ -42,56 +49,103 @@ fn growth_after<S: BlockStore>(
     bytes: u32,
     more: u32,
     purges: u32,
-    named: Named,
+    sparing: Sparing,
 ) -> Option<Growth>
     requires takes { size_of (grown size (spot (is_relocatable number) (S.zone store.now))) ≡ bytes }
-    requires more { IsSomeAnd (spot (is_relocatable number) (purged purges named (S.zone store.now))) (λ s. growth (grown size (spot (is_relocatable number) (S.zone store.now))) s ≡ more) }
-    ensures { FindsGrowth (is_relocatable number) (grown size (spot (is_relocatable number) (S.zone store.now))) (purged purges named (S.zone store.now)) result }
+    requires more { IsSomeAnd (spot (is_relocatable number) (purged purges sparing (S.zone store.now)))
+        (λ s. growth (grown size (spot (is_relocatable number) (S.zone store.now))) s ≡ more) }
+    ensures { FindsGrowth (is_relocatable number) (grown size (spot (is_relocatable number) (S.zone store.now)))
+        (purged purges sparing (S.zone store.now)) result }
 {
-    if store.room_above(number, more, purges, named) {
+    if store.room_above(number, more, purges, sparing) {
         return Some(Growth::Up);
     }
-    if let Some(seat) = seat_after(store, bytes, purges, named) {
+    if let Some(seat) = seat_after(store, bytes, purges, sparing) {
         return Some(Growth::Away(seat));
     }
-    let Some(run) = store.run_of(number, more, purges, named) else {
+    let Some(run) = store.run_of(number, more, purges, sparing) else {
         return None;
     };
     Some(Growth::Last(run))
 }
 
-/// How the block of a slot grows by `more` bytes to `bytes`, and to `size` bytes of content, after as few purges as serve.
+/// A way to grow for the block of a slot: by `more` bytes to `bytes`, and to `size` bytes of content.
+#[derive(Clone, Copy)]
+struct FirstGrowth {
+    number: u32,
+    size: u32,
+    bytes: u32,
+    more: u32,
+    sparing: Sparing,
+}
+
+impl Look for FirstGrowth {
+    type Found = Growth;
+
+    ghost Allows = { λ look zone. CanGrow look.number look.size look.bytes look.more look.sparing zone };
+
+    ghost is_there = { λ look zone k. is_some (grow_mover (is_relocatable look.number)
+        (grown look.size (spot (is_relocatable look.number) zone)) (purged k look.sparing zone)) };
+
+    ghost most = { λ look zone. most_purges look.sparing zone };
+
+    ghost Finds = { λ look zone k found. FindsGrowth (is_relocatable look.number)
+        (grown look.size (spot (is_relocatable look.number) zone)) (purged k look.sparing zone) found };
+
+    fn look<S: BlockStore>(&self, store: &S, purges: u32) -> Option<Growth> {
+        growth_after(
+            store,
+            self.number,
+            self.size,
+            self.bytes,
+            self.more,
+            purges,
+            self.sparing,
+        )
+    }
+
+    fn goes_on<S: BlockStore>(&self, store: &S, purges: u32) -> bool {
+        next_goes(store, purges, self.sparing)
+    }
+}
+
+/// How the block of a slot grows by `more` bytes to `bytes`, and to `size` bytes of content, after as few purges as
+/// serve.
 pub fn find_growth<S: BlockStore>(
     store: &S,
     number: u32,
     size: u32,
     bytes: u32,
     more: u32,
-    named: Named,
+    sparing: Sparing,
 ) -> FoundGrowth
     requires takes { size_of (grown size (spot (is_relocatable number) (S.zone store.now))) ≡ bytes }
     requires positive { 0 < bytes }
-    requires spared { Spares named (is_relocatable number) }
-    requires stays { Stays named (is_relocatable number) }
-    requires more { IsSomeAnd (spot (is_relocatable number) (S.zone store.now)) (λ s. growth (grown size (spot (is_relocatable number) (S.zone store.now))) s ≡ more) }
-    ensures found { FindsGrowth (is_relocatable number) (grown size (spot (is_relocatable number) (S.zone store.now))) (purged result.purges named (S.zone store.now)) result.growth }
-    ensures least { growing (is_relocatable number) (grown size (spot (is_relocatable number) (S.zone store.now))) named (S.zone store.now) ≡ grow_mover (is_relocatable number) (grown size (spot (is_relocatable number) (S.zone store.now))) (purged result.purges named (S.zone store.now)) }
-    ensures searches { result.purges + 1 ≡ growing_searches (is_relocatable number) (grown size (spot (is_relocatable number) (S.zone store.now))) named (S.zone store.now) }
-    ensures few { result.purges ≤ 134217728 }
+    requires spared { Spares sparing (is_relocatable number) }
+    requires stays { Stays sparing (is_relocatable number) }
+    requires more { IsSomeAnd (spot (is_relocatable number) (S.zone store.now))
+        (λ s. growth (grown size (spot (is_relocatable number) (S.zone store.now))) s ≡ more) }
+    ensures found { FindsGrowth (is_relocatable number) (grown size (spot (is_relocatable number) (S.zone store.now)))
+        (purged result.purges sparing (S.zone store.now)) result.growth }
+    ensures least { growing (is_relocatable number) (grown size (spot (is_relocatable number) (S.zone store.now)))
+        sparing (S.zone store.now) ≡ grow_mover (is_relocatable number)
+        (grown size (spot (is_relocatable number) (S.zone store.now)))
+        (purged result.purges sparing (S.zone store.now)) }
+    ensures searches { result.purges + 1 ≡ growing_searches (is_relocatable number)
+        (grown size (spot (is_relocatable number) (S.zone store.now))) sparing (S.zone store.now) }
+    ensures few { result.purges ≤ GREATEST_ZONE }
 {
-    let mut purges = 0;
-    loop {
-        let growth = growth_after(store, number, size, bytes, more, purges, named);
-        if growth.is_some() {
-            return FoundGrowth { growth, purges };
-        }
-        if store.next_purgeable(purges, named).is_none() {
-            return FoundGrowth {
-                growth: None,
-                purges,
-            };
-        }
-        purges += 1;
+    let look = FirstGrowth {
+        number,
+        size,
+        bytes,
+        more,
+        sparing,
+    };
+    let looked = least_look(store, &look);
+    FoundGrowth {
+        growth: looked.found,
+        purges: looked.purges,
     }
 }
 
@@ -117,13 +171,16 @@ fn pack_seat<S: BlockStore>(store: &mut S, bytes: u32, seat: Seat) -> u32
     ensures blocks { SameBlocks (S.zone store.old) (S.zone store.new) }
     ensures fixed { KeepsFixed (S.zone store.old) (S.zone store.new) }
     ensures rest { KeepsSlots (S.rest store.old) (S.rest store.new) }
+    ensures moves { Packs (place_moves bytes (S.zone store.old)) (S.rest store.old) (S.rest store.new) }
 {
+    // The count of moves is known to fit its type once it is read.
+    let _moves = store.moves();
     let run = match seat {
         Seat::Free(place) => return place,
         Seat::Run(run) => run,
     };
     store.settle(run);
-    let Some(place) = store.find_free(bytes, 0, Named::Nothing) else {
+    let Some(place) = store.find_free(bytes, 0, Sparing::Nothing) else {
         unreachable!()
     };
     place
@@ -139,10 +196,14 @@ fn grow_away<S: BlockStore>(
 ) -> Result<(), AllocError>
     requires takes { size_of (grown size (spot (is_relocatable number) (S.zone store.old))) ≡ bytes }
     requires positive { 0 < bytes }
-    requires found { FindsGrowth (is_relocatable number) (grown size (spot (is_relocatable number) (S.zone store.old))) (S.zone store.old) (Some (Growth.Away seat)) }
-    ensures ok { OnOk result (grow_mover (is_relocatable number) (grown size (spot (is_relocatable number) (S.zone store.old))) (S.zone store.old) ≡ Some (S.zone store.new)) }
+    requires found { FindsGrowth (is_relocatable number) (grown size (spot (is_relocatable number) (S.zone store.old)))
+        (S.zone store.old) (Some (Growth.Away seat)) }
+    ensures ok { OnOk result (grow_mover (is_relocatable number)
+        (grown size (spot (is_relocatable number) (S.zone store.old))) (S.zone store.old) ≡ Some (S.zone store.new)) }
     ensures fixed { KeepsFixed (S.zone store.old) (S.zone store.new) }
     ensures rest { KeepsSlots (S.rest store.old) (S.rest store.new) }
+    ensures moves { Packs (grow_moves (is_relocatable number) (grown size
+        (spot (is_relocatable number) (S.zone store.old))) (S.zone store.old)) (S.rest store.old) (S.rest store.new) }
     ensures host { IsErr result → IsTrue S.TAKES_HOST }
 {
     let place = pack_seat(store, bytes, seat);
@@ -157,10 +218,14 @@ fn grow_as_last<S: BlockStore>(
     run: u32,
 ) -> Result<(), AllocError>
     requires block { IsToGrow (is_relocatable number) size (S.zone store.old) }
-    requires found { FindsGrowth (is_relocatable number) (grown size (spot (is_relocatable number) (S.zone store.old))) (S.zone store.old) (Some (Growth.Last run)) }
-    ensures ok { OnOk result (grow_mover (is_relocatable number) (grown size (spot (is_relocatable number) (S.zone store.old))) (S.zone store.old) ≡ Some (S.zone store.new)) }
+    requires found { FindsGrowth (is_relocatable number) (grown size (spot (is_relocatable number) (S.zone store.old)))
+        (S.zone store.old) (Some (Growth.Last run)) }
+    ensures ok { OnOk result (grow_mover (is_relocatable number)
+        (grown size (spot (is_relocatable number) (S.zone store.old))) (S.zone store.old) ≡ Some (S.zone store.new)) }
     ensures fixed { KeepsFixed (S.zone store.old) (S.zone store.new) }
     ensures rest { KeepsSlots (S.rest store.old) (S.rest store.new) }
+    ensures moves { Packs (grow_moves (is_relocatable number) (grown size
+        (spot (is_relocatable number) (S.zone store.old))) (S.zone store.old)) (S.rest store.old) (S.rest store.new) }
     ensures host { IsErr result → IsTrue S.TAKES_HOST }
 {
     store.hoist(run, number);
@@ -179,12 +244,18 @@ fn carry_out<S: BlockStore>(
     requires block { IsToGrow (is_relocatable number) size (S.zone store.old) }
     requires takes { size_of (grown size (spot (is_relocatable number) (S.zone store.old))) ≡ bytes }
     requires positive { 0 < bytes }
-    requires found { FindsGrowth (is_relocatable number) (grown size (spot (is_relocatable number) (S.zone store.old))) (S.zone store.old) (Some growth) }
-    ensures ok { OnOk result (grow_mover (is_relocatable number) (grown size (spot (is_relocatable number) (S.zone store.old))) (S.zone store.old) ≡ Some (S.zone store.new)) }
+    requires found { FindsGrowth (is_relocatable number) (grown size (spot (is_relocatable number) (S.zone store.old)))
+        (S.zone store.old) (Some growth) }
+    ensures ok { OnOk result (grow_mover (is_relocatable number)
+        (grown size (spot (is_relocatable number) (S.zone store.old))) (S.zone store.old) ≡ Some (S.zone store.new)) }
     ensures fixed { KeepsFixed (S.zone store.old) (S.zone store.new) }
     ensures rest { KeepsSlots (S.rest store.old) (S.rest store.new) }
+    ensures moves { Packs (grow_moves (is_relocatable number) (grown size
+        (spot (is_relocatable number) (S.zone store.old))) (S.zone store.old)) (S.rest store.old) (S.rest store.new) }
     ensures host { IsErr result → IsTrue S.TAKES_HOST }
 {
+    // The count of moves is known to fit its type once it is read.
+    let _moves = store.moves();
     match growth {
         Growth::Up => grow_up(store, number, size),
         Growth::Away(seat) => grow_away(store, number, size, bytes, seat),
@@ -209,27 +280,35 @@ pub fn grow_movable<S: BlockStore>(
     store: &mut S,
     slot: u32,
     bytes: u32,
-    named: Named,
+    sparing: Sparing,
 ) -> Result<Grown, AllocError>
-    requires spared { Spares named (is_relocatable slot) }
-    requires stays { Stays named (is_relocatable slot) }
+    requires spared { Spares sparing (is_relocatable slot) }
+    requires stays { Stays sparing (is_relocatable slot) }
     requires mover { IsSomeAnd (spot (is_relocatable slot) (S.zone store.old)) (λ s. IsTrue (is_mover s.here)) }
     requires more { IsToGrow (is_relocatable slot) bytes (S.zone store.old) }
     requires fits { IsSome (physical_size bytes) }
     ensures zone { IfOk result (λ grown. IfSome (spot (is_relocatable slot) (S.zone store.old)) (λ s.
-        room (grow_mover (is_relocatable slot) (resized bytes s.here)) (spared named) (S.zone store.old) ≡ made_zone grown.done (S.zone store.new))) }
+        room (grow_mover (is_relocatable slot) (resized bytes s.here)) (spared sparing) (S.zone store.old)
+        ≡ made_zone grown.done (S.zone store.new))) }
     ensures full { IfOk result (λ grown. grown.done ≡ false → S.zone store.new ≡ S.zone store.old) }
     ensures searches { IfOk result (λ grown. IfSome (spot (is_relocatable slot) (S.zone store.old)) (λ s.
-        grown.searches ≡ room_searches (grow_mover (is_relocatable slot) (resized bytes s.here)) (spared named) (S.zone store.old))) }
+        grown.searches ≡ room_searches (grow_mover (is_relocatable slot) (resized bytes s.here)) (spared sparing)
+        (S.zone store.old))) }
     ensures fixed { KeepsFixed (S.zone store.old) (S.zone store.new) }
     ensures rest { KeepsSlots (S.rest store.old) (S.rest store.new) }
+    ensures moves { IfSome (spot (is_relocatable slot) (S.zone store.old)) (λ s.
+        Packs (room_moves (grow_mover (is_relocatable slot) (resized bytes s.here))
+        (grow_moves (is_relocatable slot) (resized bytes s.here)) (spared sparing) (S.zone store.old))
+        (S.rest store.old) (S.rest store.new)) }
     ensures host { IsErr result → IsTrue S.TAKES_HOST }
 {
+    // The count of moves is known to fit its type once it is read.
+    let _moves = store.moves();
     let Some(takes) = phys(bytes) else {
         unreachable!()
     };
     let more = takes - bytes_of(store, slot);
-    let found = find_growth(store, slot, bytes, takes, more, named);
+    let found = find_growth(store, slot, bytes, takes, more, sparing);
     let searches = found.purges + 1;
     let Some(growth) = found.growth else {
         return Ok(Grown {
@@ -237,7 +316,7 @@ pub fn grow_movable<S: BlockStore>(
             searches,
         });
     };
-    store.purge(found.purges, named);
+    store.purge(found.purges, sparing);
     carry_out(store, slot, bytes, takes, growth)?;
     Ok(Grown {
         done: true,

@@ -1,18 +1,22 @@
 //! Growth of a block where it stands.
 
-ghost use Rattle.std.specs.Prelude.{◌≡◌, ◌≤◌, ◌<◌, ◌-◌, ◌+◌, ◌%◌, ◌++◌, ◌∷◌, true, false, Some, IsSome, IfSome, IsSomeAnd, IfOk, OnOk, IsErr, IsTrue};
+ghost use Rattle.std.specs.Prelude.{◌≡◌, ◌≤◌, ◌<◌, ◌-◌, ◌+◌, ◌%◌, ◌++◌, ◌∷◌, true, false, Some, IsSome, IfSome};
+ghost use Rattle.std.specs.Prelude.{IsSomeAnd, IfOk, OnOk, IsErr, IsTrue};
 ghost use Rattle.mac_words.specs.Size.{padded, phys as physical_size};
 ghost use Rattle.block_store.specs.Block.{size, sizes, resized};
 ghost use Rattle.block_store.specs.Run.{in_run, has_free, segments};
 ghost use Rattle.block_store.specs.Room.{spot_at, purge, count_of};
 ghost use Rattle.block_store.specs.Grow.{grow_fixed};
-ghost use Rattle.block_store.specs.Named.{spared};
+ghost use Rattle.block_store.specs.Sparing.{spared};
 ghost use Rattle.block_store.specs.Rest.{IsRest};
-ghost use Rattle.heap_calls.specs.GrowingInPlace.{made_zone, enough, seen_size, room_at, FindsPurges, pushed_up};
-ghost use Rattle.heap_calls.specs.Numbered.{KeepsFixed};
+ghost use Rattle.heap_calls.specs.Inner.GrowingInPlace.{made_zone, enough, seen_size, room_at, FindsPurges, pushed_up};
+ghost use Rattle.heap_calls.specs.Inner.Least.{IsMost, enough_above};
+ghost use Rattle.heap_calls.specs.Inner.Numbered.{KeepsFixed};
 ghost use Rattle.heap_calls.specs.Searches.{room_searches, in_place_searches};
+ghost use Rattle.block_store.specs.declared.measures.TheConstants.{GREATEST_ZONE};
 
-use block_store::{BlockStore, Named, Seen};
+use crate::least::{Look, least_look};
+use block_store::{BlockStore, MASTERS_SIZE, Seen, Sparing};
 use mac_words::phys;
 use std::alloc::AllocError;
 
@@ -39,14 +43,16 @@ pub fn grow_in_place<S: BlockStore>(
     store: &mut S,
     place: u32,
     bytes: u32,
-    named: Named,
+    sparing: Sparing,
 ) -> Result<Grown, AllocError>
     requires still { IsSomeAnd (spot_at place (S.zone store.old)) (λ s. in_run s.here ≡ false) }
     requires grows { IsSomeAnd (spot_at place (S.zone store.old)) (λ s. size s.here < size (resized bytes s.here)) }
     requires fits { IsSome (physical_size bytes) }
-    ensures zone { IfOk result (λ grown. IfSome (spot_at place (S.zone store.old)) (λ s. grow_fixed (spared named) (resized bytes s.here) s ≡ made_zone grown.done (S.zone store.new))) }
+    ensures zone { IfOk result (λ grown. IfSome (spot_at place (S.zone store.old))
+        (λ s. grow_fixed (spared sparing) (resized bytes s.here) s ≡ made_zone grown.done (S.zone store.new))) }
     ensures none { IfOk result (λ grown. grown.done ≡ false → S.zone store.new ≡ S.zone store.old) }
-    ensures searches { IfOk result (λ grown. IfSome (spot_at place (S.zone store.old)) (λ s. grown.searches ≡ in_place_searches (spared named) (resized bytes s.here) s)) }
+    ensures searches { IfOk result (λ grown. IfSome (spot_at place (S.zone store.old))
+        (λ s. grown.searches ≡ in_place_searches (spared sparing) (resized bytes s.here) s)) }
     ensures fixed { KeepsFixed (S.zone store.old) (S.zone store.new) }
     ensures rest { IsRest (S.rest store.old) (S.rest store.new) }
     ensures host { IsErr result → IsTrue S.TAKES_HOST }
@@ -61,14 +67,14 @@ pub fn grow_in_place<S: BlockStore>(
             searches: 1,
         });
     }
-    let fewest = least_purges(store, place, more, named);
+    let fewest = least_purges(store, place, more, sparing);
     let Some(purges) = fewest.purges else {
         return Ok(Grown {
             done: false,
             searches: fewest.searches,
         });
     };
-    push_up(store, place, taken, more, purges, named)?;
+    push_up(store, place, taken, more, purges, sparing)?;
     store.resize(place, bytes)?;
     Ok(Grown {
         done: true,
@@ -89,13 +95,13 @@ fn padded_size(bytes: u32) -> u32
 
 /// The bytes that a block takes.
 fn seen_bytes(seen: Seen) -> u32
-    requires { seen_size seen ≤ 134217728 }
+    requires { seen_size seen ≤ GREATEST_ZONE }
     ensures { result ≡ seen_size seen }
 {
     match seen {
         Seen::Free(bytes) => bytes,
         Seen::Fixed(bytes) => padded_size(bytes),
-        Seen::Masters => 272,
+        Seen::Masters => MASTERS_SIZE,
         Seen::Relocatable(_, _, bytes) => padded_size(bytes),
     }
 }
@@ -121,28 +127,65 @@ fn has_room_at<S: BlockStore>(store: &S, place: u32, bytes: u32) -> bool
     }
 }
 
+/// So many Free bytes in the run above the block at a place, where at most so many blocks may go from it.
+#[derive(Clone, Copy)]
+struct RunAbove {
+    place: u32,
+    bytes: u32,
+    sparing: Sparing,
+    most: u32,
+}
+
+impl Look for RunAbove {
+    type Found = ();
+
+    ghost Allows = { λ look zone. IsMost look.most look.sparing (spot_at look.place zone) };
+
+    ghost is_there = { λ look zone k. enough_above look.bytes k look.sparing (spot_at look.place zone) };
+
+    ghost most = { λ look zone. look.most };
+
+    ghost Finds = { λ look zone k found. Unit {0} };
+
+    fn look<S: BlockStore>(&self, store: &S, purges: u32) -> Option<()> {
+        if store.run_after(self.place, self.bytes, purges, self.sparing) {
+            Some(())
+        } else {
+            None
+        }
+    }
+
+    fn goes_on<S: BlockStore>(&self, store: &S, purges: u32) -> bool {
+        purges < self.most
+    }
+}
+
 /// How few blocks go from the run above the block at a place for it to have so many Free bytes.
-fn least_purges<S: BlockStore>(store: &S, place: u32, bytes: u32, named: Named) -> Fewest
+fn least_purges<S: BlockStore>(store: &S, place: u32, bytes: u32, sparing: Sparing) -> Fewest
     requires { IsSome (spot_at place (S.zone store.now)) }
-    ensures found { IfSome (spot_at place (S.zone store.now)) (λ s. FindsPurges bytes (spared named) (segments s.above).first result.purges) }
-    ensures searches { IfSome (spot_at place (S.zone store.now)) (λ s. result.searches ≡ room_searches (enough bytes) (spared named) (segments s.above).first) }
+    ensures found { IfSome (spot_at place (S.zone store.now)) (λ s. FindsPurges bytes (spared sparing)
+        (segments s.above).first result.purges) }
+    ensures searches { IfSome (spot_at place (S.zone store.now))
+        (λ s. result.searches ≡ room_searches (enough bytes) (spared sparing) (segments s.above).first) }
 {
-    let most = store.purgeable_after(place, named);
-    let mut purges = 0;
-    loop {
-        if store.run_after(place, bytes, purges, named) {
-            return Fewest {
-                purges: Some(purges),
-                searches: purges + 1,
-            };
-        }
-        if purges == most {
-            return Fewest {
-                purges: None,
-                searches: purges + 1,
-            };
-        }
-        purges += 1;
+    let most = store.purgeable_after(place, sparing);
+    let look = RunAbove {
+        place,
+        bytes,
+        sparing,
+        most,
+    };
+    let looked = least_look(store, &look);
+    let searches = looked.purges + 1;
+    let Some(()) = looked.found else {
+        return Fewest {
+            purges: None,
+            searches,
+        };
+    };
+    Fewest {
+        purges: Some(looked.purges),
+        searches,
     }
 }
 
@@ -154,17 +197,20 @@ fn push_up<S: BlockStore>(
     taken: u32,
     bytes: u32,
     purges: u32,
-    named: Named,
+    sparing: Sparing,
 ) -> Result<(), AllocError>
-    requires still { IsSomeAnd (spot_at place (S.zone store.old)) (λ s. (in_run s.here ≡ false) × (taken ≡ size s.here)) }
-    requires room { IsSomeAnd (spot_at place (S.zone store.old)) (λ s. (purges ≤ count_of (spared named) (segments s.above).first)
-        × (has_free bytes (purge purges (spared named) (segments s.above).first) ≡ true)) }
+    requires still { IsSomeAnd (spot_at place (S.zone store.old))
+        (λ s. (in_run s.here ≡ false) × (taken ≡ size s.here)) }
+    requires room { IsSomeAnd (spot_at place (S.zone store.old))
+        (λ s. (purges ≤ count_of (spared sparing) (segments s.above).first)
+        × (has_free bytes (purge purges (spared sparing) (segments s.above).first) ≡ true)) }
     requires even { bytes % 16 ≡ 0 }
-    ensures zone { OnOk result (IfSome (spot_at place (S.zone store.old)) (λ s. S.zone store.new ≡ s.below ++ s.here ∷ pushed_up bytes purges (spared named) s.above)) }
+    ensures zone { OnOk result (IfSome (spot_at place (S.zone store.old))
+        (λ s. S.zone store.new ≡ s.below ++ s.here ∷ pushed_up bytes purges (spared sparing) s.above)) }
     ensures fixed { KeepsFixed (S.zone store.old) (S.zone store.new) }
     ensures rest { IsRest (S.rest store.old) (S.rest store.new) }
     ensures host { IsErr result → IsTrue S.TAKES_HOST }
 {
-    store.purge_after(place, purges, named);
+    store.purge_after(place, purges, sparing);
     store.raise(place + taken, bytes)
 }

@@ -2,20 +2,24 @@
 
 ghost use Rattle.std.specs.Prelude.{◌≡◌, ◌≢◌, ◌⊎◌, IsTrue};
 ghost use Rattle.block_store.specs.Block.{fresh, sizes};
-ghost use Rattle.heap_calls.specs.Given.{IsAnswer, IsShown, KeepsNames, FindsBlock, last_after};
-ghost use Rattle.heap_calls.specs.Numbered.{Agrees};
+ghost use Rattle.heap_calls.specs.Asked.{packing};
+ghost use Rattle.heap_calls.specs.Inner.Given.{IsAnswer, IsShown, KeepsNames, FindsBlock, last_after};
+ghost use Rattle.heap_calls.specs.Inner.Numbered.{Agrees};
 ghost use Rattle.heap_calls.specs.State.{fresh_memory};
-ghost use Rattle.heap_calls.specs.Answer.{dispose_handle, get_handle_size, free_mem, put, show, noting, searching, silent};
+ghost use Rattle.heap_calls.specs.Answer.{dispose_handle, get_handle_size, free_mem, put, show, noting, searching};
+ghost use Rattle.heap_calls.specs.Answer.{silent, moving};
 ghost use Rattle.heap_calls.specs.Slots.{new_handle};
+ghost use Rattle.heap_calls.specs.Moves.{new_handle_moves};
 ghost use Rattle.heap_calls.specs.Searches.{new_handle_searches};
 ghost use Rattle.heap_calls.specs.Pointers.{place_of};
+ghost use Rattle.block_store.specs.declared.measures.TheConstants.{SLOTS_A_BLOCK};
 
+use crate::anchor::{Anchor, slot_of};
 use crate::log::Log;
-use crate::name::{Entry, slot_of};
 use crate::new_block::new_block;
 use crate::pointers::find_named;
 use crate::refusal::Refusal;
-use block_store::{BlockStore, Named};
+use block_store::{BlockStore, HEADER_SIZE, Sparing};
 use mac_words::OsErr;
 use std::alloc::{AllocError, Global};
 use std::marker::Model;
@@ -27,7 +31,7 @@ use std::marker::Model;
 #[derive(Drop)]
 pub struct Heap<S: BlockStore> {
     pub(crate) store: S,
-    pub(crate) names: Vec<Entry>,
+    pub(crate) names: Vec<Anchor>,
     pub(crate) log: Log,
 }
 
@@ -36,7 +40,7 @@ impl<S: BlockStore> Model for Heap<S> {
 
     ghost Value = { Memory };
 
-    ghost use Rattle.heap_calls.specs.Numbered.{memory_of, Agrees};
+    ghost use Rattle.heap_calls.specs.Inner.Numbered.{memory_of, Agrees};
 
     ghost view = { λ a. memory_of (S.zone a.store) (S.rest a.store) a.names.items a.log };
 
@@ -47,8 +51,9 @@ impl<S: BlockStore> Heap<S> {
     /// A heap over the store of a fresh zone.
     pub fn new(alloc: Global, store: S) -> Self
         requires zone { S.zone store ≡ fresh (sizes (S.zone store)) }
-        requires unused { (S.rest store).unused ≡ 64 }
-        requires all { (S.rest store).all ≡ 64 }
+        requires unused { (S.rest store).unused ≡ SLOTS_A_BLOCK }
+        requires all { (S.rest store).all ≡ SLOTS_A_BLOCK }
+        requires moves { (S.rest store).moves ≡ 0 }
         ensures { result ≡ fresh_memory (sizes (S.zone store)) (S.rest store).window }
     {
         Heap {
@@ -65,7 +70,8 @@ impl<S: BlockStore> Heap<S> {
     /// are used and there is no room for more. A want of host memory leaves all but the zone as it was, and
     /// the zone too over a store that takes no host memory.
     pub fn new_handle(&mut self, size: u32) -> Result<usize, Refusal>
-        ensures answer { IsAnswer (searching (new_handle_searches size self.old.heap) (noting (new_handle size) self.old)) result self.new }
+        ensures answer { IsAnswer (packing (new_handle_moves size) (new_handle_searches size) (new_handle size)
+            self.old) result self.new }
         ensures host { result ≡ Err Refusal.HostMemory → IsTrue S.TAKES_HOST ⊎ (self.new ≡ self.old) }
         ensures kept { result ≡ Err Refusal.HostMemory → KeepsNames self.old self.new }
     {
@@ -107,6 +113,14 @@ impl<S: BlockStore> Heap<S> {
         looks.searches
     }
 
+    /// How many blocks packing has moved down so far; the count stays at its greatest value. A block that moves
+    /// up, for room at the base of a run or to the top of one, isn't counted.
+    pub fn moves(&self) -> u64
+        ensures { result ≡ self.now.moves }
+    {
+        self.store.moves()
+    }
+
     /// `MemError`: the code of the last call that has one.
     pub fn mem_error(&self) -> OsErr
         ensures { result ≡ self.now.log.code }
@@ -144,23 +158,24 @@ impl<S: BlockStore> Heap<S> {
         ensures host { result ≢ Err Refusal.HostMemory }
     {
         let place = find_named(&self.store, &self.names, name)?;
-        Ok(place + 16)
+        Ok(place + HEADER_SIZE)
     }
 
     /// A new handle.
     fn make_handle(&mut self, size: u32) -> Result<usize, Refusal>
-        ensures answer { IsAnswer (searching (new_handle_searches size self.old.heap) (silent (new_handle size) self.old)) result self.new }
+        ensures answer { IsAnswer (moving (new_handle_moves size self.old.heap)
+            (searching (new_handle_searches size self.old.heap) (silent (new_handle size) self.old))) result self.new }
         ensures host { result ≡ Err Refusal.HostMemory → IsTrue S.TAKES_HOST ⊎ (self.new ≡ self.old) }
         ensures kept { result ≡ Err Refusal.HostMemory → KeepsNames self.old self.new }
     {
         self.names.reserve(1)?;
-        let made = new_block(&mut self.store, size, Named::Nothing)?;
+        let made = new_block(&mut self.store, size, Sparing::Nothing)?;
         self.log.count(made.searches);
         let Some(slot) = made.slot else {
             return Err(Refusal::Code(OsErr::MEM_FULL));
         };
         let number = self.names.len();
-        self.names.push_reserved(Entry::Handle(slot));
+        self.names.push_reserved(Anchor::Handle(slot));
         Ok(number)
     }
 
@@ -172,7 +187,7 @@ impl<S: BlockStore> Heap<S> {
         let found = slot_of(&self.names, handle)?;
         self.store.release(found.slot);
         self.store.give_slot(found.slot);
-        self.names[found.number] = Entry::Disposed;
+        self.names[found.number] = Anchor::Disposed;
         Ok(())
     }
 
@@ -188,7 +203,10 @@ impl<S: BlockStore> Heap<S> {
     /// Keeps the code of a call, and passes its answer on.
     pub(crate) fn note<T>(&mut self, answer: Result<T, Refusal>) -> Result<T, Refusal>
         ensures answer { result ≡ answer }
-        ensures noted { self.new ≡ record self.old { log = record self.old.log { code = last_after answer self.old.log.code } } }
+        ensures noted { self.new ≡ record self.old {
+          log = record self.old.log
+              { code = last_after answer self.old.log.code };
+        } }
     {
         match &answer {
             Ok(_) => self.log.code = OsErr::NO_ERR,
@@ -202,7 +220,7 @@ impl<S: BlockStore> Heap<S> {
 /// The store's place of the block of the handle that a name is bound to.
 pub(crate) fn find_block<S: BlockStore>(
     store: &S,
-    names: &[Entry],
+    names: &[Anchor],
     handle: Option<usize>,
 ) -> Result<u32, Refusal>
     requires { Agrees (S.zone store.now) (S.rest store.now) names.now }

@@ -2,6 +2,7 @@
 //! definition answers it.
 #![tactic(auto)]
 
+mod anchor;
 mod appending;
 mod base;
 mod compaction;
@@ -12,10 +13,10 @@ mod growing;
 mod growing_in_place;
 mod heap;
 mod laws;
+mod least;
 mod locking;
 mod log;
 mod masters;
-mod name;
 mod new_block;
 mod pointer_sizing;
 mod pointers;
@@ -25,10 +26,13 @@ mod refusal;
 mod search;
 mod sizing;
 
+pub use anchor::Anchor;
 pub use heap::Heap;
-pub use laws::new_handle_is_full_only_without_room;
+pub use laws::{
+    a_call_looks_few_times, a_refused_call_leaves_the_heap,
+    compaction_moves_each_block_at_most_once, new_handle_is_full_only_without_room,
+};
 pub use log::Log;
-pub use name::Entry;
 pub use purging::Space;
 pub use refusal::Refusal;
 

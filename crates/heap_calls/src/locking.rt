@@ -1,13 +1,13 @@
 //! Locking handles and moving them out of the way.
 
 ghost use Rattle.std.specs.Prelude.{◌≡◌, ◌≢◌};
-ghost use Rattle.heap_calls.specs.Given.{IsAnswer, seen_mover};
+ghost use Rattle.heap_calls.specs.Inner.Given.{IsAnswer, seen_mover};
 ghost use Rattle.heap_calls.specs.Answer.{h_lock, h_unlock, move_hhi, hlock_hi, noting, silent};
 
+use crate::anchor::slot_of;
 use crate::heap::Heap;
-use crate::name::slot_of;
 use crate::refusal::Refusal;
-use block_store::{BlockStore, Named, Seen};
+use block_store::{BlockStore, Seen, Sparing};
 use mac_words::OsErr;
 
 impl<S: BlockStore> Heap<S> {
@@ -59,7 +59,7 @@ impl<S: BlockStore> Heap<S> {
         if !can_move(self.store.block_at(place)) {
             return Err(Refusal::Code(OsErr::LOCKED));
         }
-        let Some(run) = self.store.run_of(found.slot, 0, 0, Named::Nothing) else {
+        let Some(run) = self.store.run_of(found.slot, 0, 0, Sparing::Nothing) else {
             return Ok(());
         };
         self.store.hoist(run, found.slot);

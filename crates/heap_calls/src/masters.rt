@@ -2,26 +2,27 @@
 
 ghost use Rattle.std.specs.Prelude.{◌≡◌, ◌⊎◌, IsTrue};
 ghost use Rattle.mac_words.specs.Size.{phys as physical_size};
-ghost use Rattle.heap_calls.specs.Given.{IsAnswer, KeepsNames};
+ghost use Rattle.heap_calls.specs.Inner.Given.{IsAnswer, KeepsMoves};
 ghost use Rattle.heap_calls.specs.Answer.{noting, searching, silent};
 ghost use Rattle.heap_calls.specs.Slots.{new_empty_handle};
 ghost use Rattle.heap_calls.specs.Pointers.{add_masters, reserve_mem};
 ghost use Rattle.heap_calls.specs.Searches.{new_empty_handle_searches, more_masters_searches, reserve_searches};
 
+use crate::anchor::Anchor;
 use crate::base::{make_base, make_masters, make_slot};
 use crate::heap::Heap;
-use crate::name::Entry;
 use crate::refusal::Refusal;
-use block_store::{BlockStore, Named};
+use block_store::{BlockStore, Sparing};
 use mac_words::{OsErr, phys};
 
 impl<S: BlockStore> Heap<S> {
     /// `NewEmptyHandle`: a new handle with no block. -108 where all slots are used and there is no room for
     /// more.
     pub fn new_empty_handle(&mut self) -> Result<usize, Refusal>
-        ensures answer { IsAnswer (searching (new_empty_handle_searches self.old.heap) (noting new_empty_handle self.old)) result self.new }
+        ensures answer { IsAnswer (searching (new_empty_handle_searches self.old.heap)
+            (noting new_empty_handle self.old)) result self.new }
         ensures host { result ≡ Err Refusal.HostMemory → IsTrue S.TAKES_HOST ⊎ (self.new ≡ self.old) }
-        ensures kept { result ≡ Err Refusal.HostMemory → KeepsNames self.old self.new }
+        ensures kept { result ≡ Err Refusal.HostMemory → KeepsMoves self.old self.new }
     {
         let answer = self.make_empty_handle();
         self.note(answer)
@@ -29,9 +30,10 @@ impl<S: BlockStore> Heap<S> {
 
     /// `MoreMasters`: 64 slots more, at the base of a run; -108 where there is no room for them.
     pub fn more_masters(&mut self) -> Result<(), Refusal>
-        ensures answer { IsAnswer (searching (more_masters_searches self.old.heap) (noting add_masters self.old)) result self.new }
-        ensures host { result ≡ Err Refusal.HostMemory → IsTrue S.TAKES_HOST ⊎ (self.new ≡ self.old) }
-        ensures kept { result ≡ Err Refusal.HostMemory → KeepsNames self.old self.new }
+        ensures answer { IsAnswer (searching (more_masters_searches self.old.heap) (noting add_masters self.old)) result
+            self.new }
+        ensures host { result ≡ Err Refusal.HostMemory → IsTrue S.TAKES_HOST }
+        ensures kept { result ≡ Err Refusal.HostMemory → KeepsMoves self.old self.new }
     {
         let answer = self.add_masters();
         self.note(answer)
@@ -39,9 +41,10 @@ impl<S: BlockStore> Heap<S> {
 
     /// `ReserveMem`: makes room for a block of `size` bytes as low as it goes; -108 where there is none.
     pub fn reserve_mem(&mut self, size: u32) -> Result<(), Refusal>
-        ensures answer { IsAnswer (searching (reserve_searches (physical_size size) self.old.heap) (noting (reserve_mem size) self.old)) result self.new }
-        ensures host { result ≡ Err Refusal.HostMemory → IsTrue S.TAKES_HOST ⊎ (self.new ≡ self.old) }
-        ensures kept { result ≡ Err Refusal.HostMemory → KeepsNames self.old self.new }
+        ensures answer { IsAnswer (searching (reserve_searches (physical_size size) self.old.heap)
+            (noting (reserve_mem size) self.old)) result self.new }
+        ensures host { result ≡ Err Refusal.HostMemory → IsTrue S.TAKES_HOST }
+        ensures kept { result ≡ Err Refusal.HostMemory → KeepsMoves self.old self.new }
     {
         let answer = self.reserve_base(size);
         self.note(answer)
@@ -49,28 +52,30 @@ impl<S: BlockStore> Heap<S> {
 
     /// A new handle with no block.
     fn make_empty_handle(&mut self) -> Result<usize, Refusal>
-        ensures answer { IsAnswer (searching (new_empty_handle_searches self.old.heap) (silent new_empty_handle self.old)) result self.new }
+        ensures answer { IsAnswer (searching (new_empty_handle_searches self.old.heap)
+            (silent new_empty_handle self.old)) result self.new }
         ensures host { result ≡ Err Refusal.HostMemory → IsTrue S.TAKES_HOST ⊎ (self.new ≡ self.old) }
-        ensures kept { result ≡ Err Refusal.HostMemory → KeepsNames self.old self.new }
+        ensures kept { result ≡ Err Refusal.HostMemory → KeepsMoves self.old self.new }
     {
         self.names.reserve(1)?;
-        let taken = make_slot(&mut self.store, Named::Nothing)?;
+        let taken = make_slot(&mut self.store, Sparing::Nothing)?;
         self.log.count(taken.searches);
         let Some(slot) = taken.slot else {
             return Err(Refusal::Code(OsErr::MEM_FULL));
         };
         let number = self.names.len();
-        self.names.push_reserved(Entry::Handle(slot));
+        self.names.push_reserved(Anchor::Handle(slot));
         Ok(number)
     }
 
     /// A Masters block more.
     fn add_masters(&mut self) -> Result<(), Refusal>
-        ensures answer { IsAnswer (searching (more_masters_searches self.old.heap) (silent add_masters self.old)) result self.new }
-        ensures host { result ≡ Err Refusal.HostMemory → IsTrue S.TAKES_HOST ⊎ (self.new ≡ self.old) }
-        ensures kept { result ≡ Err Refusal.HostMemory → KeepsNames self.old self.new }
+        ensures answer { IsAnswer (searching (more_masters_searches self.old.heap) (silent add_masters self.old)) result
+            self.new }
+        ensures host { result ≡ Err Refusal.HostMemory → IsTrue S.TAKES_HOST }
+        ensures kept { result ≡ Err Refusal.HostMemory → KeepsMoves self.old self.new }
     {
-        let room = make_masters(&mut self.store, Named::Nothing)?;
+        let room = make_masters(&mut self.store, Sparing::Nothing)?;
         self.log.count(room.searches);
         let Some(_) = room.place else {
             return Err(Refusal::Code(OsErr::MEM_FULL));
@@ -80,16 +85,17 @@ impl<S: BlockStore> Heap<S> {
 
     /// Room for a block at the base of a run.
     fn reserve_base(&mut self, size: u32) -> Result<(), Refusal>
-        ensures answer { IsAnswer (searching (reserve_searches (physical_size size) self.old.heap) (silent (reserve_mem size) self.old)) result self.new }
-        ensures host { result ≡ Err Refusal.HostMemory → IsTrue S.TAKES_HOST ⊎ (self.new ≡ self.old) }
-        ensures kept { result ≡ Err Refusal.HostMemory → KeepsNames self.old self.new }
+        ensures answer { IsAnswer (searching (reserve_searches (physical_size size) self.old.heap)
+            (silent (reserve_mem size) self.old)) result self.new }
+        ensures host { result ≡ Err Refusal.HostMemory → IsTrue S.TAKES_HOST }
+        ensures kept { result ≡ Err Refusal.HostMemory → KeepsMoves self.old self.new }
     {
         // The count of searches is known to fit its type once it is read.
         let _searches = self.log.searches;
         let Some(bytes) = phys(size) else {
             return Err(Refusal::Code(OsErr::MEM_FULL));
         };
-        let room = make_base(&mut self.store, bytes, Named::Nothing)?;
+        let room = make_base(&mut self.store, bytes, Sparing::Nothing)?;
         self.log.count(room.searches);
         let Some(_) = room.place else {
             return Err(Refusal::Code(OsErr::MEM_FULL));

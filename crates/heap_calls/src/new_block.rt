@@ -1,17 +1,18 @@
 //! New relocatable blocks.
 
-ghost use Rattle.heap_calls.specs.Numbered.{KeepsFixed};
+ghost use Rattle.heap_calls.specs.Inner.Numbered.{KeepsFixed};
 ghost use Rattle.std.specs.Prelude.{◌≡◌, ◌≤◌, false, IfOk, OnErr, IsErr, IsTrue};
 ghost use Rattle.block_store.specs.Block.{is_relocatable};
 ghost use Rattle.block_store.specs.Rest.{KeepsSlots};
 ghost use Rattle.block_store.specs.Run.{has};
 ghost use Rattle.block_store.specs.Slot.{is_used};
-ghost use Rattle.heap_calls.specs.NewBlock.{IsAdded, IsNewBlock, given_back, new_searches, place_searches};
-ghost use Rattle.heap_calls.specs.NewSlot.{HasMore};
+ghost use Rattle.heap_calls.specs.Inner.NewBlock.{IsAdded, IsNewBlock, given_back, new_searches, place_searches};
+ghost use Rattle.heap_calls.specs.Inner.NewSlot.{HasMore};
+ghost use Rattle.heap_calls.specs.Inner.Packed.{Packs, content_moves, new_moves};
 
 use crate::base::{Taken, make_slot};
 use crate::search::{Room, make_room};
-use block_store::{BlockStore, Named};
+use block_store::{BlockStore, Sparing};
 use mac_words::phys;
 use std::alloc::AllocError;
 
@@ -23,17 +24,21 @@ fn add_block<S: BlockStore>(
     store: &mut S,
     slot: u32,
     size: u32,
-    named: Named,
+    sparing: Sparing,
 ) -> Result<Room, AllocError>
     requires used { IsTrue (is_used ((S.rest store.old).slots slot)) }
     requires none { has (is_relocatable slot) (S.zone store.old) ≡ false }
-    ensures added { IfOk result (λ r. IsAdded named slot size (S.zone store.old) (S.rest store.old) r.place (S.zone store.new) (S.rest store.new)) }
+    ensures added { IfOk result (λ r. IsAdded sparing slot size (S.zone store.old) (S.rest store.old) r.place
+        (S.zone store.new) (S.rest store.new)) }
     ensures kept { OnErr result (KeepsSlots (given_back slot (S.rest store.old)) (S.rest store.new)) }
-    ensures searches { IfOk result (λ r. r.searches ≡ place_searches named size (S.zone store.old)) }
+    ensures searches { IfOk result (λ r. r.searches ≡ place_searches sparing size (S.zone store.old)) }
     ensures fixed { KeepsFixed (S.zone store.old) (S.zone store.new) }
     ensures few { IfOk result (λ r. r.searches ≤ 134217729) }
+    ensures moves { Packs (content_moves sparing size (S.zone store.old)) (S.rest store.old) (S.rest store.new) }
     ensures host { IsErr result → IsTrue S.TAKES_HOST }
 {
+    // The count of moves is known to fit its type once it is read.
+    let _moves = store.moves();
     let Some(bytes) = phys(size) else {
         store.give_slot(slot);
         return Ok(Room {
@@ -41,7 +46,7 @@ fn add_block<S: BlockStore>(
             searches: 0,
         });
     };
-    let room = make_room(store, bytes, named);
+    let room = make_room(store, bytes, sparing);
     let Some(place) = room.place else {
         store.give_slot(slot);
         return Ok(room);
@@ -57,18 +62,28 @@ fn add_block<S: BlockStore>(
 
 /// Puts a new block of `size` bytes 0 where there is room, for a slot of its own, and answers that; `None`
 /// where no slot can be had, the block would be too large, or there is no room.
-pub fn new_block<S: BlockStore>(store: &mut S, size: u32, named: Named) -> Result<Taken, AllocError>
-    ensures answer { IfOk result (λ r. IsNewBlock named size (S.zone store.old) (S.rest store.old) r.slot (S.zone store.new) (S.rest store.new)) }
+pub fn new_block<S: BlockStore>(
+    store: &mut S,
+    size: u32,
+    sparing: Sparing,
+) -> Result<Taken, AllocError>
+    ensures answer { IfOk result (λ r. IsNewBlock sparing size (S.zone store.old) (S.rest store.old) r.slot
+        (S.zone store.new) (S.rest store.new)) }
     ensures kept { OnErr result (HasMore (S.rest store.old) (S.rest store.new)) }
     ensures fixed { KeepsFixed (S.zone store.old) (S.zone store.new) }
-    ensures searches { IfOk result (λ r. r.searches ≡ new_searches named size (S.rest store.old).unused (S.zone store.old)) }
+    ensures searches { IfOk result (λ r. r.searches ≡ new_searches sparing size (S.rest store.old).unused
+        (S.zone store.old)) }
+    ensures moves { IfOk result (λ _. Packs (new_moves sparing size (S.rest store.old).unused (S.zone store.old))
+        (S.rest store.old) (S.rest store.new)) }
     ensures host { IsErr result → IsTrue S.TAKES_HOST }
 {
-    let taken = make_slot(store, named)?;
+    // The count of moves is known to fit its type once it is read.
+    let _moves = store.moves();
+    let taken = make_slot(store, sparing)?;
     let Some(slot) = taken.slot else {
         return Ok(taken);
     };
-    let room = add_block(store, slot, size, named)?;
+    let room = add_block(store, slot, size, sparing)?;
     let searches = taken.searches + room.searches;
     let Some(_) = room.place else {
         return Ok(Taken {

@@ -5,18 +5,18 @@ ghost use Rattle.block_store.specs.Block.{is_fixed};
 ghost use Rattle.block_store.specs.Find.{FindsLowest};
 ghost use Rattle.block_store.specs.Rest.{IsRest};
 ghost use Rattle.heap_calls.specs.Answer.{nothing, noting, searching, silent};
-ghost use Rattle.heap_calls.specs.Given.{IsAnswer, KeepsNames};
-ghost use Rattle.heap_calls.specs.Growing.{fitted};
-ghost use Rattle.heap_calls.specs.GrowingInPlace.{made_zone};
-ghost use Rattle.heap_calls.specs.Numbered.{KeepsFixed};
+ghost use Rattle.heap_calls.specs.Inner.Given.{IsAnswer, KeepsMoves};
+ghost use Rattle.heap_calls.specs.Inner.Growing.{fitted};
+ghost use Rattle.heap_calls.specs.Inner.GrowingInPlace.{made_zone};
+ghost use Rattle.heap_calls.specs.Inner.Numbered.{KeepsFixed};
 ghost use Rattle.heap_calls.specs.Pointers.{set_pointer_size};
 ghost use Rattle.heap_calls.specs.Searches.{size_searches, set_pointer_size_searches};
 
+use crate::anchor::target_of;
 use crate::growing_in_place::{Grown, bytes_at, grow_in_place};
 use crate::heap::Heap;
-use crate::name::target_of;
 use crate::refusal::Refusal;
-use block_store::{BlockStore, Named};
+use block_store::{BlockStore, Sparing};
 use mac_words::phys;
 use std::alloc::AllocError;
 
@@ -26,9 +26,10 @@ impl<S: BlockStore> Heap<S> {
     ///
     /// *Inside Macintosh: Memory*, chapter 2, "Changing the Sizes of Relocatable and Nonrelocatable Blocks".
     pub fn set_pointer_size(&mut self, pointer: Option<usize>, size: u32) -> Result<(), Refusal>
-        ensures answer { IsAnswer (searching (set_pointer_size_searches pointer size self.old.heap) (noting (set_pointer_size pointer size) self.old)) result self.new }
+        ensures answer { IsAnswer (searching (set_pointer_size_searches pointer size self.old.heap)
+            (noting (set_pointer_size pointer size) self.old)) result self.new }
         ensures host { result ≡ Err Refusal.HostMemory → IsTrue S.TAKES_HOST }
-        ensures kept { result ≡ Err Refusal.HostMemory → KeepsNames self.old self.new }
+        ensures kept { result ≡ Err Refusal.HostMemory → KeepsMoves self.old self.new }
     {
         let answer = self.fit_pointer(pointer, size);
         self.note(answer)
@@ -36,9 +37,10 @@ impl<S: BlockStore> Heap<S> {
 
     /// Gives a pointer another size.
     fn fit_pointer(&mut self, pointer: Option<usize>, size: u32) -> Result<(), Refusal>
-        ensures answer { IsAnswer (searching (set_pointer_size_searches pointer size self.old.heap) (silent (set_pointer_size pointer size) self.old)) result self.new }
+        ensures answer { IsAnswer (searching (set_pointer_size_searches pointer size self.old.heap)
+            (silent (set_pointer_size pointer size) self.old)) result self.new }
         ensures host { result ≡ Err Refusal.HostMemory → IsTrue S.TAKES_HOST }
-        ensures kept { result ≡ Err Refusal.HostMemory → KeepsNames self.old self.new }
+        ensures kept { result ≡ Err Refusal.HostMemory → KeepsMoves self.old self.new }
     {
         // The count of looks is known to fit its type once it is read.
         let _searches = self.log.searches;
@@ -51,9 +53,11 @@ impl<S: BlockStore> Heap<S> {
 /// Gives the Fixed block at a place another size: cuts it, or lets it grow, where it stands.
 fn fit_fixed<S: BlockStore>(store: &mut S, place: u32, size: u32) -> Result<Grown, AllocError>
     requires { FindsLowest (is_fixed place) (S.zone store.old) (Some place) }
-    ensures zone { IfOk result (λ grown. fitted (is_fixed place) nothing size (S.zone store.old) ≡ made_zone grown.done (S.zone store.new)) }
+    ensures zone { IfOk result (λ grown. fitted (is_fixed place) nothing size (S.zone store.old)
+        ≡ made_zone grown.done (S.zone store.new)) }
     ensures full { IfOk result (λ grown. grown.done ≡ false → S.zone store.new ≡ S.zone store.old) }
-    ensures searches { IfOk result (λ grown. grown.searches ≡ size_searches (is_fixed place) nothing size (S.zone store.old)) }
+    ensures searches { IfOk result (λ grown. grown.searches ≡ size_searches (is_fixed place) nothing size
+        (S.zone store.old)) }
     ensures fixed { KeepsFixed (S.zone store.old) (S.zone store.new) }
     ensures rest { IsRest (S.rest store.old) (S.rest store.new) }
     ensures host { IsErr result → IsTrue S.TAKES_HOST }
@@ -71,5 +75,5 @@ fn fit_fixed<S: BlockStore>(store: &mut S, place: u32, size: u32) -> Result<Grow
             searches: 0,
         });
     }
-    grow_in_place(store, place, size, Named::Nothing)
+    grow_in_place(store, place, size, Sparing::Nothing)
 }

@@ -2,20 +2,21 @@
 
 ghost use Rattle.std.specs.Prelude.{◌≡◌, ◌≢◌, ◌⊎◌, IfOk, OnErr, IsErr, IsTrue};
 ghost use Rattle.block_store.specs.Rest.{IsRest};
-ghost use Rattle.heap_calls.specs.Given.{IsAnswer, IsShown, KeepsNames};
+ghost use Rattle.heap_calls.specs.Inner.Given.{IsAnswer, IsShown, KeepsMoves};
 ghost use Rattle.heap_calls.specs.Answer.{noting, searching, silent};
-ghost use Rattle.heap_calls.specs.NewPointer.{IsNewFixed, fixed_searches};
+ghost use Rattle.heap_calls.specs.Inner.NewPointer.{IsNewFixed, fixed_searches};
 ghost use Rattle.heap_calls.specs.Searches.{new_pointer_searches};
-ghost use Rattle.heap_calls.specs.Pointers.{new_pointer, dispose_pointer, get_pointer_size, show_pointer, put_pointer, block_named};
-ghost use Rattle.heap_calls.specs.Pointing.{FindsHeld};
-ghost use Rattle.heap_calls.specs.Numbered.{Agrees, KeepsFixed, state_of};
+ghost use Rattle.heap_calls.specs.Pointers.{new_pointer, dispose_pointer, get_pointer_size, show_pointer, put_pointer};
+ghost use Rattle.heap_calls.specs.Pointers.{block_named};
+ghost use Rattle.heap_calls.specs.Inner.Pointing.{FindsHeld};
+ghost use Rattle.heap_calls.specs.Inner.Numbered.{Agrees, KeepsFixed, state_of};
 
+use crate::anchor::{Anchor, target_of};
 use crate::base::make_base;
 use crate::heap::{Heap, find_block};
-use crate::name::{Entry, target_of};
 use crate::refusal::Refusal;
 use crate::search::Room;
-use block_store::{BlockStore, Named};
+use block_store::{BlockStore, Sparing};
 use mac_words::{OsErr, phys};
 use std::alloc::AllocError;
 
@@ -24,9 +25,10 @@ impl<S: BlockStore> Heap<S> {
     /// block. A want of host memory leaves all but the zone as it was, and the zone too over a store that
     /// takes no host memory.
     pub fn new_pointer(&mut self, size: u32) -> Result<usize, Refusal>
-        ensures answer { IsAnswer (searching (new_pointer_searches size self.old.heap) (noting (new_pointer size) self.old)) result self.new }
+        ensures answer { IsAnswer (searching (new_pointer_searches size self.old.heap)
+            (noting (new_pointer size) self.old)) result self.new }
         ensures host { result ≡ Err Refusal.HostMemory → IsTrue S.TAKES_HOST ⊎ (self.new ≡ self.old) }
-        ensures kept { result ≡ Err Refusal.HostMemory → KeepsNames self.old self.new }
+        ensures kept { result ≡ Err Refusal.HostMemory → KeepsMoves self.old self.new }
     {
         let answer = self.make_pointer(size);
         self.note(answer)
@@ -80,9 +82,10 @@ impl<S: BlockStore> Heap<S> {
 
     /// A new pointer.
     fn make_pointer(&mut self, size: u32) -> Result<usize, Refusal>
-        ensures answer { IsAnswer (searching (new_pointer_searches size self.old.heap) (silent (new_pointer size) self.old)) result self.new }
+        ensures answer { IsAnswer (searching (new_pointer_searches size self.old.heap)
+            (silent (new_pointer size) self.old)) result self.new }
         ensures host { result ≡ Err Refusal.HostMemory → IsTrue S.TAKES_HOST ⊎ (self.new ≡ self.old) }
-        ensures kept { result ≡ Err Refusal.HostMemory → KeepsNames self.old self.new }
+        ensures kept { result ≡ Err Refusal.HostMemory → KeepsMoves self.old self.new }
     {
         self.names.reserve(1)?;
         let room = add_fixed(&mut self.store, size)?;
@@ -91,7 +94,7 @@ impl<S: BlockStore> Heap<S> {
             return Err(Refusal::Code(OsErr::MEM_FULL));
         };
         let number = self.names.len();
-        self.names.push_reserved(Entry::Pointer(place));
+        self.names.push_reserved(Anchor::Pointer(place));
         Ok(number)
     }
 
@@ -102,7 +105,7 @@ impl<S: BlockStore> Heap<S> {
     {
         let target = target_of(&self.names, pointer)?;
         self.store.free_at(target.place);
-        self.names[target.number] = Entry::Disposed;
+        self.names[target.number] = Anchor::Disposed;
         Ok(())
     }
 
@@ -119,11 +122,12 @@ impl<S: BlockStore> Heap<S> {
 /// The store's place of the block of the handle or pointer that a name is bound to.
 pub(crate) fn find_named<S: BlockStore>(
     store: &S,
-    names: &[Entry],
+    names: &[Anchor],
     name: Option<usize>,
 ) -> Result<u32, Refusal>
     requires { Agrees (S.zone store.now) (S.rest store.now) names.now }
-    ensures { FindsHeld (block_named name (state_of (S.zone store.now) (S.rest store.now).slots names.now)) (S.zone store.now) names.now result }
+    ensures { FindsHeld (block_named name (state_of (S.zone store.now) (S.rest store.now).slots names.now))
+        (S.zone store.now) names.now result }
 {
     match target_of(names, name) {
         Ok(target) => Ok(target.place),
@@ -147,7 +151,7 @@ fn add_fixed<S: BlockStore>(store: &mut S, size: u32) -> Result<Room, AllocError
             searches: 0,
         });
     };
-    let room = make_base(store, bytes, Named::Nothing)?;
+    let room = make_base(store, bytes, Sparing::Nothing)?;
     if let Some(place) = room.place {
         store.carve_fixed(place, size)?;
     }

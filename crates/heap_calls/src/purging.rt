@@ -1,15 +1,20 @@
 //! Purging.
 
 ghost use Rattle.std.specs.Prelude.{◌≡◌, ◌≢◌};
-ghost use Rattle.heap_calls.specs.Given.{IsAnswer};
-ghost use Rattle.heap_calls.specs.Answer.{noting, silent, searching};
+ghost use Rattle.block_store.specs.Compact.{has_room};
+ghost use Rattle.block_store.specs.Sparing.{purged, most_purges};
+ghost use Rattle.block_store.specs.declared.sparing.Sparing.TheVariants.{Nothing};
+ghost use Rattle.heap_calls.specs.Inner.Given.{IsAnswer};
+ghost use Rattle.heap_calls.specs.Answer.{noting, silent, searching, moving};
 ghost use Rattle.heap_calls.specs.Purging.{blocks_purged, purge_mem, purge_space, max_mem};
+ghost use Rattle.heap_calls.specs.Moves.{max_mem_moves};
 ghost use Rattle.heap_calls.specs.Searches.{purge_mem_searches};
 
 use crate::compaction::{compact, has_room};
 use crate::heap::Heap;
+use crate::least::{Look, least_look, next_goes};
 use crate::refusal::Refusal;
-use block_store::{BlockStore, Named};
+use block_store::{BlockStore, HEADER_SIZE, Sparing};
 use mac_words::{OsErr, phys};
 
 /// What could be had if all blocks were emptied that may be.
@@ -25,7 +30,8 @@ impl<S: BlockStore> Heap<S> {
     /// `PurgeMem`: empties blocks until a block of `size` bytes has room; -108 where all that may be are
     /// emptied and it has none.
     pub fn purge_mem(&mut self, size: u32) -> Result<(), Refusal>
-        ensures answer { IsAnswer (searching (purge_mem_searches size self.old.heap) (noting (purge_mem size) self.old)) result self.new }
+        ensures answer { IsAnswer (searching (purge_mem_searches size self.old.heap) (noting (purge_mem size) self.old))
+            result self.new }
         ensures host { result ≢ Err Refusal.HostMemory }
     {
         let answer = self.purge_for(size);
@@ -39,40 +45,71 @@ impl<S: BlockStore> Heap<S> {
         self.log.code = OsErr::NO_ERR;
         let purges = purges_for(&self.store, None);
         Space {
-            total: self.store.free_after(purges, Named::Nothing),
+            total: self.store.free_after(purges, Sparing::Nothing),
             contiguous: self
                 .store
-                .largest_after(purges, Named::Nothing)
-                .saturating_sub(16),
+                .largest_after(purges, Sparing::Nothing)
+                .saturating_sub(HEADER_SIZE),
         }
     }
 
     /// `MaxMem`: empties all blocks that may be, and settles all runs; the most bytes that one block can then
     /// have.
     pub fn max_mem(&mut self) -> u32
-        ensures { noting max_mem self.old ≡ (Ok result, self.new) }
+        ensures { moving (max_mem_moves self.old.heap) (noting max_mem self.old) ≡ (Ok result, self.new) }
     {
         let purges = purges_for(&self.store, None);
-        self.store.purge(purges, Named::Nothing);
+        self.store.purge(purges, Sparing::Nothing);
         compact(&mut self.store, None);
         self.log.code = OsErr::NO_ERR;
-        self.store.largest_free().saturating_sub(16)
+        self.store.largest_free().saturating_sub(HEADER_SIZE)
     }
 
     /// Empties blocks until a block of `size` bytes has room, and counts the looks for it.
     fn purge_for(&mut self, size: u32) -> Result<(), Refusal>
-        ensures answer { IsAnswer (searching (purge_mem_searches size self.old.heap) (silent (purge_mem size) self.old)) result self.new }
+        ensures answer { IsAnswer (searching (purge_mem_searches size self.old.heap) (silent (purge_mem size) self.old))
+            result self.new }
         ensures host { result ≢ Err Refusal.HostMemory }
     {
         let bytes = phys(size);
         let purges = purges_for(&self.store, bytes);
-        self.store.purge(purges, Named::Nothing);
+        self.store.purge(purges, Sparing::Nothing);
         let served = has_room(&self.store, bytes, 0);
         self.log.count(purges + 1);
         if !served {
             return Err(Refusal::Code(OsErr::MEM_FULL));
         }
         Ok(())
+    }
+}
+
+/// A Free block of so many bytes.
+#[derive(Clone, Copy)]
+struct FreeBlock {
+    bytes: Option<u32>,
+}
+
+impl Look for FreeBlock {
+    type Found = ();
+
+    ghost Allows = { λ look zone. Unit {0} };
+
+    ghost is_there = { λ look zone k. has_room look.bytes (purged k Nothing zone) };
+
+    ghost most = { λ look zone. most_purges Nothing zone };
+
+    ghost Finds = { λ look zone k found. Unit {0} };
+
+    fn look<S: BlockStore>(&self, store: &S, purges: u32) -> Option<()> {
+        if has_room(store, self.bytes, purges) {
+            Some(())
+        } else {
+            None
+        }
+    }
+
+    fn goes_on<S: BlockStore>(&self, store: &S, purges: u32) -> bool {
+        next_goes(store, purges, Sparing::Nothing)
     }
 }
 
@@ -83,12 +120,5 @@ impl<S: BlockStore> Heap<S> {
 fn purges_for<S: BlockStore>(store: &S, bytes: Option<u32>) -> u32
     ensures { result ≡ blocks_purged bytes (S.zone store.now) }
 {
-    let mut purges = 0;
-    while store.next_purgeable(purges, Named::Nothing).is_some() {
-        if has_room(store, bytes, purges) {
-            return purges;
-        }
-        purges += 1;
-    }
-    purges
+    least_look(store, &FreeBlock { bytes }).purges
 }

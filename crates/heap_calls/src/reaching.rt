@@ -1,9 +1,9 @@
 //! The block of a handle.
 
-ghost use Rattle.heap_calls.specs.Numbered.{Agrees};
-ghost use Rattle.heap_calls.specs.Reaching.{Reaches};
+ghost use Rattle.heap_calls.specs.Inner.Numbered.{Agrees};
+ghost use Rattle.heap_calls.specs.Inner.Reaching.{Reaches};
 
-use crate::name::{Entry, slot_of};
+use crate::anchor::{Anchor, slot_of};
 use crate::refusal::Refusal;
 use block_store::BlockStore;
 use mac_words::OsErr;
@@ -19,7 +19,7 @@ pub struct Reached {
 /// The block of the handle that a name is bound to.
 pub fn reach<S: BlockStore>(
     store: &S,
-    names: &[Entry],
+    names: &[Anchor],
     handle: Option<usize>,
 ) -> Result<Reached, Refusal>
     requires { Agrees (S.zone store.now) (S.rest store.now) names.now }

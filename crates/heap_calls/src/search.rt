@@ -1,15 +1,19 @@
 //! The search for room.
 
-ghost use Rattle.std.specs.Prelude.{◌≡◌, ◌+◌, ◌≤◌, ◌<◌, ℕ, false, MatchOption, Some};
+ghost use Rattle.std.specs.Prelude.{◌≡◌, ◌+◌, ◌≤◌, ◌<◌, ℕ, false, MatchOption, Some, is_some};
 ghost use Rattle.block_store.specs.Block.{is_relocatable};
 ghost use Rattle.block_store.specs.Run.{has};
 ghost use Rattle.block_store.specs.Room.{place};
-ghost use Rattle.block_store.specs.Named.{purged};
+ghost use Rattle.block_store.specs.Sparing.{purged, most_purges};
 ghost use Rattle.block_store.specs.Rest.{KeepsSlots};
-ghost use Rattle.heap_calls.specs.Numbered.{KeepsFixed};
-ghost use Rattle.heap_calls.specs.Search.{FindsSeat, IsAt, seat, seat_searches};
+ghost use Rattle.heap_calls.specs.Moves.{place_moves};
+ghost use Rattle.heap_calls.specs.Inner.Numbered.{KeepsFixed};
+ghost use Rattle.heap_calls.specs.Inner.Packed.{Packs, seat_moves};
+ghost use Rattle.heap_calls.specs.Inner.Search.{FindsSeat, IsAt, seat, seat_searches};
+ghost use Rattle.block_store.specs.declared.measures.TheConstants.{GREATEST_ZONE};
 
-use block_store::{BlockStore, Named};
+use crate::least::{Look, least_look, next_goes};
+use block_store::{BlockStore, Sparing};
 
 /// Where a relocatable block goes: into the Free block at a place, or into a run once that is packed.
 #[derive(Clone, Copy, Debug, PartialEq, Eq)]
@@ -33,52 +37,90 @@ pub struct Room {
 }
 
 /// Where a relocatable block of so many bytes goes after so many purges.
-pub fn seat_after<S: BlockStore>(store: &S, bytes: u32, purges: u32, named: Named) -> Option<Seat>
-    ensures { FindsSeat bytes (purged purges named (S.zone store.now)) result }
+pub fn seat_after<S: BlockStore>(
+    store: &S,
+    bytes: u32,
+    purges: u32,
+    sparing: Sparing,
+) -> Option<Seat>
+    ensures { FindsSeat bytes (purged purges sparing (S.zone store.now)) result }
 {
-    if let Some(place) = store.find_free(bytes, purges, named) {
+    if let Some(place) = store.find_free(bytes, purges, sparing) {
         return Some(Seat::Free(place));
     }
-    let run = store.find_run(bytes, purges, named)?;
+    let run = store.find_run(bytes, purges, sparing)?;
     Some(Seat::Run(run))
 }
 
+/// A seat for a relocatable block of so many bytes.
+#[derive(Clone, Copy)]
+struct LowestSeat {
+    bytes: u32,
+    sparing: Sparing,
+}
+
+impl Look for LowestSeat {
+    type Found = Seat;
+
+    ghost Allows = { λ look zone. 0 < look.bytes };
+
+    ghost is_there = { λ look zone k. is_some (place look.bytes (purged k look.sparing zone)) };
+
+    ghost most = { λ look zone. most_purges look.sparing zone };
+
+    ghost Finds = { λ look zone k found. FindsSeat look.bytes (purged k look.sparing zone) found };
+
+    fn look<S: BlockStore>(&self, store: &S, purges: u32) -> Option<Seat> {
+        seat_after(store, self.bytes, purges, self.sparing)
+    }
+
+    fn goes_on<S: BlockStore>(&self, store: &S, purges: u32) -> bool {
+        next_goes(store, purges, self.sparing)
+    }
+}
+
 /// Where a relocatable block of so many bytes goes after as few purges as serve.
-fn find_seat<S: BlockStore>(store: &S, bytes: u32, named: Named) -> Found
+fn find_seat<S: BlockStore>(store: &S, bytes: u32, sparing: Sparing) -> Found
     requires { 0 < bytes }
-    ensures found { FindsSeat bytes (purged result.purges named (S.zone store.now)) result.seat }
-    ensures least { seat bytes named (S.zone store.now) ≡ place bytes (purged result.purges named (S.zone store.now)) }
-    ensures searches { result.purges + 1 ≡ seat_searches bytes named (S.zone store.now) }
-    ensures few { result.purges ≤ 134217728 }
+    ensures found { FindsSeat bytes (purged result.purges sparing (S.zone store.now)) result.seat }
+    ensures least { seat bytes sparing (S.zone store.now) ≡ place bytes
+        (purged result.purges sparing (S.zone store.now)) }
+    ensures searches { result.purges + 1 ≡ seat_searches bytes sparing (S.zone store.now) }
+    ensures few { result.purges ≤ GREATEST_ZONE }
 {
-    let mut purges = 0;
-    loop {
-        let seat = seat_after(store, bytes, purges, named);
-        if seat.is_some() {
-            return Found { seat, purges };
-        }
-        if store.next_purgeable(purges, named).is_none() {
-            return Found { seat: None, purges };
-        }
-        purges += 1;
+    let looked = least_look(store, &LowestSeat { bytes, sparing });
+    Found {
+        seat: looked.found,
+        purges: looked.purges,
     }
 }
 
 /// Empties what has to go, and packs the run if it is one.
-fn take_seat<S: BlockStore>(store: &mut S, bytes: u32, purges: u32, named: Named, seat: Seat) -> u32
+fn take_seat<S: BlockStore>(
+    store: &mut S,
+    bytes: u32,
+    purges: u32,
+    sparing: Sparing,
+    seat: Seat,
+) -> u32
     requires positive { 0 < bytes }
-    requires found { FindsSeat bytes (purged purges named (S.zone store.old)) (Some seat) }
-    ensures place { IsAt (place bytes (purged purges named (S.zone store.old))) (S.zone store.new) (Some result) }
-    ensures kept { (number : ℕ) → has (is_relocatable number) (S.zone store.old) ≡ false → has (is_relocatable number) (S.zone store.new) ≡ false }
+    requires found { FindsSeat bytes (purged purges sparing (S.zone store.old)) (Some seat) }
+    ensures place { IsAt (place bytes (purged purges sparing (S.zone store.old))) (S.zone store.new) (Some result) }
+    ensures kept { (number : ℕ) → has (is_relocatable number) (S.zone store.old) ≡ false
+        → has (is_relocatable number) (S.zone store.new) ≡ false }
     ensures fixed { KeepsFixed (S.zone store.old) (S.zone store.new) }
     ensures rest { KeepsSlots (S.rest store.old) (S.rest store.new) }
+    ensures moves { Packs (place_moves bytes (purged purges sparing (S.zone store.old))) (S.rest store.old)
+        (S.rest store.new) }
 {
-    store.purge(purges, named);
+    // The count of moves is known to fit its type once it is read.
+    let _moves = store.moves();
+    store.purge(purges, sparing);
     match seat {
         Seat::Free(place) => place,
         Seat::Run(run) => {
             store.settle(run);
-            let Some(place) = store.find_free(bytes, 0, Named::Nothing) else {
+            let Some(place) = store.find_free(bytes, 0, Sparing::Nothing) else {
                 unreachable!()
             };
             place
@@ -87,17 +129,21 @@ fn take_seat<S: BlockStore>(store: &mut S, bytes: u32, purges: u32, named: Named
 }
 
 /// Makes room for a relocatable block of so many bytes, where there is any.
-pub fn make_room<S: BlockStore>(store: &mut S, bytes: u32, named: Named) -> Room
+pub fn make_room<S: BlockStore>(store: &mut S, bytes: u32, sparing: Sparing) -> Room
     requires { 0 < bytes }
-    ensures place { IsAt (seat bytes named (S.zone store.old)) (S.zone store.new) result.place }
+    ensures place { IsAt (seat bytes sparing (S.zone store.old)) (S.zone store.new) result.place }
     ensures none { MatchOption result.place (S.zone store.new ≡ S.zone store.old) (λ _. Unit {0}) }
-    ensures kept { (number : ℕ) → has (is_relocatable number) (S.zone store.old) ≡ false → has (is_relocatable number) (S.zone store.new) ≡ false }
+    ensures kept { (number : ℕ) → has (is_relocatable number) (S.zone store.old) ≡ false
+        → has (is_relocatable number) (S.zone store.new) ≡ false }
     ensures fixed { KeepsFixed (S.zone store.old) (S.zone store.new) }
-    ensures searches { result.searches ≡ seat_searches bytes named (S.zone store.old) }
+    ensures searches { result.searches ≡ seat_searches bytes sparing (S.zone store.old) }
     ensures few { result.searches ≤ 134217729 }
     ensures rest { KeepsSlots (S.rest store.old) (S.rest store.new) }
+    ensures moves { Packs (seat_moves bytes sparing (S.zone store.old)) (S.rest store.old) (S.rest store.new) }
 {
-    let found = find_seat(store, bytes, named);
+    // The count of moves is known to fit its type once it is read.
+    let _moves = store.moves();
+    let found = find_seat(store, bytes, sparing);
     let searches = found.purges + 1;
     let Some(seat) = found.seat else {
         return Room {
@@ -105,7 +151,7 @@ pub fn make_room<S: BlockStore>(store: &mut S, bytes: u32, named: Named) -> Room
             searches,
         };
     };
-    let place = take_seat(store, bytes, found.purges, named, seat);
+    let place = take_seat(store, bytes, found.purges, sparing, seat);
     Room {
         place: Some(place),
         searches,

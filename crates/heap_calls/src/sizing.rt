@@ -6,14 +6,17 @@ ghost use Rattle.block_store.specs.Block.{is_relocatable};
 ghost use Rattle.block_store.specs.Find.{FindsLowest};
 ghost use Rattle.block_store.specs.Grow.{grow};
 ghost use Rattle.block_store.specs.Rest.{KeepsSlots, counted};
-ghost use Rattle.heap_calls.specs.Reaching.{sized_reply};
-ghost use Rattle.heap_calls.specs.GrowingInPlace.{made_zone};
-ghost use Rattle.heap_calls.specs.Numbered.{KeepsFixed};
-ghost use Rattle.heap_calls.specs.Given.{IsAnswer, KeepsNames};
-ghost use Rattle.heap_calls.specs.Answer.{set_handle_size, noting, silent, searching};
+ghost use Rattle.heap_calls.specs.Asked.{packing};
+ghost use Rattle.heap_calls.specs.Inner.Reaching.{sized_reply};
+ghost use Rattle.heap_calls.specs.Inner.GrowingInPlace.{made_zone};
+ghost use Rattle.heap_calls.specs.Inner.Numbered.{KeepsFixed};
+ghost use Rattle.heap_calls.specs.Inner.Given.{IsAnswer, KeepsNames};
+ghost use Rattle.heap_calls.specs.Answer.{set_handle_size, silent, searching, moving};
+ghost use Rattle.heap_calls.specs.Moves.{size_moves, set_handle_size_moves};
+ghost use Rattle.heap_calls.specs.Inner.Packed.{Packs};
 ghost use Rattle.heap_calls.specs.Searches.{size_searches, set_handle_size_searches};
-ghost use Rattle.heap_calls.specs.Growing.{Spares, Stays, fitted};
-ghost use Rattle.block_store.specs.Named.{spared};
+ghost use Rattle.heap_calls.specs.Inner.Growing.{Spares, Stays, fitted};
+ghost use Rattle.block_store.specs.Sparing.{spared};
 
 use crate::growing::{bytes_of, grow_movable};
 use crate::growing_in_place::{Grown, grow_in_place};
@@ -21,7 +24,7 @@ use crate::heap::Heap;
 use crate::locking::can_move;
 use crate::reaching::reach;
 use crate::refusal::Refusal;
-use block_store::{BlockStore, Named};
+use block_store::{BlockStore, Sparing};
 use mac_words::{OsErr, phys};
 use std::alloc::AllocError;
 
@@ -31,7 +34,8 @@ impl<S: BlockStore> Heap<S> {
     ///
     /// *Inside Macintosh: Memory*, chapter 2, "Changing the Sizes of Relocatable and Nonrelocatable Blocks".
     pub fn set_handle_size(&mut self, handle: Option<usize>, size: u32) -> Result<(), Refusal>
-        ensures answer { IsAnswer (searching (set_handle_size_searches handle size self.old.heap) (noting (set_handle_size handle size) self.old)) result self.new }
+        ensures answer { IsAnswer (packing (set_handle_size_moves handle size) (set_handle_size_searches handle size)
+            (set_handle_size handle size) self.old) result self.new }
         ensures host { result ≡ Err Refusal.HostMemory → IsTrue S.TAKES_HOST }
         ensures kept { result ≡ Err Refusal.HostMemory → KeepsNames self.old self.new }
     {
@@ -41,22 +45,28 @@ impl<S: BlockStore> Heap<S> {
 
     /// Gives a handle another size.
     fn give_size(&mut self, handle: Option<usize>, size: u32) -> Result<(), Refusal>
-        ensures answer { IsAnswer (searching (set_handle_size_searches handle size self.old.heap) (silent (set_handle_size handle size) self.old)) result self.new }
+        ensures answer { IsAnswer (moving (set_handle_size_moves handle size self.old.heap)
+            (searching (set_handle_size_searches handle size self.old.heap)
+            (silent (set_handle_size handle size) self.old))) result self.new }
         ensures host { result ≡ Err Refusal.HostMemory → IsTrue S.TAKES_HOST }
         ensures kept { result ≡ Err Refusal.HostMemory → KeepsNames self.old self.new }
     {
-        // The count of looks is known to fit its type once it is read.
+        // The counts of looks and of moves are known to fit their types once they are read.
         let _searches = self.log.searches;
+        let _moves = self.store.moves();
         let held = reach(&self.store, &self.names, handle)?;
-        let named = Named::One(held.slot);
-        let grown = fit_block(&mut self.store, held.slot, held.place, size, named)?;
+        let sparing = Sparing::One(held.slot);
+        let grown = fit_block(&mut self.store, held.slot, held.place, size, sparing)?;
         self.account(grown)
     }
 
     /// Counts the looks that a growth took, and answers whether there was room.
     pub(crate) fn account(&mut self, grown: Grown) -> Result<(), Refusal>
         ensures reply { result ≡ sized_reply grown.done }
-        ensures counted { self.new ≡ record self.old { log = record self.old.log { searches = counted self.old.log.searches grown.searches } } }
+        ensures counted { self.new ≡ record self.old {
+          log = record self.old.log
+              { searches = counted self.old.log.searches grown.searches };
+        } }
     {
         self.log.count(grown.searches);
         if grown.done {
@@ -73,25 +83,31 @@ fn fit_block<S: BlockStore>(
     slot: u32,
     place: u32,
     size: u32,
-    named: Named,
+    sparing: Sparing,
 ) -> Result<Grown, AllocError>
-    requires spared { Spares named (is_relocatable slot) }
-    requires stays { Stays named (is_relocatable slot) }
+    requires spared { Spares sparing (is_relocatable slot) }
+    requires stays { Stays sparing (is_relocatable slot) }
     requires found { FindsLowest (is_relocatable slot) (S.zone store.old) (Some place) }
-    ensures zone { IfOk result (λ grown. fitted (is_relocatable slot) (spared named) size (S.zone store.old) ≡ made_zone grown.done (S.zone store.new)) }
+    ensures zone { IfOk result (λ grown. fitted (is_relocatable slot) (spared sparing) size (S.zone store.old)
+        ≡ made_zone grown.done (S.zone store.new)) }
     ensures full { IfOk result (λ grown. grown.done ≡ false → S.zone store.new ≡ S.zone store.old) }
-    ensures searches { IfOk result (λ grown. grown.searches ≡ size_searches (is_relocatable slot) (spared named) size (S.zone store.old)) }
+    ensures searches { IfOk result (λ grown. grown.searches ≡ size_searches (is_relocatable slot) (spared sparing) size
+        (S.zone store.old)) }
     ensures fixed { KeepsFixed (S.zone store.old) (S.zone store.new) }
     ensures rest { KeepsSlots (S.rest store.old) (S.rest store.new) }
+    ensures moves { Packs (size_moves (is_relocatable slot) (spared sparing) size (S.zone store.old)) (S.rest store.old)
+        (S.rest store.new) }
     ensures host { IsErr result → IsTrue S.TAKES_HOST }
 {
+    // The count of moves is known to fit its type once it is read.
+    let _moves = store.moves();
     if phys(size).is_none() {
         return Ok(Grown {
             done: false,
             searches: 0,
         });
     }
-    resize_block(store, slot, place, size, named)
+    resize_block(store, slot, place, size, sparing)
 }
 
 /// Gives the block of a slot, which stands at a place, another size: cuts it where it stands, or lets it grow,
@@ -101,19 +117,25 @@ pub fn resize_block<S: BlockStore>(
     slot: u32,
     place: u32,
     size: u32,
-    named: Named,
+    sparing: Sparing,
 ) -> Result<Grown, AllocError>
     requires fits { IsSome (physical_size size) }
-    requires spared { Spares named (is_relocatable slot) }
-    requires stays { Stays named (is_relocatable slot) }
+    requires spared { Spares sparing (is_relocatable slot) }
+    requires stays { Stays sparing (is_relocatable slot) }
     requires found { FindsLowest (is_relocatable slot) (S.zone store.old) (Some place) }
-    ensures zone { IfOk result (λ grown. grow (is_relocatable slot) (spared named) size (S.zone store.old) ≡ made_zone grown.done (S.zone store.new)) }
+    ensures zone { IfOk result (λ grown. grow (is_relocatable slot) (spared sparing) size (S.zone store.old)
+        ≡ made_zone grown.done (S.zone store.new)) }
     ensures full { IfOk result (λ grown. grown.done ≡ false → S.zone store.new ≡ S.zone store.old) }
-    ensures searches { IfOk result (λ grown. grown.searches ≡ size_searches (is_relocatable slot) (spared named) size (S.zone store.old)) }
+    ensures searches { IfOk result (λ grown. grown.searches ≡ size_searches (is_relocatable slot) (spared sparing) size
+        (S.zone store.old)) }
     ensures fixed { KeepsFixed (S.zone store.old) (S.zone store.new) }
     ensures rest { KeepsSlots (S.rest store.old) (S.rest store.new) }
+    ensures moves { Packs (size_moves (is_relocatable slot) (spared sparing) size (S.zone store.old)) (S.rest store.old)
+        (S.rest store.new) }
     ensures host { IsErr result → IsTrue S.TAKES_HOST }
 {
+    // The count of moves is known to fit its type once it is read.
+    let _moves = store.moves();
     let Some(bytes) = phys(size) else {
         unreachable!()
     };
@@ -125,7 +147,7 @@ pub fn resize_block<S: BlockStore>(
         });
     }
     if can_move(store.block_at(place)) {
-        return grow_movable(store, slot, size, named);
+        return grow_movable(store, slot, size, sparing);
     }
-    grow_in_place(store, place, size, named)
+    grow_in_place(store, place, size, sparing)
 }

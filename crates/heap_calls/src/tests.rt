@@ -136,3 +136,24 @@ fn pointers_and_handles_are_told_apart(rt: HostRuntime) -> Result<(), Fail> {
     assert_eq!(rt; heap.place_of(h), Ok(336));
     Ok(())
 }
+
+#[test]
+fn counts_the_blocks_that_packing_moves_down(rt: HostRuntime) -> Result<(), Fail> {
+    let store = ListStore::new(rt.alloc(), 1024)?;
+    let mut heap = Heap::new(rt.alloc(), store);
+    let a = heap.new_handle(100).ok();
+    let b = heap.new_handle(3).ok();
+    assert_eq!(rt; heap.dispose_handle(a), Ok(()));
+    assert_eq!(rt; heap.moves(), 0);
+    assert_eq!(rt; heap.compact_mem(700), 704);
+    assert_eq!(rt; heap.moves(), 1);
+    assert_eq!(rt; heap.compact_mem(700), 704);
+    assert_eq!(rt; heap.moves(), 1);
+    assert_eq!(rt; heap.move_hhi(b), Ok(()));
+    assert_eq!(rt; heap.moves(), 1);
+    assert_eq!(rt; heap.max_mem(), 704);
+    assert_eq!(rt; heap.moves(), 2);
+    assert_eq!(rt; heap.set_handle_size(b, 700), Ok(()));
+    assert_eq!(rt; heap.moves(), 2);
+    Ok(())
+}

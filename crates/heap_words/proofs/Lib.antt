@@ -1,3 +1,3 @@
-pub mod Headings
-pub mod ReadBack
-pub mod Reading
+pub mod Headers
+pub mod Slots
+pub mod Words

@@ -1,4 +1,5 @@
--- The header of a block: physical size with the tag, logical size, slot, flags (Inside Macintosh: Memory, chapter 1, "Block Headers").
+-- The header of a block: physical size with the tag, logical size, slot, flags (Inside Macintosh: Memory, chapter 1,
+-- "Block Headers").
 use Rattle.std.specs.Prelude.{ℕ, ◌+◌, List}
 use Rattle.heap_words.specs.Words.{header}
 use Rattle.heap_words.specs.declared.header.Tag.{Tag}

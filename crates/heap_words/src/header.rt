@@ -1,11 +1,15 @@
-// The header of a block.
+//! The header of a block.
 ghost use Rattle.std.specs.Prelude.{◌≡◌, ◌+◌, ◌-◌, ◌%◌, ◌≤◌, ◌<◌, ◌^◌, length};
 ghost use Rattle.windows.specs.Writes.{written};
 ghost use Rattle.heap_words.specs.Headers.{header_bytes, tag_number};
 ghost use Rattle.heap_words.specs.Words.{word_at};
+ghost use Rattle.heap_words.specs.declared.word.TheConstants.{UNIT};
 
-use crate::word::{read_word, write_word};
+use crate::word::{UNIT, read_word, write_word};
 use raw_region::Part;
+
+/// How many bytes a header takes.
+pub const HEADER: u32 = 16;
 
 /// The kind of a block, as its header tells it.
 #[derive(Clone, Copy, Debug, PartialEq, Eq, Drop)]
@@ -23,10 +27,10 @@ pub enum Tag {
 /// The four words that stand before the content of a block (Inside Macintosh: Memory, chapter 1, "Block Headers").
 #[derive(Clone, Copy, Debug, PartialEq, Eq, Drop)]
 pub struct Header {
-    /// The physical size: all bytes of the block, with its header. A multiple of 16.
+    /// The physical size: all bytes of the block, with its header. A multiple of `UNIT`.
     pub size: u32,
     pub tag: Tag,
-    /// How many bytes of content were asked for; 256 for a block of master pointers.
+    /// How many bytes of content were asked for; for a block of master pointers, the bytes of its slots.
     pub logical: u32,
     /// The place of the slot that a relocatable block belongs to, or 0.
     pub slot: u32,
@@ -58,10 +62,11 @@ fn tag_of(code: u32) -> Tag
 
 /// The header of the block at a place. Of a free block only the first word counts.
 pub fn read_header(part: &Part, at: u32) -> Header
-    requires within { (at % 4 ≡ 0) × (at + 16 ≤ length part.now.bytes) }
-    requires tag { word_at at part.now.bytes % 16 < 4 }
+    requires multiple { at % 4 ≡ 0 }
+    requires inside { at + HEADER ≤ length part.now.bytes }
+    requires tag { word_at at part.now.bytes % UNIT < 4 }
     ensures first { result.size + tag_number result.tag ≡ word_at at part.now.bytes }
-    ensures size { result.size % 16 ≡ 0 }
+    ensures size { result.size % UNIT ≡ 0 }
     ensures logical { result.logical ≡ word_at (at + 4) part.now.bytes }
     ensures slot { result.slot ≡ word_at (at + 8) part.now.bytes }
     ensures flags { result.flags ≡ word_at (at + 12) part.now.bytes }
@@ -69,8 +74,8 @@ pub fn read_header(part: &Part, at: u32) -> Header
     let at = at as usize;
     let first = read_word(part, at);
     Header {
-        size: first - first % 16,
-        tag: tag_of(first % 16),
+        size: first - first % UNIT,
+        tag: tag_of(first % UNIT),
         logical: read_word(part, at + 4),
         slot: read_word(part, at + 8),
         flags: read_word(part, at + 12),
@@ -79,9 +84,12 @@ pub fn read_header(part: &Part, at: u32) -> Header
 
 /// Writes the header of a block at a place. All other bytes stay.
 pub fn write_header(part: &mut Part, at: u32, header: Header)
-    requires within { (at % 4 ≡ 0) × (at + 16 ≤ length part.old.bytes) }
-    requires size { header.size % 16 ≡ 0 }
-    ensures same { (part.new.home ≡ part.old.home) × (part.new.at ≡ part.old.at) × (length part.new.bytes ≡ length part.old.bytes) }
+    requires multiple { at % 4 ≡ 0 }
+    requires inside { at + HEADER ≤ length part.old.bytes }
+    requires size { header.size % UNIT ≡ 0 }
+    ensures same_home { part.new.home ≡ part.old.home }
+    ensures same_place { part.new.at ≡ part.old.at }
+    ensures same_length { length part.new.bytes ≡ length part.old.bytes }
     ensures bytes { part.new.bytes ≡ written at (header_bytes header) part.old.bytes }
 {
     let at = at as usize;

@@ -6,9 +6,9 @@ mod header;
 mod slot;
 mod word;
 
-pub use header::{Header, Tag, read_header, write_header};
+pub use header::{HEADER, Header, Tag, read_header, write_header};
 pub use slot::{SlotWord, read_slot, write_slot};
-pub use word::{read_word, write_word};
+pub use word::{UNIT, read_word, write_word};
 
 #[cfg(test)]
 mod tests;

@@ -1,4 +1,7 @@
+//! What was written is read back.
 ghost use Rattle.std.specs.Prelude.{◌≡◌, ◌+◌, ◌%◌, ◌≤◌, ◌<◌, ◌^◌, length};
+ghost use Rattle.heap_words.specs.declared.header.TheConstants.{HEADER};
+ghost use Rattle.heap_words.specs.declared.word.TheConstants.{UNIT};
 ghost use Rattle.heap_words.specs.Slots.{IsSlot, slot_number};
 
 use super::{Header, SlotWord, Tag, read_header, read_slot, write_header, write_slot};
@@ -7,11 +10,17 @@ use std::test::Fail;
 
 // What is read where the header was just written.
 fn header_again(part: &mut Part, at: u32, header: Header) -> Header
-    requires within { (at % 4 ≡ 0) × (at + 16 ≤ length part.old.bytes) }
-    requires size { header.size % 16 ≡ 0 }
-    requires small { (header.size + 4 ≤ 2 ^ 32) × (header.logical < 2 ^ 32) × (header.slot < 2 ^ 32) × (header.flags < 2 ^ 32) }
-    ensures same { (part.new.home ≡ part.old.home) × (part.new.at ≡ part.old.at) × (length part.new.bytes ≡ length part.old.bytes) }
-    ensures header { (result.size ≡ header.size) × (result.tag ≡ header.tag) × (result.logical ≡ header.logical) × (result.slot ≡ header.slot) × (result.flags ≡ header.flags) }
+    requires multiple { at % 4 ≡ 0 }
+    requires inside { at + HEADER ≤ length part.old.bytes }
+    requires size { header.size % UNIT ≡ 0 }
+    requires small_size { header.size + 4 ≤ 2 ^ 32 }
+    requires small_logical { header.logical < 2 ^ 32 }
+    requires small_slot { header.slot < 2 ^ 32 }
+    requires small_flags { header.flags < 2 ^ 32 }
+    ensures same_home { part.new.home ≡ part.old.home }
+    ensures same_place { part.new.at ≡ part.old.at }
+    ensures same_length { length part.new.bytes ≡ length part.old.bytes }
+    ensures again { result ≡ header }
 {
     write_header(part, at, header);
     read_header(part, at)
@@ -19,11 +28,14 @@ fn header_again(part: &mut Part, at: u32, header: Header) -> Header
 
 // What is read where the slot was just written.
 fn slot_again(part: &mut Part, at: u32, slot: SlotWord) -> SlotWord
-    requires within { (at % 4 ≡ 0) × (at + 4 ≤ length part.old.bytes) }
+    requires multiple { at % 4 ≡ 0 }
+    requires inside { at + 4 ≤ length part.old.bytes }
     requires slot { IsSlot slot }
     requires small { slot_number slot < 2 ^ 32 }
-    ensures same { (part.new.home ≡ part.old.home) × (part.new.at ≡ part.old.at) × (length part.new.bytes ≡ length part.old.bytes) }
-    ensures slot { result ≡ slot }
+    ensures same_home { part.new.home ≡ part.old.home }
+    ensures same_place { part.new.at ≡ part.old.at }
+    ensures same_length { length part.new.bytes ≡ length part.old.bytes }
+    ensures again { result ≡ slot }
 {
     write_slot(part, at, slot);
     read_slot(part, at)

@@ -1,4 +1,4 @@
-// One word.
+//! One word.
 ghost use Rattle.std.specs.Prelude.{◌≡◌, ◌+◌, ◌%◌, ◌≤◌, length};
 ghost use Rattle.windows.specs.Writes.{written};
 ghost use Rattle.heap_words.specs.Words.{word, word_at};
@@ -6,9 +6,13 @@ ghost use Rattle.heap_words.specs.Words.{word, word_at};
 use byteorder::{BigEndian, ByteOrder};
 use raw_region::Part;
 
+/// Places and physical sizes of blocks are multiples of this.
+pub const UNIT: u32 = 16;
+
 /// The word at a place, which is a multiple of 4.
 pub fn read_word(part: &Part, at: usize) -> u32
-    requires { (at % 4 ≡ 0) × (at + 4 ≤ length part.now.bytes) }
+    requires multiple { at % 4 ≡ 0 }
+    requires inside { at + 4 ≤ length part.now.bytes }
     ensures { result ≡ word_at at part.now.bytes }
 {
     let bytes = part.word(at);
@@ -17,8 +21,11 @@ pub fn read_word(part: &Part, at: usize) -> u32
 
 /// Writes the word at a place, which is a multiple of 4.
 pub fn write_word(part: &mut Part, at: usize, number: u32)
-    requires { (at % 4 ≡ 0) × (at + 4 ≤ length part.old.bytes) }
-    ensures same { (part.new.home ≡ part.old.home) × (part.new.at ≡ part.old.at) × (length part.new.bytes ≡ length part.old.bytes) }
+    requires multiple { at % 4 ≡ 0 }
+    requires inside { at + 4 ≤ length part.old.bytes }
+    ensures same_home { part.new.home ≡ part.old.home }
+    ensures same_place { part.new.at ≡ part.old.at }
+    ensures same_length { length part.new.bytes ≡ length part.old.bytes }
     ensures bytes { part.new.bytes ≡ written at (word number) part.old.bytes }
 {
     let mut bytes = [0; 4];

@@ -1,2 +1,4 @@
+mod Digits
 mod Faults
 mod Numerals
+mod Wholes

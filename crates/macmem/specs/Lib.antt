@@ -2,3 +2,4 @@ pub mod Fault
 pub mod Size
 pub mod Listing
 pub mod Work
+pub mod Tasks

@@ -1,48 +1,36 @@
-use Rattle.std.specs.Prelude.{ℕ, Option, Some, None, List, ◌++◌, map, length, codes, decimal}
+use Rattle.std.specs.Prelude.{ℕ, Option, Some, None, List, ◌++◌, length, codes, decimal}
 use Rattle.std.specs.List.{flat_map}
 use Rattle.std.specs.Fmt.{signed_decimal}
-use Rattle.mac_words.specs.declared.name.Name.{Name}
-use Rattle.mac_words.specs.declared.name.OsType.{OsType}
+use Rattle.byteorder.specs.Endian.{big_bytes}
 use Rattle.script_text.specs.Transcript.{hex}
-use Rattle.fork_format.specs.declared.content.Ref.{Ref}
-use Rattle.fork_format.specs.declared.content.Group.{Group}
-use Rattle.fork_format.specs.declared.content.Content.{Content}
+use Rattle.fork_format.specs.Content.{Ref, Group, Content, refs_of}
 
 -- The listing of a fork: More Macintosh Toolbox, chapter 1, "Resource File Format", has the words.
 
--- a resource with its type
-abbrev pub with_type : OsType → Ref → OsType × Ref
-with_type ty r = (ty, r)
-
--- the resources of a type, each with the type
-abbrev pub of_group : Group → List (OsType × Ref)
-of_group g = map (with_type g.ty) g.refs.items
-
--- all resources in order, each with its type
-abbrev pub resources_of : Content → List (OsType × Ref)
-resources_of c = flat_map of_group c.groups.items
-
 -- a name, and - for none
-abbrev pub name_listed : Option Name → List ℕ
+abbrev pub name_listed : Option (List ℕ) → List ℕ
 name_listed None = codes "-"
-name_listed (Some name) = codes "$" ++ hex name.0.items
-
--- a type
-abbrev pub type_listed : OsType → List ℕ
-type_listed ty = codes "$" ++ hex ty.0
+name_listed (Some name) = codes "$" ++ hex name
 
 -- the numbers of a resource: ID, attributes and length
 abbrev pub numbers_listed : Ref → List ℕ
-numbers_listed r = codes " " ++ signed_decimal r.id ++ codes " " ++ decimal r.attrs.0 ++ codes " " ++ decimal (length r.datum.items)
+numbers_listed r = codes " " ++ signed_decimal r.id ++ codes " " ++ decimal r.attrs ++ codes " "
+    ++ decimal (length r.datum)
 
 -- the line of a resource: type, numbers and name
-abbrev pub resource_line : OsType × Ref → List ℕ
-resource_line r = type_listed r.0 ++ numbers_listed r.1 ++ codes " " ++ name_listed r.1.name ++ codes "\n"
+abbrev pub line_behind : List ℕ → Ref → List ℕ
+line_behind digits r = codes "$" ++ digits ++ numbers_listed r ++ codes " " ++ name_listed r.name ++ codes "\n"
+
+-- the lines of a type's resources; the type by its four bytes
+abbrev pub group_lines : Group → List ℕ
+group_lines g = flat_map (line_behind (hex (big_bytes 4 g.kind))) g.refs
 
 -- the first line: the map's attributes, the types, the resources
-abbrev pub head_line : Content → ℕ → List ℕ
-head_line c count = codes "map " ++ decimal c.attrs ++ codes " " ++ decimal (length c.groups.items) ++ codes " " ++ decimal count ++ codes "\n"
+abbrev pub head_line : Content → List ℕ
+head_line c =
+    codes "map " ++ decimal c.attrs ++ codes " " ++ decimal (length c.groups) ++ codes " "
+    ++ decimal (length (refs_of c.groups)) ++ codes "\n"
 
 -- what is printed of a content
 abbrev pub listing : Content → List ℕ
-listing c = head_line c (length (resources_of c)) ++ flat_map resource_line (resources_of c)
+listing c = head_line c ++ flat_map group_lines c.groups

@@ -1,23 +1,22 @@
 use Rattle.std.specs.Prelude.{◌≡◌, ℕ, Ok, List, map, IsTrue, codes}
 use Rattle.script_text.specs.declared.script.Line.{Line}
-use Rattle.script_text.specs.Script.{entries_of, entry}
+use Rattle.script_text.specs.Script.{statements_of, statement}
 use Rattle.desk.specs.Application.{transcript}
 use Rattle.fork_format.specs.Content.{Content}
-use Rattle.fork_format.specs.Fork.{Spells}
+use Rattle.fork_format.specs.Fork.{is_fork, content_of}
 use Rattle.fork_format.specs.Canonical.{canon, fits}
-use Rattle.fork_format.specs.View.{view}
-use Rattle.fork_format.specs.declared.content.Content as stored
 use Rattle.macmem.specs.Listing.{listing}
 use Rattle.macmem.specs.declared.work.Form.{Form}
 use Rattle.macmem.specs.declared.work.Form.TheVariants.{Canonical, Accepted}
 
 -- a transcript of a script's text in a fresh partition of n bytes: that of the lines which the text spells
 abbrev pub IsTranscriptOf : ℕ → List ℕ → List ℕ → Type 0
-IsTranscriptOf n text out = (lines : List Line) × (entries_of text ≡ Ok (map entry lines)) × (out ≡ transcript n lines)
+IsTranscriptOf n text out =
+    (lines : List Line) × (statements_of text ≡ Ok (map statement lines)) × (out ≡ transcript n lines)
 
 -- a listing of a fork: that of the content which the bytes spell
 abbrev pub IsListingOf : List ℕ → List ℕ → Type 0
-IsListingOf bytes out = (c : stored.Content) × Spells bytes (view c) × (out ≡ listing c)
+IsListingOf bytes out = IsTrue (is_fork bytes) × (out ≡ listing (content_of bytes))
 
 -- what bytes are to a content that they spell: its canonical fork, or another one
 abbrev pub TellsForm : Form → Content → List ℕ → Type 0
@@ -26,9 +25,13 @@ TellsForm Accepted c bytes = ¬ (IsTrue (fits c) × (bytes ≡ canon c))
 
 -- what a fork is to the content that it spells
 abbrev pub IsFormOf : List ℕ → Form → Type 0
-IsFormOf bytes form = (c : Content) × Spells bytes c × TellsForm form c bytes
+IsFormOf bytes form = IsTrue (is_fork bytes) × TellsForm form (content_of bytes) bytes
 
 -- the line that tells it
 abbrev pub text_of : Form → List ℕ
 text_of Canonical = codes "canonical\n"
 text_of Accepted = codes "accepted\n"
+
+-- the line that tells what a fork is to the content that it spells
+abbrev pub IsFormText : List ℕ → List ℕ → Type 0
+IsFormText bytes out = (form : Form) × IsFormOf bytes form × (out ≡ text_of form)

@@ -2,6 +2,7 @@
 
 ghost use Rattle.std.specs.Prelude.{◌≡◌};
 ghost use Rattle.macmem.specs.Fault.{kind_of, status_of, path_of, line_of, number_of, text_of};
+ghost use Rattle.macmem.specs.declared.fault.ToolFault.TheVariants.{HostMemory};
 
 use mac_words::OsErr;
 use script_text::FaultKind;
@@ -124,6 +125,8 @@ impl ToolFault {
 }
 
 impl From<AllocError> for ToolFault {
+    ghost from_gives = { λ _ e. e ≡ HostMemory };
+
     fn from(_e: AllocError) -> ToolFault {
         ToolFault::HostMemory
     }

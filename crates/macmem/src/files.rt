@@ -1,13 +1,14 @@
 //! Real files.
 
 use crate::host::{Host, ReadError, WriteError};
+use crate::reading::read_all;
 use std::alloc::Global;
 use std::fs::{self, OpenFile};
 use std::io::{self, Read, Write};
 use std::rt::Files;
 
 /// The most bytes that an input may have.
-const MOST: usize = 268_435_456;
+const MOST: u32 = 268_435_456;
 
 /// The standard input by its path.
 const STANDARD_INPUT: &str = "/dev/stdin";
@@ -25,36 +26,13 @@ impl<'r, R> HostFiles<'r, R> {
     }
 }
 
-/// Appends what one read gives, and says how many bytes that was. 0 is the end.
-fn read_some<R: Read>(reader: &mut R, bytes: &mut Vec<u8>) -> Result<usize, ReadError> {
-    let mut some = [0u8; 65536];
-    match reader.read(&mut some) {
-        Ok(count) => {
-            bytes.extend_from_slice(&some[..count])?;
-            Ok(count)
-        }
-        Err(_) => Err(ReadError::CannotRead),
-    }
-}
-
-/// Reads to the end, to the first error, or past the most bytes.
-fn read_all<R: Read>(alloc: Global, reader: &mut R) -> Result<Vec<u8>, ReadError> {
-    let mut bytes = Vec::new(alloc);
-    for _ in 0..=MOST {
-        if read_some(reader, &mut bytes)? == 0 {
-            return Ok(bytes);
-        }
-        if bytes.len() > MOST {
-            break;
-        }
-    }
-    Err(ReadError::CannotRead)
-}
-
-/// Reads a file, but none that is known to be too long.
+/// Reads a file into room for its length, but none that is known to be too long. The room is one byte more,
+/// so that the read which finds the end needs no other.
 fn read_file<F: OpenFile + Read>(alloc: Global, file: &mut F) -> Result<Vec<u8>, ReadError> {
     match file.metadata() {
-        Ok(about) if about.len() <= MOST as u64 => read_all(alloc, file),
+        Ok(about) if about.len() <= MOST as u64 => {
+            read_all(alloc, file, about.len() as usize + 1, MOST)
+        }
         _ => Err(ReadError::CannotRead),
     }
 }
@@ -64,7 +42,7 @@ impl<'r, R: Files + Input + Print> Host for HostFiles<'r, R> {
     /// not let it be opened by its path.
     fn read(&mut self, alloc: Global, path: &str) -> Result<Vec<u8>, ReadError> {
         if path == STANDARD_INPUT {
-            return read_all(alloc, &mut self.rt.reader());
+            return read_all(alloc, &mut self.rt.reader(), 0, MOST);
         }
         match fs::open(self.rt, path) {
             Ok(mut file) => read_file(alloc, &mut file),

@@ -1,46 +1,74 @@
 //! What a fork holds, as a person reads it.
 
-ghost use Rattle.std.specs.Prelude.{◌≡◌, ◌++◌, OnOk, IfOk, map};
+ghost use Rattle.std.specs.Prelude.{◌≡◌, ◌<◌, ◌≤◌, ◌*◌, ◌++◌, OnOk, IfOk, length, take};
 ghost use Rattle.std.specs.List.{flat_map};
-ghost use Rattle.macmem.specs.Listing.{type_listed, numbers_listed, name_listed, resource_line, resources_of, of_group, head_line, listing};
+ghost use Rattle.byteorder.specs.Endian.{big_bytes};
+ghost use Rattle.script_text.specs.Transcript.{hex_digit, hex};
+ghost use Rattle.fork_format.specs.Content.{refs_of};
+ghost use Rattle.fork_format.specs.View.{view_name, view_ref, view_group, view};
+ghost use Rattle.macmem.specs.Listing.{numbers_listed, name_listed, line_behind, group_lines, head_line, listing};
 
-use fork_format::{Content, Group, Ref};
+use byteorder::{BigEndian, ByteOrder};
+use fork_format::{Content, Group, Ref, RefName, kind_of};
 use itoa::Buffer;
-use mac_words::{Name, OsType};
-use script_text::write_hex;
 use std::alloc::{AllocError, Global};
 
-/// A resource with its type.
-#[derive(Clone, Copy, Debug)]
-pub struct Resource<'c> {
-    pub ty: OsType,
-    pub resource: &'c Ref,
+/// The hexadecimal digit of a number below 16, in lower case.
+fn digit_of(value: u8) -> u8
+    requires { value < 16 }
+    ensures { result ≡ hex_digit value }
+{
+    if value < 10 { b'0' + value } else { 87 + value }
+}
+
+/// The digits of a type.
+fn digits_of(kind: u32) -> [u8; 8]
+    ensures { result ≡ hex (big_bytes 4 kind) }
+{
+    let mut bytes = [0; 4];
+    BigEndian::write_u32(&mut bytes, kind);
+    [
+        digit_of(bytes[0] / 16),
+        digit_of(bytes[0] % 16),
+        digit_of(bytes[1] / 16),
+        digit_of(bytes[1] % 16),
+        digit_of(bytes[2] / 16),
+        digit_of(bytes[2] % 16),
+        digit_of(bytes[3] / 16),
+        digit_of(bytes[3] % 16),
+    ]
+}
+
+/// Puts the two digits of each byte in their place.
+fn put_digits(digits: &mut [u8; 510], bytes: &[u8])
+    requires { length bytes.now ≤ 255 }
+    ensures { take (2 * length bytes.now) digits.new ≡ hex bytes.now }
+{
+    for i in 0..bytes.len() {
+        let byte = bytes[i];
+        digits[2 * i] = digit_of(byte / 16);
+        digits[2 * i + 1] = digit_of(byte % 16);
+    }
 }
 
 /// Appends a name, or `-` for none.
-fn push_name(text: &mut Vec<u8>, name: &Option<Name>) -> Result<(), AllocError>
-    ensures { OnOk result (text.new.items ≡ text.old.items ++ name_listed name.now) }
+fn push_name(text: &mut Vec<u8>, name: &Option<RefName<'_>>) -> Result<(), AllocError>
+    ensures { OnOk result (text.new.items ≡ text.old.items ++ name_listed (view_name name.now)) }
 {
     match name {
         Some(name) => {
+            let mut digits = [0; 510];
+            put_digits(&mut digits, name.bytes);
             text.extend_from_slice(b"$")?;
-            write_hex(text, name.0.as_slice())
+            text.extend_from_slice(&digits[..2 * name.bytes.len()])
         }
         None => text.extend_from_slice(b"-"),
     }
 }
 
-/// Appends a type.
-fn push_type(text: &mut Vec<u8>, ty: OsType) -> Result<(), AllocError>
-    ensures { OnOk result (text.new.items ≡ text.old.items ++ type_listed ty) }
-{
-    text.extend_from_slice(b"$")?;
-    write_hex(text, &ty.0)
-}
-
 /// Appends the numbers of a resource, a blank before each.
-fn push_numbers(text: &mut Vec<u8>, resource: &Ref) -> Result<(), AllocError>
-    ensures { OnOk result (text.new.items ≡ text.old.items ++ numbers_listed resource.now) }
+fn push_numbers(text: &mut Vec<u8>, resource: &Ref<'_>) -> Result<(), AllocError>
+    ensures { OnOk result (text.new.items ≡ text.old.items ++ numbers_listed (view_ref resource.now)) }
 {
     text.extend_from_slice(b" ")?;
     text.extend_from_slice(Buffer::new().format(resource.id).as_bytes())?;
@@ -50,59 +78,59 @@ fn push_numbers(text: &mut Vec<u8>, resource: &Ref) -> Result<(), AllocError>
     text.extend_from_slice(Buffer::new().format(resource.datum.len()).as_bytes())
 }
 
-/// Appends the line of a resource.
-fn push_resource(text: &mut Vec<u8>, ty: OsType, resource: &Ref) -> Result<(), AllocError>
-    ensures { OnOk result (text.new.items ≡ text.old.items ++ resource_line (ty, resource.now)) }
+/// Appends the line of a resource, whose type has these digits.
+fn push_resource(text: &mut Vec<u8>, digits: &[u8; 8], resource: &Ref<'_>) -> Result<(), AllocError>
+    ensures { OnOk result (text.new.items ≡ text.old.items ++ line_behind digits.now (view_ref resource.now)) }
 {
-    push_type(text, ty)?;
+    text.extend_from_slice(b"$")?;
+    text.extend_from_slice(digits)?;
     push_numbers(text, resource)?;
     text.extend_from_slice(b" ")?;
     push_name(text, &resource.name)?;
     text.extend_from_slice(b"\n")
 }
 
-/// Appends the resources of a group with their type.
-fn push_group<'c>(all: &mut Vec<Resource<'c>>, group: &'c Group) -> Result<(), AllocError>
-    ensures { OnOk result (map (λ r. (r.ty, r.resource.now)) all.new.items ≡ map (λ r. (r.ty, r.resource.now)) all.old.items ++ of_group group.now) }
+/// Appends the lines of a type's resources.
+fn push_group(text: &mut Vec<u8>, group: &Group<'_>) -> Result<(), AllocError>
+    ensures { OnOk result (text.new.items ≡ text.old.items ++ group_lines (view_group group.now)) }
 {
+    let digits = digits_of(kind_of(group.ty));
     for resource in &group.refs {
-        all.push(Resource {
-            ty: group.ty,
-            resource,
-        })?;
+        push_resource(text, &digits, resource)?;
     }
     Ok(())
 }
 
-/// The resources of a content with their types, in order.
-fn resources_in<'c>(alloc: Global, content: &'c Content) -> Result<Vec<Resource<'c>>, AllocError>
-    ensures { IfOk result (λ all. map (λ r. (r.ty, r.resource.now)) all.items ≡ resources_of content.now) }
+/// How many resources there are.
+fn count_of(content: &Content<'_>) -> u128
+    ensures { result ≡ length (refs_of (view content.now).groups) }
 {
-    let mut all = Vec::new(alloc);
+    let mut count = 0;
     for group in &content.groups {
-        push_group(&mut all, group)?;
+        count += group.refs.len() as u128;
     }
-    Ok(all)
+    count
 }
 
 /// Appends the line that stands above the resources.
-fn push_head(text: &mut Vec<u8>, content: &Content, count: usize) -> Result<(), AllocError>
-    ensures { OnOk result (text.new.items ≡ text.old.items ++ head_line content.now count) }
+fn push_head(text: &mut Vec<u8>, content: &Content<'_>) -> Result<(), AllocError>
+    ensures { OnOk result (text.new.items ≡ text.old.items ++ head_line (view content.now)) }
 {
     text.extend_from_slice(b"map ")?;
     text.extend_from_slice(Buffer::new().format(content.attrs).as_bytes())?;
     text.extend_from_slice(b" ")?;
     text.extend_from_slice(Buffer::new().format(content.groups.len()).as_bytes())?;
     text.extend_from_slice(b" ")?;
-    text.extend_from_slice(Buffer::new().format(count).as_bytes())?;
+    text.extend_from_slice(Buffer::new().format(count_of(content)).as_bytes())?;
     text.extend_from_slice(b"\n")
 }
 
-fn push_resources(text: &mut Vec<u8>, all: &[Resource<'_>]) -> Result<(), AllocError>
-    ensures { OnOk result (text.new.items ≡ text.old.items ++ flat_map resource_line (map (λ r. (r.ty, r.resource.now)) all.now)) }
+/// Appends the lines of all resources.
+fn push_groups(text: &mut Vec<u8>, content: &Content<'_>) -> Result<(), AllocError>
+    ensures { OnOk result (text.new.items ≡ text.old.items ++ flat_map group_lines (view content.now).groups) }
 {
-    for r in all {
-        push_resource(text, r.ty, r.resource)?;
+    for group in &content.groups {
+        push_group(text, group)?;
     }
     Ok(())
 }
@@ -110,12 +138,11 @@ fn push_resources(text: &mut Vec<u8>, all: &[Resource<'_>]) -> Result<(), AllocE
 /// The listing of a content: a line with the map's attributes and the numbers of types and of resources,
 /// then a line for each resource: its type, ID, attributes, length in bytes, and name. Types and names are
 /// `$` and hexadecimal digits in lower case; `-` stands for no name.
-pub fn listing_of(alloc: Global, content: &Content) -> Result<Vec<u8>, AllocError>
-    ensures { IfOk result (λ text. text.items ≡ listing content.now) }
+pub fn listing_of(alloc: Global, content: &Content<'_>) -> Result<Vec<u8>, AllocError>
+    ensures { IfOk result (λ text. text.items ≡ listing (view content.now)) }
 {
-    let all = resources_in(alloc, content)?;
     let mut text = Vec::new(alloc);
-    push_head(&mut text, content, all.len())?;
-    push_resources(&mut text, all.as_slice())?;
+    push_head(&mut text, content)?;
+    push_groups(&mut text, content)?;
     Ok(text)
 }

@@ -5,7 +5,9 @@ mod fault;
 mod files;
 mod host;
 mod listing;
+mod reading;
 mod size;
+mod tasks;
 mod tool;
 mod words;
 mod work;
@@ -21,6 +23,10 @@ use std::process::ExitCode;
 use std::rt::{Env, Files};
 pub use tool::tool;
 
+#[cfg(test)]
+mod examples_tests;
+#[cfg(test)]
+mod reading_tests;
 #[cfg(test)]
 mod tests;
 

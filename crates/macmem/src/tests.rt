@@ -1,17 +1,14 @@
 //! The program's work with a host in memory.
 
+use crate::tasks::Work;
+use crate::words::read_words;
 use crate::{Host, ReadError, ToolFault, WriteError, tool};
+use script_text::CALLS;
 use std::alloc::Global;
 use std::test::Fail;
 
-/// The script of the stored run.
-const FIRST: &str =
-    "NewHandle a 100\nPut a 1 \"Hi\"\nNewHandle b 3\nShow b\nGetHandleSize a\nDisposeHandle a\nWhere a\nNewHandle c 500\nWhere c\nFreeMem\nNewHandle d 737\nPut b 3 \"x\"\n";
-
-const FIRST_TRANSCRIPT: &str =
-    "launch 0 1024\n1 NewHandle 0\n2 Put 0\n3 NewHandle 0\n4 Show 0 $000000\n5 GetHandleSize 0 100\n6 DisposeHandle 0\n7 Where -111\n8 NewHandle 0\n9 Where 0 448\n10 FreeMem 0 192\n11 NewHandle -108\n12 Put -30001\nend 0\n";
-
-/// A host with one file, named `file`; everything that is printed is kept.
+/// A host with one file, named `file`, and one that is too large for its memory, named `large`; everything that is
+/// printed is kept.
 #[derive(Drop)]
 struct Memory<'a> {
     file: &'a [u8],
@@ -21,10 +18,10 @@ struct Memory<'a> {
 
 impl<'a> Host for Memory<'a> {
     fn read(&mut self, alloc: Global, path: &str) -> Result<Vec<u8>, ReadError> {
-        if path == "file" {
-            Ok(Vec::from_slice(alloc, self.file)?)
-        } else {
-            Err(ReadError::CannotRead)
+        match path {
+            "file" => Ok(Vec::from_slice(alloc, self.file)?),
+            "large" => Err(ReadError::HostMemory),
+            _ => Err(ReadError::CannotRead),
         }
     }
 
@@ -48,7 +45,7 @@ fn host(alloc: Global, file: &[u8]) -> Memory<'_> {
 }
 
 /// What a command prints of a file.
-fn printed(alloc: Global, words: &[&str], file: &[u8]) -> Result<Vec<u8>, ToolFault> {
+pub fn printed(alloc: Global, words: &[&str], file: &[u8]) -> Result<Vec<u8>, ToolFault> {
     let mut host = host(alloc, file);
     tool(alloc, words, &mut host)?;
     Ok(host.printed)
@@ -74,13 +71,6 @@ fn ran(alloc: Global, size: &str, script: &str) -> Result<String, Fail> {
         Ok(text) => Ok(text),
         Err(_) => Err(Fail::new("a transcript is text")),
     }
-}
-
-#[test]
-fn runs_the_first_script(rt: HostRuntime) -> Result<(), Fail> {
-    let text = ran(rt.alloc(), "1024", FIRST)?;
-    assert_eq!(rt; text.as_str(), FIRST_TRANSCRIPT);
-    Ok(())
 }
 
 #[test]
@@ -165,13 +155,49 @@ fn helps(rt: HostRuntime) -> Result<(), Fail> {
         assert!(rt; all.as_str().contains(word), "at {word}");
     }
     let script = told(alloc, &["macmem", "script", "--help"], b"")?;
-    for word in ["<SIZE>", "<SCRIPT>", "512 to 134217728", "NewHandle"] {
+    for word in ["<SIZE>", "<SCRIPT>", "512 to 134217728"] {
         assert!(rt; script.as_str().contains(word), "at {word}");
+    }
+    for line in CALLS.lines() {
+        assert!(rt; script.as_str().contains(line), "at {line}");
     }
     for command in ["map", "check"] {
         let help = told(alloc, &["macmem", command, "--help"], b"")?;
         assert!(rt; help.as_str().contains("<FORK>"), "at {command}");
     }
+    Ok(())
+}
+
+#[test]
+fn tells_its_version(rt: HostRuntime) -> Result<(), Fail> {
+    let mut host = host(rt.alloc(), b"");
+    match tool(rt.alloc(), &["macmem", "--version"], &mut host) {
+        Err(fault) => {
+            assert_eq!(rt; (fault.kind(), fault.status()), (0, 2));
+            assert_eq!(rt; fault.text(), "macmem 0.1.0\n");
+        }
+        Ok(()) => return Err(Fail::new("a version")),
+    }
+    assert!(rt; host.printed.is_empty());
+    Ok(())
+}
+
+#[test]
+fn reads_tasks(rt: HostRuntime) -> Result<(), Fail> {
+    let alloc = rt.alloc();
+    let words: [&str; 4] = ["macmem", "script", "1500", "a b"];
+    let task = read_words(alloc, &words)?;
+    assert_eq!(rt; task.path, "a b");
+    match task.work {
+        Work::Script(size) => assert_eq!(rt; size.bytes, 1488),
+        _ => return Err(Fail::new("a script")),
+    }
+    let words: [&str; 4] = ["macmem", "map", "--", "-fork"];
+    let task = read_words(alloc, &words)?;
+    assert_eq!(rt; (task.path, task.work), ("-fork", Work::Map));
+    let words: [&str; 3] = ["macmem", "check", "/dev/stdin"];
+    let task = read_words(alloc, &words)?;
+    assert_eq!(rt; (task.path, task.work), ("/dev/stdin", Work::Check));
     Ok(())
 }
 
@@ -236,6 +262,16 @@ fn tells_a_file_that_cannot_be_read(rt: HostRuntime) -> Result<(), Fail> {
         let text = told(alloc, words, b"")?;
         assert_eq!(rt; text.as_str(), "macmem: none: cannot read");
     }
+    Ok(())
+}
+
+#[test]
+fn tells_a_want_of_memory(rt: HostRuntime) -> Result<(), Fail> {
+    let alloc = rt.alloc();
+    let text = told(alloc, &["macmem", "check", "large"], b"")?;
+    assert_eq!(rt; text.as_str(), "macmem: no host memory");
+    let faulty = ToolFault::HostMemory;
+    assert_eq!(rt; (faulty.kind(), faulty.status()), (5, 1));
     Ok(())
 }
 

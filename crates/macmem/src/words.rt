@@ -2,57 +2,37 @@
 
 use crate::fault::ToolFault;
 use crate::size::PartitionSize;
+use crate::tasks::{Task, Work};
 use clap::error::ErrorKind;
 use clap::{Arg, ArgAction, ArgMatches, Command, Error};
+use script_text::CALLS;
 use std::alloc::{AllocError, Global};
 
-/// What the words ask for.
-#[derive(Clone, Copy, Debug, PartialEq, Eq)]
-pub enum Task<'a> {
-    /// To run a script in a partition of this size.
-    Script {
-        size: PartitionSize,
-        script: &'a str,
-    },
-    /// To list a fork.
-    Map {
-        fork: &'a str,
-    },
-    /// To say whether a fork is canonical.
-    Check {
-        fork: &'a str,
-    },
-}
+const ABOUT: &str = concat!(
+    "Runs classic Macintosh applications, given as scripts of toolbox calls, in a model of the Memory Manager, ",
+    "and reads resource forks"
+);
 
-const ABOUT: &str =
-    "Runs classic Macintosh applications, given as scripts of toolbox calls, in a model of the Memory Manager, and reads resource forks";
+/// The crate's version.
+const VERSION: &str = "0.1.0";
 
 const PROGRAM_EXAMPLES: &str = "Examples:
-  macmem script 1024 first.script    run a script in a partition of 1024 bytes
-  macmem map Document.rsrc           list the resources of a fork
-  macmem check Document.rsrc         say whether a fork is canonical
+  macmem script 1024 examples/first.script    run a script in a partition of 1024 bytes
+  macmem map examples/Document.rsrc           list the resources of a fork
+  macmem check examples/Document.rsrc         say whether a fork is canonical
 
-'macmem COMMAND --help' tells more of a command.
+'macmem COMMAND --help' tells more of a command; 'macmem script --help' lists the calls of a script.
 A word that begins with '-' is an option; behind '--' it is an argument.
-Status: 0 done; 1 not done, with one line on the standard error; 2 usage or help.";
+Status: 0 done; 1 not done, with one line on the standard error; 2 usage, help or version.";
 
-const SCRIPT_ABOUT: &str =
-    "Runs a script in a fresh partition and prints its transcript: a line for the launch, one for each call with its line number, its result code and its values, and one for the end";
+const SCRIPT_ABOUT: &str = concat!(
+    "Runs a script in a fresh partition and prints its transcript: a line for the launch, one for each call with ",
+    "its line number, its result code and its values, and one for the end"
+);
 
-const SIZE_HELP: &str =
-    "Size of the partition in bytes, in decimal digits: 512 to 134217728, rounded down to a multiple of 16";
-
-const SCRIPT_HELP: &str =
-    "File with one toolbox call a line, as 'NewHandle a 100'. Empty lines and lines that begin with '#' are skipped. /dev/stdin is the standard input";
-
-const SCRIPT_EXAMPLES: &str = "Calls:
-  NewHandle NAME SIZE     a new block of SIZE bytes 0, reached by NAME
-  DisposeHandle NAME      frees the block
-  GetHandleSize NAME      its size
-  Put NAME OFFSET BYTES   writes BYTES, as \"Hi\" or $4869, at OFFSET
-  Show NAME               its bytes in hexadecimal
-  Where NAME              where it stands, from the start of the partition
-  FreeMem                 the free bytes of the partition
+const SCRIPT_LONG_ABOUT: &str =
+    "Runs a script in a fresh partition and prints its transcript: a line for the launch,
+one for each call with its line number, its result code and its values, and one for the end.
 
 Example:
   macmem script 1024 first.script
@@ -63,32 +43,50 @@ prints, where first.script holds the two lines 'NewHandle a 100' and 'FreeMem':
   2 FreeMem 0 624
   end 0
 
-A faulty line is told as 'macmem: SCRIPT: line N: fault K': 1 unknown call, 2 bad argument,
-3 call not allowed here, 4 line over 65535 bytes.";
+Names are letters, digits and '_'; sizes, offsets and bytes of flags are decimal; bytes are written as \"Hi\" or $4869.
+A faulty line is told as 'macmem: SCRIPT: line N: fault K': 1 unknown call, 2 bad argument, 3 call not allowed here,
+4 line over 65535 bytes.
 
-const MAP_ABOUT: &str =
-    "Lists the resources of a fork: a line 'map ATTRIBUTES TYPES RESOURCES', then for each resource its type, ID, attributes, length in bytes, and name";
+The calls, with their arguments, stand below the options.";
+
+const SIZE_HELP: &str =
+    "Size of the partition in bytes, in decimal digits: 512 to 134217728, rounded down to a multiple of 16";
+
+const SCRIPT_HELP: &str = concat!(
+    "File with one toolbox call a line, as 'NewHandle a 100'. Empty lines and lines that begin with '#' are ",
+    "skipped. /dev/stdin is the standard input"
+);
+
+const MAP_ABOUT: &str = concat!(
+    "Lists the resources of a fork: a line 'map ATTRIBUTES TYPES RESOURCES', then for each resource its type, ",
+    "ID, attributes, length in bytes, and name"
+);
 
 const FORK_HELP: &str =
     "File with the bytes of a resource fork. It is only read. /dev/stdin is the standard input";
 
 const MAP_EXAMPLES: &str = "Example:
-  macmem map Document.rsrc
+  macmem map examples/Document.rsrc
 
-prints, where the fork has one resource 'TEXT' 128 of two bytes without a name:
-  map 0 1 1
-  $54455854 128 0 2 -
+prints:
+  map 0 3 4
+  $53545220 128 32 6 $4772656574696e67
+  $53545220 129 0 8 -
+  $54455854 128 36 40 $52656164206d65206669727374
+  $53495a45 -1 0 10 -
 
 Types and names are in hexadecimal behind '$'; '-' stands for no name.
 Bytes that are no fork are told as 'macmem: FORK: fork CODE': -39 no bytes, -199 damaged.";
 
-const CHECK_ABOUT: &str =
-    "Prints 'canonical' where the bytes are the canonical fork of their content, the one that this program would write, else 'accepted'";
+const CHECK_ABOUT: &str = concat!(
+    "Prints 'canonical' where the bytes are the canonical fork of their content, the one that this program would ",
+    "write, else 'accepted'"
+);
 
-const CHECK_EXAMPLES: &str = "Example:
-  macmem check Document.rsrc
+const CHECK_EXAMPLES: &str = "Examples:
+  macmem check examples/Document.rsrc     prints 'canonical'
+  macmem check examples/OtherForm.rsrc    prints 'accepted': the same content, but no header copy in the map
 
-prints 'canonical' or 'accepted'.
 Bytes that are no fork are told as 'macmem: FORK: fork CODE': -39 no bytes, -199 damaged.";
 
 fn argument<'a>(alloc: Global, name: &'a str, help: &'a str) -> Arg<'a> {
@@ -101,7 +99,8 @@ fn argument<'a>(alloc: Global, name: &'a str, help: &'a str) -> Arg<'a> {
 fn script_command<'a>(alloc: Global) -> Result<Command<'a>, AllocError> {
     Command::new(alloc, "script")
         .about(SCRIPT_ABOUT)
-        .after_help(SCRIPT_EXAMPLES)
+        .long_about(SCRIPT_LONG_ABOUT)
+        .after_help(CALLS)
         .arg(argument(alloc, "SIZE", SIZE_HELP))?
         .arg(argument(alloc, "SCRIPT", SCRIPT_HELP))
 }
@@ -121,6 +120,7 @@ fn fork_command<'a>(
 fn program<'a>(alloc: Global) -> Result<Command<'a>, AllocError> {
     Command::new(alloc, "macmem")
         .about(ABOUT)
+        .version(VERSION)
         .after_help(PROGRAM_EXAMPLES)
         .subcommand_required(true)
         .arg_required_else_help(true)
@@ -177,9 +177,9 @@ fn value<'a>(matches: &ArgMatches<'a>, name: &str) -> &'a str {
 fn script_task<'a>(alloc: Global, matches: &ArgMatches<'a>) -> Result<Task<'a>, ToolFault> {
     let text = value(matches, "SIZE");
     match PartitionSize::read(text) {
-        Some(size) => Ok(Task::Script {
-            size,
-            script: value(matches, "SCRIPT"),
+        Some(size) => Ok(Task {
+            work: Work::Script(size),
+            path: value(matches, "SCRIPT"),
         }),
         None => Err(bad_size(alloc, text)?),
     }
@@ -193,11 +193,13 @@ pub fn read_words<'a>(alloc: Global, words: &'a [&'a str]) -> Result<Task<'a>, T
     };
     match matches.subcommand() {
         Some(("script", inner)) => script_task(alloc, inner),
-        Some(("map", inner)) => Ok(Task::Map {
-            fork: value(inner, "FORK"),
+        Some(("map", inner)) => Ok(Task {
+            work: Work::Map,
+            path: value(inner, "FORK"),
         }),
-        Some(("check", inner)) => Ok(Task::Check {
-            fork: value(inner, "FORK"),
+        Some(("check", inner)) => Ok(Task {
+            work: Work::Check,
+            path: value(inner, "FORK"),
         }),
         _ => Err(mistake(alloc, program(alloc)?, "a command is asked for")),
     }

@@ -1,7 +1,7 @@
 //! The work of the commands, from the bytes of a file to the bytes that are printed.
 
 ghost use Rattle.std.specs.Prelude.{◌≡◌, ◌≢◌, ◌↔◌, [], IfOk, IfErr, IsTrue};
-ghost use Rattle.script_text.specs.Script.{entries_of};
+ghost use Rattle.script_text.specs.Script.{statements_of};
 ghost use Rattle.script_text.specs.Reading.{FailsAt};
 ghost use Rattle.fork_format.specs.Canonical.{canon, fits};
 ghost use Rattle.fork_format.specs.Fork.{IsUnspelled};
@@ -46,7 +46,7 @@ pub fn transcript_of(
     ensures transcript { IfOk result (λ out. IsTranscriptOf size.bytes text.now out.items) }
 
     // The first faulty line, or no host memory.
-    ensures fault { IfErr result (λ f. FailsAt f.line f.kind (entries_of text.now)) }
+    ensures fault { IfErr result (λ f. FailsAt f.line f.kind (statements_of text.now)) }
 {
     let script = read_script(alloc, text)?;
     match run_script(alloc, size.bytes, &script) {
@@ -60,7 +60,10 @@ pub fn transcript_of(
 
 /// The listing of a fork.
 pub fn fork_listing(alloc: Global, bytes: &[u8]) -> Result<Vec<u8>, ForkFault>
+    // The listing is that of the content that the bytes spell.
     ensures listing { IfOk result (λ out. IsListingOf bytes.now out.items) }
+
+    // No bytes, or bytes that spell no content.
     ensures empty { (result ≡ Err ForkFault.Empty) ↔ (bytes.now ≡ []) }
     ensures bad_map { (result ≡ Err ForkFault.BadMap) ↔ ((bytes.now ≢ []) × IsUnspelled bytes.now) }
 {
@@ -71,8 +74,9 @@ pub fn fork_listing(alloc: Global, bytes: &[u8]) -> Result<Vec<u8>, ForkFault>
 }
 
 /// Whether bytes are the canonical fork of a content.
-fn is_canonical(alloc: Global, content: &Content, bytes: &[u8]) -> Result<bool, AllocError>
-    ensures { IfOk result (λ b. IsTrue b ↔ (IsTrue (fits (view content.now)) × (bytes.now ≡ canon (view content.now)))) }
+fn is_canonical(alloc: Global, content: &Content<'_>, bytes: &[u8]) -> Result<bool, AllocError>
+    ensures { IfOk result (λ b. IsTrue b ↔ (IsTrue (fits (view content.now))
+        × (bytes.now ≡ canon (view content.now)))) }
 {
     match write_fork(alloc, content) {
         Ok(fork) => Ok(fork.as_slice() == bytes),
@@ -82,7 +86,7 @@ fn is_canonical(alloc: Global, content: &Content, bytes: &[u8]) -> Result<bool, 
 }
 
 /// What bytes are to a content.
-fn form_for(alloc: Global, content: &Content, bytes: &[u8]) -> Result<Form, AllocError>
+fn form_for(alloc: Global, content: &Content<'_>, bytes: &[u8]) -> Result<Form, AllocError>
     ensures { IfOk result (λ f. TellsForm f (view content.now) bytes.now) }
 {
     if is_canonical(alloc, content, bytes)? {
@@ -94,7 +98,10 @@ fn form_for(alloc: Global, content: &Content, bytes: &[u8]) -> Result<Form, Allo
 
 /// What a fork is to its content.
 pub fn form_of(alloc: Global, bytes: &[u8]) -> Result<Form, ForkFault>
+    // The form is what the bytes are to the content that they spell.
     ensures form { IfOk result (λ form. IsFormOf bytes.now form) }
+
+    // No bytes, or bytes that spell no content.
     ensures empty { (result ≡ Err ForkFault.Empty) ↔ (bytes.now ≡ []) }
     ensures bad_map { (result ≡ Err ForkFault.BadMap) ↔ ((bytes.now ≢ []) × IsUnspelled bytes.now) }
 {

@@ -1,5 +1,6 @@
 -- What `cut` and `join` make of a region's gaps.
-use Rattle.std.proofs.Common.{◌≡◌, ℕ, ◌+◌, ◌-◌, ◌<◌, ◌≤◌, List, [], ◌∷◌, ◌++◌, length, take, drop, get_or, replicate, sym, ap, ◌∙◌, subst, arith, zero, suc, vec_len, vec_capacity}
+use Rattle.std.proofs.Common.{◌≡◌, ℕ, ◌+◌, ◌-◌, ◌<◌, ◌≤◌, List, [], ◌∷◌, ◌++◌, length, take, drop, get_or, replicate}
+use Rattle.std.proofs.Common.{sym, ap, ◌∙◌, subst, arith, zero, suc, vec_len, vec_capacity}
 use Rattle.std.proofs.lemmas.List.{length-map, length-drop, length-take-le}
 use Rattle.std.proofs.lemmas.List.Sums.{prefix_len-le-length}
 use Rattle.std.specs.List.{prefix_len, insert}
@@ -7,13 +8,15 @@ use denote.RawPtr.{null_ptr, InBlock}
 use Rattle.raw_region.specs.Memory.{Whole}
 use Rattle.windows.specs.Windows.{window, IsApart, with_window}
 use Rattle.windows.specs.Writes.{written}
-use Rattle.raw_region.specs.Gaps.{bytes_of, windows_of, window_of, gap_ends_by, IsLaid, IsStart, Fits, front, middle, back, EndsFit}
+use Rattle.raw_region.specs.Gaps.{bytes_of, windows_of, window_of, gap_ends_by, IsLaid, IsStart, Fits, front, middle}
+use Rattle.raw_region.specs.Gaps.{back, EndsFit}
 use Rattle.raw_region.specs.Regions.{region_view, IsRegion}
 use Rattle.raw_region.specs.declared.region.Region.TheInside.{Inside}
 use Rattle.raw_region.specs.declared.raw.Run.{Run}
 use Rattle.raw_region.specs.declared.gaps.Gap.{Gap}
-use Rattle.raw_region.proofs.Spacing.{round, opened_laid, opened_length, opened_bytes, middle_bytes, middle_at, middle_home}
-use Rattle.raw_region.proofs.Windows.{prefix_len-map, opened_windows, fits_in, ends_fit}
+use Rattle.raw_region.proofs.GapBytes.{round, opened_laid, opened_length, opened_bytes, middle_bytes, middle_at}
+use Rattle.raw_region.proofs.GapBytes.{middle_home}
+use Rattle.raw_region.proofs.GapWindows.{prefix_len-map, opened_windows, fits_in, ends_fit}
 
 -- any gap
 abbrev pub none : Gap
@@ -32,18 +35,24 @@ module _ (r : Inside) (I : IsRegion r) where
   pub fit : EndsFit r.gaps.items
   fit = let w = I.whole in let s = I.small in ends_fit r.home r.gaps.items I.laid (omega (arith, w, s))
 
-module _ (r : Inside) (I : IsRegion r) (at len : ℕ) (some : 16 ≤ len) (within : at + len ≤ length (bytes_of r.gaps.items)) (apart : IsApart at len (windows_of r.gaps.items)) (i : ℕ) (is : i ≡ prefix_len (gap_ends_by at) (drop 1 r.gaps.items)) where
+module _ (r : Inside) (I : IsRegion r) (at len : ℕ) (some : 16 ≤ len)
+    (within : at + len ≤ length (bytes_of r.gaps.items)) (apart : IsApart at len (windows_of r.gaps.items)) (i : ℕ)
+    (is : i ≡ prefix_len (gap_ends_by at) (drop 1 r.gaps.items)) where
   pub low : i < length r.gaps.items
   low =
-      let p = prefix_len-le-length (gap_ends_by at) (drop 1 r.gaps.items) in let l = length-drop 1 r.gaps.items in let s = start_some r.gaps.items I.first in
+      let p = prefix_len-le-length (gap_ends_by at) (drop 1 r.gaps.items) in let l = length-drop 1 r.gaps.items in
+      let s = start_some r.gaps.items I.first in
       omega (arith, p, l, s, is)
 
   pub room_left : length (windows_of r.gaps.items) < 64 → (i < vec_len r.gaps) × (vec_len r.gaps < vec_capacity r.gaps)
-  room_left few = let l = long_windows r.gaps.items I.first in let o = r.gaps.ok.0 in let c = I.room in let a = low in (omega (arith, a, o), omega (arith, l, o, c, few))
+  room_left few = let l = long_windows r.gaps.items I.first in let o = r.gaps.ok.0 in let c = I.room in let a = low in
+      (omega (arith, a, o), omega (arith, l, o, c, few))
 
   pub fits : (d : Gap) → Fits at len (get_or r.gaps.items i d)
   fits d = let w = I.whole in let s = I.small in
-      subst (λ k. Fits at len (get_or r.gaps.items k d)) (sym is) (fits_in r.home at len (omega (arith, within, w, s)) (omega (arith, some)) r.gaps.items I.laid I.first within apart d)
+      subst (λ k. Fits at len (get_or r.gaps.items k d)) (sym is)
+      (fits_in r.home at len (omega (arith, within, w, s))
+      (omega (arith, some)) r.gaps.items I.laid I.first within apart d)
 
   abbrev g : Gap
   g = get_or r.gaps.items i none
@@ -60,34 +69,46 @@ module _ (r : Inside) (I : IsRegion r) (at len : ℕ) (some : 16 ≤ len) (withi
   laid : IsLaid r.home 0 (pre ++ g ∷ post)
   laid = subst (IsLaid r.home 0) whole_is I.laid
 
-  pub cut_bytes : bytes_of (pre ++ front at g ∷ back at len g ∷ post) ≡ written at (replicate len 0) (bytes_of r.gaps.items)
-  cut_bytes = opened_bytes r.home pre g post at len laid (fits none) ∙ ap (λ l. written at (replicate len 0) (bytes_of l)) (sym whole_is)
+  pub cut_bytes : bytes_of (pre ++ front at g ∷ back at len g ∷ post)
+      ≡ written at (replicate len 0) (bytes_of r.gaps.items)
+  cut_bytes = opened_bytes r.home pre g post at len laid (fits none)
+      ∙ ap (λ l. written at (replicate len 0) (bytes_of l)) (sym whole_is)
 
   pub cut_windows : windows_of (pre ++ front at g ∷ back at len g ∷ post) ≡ with_window at len (windows_of r.gaps.items)
-  cut_windows = opened_windows at len r.gaps.items i none low ∙ ap (λ k. insert (windows_of r.gaps.items) k (window at len)) (is ∙ sym (prefix_len-map window_of _ (drop 1 r.gaps.items)))
+  cut_windows = opened_windows at len r.gaps.items i none low
+      ∙ ap (λ k. insert (windows_of r.gaps.items) k (window at len)) (is
+      ∙ sym (prefix_len-map window_of _ (drop 1 r.gaps.items)))
 
   pub cut_laid : IsLaid r.home 0 (pre ++ front at g ∷ back at len g ∷ post)
   cut_laid = opened_laid r.home pre g post at len laid (fits none)
 
   pub cut_whole : length (bytes_of (pre ++ front at g ∷ back at len g ∷ post)) ≡ r.frame.len
-  cut_whole = opened_length r.home pre g post at len laid (fits none) ∙ ap (λ l. length (bytes_of l)) (sym whole_is) ∙ I.whole
+  cut_whole = opened_length r.home pre g post at len laid (fits none) ∙ ap (λ l. length (bytes_of l)) (sym whole_is)
+      ∙ I.whole
 
   pub cut_first : IsStart (pre ++ front at g ∷ back at len g ∷ post)
   cut_first = starts r.gaps.items i low I.first
     where
-      starts : (gs : List Gap) (i : ℕ) → i < length gs → IsStart gs → IsStart (take i gs ++ front at (get_or gs i none) ∷ back at len (get_or gs i none) ∷ drop (i + 1) gs)
+      starts : (gs : List Gap) (i : ℕ) → i < length gs → IsStart gs
+          → IsStart (take i gs ++ front at (get_or gs i none) ∷ back at len (get_or gs i none) ∷ drop (i + 1) gs)
       starts [] i h s = absurd s
       starts (x ∷ gs) zero h s = s
       starts (x ∷ gs) (suc i) h s = s
 
   pub middle_is : (middle at len g).items ≡ take len (drop at (bytes_of r.gaps.items))
-  middle_is = sym (ap (λ l. take len (drop at (bytes_of l))) whole_is ∙ middle_bytes r.home pre g post at len laid (fits none))
+  middle_is = sym (ap (λ l. take len (drop at (bytes_of l))) whole_is
+      ∙ middle_bytes r.home pre g post at len laid (fits none))
 
   pub middle_place : ((middle at len g).home ≡ r.home) × ((middle at len g).at ≡ at)
-  middle_place = (middle_home r.home pre g post at len laid (fits none), middle_at r.home pre g post at len laid (fits none))
+  middle_place = (
+    middle_home r.home pre g post at len laid (fits none),
+    middle_at r.home pre g post at len laid (fits none),
+  )
 
 -- the same, from what `cut` has at hand
-module _ (r : Inside) (I : IsRegion r) (w : Whole) (v : region_view r ≡ w) (at len : ℕ) (some : 16 ≤ len) (inside : at + len ≤ length w.bytes) (away : IsApart at len w.out) (l : List Gap) (same : l ≡ r.gaps.items) (n : ℕ) (counts : n ≡ 1 + prefix_len (gap_ends_by at) (drop 1 l)) where
+module _ (r : Inside) (I : IsRegion r) (w : Whole) (v : region_view r ≡ w) (at len : ℕ) (some : 16 ≤ len)
+    (inside : at + len ≤ length w.bytes) (away : IsApart at len w.out) (l : List Gap) (same : l ≡ r.gaps.items) (n : ℕ)
+    (counts : n ≡ 1 + prefix_len (gap_ends_by at) (drop 1 l)) where
   there : n - 1 ≡ prefix_len (gap_ends_by at) (drop 1 r.gaps.items)
   there = let f = ap (λ gs. prefix_len (gap_ends_by at) (drop 1 gs)) same in omega (arith, counts, f)
 
@@ -104,7 +125,8 @@ module _ (r : Inside) (I : IsRegion r) (w : Whole) (v : region_view r ≡ w) (at
   made = take (n - 1) r.gaps.items ++ front at h ∷ back at len h ∷ drop (n - 1 + 1) r.gaps.items
 
   pub can_open : length w.out < 64 → (n - 1 < vec_len r.gaps) × (vec_len r.gaps < vec_capacity r.gaps)
-  can_open few = let e = ap (λ z. length z.out) v in room_left r I at len some fills clear (n - 1) there (omega (arith, e, few))
+  can_open few = let e = ap (λ z. length z.out) v in
+      room_left r I at len some fills clear (n - 1) there (omega (arith, e, few))
 
   pub open_fits : (d : Gap) → Fits at len (get_or r.gaps.items (n - 1) d)
   open_fits d = fits r I at len some fills clear (n - 1) there d
@@ -118,21 +140,29 @@ module _ (r : Inside) (I : IsRegion r) (w : Whole) (v : region_view r ≡ w) (at
   pub then_out : windows_of made ≡ with_window at len w.out
   then_out = cut_windows r I at len some fills clear (n - 1) there ∙ ap (λ z. with_window at len z.out) v
 
-  pub then_region : (s : Inside) → s.frame ≡ r.frame → s.home ≡ r.home → s.gaps.items ≡ made → vec_capacity s.gaps ≡ vec_capacity r.gaps → IsRegion s
+  pub then_region : (s : Inside) → s.frame ≡ r.frame → s.home ≡ r.home → s.gaps.items ≡ made
+      → vec_capacity s.gaps ≡ vec_capacity r.gaps → IsRegion s
   then_region s p q e k = record {
     start = ap (λ f. f.ptr) p ∙ I.start ∙ sym q;
     placed = subst InBlock (sym q) I.placed;
-    whole = ap (λ x. length (bytes_of x)) e ∙ cut_whole r I at len some fills clear (n - 1) there ∙ sym (ap (λ f. f.len) p);
+    whole = ap (λ x. length (bytes_of x)) e ∙ cut_whole r I at len some fills clear (n - 1) there
+        ∙ sym (ap (λ f. f.len) p);
     small = (let a = ap (λ f. f.len) p in let b = I.small in omega (arith, a, b));
-    laid = subst (λ x. IsLaid s.home 0 x) (sym e) (subst (λ x. IsLaid x 0 made) (sym q) (cut_laid r I at len some fills clear (n - 1) there));
+    laid = subst (λ x. IsLaid s.home 0 x) (sym e)
+        (subst (λ x. IsLaid x 0 made) (sym q) (cut_laid r I at len some fills clear (n - 1) there));
     first = subst IsStart (sym e) (cut_first r I at len some fills clear (n - 1) there);
     room = (let b = I.room in omega (arith, k, b));
   }
 
-  pub then_run : (run : Run) → run ≡ middle at len h → (run.home ≡ w.home) × (run.at ≡ at) × (run.items ≡ take len (drop at w.bytes))
+  pub then_run : (run : Run) → run ≡ middle at len h
+      → (run.home ≡ w.home) × (run.at ≡ at) × (run.items ≡ take len (drop at w.bytes))
   then_run run is =
-      let m = middle_place r I at len some fills clear (n - 1) there in
-      (ap (λ z. z.home) is ∙ m.0 ∙ ap (λ z. z.home) v, ap (λ z. z.at) is ∙ m.1, ap (λ z. z.items) is ∙ middle_is r I at len some fills clear (n - 1) there ∙ ap (λ z. take len (drop at z.bytes)) v)
+      let m = middle_place r I at len some fills clear (n - 1) there in (
+        ap (λ z. z.home) is ∙ m.0 ∙ ap (λ z. z.home) v,
+        ap (λ z. z.at) is ∙ m.1,
+        ap (λ z. z.items) is
+            ∙ middle_is r I at len some fills clear (n - 1) there ∙ ap (λ z. take len (drop at z.bytes)) v,
+      )
 
   pub taken_long : length (take len (drop at w.bytes)) ≡ len
   taken_long = let d = length-drop at w.bytes in length-take-le len (drop at w.bytes) (omega (arith, d, inside))

@@ -22,7 +22,8 @@ use denote.Struct.Field.{u8-field}
 use denote.Struct.Laws.{u8-laws, u8-copy}
 use mir.Val.{Val}
 use seplogic.Ra.Ura.{Ura}
-use types.Kit.{‵, ◌⊛◌, ◌$◌, ◌∵◌, !, qed, move, split, frame, each, assume, show, fsplit, fjoin, feq_l, feq_i, rewrite, use1, use2, done}
+use types.Kit.{‵, ◌⊛◌, ◌$◌, ◌∵◌, !, qed, move, split, frame, each, assume, show, fsplit, fjoin, feq_l, feq_i, rewrite}
+use types.Kit.{use1, use2, done}
 use types.Logic.{Logic, sem}
 use Rattle.raw_region.specs.Ownership.{Extent, run_owns}
 use Rattle.raw_region.specs.contracts.raw.Frame as Frame
@@ -46,7 +47,9 @@ module _ {M : Type 1} {𝓤 : Ura M} (𝓛 : Logic 𝓤) (v : Vec ℕ declared.G
   abbrev more : Type 0
   more = 0 < v.cap
 
-  pub framed : 0 < v.len → ent 𝓤 (sem 𝓛 (Owned.own_val v (u ∷ []))) (sep 𝓤 (sem 𝓛 (run_owns v.ptr v.items)) (sem 𝓛 (Frame.the_own (extent_of v) (alone u ∷ []))))
+  pub framed : 0 < v.len
+      → ent 𝓤 (sem 𝓛 (Owned.own_val v (u ∷ [])))
+      (sep 𝓤 (sem 𝓛 (run_owns v.ptr v.items)) (sem 𝓛 (Frame.the_own (extent_of v) (alone u ∷ []))))
   framed some =
       let room : 0 < v.cap = omega (arith, some, v.ok.1) in
       let t = ghosts.dealloc_token v.alloc in
@@ -54,10 +57,15 @@ module _ {M : Type 1} {𝓤 : Ura M} (𝓛 : Logic 𝓤) (v : Vec ℕ declared.G
       let Back = λ (ys : List ℕ). fsep (feq ℕ (length ys) v.len) (run_owns v.ptr ys) in
       let Whole = λ (ys : List ℕ). (fields_of (Owned ∷ [])).own_val (with_items v ys, tt) (alone u ∷ []) in
       qed 𝓛 (‵ (Owned.own_val v (u ∷ [])) ∷ []) ∵ fsplit ! $ move ! (1 ∷ []) $
-      use1 𝓛 (‵ (Elements v.items v.len) ⊛ ‵ (spare t v.len v.cap v.ptr)) (taken t v.len v.cap 𝓛 room v.ptr v.items) $ split ! $
+      use1 𝓛 (‵ (Elements v.items v.len) ⊛ ‵ (spare t v.len v.cap v.ptr)) (taken t v.len v.cap 𝓛 room v.ptr v.items) $
+      split ! $
       rewrite ! 0 (λ n. ‵ (Elements v.items n)) v.ok.0 refl $ frame ! $
       -- [what the block has besides; the fields]
-      show ! (λ i. sem 𝓛 (fsep (feq ℕ i.vec.len v.len) (fall (List ℕ) (λ ys. fwand (Back ys) ((fields_of (Owned ∷ [])).own_val (with_items i.vec ys, tt) (alone u ∷ [])))))) (record { vec = v }) $
+      show ! (λ i.
+      sem 𝓛 (fsep (feq ℕ i.vec.len v.len)
+      (fall (List ℕ) (λ ys.
+      fwand (Back ys) ((fields_of (Owned ∷ [])).own_val (with_items i.vec ys, tt) (alone u ∷ []))))))
+      (record { vec = v }) $
       feq_i ! ℕ v.len v.len refl $ frame ! $ each ! (λ ys. wand 𝓤 (sem 𝓛 (Back ys)) (sem 𝓛 (Whole ys))) (λ ys.
       assume ! (‵ (Back ys)) $ fsplit ! $ feq_l ! (λ long.
       let same : (with_items v ys).items ≡ ys = with_items_is v ys long in

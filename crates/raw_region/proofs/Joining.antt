@@ -1,5 +1,6 @@
 -- What `join` makes of a region's gaps.
-use Rattle.std.proofs.Common.{◌≡◌, ℕ, ◌+◌, ◌-◌, ◌<◌, List, [], ◌∷◌, ◌++◌, length, take, drop, get_or, refl, sym, ap, ◌∙◌, subst, arith, zero, suc, vec_len, vec_capacity}
+use Rattle.std.proofs.Common.{◌≡◌, ℕ, ◌+◌, ◌-◌, ◌<◌, List, [], ◌∷◌, ◌++◌, length, take, drop, get_or, refl, sym, ap}
+use Rattle.std.proofs.Common.{◌∙◌, subst, arith, zero, suc, vec_len, vec_capacity}
 use Rattle.std.proofs.lemmas.List.{length-drop, drop_more, get_or-drop, get_or_default}
 use Rattle.std.specs.List.{position_or_len, remove, Contains}
 use denote.RawPtr.{InBlock}
@@ -11,12 +12,14 @@ use Rattle.raw_region.specs.Regions.{region_view, IsRegion}
 use Rattle.raw_region.specs.declared.region.Region.TheInside.{Inside}
 use Rattle.raw_region.specs.declared.raw.Run.{Run}
 use Rattle.raw_region.specs.declared.gaps.Gap.{Gap}
-use Rattle.raw_region.proofs.Spacing.{round, is_beside, shut_bytes, shut_length, shut_laid}
-use Rattle.raw_region.proofs.Windows.{prefix_len-map, shut_windows, found, is_out}
+use Rattle.raw_region.proofs.GapBytes.{round, is_beside, shut_bytes, shut_length, shut_laid}
+use Rattle.raw_region.proofs.GapWindows.{prefix_len-map, shut_windows, found, is_out}
 use Rattle.raw_region.proofs.Cutting.{none}
 
-module _ (r : Inside) (I : IsRegion r) (w : Whole) (v : region_view r ≡ w) (p : Bytes) (home : p.home ≡ w.home) (out : Contains w.out (window p.at (length p.bytes)))
-    (run : Run) (rh : run.home ≡ p.home) (ra : run.at ≡ p.at) (ri : run.items ≡ p.bytes) (l : List Gap) (same : l ≡ r.gaps.items)
+module _ (r : Inside) (I : IsRegion r) (w : Whole) (v : region_view r ≡ w) (p : Bytes) (home : p.home ≡ w.home)
+    (out : Contains w.out (window p.at (length p.bytes)))
+    (run : Run) (rh : run.home ≡ p.home) (ra : run.at ≡ p.at) (ri : run.items ≡ p.bytes) (l : List Gap)
+    (same : l ≡ r.gaps.items)
     (n : ℕ) (counts : n ≡ 1 + position_or_len (gap_is p.at (length p.bytes)) (drop 1 l)) where
   abbrev len : ℕ
   len = length p.bytes
@@ -58,7 +61,8 @@ module _ (r : Inside) (I : IsRegion r) (w : Whole) (v : region_view r ≡ w) (p 
   whole_is =
       let i = inside in let c = count in
       let e : n - 1 + 1 ≡ n = omega (arith, c) in
-      round gs (n - 1) none (omega (arith, i)) ∙ ap (λ m. pre ++ a ∷ drop m gs) e ∙ ap (λ xs. pre ++ a ∷ xs) (drop_more gs n none i)
+      round gs (n - 1) none (omega (arith, i)) ∙ ap (λ m. pre ++ a ∷ drop m gs) e
+      ∙ ap (λ xs. pre ++ a ∷ xs) (drop_more gs n none i)
 
   b_is : (b.at ≡ p.at) × (b.len ≡ len)
   b_is =
@@ -81,15 +85,18 @@ module _ (r : Inside) (I : IsRegion r) (w : Whole) (v : region_view r ≡ w) (p 
   pub can_glue : (d : Gap) → Beside (get_or gs (n - 1) d) run (get_or gs n d)
   can_glue d =
       let i = inside in
-      subst (λ g. Beside g run (get_or gs n d)) (get_or_default gs (n - 1) none d (omega (arith, i))) (subst (λ g. Beside a run g) (get_or_default gs n none d i) beside_it)
+      subst (λ g. Beside g run (get_or gs n d)) (get_or_default gs (n - 1) none d (omega (arith, i)))
+      (subst (λ g. Beside a run g) (get_or_default gs n none d i) beside_it)
 
   pub then_bytes : bytes_of made ≡ written p.at p.bytes w.bytes
   then_bytes =
       let back : pre ++ a ∷ b ∷ post ≡ gs = sym whole_is in
-      shut_bytes r.home pre a run b post laid long ∙ (λ j. written (b_is.0 j) (ri j) (bytes_of (back j))) ∙ ap (λ z. written p.at p.bytes z.bytes) v
+      shut_bytes r.home pre a run b post laid long ∙ (λ j. written (b_is.0 j) (ri j) (bytes_of (back j)))
+      ∙ ap (λ z. written p.at p.bytes z.bytes) v
 
   pub then_length : length (bytes_of made) ≡ length w.bytes
-  then_length = shut_length r.home pre a run b post laid long ∙ ap (λ y. length (bytes_of y)) (sym whole_is) ∙ ap (λ z. length z.bytes) v
+  then_length = shut_length r.home pre a run b post laid long ∙ ap (λ y. length (bytes_of y)) (sym whole_is)
+      ∙ ap (λ z. length z.bytes) v
 
   pub then_out : windows_of made ≡ without_window p.at len w.out
   then_out =
@@ -97,24 +104,37 @@ module _ (r : Inside) (I : IsRegion r) (w : Whole) (v : region_view r ≡ w) (p 
       let e : n ≡ n - 1 + 1 = omega (arith, c) in
       let f : n - 1 ≡ k = omega (arith, c) in
       (λ j. windows_of (pre ++ joined a run (get_or gs (e j) none) ∷ drop (e j + 1) gs))
-      ∙ shut_windows gs (n - 1) run none (omega (arith, i, c)) ∙ ap (remove (windows_of gs)) (f ∙ sym (prefix_len-map window_of _ (drop 1 gs)))
+      ∙ shut_windows gs (n - 1) run none (omega (arith, i, c))
+      ∙ ap (remove (windows_of gs)) (f ∙ sym (prefix_len-map window_of _ (drop 1 gs)))
       ∙ ap (λ z. without_window p.at len z.out) v
 
-  starts : (gs : List Gap) (m : ℕ) (d : Gap) → 0 < m → IsStart gs → IsStart (take (m - 1) gs ++ joined (get_or gs (m - 1) d) run (get_or gs m d) ∷ drop (m + 1) gs)
+  starts : (gs : List Gap) (m : ℕ) (d : Gap) → 0 < m → IsStart gs
+      → IsStart (take (m - 1) gs ++ joined (get_or gs (m - 1) d) run (get_or gs m d) ∷ drop (m + 1) gs)
   starts [] m d h s = absurd s
   starts (x ∷ gs) m d h s = let q : ℕ = m - 1 in go q refl
     where
-      go : (q : ℕ) → m - 1 ≡ q → IsStart (take (m - 1) (x ∷ gs) ++ joined (get_or (x ∷ gs) (m - 1) d) run (get_or (x ∷ gs) m d) ∷ drop (m + 1) (x ∷ gs))
-      go zero e = subst (λ z. IsStart (take z (x ∷ gs) ++ joined (get_or (x ∷ gs) z d) run (get_or (x ∷ gs) m d) ∷ drop (m + 1) (x ∷ gs))) (sym e) s
-      go (suc q) e = subst (λ z. IsStart (take z (x ∷ gs) ++ joined (get_or (x ∷ gs) z d) run (get_or (x ∷ gs) m d) ∷ drop (m + 1) (x ∷ gs))) (sym e) s
+      go : (q : ℕ) → m - 1 ≡ q
+          → IsStart (take (m - 1) (x ∷ gs) ++ joined (get_or (x ∷ gs) (m - 1) d) run (get_or (x ∷ gs) m d)
+          ∷ drop (m + 1) (x ∷ gs))
+      go zero e =
+          subst (λ z.
+          IsStart (take z (x ∷ gs) ++ joined (get_or (x ∷ gs) z d) run (get_or (x ∷ gs) m d) ∷ drop (m + 1) (x ∷ gs)))
+          (sym e) s
+      go (suc q) e =
+          subst (λ z.
+          IsStart (take z (x ∷ gs) ++ joined (get_or (x ∷ gs) z d) run (get_or (x ∷ gs) m d) ∷ drop (m + 1) (x ∷ gs)))
+          (sym e) s
 
-  pub then_region : (s : Inside) → s.frame ≡ r.frame → s.home ≡ r.home → s.gaps.items ≡ made → vec_capacity s.gaps ≡ vec_capacity r.gaps → IsRegion s
+  pub then_region : (s : Inside) → s.frame ≡ r.frame → s.home ≡ r.home → s.gaps.items ≡ made
+      → vec_capacity s.gaps ≡ vec_capacity r.gaps → IsRegion s
   then_region s e q x c = record {
     start = ap (λ f. f.ptr) e ∙ I.start ∙ sym q;
     placed = subst InBlock (sym q) I.placed;
-    whole = ap (λ y. length (bytes_of y)) x ∙ shut_length r.home pre a run b post laid long ∙ ap (λ y. length (bytes_of y)) (sym whole_is) ∙ I.whole ∙ sym (ap (λ f. f.len) e);
+    whole = ap (λ y. length (bytes_of y)) x ∙ shut_length r.home pre a run b post laid long
+        ∙ ap (λ y. length (bytes_of y)) (sym whole_is) ∙ I.whole ∙ sym (ap (λ f. f.len) e);
     small = (let f = ap (λ f. f.len) e in let g = I.small in omega (arith, f, g));
-    laid = subst (λ y. IsLaid s.home 0 y) (sym x) (subst (λ y. IsLaid y 0 made) (sym q) (shut_laid r.home pre a run b post laid long));
+    laid = subst (λ y. IsLaid s.home 0 y) (sym x)
+        (subst (λ y. IsLaid y 0 made) (sym q) (shut_laid r.home pre a run b post laid long));
     first = subst IsStart (sym x) (starts gs n none can_shut.0 I.first);
     room = (let g = I.room in omega (arith, c, g));
   }

@@ -1,11 +1,12 @@
 pub mod Blocks
 pub mod Cutting
 pub mod Frames
+pub mod GapBytes
+pub mod GapWindows
 pub mod Joining
+pub mod Leaving
 pub mod Lodged
 pub mod Moving
 pub mod Opening
 pub mod Runs
-pub mod Spacing
 pub mod Steps
-pub mod Windows

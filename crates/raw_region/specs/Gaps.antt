@@ -1,5 +1,6 @@
 -- The windows that are out, and the bytes between them.
-use Rattle.std.specs.Prelude.{◌≡◌, ℕ, ◌+◌, ◌-◌, ◌^◌, ◌<◌, ◌≤◌, Bool, List, [], ◌∷◌, ◌++◌, length, take, drop, map, replicate}
+use Rattle.std.specs.Prelude.{◌≡◌, ℕ, ◌+◌, ◌-◌, ◌^◌, ◌<◌, ◌≤◌, Bool, List, [], ◌∷◌, ◌++◌, length, take, drop, map}
+use Rattle.std.specs.Prelude.{replicate}
 use denote.RawPtr.{Ptr}
 use Rattle.windows.specs.Windows.{window, ends_by, is_window}
 use Rattle.windows.specs.declared.Window.{Window}
@@ -33,27 +34,50 @@ before at g = at - (g.at + g.len)
 
 -- g with the bytes before the window
 abbrev pub front : ℕ → Gap → Gap
-front at g = record { at = g.at; len = g.len; after = record { home = g.after.home; at = g.after.at; items = take (before at g) g.after.items } }
+front at g = record {
+  at = g.at;
+  len = g.len;
+  after = record { home = g.after.home; at = g.after.at; items = take (before at g) g.after.items };
+}
 
 -- the window's bytes
 abbrev pub middle : ℕ → ℕ → Gap → Run
-middle at len g = record { home = g.after.home; at = g.after.at + before at g; items = take len (drop (before at g) g.after.items) }
+middle at len g = record {
+  home = g.after.home;
+  at = g.after.at + before at g;
+  items = take len (drop (before at g) g.after.items);
+}
 
 -- the window, with the bytes after it
 abbrev pub back : ℕ → ℕ → Gap → Gap
-back at len g = record { at = at; len = len; after = record { home = g.after.home; at = g.after.at + before at g + len; items = drop len (drop (before at g) g.after.items) } }
+back at len g =
+    record {
+      at = at;
+      len = len;
+      after = record {
+        home = g.after.home;
+        at = g.after.at + before at g + len;
+        items = drop len (drop (before at g) g.after.items);
+      };
+    }
 
 -- the run lies between the bytes after a and those after b
 abbrev pub Beside : Gap → Run → Gap → Type 0
-Beside a r b = (r.home ≡ a.after.home) × (b.after.home ≡ a.after.home) × (r.at ≡ a.after.at + length a.after.items) × (b.after.at ≡ r.at + length r.items)
+Beside a r b = (r.home ≡ a.after.home) × (b.after.home ≡ a.after.home) × (r.at ≡ a.after.at + length a.after.items)
+    × (b.after.at ≡ r.at + length r.items)
 
 -- a with the run and the bytes after b
 abbrev pub joined : Gap → Run → Gap → Gap
-joined a r b = record { at = a.at; len = a.len; after = record { home = a.after.home; at = a.after.at; items = a.after.items ++ r.items ++ b.after.items } }
+joined a r b = record {
+  at = a.at;
+  len = a.len;
+  after = record { home = a.after.home; at = a.after.at; items = a.after.items ++ r.items ++ b.after.items };
+}
 
 -- f and s are r, cut after n bytes
 abbrev pub IsCut : Run → ℕ → Run → Run → Type 0
-IsCut r n f s = ((f.home ≡ r.home) × (f.at ≡ r.at) × (f.items ≡ take n r.items)) × ((s.home ≡ r.home) × (s.at ≡ r.at + n) × (s.items ≡ drop n r.items))
+IsCut r n f s = ((f.home ≡ r.home) × (f.at ≡ r.at) × (f.items ≡ take n r.items))
+    × ((s.home ≡ r.home) × (s.at ≡ r.at + n) × (s.items ≡ drop n r.items))
 
 -- t is r and then s
 abbrev pub IsGlued : Run → Run → Run → Type 0
@@ -71,7 +95,8 @@ windows_of gs = map window_of (drop 1 gs)
 -- the gaps lie one after another from o on, in the region at h
 abbrev pub IsLaid : Ptr → ℕ → List Gap → Type 0
 IsLaid h o [] = Unit {0}
-IsLaid h o (g ∷ gs) = (g.at ≡ o) × (g.after.home ≡ h) × (g.after.at ≡ o + g.len) × IsLaid h (o + (g.len + length g.after.items)) gs
+IsLaid h o (g ∷ gs) = (g.at ≡ o) × (g.after.home ≡ h) × (g.after.at ≡ o + g.len)
+    × IsLaid h (o + (g.len + length g.after.items)) gs
 
 -- the first stands for the region's start
 abbrev pub IsStart : List Gap → Type 0

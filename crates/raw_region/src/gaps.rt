@@ -1,6 +1,7 @@
-// The windows that are out, by address, each with the bytes that follow it up to the next. The first stands for the
-// region's start and has no byte.
-ghost use Rattle.std.specs.Prelude.{◌≡◌, ℕ, ◌+◌, ◌-◌, ◌^◌, ◌<◌, ◌≤◌, List, [], ◌∷◌, ◌++◌, length, take, drop, slice_index_or, nat_le, nat_eq, ◌&&◌, not, vec_len, vec_capacity};
+//! The windows that are out, by address, each with the bytes that follow it up to the next. The first stands for the
+//! region's start and has no byte.
+ghost use Rattle.std.specs.Prelude.{◌≡◌, ℕ, ◌+◌, ◌-◌, ◌^◌, ◌<◌, ◌≤◌, List, [], ◌∷◌, ◌++◌, length, take, drop};
+ghost use Rattle.std.specs.Prelude.{slice_index_or, nat_le, nat_eq, ◌&&◌, not, vec_len, vec_capacity};
 ghost use Rattle.std.specs.List.{prefix_len, position_or_len};
 ghost use denote.RawPtr.{Ptr};
 ghost use Rattle.raw_region.specs.Gaps.{gap_ends_by, gap_is, EndsFit, Fits, front, middle, back, Beside, joined};
@@ -18,7 +19,8 @@ pub(crate) struct Gap {
 
 // The index of the first window that does not end by `at`.
 pub(crate) fn index_after(gaps: &[Gap], at: usize) -> usize
-    requires { (0 < length gaps.now) × EndsFit gaps.now }
+    requires start { 0 < length gaps.now }
+    requires ends_fit { EndsFit gaps.now }
     ensures { result ≡ 1 + prefix_len (gap_ends_by at) (drop 1 gaps.now) }
 {
     let mut i = 1;
@@ -42,9 +44,13 @@ pub(crate) fn index_of(gaps: &[Gap], at: usize, len: usize) -> usize
 
 // Takes a window out of the bytes after the i-th.
 pub(crate) fn open(gaps: &mut Vec<Gap>, i: usize, at: usize, len: usize) -> Run
-    requires there { (i < vec_len gaps.old) × (vec_len gaps.old < vec_capacity gaps.old) }
+    requires there { i < vec_len gaps.old }
+    requires room { vec_len gaps.old < vec_capacity gaps.old }
     requires fits { (d : Gap) → Fits at len (slice_index_or gaps.old.items i d) }
-    ensures items { (d : Gap) → gaps.new.items ≡ take i gaps.old.items ++ front at (slice_index_or gaps.old.items i d) ∷ back at len (slice_index_or gaps.old.items i d) ∷ drop (i + 1) gaps.old.items }
+    ensures items { (d : Gap) →
+        let gs = gaps.old.items in
+        let g = slice_index_or gs i d in
+        gaps.new.items ≡ take i gs ++ front at g ∷ back at len g ∷ drop (i + 1) gs }
     ensures run { (d : Gap) → result ≡ middle at len (slice_index_or gaps.old.items i d) }
     ensures capacity { vec_capacity gaps.new ≡ vec_capacity gaps.old }
 {
@@ -62,9 +68,16 @@ pub(crate) fn open(gaps: &mut Vec<Gap>, i: usize, at: usize, len: usize) -> Run
 
 // Puts a window's bytes back: the i-th gap goes, and the one before it takes them with its own.
 pub(crate) fn shut(gaps: &mut Vec<Gap>, i: usize, run: Run)
-    requires there { (0 < i) × (i < vec_len gaps.old) }
-    requires beside { (d : Gap) → Beside (slice_index_or gaps.old.items (i - 1) d) run (slice_index_or gaps.old.items i d) }
-    ensures items { (d : Gap) → gaps.new.items ≡ take (i - 1) gaps.old.items ++ joined (slice_index_or gaps.old.items (i - 1) d) run (slice_index_or gaps.old.items i d) ∷ drop (i + 1) gaps.old.items }
+    requires not_start { 0 < i }
+    requires there { i < vec_len gaps.old }
+    requires beside { (d : Gap) →
+        let gs = gaps.old.items in
+        Beside (slice_index_or gs (i - 1) d) run (slice_index_or gs i d) }
+    ensures items { (d : Gap) →
+        let gs = gaps.old.items in
+        let a = slice_index_or gs (i - 1) d in
+        let b = slice_index_or gs i d in
+        gaps.new.items ≡ take (i - 1) gs ++ joined a run b ∷ drop (i + 1) gs }
     ensures capacity { vec_capacity gaps.new ≡ vec_capacity gaps.old }
 {
     let Gap {

@@ -8,7 +8,7 @@ mod raw;
 mod region;
 
 pub use part::Part;
-pub use region::Region;
+pub use region::{MOST_BYTES, MOST_OUT, Region, UNIT};
 
 #[cfg(test)]
 mod tests;

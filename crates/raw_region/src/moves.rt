@@ -1,4 +1,4 @@
-// Bytes that move within a slice, where the two ranges may overlap. They go in strides, each through a buffer.
+//! Bytes that move within a slice, where the two ranges may overlap. They go in strides, each through a buffer.
 ghost use Rattle.std.specs.Prelude.{◌≡◌, ◌+◌, ◌≤◌, length, take, drop};
 ghost use Rattle.windows.specs.Writes.{written};
 
@@ -7,8 +7,9 @@ const STRIDE: usize = 4096;
 
 // Moves one stride.
 fn carry(bytes: &mut [u8], from: usize, to: usize, count: usize, buffer: &mut [u8; STRIDE])
-    requires count { count ≤ 4096 }
-    requires inside { (from + count ≤ length bytes.old) × (to + count ≤ length bytes.old) }
+    requires count { count ≤ STRIDE }
+    requires from_inside { from + count ≤ length bytes.old }
+    requires to_inside { to + count ≤ length bytes.old }
     ensures { bytes.new ≡ written to (take count (drop from bytes.old)) bytes.old }
 {
     let buffer = &mut buffer[..count];
@@ -18,7 +19,8 @@ fn carry(bytes: &mut [u8], from: usize, to: usize, count: usize, buffer: &mut [u
 
 // From the first byte on, since the bytes go down.
 pub(crate) fn move_down(bytes: &mut [u8], from: usize, to: usize, count: usize)
-    requires { (to ≤ from) × (from + count ≤ length bytes.old) }
+    requires down { to ≤ from }
+    requires inside { from + count ≤ length bytes.old }
     ensures { bytes.new ≡ written to (take count (drop from bytes.old)) bytes.old }
 {
     let mut buffer = [0; STRIDE];
@@ -32,7 +34,8 @@ pub(crate) fn move_down(bytes: &mut [u8], from: usize, to: usize, count: usize)
 
 // From the last byte on, since the bytes go up.
 pub(crate) fn move_up(bytes: &mut [u8], from: usize, to: usize, count: usize)
-    requires { (from ≤ to) × (to + count ≤ length bytes.old) }
+    requires up { from ≤ to }
+    requires inside { to + count ≤ length bytes.old }
     ensures { bytes.new ≡ written to (take count (drop from bytes.old)) bytes.old }
 {
     let mut buffer = [0; STRIDE];

@@ -1,16 +1,17 @@
-// A part of a region, out on loan.
+//! A part of a region, out on loan.
 ghost use Rattle.std.specs.Prelude.{◌≡◌, ◌+◌, ◌%◌, ◌≤◌, ◌++◌, length, take, drop, replicate};
 ghost use Rattle.std.specs.Borrow.{sem, Lends, Array, u8};
 ghost use Rattle.raw_region.specs.Memory.{with_bytes};
 ghost use Rattle.windows.specs.Writes.{written};
+ghost use Rattle.raw_region.specs.declared.region.TheConstants.{UNIT};
 ghost use Rattle.raw_region.specs.contracts.part.Part.{the_row};
 
 use crate::moves::{move_down, move_up};
 use std::marker::Model;
 use std_alloc::vec::Lodged;
 
-/// A stretch of a region's bytes that nobody else has, as a heap zone has its own (Inside Macintosh: Memory, chapter 1). Places count
-/// bytes from the part's start. It can't be dropped: it comes home by `Region::join`.
+/// A stretch of a region's bytes that nobody else has, as a heap zone has its own (Inside Macintosh: Memory,
+/// chapter 1). Places count bytes from the part's start. It can't be dropped: it comes home by `Region::join`.
 pub struct Part {
     pub(crate) bytes: Vec<u8, Lodged>,
     pub(crate) home: *mut u8,
@@ -30,9 +31,10 @@ impl Model for Part {
 }
 
 impl Part {
-    /// How many bytes it has: a multiple of 16.
+    /// How many bytes it has: a multiple of `UNIT`.
     pub fn len(&self) -> usize
-        ensures { result ≡ length self.now.bytes }
+        ensures count { result ≡ length self.now.bytes }
+        ensures multiple { result % UNIT ≡ 0 }
     {
         self.bytes.len()
     }
@@ -55,7 +57,8 @@ impl Part {
 
     /// The four bytes from `at` on, a multiple of 4.
     pub fn word(&self, at: usize) -> [u8; 4]
-        requires { (at % 4 ≡ 0) × (at + 4 ≤ length self.now.bytes) }
+        requires multiple { at % 4 ≡ 0 }
+        requires inside { at + 4 ≤ length self.now.bytes }
         ensures { result ≡ take 4 (drop at self.now.bytes) }
     {
         let bytes = self.bytes();
@@ -64,8 +67,11 @@ impl Part {
 
     /// Writes the four bytes from `at` on, a multiple of 4.
     pub fn put_word(&mut self, at: usize, word: [u8; 4])
-        requires { (at % 4 ≡ 0) × (at + 4 ≤ length self.old.bytes) }
-        ensures same { (self.new.home ≡ self.old.home) × (self.new.at ≡ self.old.at) × (length self.new.bytes ≡ length self.old.bytes) }
+        requires multiple { at % 4 ≡ 0 }
+        requires inside { at + 4 ≤ length self.old.bytes }
+        ensures same_home { self.new.home ≡ self.old.home }
+        ensures same_place { self.new.at ≡ self.old.at }
+        ensures same_length { length self.new.bytes ≡ length self.old.bytes }
         ensures bytes { self.new.bytes ≡ written at word self.old.bytes }
     {
         self.bytes.as_mut_slice()[at..at + 4].copy_from_slice(&word);
@@ -74,8 +80,11 @@ impl Part {
     /// Moves `count` bytes from `from` on to the places from `to` on, which may overlap them. The bytes go in
     /// strides, at about the speed of a plain copy, whatever the distance.
     pub fn slide(&mut self, from: usize, to: usize, count: usize)
-        requires { (from + count ≤ length self.old.bytes) × (to + count ≤ length self.old.bytes) }
-        ensures same { (self.new.home ≡ self.old.home) × (self.new.at ≡ self.old.at) × (length self.new.bytes ≡ length self.old.bytes) }
+        requires from_inside { from + count ≤ length self.old.bytes }
+        requires to_inside { to + count ≤ length self.old.bytes }
+        ensures same_home { self.new.home ≡ self.old.home }
+        ensures same_place { self.new.at ≡ self.old.at }
+        ensures same_length { length self.new.bytes ≡ length self.old.bytes }
         ensures bytes { self.new.bytes ≡ written to (take count (drop from self.old.bytes)) self.old.bytes }
     {
         let bytes = self.bytes.as_mut_slice();
@@ -88,9 +97,13 @@ impl Part {
 
     /// Turns the `count` bytes from `at` on, so that the one at `by` among them comes first.
     pub fn rotate(&mut self, at: usize, count: usize, by: usize)
-        requires { (by ≤ count) × (at + count ≤ length self.old.bytes) }
-        ensures same { (self.new.home ≡ self.old.home) × (self.new.at ≡ self.old.at) × (length self.new.bytes ≡ length self.old.bytes) }
-        ensures bytes { let run = take count (drop at self.old.bytes) in self.new.bytes ≡ written at (drop by run ++ take by run) self.old.bytes }
+        requires turn { by ≤ count }
+        requires inside { at + count ≤ length self.old.bytes }
+        ensures same_home { self.new.home ≡ self.old.home }
+        ensures same_place { self.new.at ≡ self.old.at }
+        ensures same_length { length self.new.bytes ≡ length self.old.bytes }
+        ensures bytes { let run = take count (drop at self.old.bytes) in
+            self.new.bytes ≡ written at (drop by run ++ take by run) self.old.bytes }
     {
         self.bytes.as_mut_slice()[at..at + count].rotate_left(by);
     }
@@ -98,7 +111,9 @@ impl Part {
     /// Gives each of the `count` bytes from `from` on this value.
     pub fn fill(&mut self, from: usize, count: usize, byte: u8)
         requires { from + count ≤ length self.old.bytes }
-        ensures same { (self.new.home ≡ self.old.home) × (self.new.at ≡ self.old.at) × (length self.new.bytes ≡ length self.old.bytes) }
+        ensures same_home { self.new.home ≡ self.old.home }
+        ensures same_place { self.new.at ≡ self.old.at }
+        ensures same_length { length self.new.bytes ≡ length self.old.bytes }
         ensures bytes { self.new.bytes ≡ written from (replicate count byte) self.old.bytes }
     {
         self.bytes.as_mut_slice()[from..from + count].fill(byte);

@@ -1,4 +1,5 @@
-// The few functions that hold raw memory. What takes no memory here is ghost state.
+//! The few functions that hold raw memory. What takes no memory here is ghost state. Four of them take memory from a
+//! `Vec` or give it back (`detach`, `attach`, `house`, `vacate`); the three of `Run` part and join who owns it.
 ghost use Rattle.std.specs.Prelude.{◌≡◌, ℕ, ◌+◌, ◌^◌, ◌<◌, ◌≤◌, List, [], ◌∷◌, ◌++◌, length, take, drop};
 ghost use Rattle.std.specs.Vec.{with_items};
 ghost use base.Fml.{ftrue, fex, fall, fwand, fsep, feq};
@@ -34,18 +35,30 @@ impl Owns for Frame {
 }
 
 impl Move for Frame {
-    ghost own_val = { λ e vs. fex Inside (λ v. fsep (feq ℕ v.vec.len e.len) (fall (List ℕ) (λ xs. fwand (fsep (feq ℕ (length xs) e.len) (run_owns e.ptr xs)) (Fields.own_val (record { vec = with_items v.vec xs }) vs)))) };
+    ghost own_val = { λ e vs.
+        let Back = λ (xs : List ℕ). fsep (feq ℕ (length xs) e.len) (run_owns e.ptr xs) in
+        let Whole = λ (v : Inside) (xs : List ℕ). Fields.own_val (record { vec = with_items v.vec xs }) vs in
+        fex Inside (λ v. fsep (feq ℕ v.vec.len e.len) (fall (List ℕ) (λ xs. fwand (Back xs) (Whole v xs)))) };
 }
 
+// Parts a `Vec` from its bytes.
 pub(crate) fn detach(vec: Vec<u8>) -> (Run, Frame)
-    requires { 0 < vec.len }
-    ensures { (result.0.home ≡ vec.ptr) × (result.0.at ≡ 0) × (result.0.items ≡ vec.items) × (result.1.ptr ≡ vec.ptr) × (result.1.len ≡ vec.len) × InBlock vec.ptr }
+    requires some { 0 < vec.len }
+    ensures home { result.0.home ≡ vec.ptr }
+    ensures start { result.0.at ≡ 0 }
+    ensures bytes { result.0.items ≡ vec.items }
+    ensures frame { result.1.ptr ≡ vec.ptr }
+    ensures waits { result.1.len ≡ vec.len }
+    ensures placed { InBlock vec.ptr }
 {
     (Run {}, Frame { vec })
 }
 
+// Gives them back to it.
 pub(crate) fn attach(run: Run, frame: Frame) -> Vec<u8>
-    requires { (run.home ≡ frame.ptr) × (run.at ≡ 0) × (length run.items ≡ frame.len) }
+    requires home { run.home ≡ frame.ptr }
+    requires start { run.at ≡ 0 }
+    requires whole { length run.items ≡ frame.len }
     ensures { result.items ≡ run.items }
 {
     let Run {} = run;
@@ -55,16 +68,26 @@ pub(crate) fn attach(run: Run, frame: Frame) -> Vec<u8>
 
 // A `Vec` over the run, which neither grows nor frees it.
 pub(crate) fn house(ptr: *mut u8, len: usize, run: Run) -> Vec<u8, Lodged>
-    requires { (run.home +ₚ run.at ≡ ptr) × (length run.items ≡ len) × (0 < len) × (len < 2 ^ 63) }
-    ensures { (result.items ≡ run.items) × (result.len ≡ len) × (result.cap ≡ len) × (result.ptr ≡ ptr) }
+    requires there { run.home +ₚ run.at ≡ ptr }
+    requires whole { length run.items ≡ len }
+    requires some { 0 < len }
+    requires small { len < 2 ^ 63 }
+    ensures bytes { result.items ≡ run.items }
+    ensures count { result.len ≡ len }
+    ensures full { result.cap ≡ len }
+    ensures there { result.ptr ≡ ptr }
 {
     let Run {} = run;
     unsafe { lodge(ptr, len, len) }
 }
 
+// Takes the run out of such a `Vec`.
 pub(crate) fn vacate(vec: Vec<u8, Lodged>, _home: *mut u8, _at: usize) -> Run
-    requires { (0 < vec.len) × (vec.ptr ≡ _home +ₚ _at) }
-    ensures { (result.home ≡ _home) × (result.at ≡ _at) × (result.items ≡ vec.items) }
+    requires some { 0 < vec.len }
+    requires there { vec.ptr ≡ _home +ₚ _at }
+    ensures home { result.home ≡ _home }
+    ensures place { result.at ≡ _at }
+    ensures bytes { result.items ≡ vec.items }
 {
     let _len = vec.dislodge();
     Run {}
@@ -78,9 +101,15 @@ impl Run {
         Run {}
     }
 
+    // The first bytes, and the others.
     pub(crate) fn cut(self, mid: usize) -> (Run, Run)
         requires { mid ≤ length self.items }
-        ensures { ((result.0.home ≡ self.home) × (result.0.at ≡ self.at) × (result.0.items ≡ take mid self.items)) × ((result.1.home ≡ self.home) × (result.1.at ≡ self.at + mid) × (result.1.items ≡ drop mid self.items)) }
+        ensures front_home { result.0.home ≡ self.home }
+        ensures front_place { result.0.at ≡ self.at }
+        ensures front_bytes { result.0.items ≡ take mid self.items }
+        ensures back_home { result.1.home ≡ self.home }
+        ensures back_place { result.1.at ≡ self.at + mid }
+        ensures back_bytes { result.1.items ≡ drop mid self.items }
     {
         let Run {} = self;
         (Run {}, Run {})
@@ -88,8 +117,11 @@ impl Run {
 
     // Two runs side by side are one.
     pub(crate) fn glue(self, other: Run) -> Run
-        requires { (other.home ≡ self.home) × (other.at ≡ self.at + length self.items) }
-        ensures { (result.home ≡ self.home) × (result.at ≡ self.at) × (result.items ≡ self.items ++ other.items) }
+        requires home { other.home ≡ self.home }
+        requires behind { other.at ≡ self.at + length self.items }
+        ensures home { result.home ≡ self.home }
+        ensures place { result.at ≡ self.at }
+        ensures bytes { result.items ≡ self.items ++ other.items }
     {
         let Run {} = self;
         let Run {} = other;

@@ -1,4 +1,4 @@
-// The region: one allocation, and the list of the windows that are out.
+//! The region: one allocation, and the list of the windows that are out.
 ghost use Rattle.std.specs.Prelude.{◌≡◌, ◌+◌, ◌%◌, ◌^◌, ◌<◌, ◌≤◌, [], length, take, drop, replicate, IfOk};
 ghost use Rattle.std.specs.List.{Contains};
 ghost use Rattle.windows.specs.Windows.{window, InOrder, IsApart, with_window, without_window};
@@ -10,8 +10,14 @@ use crate::raw::{Frame, attach, detach, house, vacate};
 use std::alloc::{AllocError, Global};
 use std::marker::Model;
 
-// No more windows are out at a time.
-const MOST_OUT: usize = 64;
+/// The length of a region, and the place and length of a part, are multiples of this.
+pub const UNIT: usize = 16;
+
+/// A region has no more bytes than these.
+pub const MOST_BYTES: usize = 134217728;
+
+/// No more windows are out at a time.
+pub const MOST_OUT: usize = 64;
 
 /// One block of memory, from which parts are cut, and to which they come home in any order. It begins at place 0. Of a
 /// window that is out its bytes read as 0.
@@ -40,7 +46,9 @@ impl Region {
     ///
     /// Where the memory is refused.
     pub fn new(alloc: Global, len: usize) -> Result<Region, AllocError>
-        requires { (len % 16 ≡ 0) × (16 ≤ len) × (len ≤ 134217728) }
+        requires multiple { len % UNIT ≡ 0 }
+        requires some { UNIT ≤ len }
+        requires small { len ≤ MOST_BYTES }
         ensures bytes { IfOk result (λ r. r.bytes ≡ replicate len 0) }
         ensures out { IfOk result (λ r. r.out ≡ []) }
     {
@@ -59,17 +67,23 @@ impl Region {
         }
     }
 
-    /// Lends the `len` bytes from `at` on.
+    /// Lends the `len` bytes from `at` on. No byte is then in two of the windows that are out.
     pub fn cut(&mut self, at: usize, len: usize) -> Part
-        requires multiples { (at % 16 ≡ 0) × (len % 16 ≡ 0) × (16 ≤ len) }
+        requires place { at % UNIT ≡ 0 }
+        requires multiple { len % UNIT ≡ 0 }
+        requires some { UNIT ≤ len }
         requires inside { at + len ≤ length self.old.bytes }
         requires apart { IsApart at len self.old.out }
-        requires few { length self.old.out < 64 }
-        ensures part { (result.home ≡ self.old.home) × (result.at ≡ at) × (length result.bytes ≡ len) }
+        requires few { length self.old.out < MOST_OUT }
+        ensures part_home { result.home ≡ self.old.home }
+        ensures part_place { result.at ≡ at }
+        ensures part_length { length result.bytes ≡ len }
         ensures part_bytes { result.bytes ≡ take len (drop at self.old.bytes) }
-        ensures same { (self.new.home ≡ self.old.home) × (length self.new.bytes ≡ length self.old.bytes) }
+        ensures same_home { self.new.home ≡ self.old.home }
+        ensures same_length { length self.new.bytes ≡ length self.old.bytes }
         ensures bytes { self.new.bytes ≡ written at (replicate len 0) self.old.bytes }
         ensures out { self.new.out ≡ with_window at len self.old.out }
+        ensures in_order { InOrder 0 self.new.out (length self.new.bytes) }
     {
         let i = index_after(self.gaps.as_slice(), at) - 1;
         let home = self.home;
@@ -79,13 +93,15 @@ impl Region {
         Part { bytes, home, at }
     }
 
-    /// Takes a part back, with the bytes that it now has.
+    /// Takes a part back, with the bytes that it now has. The other windows stay out, apart from one another.
     pub fn join(&mut self, part: Part)
         requires of_this { part.home ≡ self.old.home }
         requires out { Contains self.old.out (window part.at (length part.bytes)) }
-        ensures same { (self.new.home ≡ self.old.home) × (length self.new.bytes ≡ length self.old.bytes) }
+        ensures same_home { self.new.home ≡ self.old.home }
+        ensures same_length { length self.new.bytes ≡ length self.old.bytes }
         ensures bytes { self.new.bytes ≡ written part.at part.bytes self.old.bytes }
         ensures out { self.new.out ≡ without_window part.at (length part.bytes) self.old.out }
+        ensures in_order { InOrder 0 self.new.out (length self.new.bytes) }
     {
         let Part { bytes, home, at } = part;
         let len = bytes.len();
@@ -97,7 +113,7 @@ impl Region {
     /// How many windows are out. No byte is in two of them.
     pub fn count_out(&self) -> usize
         ensures count { result ≡ length self.now.out }
-        ensures apart { InOrder 0 self.now.out (length self.now.bytes) }
+        ensures in_order { InOrder 0 self.now.out (length self.now.bytes) }
     {
         self.gaps.len() - 1
     }

@@ -1,7 +1,8 @@
+//! Parts that are cut, written, moved and joined.
 ghost use Rattle.std.specs.Prelude.{◌≡◌, ◌%◌, ◌≤◌, [], ◌∷◌, length, IfOk};
 ghost use Rattle.raw_region.specs.Tests.{AreThree};
 
-use super::{Part, Region};
+use super::{MOST_BYTES, Part, Region, UNIT};
 use std::alloc::{AllocError, Global};
 use std::test::Fail;
 
@@ -21,7 +22,8 @@ fn three(alloc: Global) -> Result<(Region, Part, Part, Part), AllocError>
 
 // The three bytes, at the end of each part.
 fn ends(mut region: Region) -> [u8; 3]
-    requires { (region.out ≡ []) × (length region.bytes ≡ 48) }
+    requires none_out { region.out ≡ [] }
+    requires size { length region.bytes ≡ 48 }
 {
     let all = region.cut(0, 48);
     let bytes = all.bytes();
@@ -94,7 +96,9 @@ fn third_second_first(rt: HostRuntime) -> Result<(), Fail> {
 // A part of 48 bytes: four of 1 at 0, of 2 at 16 and of 3 at 32, and else 0.
 fn marked(part: &mut Part)
     requires { length part.old.bytes ≡ 48 }
-    ensures { (part.new.home ≡ part.old.home) × (part.new.at ≡ part.old.at) × (length part.new.bytes ≡ 48) }
+    ensures same_home { part.new.home ≡ part.old.home }
+    ensures same_place { part.new.at ≡ part.old.at }
+    ensures size { length part.new.bytes ≡ 48 }
 {
     part.put_word(0, [1; 4]);
     part.put_word(16, [2; 4]);
@@ -134,7 +138,9 @@ fn slides_down(rt: HostRuntime) -> Result<(), Fail> {
 
 // A region of this length, with nothing out.
 fn whole(alloc: Global, len: usize) -> Result<Region, AllocError>
-    requires { (len % 16 ≡ 0) × (16 ≤ len) × (len ≤ 134217728) }
+    requires multiple { len % UNIT ≡ 0 }
+    requires some { UNIT ≤ len }
+    requires small { len ≤ MOST_BYTES }
     ensures size { IfOk result (λ r. length r.bytes ≡ len) }
     ensures out { IfOk result (λ r. r.out ≡ []) }
 {
@@ -143,8 +149,57 @@ fn whole(alloc: Global, len: usize) -> Result<Region, AllocError>
 
 #[test]
 fn greatest_length(rt: HostRuntime) -> Result<(), Fail> {
-    let region = whole(rt.alloc(), 134217728)?;
+    let region = whole(rt.alloc(), MOST_BYTES)?;
     assert_eq!(rt; region.count_out(), 0);
+    region.close();
+    Ok(())
+}
+
+// The first and the last byte become 7 and 9, through a loan of all bytes.
+fn mark_ends(part: &mut Part)
+    requires { UNIT ≤ length part.old.bytes }
+    ensures same_home { part.new.home ≡ part.old.home }
+    ensures same_place { part.new.at ≡ part.old.at }
+    ensures same_length { length part.new.bytes ≡ length part.old.bytes }
+{
+    let last = part.len() - 1;
+    let bytes = part.bytes_mut();
+    bytes[0] = 7;
+    bytes[last] = 9;
+}
+
+#[test]
+fn written_through_a_loan(rt: HostRuntime) -> Result<(), Fail> {
+    let mut region = Region::new(rt.alloc(), 48)?;
+    let mut part = region.cut(16, 32);
+    mark_ends(&mut part);
+    assert_eq!(rt; part.len(), 32);
+    assert_eq!(rt; part.word(0), [7, 0, 0, 0]);
+    assert_eq!(rt; part.word(28), [0, 0, 0, 9]);
+    region.join(part);
+    region.close();
+    Ok(())
+}
+
+// The last word of the part that is the whole region, once its last bytes have this value.
+fn last_word(region: &mut Region, len: usize, byte: u8) -> [u8; 4]
+    requires multiple { len % UNIT ≡ 0 }
+    requires some { UNIT ≤ len }
+    requires whole { length region.old.bytes ≡ len }
+    requires none_out { region.old.out ≡ [] }
+    ensures none_out { region.new.out ≡ [] }
+{
+    let mut part = region.cut(0, len);
+    part.fill(len - UNIT, UNIT, byte);
+    let word = part.word(len - 4);
+    region.join(part);
+    word
+}
+
+#[test]
+fn part_of_the_greatest_length(rt: HostRuntime) -> Result<(), Fail> {
+    let mut region = whole(rt.alloc(), MOST_BYTES)?;
+    assert_eq!(rt; last_word(&mut region, MOST_BYTES, 5), [5; 4]);
     region.close();
     Ok(())
 }

@@ -1,5 +1,6 @@
 -- Cutting a text into lines.
-use Rattle.std.proofs.Common.{◌≡◌, ℕ, ◌+◌, ◌-◌, ◌<◌, Bool, true, false, List, [], ◌∷◌, Some, None, refl, sym, ap, ◌∙◌, length, take, drop, cond, ◌==◌, arith}
+use Rattle.std.proofs.Common.{◌≡◌, ℕ, ◌+◌, ◌-◌, ◌<◌, Bool, true, false, List, [], ◌∷◌, Some, None, refl, sym, ap, ◌∙◌}
+use Rattle.std.proofs.Common.{length, take, drop, cond, ◌==◌, arith}
 use Rattle.std.specs.List.{slice_split, onto_first, position_or_len, position, position_from}
 use Rattle.std.specs.Str.Lines.{lines, strip_carriage_return}
 use Rattle.std.proofs.lemmas.List.Splits.{slice_split_first}
@@ -15,7 +16,8 @@ some_part : (p : ℕ → Bool) (xs : List ℕ) → (y : List ℕ) × (more : Lis
 some_part p [] = ([], [], refl)
 some_part p (x ∷ xs) =
     let t = some_part p xs in
-    elim (p x) as (λ b. (y : List ℕ) × (more : List (List ℕ)) × (cond b ([] ∷ slice_split p xs) (onto_first x (slice_split p xs)) ≡ y ∷ more)) [
+    elim (p x) as (λ b. (y : List ℕ) × (more : List (List ℕ))
+    × (cond b ([] ∷ slice_split p xs) (onto_first x (slice_split p xs)) ≡ y ∷ more)) [
       | true ↦ ([], slice_split p xs, refl)
       | false ↦ (x ∷ t.0, t.1, ap (onto_first x) t.2)
     ]
@@ -24,8 +26,10 @@ some_part p (x ∷ xs) =
 whole_from : (p : ℕ → Bool) (i : ℕ) (xs : List ℕ) → None ≡ position_from p i xs → slice_split p xs ≡ xs ∷ []
 whole_from p i [] h = refl
 whole_from p i (x ∷ xs) h =
-    let go : (b : Bool) → p x ≡ b → None ≡ cond b (Some i) (position_from p (i + 1) xs) → cond b ([] ∷ slice_split p xs) (onto_first x (slice_split p xs)) ≡ (x ∷ xs) ∷ [] =
-    λ b. elim b as (λ v. p x ≡ v → None ≡ cond v (Some i) (position_from p (i + 1) xs) → cond v ([] ∷ slice_split p xs) (onto_first x (slice_split p xs)) ≡ (x ∷ xs) ∷ []) [
+    let go : (b : Bool) → p x ≡ b → None ≡ cond b (Some i) (position_from p (i + 1) xs)
+    → cond b ([] ∷ slice_split p xs) (onto_first x (slice_split p xs)) ≡ (x ∷ xs) ∷ [] =
+    λ b. elim b as (λ v. p x ≡ v → None ≡ cond v (Some i) (position_from p (i + 1) xs)
+    → cond v ([] ∷ slice_split p xs) (onto_first x (slice_split p xs)) ≡ (x ∷ xs) ∷ []) [
       | true ↦ λ e k. absurd (cc)
       | false ↦ λ e k. ap (onto_first x) (whole_from p (i + 1) xs k)
     ] in
@@ -37,7 +41,8 @@ found_from true n m h = (refl, cc)
 found_from false n m h = absurd (cc)
 
 -- the first line ends at the first LF, and the other lines follow it
-pub cut_line : (text : List ℕ) (n : ℕ) → Some n ≡ position ends text → lines text ≡ strip_carriage_return (take n text) ∷ lines (drop (n + 1) text)
+pub cut_line : (text : List ℕ) (n : ℕ) → Some n ≡ position ends text
+    → lines text ≡ strip_carriage_return (take n text) ∷ lines (drop (n + 1) text)
 cut_line text n h =
     let f = found_from _ n (position_or_len ends text) h in
     let within : position_or_len ends text < length text = grind (arith, f.0) in
@@ -48,7 +53,8 @@ cut_line text n h =
 -- a text without LF is one line
 pub last_line : (text : List ℕ) → 0 < length text → None ≡ position ends text → lines text ≡ text ∷ []
 last_line [] some h = absurd (omega arith)
-last_line (x ∷ xs) some h = let some_bytes : (length (x ∷ xs) == 0) ≡ false = grind arith in rw (whole_from ends 0 (x ∷ xs) (h ∙ position_from-zero ends (x ∷ xs)), some_bytes) refl
+last_line (x ∷ xs) some h = let some_bytes : (length (x ∷ xs) == 0)
+    ≡ false = grind arith in rw (whole_from ends 0 (x ∷ xs) (h ∙ position_from-zero ends (x ∷ xs)), some_bytes) refl
 
 -- nothing is behind the end
 pub at_end : (text : List ℕ) → take (length text - length text) (drop (length text) text) ≡ []

@@ -1,5 +1,6 @@
 -- Digits from the left.
-use Rattle.std.proofs.Common.{◌≡◌, ℕ, ◌+◌, ◌-◌, ◌*◌, ◌≤◌, ◌<◌, true, List, [], ◌∷◌, ◌++◌, Option, Some, None, refl, sym, ap, ◌∙◌, append_assoc, length, get_or, take, drop, arith}
+use Rattle.std.proofs.Common.{◌≡◌, ℕ, ◌+◌, ◌-◌, ◌*◌, ◌≤◌, ◌<◌, true, List, [], ◌∷◌, ◌++◌, Option, Some, None, refl}
+use Rattle.std.proofs.Common.{sym, ap, ◌∙◌, append_assoc, length, get_or, take, drop, arith}
 use Rattle.std.proofs.lemmas.Grind.{common_steps}
 use Rattle.std.specs.Char.{is_ascii_digit}
 use Rattle.std.specs.Option.{option_map}
@@ -11,7 +12,8 @@ grows n [] = omega arith
 grows n (c ∷ digits) = let h = grows (10 * n + (c - 48)) digits in omega arith
 
 -- a digit at the front is read
-at_digit : (limit n c : ℕ) (rest : List ℕ) → is_ascii_digit c ≡ true → number_within limit n (c ∷ rest) ≡ number_within limit (10 * n + (c - 48)) rest
+at_digit : (limit n c : ℕ) (rest : List ℕ) → is_ascii_digit c ≡ true
+    → number_within limit n (c ∷ rest) ≡ number_within limit (10 * n + (c - 48)) rest
 at_digit limit n c rest h = rw h refl
 
 -- a number over the limit stays over it
@@ -23,17 +25,21 @@ abbrev pub with_front : List ℕ → Option (List ℕ) → Option (List ℕ)
 with_front front read = option_map (λ bytes. front ++ bytes) read
 
 -- a digit that passes the limit: no number within it goes on so
-pub over : (limit n : ℕ) (rest : List ℕ) → 1 ≤ length rest → is_ascii_digit (get_or rest 0 0) ≡ true → limit < 10 * n + (get_or rest 0 0 - 48) → number_within limit n rest ≡ None
+pub over : (limit n : ℕ) (rest : List ℕ) → 1 ≤ length rest → is_ascii_digit (get_or rest 0 0) ≡ true
+    → limit < 10 * n + (get_or rest 0 0 - 48) → number_within limit n rest ≡ None
 over limit n [] some d large = absurd (omega arith)
 over limit n (c ∷ rest) some d large = at_digit limit n c rest d ∙ is_over limit _ rest large
 
 -- a byte moves over to those that were read
-byte_first : (front : List ℕ) (byte : ℕ) (read : Option (List ℕ)) → with_front (front ++ byte ∷ []) read ≡ with_front front (option_map (λ bytes. byte ∷ bytes) read)
+byte_first : (front : List ℕ) (byte : ℕ) (read : Option (List ℕ))
+    → with_front (front ++ byte ∷ []) read ≡ with_front front (option_map (λ bytes. byte ∷ bytes) read)
 byte_first front byte None = refl
 byte_first front byte (Some bytes) = ap (λ bs. Some bs) (simp append_assoc)
 
 -- two hexadecimal digits are read
-pub byte_read : (front rest : List ℕ) (byte : ℕ) → 2 ≤ length rest → Some byte ≡ byte_at (get_or rest 0 0) (get_or rest 1 0) → with_front (front ++ byte ∷ []) (hex_bytes (drop 2 rest)) ≡ with_front front (hex_bytes rest)
+pub byte_read : (front rest : List ℕ) (byte : ℕ) → 2 ≤ length rest
+    → Some byte ≡ byte_at (get_or rest 0 0) (get_or rest 1 0)
+    → with_front (front ++ byte ∷ []) (hex_bytes (drop 2 rest)) ≡ with_front front (hex_bytes rest)
 byte_read front [] byte two h = absurd (omega arith)
 byte_read front (a ∷ []) byte two h = absurd (omega arith)
 byte_read front (a ∷ b ∷ more) byte two h = byte_first front byte (hex_bytes more) ∙ rw (sym h) refl

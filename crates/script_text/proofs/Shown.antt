@@ -8,5 +8,7 @@ shown_all_append [] second = refl
 shown_all_append (v ∷ first) second = let h = shown_all_append first second in rw h (simp append_assoc)
 
 -- four lists of values that are written one after the other behind a text
-pub four_shown : (before : List ℕ) (a b c d : List Shown) → before ++ shown_all a ++ shown_all b ++ shown_all c ++ shown_all d ≡ before ++ shown_all (a ++ b ++ c ++ d)
-four_shown before a b c d = rw (shown_all_append (a ++ b ++ c) d, shown_all_append (a ++ b) c, shown_all_append a b) (simp append_assoc)
+pub four_shown : (before : List ℕ) (a b c d : List Shown)
+    → before ++ shown_all a ++ shown_all b ++ shown_all c ++ shown_all d ≡ before ++ shown_all (a ++ b ++ c ++ d)
+four_shown before a b c d =
+    rw (shown_all_append (a ++ b ++ c) d, shown_all_append (a ++ b) c, shown_all_append a b) (simp append_assoc)

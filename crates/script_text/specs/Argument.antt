@@ -1,4 +1,5 @@
-use Rattle.std.specs.Prelude.{ℕ, ◌+◌, ◌-◌, ◌*◌, Bool, false, ◌==◌, ◌||◌, ◌&&◌, nat_le, Option, Some, None, Result, Ok, Err, List, [], ◌∷◌, length, take, option_and_then, if◌then◌else◌}
+use Rattle.std.specs.Prelude.{ℕ, ◌+◌, ◌-◌, ◌*◌, Bool, false, ◌==◌, ◌||◌, ◌&&◌, nat_le, Option, Some, None, Result, Ok}
+use Rattle.std.specs.Prelude.{Err, List, [], ◌∷◌, length, take, option_and_then, if◌then◌else◌}
 use Rattle.std.specs.List.{list_all}
 use Rattle.std.specs.Option.{option_map, ok_or}
 use Rattle.std.specs.Char.{is_ascii_digit, is_ascii_alphabetic, is_ascii_alphanumeric}
@@ -9,7 +10,7 @@ use Rattle.script_text.specs.Token.{after_blanks, token_at}
 
 -- the kinds of arguments
 pub data Kind : Type 0 where
-  Name : Kind
+  Label : Kind
   Size : Kind
   Byte : Kind
   Bytes : Kind
@@ -21,17 +22,18 @@ pub data Value : Type 0 where
   Raw : (bytes : List ℕ) → Value
 
 -- a letter, a digit or _
-abbrev pub is_name_byte : ℕ → Bool
-is_name_byte c = is_ascii_alphanumeric c || c == 95
+abbrev pub is_label_byte : ℕ → Bool
+is_label_byte c = is_ascii_alphanumeric c || c == 95
 
 -- a letter or _ at the front
-abbrev pub begins_name : List ℕ → Bool
-begins_name [] = false
-begins_name (c ∷ rest) = is_ascii_alphabetic c || c == 95
+abbrev pub begins_label : List ℕ → Bool
+begins_label [] = false
+begins_label (c ∷ rest) = is_ascii_alphabetic c || c == 95
 
 -- a name: a letter or _, then letters, digits and _, at most 63 bytes
-abbrev pub name : List ℕ → Option (List ℕ)
-name token = if begins_name token && list_all is_name_byte token && nat_le (length token) 63 then Some token else None
+abbrev pub label : List ℕ → Option (List ℕ)
+label token =
+    if begins_label token && list_all is_label_byte token && nat_le (length token) 63 then Some token else None
 
 -- the number that decimal digits write behind a number
 abbrev pub number_from : ℕ → List ℕ → ℕ
@@ -40,11 +42,13 @@ number_from n (c ∷ digits) = number_from (10 * n + (c - 48)) digits
 
 -- a number that goes on in digits only, up to a limit
 abbrev pub number_within : ℕ → ℕ → List ℕ → Option ℕ
-number_within limit n digits = if list_all is_ascii_digit digits && nat_le (number_from n digits) limit then Some (number_from n digits) else None
+number_within limit n digits =
+    if list_all is_ascii_digit digits && nat_le (number_from n digits) limit then Some (number_from n digits) else None
 
 -- one to so many decimal digits, up to a limit
 abbrev pub number : ℕ → ℕ → List ℕ → Option ℕ
-number most limit token = if nat_le 1 (length token) && nat_le (length token) most then number_within limit 0 token else None
+number most limit token =
+    if nat_le 1 (length token) && nat_le (length token) most then number_within limit 0 token else None
 
 -- the value of a hexadecimal digit, in upper or lower case
 abbrev pub digit : ℕ → Option ℕ
@@ -62,7 +66,8 @@ byte_at high low = option_and_then (λ h. option_map (λ l. 16 * h + l) (digit l
 abbrev pub hex_bytes : List ℕ → Option (List ℕ)
 hex_bytes [] = Some []
 hex_bytes (high ∷ []) = None
-hex_bytes (high ∷ low ∷ rest) = option_and_then (λ byte. option_map (λ bytes. byte ∷ bytes) (hex_bytes rest)) (byte_at high low)
+hex_bytes (high ∷ low ∷ rest) =
+    option_and_then (λ byte. option_map (λ bytes. byte ∷ bytes) (hex_bytes rest)) (byte_at high low)
 
 -- what a quoted token says, whose first byte is taken off
 abbrev pub unquoted : List ℕ → Option (List ℕ)
@@ -75,7 +80,7 @@ bytes (c ∷ rest) = if c == 34 then unquoted rest else if c == 36 then hex_byte
 
 -- what a token says as an argument of this kind
 abbrev pub value : Kind → List ℕ → Option Value
-value Name token = option_map Letters (name token)
+value Label token = option_map Letters (label token)
 value Size token = option_map Number (number 10 2147483647 token)
 value Byte token = option_map Number (number 3 255 token)
 value Bytes token = option_map Raw (bytes token)

@@ -1,4 +1,5 @@
-use Rattle.std.specs.Prelude.{ℕ, ◌+◌, ◌==◌, nat_lt, Result, Ok, Err, List, [], ◌∷◌, ◌++◌, length, take, drop, if◌then◌else◌}
+use Rattle.std.specs.Prelude.{ℕ, ◌+◌, ◌==◌, nat_lt, Result, Ok, Err, List, [], ◌∷◌, ◌++◌, length, take, drop}
+use Rattle.std.specs.Prelude.{if◌then◌else◌}
 use Rattle.std.specs.Option.{ok_or}
 use Rattle.std.specs.Str.Lines.{lines}
 use Rattle.script_text.specs.declared.fault.FaultKind.{FaultKind}
@@ -17,13 +18,13 @@ pub data Said : Type 0 where
   Makes : (word : Word) → (values : List Value) → Said
 
 -- a line that isn't skipped: its number, from 1, and what it says
-pub record Entry : Type 0 where
+pub record Statement : Type 0 where
   pub line : ℕ
   pub said : Said
 
 -- what the lines so far said
 pub record Above : Type 0 where
-  pub entries : List Entry
+  pub statements : List Statement
 
 -- what a known call says, with the text behind it
 abbrev pub word_says : Word → List ℕ → Result Said FaultKind
@@ -35,12 +36,17 @@ token_says above token rest = ok_or (word_spelled token) UnknownCall >>= λ word
 
 -- the lines with one more
 abbrev pub with_line : ℕ → Above → Said → Above
-with_line n above said = record { entries = above.entries ++ record { line = n; said = said } ∷ [] }
+with_line n above said = record { statements = above.statements ++ record { line = n; said = said } ∷ [] }
+
+-- the lines with one more, whose first word ends at a place
+abbrev pub with_word : ℕ → Above → ℕ → List ℕ → Result Above FaultKind
+with_word n above end text = token_says above (take end text) (drop end text) >>= λ said. Ok (with_line n above said)
 
 -- the lines with what stands behind the blanks of one more; nothing and a comment are skipped
 abbrev pub with_text : ℕ → Above → List ℕ → Result Above FaultKind
 with_text n above [] = Ok above
-with_text n above (c ∷ rest) = if c == 35 then Ok above else (token_says above (take (place is_blank (c ∷ rest)) (c ∷ rest)) (drop (place is_blank (c ∷ rest)) (c ∷ rest)) >>= λ said. Ok (with_line n above said))
+with_text n above (c ∷ rest) =
+    if c == 35 then Ok above else with_word n above (place is_blank (c ∷ rest)) (c ∷ rest)
 
 -- the lines with the n-th, or its fault: a long line before all else
 unfoldable pub read_at : ℕ → Above → List ℕ → Result Above FaultKind
@@ -58,22 +64,22 @@ read_from n above (line ∷ more) = at_line n (read_at n above line) (λ next. r
 
 -- no lines yet
 abbrev pub no_lines : Above
-no_lines = record { entries = [] }
+no_lines = record { statements = [] }
 
 -- the lines that were read
-abbrev pub after_all : Result Above (ℕ × FaultKind) → Result (List Entry) (ℕ × FaultKind)
-after_all (Ok above) = Ok above.entries
+abbrev pub after_all : Result Above (ℕ × FaultKind) → Result (List Statement) (ℕ × FaultKind)
+after_all (Ok above) = Ok above.statements
 after_all (Err fault) = Err fault
 
--- the lines of a script that aren't skipped, in order, or its first faulty line and the fault. A line ends at LF, and a CR
--- right before the LF is dropped; the last LF may be missing
-unfoldable pub entries_of : List ℕ → Result (List Entry) (ℕ × FaultKind)
-entries_of text = after_all (read_from 1 no_lines (lines text))
+-- the lines of a script that aren't skipped, in order, or its first faulty line and the fault. A line ends at LF, and
+-- a CR right before the LF is dropped; the last LF may be missing
+unfoldable pub statements_of : List ℕ → Result (List Statement) (ℕ × FaultKind)
+statements_of text = after_all (read_from 1 no_lines (lines text))
 
 -- what a line says, seen
 abbrev pub said_as : declared.Said → Said
 said_as (said.Call call) = Makes (spoken call).0 (spoken call).1
 
 -- a line, seen
-abbrev pub entry : Line → Entry
-entry l = record { line = l.number; said = said_as l.said }
+abbrev pub statement : Line → Statement
+statement l = record { line = l.number; said = said_as l.said }

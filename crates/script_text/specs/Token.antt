@@ -1,4 +1,5 @@
-use Rattle.std.specs.Prelude.{ℕ, ◌+◌, Bool, true, ◌==◌, ◌||◌, not, nat_le, ◌&&◌, Result, Ok, Err, List, [], ◌∷◌, length, take, drop, unwrap_or, if◌then◌else◌}
+use Rattle.std.specs.Prelude.{ℕ, ◌+◌, Bool, true, ◌==◌, ◌||◌, not, nat_le, ◌&&◌, Result, Ok, Err, List, [], ◌∷◌}
+use Rattle.std.specs.Prelude.{length, take, drop, unwrap_or, if◌then◌else◌}
 use Rattle.std.specs.List.{position}
 use Rattle.script_text.specs.declared.fault.FaultKind.{FaultKind}
 use Rattle.script_text.specs.declared.fault.FaultKind.TheVariants.{BadArgument}
@@ -30,7 +31,8 @@ may_end (c ∷ rest) = is_blank c
 
 -- a text cut after n bytes, where a token may end there
 abbrev pub cut_token : ℕ → List ℕ → Result (List ℕ × List ℕ) FaultKind
-cut_token n text = if nat_le n (length text) && may_end (drop n text) then Ok (take n text, drop n text) else Err BadArgument
+cut_token n text =
+    if nat_le n (length text) && may_end (drop n text) then Ok (take n text, drop n text) else Err BadArgument
 
 -- the token at the front, and the text behind it
 unfoldable pub token_at : List ℕ → Result (List ℕ × List ℕ) FaultKind

@@ -1,4 +1,5 @@
-use Rattle.std.specs.Prelude.{ℕ, ℤ, pos, ◌+◌, ◌/◌, ◌%◌, nat_lt, Option, Some, None, List, [], ◌∷◌, ◌++◌, map, codes, decimal, if◌then◌else◌}
+use Rattle.std.specs.Prelude.{ℕ, ℤ, pos, ◌+◌, ◌/◌, ◌%◌, nat_lt, Option, Some, None, List, [], ◌∷◌, ◌++◌, map, codes}
+use Rattle.std.specs.Prelude.{decimal, if◌then◌else◌}
 use Rattle.std.specs.Fmt.{signed_decimal}
 use Rattle.std.specs.Ordering.{int_eq}
 use Rattle.mac_words.specs.declared.name.Name.{Name}
@@ -48,7 +49,8 @@ name_shown (Some name) = Bytes name.0.items ∷ []
 
 -- the values of a reply: its numbers, its type, its name, and the bytes that its call shows
 abbrev pub values_of : Reply → Option (List ℕ) → List Shown
-values_of reply bytes = map Number reply.numbers.items ++ type_shown reply.ty ++ name_shown reply.name ++ bytes_shown bytes
+values_of reply bytes = map Number reply.numbers.items ++ type_shown reply.ty ++ name_shown reply.name
+    ++ bytes_shown bytes
 
 -- the first line of a transcript, with the partition's size
 abbrev pub launch_line : ℕ → List ℕ

@@ -2,21 +2,24 @@
 
 ghost use Rattle.std.specs.Prelude.{◌≡◌, is_some, IfOk};
 ghost use Rattle.std.specs.List.{list_all};
-ghost use Rattle.script_text.specs.Argument.{Kind, Name, Size, Byte, Bytes, Value, Letters, Number, Raw, is_name_byte as is_name_byte_of, begins_name as begins_name_of, name, number, number_within, digit, byte_at, hex_bytes, bytes as bytes_of, value};
+ghost use Rattle.script_text.specs.Argument.{Kind, Label as LabelKind, Size, Byte, Bytes, Value, Letters, Number, Raw};
+ghost use Rattle.script_text.specs.Argument.{is_label_byte as is_label_byte_of, begins_label as begins_label_of, label};
+ghost use Rattle.script_text.specs.Argument.{number, number_within, digit, byte_at, hex_bytes, bytes as bytes_of};
+ghost use Rattle.script_text.specs.Argument.{value};
 ghost use Rattle.script_text.specs.Reading.{Finds};
 
 use arrayvec::ArrayVec;
 use mac_words::Label;
 use std::alloc::{AllocError, Global};
 
-fn is_name_byte(byte: u8) -> bool
-    ensures { result ≡ is_name_byte_of byte }
+fn is_label_byte(byte: u8) -> bool
+    ensures { result ≡ is_label_byte_of byte }
 {
     byte.is_ascii_alphanumeric() || byte == b'_'
 }
 
-fn begins_name(token: &[u8]) -> bool
-    ensures { result ≡ begins_name_of token.now }
+fn begins_label(token: &[u8]) -> bool
+    ensures { result ≡ begins_label_of token.now }
 {
     match token {
         [] => false,
@@ -24,16 +27,16 @@ fn begins_name(token: &[u8]) -> bool
     }
 }
 
-fn has_name_bytes(token: &[u8]) -> bool
-    ensures { result ≡ list_all is_name_byte_of token.now }
+fn has_label_bytes(token: &[u8]) -> bool
+    ensures { result ≡ list_all is_label_byte_of token.now }
 {
-    token.iter().all(|b| is_name_byte(*b))
+    token.iter().all(|b| is_label_byte(*b))
 }
 
-fn is_name(token: &[u8]) -> bool
-    ensures { result ≡ is_some (name token.now) }
+fn is_label(token: &[u8]) -> bool
+    ensures { result ≡ is_some (label token.now) }
 {
-    begins_name(token) && has_name_bytes(token) && token.len() <= 63
+    begins_label(token) && has_label_bytes(token) && token.len() <= 63
 }
 
 /// The number that a token writes in one to `most` decimal digits.
@@ -124,12 +127,12 @@ pub trait Argument: Sized {
 }
 
 impl Argument for Label {
-    ghost kind = { Name };
+    ghost kind = { LabelKind };
 
     ghost seen = { λ label. Letters label.0.items };
 
     fn find(_alloc: Global, token: &[u8]) -> Result<Option<Self>, AllocError> {
-        if is_name(token) {
+        if is_label(token) {
             Ok(ArrayVec::try_from(token).ok().map(Label))
         } else {
             Ok(None)

@@ -58,7 +58,8 @@ pub fn three<A: Argument + Drop, B: Argument + Drop, C: Argument + Drop>(
     alloc: Global,
     text: &[u8],
 ) -> Result<(A, B, C), FaultKind>
-    ensures { Gives (λ x. A.seen x.0 ∷ B.seen x.1 ∷ C.seen x.2 ∷ []) result (arguments (A.kind ∷ B.kind ∷ C.kind ∷ []) text.now) }
+    ensures { Gives (λ x. A.seen x.0 ∷ B.seen x.1 ∷ C.seen x.2 ∷ []) result
+        (arguments (A.kind ∷ B.kind ∷ C.kind ∷ []) text.now) }
 {
     let (a, rest) = first(alloc, text)?;
     let (b, c) = two(alloc, rest)?;

@@ -13,7 +13,7 @@ mod word;
 pub use fault::{FaultKind, ScriptFault};
 pub use script::{Line, Said, Script, read_script};
 pub use transcript::{write_end, write_hex, write_launch, write_reply};
-pub use word::{Word, words_are_apart};
+pub use word::{CALLS, Word, words_are_apart};
 
 #[cfg(test)]
 mod tests;

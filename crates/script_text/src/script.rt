@@ -2,7 +2,8 @@
 
 ghost use Rattle.std.specs.Prelude.{◌≡◌, List, map, OnOk};
 ghost use Rattle.std.specs.Str.Lines.{lines};
-ghost use Rattle.script_text.specs.Script.{Above, token_says, with_line, read_at, read_from, no_lines, entries_of, said_as, entry};
+ghost use Rattle.script_text.specs.Script.{Above, token_says, with_line, read_at, read_from, no_lines, statements_of};
+ghost use Rattle.script_text.specs.Script.{said_as, statement};
 ghost use Rattle.script_text.specs.Reading.{Gives, GivesAt};
 ghost use Rattle.script_text.specs.declared.script.Line as declared;
 
@@ -60,7 +61,7 @@ struct Reader {
 impl Model for Reader {
     ghost Value = { Above };
 
-    ghost view = { λ r. record { entries = map entry r.lines.items } };
+    ghost view = { λ r. record { statements = map statement r.lines.items } };
 }
 
 impl Reader {
@@ -132,9 +133,9 @@ fn read_lines(alloc: Global, text: &[u8]) -> Result<Reader, ScriptFault>
 ///
 /// The first faulty line, with its fault: in a line a length over 65,535 bytes comes first, then an unknown
 /// call, then a bad argument. `HostMemory` where the host refused memory.
-#[tactic(auto, unfolding(crate::specs::Script::entries_of))]
+#[tactic(auto, unfolding(crate::specs::Script::statements_of))]
 pub fn read_script(alloc: Global, text: &[u8]) -> Result<Script, ScriptFault>
-    ensures { GivesAt (λ script. map entry script) result (entries_of text.now) }
+    ensures { GivesAt (λ script. map statement script) result (statements_of text.now) }
 {
     let reader = read_lines(alloc, text)?;
     Ok(Script {

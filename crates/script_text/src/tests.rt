@@ -3,7 +3,7 @@
 use crate::fault::{FaultKind, ScriptFault};
 use crate::script::{Said, Script, read_script};
 use crate::transcript::{write_end, write_launch, write_reply};
-use crate::word::{Word, words_are_apart};
+use crate::word::{CALLS, WORDS, Word, words_are_apart};
 use arrayvec::ArrayVec;
 use mac_words::{Call, HeapCall, Name, OsErr, OsType, Reply};
 use std::alloc::Global;
@@ -197,7 +197,15 @@ fn writes_a_transcript(rt: HostRuntime) -> Result<(), Fail> {
     write_end(&mut text, OsErr::NO_ERR)?;
     assert_eq!(rt;
         text.as_slice(),
-        b"launch 0 1024\n4 NewHandle 0\n5 Where 0 288\n6 Show 0 $78797a\n7 Show 0 $\n9 NewHandle -108\nend 0\n".as_slice()
+        b"launch 0 1024
+4 NewHandle 0
+5 Where 0 288
+6 Show 0 $78797a
+7 Show 0 $
+9 NewHandle -108
+end 0
+"
+            .as_slice()
     );
     Ok(())
 }
@@ -235,5 +243,37 @@ fn spells_words(rt: HostRuntime) -> Result<(), Fail> {
     };
     assert_eq!(rt; fault.kind.number(), 5);
     assert_eq!(rt; FaultKind::NotAllowed.number(), 3);
+    Ok(())
+}
+
+#[test]
+fn lists_each_call(rt: HostRuntime) -> Result<(), Fail> {
+    for word in WORDS {
+        let mut found = 0u64;
+        for line in CALLS.lines() {
+            let mut words = line.split(' ').skip(2);
+            if words.next().map(|first| first.as_bytes()) == Some(word.text()) {
+                found = found.wrapping_add(1);
+            }
+        }
+        assert_eq!(rt; found, 1);
+    }
+    let mut listed = 0u64;
+    for line in CALLS.lines() {
+        if line.starts_with("  ") {
+            listed = listed.wrapping_add(1);
+        } else {
+            assert!(rt; line.ends_with(":"));
+        }
+    }
+    assert_eq!(rt; listed, 36);
+    for line in [
+        "  NewHandle h size\n",
+        "  HandToHand b a\n",
+        "  Put h offset bytes\n",
+        "  FreeMem\n",
+    ] {
+        assert!(rt; CALLS.contains(line), "at {line}");
+    }
     Ok(())
 }

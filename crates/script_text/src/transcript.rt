@@ -4,7 +4,9 @@
 ghost use Rattle.std.specs.Prelude.{◌≡◌, ◌<◌, ◌++◌, OnOk, map};
 ghost use Rattle.std.specs.Option.{option_map};
 ghost use Rattle.std.specs.Fmt.{signed_decimal};
-ghost use Rattle.script_text.specs.Transcript.{Number, Bytes, hex, hex_digit, shown_all, bytes_shown, type_shown, name_shown, values_of, launch_line, end_line, call_at, outcome, reply_line};
+ghost use Rattle.script_text.specs.Transcript.{Number, Bytes, hex, hex_digit, shown_all, bytes_shown, type_shown};
+ghost use Rattle.script_text.specs.Transcript.{name_shown, values_of, launch_line, end_line, call_at, outcome};
+ghost use Rattle.script_text.specs.Transcript.{reply_line};
 
 use crate::word::Word;
 use itoa::Buffer;
@@ -45,7 +47,8 @@ fn push_numbers(text: &mut Vec<u8>, numbers: &[i64]) -> Result<(), AllocError>
 }
 
 fn push_bytes(text: &mut Vec<u8>, bytes: Option<&[u8]>) -> Result<(), AllocError>
-    ensures { OnOk result (text.new.items ≡ text.old.items ++ shown_all (bytes_shown (option_map (λ b. b.now) bytes.entry))) }
+    ensures { OnOk result (text.new.items
+        ≡ text.old.items ++ shown_all (bytes_shown (option_map (λ b. b.now) bytes.entry))) }
 {
     if let Some(bytes) = bytes {
         text.extend_from_slice(b" $")?;
@@ -74,7 +77,8 @@ fn push_name(text: &mut Vec<u8>, name: &Option<Name>) -> Result<(), AllocError>
 
 #[tactic(auto, using(crate::proofs::Shown::four_shown))]
 fn push_values(text: &mut Vec<u8>, reply: &Reply, bytes: Option<&[u8]>) -> Result<(), AllocError>
-    ensures { OnOk result (text.new.items ≡ text.old.items ++ shown_all (values_of reply.now (option_map (λ b. b.now) bytes.entry))) }
+    ensures { OnOk result (text.new.items
+        ≡ text.old.items ++ shown_all (values_of reply.now (option_map (λ b. b.now) bytes.entry))) }
 {
     push_numbers(text, reply.numbers.as_slice())?;
     push_type(text, &reply.ty)?;
@@ -118,7 +122,8 @@ fn push_call(text: &mut Vec<u8>, line: usize, word: Word) -> Result<(), AllocErr
 
 /// Appends a code, and after code 0 the values.
 fn push_outcome(text: &mut Vec<u8>, reply: &Reply, bytes: Option<&[u8]>) -> Result<(), AllocError>
-    ensures { OnOk result (text.new.items ≡ text.old.items ++ outcome reply.now.code.0 (values_of reply.now (option_map (λ b. b.now) bytes.entry))) }
+    ensures { OnOk result (text.new.items
+        ≡ text.old.items ++ outcome reply.now.code.0 (values_of reply.now (option_map (λ b. b.now) bytes.entry))) }
 {
     text.extend_from_slice(b" ")?;
     push_code(text, reply.code)?;
@@ -139,7 +144,8 @@ pub fn write_reply(
     reply: &Reply,
     bytes: Option<&[u8]>,
 ) -> Result<(), AllocError>
-    ensures { OnOk result (text.new.items ≡ text.old.items ++ reply_line line word reply.now.code.0 (values_of reply.now (option_map (λ b. b.now) bytes.entry))) }
+    ensures { OnOk result (text.new.items ≡ text.old.items
+        ++ reply_line line word reply.now.code.0 (values_of reply.now (option_map (λ b. b.now) bytes.entry))) }
 {
     push_call(text, line, word)?;
     push_outcome(text, reply, bytes)?;

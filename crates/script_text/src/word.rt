@@ -51,59 +51,67 @@ pub enum Word {
     Where,
 }
 
-/// The calls: for each its word, the enums that hold it, and what reads its arguments.
+/// The calls by what they belong to: for each its word, the enums that hold it, and what reads its arguments.
 macro_rules! calls {
     ($part:ident $($given:expr),*) => {
         $part! { $($given),* ;
-            NewHandle = Heap HeapCall two(h, size);
-            NewEmptyHandle = Heap HeapCall one(h);
-            DisposeHandle = Heap HeapCall one(h);
-            GetHandleSize = Heap HeapCall one(h);
-            SetHandleSize = Heap HeapCall two(h, size);
-            ReallocateHandle = Heap HeapCall two(h, size);
-            EmptyHandle = Heap HeapCall one(h);
-            HLock = Heap HeapCall one(h);
-            HUnlock = Heap HeapCall one(h);
-            HPurge = Heap HeapCall one(h);
-            HNoPurge = Heap HeapCall one(h);
-            HGetState = Heap HeapCall one(h);
-            HSetState = Heap HeapCall two(h, byte);
-            MoveHHi = Heap HeapCall one(h);
-            HLockHi = Heap HeapCall one(h);
-            HandToHand = Heap HeapCall two(b, a);
-            HandAndHand = Heap HeapCall two(a, b);
-            PtrAndHand = Heap HeapCall two(h, bytes);
-            NewPtr = Heap HeapCall two(p, size);
-            DisposePtr = Heap HeapCall one(p);
-            GetPtrSize = Heap HeapCall one(p);
-            SetPtrSize = Heap HeapCall two(p, size);
-            FreeMem = Heap HeapCall none();
-            MaxBlock = Heap HeapCall none();
-            PurgeSpace = Heap HeapCall none();
-            CompactMem = Heap HeapCall one(size);
-            PurgeMem = Heap HeapCall one(size);
-            MaxMem = Heap HeapCall none();
-            ReserveMem = Heap HeapCall one(size);
-            MoreMasters = Heap HeapCall none();
-            MemError = Heap HeapCall none();
-            Put = Heap HeapCall three(h, offset, bytes);
-            Show = Heap HeapCall one(h);
-            PutPtr = Heap HeapCall three(p, offset, bytes);
-            ShowPtr = Heap HeapCall one(p);
-            Where = Heap HeapCall one(name);
+            "The Memory Manager, blocks that move" {
+                NewHandle = Heap HeapCall two(h, size);
+                NewEmptyHandle = Heap HeapCall one(h);
+                DisposeHandle = Heap HeapCall one(h);
+                GetHandleSize = Heap HeapCall one(h);
+                SetHandleSize = Heap HeapCall two(h, size);
+                ReallocateHandle = Heap HeapCall two(h, size);
+                EmptyHandle = Heap HeapCall one(h);
+                HLock = Heap HeapCall one(h);
+                HUnlock = Heap HeapCall one(h);
+                HPurge = Heap HeapCall one(h);
+                HNoPurge = Heap HeapCall one(h);
+                HGetState = Heap HeapCall one(h);
+                HSetState = Heap HeapCall two(h, byte);
+                MoveHHi = Heap HeapCall one(h);
+                HLockHi = Heap HeapCall one(h);
+                HandToHand = Heap HeapCall two(b, a);
+                HandAndHand = Heap HeapCall two(a, b);
+                PtrAndHand = Heap HeapCall two(h, bytes);
+            }
+            "The Memory Manager, blocks that stay" {
+                NewPtr = Heap HeapCall two(p, size);
+                DisposePtr = Heap HeapCall one(p);
+                GetPtrSize = Heap HeapCall one(p);
+                SetPtrSize = Heap HeapCall two(p, size);
+            }
+            "The Memory Manager, the whole zone" {
+                FreeMem = Heap HeapCall none();
+                MaxBlock = Heap HeapCall none();
+                PurgeSpace = Heap HeapCall none();
+                CompactMem = Heap HeapCall one(size);
+                PurgeMem = Heap HeapCall one(size);
+                MaxMem = Heap HeapCall none();
+                ReserveMem = Heap HeapCall one(size);
+                MoreMasters = Heap HeapCall none();
+                MemError = Heap HeapCall none();
+            }
+            "What an application does by itself" {
+                Put = Heap HeapCall three(h, offset, bytes);
+                Show = Heap HeapCall one(h);
+                PutPtr = Heap HeapCall three(p, offset, bytes);
+                ShowPtr = Heap HeapCall one(p);
+                Where = Heap HeapCall one(name);
+            }
         }
     };
 }
 
 macro_rules! words {
-    (; $($word:ident = $group:ident $calls:ident $read:ident ($($name:ident),*);)*) => {
-        [$(Word::$word),*]
+    (; $($owner:literal { $($word:ident = $group:ident $calls:ident $read:ident $names:tt;)* })*) => {
+        [$($(Word::$word,)*)*]
     };
 }
 
 macro_rules! spelling_of {
-    ($given:expr; $($word:ident = $group:ident $calls:ident $read:ident ($($name:ident),*);)*) => {
-        match $given { $(Word::$word => stringify!($word).as_bytes(),)* }
+    ($given:expr; $($owner:literal { $($word:ident = $group:ident $calls:ident $read:ident $names:tt;)* })*) => {
+        match $given { $($(Word::$word => stringify!($word).as_bytes(),)*)* }
     };
 }
 
@@ -120,18 +128,31 @@ macro_rules! arm {
 }
 
 macro_rules! read_of {
-    ($given:expr, $alloc:expr, $text:expr; $($word:ident = $group:ident $calls:ident $read:ident ($($name:ident),*);)*) => {
-        match $given { $(Word::$word => arm!($alloc, $text; $word $group $calls $read ($($name),*)),)* }
+    (
+        $given:expr, $alloc:expr, $text:expr;
+        $($owner:literal { $($word:ident = $group:ident $calls:ident $read:ident $names:tt;)* })*
+    ) => {
+        match $given { $($(Word::$word => arm!($alloc, $text; $word $group $calls $read $names),)*)* }
     };
 }
 
 macro_rules! word_of_call {
-    ($given:expr; $($word:ident = $group:ident $calls:ident $read:ident ($($name:ident),*);)*) => {
-        match $given { $(Call::$group($calls::$word { .. }) => Word::$word,)* }
+    ($given:expr; $($owner:literal { $($word:ident = $group:ident $calls:ident $read:ident $names:tt;)* })*) => {
+        match $given { $($(Call::$group($calls::$word { .. }) => Word::$word,)*)* }
     };
 }
 
-static WORDS: [Word; 36] = calls!(words);
+macro_rules! listed {
+    (; $($owner:literal { $($word:ident = $group:ident $calls:ident $read:ident ($($name:ident),*);)* })*) => {
+        concat!($($owner, ":\n", $("  ", stringify!($word), $(" ", stringify!($name),)* "\n",)*)*)
+    };
+}
+
+/// The calls as a person reads them: a line for each, with the names of its arguments, below the line of what it
+/// belongs to.
+pub const CALLS: &str = calls!(listed);
+
+pub(crate) static WORDS: [Word; 36] = calls!(words);
 
 impl Word {
     /// The word of a call.

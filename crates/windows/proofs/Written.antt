@@ -1,5 +1,6 @@
 -- For callers: a stretch that is written is its first part written, and the rest, in either order.
-use Rattle.std.proofs.Common.{◌≡◌, ℕ, ◌+◌, ◌≤◌, List, ◌++◌, length, take, drop, refl, sym, ap, ◌∙◌, arith, append_assoc, length-append}
+use Rattle.std.proofs.Common.{◌≡◌, ℕ, ◌+◌, ◌≤◌, List, ◌++◌, length, take, drop, refl, sym, ap, ◌∙◌, arith}
+use Rattle.std.proofs.Common.{append_assoc, length-append}
 use Rattle.std.proofs.lemmas.List.{length-take-le, drop_at}
 use Rattle.windows.specs.Writes.{written}
 use Rattle.windows.proofs.Pieces.{take-written_below, written-written}
@@ -17,5 +18,6 @@ module _ (at : ℕ) (A B xs : List ℕ) (fits : at + length A + length B ≤ len
       let long : length F ≡ at + length A = length-take-le (at + length A) xs (omega (arith, fits)) in
       let a = length-append A B in
       let place : at + length A + length B ≡ at + length (A ++ B) = omega (arith, a) in
-      (λ j. (take-written_below (at + length A) B xs at (omega arith) (omega (arith, fits)) j ++ A) ++ (ap (drop (at + length A)) (append_assoc F B R) ∙ drop_at F (B ++ R) (at + length A) long) j)
+      (λ j. (take-written_below (at + length A) B xs at (omega arith) (omega (arith, fits)) j ++ A)
+      ++ (ap (drop (at + length A)) (append_assoc F B R) ∙ drop_at F (B ++ R) (at + length A) long) j)
       ∙ sym (append_assoc (take at xs ++ A) B R) ∙ (λ j. append_assoc (take at xs) A B j ++ drop (place j) xs)

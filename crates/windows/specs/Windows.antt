@@ -1,4 +1,5 @@
--- The windows of a memory that are out (Inside Macintosh: Memory, chapter 1: a heap zone is a stretch of memory that nobody else has).
+-- The windows of a memory that are out (Inside Macintosh: Memory, chapter 1: a heap zone is a stretch of memory that
+-- nobody else has).
 use Rattle.std.specs.Prelude.{ℕ, ◌+◌, ◌≤◌, ◌⊎◌, ◌&&◌, nat_le, nat_eq, Bool, List, [], ◌∷◌}
 use Rattle.std.specs.List.{All, insert, remove, prefix_len, position_or_len}
 use Rattle.windows.specs.declared.Window.{Window}

@@ -1,9 +1,10 @@
 use Rattle.std.proofs.Common.{◌≡◌, ◌≤◌, ◌+◌, ◌++◌, ◌∷◌, ◌∙◌, take, sym, ap, length, get_or, slice_set, arith}
 use Rattle.std.specs.Option.{IfSome}
 use Rattle.std.proofs.lemmas.List.{get_or-set_other, length-set}
-use Rattle.block_store.specs.Block.{content_of, with_content, written}
-use Rattle.block_store.specs.ListStore.{blocks_of, block_of, nth_spot}
-use Rattle.block_store.proofs.Copies.{at_nth, from_nth, first-bytes, blocks-replaced}
+use Rattle.block_store.specs.Block.{content_of, with_content}
+use Rattle.windows.specs.Writes.{written}
+use Rattle.block_store.specs.Inner.ListStore.{blocks_of, block_of, nth_spot}
+use Rattle.block_store.proofs.Content.Copies.{at_nth, from_nth, first-bytes, blocks-replaced}
 use Rattle.block_store.proofs.copying.copy_between.Goals as goal
 
 pub index-requires : goal.index-requires

@@ -1,7 +1,8 @@
 use Rattle.std.proofs.Common.{◌≡◌, ◌≤◌, ◌+◌, ◌++◌, ◌∷◌, ◌∙◌, take, sym, ap, length, get_or, slice_set, arith}
-use Rattle.block_store.specs.Block.{content_of, with_content, written}
-use Rattle.block_store.specs.ListStore.{blocks_of}
-use Rattle.block_store.proofs.Copies.{at_nth, from_nth, blocks-replaced}
+use Rattle.block_store.specs.Block.{content_of, with_content}
+use Rattle.windows.specs.Writes.{written}
+use Rattle.block_store.specs.Inner.ListStore.{blocks_of}
+use Rattle.block_store.proofs.Content.Copies.{at_nth, from_nth, blocks-replaced}
 use Rattle.block_store.proofs.copying.copy_inside.Goals as goal
 
 pub repeated_entry-requires : goal.repeated_entry-requires

@@ -2,8 +2,8 @@ use Rattle.std.proofs.Common.{◌+◌, drop, sym, ◌∙◌, ap, arith}
 use Rattle.std.specs.Option.{option_map}
 use Rattle.block_store.specs.Block.{sizes, is_relocatable}
 use Rattle.block_store.specs.Room.{Spot, spot}
-use Rattle.block_store.specs.ListStore.{blocks_of, block_of}
-use Rattle.block_store.proofs.Listing.{drop-blocks, size-le, sizes-more, spot-here, spot-above}
+use Rattle.block_store.specs.Inner.ListStore.{blocks_of, block_of}
+use Rattle.block_store.proofs.Zone.Listing.{drop-blocks, size-le, sizes-more, spot-here, spot-above}
 use Rattle.block_store.proofs.entries.find_slot.Goals as goal
 
 pub returns-then-is_of_slot : goal.returns-then-is_of_slot

@@ -2,7 +2,7 @@ use Rattle.std.proofs.Common.{◌≡◌, ◌+◌, take, drop}
 use Rattle.std.specs.Option.{option_map}
 use Rattle.block_store.specs.Block.{sizes, is_relocatable}
 use Rattle.block_store.specs.Room.{spot}
-use Rattle.block_store.specs.ListStore.{blocks_of}
+use Rattle.block_store.specs.Inner.ListStore.{blocks_of}
 use Rattle.block_store.proofs.entries.find_slot.Given as goal
 
 -- the bytes so far, and that the rest gives the place

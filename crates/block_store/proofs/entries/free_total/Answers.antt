@@ -1,7 +1,7 @@
 use Rattle.std.proofs.Common.{◌≡◌, ap, arith}
 use Rattle.block_store.specs.Block.{free_of}
-use Rattle.block_store.specs.ListStore.{block_of}
-use Rattle.block_store.proofs.Listing.{free-more, free-le, free_of-not_free}
+use Rattle.block_store.specs.Inner.ListStore.{block_of}
+use Rattle.block_store.proofs.Zone.Listing.{free-more, free-le, free_of-not_free}
 use Rattle.block_store.proofs.entries.free_total.Goals as goal
 use Rattle.block_store.proofs.entries.free_total.Goals.{in-Free, in_default}
 

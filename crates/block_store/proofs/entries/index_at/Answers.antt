@@ -1,8 +1,8 @@
 use Rattle.std.proofs.Common.{◌+◌, ◌-◌, take, drop, sym, ◌∙◌, ap, arith}
 use Rattle.block_store.specs.Block.{size}
 use Rattle.block_store.specs.Room.{spot_at}
-use Rattle.block_store.specs.ListStore.{blocks_of, block_of}
-use Rattle.block_store.proofs.Listing.{drop-blocks, take-blocks, size-le, spot_at-here, spot_at-more, spot_at-past, raised_by}
+use Rattle.block_store.specs.Inner.ListStore.{blocks_of, block_of}
+use Rattle.block_store.proofs.Zone.Listing.{drop-blocks, take-blocks, size-le, spot_at-here, spot_at-more, spot_at-past, raised_by}
 use Rattle.block_store.proofs.entries.index_at.Goals as goal
 
 pub returns-then-rest-eq0 : goal.returns-then-rest-eq0

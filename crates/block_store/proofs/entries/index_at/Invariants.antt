@@ -1,7 +1,7 @@
 use Rattle.std.proofs.Common.{◌≡◌, take, drop}
 use Rattle.block_store.specs.Room.{spot_at}
-use Rattle.block_store.specs.ListStore.{blocks_of}
-use Rattle.block_store.proofs.Listing.{raised_by}
+use Rattle.block_store.specs.Inner.ListStore.{blocks_of}
+use Rattle.block_store.proofs.Zone.Listing.{raised_by}
 use Rattle.block_store.proofs.entries.index_at.Given as goal
 
 -- the rest of the entries gives the spot

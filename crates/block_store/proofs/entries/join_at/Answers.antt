@@ -1,8 +1,8 @@
 use Rattle.std.proofs.Common.{◌≡◌, ◌+◌, ◌∷◌, drop, slice_set, sym, ◌∙◌, ap, arith}
 use Rattle.block_store.specs.Block.{size, add}
-use Rattle.block_store.specs.declared.entries.Entry.TheVariants as entry
-use Rattle.block_store.specs.ListStore.{blocks_of, block_of}
-use Rattle.block_store.proofs.Listing.{joined-same, joined-empty, joined-two, add-not_free, add-free_other, drop-blocks, two-le}
+use Rattle.block_store.specs.declared.entries.StoredBlock.TheVariants as entry
+use Rattle.block_store.specs.Inner.ListStore.{blocks_of, block_of}
+use Rattle.block_store.proofs.Zone.Listing.{joined-same, joined-empty, joined-two, add-not_free, add-free_other, drop-blocks, two-le}
 use Rattle.block_store.proofs.entries.join_at.Goals as goal
 
 pub returns-in_default : goal.returns-in_default

@@ -1,8 +1,8 @@
 use Rattle.std.proofs.Common.{◌-◌, ◌++◌, take, drop, ◌∙◌, ap, arith}
 use Rattle.std.proofs.lemmas.List.{length-map}
 use Rattle.block_store.specs.Block.{sizes, tidy_top}
-use Rattle.block_store.specs.ListStore.{blocks_of, block_of}
-use Rattle.block_store.proofs.Listing.{tidy-step, sizes-tidied}
+use Rattle.block_store.specs.Inner.ListStore.{blocks_of, block_of}
+use Rattle.block_store.proofs.Zone.Listing.{tidy-step, sizes-tidied}
 use Rattle.block_store.proofs.entries.tidy_entries.Goals as goal
 
 pub join_at-requires-clause-fits : goal.join_at-requires-clause-fits

@@ -1,9 +1,10 @@
 use Rattle.std.proofs.Common.{◌≡◌, ◌≤◌, ◌<◌, ◌+◌, ◌++◌, ◌∷◌, ◌∙◌, take, drop, sym, ap, subst, length, List, get_or, slice_set}
 use Rattle.std.proofs.lemmas.List.{set-set}
-use Rattle.block_store.specs.Block.{content_of, with_content, written}
-use Rattle.block_store.specs.declared.entries.Entry.{Entry}
-use Rattle.block_store.specs.ListStore.{blocks_of, block_of}
-use Rattle.block_store.proofs.Spots.{at_entry, from_entry, blocks-set}
+use Rattle.block_store.specs.Block.{content_of, with_content}
+use Rattle.windows.specs.Writes.{written}
+use Rattle.block_store.specs.declared.entries.StoredBlock.{StoredBlock}
+use Rattle.block_store.specs.Inner.ListStore.{blocks_of, block_of}
+use Rattle.block_store.proofs.Zone.Spots.{at_entry, from_entry, blocks-set}
 use Rattle.block_store.proofs.entries.write_at.Goals as goal
 
 pub written_entry-requires : goal.written_entry-requires
@@ -20,7 +21,7 @@ returns c =
     let i = c.in-Some.i in
     let e = c.replace-entry.result in
     let read : e ≡ get_or es i e = c.replace-entry.ensures.value ∙ c.index_mut.ensures.value ∙ ap (get_or es i) (sym c.replace-entry.ensures.value) in
-    let within : i < length es = subst (λ (l : List Entry). i < length l) c.deref.ensures.value c.in-Some.ensures.0 in
+    let within : i < length es = subst (λ (l : List StoredBlock). i < length l) c.deref.ensures.value c.in-Some.ensures.0 in
     let w = c.written_entry.result in
     let x = written c.args.from c.args.bytes.now (content_of (block_of e)) in
     let after : blocks_of (slice_set (slice_set es i c.replace-entry.new.dest) i w) ≡ take i (blocks_of es) ++ with_content x (block_of e) ∷ drop (i + 1) (blocks_of es) =

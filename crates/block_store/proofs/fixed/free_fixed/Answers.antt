@@ -1,8 +1,8 @@
 use Rattle.std.proofs.Common.{◌++◌, take, drop, ◌∙◌, ap, arith}
 use Rattle.std.proofs.lemmas.List.{length-map}
 use Rattle.block_store.specs.Block.{sizes, is_fixed}
-use Rattle.block_store.specs.ListStore.{blocks_of, block_of, freed_first}
-use Rattle.block_store.proofs.Listing.{freed-step, sizes-freed}
+use Rattle.block_store.specs.Inner.ListStore.{blocks_of, block_of, freed_first}
+use Rattle.block_store.proofs.Zone.Listing.{freed-step, sizes-freed}
 use Rattle.block_store.proofs.fixed.free_fixed.Goals as goal
 
 pub free_if-requires-clause-fits : goal.free_if-requires-clause-fits

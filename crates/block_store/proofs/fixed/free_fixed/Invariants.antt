@@ -1,7 +1,7 @@
 use Rattle.std.proofs.Common.{◌≡◌, ◌++◌, take, drop}
 use Rattle.block_store.specs.Grow.{freed}
 use Rattle.block_store.specs.Block.{is_fixed}
-use Rattle.block_store.specs.ListStore.{blocks_of}
+use Rattle.block_store.specs.Inner.ListStore.{blocks_of}
 use Rattle.block_store.proofs.fixed.free_fixed.Given as goal
 
 -- those so far are freed, the others as they were

@@ -1,6 +1,6 @@
 use Rattle.std.proofs.Common.{◌∙◌, sym, arith}
 use Rattle.block_store.specs.Block.{is_fixed}
-use Rattle.block_store.proofs.Listing.{size-le, freed_first-set, freed_first-same}
+use Rattle.block_store.proofs.Zone.Listing.{size-le, freed_first-set, freed_first-same}
 use Rattle.block_store.proofs.fixed.free_if.Goals as goal
 
 pub entry_size-bytes-requires : goal.entry_size-bytes-requires

@@ -1,5 +1,5 @@
 use Rattle.std.proofs.Common.{◌∙◌, sym, ap, Some}
-use Rattle.block_store.proofs.FixedCounts.{fixed-seen}
+use Rattle.block_store.proofs.Nonrelocatable.FixedCounts.{fixed-seen}
 use Rattle.block_store.proofs.fixed_tests.free_fixed.Goals as goal
 
 pub free_at-requires : goal.free_at-requires

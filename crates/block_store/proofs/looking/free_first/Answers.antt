@@ -1,19 +1,19 @@
 use Rattle.std.proofs.Common.{◌∙◌, ◌+◌, drop, sym, ap, arith}
 use Rattle.std.proofs.lemmas.List.{length-map}
-use Rattle.block_store.specs.Named.{spared, opened}
-use Rattle.block_store.specs.Stretch.{opened_block}
-use Rattle.block_store.specs.Purging.{leading_free}
-use Rattle.block_store.specs.ListStore.{blocks_of, block_of}
-use Rattle.block_store.proofs.Listing.{size-le, sizes-more}
-use Rattle.block_store.proofs.Stretches.{size-opened}
-use Rattle.block_store.proofs.Looks.{opened-drop, leading-more, leading-none, leading-end}
+use Rattle.block_store.specs.Sparing.{spared, opened}
+use Rattle.block_store.specs.Inner.Stretch.{opened_block}
+use Rattle.block_store.specs.Inner.Purging.{leading_free}
+use Rattle.block_store.specs.Inner.ListStore.{blocks_of, block_of}
+use Rattle.block_store.proofs.Zone.Listing.{size-le, sizes-more}
+use Rattle.block_store.proofs.Emptied.Stretches.{size-opened}
+use Rattle.block_store.proofs.Emptied.Looks.{opened-drop, leading-more, leading-none, leading-end}
 use Rattle.block_store.proofs.looking.free_first.Goals as goal
 
 pub returns-in_default : goal.returns-in_default
 returns-in_default c =
     let es = c.args.entries.now in
     let i = c.loop-entry.entry-index in
-    let none = ap (leading_free (spared c.args.named) c.loop-entry.left) (opened-drop c.args.named es i c.entry-item.result (omega arith) c.entry-item.is) ∙ leading-none (spared c.args.named) c.loop-entry.left _ (opened c.args.named (drop (i + 1) (blocks_of es))) (sym c.in_default.ensures) in
+    let none = ap (leading_free (spared c.args.sparing) c.loop-entry.left) (opened-drop c.args.sparing es i c.entry-item.result (omega arith) c.entry-item.is) ∙ leading-none (spared c.args.sparing) c.loop-entry.left _ (opened c.args.sparing (drop (i + 1) (blocks_of es))) (sym c.in_default.ensures) in
     omega (arith, none, c.loop-entry.invariant.above)
 
 pub entry_size-total-requires : goal.entry_size-total-requires
@@ -26,13 +26,13 @@ pub loop-entry-preserved : goal.loop-entry-preserved
 loop-entry-preserved c =
     let es = c.args.entries.now in
     let i = c.loop-entry.entry-index in
-    let b = opened_block c.args.named (block_of c.entry-item.result) in
-    let more = ap (leading_free (spared c.args.named) c.loop-entry.left) (opened-drop c.args.named es i c.entry-item.result (omega arith) c.entry-item.is)
-    ∙ leading-more (spared c.args.named) c.loop-entry.left c.in-Some.next b (opened c.args.named (drop (i + 1) (blocks_of es))) (sym c.in-Some.ensures) in
+    let b = opened_block c.args.sparing (block_of c.entry-item.result) in
+    let more = ap (leading_free (spared c.args.sparing) c.loop-entry.left) (opened-drop c.args.sparing es i c.entry-item.result (omega arith) c.entry-item.is)
+    ∙ leading-more (spared c.args.sparing) c.loop-entry.left c.in-Some.next b (opened c.args.sparing (drop (i + 1) (blocks_of es))) (sym c.in-Some.ensures) in
     record {
-      above = omega (arith, more, c.loop-entry.invariant.above, size-opened c.args.named (block_of c.entry-item.result), c.entry_size-total.ensures);
+      above = omega (arith, more, c.loop-entry.invariant.above, size-opened c.args.sparing (block_of c.entry-item.result), c.entry_size-total.ensures);
       bytes = omega (arith, c.loop-entry.invariant.bytes, sizes-more es i c.entry-item.result (omega arith) c.entry-item.is);
     }
 
 pub returns : goal.returns
-returns c = omega (arith, c.loop-entry.invariant.above, leading-end c.args.named (blocks_of c.args.entries.now) c.loop-entry.entry-index c.loop-entry.left (omega (arith, length-map c.args.entries.now block_of)))
+returns c = omega (arith, c.loop-entry.invariant.above, leading-end c.args.sparing (blocks_of c.args.entries.now) c.loop-entry.entry-index c.loop-entry.left (omega (arith, length-map c.args.entries.now block_of)))

@@ -2,8 +2,8 @@ use Rattle.std.proofs.Common.{◌∙◌, ◌+◌, drop, sym, ap, arith, Some}
 use Rattle.std.specs.Option.{option_map}
 use Rattle.block_store.specs.Room.{Spot}
 use Rattle.block_store.specs.Seen.{seen}
-use Rattle.block_store.specs.ListStore.{blocks_of, block_of}
-use Rattle.block_store.proofs.Listing.{drop-blocks, size-le, nth_spot-at}
+use Rattle.block_store.specs.Inner.ListStore.{blocks_of, block_of}
+use Rattle.block_store.proofs.Zone.Listing.{drop-blocks, size-le, nth_spot-at}
 use Rattle.block_store.proofs.looking.look_at.Goals as goal
 
 pub look-requires : goal.look-requires

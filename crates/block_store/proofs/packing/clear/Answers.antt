@@ -1,8 +1,8 @@
 use Rattle.std.proofs.Common.{◌++◌, take, drop, ◌∙◌, ap, arith}
 use Rattle.std.proofs.lemmas.List.{length-map}
-use Rattle.block_store.specs.ListStore.{blocks_of, block_of}
-use Rattle.block_store.specs.Packing.{cleared_first}
-use Rattle.block_store.proofs.Packed.{cleared-step}
+use Rattle.block_store.specs.Inner.ListStore.{blocks_of, block_of}
+use Rattle.block_store.specs.Inner.Packing.{cleared_first}
+use Rattle.block_store.proofs.Regroup.Packed.{cleared-step}
 use Rattle.block_store.proofs.packing.clear.Goals as goal
 
 pub loop-i-preserved : goal.loop-i-preserved

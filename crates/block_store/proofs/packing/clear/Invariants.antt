@@ -1,6 +1,6 @@
 use Rattle.std.proofs.Common.{◌≡◌, ◌++◌, take, drop, map}
-use Rattle.block_store.specs.ListStore.{blocks_of}
-use Rattle.block_store.specs.Packing.{cleared}
+use Rattle.block_store.specs.Inner.ListStore.{blocks_of}
+use Rattle.block_store.specs.Inner.Packing.{cleared}
 use Rattle.block_store.proofs.packing.clear.Given as goal
 
 -- those so far are cleared, the others as they were

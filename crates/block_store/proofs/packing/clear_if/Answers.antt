@@ -1,9 +1,9 @@
 use Rattle.std.proofs.Common.{◌∙◌, sym, ap, slice_set}
-use Rattle.block_store.specs.declared.entries.Entry.TheVariants as entry
-use Rattle.block_store.specs.ListStore.{block_of}
-use Rattle.block_store.specs.Stretch.{is_free}
-use Rattle.block_store.proofs.Spots.{blocks-set}
-use Rattle.block_store.proofs.Packed.{cleared-set, cleared-same}
+use Rattle.block_store.specs.declared.entries.StoredBlock.TheVariants as entry
+use Rattle.block_store.specs.Inner.ListStore.{block_of}
+use Rattle.block_store.specs.Inner.Stretch.{is_free}
+use Rattle.block_store.proofs.Zone.Spots.{blocks-set}
+use Rattle.block_store.proofs.Regroup.Packed.{cleared-set, cleared-same}
 use Rattle.block_store.proofs.packing.clear_if.Goals as goal
 
 pub returns-then-is_free_entry : goal.returns-then-is_free_entry

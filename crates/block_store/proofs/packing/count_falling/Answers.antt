@@ -1,9 +1,9 @@
 use Rattle.std.proofs.Common.{◌≡◌, ◌+◌, ◌∷◌, drop, cond, sym, ◌∙◌, ap, arith}
 use Rattle.block_store.specs.Block.{count, is_mover}
 use Rattle.block_store.specs.Rest.{falling}
-use Rattle.block_store.specs.ListStore.{blocks_of, block_of}
-use Rattle.block_store.proofs.Listing.{drop-blocks}
-use Rattle.block_store.proofs.Packed.{fallen-free, fallen-mover, fallen-barrier, fallen-later}
+use Rattle.block_store.specs.Inner.ListStore.{blocks_of, block_of}
+use Rattle.block_store.proofs.Zone.Listing.{drop-blocks}
+use Rattle.block_store.proofs.Regroup.Packed.{fallen-free, fallen-mover, fallen-barrier, fallen-later}
 use Rattle.block_store.proofs.packing.count_falling.Goals as goal
 use Rattle.block_store.proofs.packing.count_falling.Goals.{then-is_free_entry, else-is_free_entry+then-below+then-is_loose, else-is_free_entry+else-below, else-below-via-then-below+else-is_loose, else-below-via-else-below}
 

@@ -1,7 +1,7 @@
 use Rattle.std.proofs.Common.{◌≡◌, ◌+◌, ◌≤◌, drop, cond}
 use Rattle.block_store.specs.Block.{count, is_mover}
 use Rattle.block_store.specs.Rest.{falling}
-use Rattle.block_store.specs.ListStore.{blocks_of}
+use Rattle.block_store.specs.Inner.ListStore.{blocks_of}
 use Rattle.block_store.proofs.packing.count_falling.Given as goal
 
 -- how many so far, and that the rest gives the others

@@ -1,6 +1,6 @@
 use Rattle.std.proofs.Common.{◌∙◌, sym}
-use Rattle.block_store.specs.Stretch.{is_free}
-use Rattle.block_store.proofs.Packed.{has-drop, nth-passes}
+use Rattle.block_store.specs.Inner.Stretch.{is_free}
+use Rattle.block_store.proofs.Regroup.Packed.{has-drop, nth-passes}
 use Rattle.block_store.proofs.packing.first_free.Goals as goal
 
 pub returns-then-is_free_entry : goal.returns-then-is_free_entry

@@ -1,7 +1,7 @@
 use Rattle.std.proofs.Common.{◌≡◌, drop}
 use Rattle.block_store.specs.Run.{has}
-use Rattle.block_store.specs.Stretch.{is_free}
-use Rattle.block_store.specs.ListStore.{blocks_of}
+use Rattle.block_store.specs.Inner.Stretch.{is_free}
+use Rattle.block_store.specs.Inner.ListStore.{blocks_of}
 use Rattle.block_store.proofs.packing.first_free.Given as goal
 
 -- what is Free is among the rest

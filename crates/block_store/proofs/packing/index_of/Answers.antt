@@ -1,6 +1,6 @@
 use Rattle.std.proofs.Common.{◌∙◌, sym}
 use Rattle.block_store.specs.Block.{is_relocatable}
-use Rattle.block_store.proofs.Packed.{has-drop, nth-passes}
+use Rattle.block_store.proofs.Regroup.Packed.{has-drop, nth-passes}
 use Rattle.block_store.proofs.packing.index_of.Goals as goal
 
 pub returns-then-is_of_slot : goal.returns-then-is_of_slot

@@ -1,7 +1,7 @@
 use Rattle.std.proofs.Common.{◌-◌, length, arith}
 use Rattle.std.proofs.lemmas.Slice.{put_mid-rotated}
-use Rattle.block_store.specs.declared.entries.Entry.TheVariants as entry
-use Rattle.block_store.proofs.Packed.{blocks-last}
+use Rattle.block_store.specs.declared.entries.StoredBlock.TheVariants as entry
+use Rattle.block_store.proofs.Regroup.Packed.{blocks-last}
 use Rattle.block_store.proofs.packing.move_last.Goals as goal
 
 pub returns : goal.returns

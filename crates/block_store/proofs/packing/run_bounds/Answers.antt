@@ -1,7 +1,7 @@
 use Rattle.std.proofs.Common.{◌-◌, length, take, drop, ◌∙◌, ap, arith, Some}
 use Rattle.std.proofs.lemmas.List.{take_all, length-drop}
-use Rattle.block_store.specs.ListStore.{blocks_of}
-use Rattle.block_store.proofs.Packed.{blocks_of-drop, run-between}
+use Rattle.block_store.specs.Inner.ListStore.{blocks_of}
+use Rattle.block_store.proofs.Regroup.Packed.{blocks_of-drop, run-between}
 use Rattle.block_store.proofs.packing.run_bounds.Goals as goal
 
 pub returns-clause-run : goal.returns-clause-run

@@ -2,8 +2,8 @@ use Rattle.std.proofs.Common.{◌-◌, ◌∙◌, ap, sym, arith, refl, Some}
 use Rattle.std.specs.Option.{option_map}
 use Rattle.block_store.specs.Block.{size, sizes, free_sum}
 use Rattle.block_store.specs.Run.{RunSpot}
-use Rattle.block_store.specs.ListStore.{blocks_of}
-use Rattle.block_store.proofs.Packed.{blocks-part, total-between}
+use Rattle.block_store.specs.Inner.ListStore.{blocks_of}
+use Rattle.block_store.proofs.Regroup.Packed.{blocks-part, total-between}
 use Rattle.block_store.proofs.packing.run_bytes.Goals as goal
 
 pub free_total-requires : goal.free_total-requires

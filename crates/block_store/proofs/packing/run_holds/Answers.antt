@@ -2,8 +2,8 @@ use Rattle.std.proofs.Common.{◌-◌, ◌∙◌, ap, sym, refl, Some, length, t
 use Rattle.std.specs.Option.{option_map}
 use Rattle.block_store.specs.Block.{is_relocatable}
 use Rattle.block_store.specs.Run.{RunSpot, has}
-use Rattle.block_store.specs.ListStore.{blocks_of}
-use Rattle.block_store.proofs.Packed.{blocks-part, has-found}
+use Rattle.block_store.specs.Inner.ListStore.{blocks_of}
+use Rattle.block_store.proofs.Regroup.Packed.{blocks-part, has-found}
 use Rattle.block_store.proofs.packing.run_holds.Goals as goal
 
 pub returns : goal.returns

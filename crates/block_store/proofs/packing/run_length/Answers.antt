@@ -2,9 +2,9 @@ use Rattle.std.proofs.Common.{◌+◌, ◌++◌, ◌∷◌, [], take, drop, sym,
 use Rattle.std.proofs.lemmas.List.{append-nil}
 use Rattle.block_store.specs.Run.{segments}
 use Rattle.block_store.specs.Compact.{beyond}
-use Rattle.block_store.specs.ListStore.{blocks_of, block_of}
-use Rattle.block_store.proofs.Listing.{drop-blocks, take-blocks}
-use Rattle.block_store.proofs.Packed.{first-stop, beyond-stop, first-more, beyond-more}
+use Rattle.block_store.specs.Inner.ListStore.{blocks_of, block_of}
+use Rattle.block_store.proofs.Zone.Listing.{drop-blocks, take-blocks}
+use Rattle.block_store.proofs.Regroup.Packed.{first-stop, beyond-stop, first-more, beyond-more}
 use Rattle.block_store.proofs.packing.run_length.Goals as goal
 
 pub returns-then-not-is_loose-clause-run : goal.returns-then-not-is_loose-clause-run

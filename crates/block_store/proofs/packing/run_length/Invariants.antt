@@ -1,7 +1,7 @@
 use Rattle.std.proofs.Common.{◌≡◌, ◌++◌, take, drop}
 use Rattle.block_store.specs.Run.{segments}
 use Rattle.block_store.specs.Compact.{beyond}
-use Rattle.block_store.specs.ListStore.{blocks_of}
+use Rattle.block_store.specs.Inner.ListStore.{blocks_of}
 use Rattle.block_store.proofs.packing.run_length.Given as goal
 
 -- the run goes on with the rest

@@ -1,9 +1,9 @@
 use Rattle.std.proofs.Common.{◌≡◌, ◌+◌, ◌-◌, ◌∷◌, [], true, false, not, take, drop, sym, ◌∙◌, ap, arith}
 use Rattle.std.specs.Option.{option_map}
 use Rattle.block_store.specs.Run.{in_run, run_raised}
-use Rattle.block_store.specs.ListStore.{blocks_of, block_of}
-use Rattle.block_store.proofs.Listing.{drop-blocks, take-blocks, size-le}
-use Rattle.block_store.proofs.RunLists.{walked, walked-later, walked-step, walked-past, raised-twice}
+use Rattle.block_store.specs.Inner.ListStore.{blocks_of, block_of}
+use Rattle.block_store.proofs.Zone.Listing.{drop-blocks, take-blocks, size-le}
+use Rattle.block_store.proofs.Regroup.RunLists.{walked, walked-later, walked-step, walked-past, raised-twice}
 use Rattle.block_store.proofs.packing.run_start.Goals as goal
 use Rattle.block_store.proofs.packing.run_start.Goals.{else-bottom-via-then-bottom+else-rest-eq0, else-bottom-via-else-bottom}
 

@@ -1,8 +1,8 @@
 use Rattle.std.proofs.Common.{◌≡◌, take, drop}
 use Rattle.std.specs.Option.{option_map}
 use Rattle.block_store.specs.Run.{run_at, run_raised}
-use Rattle.block_store.specs.ListStore.{blocks_of}
-use Rattle.block_store.proofs.RunLists.{walked}
+use Rattle.block_store.specs.Inner.ListStore.{blocks_of}
+use Rattle.block_store.proofs.Regroup.RunLists.{walked}
 use Rattle.block_store.proofs.packing.run_start.Given as goal
 
 -- the rest of the entries gives the run

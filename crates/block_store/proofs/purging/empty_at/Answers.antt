@@ -2,12 +2,12 @@ use Rattle.std.proofs.Common.{◌≡◌, ◌∙◌, ◌+◌, ◌++◌, ◌∷◌
 use Rattle.std.proofs.lemmas.List.{take-append-drop}
 use Rattle.block_store.specs.Block.{Free, sizes}
 use Rattle.block_store.specs.Room.{may_go}
-use Rattle.block_store.specs.Named.{spared}
-use Rattle.block_store.specs.ListStore.{blocks_of, block_of}
-use Rattle.block_store.specs.declared.entries.Entry.TheVariants as entry
-use Rattle.block_store.proofs.Listing.{size-le, drop-blocks}
-use Rattle.block_store.proofs.Spots.{blocks-set, sizes-same}
-use Rattle.block_store.proofs.Purges.{emptied-goes, emptied-stays, and-false}
+use Rattle.block_store.specs.Sparing.{spared}
+use Rattle.block_store.specs.Inner.ListStore.{blocks_of, block_of}
+use Rattle.block_store.specs.declared.entries.StoredBlock.TheVariants as entry
+use Rattle.block_store.proofs.Zone.Listing.{size-le, drop-blocks}
+use Rattle.block_store.proofs.Zone.Spots.{blocks-set, sizes-same}
+use Rattle.block_store.proofs.Emptied.Purges.{emptied-goes, emptied-stays, and-false}
 use Rattle.block_store.proofs.purging.empty_at.Goals as goal
 use Rattle.block_store.proofs.purging.empty_at.Goals.{else-left-gt0-via-then-left-gt0+else-may_go_now, else-left-gt0-via-else-left-gt0}
 
@@ -20,7 +20,7 @@ returns-then-may_go_now-clause-blocks c =
     let bs = blocks_of es in
     let i = c.args.i in
     let e = c.index-entry.result.now in
-    emptied-goes (spared c.args.named) bs _ i c.args.left (block_of e) c.if-left-gt0.true (drop-blocks es i e (omega arith) c.index-entry.ensures) (sym c.may_go_now.ensures ∙ c.if-may_go_now.true)
+    emptied-goes (spared c.args.sparing) bs _ i c.args.left (block_of e) c.if-left-gt0.true (drop-blocks es i e (omega arith) c.index-entry.ensures) (sym c.may_go_now.ensures ∙ c.if-may_go_now.true)
     (blocks-set es i (entry.Free c.entry_size-bytes.result) (omega arith) ∙ ap (λ n. take i bs ++ Free n ∷ drop (i + 1) bs) c.entry_size-bytes.ensures)
 
 pub returns-then-may_go_now-clause-bytes : goal.returns-then-may_go_now-clause-bytes
@@ -36,8 +36,8 @@ pub returns-else-left-gt0-clause-blocks : goal.returns-else-left-gt0-clause-bloc
 returns-else-left-gt0-clause-blocks c =
     let es = c.args.entries.now.items in
     let e = c.index-entry.result.now in
-    emptied-stays (spared c.args.named) (blocks_of es) c.args.i c.args.left (block_of e) (drop-blocks es c.args.i e (omega arith) c.index-entry.ensures)
+    emptied-stays (spared c.args.sparing) (blocks_of es) c.args.i c.args.left (block_of e) (drop-blocks es c.args.i e (omega arith) c.index-entry.ensures)
     (elim c.else-left-gt0.branch [
-      | else-left-gt0-via-then-left-gt0+else-may_go_now w ↦ and-false (nat_lt 0 c.args.left) (may_go (spared c.args.named) (block_of e)) (sym w.may_go_now.ensures ∙ w.if-may_go_now.false)
-      | else-left-gt0-via-else-left-gt0 w ↦ ap (λ n. nat_lt 0 n && may_go (spared c.args.named) (block_of e)) (let z : c.args.left ≡ 0 = omega (arith, w.if-left-gt0.false) in z)
+      | else-left-gt0-via-then-left-gt0+else-may_go_now w ↦ and-false (nat_lt 0 c.args.left) (may_go (spared c.args.sparing) (block_of e)) (sym w.may_go_now.ensures ∙ w.if-may_go_now.false)
+      | else-left-gt0-via-else-left-gt0 w ↦ ap (λ n. nat_lt 0 n && may_go (spared c.args.sparing) (block_of e)) (let z : c.args.left ≡ 0 = omega (arith, w.if-left-gt0.false) in z)
     ])

@@ -1,12 +1,12 @@
-use Rattle.std.proofs.Common.{◌∙◌, ◌+◌, ◌&&◌, drop, Some, None, nat_le, sym, ap, arith}
+use Rattle.std.proofs.Common.{◌∙◌, ◌+◌, ◌&&◌, drop, nat_le, sym, ap, arith}
 use Rattle.std.proofs.lemmas.List.{length-map}
-use Rattle.std.proofs.lemmas.Bool.{cond-true, cond-false}
-use Rattle.block_store.specs.ListStore.{blocks_of, block_of}
-use Rattle.block_store.specs.Named.{spared, opened}
-use Rattle.block_store.specs.RunScan.{scan_runs}
-use Rattle.block_store.proofs.Listing.{drop-blocks, size-le, sizes-more}
-use Rattle.block_store.proofs.Stretches.{drop-none}
-use Rattle.block_store.proofs.RunScans.{scan-is, scan-end}
+use Rattle.std.specs.Bool.{then_some}
+use Rattle.block_store.specs.Inner.ListStore.{blocks_of, block_of}
+use Rattle.block_store.specs.Sparing.{spared, opened}
+use Rattle.block_store.specs.Inner.RunScan.{scan_runs}
+use Rattle.block_store.proofs.Zone.Listing.{drop-blocks, size-le, sizes-more}
+use Rattle.block_store.proofs.Emptied.Stretches.{drop-none, then_some-cond}
+use Rattle.block_store.proofs.Regroup.RunScans.{scan-is, scan-end}
 use Rattle.block_store.proofs.run_search.search_runs.Goals as goal
 
 pub scan_run-requires-clause-room : goal.scan_run-requires-clause-room
@@ -16,38 +16,29 @@ pub returns-in_default : goal.returns-in_default
 returns-in_default c =
     let es = c.args.entries.now in
     let scan = c.loop-entry.scan in
-    let named = c.args.named in
+    let sparing = c.args.sparing in
     sym (c.in_default.ensures.scan (drop (c.loop-entry.entry-index + 1) (blocks_of es)))
-    ∙ ap (λ l. scan_runs c.args.number c.args.bytes (spared named) scan.left scan.start scan.free scan.met scan.place (opened named l)) (sym (drop-blocks es c.loop-entry.entry-index c.entry-item.result (omega arith) c.entry-item.is))
-    ∙ c.loop-entry.invariant.above ∙ scan-is c.args.number c.args.bytes named c.args.purges (blocks_of es)
+    ∙ ap (λ l. scan_runs c.args.number c.args.bytes (spared sparing) scan.left scan.start scan.free scan.met scan.place (opened sparing l)) (sym (drop-blocks es c.loop-entry.entry-index c.entry-item.result (omega arith) c.entry-item.is))
+    ∙ c.loop-entry.invariant.above ∙ scan-is c.args.number c.args.bytes sparing c.args.purges (blocks_of es)
 
 pub loop-entry-preserved : goal.loop-entry-preserved
 loop-entry-preserved c =
     let es = c.args.entries.now in
     let scan = c.loop-entry.scan in
-    let named = c.args.named in
+    let sparing = c.args.sparing in
     record {
       above = sym (c.in-Some.ensures.scan (drop (c.loop-entry.entry-index + 1) (blocks_of es)))
-          ∙ ap (λ l. scan_runs c.args.number c.args.bytes (spared named) scan.left scan.start scan.free scan.met scan.place (opened named l)) (sym (drop-blocks es c.loop-entry.entry-index c.entry-item.result (omega arith) c.entry-item.is))
+          ∙ ap (λ l. scan_runs c.args.number c.args.bytes (spared sparing) scan.left scan.start scan.free scan.met scan.place (opened sparing l)) (sym (drop-blocks es c.loop-entry.entry-index c.entry-item.result (omega arith) c.entry-item.is))
           ∙ c.loop-entry.invariant.above;
       bytes = omega (arith, c.in-Some.ensures.place, c.loop-entry.invariant.bytes, sizes-more es c.loop-entry.entry-index c.entry-item.result (omega arith) c.entry-item.is);
       free = c.in-Some.ensures.free;
     }
 
-pub returns-then-is_enough : goal.returns-then-is_enough
-returns-then-is_enough c =
+pub returns : goal.returns
+returns c =
     let es = c.args.entries.now in
     let scan = c.loop-entry.scan in
-    let named = c.args.named in
-    sym (scan-end c.args.number c.args.bytes named scan.left scan.start scan.free scan.met scan.place (drop c.loop-entry.entry-index (blocks_of es)) (drop-none c.loop-entry.entry-index (blocks_of es) (omega (arith, length-map es block_of)))
-    ∙ cond-true (scan.met && nat_le c.args.bytes scan.free) (Some scan.start) None (sym c.is_enough.ensures ∙ c.if-is_enough.true))
-    ∙ c.loop-entry.invariant.above ∙ scan-is c.args.number c.args.bytes named c.args.purges (blocks_of es)
-
-pub returns-else-is_enough : goal.returns-else-is_enough
-returns-else-is_enough c =
-    let es = c.args.entries.now in
-    let scan = c.loop-entry.scan in
-    let named = c.args.named in
-    sym (scan-end c.args.number c.args.bytes named scan.left scan.start scan.free scan.met scan.place (drop c.loop-entry.entry-index (blocks_of es)) (drop-none c.loop-entry.entry-index (blocks_of es) (omega (arith, length-map es block_of)))
-    ∙ cond-false (scan.met && nat_le c.args.bytes scan.free) (Some scan.start) None (sym c.is_enough.ensures ∙ c.if-is_enough.false))
-    ∙ c.loop-entry.invariant.above ∙ scan-is c.args.number c.args.bytes named c.args.purges (blocks_of es)
+    let sparing = c.args.sparing in
+    c.then_some.ensures ∙ ap (λ t. then_some t scan.start) c.is_enough.ensures ∙ then_some-cond (scan.met && nat_le c.args.bytes scan.free) scan.start
+    ∙ sym (scan-end c.args.number c.args.bytes sparing scan.left scan.start scan.free scan.met scan.place (drop c.loop-entry.entry-index (blocks_of es)) (drop-none c.loop-entry.entry-index (blocks_of es) (omega (arith, length-map es block_of))))
+    ∙ c.loop-entry.invariant.above ∙ scan-is c.args.number c.args.bytes sparing c.args.purges (blocks_of es)

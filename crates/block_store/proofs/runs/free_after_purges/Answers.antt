@@ -1,11 +1,11 @@
 use Rattle.std.proofs.Common.{◌∙◌, ◌+◌, drop, sym, ap, arith}
 use Rattle.std.proofs.lemmas.List.{length-map}
 use Rattle.block_store.specs.Run.{in_run, segments}
-use Rattle.block_store.specs.Named.{spared}
-use Rattle.block_store.specs.ListStore.{blocks_of, block_of}
-use Rattle.block_store.proofs.Listing.{drop-blocks, size-le, sizes-more, free_of-le}
-use Rattle.block_store.proofs.Stretches.{drop-none}
-use Rattle.block_store.proofs.RunLooks.{free_first, first-in, first-goes, first-ends, first-none, not-false, not-true}
+use Rattle.block_store.specs.Sparing.{spared}
+use Rattle.block_store.specs.Inner.ListStore.{blocks_of, block_of}
+use Rattle.block_store.proofs.Zone.Listing.{drop-blocks, size-le, sizes-more, free_of-le}
+use Rattle.block_store.proofs.Emptied.Stretches.{drop-none}
+use Rattle.block_store.proofs.Regroup.RunLooks.{free_first, first-in, first-goes, first-ends, first-none, not-false, not-true}
 use Rattle.block_store.proofs.runs.free_after_purges.Goals as goal
 use Rattle.block_store.proofs.runs.free_after_purges.Goals.{then-goes, else-goes}
 
@@ -14,7 +14,7 @@ returns-then-ends_run c =
     let es = c.args.entries.now in
     let i = c.loop-entry.entry-index in
     let b = block_of c.entry-item.result in
-    let sp = spared c.args.named in
+    let sp = spared c.args.sparing in
     let ends = first-ends c.loop-entry.left sp b (drop (i + 1) (blocks_of es)) (not-false (in_run b) c.ends_run.result c.ends_run.ensures c.if-ends_run.true) in
     let here = ap (λ l. c.loop-entry.free + free_first c.loop-entry.left sp (segments l)) (sym (drop-blocks es i c.entry-item.result (omega arith) c.entry-item.is)) ∙ c.loop-entry.invariant.rest in
     omega (arith, ends, here)
@@ -34,7 +34,7 @@ loop-entry-preserved c =
     let i = c.loop-entry.entry-index in
     let b = block_of c.entry-item.result in
     let above = drop (i + 1) (blocks_of es) in
-    let sp = spared c.args.named in
+    let sp = spared c.args.sparing in
     let left = c.loop-entry.left in
     let free = c.loop-entry.free in
     let inside = not-true (in_run b) c.ends_run.result c.ends_run.ensures c.if-ends_run.false in
@@ -57,4 +57,4 @@ pub returns : goal.returns
 returns c =
     let es = c.args.entries.now in
     let none = drop-none c.loop-entry.entry-index (blocks_of es) (omega (arith, length-map es block_of)) in
-    omega (arith, first-none c.loop-entry.left (spared c.args.named) (drop c.loop-entry.entry-index (blocks_of es)) none, c.loop-entry.invariant.rest)
+    omega (arith, first-none c.loop-entry.left (spared c.args.sparing) (drop c.loop-entry.entry-index (blocks_of es)) none, c.loop-entry.invariant.rest)

@@ -3,10 +3,10 @@ use Rattle.std.proofs.lemmas.List.{length-map}
 use Rattle.std.proofs.Math.Nat.{max-zero}
 use Rattle.block_store.specs.Block.{free_of}
 use Rattle.block_store.specs.Compact.{largest_free}
-use Rattle.block_store.specs.ListStore.{blocks_of, block_of}
-use Rattle.block_store.proofs.Listing.{drop-blocks}
-use Rattle.block_store.proofs.Stretches.{drop-none}
-use Rattle.block_store.proofs.RunLooks.{max-max}
+use Rattle.block_store.specs.Inner.ListStore.{blocks_of, block_of}
+use Rattle.block_store.proofs.Zone.Listing.{drop-blocks}
+use Rattle.block_store.proofs.Emptied.Stretches.{drop-none}
+use Rattle.block_store.proofs.Regroup.RunLooks.{max-max}
 use Rattle.block_store.proofs.runs.most_free.Goals as goal
 
 pub loop-entry-preserved : goal.loop-entry-preserved

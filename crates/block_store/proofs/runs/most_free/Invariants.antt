@@ -1,6 +1,6 @@
 use Rattle.std.proofs.Common.{◌≡◌, drop, max}
 use Rattle.block_store.specs.Compact.{largest_free}
-use Rattle.block_store.specs.ListStore.{blocks_of}
+use Rattle.block_store.specs.Inner.ListStore.{blocks_of}
 use Rattle.block_store.proofs.runs.most_free.Given as goal
 
 -- the most so far, or that of the rest

@@ -1,10 +1,10 @@
 use Rattle.std.proofs.Common.{◌∙◌, ◌+◌, drop, max, sym, ap, arith}
 use Rattle.std.proofs.lemmas.List.{length-map}
 use Rattle.block_store.specs.Run.{in_run, segments}
-use Rattle.block_store.specs.ListStore.{blocks_of, block_of}
-use Rattle.block_store.proofs.Listing.{drop-blocks, free-le, free-more}
-use Rattle.block_store.proofs.Stretches.{drop-none}
-use Rattle.block_store.proofs.RunLooks.{largest_from, largest-in, largest-ends, largest-end, not-false, not-true}
+use Rattle.block_store.specs.Inner.ListStore.{blocks_of, block_of}
+use Rattle.block_store.proofs.Zone.Listing.{drop-blocks, free-le, free-more}
+use Rattle.block_store.proofs.Emptied.Stretches.{drop-none}
+use Rattle.block_store.proofs.Regroup.RunLooks.{largest_from, largest-in, largest-ends, largest-end, not-false, not-true}
 use Rattle.block_store.proofs.runs.most_free_of_runs.Goals as goal
 use Rattle.block_store.proofs.runs.most_free_of_runs.Goals.{then-ends_run, else-ends_run}
 

@@ -2,8 +2,8 @@ use Rattle.std.proofs.Common.{◌≡◌, ◌≤◌, take, drop, max}
 use Rattle.block_store.specs.Block.{free_sum}
 use Rattle.block_store.specs.Run.{segments}
 use Rattle.block_store.specs.Compact.{largest_run}
-use Rattle.block_store.specs.ListStore.{blocks_of}
-use Rattle.block_store.proofs.RunLooks.{largest_from}
+use Rattle.block_store.specs.Inner.ListStore.{blocks_of}
+use Rattle.block_store.proofs.Regroup.RunLooks.{largest_from}
 use Rattle.block_store.proofs.runs.most_free_of_runs.Given as goal
 
 -- the most so far, or that of the rest

@@ -2,10 +2,10 @@ use Rattle.std.proofs.Common.{◌∙◌, ◌+◌, drop, sym, ap, arith}
 use Rattle.std.proofs.lemmas.List.{length-map}
 use Rattle.block_store.specs.Block.{size}
 use Rattle.block_store.specs.Run.{in_run}
-use Rattle.block_store.specs.ListStore.{blocks_of, block_of}
-use Rattle.block_store.proofs.Listing.{drop-blocks, size-le, sizes-more}
-use Rattle.block_store.proofs.Stretches.{drop-none}
-use Rattle.block_store.proofs.RunLooks.{nth_place, nth-none, nth-in, nth-ends, not-false, not-true}
+use Rattle.block_store.specs.Inner.ListStore.{blocks_of, block_of}
+use Rattle.block_store.proofs.Zone.Listing.{drop-blocks, size-le, sizes-more}
+use Rattle.block_store.proofs.Emptied.Stretches.{drop-none}
+use Rattle.block_store.proofs.Regroup.RunLooks.{nth_place, nth-none, nth-in, nth-ends, not-false, not-true}
 use Rattle.block_store.proofs.runs.place_of_run.Goals as goal
 use Rattle.block_store.proofs.runs.place_of_run.Goals.{then-ends_run, else-ends_run}
 

@@ -2,8 +2,8 @@ use Rattle.std.proofs.Common.{◌≡◌, take, drop}
 use Rattle.std.specs.Option.{option_map}
 use Rattle.block_store.specs.Block.{sizes}
 use Rattle.block_store.specs.Compact.{nth_run}
-use Rattle.block_store.specs.ListStore.{blocks_of}
-use Rattle.block_store.proofs.RunLooks.{nth_place}
+use Rattle.block_store.specs.Inner.ListStore.{blocks_of}
+use Rattle.block_store.proofs.Regroup.RunLooks.{nth_place}
 use Rattle.block_store.proofs.runs.place_of_run.Given as goal
 
 -- the bytes so far, and that the rest gives the place

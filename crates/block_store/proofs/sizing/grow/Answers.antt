@@ -3,18 +3,18 @@ use Rattle.std.proofs.lemmas.List.{length-map}
 use Rattle.std.specs.Option.{IsSome, IfSome}
 use Rattle.block_store.specs.Block.{size}
 use Rattle.block_store.specs.Grow.{growth, taken, grow_up}
-use Rattle.block_store.specs.declared.entries.Entry.{Entry}
-use Rattle.block_store.specs.ListStore.{blocks_of, block_of}
-use Rattle.block_store.proofs.Listing.{size-le}
-use Rattle.block_store.proofs.Spots.{at_entry, from_entry, blocks-set}
-use Rattle.block_store.proofs.Resizing.{entry_spot, sized-fits, grow_up-taken, if_grown, if_some-map, set-last, grown-within}
+use Rattle.block_store.specs.declared.entries.StoredBlock.{StoredBlock}
+use Rattle.block_store.specs.Inner.ListStore.{blocks_of, block_of}
+use Rattle.block_store.proofs.Zone.Listing.{size-le}
+use Rattle.block_store.proofs.Zone.Spots.{at_entry, from_entry, blocks-set}
+use Rattle.block_store.proofs.Content.Resizing.{entry_spot, sized-fits, grow_up-taken, if_grown, if_some-map, set-last, grown-within}
 use Rattle.block_store.proofs.sizing.grow.Goals as goal
 
 pub entry_size-old-requires : goal.entry_size-old-requires
 entry_size-old-requires c =
     let es = c.args.entries.now.items in
     let i = c.in-Some.i in
-    let within : i < length es = subst (λ (l : List Entry). i < length l) c.deref.ensures.value c.in-Some.ensures.0 in
+    let within : i < length es = subst (λ (l : List StoredBlock). i < length l) c.deref.ensures.value c.in-Some.ensures.0 in
     let le = size-le es i c.index.result.now within c.index.ensures in
     let fits = c.requires.fits in
     omega arith
@@ -25,7 +25,7 @@ entry_size-requires c =
     let i = c.in-Some.i in
     let e = c.index.result.now in
     let new = block_of c.args.new in
-    let within : i < length es = subst (λ (l : List Entry). i < length l) c.deref.ensures.value c.in-Some.ensures.0 in
+    let within : i < length es = subst (λ (l : List StoredBlock). i < length l) c.deref.ensures.value c.in-Some.ensures.0 in
     let room = from_entry es _ c.args.place i e (λ s. IsSome (grow_up new s)) c.deref.ensures.value c.in-Some.ensures c.index.ensures c.requires.room in
     let le = sized-fits es i e new within c.index.ensures (inr room) in
     let fits = c.requires.fits in
@@ -56,7 +56,7 @@ index_mut-requires c =
     let e = c.index.result.now in
     let new = block_of c.args.new in
     let s = entry_spot es i e in
-    let within : i < length es = subst (λ (l : List Entry). i < length l) c.deref.ensures.value c.in-Some.ensures.0 in
+    let within : i < length es = subst (λ (l : List StoredBlock). i < length l) c.deref.ensures.value c.in-Some.ensures.0 in
     let room = from_entry es _ c.args.place i e (λ s. IsSome (grow_up new s)) c.deref.ensures.value c.in-Some.ensures c.index.ensures c.requires.room in
     let same : growth new s ≡ c.entry_size.result - c.entry_size-old.result = omega arith in
     let there = grown-within es c.take_bytes.new.entries.items i (c.entry_size.result - c.entry_size-old.result) within (subst (λ (n : ℕ). IsSome (taken n (drop (i + 1) (blocks_of es)))) same (grow_up-taken new s room)) c.take_bytes.ensures in
@@ -70,7 +70,7 @@ returns c =
     let e = c.index.result.now in
     let new = block_of c.args.new in
     let s = entry_spot es i e in
-    let within : i < length es = subst (λ (l : List Entry). i < length l) c.deref.ensures.value c.in-Some.ensures.0 in
+    let within : i < length es = subst (λ (l : List StoredBlock). i < length l) c.deref.ensures.value c.in-Some.ensures.0 in
     let within' : i < length (blocks_of es) = let z : length (blocks_of es) ≡ length es = length-map es block_of in omega arith in
     let room = from_entry es _ c.args.place i e (λ s. IsSome (grow_up new s)) c.deref.ensures.value c.in-Some.ensures c.index.ensures c.requires.room in
     let same : growth new s ≡ c.entry_size.result - c.entry_size-old.result = omega arith in

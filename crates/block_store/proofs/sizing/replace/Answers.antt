@@ -3,18 +3,18 @@ use Rattle.std.specs.Option.{IsSome, IfSome}
 use Rattle.block_store.specs.Block.{size}
 use Rattle.block_store.specs.Room.{filled}
 use Rattle.block_store.specs.Grow.{grow_up}
-use Rattle.block_store.specs.declared.entries.Entry.{Entry}
-use Rattle.block_store.specs.ListStore.{blocks_of, block_of}
-use Rattle.block_store.proofs.Listing.{size-le}
-use Rattle.block_store.proofs.Spots.{at_entry, from_entry}
-use Rattle.block_store.proofs.Resizing.{and_entry, sized-fits, larger, on_ok}
+use Rattle.block_store.specs.declared.entries.StoredBlock.{StoredBlock}
+use Rattle.block_store.specs.Inner.ListStore.{blocks_of, block_of}
+use Rattle.block_store.proofs.Zone.Listing.{size-le}
+use Rattle.block_store.proofs.Zone.Spots.{at_entry, from_entry}
+use Rattle.block_store.proofs.Content.Resizing.{and_entry, sized-fits, larger, on_ok}
 use Rattle.block_store.proofs.sizing.replace.Goals as goal
 
 pub entry_size-old-requires : goal.entry_size-old-requires
 entry_size-old-requires c =
     let es = c.args.entries.now.items in
     let i = c.in-Some.i in
-    let within : i < length es = subst (λ (l : List Entry). i < length l) c.deref.ensures.value c.in-Some.ensures.0 in
+    let within : i < length es = subst (λ (l : List StoredBlock). i < length l) c.deref.ensures.value c.in-Some.ensures.0 in
     let le = size-le es i c.index.result.now within c.index.ensures in
     let fits = c.requires.fits in
     omega arith
@@ -25,7 +25,7 @@ entry_size-requires c =
     let i = c.in-Some.i in
     let e = c.index.result.now in
     let new = block_of c.args.new in
-    let within : i < length es = subst (λ (l : List Entry). i < length l) c.deref.ensures.value c.in-Some.ensures.0 in
+    let within : i < length es = subst (λ (l : List StoredBlock). i < length l) c.deref.ensures.value c.in-Some.ensures.0 in
     let room = from_entry es _ c.args.place i e (λ s. (size new ≤ size s.here) ⊎ IsSome (grow_up new s)) c.deref.ensures.value c.in-Some.ensures c.index.ensures c.requires.room in
     let le = sized-fits es i e new within c.index.ensures room in
     let fits = c.requires.fits in

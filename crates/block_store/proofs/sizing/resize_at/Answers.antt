@@ -1,11 +1,12 @@
 use Rattle.std.proofs.Common.{◌≡◌, ◌≤◌, ◌<◌, ◌⊎◌, sym, subst}
+use Rattle.std.proofs.lemmas.Result.{on_ok_weaker}
 use Rattle.std.specs.Option.{IsSome, IfSome}
 use Rattle.block_store.specs.Block.{Block, size, resized}
 use Rattle.block_store.specs.Room.{filled}
 use Rattle.block_store.specs.Grow.{grow_up}
-use Rattle.block_store.specs.ListStore.{blocks_of, block_of}
-use Rattle.block_store.proofs.Spots.{from_entry}
-use Rattle.block_store.proofs.Resizing.{entry_spot, and_entry, if_entry, on_ok-map}
+use Rattle.block_store.specs.Inner.ListStore.{blocks_of, block_of}
+use Rattle.block_store.proofs.Zone.Spots.{from_entry}
+use Rattle.block_store.proofs.Content.Resizing.{entry_spot, and_entry, if_entry}
 use Rattle.block_store.proofs.sizing.resize_at.Goals as goal
 
 pub replace-requires-clause-room : goal.replace-requires-clause-room
@@ -19,13 +20,13 @@ replace-requires-clause-room c =
 pub returns-clause-cut : goal.returns-clause-cut
 returns-clause-cut c =
     let zone = blocks_of c.replace.new.entries.items in
-    on_ok-map c.replace.result
+    on_ok_weaker c.replace.result
     (if_entry c.args.entries.now.items _ c.args.place c.in-Some.i c.index.result.now (resized c.args.bytes) (block_of c.in_ok-new.new) (λ b s. size b ≤ size s.here → zone ≡ filled b s) c.deref.ensures.value c.in-Some.ensures c.index.ensures c.in_ok-new.ensures)
     c.replace.ensures.cut
 
 pub returns-clause-grown : goal.returns-clause-grown
 returns-clause-grown c =
     let zone = blocks_of c.replace.new.entries.items in
-    on_ok-map c.replace.result
+    on_ok_weaker c.replace.result
     (if_entry c.args.entries.now.items _ c.args.place c.in-Some.i c.index.result.now (resized c.args.bytes) (block_of c.in_ok-new.new) (λ b s. size s.here < size b → IfSome (grow_up b s) (λ after. zone ≡ after)) c.deref.ensures.value c.in-Some.ensures c.index.ensures c.in_ok-new.ensures)
     c.replace.ensures.grown

@@ -1,9 +1,10 @@
 use Rattle.std.proofs.Common.{◌≡◌, ◌+◌, drop, sym, ◌∙◌, ap, arith}
+use Rattle.std.proofs.lemmas.Result.{IfOk-weaker}
 use Rattle.block_store.specs.Block.{is_relocatable, resized}
 use Rattle.block_store.specs.Room.{spot}
-use Rattle.block_store.specs.ListStore.{blocks_of, block_of}
-use Rattle.block_store.proofs.Listing.{drop-blocks}
-use Rattle.block_store.proofs.Resizing.{found, found-here, found-above, if_found, if_ok-map}
+use Rattle.block_store.specs.Inner.ListStore.{blocks_of, block_of}
+use Rattle.block_store.proofs.Zone.Listing.{drop-blocks}
+use Rattle.block_store.proofs.Content.Resizing.{found, found-here, found-above, if_found}
 use Rattle.block_store.proofs.sizing.resized_slot.Goals as goal
 
 pub returns-then-is_of_slot : goal.returns-then-is_of_slot
@@ -12,7 +13,7 @@ returns-then-is_of_slot c =
     let i = c.loop-entry.entry-index in
     let test = is_relocatable c.args.number in
     let here = sym c.loop-entry.invariant ∙ ap (found test) (drop-blocks es i c.entry-item.result (omega arith) c.entry-item.is) ∙ found-here test (block_of c.entry-item.result) (drop (i + 1) (blocks_of es)) (sym c.is_of_slot.ensures ∙ c.if-is_of_slot.true) in
-    if_ok-map c.resized_entry.result (λ e is. if_found (λ b. block_of e ≡ resized c.args.bytes b) (spot test (blocks_of es)) (block_of c.entry-item.result) here is) c.resized_entry.ensures
+    IfOk-weaker c.resized_entry.result _ _ (λ e is. if_found (λ b. block_of e ≡ resized c.args.bytes b) (spot test (blocks_of es)) (block_of c.entry-item.result) here is) c.resized_entry.ensures
 
 pub loop-entry-preserved : goal.loop-entry-preserved
 loop-entry-preserved c =

@@ -1,7 +1,7 @@
 use Rattle.std.proofs.Common.{◌≡◌, drop}
 use Rattle.block_store.specs.Block.{is_relocatable}
-use Rattle.block_store.specs.ListStore.{blocks_of}
-use Rattle.block_store.proofs.Resizing.{found}
+use Rattle.block_store.specs.Inner.ListStore.{blocks_of}
+use Rattle.block_store.proofs.Content.Resizing.{found}
 use Rattle.block_store.proofs.sizing.resized_slot.Given as goal
 
 -- the rest has the same block of the slot

@@ -1,8 +1,8 @@
 use Rattle.std.proofs.Common.{◌≡◌, ◌≤◌, ◌-◌, sym, ap, arith}
 use Rattle.block_store.specs.Block.{size}
-use Rattle.block_store.specs.ListStore.{block_of}
-use Rattle.block_store.proofs.Listing.{size-le}
-use Rattle.block_store.proofs.Resizing.{within-taken, taken-at, taken-none, taken-some}
+use Rattle.block_store.specs.Inner.ListStore.{block_of}
+use Rattle.block_store.proofs.Zone.Listing.{size-le}
+use Rattle.block_store.proofs.Content.Resizing.{within-taken, taken-at, taken-none, taken-some}
 use Rattle.block_store.proofs.sizing.take_bytes.Goals as goal
 
 pub entry_size-requires : goal.entry_size-requires

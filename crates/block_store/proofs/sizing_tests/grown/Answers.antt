@@ -3,8 +3,8 @@ use Rattle.mac_words.specs.Size.{padded}
 use Rattle.block_store.specs.Block.{Block, is_room, content_of}
 use Rattle.block_store.specs.Room.{spot_at}
 use Rattle.block_store.specs.Find.{FindsLowest}
-use Rattle.block_store.specs.ListStore.{blocks_of}
-use Rattle.block_store.proofs.Resizing.{room-next, if_some-map}
+use Rattle.block_store.specs.Inner.ListStore.{blocks_of}
+use Rattle.block_store.proofs.Content.Resizing.{room-next, if_some-map}
 use Rattle.block_store.proofs.sizing_tests.grown.Goals as goal
 
 pub resize-requires : goal.resize-requires

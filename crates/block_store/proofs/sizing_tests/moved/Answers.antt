@@ -3,8 +3,8 @@ use Rattle.std.specs.Option.{IsSomeAnd}
 use Rattle.std.specs.Bool.{IsTrue}
 use Rattle.block_store.specs.Block.{Block, is_room, tidy}
 use Rattle.block_store.specs.Room.{spot_at}
-use Rattle.block_store.specs.ListStore.{blocks_of}
-use Rattle.block_store.proofs.Spots.{found-passes}
+use Rattle.block_store.specs.Inner.ListStore.{blocks_of}
+use Rattle.block_store.proofs.Zone.Spots.{found-passes}
 use Rattle.block_store.proofs.sizing_tests.moved.Goals as goal
 
 pub move_to-requires-clause-room : goal.move_to-requires-clause-room

@@ -1,5 +1,5 @@
 use Rattle.std.proofs.Common.{◌≡◌, take, count_by}
-use Rattle.block_store.specs.ListStore.{is_unused}
+use Rattle.block_store.specs.Inner.ListStore.{is_unused}
 use Rattle.block_store.proofs.slots.first_unused.Given as goal
 
 -- none so far

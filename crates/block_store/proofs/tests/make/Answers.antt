@@ -4,8 +4,8 @@ use Rattle.std.specs.Bool.{IsTrue}
 use Rattle.mac_words.specs.Size.{padded}
 use Rattle.block_store.specs.Block.{Block, is_room, tidy}
 use Rattle.block_store.specs.Room.{spot_at}
-use Rattle.block_store.specs.ListStore.{blocks_of}
-use Rattle.block_store.proofs.Spots.{found-passes}
+use Rattle.block_store.specs.Inner.ListStore.{blocks_of}
+use Rattle.block_store.proofs.Zone.Spots.{found-passes}
 use Rattle.block_store.proofs.tests.make.Goals as goal
 
 pub carve-requires-clause-room : goal.carve-requires-clause-room

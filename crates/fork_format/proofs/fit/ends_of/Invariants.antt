@@ -8,5 +8,6 @@ abbrev pub invariant-loop-group : goal.invariant-loop-group
 invariant-loop-group l = record {
   datum : l.ends.datum ≤ 134217728;
   name : l.ends.name ≤ 65790;
-  behind : behind l.ends (refs_of (map view_group (drop l.group-index l.groups))) ≡ behind no_starts (refs_of (map view_group l.groups));
+  behind : behind l.ends (refs_of (map view_group (drop l.group-index l.groups)))
+      ≡ behind no_starts (refs_of (map view_group l.groups));
 }

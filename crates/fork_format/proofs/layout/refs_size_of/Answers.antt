@@ -5,11 +5,13 @@ use Rattle.fork_format.proofs.layout.refs_size_of.Goals as goal
 
 pub returns-in_default-clause-size : goal.returns-in_default-clause-size
 returns-in_default-clause-size c =
-    tally-stops (ref_fits c.args.bytes.now) (ref_size c.args.bytes.now) c.loop.data c.loop.at 12 c.args.count c.loop.counter _ c.loop-test.true (cc) c.loop.invariant.sizes
+    tally-stops (ref_fits c.args.bytes.now) (ref_size c.args.bytes.now) c.loop.data c.loop.at 12 c.args.count
+    c.loop.counter _ c.loop-test.true (cc) c.loop.invariant.sizes
 
 pub loop-preserved : goal.loop-preserved
 loop-preserved c = record {
   place = omega arith;
   small = omega (arith, c.in-Some.ensures.small);
-  sizes = tally-goes_on (ref_fits c.args.bytes.now) (ref_size c.args.bytes.now) c.loop.data c.loop.at 12 c.args.count c.loop.counter c.in-Some.size _ c.loop-test.true (cc) c.loop.invariant.sizes;
+  sizes = tally-goes_on (ref_fits c.args.bytes.now) (ref_size c.args.bytes.now) c.loop.data c.loop.at 12 c.args.count
+      c.loop.counter c.in-Some.size _ c.loop-test.true (cc) c.loop.invariant.sizes;
 }

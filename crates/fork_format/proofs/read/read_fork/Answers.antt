@@ -1,9 +1,17 @@
 use Rattle.std.proofs.Common.{refl, sym}
 use Rattle.fork_format.specs.Fork.{Spells}
 use Rattle.fork_format.specs.View.{view}
+use Rattle.fork_format.proofs.OneContent.{one_content}
 use Rattle.fork_format.proofs.read.read_fork.Goals as goal
+
+pub returns-clause-only : goal.returns-clause-only
+returns-clause-only c =
+    let s : Spells c.args.bytes.now (view c.in_ok-content.content) =
+    record { fork = c.in-Some.ensures.fork.0 refl; content = sym c.in_ok-content.ensures } in
+    λ d t. one_content c.args.bytes.now d (view c.in_ok-content.content) t s
 
 pub returns-clause-bad_map : goal.returns-clause-bad_map
 returns-clause-bad_map c =
-    let s : Spells c.args.bytes.now (view c.in_ok-content.content) = record { fork = c.in-Some.ensures.fork.0 refl; content = sym c.in_ok-content.ensures } in
+    let s : Spells c.args.bytes.now (view c.in_ok-content.content) =
+    record { fork = c.in-Some.ensures.fork.0 refl; content = sym c.in_ok-content.ensures } in
     (λ e. cc, λ h. absurd (h.1 (view c.in_ok-content.content) s))

@@ -9,8 +9,11 @@ use Rattle.fork_format.proofs.read.read_type.Goals as goal
 
 pub index_mut-requires : goal.index_mut-requires
 index_mut-requires c =
-    let inside : c.in_ok-place.place < length (map view_group c.place_of.new.groups.items) = place-inside c.kind_at.result (map view_group c.place_of.new.groups.items) c.in_ok-place.place c.in_ok-place.ensures.at in
-    let same : length (map view_group c.place_of.new.groups.items) ≡ length c.place_of.new.groups.items = length-map c.place_of.new.groups.items view_group in
+    let inside : c.in_ok-place.place < length (map view_group c.place_of.new.groups.items) =
+    place-inside c.kind_at.result (map view_group c.place_of.new.groups.items) c.in_ok-place.place
+    c.in_ok-place.ensures.at in
+    let same : length (map view_group c.place_of.new.groups.items) ≡ length c.place_of.new.groups.items =
+    length-map c.place_of.new.groups.items view_group in
     let size : length c.place_of.new.groups.items ≡ c.place_of.new.groups.len = sym c.place_of.new.groups.ok.0 in
     omega arith
 
@@ -18,14 +21,23 @@ pub returns-clause-places : goal.returns-clause-places
 returns-clause-places c =
     let g : Group = group_at c.args.bytes.now c.args.at in
     let gs : List Group = map view_group c.args.groups.now.items in
-    let opens : map view_group c.place_of.new.groups.items ≡ opened g.kind gs = c.in_ok-place.ensures.groups ∙ ap (λ k. opened k gs) c.kind_at.ensures in
-    let at : place g.kind (map view_group c.place_of.new.groups.items) ≡ Some c.in_ok-place.place = ap (λ k. place k (map view_group c.place_of.new.groups.items)) (sym c.kind_at.ensures) ∙ c.in_ok-place.ensures.at in
-    λ q. c.in_ok-place.ensures.places q ∙ sym (place-filled view_group g gs c.place_of.new.groups.items c.in_ok-place.place c.index_mut.result.now c.fill.new.group opens at c.index_mut.ensures.value c.in_ok-fill.ensures q)
+    let opens : map view_group c.place_of.new.groups.items ≡ opened g.kind gs =
+    c.in_ok-place.ensures.groups ∙ ap (λ k. opened k gs) c.kind_at.ensures in
+    let at : place g.kind (map view_group c.place_of.new.groups.items) ≡ Some c.in_ok-place.place =
+    ap (λ k. place k (map view_group c.place_of.new.groups.items)) (sym c.kind_at.ensures)
+    ∙ c.in_ok-place.ensures.at in
+    λ q. c.in_ok-place.ensures.places q ∙ sym (place-filled view_group g gs c.place_of.new.groups.items
+    c.in_ok-place.place c.index_mut.result.now c.fill.new.group opens at c.index_mut.ensures.value
+    c.in_ok-fill.ensures q)
 
 pub returns-clause-groups : goal.returns-clause-groups
 returns-clause-groups c =
     let g : Group = group_at c.args.bytes.now c.args.at in
     let gs : List Group = map view_group c.args.groups.now.items in
-    let opens : map view_group c.place_of.new.groups.items ≡ opened g.kind gs = c.in_ok-place.ensures.groups ∙ ap (λ k. opened k gs) c.kind_at.ensures in
-    let at : place g.kind (map view_group c.place_of.new.groups.items) ≡ Some c.in_ok-place.place = ap (λ k. place k (map view_group c.place_of.new.groups.items)) (sym c.kind_at.ensures) ∙ c.in_ok-place.ensures.at in
-    put-filled view_group g gs c.place_of.new.groups.items c.in_ok-place.place c.index_mut.result.now c.fill.new.group opens at c.index_mut.ensures.value c.in_ok-fill.ensures
+    let opens : map view_group c.place_of.new.groups.items ≡ opened g.kind gs =
+    c.in_ok-place.ensures.groups ∙ ap (λ k. opened k gs) c.kind_at.ensures in
+    let at : place g.kind (map view_group c.place_of.new.groups.items) ≡ Some c.in_ok-place.place =
+    ap (λ k. place k (map view_group c.place_of.new.groups.items)) (sym c.kind_at.ensures)
+    ∙ c.in_ok-place.ensures.at in
+    put-filled view_group g gs c.place_of.new.groups.items c.in_ok-place.place c.index_mut.result.now c.fill.new.group
+    opens at c.index_mut.ensures.value c.in_ok-fill.ensures

@@ -1,17 +1,17 @@
-use Rattle.std.proofs.Common.{arith, ◌∙◌, ap, sym}
-use Rattle.fork_format.specs.Fork.{group_at, refs_fit}
-use Rattle.fork_format.specs.Place.{put}
-use Rattle.fork_format.proofs.Loops.{all-goes_on}
-use Rattle.fork_format.proofs.Joining.{joined-offsets}
+use Rattle.std.proofs.Common.{◌≡◌, ◌∙◌, sym, ap, subst, true, map, ℕ, List}
+use Rattle.std.specs.Prelude.{IfOk}
+use Rattle.fork_format.specs.Canonical.{are_distinct}
+use Rattle.fork_format.specs.Content.{Group}
+use Rattle.fork_format.specs.Fork.{kind_in, offsets}
+use Rattle.fork_format.specs.View.{view_group}
+use Rattle.fork_format.proofs.Apart.{joined-apart}
 use Rattle.fork_format.proofs.read.read_types.Goals as goal
 
-pub read_type-requires-clause-fits : goal.read_type-requires-clause-fits
-read_type-requires-clause-fits c = (all-goes_on (refs_fit c.args.bytes.now) c.loop.at 8 c.args.count c.loop.counter c.loop-test.true c.loop.invariant.fits).0
-
-pub loop-preserved : goal.loop-preserved
-loop-preserved c = record {
-  at = omega arith;
-  fits = (all-goes_on (refs_fit c.args.bytes.now) c.loop.at 8 c.args.count c.loop.counter c.loop-test.true c.loop.invariant.fits).1;
-  places = c.in_ok-read_type.ensures.places;
-  groups = c.in_ok-read_type.ensures.groups ∙ ap (put (group_at c.args.bytes.now c.loop.at)) c.loop.invariant.groups ∙ sym (joined-offsets (group_at c.args.bytes.now) c.args.first c.loop.counter c.loop.at c.loop.invariant.at);
-}
+pub returns-then-are_apart : goal.returns-then-are_apart
+returns-then-are_apart c =
+    let ats : List ℕ = offsets c.args.first 8 c.args.count in
+    let different : are_distinct (map (kind_in c.args.bytes.now) ats) ≡ true =
+    ap are_distinct (sym (c.as_mut_slice.ensures.value ∙ c.in_ok-kinds.ensures)) ∙ sym c.are_apart.ensures
+    ∙ c.if-are_apart.true in
+    subst (λ (l : List Group). IfOk c.read_apart.result (λ v. map view_group v.items ≡ l))
+    (sym (joined-apart c.args.bytes.now ats different)) c.read_apart.ensures

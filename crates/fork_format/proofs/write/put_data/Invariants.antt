@@ -8,5 +8,6 @@ use Rattle.fork_format.proofs.write.put_data.Given as goal
 abbrev pub invariant-loop-r : goal.invariant-loop-r
 invariant-loop-r l = record {
   short : list_all is_short (map view_ref (drop l.r-index l.refs)) ≡ true;
-  out : l.out.items ++ flat_map datum (map view_ref (drop l.r-index l.refs)) ≡ l.fn.out.items ++ flat_map datum (map view_ref l.refs);
+  out : l.out.items ++ flat_map datum (map view_ref (drop l.r-index l.refs)) ≡ l.fn.out.items
+      ++ flat_map datum (map view_ref l.refs);
 }

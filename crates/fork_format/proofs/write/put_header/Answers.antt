@@ -19,7 +19,8 @@ returns c =
     let d : List ℕ = big_bytes 4 (length (data_of gs)) in
     let e : List ℕ = big_bytes 4 (28 + length (lists gs)) in
     let size : length (lists gs) ≡ _ = length-lists gs in
-    let len : 28 + (c.args.extents.refs_end + c.args.extents.names_len) ≡ 28 + length (lists gs) = omega (arith, c.requires.names_at, c.requires.names_len) in
+    let len : 28 + (c.args.extents.refs_end + c.args.extents.names_len) ≡ 28 + length (lists gs) =
+    omega (arith, c.requires.names_at, c.requires.names_len) in
     let s1 : one ≡ out ++ a = c.in_ok-put_word.ensures in
     let s2 : two ≡ one ++ b = c.in_ok-put_word-2.ensures ∙ ap (λ n. one ++ big_bytes 4 (256 + n)) c.requires.data_len in
     let s3 : three ≡ two ++ d = c.in_ok-put_word-3.ensures ∙ ap (λ n. two ++ big_bytes 4 n) c.requires.data_len in

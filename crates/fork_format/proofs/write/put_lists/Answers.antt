@@ -11,8 +11,11 @@ use Rattle.fork_format.proofs.write.put_lists.Goals as goal
 
 pub put_types-requires : goal.put_types-requires
 put_types-requires c =
-    ap (λ n. is_some (refs_end (2 + 8 * n) (map view_group c.as_slice-groups.result.now))) (sym (length-map c.as_slice-groups.result.now view_group))
-    ∙ ap (λ (l : List StoredGroup). is_some (refs_end (refs_offset (map view_group l)) (map view_group l))) c.as_slice-groups.ensures.value ∙ refs_end-some (view c.args.content.now) c.requires
+    ap (λ n. is_some (refs_end (2 + 8 * n) (map view_group c.as_slice-groups.result.now)))
+    (sym (length-map c.as_slice-groups.result.now view_group))
+    ∙ ap (λ (l : List StoredGroup). is_some (refs_end (refs_offset (map view_group l)) (map view_group l)))
+    c.as_slice-groups.ensures.value ∙ refs_end-some (view c.args.content.now) c.requires
 
-pub put_all_entries-requires : goal.put_all_entries-requires
-put_all_entries-requires c = ap (λ (l : List StoredGroup). is_some (behind no_starts (refs_of (map view_group l)))) c.as_slice-groups.ensures.value ∙ behind-some (view c.args.content.now) c.requires
+pub put_all_references-requires : goal.put_all_references-requires
+put_all_references-requires c = ap (λ (l : List StoredGroup). is_some (behind no_starts (refs_of (map view_group l))))
+    c.as_slice-groups.ensures.value ∙ behind-some (view c.args.content.now) c.requires

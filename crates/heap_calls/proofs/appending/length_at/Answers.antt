@@ -1,5 +1,5 @@
 use Rattle.std.proofs.Common.{ap, arith, length}
-use Rattle.heap_calls.proofs.Behind.{content-small}
+use Rattle.heap_calls.proofs.Sizes.Behind.{content-small}
 use Rattle.block_store.specs.Room.{spot_at}
 use Rattle.std.proofs.lemmas.Option.{IfSome_then}
 use Rattle.heap_calls.proofs.appending.length_at.Goals as goal

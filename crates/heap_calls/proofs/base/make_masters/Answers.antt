@@ -1,9 +1,9 @@
 use Rattle.std.proofs.Common.{ap, ◌∙◌, refl}
 use Rattle.block_store.specs.Block.{Masters, is_fixed}
 use Rattle.block_store.specs.Run.{has}
-use Rattle.heap_calls.proofs.Changing.{fixed-carved}
-use Rattle.heap_calls.proofs.NewSlots.{masters-none, masters-some, made-some, made-none, base-wide}
-use Rattle.heap_calls.proofs.Seats.{at_none}
+use Rattle.heap_calls.proofs.Numbering.Changing.{fixed-carved}
+use Rattle.heap_calls.proofs.NewBlocks.NewSlots.{masters-none, masters-some, made-some, made-none, base-wide}
+use Rattle.heap_calls.proofs.Room.Seats.{at_none}
 use Rattle.heap_calls.proofs.base.make_masters.Goals as goal
 
 pub returns-in_ok-add_masters-clause-made : goal.returns-in_ok-add_masters-clause-made
@@ -12,8 +12,8 @@ returns-in_ok-add_masters-clause-made g c =
     let zone' = g.S.BlockStore.zone c.add_masters.new.self in
     let room = c.in_ok-room.room.place in
     let now = c.in_ok-add_masters.ensures in
-    made-some c.args.named zone zone' (g.S.BlockStore.rest c.args.store.now) (g.S.BlockStore.rest c.make_base.new.store) (g.S.BlockStore.rest c.add_masters.new.self) room c.in-Some.place c.in-Some.is
-    (masters-some c.args.named zone (g.S.BlockStore.zone c.make_base.new.store) zone' room c.in-Some.place c.in-Some.is c.in_ok-room.ensures.place now.ok)
+    made-some c.args.sparing zone zone' (g.S.BlockStore.rest c.args.store.now) (g.S.BlockStore.rest c.make_base.new.store) (g.S.BlockStore.rest c.add_masters.new.self) room c.in-Some.place c.in-Some.is
+    (masters-some c.args.sparing zone (g.S.BlockStore.zone c.make_base.new.store) zone' room c.in-Some.place c.in-Some.is c.in_ok-room.ensures.place now.ok)
     c.in_ok-room.ensures.rest now.unused now.all now.slots now.window
 
 pub returns-in_default-clause-made : goal.returns-in_default-clause-made
@@ -21,8 +21,8 @@ returns-in_default-clause-made g c =
     let zone = g.S.BlockStore.zone c.args.store.now in
     let zone' = g.S.BlockStore.zone c.make_base.new.store in
     let room = c.in_ok-room.room.place in
-    made-none c.args.named zone zone' (g.S.BlockStore.rest c.args.store.now) (g.S.BlockStore.rest c.make_base.new.store) room c.in_default.is
-    (masters-none c.args.named zone zone' room c.in_default.is c.in_ok-room.ensures.place)
+    made-none c.args.sparing zone zone' (g.S.BlockStore.rest c.args.store.now) (g.S.BlockStore.rest c.make_base.new.store) room c.in_default.is
+    (masters-none c.args.sparing zone zone' room c.in_default.is c.in_ok-room.ensures.place)
     (at_none room _ _ c.in_default.is c.in_ok-room.ensures.none) c.in_ok-room.ensures.rest
 
 pub returns-in_err-add_masters-clause-fixed : goal.returns-in_err-add_masters-clause-fixed

@@ -1,10 +1,10 @@
 use Rattle.std.proofs.Common.{◌≡◌, ◌+◌, refl, sym, ◌∙◌, arith, inl, inr}
 use Rattle.block_store.specs.Run.{runs}
 use Rattle.block_store.specs.Compact.{runs_settled}
-use Rattle.block_store.proofs.Zones.{joined-segments}
-use Rattle.heap_calls.proofs.Hoisting.{rest-same}
-use Rattle.heap_calls.proofs.Settling.{settled-next, moves-next, keeps-next, next-within, next-past, none-next, settled-enough, zone-end, moves-end, runs-few}
-use Rattle.heap_calls.proofs.Stretches.{stretches-end, stretches-next, stretches-le}
+use Rattle.block_store.proofs.Zone.Zones.{joined-segments}
+use Rattle.heap_calls.proofs.Numbering.Hoisting.{rest-same}
+use Rattle.block_store.proofs.Regroup.Settling.{settled-next, moves-next, keeps-next, next-within, next-past, none-next, settled-enough, zone-end, moves-end, runs-few}
+use Rattle.heap_calls.proofs.Room.Stretches.{stretches-end, stretches-next, stretches-le}
 use Rattle.heap_calls.proofs.compaction.compact.Goals as goal
 
 pub loop-bytes-init : goal.loop-bytes-init

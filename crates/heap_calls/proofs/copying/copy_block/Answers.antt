@@ -1,8 +1,8 @@
 use Rattle.std.proofs.Common.{ℕ, Option, Some, sym, subst}
-use Rattle.heap_calls.specs.Copied.{IsCopy}
-use Rattle.heap_calls.proofs.Copies.{source-there, new-there, may-read, may-write, copy-done}
-use Rattle.heap_calls.proofs.Staying.{fixed-then}
-use Rattle.heap_calls.proofs.Steady.{fixed-copied}
+use Rattle.heap_calls.specs.Inner.Copied.{IsCopy}
+use Rattle.heap_calls.proofs.NewBlocks.Copies.{source-there, new-there, may-read, may-write, copy-done}
+use Rattle.heap_calls.proofs.Room.Staying.{fixed-then}
+use Rattle.heap_calls.proofs.Sizes.Steady.{fixed-copied}
 use Rattle.heap_calls.proofs.copying.copy_block.Goals as goal
 
 pub unreachable-requires : goal.unreachable-requires

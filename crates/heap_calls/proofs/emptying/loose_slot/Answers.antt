@@ -1,11 +1,11 @@
 use Rattle.std.proofs.Common.{◌≡◌, ◌<◌, true, false, sym, ◌∙◌, ap, arith}
 use Rattle.block_store.specs.Block.{is_mover}
-use Rattle.heap_calls.specs.Given.{seen_mover}
+use Rattle.heap_calls.specs.Inner.Given.{seen_mover}
 use Rattle.heap_calls.specs.Purging.{is_loose}
-use Rattle.heap_calls.specs.Numbered.{no_number}
-use Rattle.heap_calls.proofs.Answering.{slot_of-ok}
-use Rattle.heap_calls.proofs.Hoisting.{seen-at, seen_mover-is}
-use Rattle.heap_calls.proofs.Loosening.{loose_at-by}
+use Rattle.heap_calls.specs.Inner.Numbered.{no_number}
+use Rattle.heap_calls.proofs.Numbering.Answering.{slot_of-ok}
+use Rattle.heap_calls.proofs.Numbering.Hoisting.{seen-at, seen_mover-is}
+use Rattle.heap_calls.proofs.Numbering.Loosening.{loose_at-by}
 use Rattle.heap_calls.proofs.emptying.loose_slot.Goals as goal
 
 pub returns-in_default : goal.returns-in_default

@@ -1,13 +1,18 @@
-use Rattle.std.proofs.Common.{◌≡◌, Some, None, Option, ℕ, sym, ◌∙◌, ap, refl, subst}
+use Rattle.std.proofs.Common.{◌≡◌, Some, None, Option, ℕ, sym, ◌∙◌, ap, refl, subst, is_some, arith}
 use Rattle.std.specs.Option.{MatchOption}
-use Rattle.heap_calls.specs.Loose.{renewed}
-use Rattle.heap_calls.proofs.Seats.{at_none}
-use Rattle.heap_calls.proofs.Renewing.{renewed_searches-is, renewed-none, renew-room, renew-gone, renewed-some}
+use Rattle.heap_calls.specs.Inner.Loose.{renewed}
+use Rattle.heap_calls.proofs.Room.Seats.{at_none}
+use Rattle.heap_calls.proofs.NewBlocks.Renewing.{renewed_searches-is, renewed-none, renew-room, renew-gone, renewed-some}
 use Rattle.mac_words.specs.Size.{padded}
 use Rattle.block_store.specs.Block.{is_fixed}
 use Rattle.block_store.specs.Run.{has}
-use Rattle.heap_calls.specs.NewBlock.{fresh_block}
-use Rattle.heap_calls.proofs.Changing.{fixed-carved}
+use Rattle.heap_calls.specs.Inner.NewBlock.{fresh_block}
+use Rattle.heap_calls.proofs.Numbering.Changing.{fixed-carved}
+use Rattle.std.proofs.lemmas.Bool.{cond-false}
+use Rattle.block_store.specs.Rest.{counted}
+use Rattle.heap_calls.specs.Inner.Loose.{renewed_moves}
+use Rattle.heap_calls.proofs.Room.MoveCounts.{packs-none}
+use Rattle.heap_calls.proofs.NewBlocks.Renewing.{renewed_moves-is}
 use Rattle.heap_calls.proofs.emptying.renew_block.Goals as goal
 
 pub returns-in_default-place-clause-answer : goal.returns-in_default-place-clause-answer
@@ -61,3 +66,22 @@ returns-clause-fixed g c place =
     let wide = renew-room c.args.slot (g.S.BlockStore.zone c.args.store.now) c.args.size c.in-Some.bytes (sym c.phys.ensures ∙ c.in-Some.is) (g.S.BlockStore.zone c.make_room-room.new.store) c.make_room-room.result.place c.in-Some-place.place c.in-Some-place.is c.make_room-room.ensures.place in
     fixed-carved c.in-Some-place.place (padded c.args.size) (g.S.BlockStore.zone c.make_room-room.new.store) (g.S.BlockStore.zone c.carve.new.self) (fresh_block c.args.slot c.args.size) (λ p. refl) wide c.in_ok-carve.ensures.ok place
     ∙ c.make_room-room.ensures.fixed place
+
+pub returns-in_default-clause-moves : goal.returns-in_default-clause-moves
+returns-in_default-clause-moves g c =
+    let rest = g.S.BlockStore.rest c.args.store.now in
+    packs-none rest rest (renewed_moves c.args.slot c.args.size (g.S.BlockStore.zone c.args.store.now)) (omega arith) refl (cond-false {A = ℕ} _ _ 0 (ap is_some (sym c.phys.ensures ∙ c.in_default.is)))
+
+pub returns-in_default-place-clause-moves : goal.returns-in_default-place-clause-moves
+returns-in_default-place-clause-moves g c =
+    c.make_room-room.ensures.moves ∙ ap (counted (g.S.BlockStore.rest c.args.store.now).moves) (renewed_moves-is c.args.slot (g.S.BlockStore.zone c.args.store.now) c.args.size c.in-Some.bytes (sym c.phys.ensures ∙ c.in-Some.is))
+
+pub returns-in_err-carve-clause-moves : goal.returns-in_err-carve-clause-moves
+returns-in_err-carve-clause-moves g c =
+    c.carve.ensures.rest.moves ∙ c.make_room-room.ensures.moves
+    ∙ ap (counted (g.S.BlockStore.rest c.args.store.now).moves) (renewed_moves-is c.args.slot (g.S.BlockStore.zone c.args.store.now) c.args.size c.in-Some.bytes (sym c.phys.ensures ∙ c.in-Some.is))
+
+pub returns-clause-moves : goal.returns-clause-moves
+returns-clause-moves g c =
+    c.carve.ensures.rest.moves ∙ c.make_room-room.ensures.moves
+    ∙ ap (counted (g.S.BlockStore.rest c.args.store.now).moves) (renewed_moves-is c.args.slot (g.S.BlockStore.zone c.args.store.now) c.args.size c.in-Some.bytes (sym c.phys.ensures ∙ c.in-Some.is))

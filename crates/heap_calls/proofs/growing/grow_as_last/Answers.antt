@@ -1,9 +1,10 @@
 use Rattle.std.proofs.lemmas.Result.{on_ok_weaker}
-use Rattle.heap_calls.proofs.Carrying.{is-last, last-allowed, last-runs, last-grows, last-grown, rest-last}
+use Rattle.heap_calls.proofs.Sizes.Carrying.{is-last, last-allowed, last-runs, last-grows, last-grown, rest-last}
 use Rattle.block_store.specs.Block.{is_relocatable}
 use Rattle.block_store.specs.Run.{run_at, high, settle}
-use Rattle.heap_calls.proofs.Staying.{fixed-then, none-high, none-settle}
-use Rattle.heap_calls.proofs.Steady.{fixed-changed_at, some_of}
+use Rattle.heap_calls.proofs.Room.Staying.{fixed-then, none-high, none-settle}
+use Rattle.heap_calls.proofs.Sizes.Steady.{fixed-changed_at, some_of}
+use Rattle.heap_calls.proofs.Room.MoveCounts.{last-moves}
 use Rattle.heap_calls.proofs.growing.grow_as_last.Goals as goal
 
 pub hoist-requires : goal.hoist-requires
@@ -54,3 +55,11 @@ returns-clause-fixed g c =
     fixed-then zone zone1 (g.S.BlockStore.zone c.grow_up.new.store)
     (fixed-changed_at (high (is_relocatable c.args.number)) (none-high (is_relocatable c.args.number)) c.args.run zone zone1 (some_of (run_at c.args.run zone) _ (last-allowed c.args.number c.args.size zone c.args.run last)) c.hoist.ensures.zone)
     (fixed-then zone1 zone2 (g.S.BlockStore.zone c.grow_up.new.store) (fixed-changed_at settle none-settle c.args.run zone1 zone2 there c.settle.ensures.zone) c.grow_up.ensures.fixed)
+
+pub returns-clause-moves : goal.returns-clause-moves
+returns-clause-moves g c =
+    let store = c.args.store.now in
+    let zone = g.S.BlockStore.zone store in
+    last-moves c.args.number c.args.size zone (g.S.BlockStore.zone c.hoist.new.self) c.args.run (is-last c.args.number c.args.size zone c.args.run c.requires.block c.requires.found)
+    (g.met.S.BlockStore.tidied store) (g.met.S.BlockStore.once store c.args.number) c.hoist.ensures.zone
+    (g.S.BlockStore.rest store) (g.S.BlockStore.rest c.hoist.new.self) (g.S.BlockStore.rest c.settle.new.self) (g.S.BlockStore.rest c.grow_up.new.store) c.hoist.ensures.rest c.settle.ensures.rest c.grow_up.ensures.rest

@@ -1,7 +1,12 @@
-use Rattle.std.proofs.Common.{Some}
 use Rattle.std.proofs.lemmas.Result.{on_ok_weaker}
-use Rattle.heap_calls.proofs.Carrying.{away-room, away-block, away-done}
-use Rattle.heap_calls.proofs.Steady.{fixed-carried}
+use Rattle.heap_calls.proofs.Sizes.Carrying.{away-room, away-block, away-done}
+use Rattle.heap_calls.proofs.Sizes.Steady.{fixed-carried}
+use Rattle.std.proofs.Common.{Some, sym, ◌∙◌, ap}
+use Rattle.block_store.specs.Block.{is_relocatable}
+use Rattle.block_store.specs.Rest.{counted}
+use Rattle.block_store.specs.Room.{spot}
+use Rattle.heap_calls.specs.Inner.Growing.{grown}
+use Rattle.heap_calls.proofs.Room.MoveCounts.{away-moves}
 use Rattle.heap_calls.proofs.growing.grow_away.Goals as goal
 
 pub move_to-requires-clause-room : goal.move_to-requires-clause-room
@@ -25,3 +30,11 @@ pub returns-clause-fixed : goal.returns-clause-fixed
 returns-clause-fixed g c =
     let packed = c.pack_seat-place in
     fixed-carried c.move_to.result c.args.number c.args.size (g.S.BlockStore.zone c.args.store.now) (g.S.BlockStore.zone packed.new.store) (g.S.BlockStore.zone c.move_to.new.self) (returns-clause-ok g c) packed.ensures.fixed c.move_to.ensures.err
+
+pub returns-clause-moves : goal.returns-clause-moves
+returns-clause-moves g c =
+    let zone = g.S.BlockStore.zone c.args.store.now in
+    let rest = g.S.BlockStore.rest c.args.store.now in
+    let t = is_relocatable c.args.number in
+    c.move_to.ensures.rest.moves ∙ c.pack_seat-place.ensures.moves
+    ∙ ap (counted rest.moves) (sym (away-moves t (grown c.args.size (spot t zone)) zone c.args.bytes c.args.seat c.requires.takes c.requires.positive c.requires.found))

@@ -1,5 +1,5 @@
 use Rattle.block_store.specs.Block.{is_relocatable}
-use Rattle.heap_calls.proofs.Steady.{fixed-grown_up}
+use Rattle.heap_calls.proofs.Sizes.Steady.{fixed-grown_up}
 use Rattle.heap_calls.proofs.growing.grow_up.Goals as goal
 
 pub returns-clause-fixed : goal.returns-clause-fixed

@@ -1,14 +1,17 @@
-use Rattle.std.proofs.Common.{◌≡◌, Some, sym, ◌∙◌, ap, subst, refl}
+use Rattle.std.proofs.Common.{◌≡◌, Some, sym, ◌∙◌, ap, subst, refl, arith}
 use Rattle.block_store.specs.Block.{is_room, is_fixed, tidy}
 use Rattle.block_store.specs.Room.{spot}
 use Rattle.block_store.specs.Run.{has, settle, with_run}
-use Rattle.heap_calls.specs.Search.{FindsSeat}
-use Rattle.heap_calls.specs.Growing.{block_of}
+use Rattle.heap_calls.specs.Inner.Search.{FindsSeat}
+use Rattle.heap_calls.specs.Inner.Growing.{block_of}
 use Rattle.heap_calls.specs.declared.search.Seat.{Seat}
 use Rattle.heap_calls.specs.declared.search.Seat.TheVariants as see
-use Rattle.heap_calls.proofs.Searching.{room-found, at_run}
-use Rattle.heap_calls.proofs.Carrying.{settle-blocks}
-use Rattle.heap_calls.proofs.Staying.{fixed-run_at, none-settle}
+use Rattle.heap_calls.proofs.Room.Searching.{room-found, at_run}
+use Rattle.heap_calls.proofs.Sizes.Carrying.{settle-blocks}
+use Rattle.heap_calls.proofs.Room.Staying.{fixed-run_at, none-settle}
+use Rattle.block_store.specs.Rest.{IsRest, with_moves, falling}
+use Rattle.heap_calls.specs.Moves.{place_moves}
+use Rattle.heap_calls.proofs.Room.MoveCounts.{packs-none, packs-run, at-free, at-packed}
 use Rattle.heap_calls.proofs.growing.pack_seat.Goals as goal
 
 pub unreachable-requires : goal.unreachable-requires
@@ -41,3 +44,22 @@ returns-clause-fixed g c place =
     let r = found.1.0 in
     let after = at_run c.in-Run.run' zone zone r (λ r. zone' ≡ tidy (with_run settle r)) refl found.1.2 c.settle.ensures.zone in
     ap (has (is_fixed place)) after ∙ fixed-run_at settle none-settle c.in-Run.run' zone r found.1.2 place
+
+pub returns-in-Free-clause-moves : goal.returns-in-Free-clause-moves
+returns-in-Free-clause-moves g c =
+    let zone = g.S.BlockStore.zone c.args.store.now in
+    let rest = g.S.BlockStore.rest c.args.store.now in
+    let P : Seat → Type 0 = λ s. FindsSeat c.args.bytes zone (Some s) in
+    let found : P (see.Free _) = subst P c.in-Free.is c.requires.found in
+    packs-none rest rest (place_moves c.args.bytes zone) (omega arith) refl (at-free c.args.bytes _ zone found)
+
+pub returns-clause-moves : goal.returns-clause-moves
+returns-clause-moves g c =
+    let zone = g.S.BlockStore.zone c.args.store.now in
+    let rest = g.S.BlockStore.rest c.args.store.now in
+    let rest' = g.S.BlockStore.rest c.settle.new.self in
+    let P : Seat → Type 0 = λ s. FindsSeat c.args.bytes zone (Some s) in
+    let found : P (see.Run c.in-Run.run') = subst P c.in-Run.is c.requires.found in
+    let r = found.1.0 in
+    let packed = at_run c.in-Run.run' zone zone r (λ r. IsRest (with_moves (falling r.run) rest) rest') refl found.1.2 c.settle.ensures.rest in
+    packs-run rest rest rest' (falling r.run) (place_moves c.args.bytes zone) refl packed (at-packed c.args.bytes c.in-Run.run' zone found)

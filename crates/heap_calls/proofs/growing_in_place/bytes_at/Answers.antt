@@ -1,7 +1,7 @@
 use Rattle.std.proofs.Common.{sym, ◌∙◌, ap, arith}
 use Rattle.block_store.specs.Room.{spot_at}
-use Rattle.heap_calls.specs.GrowingInPlace.{seen_size}
-use Rattle.heap_calls.proofs.InPlace.{seen-some, seen_size-is, spot-small}
+use Rattle.heap_calls.specs.Inner.GrowingInPlace.{seen_size}
+use Rattle.heap_calls.proofs.Sizes.GrowingInPlace.{seen-some, seen_size-is, spot-small}
 use Rattle.heap_calls.proofs.growing_in_place.bytes_at.Goals as goal
 
 pub seen_bytes-requires : goal.seen_bytes-requires

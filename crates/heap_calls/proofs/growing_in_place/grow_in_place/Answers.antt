@@ -4,14 +4,15 @@ use Rattle.block_store.specs.Block.{Block, size, resized}
 use Rattle.block_store.specs.Run.{segments}
 use Rattle.block_store.specs.Room.{Spot, spot_at}
 use Rattle.block_store.specs.Grow.{grow_up, grow_fixed, growth}
-use Rattle.block_store.specs.Named.{spared}
-use Rattle.heap_calls.specs.GrowingInPlace.{FindsPurges, enough, pushed_up}
+use Rattle.block_store.specs.Sparing.{spared}
+use Rattle.heap_calls.specs.Inner.GrowingInPlace.{FindsPurges, enough, pushed_up}
 use Rattle.heap_calls.specs.Searches.{room_searches, in_place_searches}
-use Rattle.heap_calls.proofs.InPlace.{looks-up, looks-run, Grows, grows, spot_if, some_if, spot_and, spot-small, up-allowed, grown-up, grown-none, pushed, pushed-allowed, grown-pushed, spot_at-above, the_spot, phys-fits}
+use Rattle.heap_calls.proofs.Sizes.GrowingInPlace.{looks-up, looks-run, Grows, grows, spot_if, some_if, spot_and, spot-small, up-allowed, grown-up, grown-none, pushed, pushed-allowed, grown-pushed, spot_at-above, phys-fits}
 use Rattle.block_store.specs.Block.{is_fixed}
 use Rattle.block_store.specs.Run.{has}
-use Rattle.heap_calls.proofs.Changing.{fixed-at}
-use Rattle.heap_calls.proofs.Staying.{fixed-grow_fixed, alike-resized}
+use Rattle.block_store.proofs.Plain.Options.{some_and}
+use Rattle.heap_calls.proofs.Numbering.Changing.{fixed-at}
+use Rattle.heap_calls.proofs.Room.Staying.{fixed-grow_fixed, alike-resized}
 use Rattle.heap_calls.proofs.growing_in_place.grow_in_place.Goals as goal
 
 pub padded_size-wanted-requires : goal.padded_size-wanted-requires
@@ -20,7 +21,7 @@ padded_size-wanted-requires g c = phys-fits c.args.bytes c.requires.fits
 pub overflow_add-place : goal.overflow_add-place
 overflow_add-place g c =
     let zone = g.S.BlockStore.zone c.args.store.now in
-    let still = the_spot (spot_at c.args.place zone) _ c.requires.still in
+    let still = some_and (spot_at c.args.place zone) _ c.requires.still in
     let is = spot_if (spot_at c.args.place zone) still.0 (λ s. c.bytes_at-taken.result ≡ size s.here) still.1 c.bytes_at-taken.ensures in
     omega (arith, is, spot-small c.args.place zone still.0 still.1, g.met.S.BlockStore.small c.args.store.now)
 
@@ -38,7 +39,7 @@ pub returns-then-has_room_at-clause-zone : goal.returns-then-has_room_at-clause-
 returns-then-has_room_at-clause-zone g c =
     let zone = g.S.BlockStore.zone c.args.store.now in
     let zone' = g.S.BlockStore.zone c.resize.new.self in
-    let sp = spared c.args.named in
+    let sp = spared c.args.sparing in
     let k = grows c.args.place zone c.args.bytes c.bytes_at-taken.result c.padded_size-wanted.result c.has_room_at.result c.requires.still c.requires.grows c.bytes_at-taken.ensures c.padded_size-wanted.ensures c.has_room_at.ensures in
     let P : Spot → Type 0 = λ s. size s.here < size (resized c.args.bytes s.here) → IfSome (grow_up (resized c.args.bytes s.here) s) (λ after. zone' ≡ after) in
     let done : P k.s = spot_if (spot_at c.args.place zone) k.s P k.at c.in_ok-resize.ensures.grown in
@@ -48,7 +49,7 @@ returns-then-has_room_at-clause-zone g c =
 pub returns-in_default-clause-zone : goal.returns-in_default-clause-zone
 returns-in_default-clause-zone g c =
     let zone = g.S.BlockStore.zone c.args.store.now in
-    let sp = spared c.args.named in
+    let sp = spared c.args.sparing in
     let k = grows c.args.place zone c.args.bytes c.bytes_at-taken.result c.padded_size-wanted.result c.has_room_at.result c.requires.still c.requires.grows c.bytes_at-taken.ensures c.padded_size-wanted.ensures c.has_room_at.ensures in
     let F : Option ℕ → Type 0 = λ o. IfSome (spot_at c.args.place zone) (λ s. FindsPurges (c.padded_size-wanted.result - c.bytes_at-taken.result) sp (segments s.above).first o) in
     let none = spot_if (spot_at c.args.place zone) k.s (λ s. FindsPurges (c.padded_size-wanted.result - c.bytes_at-taken.result) sp (segments s.above).first None) k.at (subst F c.in_default.is c.least_purges-fewest.ensures.found) in
@@ -67,7 +68,7 @@ pub resize-requires-2 : goal.resize-requires-2
 resize-requires-2 g c =
     let zone = g.S.BlockStore.zone c.args.store.now in
     let zone' = g.S.BlockStore.zone c.push_up.new.store in
-    let sp = spared c.args.named in
+    let sp = spared c.args.sparing in
     let more = c.padded_size-wanted.result - c.bytes_at-taken.result in
     let k = grows c.args.place zone c.args.bytes c.bytes_at-taken.result c.padded_size-wanted.result c.has_room_at.result c.requires.still c.requires.grows c.bytes_at-taken.ensures c.padded_size-wanted.ensures c.has_room_at.ensures in
     let new = resized c.args.bytes k.s.here in
@@ -80,7 +81,7 @@ returns-clause-zone g c =
     let zone = g.S.BlockStore.zone c.args.store.now in
     let zone' = g.S.BlockStore.zone c.push_up.new.store in
     let after = g.S.BlockStore.zone c.resize-2.new.self in
-    let sp = spared c.args.named in
+    let sp = spared c.args.sparing in
     let more = c.padded_size-wanted.result - c.bytes_at-taken.result in
     let k = grows c.args.place zone c.args.bytes c.bytes_at-taken.result c.padded_size-wanted.result c.has_room_at.result c.requires.still c.requires.grows c.bytes_at-taken.ensures c.padded_size-wanted.ensures c.has_room_at.ensures in
     let new = resized c.args.bytes k.s.here in
@@ -97,7 +98,7 @@ returns-clause-zone g c =
 pub returns-then-has_room_at-clause-searches : goal.returns-then-has_room_at-clause-searches
 returns-then-has_room_at-clause-searches g c =
     let zone = g.S.BlockStore.zone c.args.store.now in
-    let sp = spared c.args.named in
+    let sp = spared c.args.sparing in
     let k = grows c.args.place zone c.args.bytes c.bytes_at-taken.result c.padded_size-wanted.result c.has_room_at.result c.requires.still c.requires.grows c.bytes_at-taken.ensures c.padded_size-wanted.ensures c.has_room_at.ensures in
     some_if (spot_at c.args.place zone) k.s (λ s. 1 ≡ in_place_searches sp (resized c.args.bytes s.here) s) k.at
     (looks-up sp (resized c.args.bytes k.s.here) k.s (sym k.up_is ∙ c.if-has_room_at.true))
@@ -115,20 +116,20 @@ returns-in_default-clause-searches g c =
     let zone = g.S.BlockStore.zone c.args.store.now in
     let more = c.padded_size-wanted.result - c.bytes_at-taken.result in
     let k = grows c.args.place zone c.args.bytes c.bytes_at-taken.result c.padded_size-wanted.result c.has_room_at.result c.requires.still c.requires.grows c.bytes_at-taken.ensures c.padded_size-wanted.ensures c.has_room_at.ensures in
-    looked c.args.place zone c.args.bytes more c.has_room_at.result k (spared c.args.named) c.least_purges-fewest.result.searches c.if-has_room_at.false c.least_purges-fewest.ensures.searches
+    looked c.args.place zone c.args.bytes more c.has_room_at.result k (spared c.args.sparing) c.least_purges-fewest.result.searches c.if-has_room_at.false c.least_purges-fewest.ensures.searches
 
 pub returns-clause-searches : goal.returns-clause-searches
 returns-clause-searches g c =
     let zone = g.S.BlockStore.zone c.args.store.now in
     let more = c.padded_size-wanted.result - c.bytes_at-taken.result in
     let k = grows c.args.place zone c.args.bytes c.bytes_at-taken.result c.padded_size-wanted.result c.has_room_at.result c.requires.still c.requires.grows c.bytes_at-taken.ensures c.padded_size-wanted.ensures c.has_room_at.ensures in
-    looked c.args.place zone c.args.bytes more c.has_room_at.result k (spared c.args.named) c.least_purges-fewest.result.searches c.if-has_room_at.false c.least_purges-fewest.ensures.searches
+    looked c.args.place zone c.args.bytes more c.has_room_at.result k (spared c.args.sparing) c.least_purges-fewest.result.searches c.if-has_room_at.false c.least_purges-fewest.ensures.searches
 
 pub returns-then-has_room_at-clause-fixed : goal.returns-then-has_room_at-clause-fixed
 returns-then-has_room_at-clause-fixed g c place =
     let zone = g.S.BlockStore.zone c.args.store.now in
     let zone' = g.S.BlockStore.zone c.resize.new.self in
-    let sp = spared c.args.named in
+    let sp = spared c.args.sparing in
     let k = grows c.args.place zone c.args.bytes c.bytes_at-taken.result c.padded_size-wanted.result c.has_room_at.result c.requires.still c.requires.grows c.bytes_at-taken.ensures c.padded_size-wanted.ensures c.has_room_at.ensures in
     let grown = spot_if (spot_at c.args.place zone) k.s (λ s. grow_fixed sp (resized c.args.bytes s.here) s ≡ Some zone') k.at (returns-then-has_room_at-clause-zone g c) in
     fixed-at c.args.place zone zone' k.s k.at (fixed-grow_fixed sp (resized c.args.bytes k.s.here) k.s zone' (alike-resized c.args.bytes k.s.here) grown) place
@@ -140,7 +141,7 @@ pub returns-clause-fixed : goal.returns-clause-fixed
 returns-clause-fixed g c place =
     let zone = g.S.BlockStore.zone c.args.store.now in
     let zone' = g.S.BlockStore.zone c.resize-2.new.self in
-    let sp = spared c.args.named in
+    let sp = spared c.args.sparing in
     let k = grows c.args.place zone c.args.bytes c.bytes_at-taken.result c.padded_size-wanted.result c.has_room_at.result c.requires.still c.requires.grows c.bytes_at-taken.ensures c.padded_size-wanted.ensures c.has_room_at.ensures in
     let grown = spot_if (spot_at c.args.place zone) k.s (λ s. grow_fixed sp (resized c.args.bytes s.here) s ≡ Some zone') k.at (returns-clause-zone g c) in
     fixed-at c.args.place zone zone' k.s k.at (fixed-grow_fixed sp (resized c.args.bytes k.s.here) k.s zone' (alike-resized c.args.bytes k.s.here) grown) place

@@ -2,10 +2,10 @@ use Rattle.std.proofs.Common.{sym, ◌∙◌, ap, arith}
 use Rattle.std.specs.Option.{option_map, ok_or}
 use Rattle.mac_words.specs.declared.code.TheConstants.OsErr.{NIL_HANDLE}
 use Rattle.block_store.specs.Room.{rename_spot}
-use Rattle.block_store.proofs.Tidy.{spot-passes}
+use Rattle.block_store.proofs.Zone.Tidy.{spot-passes}
 use Rattle.block_store.specs.Block.{is_relocatable}
-use Rattle.heap_calls.specs.Numbered.{handle_number, pointer_number}
-use Rattle.heap_calls.proofs.Answering.{slot_of-ok, look_up-by, place-small, header-fits, held}
+use Rattle.heap_calls.specs.Inner.Numbered.{handle_number, pointer_number}
+use Rattle.heap_calls.proofs.Numbering.Answering.{slot_of-ok, look_up-by, place-small, header-fits, held}
 use Rattle.heap_calls.proofs.heap.find_block.Goals as goal
 
 pub returns-in_default : goal.returns-in_default

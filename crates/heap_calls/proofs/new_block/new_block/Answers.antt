@@ -1,10 +1,15 @@
-use Rattle.std.proofs.Common.{inr, ◌∙◌}
-use Rattle.heap_calls.proofs.NewSlots.{only-slot}
+use Rattle.std.proofs.Common.{inr, ◌∙◌, ℕ, Option, Some, None, sym, ap, subst, arith}
+use Rattle.heap_calls.proofs.NewBlocks.NewSlots.{only-slot}
+use Rattle.block_store.specs.Rest.{counted}
+use Rattle.heap_calls.specs.Inner.NewBlock.{ready_count}
+use Rattle.heap_calls.specs.Inner.NewSlot.{IsSlot}
+use Rattle.heap_calls.specs.Inner.Packed.{content_moves, new_moves}
+use Rattle.heap_calls.proofs.Room.MoveCounts.{packs-none, packs-after}
 use Rattle.heap_calls.proofs.new_block.new_block.Goals as goal
 
 pub returns-in_default-place-clause-answer : goal.returns-in_default-place-clause-answer
 returns-in_default-place-clause-answer g c =
-    inr (only-slot c.args.named c.args.size c.in-Some.slot (g.S.BlockStore.zone c.args.store.now) (g.S.BlockStore.zone c.make_slot.new.store) (g.S.BlockStore.zone c.add_block.new.store)
+    inr (only-slot c.args.sparing c.args.size c.in-Some.slot (g.S.BlockStore.zone c.args.store.now) (g.S.BlockStore.zone c.make_slot.new.store) (g.S.BlockStore.zone c.add_block.new.store)
     (g.S.BlockStore.rest c.args.store.now) (g.S.BlockStore.rest c.make_slot.new.store) (g.S.BlockStore.rest c.add_block.new.store)
     c.in_ok-taken.taken.slot c.in_ok-room.room.place c.in-Some.is c.in_default-place.is c.in_ok-taken.ensures.slot c.in_ok-room.ensures.added)
 
@@ -16,3 +21,35 @@ returns-in_default-place-clause-fixed g c place = c.add_block.ensures.fixed plac
 
 pub returns-clause-fixed : goal.returns-clause-fixed
 returns-clause-fixed g c place = c.add_block.ensures.fixed place ∙ c.make_slot.ensures.fixed place
+
+pub returns-in_default-clause-moves : goal.returns-in_default-clause-moves
+returns-in_default-clause-moves g c =
+    let zone = g.S.BlockStore.zone c.args.store.now in
+    let rest = g.S.BlockStore.rest c.args.store.now in
+    let zone' = g.S.BlockStore.zone c.make_slot.new.store in
+    let rest' = g.S.BlockStore.rest c.make_slot.new.store in
+    let P : Option ℕ → Type 0 = λ o. IsSlot c.args.sparing zone rest o zone' rest' in
+    let none : P None = subst P c.in_default.is c.in_ok-taken.ensures.slot in
+    packs-none rest rest' (new_moves c.args.sparing c.args.size rest.unused zone) (omega arith) c.make_slot.ensures.moves (ap (λ o. ready_count o (content_moves c.args.sparing c.args.size)) none.0)
+
+pub returns-in_default-place-clause-moves : goal.returns-in_default-place-clause-moves
+returns-in_default-place-clause-moves g c =
+    let zone = g.S.BlockStore.zone c.args.store.now in
+    let rest = g.S.BlockStore.rest c.args.store.now in
+    let zone1 = g.S.BlockStore.zone c.make_slot.new.store in
+    let rest1 = g.S.BlockStore.rest c.make_slot.new.store in
+    let P : Option ℕ → Type 0 = λ o. IsSlot c.args.sparing zone rest o zone1 rest1 in
+    let taken : P (Some c.in-Some.slot) = subst P c.in-Some.is c.in_ok-taken.ensures.slot in
+    packs-after rest rest1 (g.S.BlockStore.rest c.add_block.new.store) (content_moves c.args.sparing c.args.size zone1) c.make_slot.ensures.moves c.add_block.ensures.moves
+    ∙ ap (λ o. counted rest.moves (ready_count o (content_moves c.args.sparing c.args.size))) (sym taken.ready)
+
+pub returns-clause-moves : goal.returns-clause-moves
+returns-clause-moves g c =
+    let zone = g.S.BlockStore.zone c.args.store.now in
+    let rest = g.S.BlockStore.rest c.args.store.now in
+    let zone1 = g.S.BlockStore.zone c.make_slot.new.store in
+    let rest1 = g.S.BlockStore.rest c.make_slot.new.store in
+    let P : Option ℕ → Type 0 = λ o. IsSlot c.args.sparing zone rest o zone1 rest1 in
+    let taken : P (Some c.in-Some.slot) = subst P c.in-Some.is c.in_ok-taken.ensures.slot in
+    packs-after rest rest1 (g.S.BlockStore.rest c.add_block.new.store) (content_moves c.args.sparing c.args.size zone1) c.make_slot.ensures.moves c.add_block.ensures.moves
+    ∙ ap (λ o. counted rest.moves (ready_count o (content_moves c.args.sparing c.args.size))) (sym taken.ready)

@@ -2,14 +2,14 @@ use Rattle.std.proofs.Common.{◌≡◌, ◌<◌, ◌≤◌, false, sym, ◌∙�
 use Rattle.block_store.specs.Block.{is_fixed, size, resized}
 use Rattle.block_store.specs.Run.{has, in_run}
 use Rattle.block_store.specs.Room.{spot_at, filled}
-use Rattle.block_store.proofs.Tidy.{spot-passes}
+use Rattle.block_store.proofs.Zone.Tidy.{spot-passes}
 use Rattle.heap_calls.specs.Answer.{nothing}
-use Rattle.heap_calls.proofs.Answering.{at_place}
-use Rattle.heap_calls.proofs.Changing.{phys-some, fixed-at}
-use Rattle.heap_calls.proofs.InPlace.{spot_and}
-use Rattle.heap_calls.proofs.Staying.{fixed-filled, alike-resized}
-use Rattle.heap_calls.proofs.Resizing.{grown-done, looks-still}
-use Rattle.heap_calls.proofs.PointerSizes.{stands, sizes-are, fitted-done}
+use Rattle.heap_calls.proofs.Numbering.Answering.{at_place}
+use Rattle.heap_calls.proofs.Numbering.Changing.{phys-some, fixed-at}
+use Rattle.heap_calls.proofs.Sizes.GrowingInPlace.{spot_and}
+use Rattle.heap_calls.proofs.Room.Staying.{fixed-filled, alike-resized}
+use Rattle.heap_calls.proofs.Sizes.Resizing.{grown-done, looks-still}
+use Rattle.heap_calls.proofs.Sizes.PointerSizes.{stands, sizes-are, fitted-done}
 use Rattle.heap_calls.proofs.pointer_sizing.fit_fixed.Goals as goal
 
 pub returns-then-bytes-bytes_at-clause-fixed : goal.returns-then-bytes-bytes_at-clause-fixed

@@ -1,9 +1,9 @@
 use Rattle.std.proofs.Common.{ℕ, Option, sym, ◌∙◌, ap, subst}
 use Rattle.block_store.specs.Block.{is_fixed}
 use Rattle.block_store.specs.Run.{has}
-use Rattle.heap_calls.specs.NewPointer.{IsNewFixed}
-use Rattle.heap_calls.proofs.Changing.{phys-some}
-use Rattle.heap_calls.proofs.NewPointers.{fixed-put, on_err}
+use Rattle.heap_calls.specs.Inner.NewPointer.{IsNewFixed}
+use Rattle.heap_calls.proofs.Numbering.Changing.{phys-some}
+use Rattle.heap_calls.proofs.NewBlocks.NewPointers.{fixed-put, on_err}
 use Rattle.heap_calls.proofs.pointers.add_fixed.Goals as goal
 
 pub returns-in_err-carve_fixed-clause-fixed : goal.returns-in_err-carve_fixed-clause-fixed

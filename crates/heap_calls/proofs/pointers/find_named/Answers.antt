@@ -1,8 +1,8 @@
 use Rattle.std.proofs.Common.{sym, arith, Ok}
 use Rattle.heap_calls.specs.Answer.{look_up}
-use Rattle.heap_calls.specs.Numbered.{state_of}
+use Rattle.heap_calls.specs.Inner.Numbered.{state_of}
 use Rattle.heap_calls.specs.Pointers.{pointed_at, block_named}
-use Rattle.heap_calls.proofs.Pointing.{pointer-held, named-pointer, named-other, finds-same, finds-block, finds-pointer}
+use Rattle.heap_calls.proofs.Numbering.Pointing.{pointer-held, sparing-pointer, sparing-other, finds-same, finds-block, finds-pointer}
 use Rattle.heap_calls.proofs.pointers.find_named.Goals as goal
 
 pub returns-in-Ok : goal.returns-in-Ok
@@ -13,7 +13,7 @@ returns-in-Ok g c =
     let t = c.in-Ok.target in
     let state = state_of zone rest.slots es in
     let there = pointer-held zone rest es c.args.name t c.requires (g.met.S.BlockStore.placed c.args.store.now) (g.met.S.BlockStore.tidied c.args.store.now) (omega arith) (sym c.in-Ok.ensures) in
-    finds-same (pointed_at c.args.name state) (block_named c.args.name state) zone es (Ok t.place) (named-pointer zone rest.slots es c.args.name t (sym c.in-Ok.ensures))
+    finds-same (pointed_at c.args.name state) (block_named c.args.name state) zone es (Ok t.place) (sparing-pointer zone rest.slots es c.args.name t (sym c.in-Ok.ensures))
     (finds-pointer zone rest.slots es c.args.name t (g.met.S.BlockStore.small c.args.store.now) there)
 
 pub returns-in-Err : goal.returns-in-Err
@@ -22,5 +22,5 @@ returns-in-Err g c =
     let slots = (g.S.BlockStore.rest c.args.store.now).slots in
     let es = c.args.names.now in
     let state = state_of zone slots es in
-    finds-same (look_up c.args.name state) (block_named c.args.name state) zone es c.find_block.result (named-other zone slots es c.args.name _ (sym c.in-Err.ensures))
+    finds-same (look_up c.args.name state) (block_named c.args.name state) zone es c.find_block.result (sparing-other zone slots es c.args.name _ (sym c.in-Err.ensures))
     (finds-block zone slots es c.args.name c.find_block.result c.find_block.ensures)

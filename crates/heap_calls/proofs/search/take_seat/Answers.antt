@@ -1,19 +1,22 @@
-use Rattle.std.proofs.Common.{◌≡◌, Some, sym, ◌∙◌, ap, subst, refl}
+use Rattle.std.proofs.Common.{◌≡◌, Some, sym, ◌∙◌, ap, subst, refl, arith}
 use Rattle.block_store.specs.Block.{is_room, tidy, is_relocatable, is_fixed}
 use Rattle.block_store.specs.Room.{spot}
 use Rattle.block_store.specs.Run.{settle, with_run, has, has_free}
-use Rattle.heap_calls.proofs.Absence.{none-purged, none-settled}
-use Rattle.block_store.specs.Named.{purged}
-use Rattle.heap_calls.proofs.Staying.{fixed-purged, fixed-run, none-settle}
-use Rattle.heap_calls.specs.Search.{FindsSeat}
+use Rattle.block_store.proofs.Zone.Absence.{none-purged, none-settled}
+use Rattle.block_store.specs.Sparing.{purged}
+use Rattle.heap_calls.proofs.Room.Staying.{fixed-purged, fixed-run, none-settle}
+use Rattle.heap_calls.specs.Inner.Search.{FindsSeat}
 use Rattle.heap_calls.specs.declared.search.Seat.{Seat}
 use Rattle.heap_calls.specs.declared.search.Seat.TheVariants as see
-use Rattle.heap_calls.proofs.Searching.{room-found, at_run}
+use Rattle.heap_calls.proofs.Room.Searching.{room-found, at_run}
+use Rattle.block_store.specs.Rest.{IsRest, with_moves, falling}
+use Rattle.heap_calls.specs.Moves.{place_moves}
+use Rattle.heap_calls.proofs.Room.MoveCounts.{packs-none, packs-run, at-free, at-packed}
 use Rattle.heap_calls.proofs.search.take_seat.Goals as goal
 
 pub unreachable-requires : goal.unreachable-requires
 unreachable-requires g c =
-    let zone = purged c.args.purges c.args.named (g.S.BlockStore.zone c.args.store.now) in
+    let zone = purged c.args.purges c.args.sparing (g.S.BlockStore.zone c.args.store.now) in
     let store' = c.settle.new.self in
     let P : Seat → Type 0 = λ s. FindsSeat c.args.bytes zone (Some s) in
     let found : P (see.Run c.in-Run.run') = subst P c.in-Run.is c.requires.found in
@@ -24,11 +27,11 @@ unreachable-requires g c =
 
 pub returns-in-Free-clause-kept : goal.returns-in-Free-clause-kept
 returns-in-Free-clause-kept g c number none =
-    ap (has (is_relocatable number)) c.purge.ensures.zone ∙ none-purged (is_relocatable number) (λ n. refl) c.args.purges c.args.named (g.S.BlockStore.zone c.args.store.now) none
+    ap (has (is_relocatable number)) c.purge.ensures.zone ∙ none-purged (is_relocatable number) (λ n. refl) c.args.purges c.args.sparing (g.S.BlockStore.zone c.args.store.now) none
 
 pub returns-in-Some-clause-kept : goal.returns-in-Some-clause-kept
 returns-in-Some-clause-kept g c number none =
-    let zone = purged c.args.purges c.args.named (g.S.BlockStore.zone c.args.store.now) in
+    let zone = purged c.args.purges c.args.sparing (g.S.BlockStore.zone c.args.store.now) in
     let store' = c.settle.new.self in
     let P : Seat → Type 0 = λ s. FindsSeat c.args.bytes zone (Some s) in
     let found : P (see.Run c.in-Run.run') = subst P c.in-Run.is c.requires.found in
@@ -36,19 +39,37 @@ returns-in-Some-clause-kept g c number none =
     let after = at_run c.in-Run.run' zone (g.S.BlockStore.zone c.purge.new.self) r (λ r. g.S.BlockStore.zone store' ≡ tidy (with_run settle r)) c.purge.ensures.zone found.1.2 c.settle.ensures.zone in
     ap (has (is_relocatable number)) after
     ∙ none-settled (is_relocatable number) (λ n. refl) (has_free c.args.bytes) zone r found.1.1
-    (none-purged (is_relocatable number) (λ n. refl) c.args.purges c.args.named (g.S.BlockStore.zone c.args.store.now) none)
+    (none-purged (is_relocatable number) (λ n. refl) c.args.purges c.args.sparing (g.S.BlockStore.zone c.args.store.now) none)
 
 pub returns-in-Free-clause-fixed : goal.returns-in-Free-clause-fixed
 returns-in-Free-clause-fixed g c place =
-    ap (has (is_fixed place)) c.purge.ensures.zone ∙ fixed-purged c.args.purges c.args.named (g.S.BlockStore.zone c.args.store.now) place
+    ap (has (is_fixed place)) c.purge.ensures.zone ∙ fixed-purged c.args.purges c.args.sparing (g.S.BlockStore.zone c.args.store.now) place
 
 pub returns-in-Some-clause-fixed : goal.returns-in-Some-clause-fixed
 returns-in-Some-clause-fixed g c place =
-    let zone = purged c.args.purges c.args.named (g.S.BlockStore.zone c.args.store.now) in
+    let zone = purged c.args.purges c.args.sparing (g.S.BlockStore.zone c.args.store.now) in
     let store' = c.settle.new.self in
     let P : Seat → Type 0 = λ s. FindsSeat c.args.bytes zone (Some s) in
     let found : P (see.Run c.in-Run.run') = subst P c.in-Run.is c.requires.found in
     let r = found.1.0 in
     let after = at_run c.in-Run.run' zone (g.S.BlockStore.zone c.purge.new.self) r (λ r. g.S.BlockStore.zone store' ≡ tidy (with_run settle r)) c.purge.ensures.zone found.1.2 c.settle.ensures.zone in
     ap (has (is_fixed place)) after ∙ fixed-run settle none-settle (has_free c.args.bytes) zone r found.1.1 place
-    ∙ fixed-purged c.args.purges c.args.named (g.S.BlockStore.zone c.args.store.now) place
+    ∙ fixed-purged c.args.purges c.args.sparing (g.S.BlockStore.zone c.args.store.now) place
+
+pub returns-in-Free-clause-moves : goal.returns-in-Free-clause-moves
+returns-in-Free-clause-moves g c =
+    let zone = purged c.args.purges c.args.sparing (g.S.BlockStore.zone c.args.store.now) in
+    let P : Seat → Type 0 = λ s. FindsSeat c.args.bytes zone (Some s) in
+    let found : P (see.Free _) = subst P c.in-Free.is c.requires.found in
+    packs-none (g.S.BlockStore.rest c.args.store.now) (g.S.BlockStore.rest c.purge.new.self) (place_moves c.args.bytes zone) (omega arith) c.purge.ensures.rest.moves (at-free c.args.bytes _ zone found)
+
+pub returns-in-Some-clause-moves : goal.returns-in-Some-clause-moves
+returns-in-Some-clause-moves g c =
+    let zone = purged c.args.purges c.args.sparing (g.S.BlockStore.zone c.args.store.now) in
+    let rest1 = g.S.BlockStore.rest c.purge.new.self in
+    let rest2 = g.S.BlockStore.rest c.settle.new.self in
+    let P : Seat → Type 0 = λ s. FindsSeat c.args.bytes zone (Some s) in
+    let found : P (see.Run c.in-Run.run') = subst P c.in-Run.is c.requires.found in
+    let r = found.1.0 in
+    let packed = at_run c.in-Run.run' zone (g.S.BlockStore.zone c.purge.new.self) r (λ r. IsRest (with_moves (falling r.run) rest1) rest2) c.purge.ensures.zone found.1.2 c.settle.ensures.rest in
+    packs-run (g.S.BlockStore.rest c.args.store.now) rest1 rest2 (falling r.run) (place_moves c.args.bytes zone) c.purge.ensures.rest.moves packed (at-packed c.args.bytes c.in-Run.run' zone found)

@@ -1,9 +1,11 @@
 use Rattle.std.proofs.Common.{◌≡◌, ◌++◌, drop, map}
-use Rattle.macmem.specs.Listing.{with_type}
+use Rattle.std.specs.List.{flat_map}
+use Rattle.fork_format.specs.View.{view_ref}
+use Rattle.macmem.specs.Listing.{line_behind}
 use Rattle.macmem.proofs.listing.push_group.Given as goal
 
--- the resources so far, with those to come, are the whole
+-- the lines so far, with those of the resources to come, are the whole
 abbrev pub invariant-loop-resource : goal.invariant-loop-resource
 invariant-loop-resource l =
-    map (λ r. (r.ty, r.resource.now)) l.all.items ++ map (with_type l.group.ty) (drop l.resource-index l.group.refs.items)
-    ≡ map (λ r. (r.ty, r.resource.now)) l.fn.all.items ++ map (with_type l.group.ty) l.group.refs.items
+    l.text.items ++ flat_map (line_behind l.digits) (map view_ref (drop l.resource-index l.group.refs.items))
+    ≡ l.fn.text.items ++ flat_map (line_behind l.digits) (map view_ref l.group.refs.items)

@@ -9,5 +9,9 @@ loop-i-preserved c =
     let least = c.min-stride.ensures in
     let i = c.loop-i.i in
     let more = c.loop-i-test.true in
-    let step = λ (ys : List ℕ). written (c.args.to + i) (take n (drop (c.args.from + i) ys)) ys in
-    (omega (arith, least, more), c.carry.ensures ∙ ap step c.loop-i.invariant.1 ∙ stride_down c.args.bytes.now c.args.from c.args.to i n c.requires.0 (omega (arith, least, more, c.requires.1)))
+    let step = λ (ys : List ℕ). written (c.args.to + i) (take n (drop (c.args.from + i) ys)) ys in (
+      omega (arith, least, more),
+      c.carry.ensures ∙ ap step c.loop-i.invariant.1
+          ∙ stride_down c.args.bytes.now c.args.from c.args.to i n c.requires.down
+          (omega (arith, least, more, c.requires.inside)),
+    )

@@ -16,6 +16,10 @@ loop-i-preserved c =
     let rest : n + left ≡ c.args.count - j = omega (arith, least, low, some) in
     let step = λ (ys : List ℕ). written (c.args.to + j) (take n (drop (c.args.from + j) ys)) ys in (
       omega (arith, low),
-      c.carry.ensures ∙ ap step (c.loop-i.invariant.1 ∙ ap (λ k. written (c.args.to + k) (take left (drop (c.args.from + k) xs)) xs) parts)
-          ∙ stride_up xs c.args.from c.args.to j n left c.requires.0 (omega (arith, least, low, some, c.requires.1)) ∙ ap (λ m. written (c.args.to + j) (take m (drop (c.args.from + j) xs)) xs) rest,
+      c.carry.ensures
+          ∙ ap step (c.loop-i.invariant.1
+          ∙ ap (λ k. written (c.args.to + k) (take left (drop (c.args.from + k) xs)) xs) parts)
+          ∙ stride_up xs c.args.from c.args.to j n left c.requires.up
+          (omega (arith, least, low, some, c.requires.inside))
+          ∙ ap (λ m. written (c.args.to + j) (take m (drop (c.args.from + j) xs)) xs) rest,
     )

@@ -4,7 +4,8 @@ use Rattle.raw_region.proofs.moves.move_up.Given as goal
 
 -- all but the first i are in place
 abbrev pub invariant-loop-i : goal.invariant-loop-i
-invariant-loop-i l = (l.i ≤ l.count) × (l.bytes ≡ written (l.to + l.i) (take (l.count - l.i) (drop (l.from + l.i) l.initial.bytes)) l.initial.bytes)
+invariant-loop-i l = (l.i ≤ l.count)
+    × (l.bytes ≡ written (l.to + l.i) (take (l.count - l.i) (drop (l.from + l.i) l.initial.bytes)) l.initial.bytes)
 
 abbrev pub decreases-loop-i : goal.decreases-loop-i
 decreases-loop-i l = l.i

@@ -15,11 +15,12 @@ use denote.RawPtr.{◌+ₚ◌}
 use denote.Signature.{plain, types_at}
 use denote.Steps.{nothing, heard}
 use denote.Triple.Entry.{alive}
-use denote.Triple.Walked.{says, Stays, stay_dropped, walk_of, ends_at}
+use denote.Triple.Walked.{says, walk_of, ends_at}
 use mir.Val.{Val}
 use prog.Wp.{WpFn}
 use types.ByLocal.{alloc_all, pass_all, free_all, look_at, get, get_in, sets}
-use types.Kit.{‵, raw, ◌⊛◌, prop, ◌$◌, ◌∵◌, !, qed, move, drop, suffices, done, split, fsplit, fjoin, fpick, feq_l, feq_i, regoal, rewrite, use1, use2}
+use types.Kit.{‵, raw, ◌⊛◌, prop, ◌$◌, ◌∵◌, !, qed, move, drop, suffices, done, split, split3, fsplit, fjoin, fpick}
+use types.Kit.{feq_l, feq_i, regoal, rewrite, use1, use2}
 use types.Logic.{sem}
 use types.Part.{sub, whole}
 use types.Run.{enter, returns, of_opd, fld, stop}
@@ -28,33 +29,37 @@ use Rattle.raw_region.specs.contracts.raw.Frame as F
 use Rattle.raw_region.specs.contracts.raw.Run as R
 use Rattle.raw_region.specs.contracts.raw.attach as f
 use Rattle.raw_region.proofs.Frames.{Owned, owned-laws}
+use Rattle.raw_region.proofs.Leaving.{all_gone}
 use Rattle.raw_region.proofs.Runs.{here}
 use Rattle.raw_region.proofs.Steps.{bare, fields_of, run_had, alone_had}
 use Rattle.raw_region.proofs.raw.attach.Code as code
 use Rattle.raw_region.proofs.raw.attach.Statement.{statement}
 
-abbrev stayed : Stays f.ended.signature.params f.ended.kept
-stayed = (stay_dropped (plain (λ _. R.the_row)) yes, (stay_dropped (plain (λ _. F.the_row)) yes, tt))
-
 pub attach_spec : {M : Type 1} → statement M
 attach_spec 𝓤 𝓛 𝓜 𝓡 wired =
+    let stayed = all_gone f.ended in
     let c = f.clauses 𝓛 𝓜.mem 𝓡.returns in let 𝓣 = tables 𝓤 𝓛.H 𝓜 𝓡 𝓡.env in
     let run_gone = Goes-blank 𝓛 0 (plain (λ _. R.the_row)) yes (λ κs x f. tt) in
     let frame_gone = Goes-blank 𝓛 0 (plain (λ _. F.the_row)) yes (λ κs x f. tt) in
-    proved_at 𝓛 f.ended stayed c 𝓜 𝓡 (run_gone, (frame_gone, tt)) f.Key.name code.function (code.unfolded 𝓤 𝓛.H 𝓜 𝓡 wired) (λ y are.
+    proved_at 𝓛 f.ended stayed c 𝓜 𝓡 (run_gone, (frame_gone, tt)) f.Key.name code.function
+    (code.unfolded 𝓤 𝓛.H 𝓜 𝓡 wired) (λ y are.
     let r = y.0.3.0 in let e = y.0.3.1.0 in let vss = y.0.4 in let xs = r.items in
-    let Fill = (r.home ≡ e.ptr) × (r.at ≡ 0) × (length xs ≡ e.len) in let Post = (walk_of 𝓛 f.ended stayed c).post y in
-    qed 𝓛 ((raw (alive 𝓛 f.signature y.0.0 y.0.1) ⊛ ‵ (owns (types_at f.signature.params y.0.0) y.0.3 vss)) ∷ raw (fact 𝓤 Fill) ∷ []) ∵
-    move ! (1 ∷ []) $ heard ! Fill (λ fill. split ! $ move ! (1 ∷ []) $
+    let Home = r.home ≡ e.ptr in let Start = r.at ≡ 0 in let Whole = length xs ≡ e.len in
+    let Post = (walk_of 𝓛 f.ended stayed c).post y in
+    qed 𝓛 ((raw (alive 𝓛 f.signature y.0.0 y.0.1) ⊛ ‵ (owns (types_at f.signature.params y.0.0) y.0.3 vss))
+    ∷ (raw (fact 𝓤 Home) ⊛ raw (fact 𝓤 Start) ⊛ raw (fact 𝓤 Whole)) ∷ []) ∵
+    move ! (1 ∷ []) $ split3 ! $
+    heard ! Home (λ home. heard ! Start (λ start. heard ! Whole (λ long. split ! $ move ! (1 ∷ []) $
     fsplit ! $ run_had ! r vss.0 (λ is. move ! (1 ∷ []) $ fsplit ! $
     -- [the frame; no parameter more; the bytes; the tokens]
     fsplit ! $ fpick ! (λ typed. drop ! $ fpick ! (λ i. fsplit ! $ feq_l ! (λ same.
     let Back = λ (ys : List ℕ). fsep (feq ℕ (length ys) e.len) (run_owns e.ptr ys) in
-    let Whole = λ (ys : List ℕ). (fields_of (Owned ∷ [])).own_val (with_items i.vec ys, tt) vss.1.0 in
-    let there : r.home +ₚ r.at ≡ e.ptr = (λ j. fill.0 j +ₚ fill.1 j) ∙ sym (here e.ptr) in
-    use1 𝓛 (‵ (fwand (Back xs) (Whole xs))) (all_e 𝓤 (λ ys. sem 𝓛 (fwand (Back ys) (Whole ys))) xs) $ move ! (2 ∷ []) $
-    rewrite ! 0 (λ p. ‵ (run_owns p xs)) there refl $ feq_i ! ℕ (length xs) e.len fill.2 $ fjoin ! $
-    use2 𝓛 (‵ (Whole xs)) (apply∗ 𝓤 (sem 𝓛 (Back xs)) (sem 𝓛 (Whole xs))) $
+    let Filled = λ (ys : List ℕ). (fields_of (Owned ∷ [])).own_val (with_items i.vec ys, tt) vss.1.0 in
+    let there : r.home +ₚ r.at ≡ e.ptr = (λ j. home j +ₚ start j) ∙ sym (here e.ptr) in
+    use1 𝓛 (‵ (fwand (Back xs) (Filled xs))) (all_e 𝓤 (λ ys. sem 𝓛 (fwand (Back ys) (Filled ys))) xs) $
+    move ! (2 ∷ []) $
+    rewrite ! 0 (λ p. ‵ (run_owns p xs)) there refl $ feq_i ! ℕ (length xs) e.len long $ fjoin ! $
+    use2 𝓛 (‵ (Filled xs)) (apply∗ 𝓤 (sem 𝓛 (Back xs)) (sem 𝓛 (Filled xs))) $
     alone_had ! Owned owned-laws (with_items i.vec xs) vss.1.0 (λ u is' fits. move ! (1 ∷ []) $ drop ! $
     regoal ! (λ (us : List Val). prop (WpFn 𝓤 𝓛.H 𝓣.C 𝓣.Λ code.function (us ++ (vss.1.0 ++ [])) Post)) is refl $
     regoal ! (λ (us : List Val). prop (WpFn 𝓤 𝓛.H 𝓣.C 𝓣.Λ code.function ((bare ∷ []) ++ (us ++ [])) Post)) is' refl $
@@ -62,5 +67,6 @@ attach_spec 𝓤 𝓛 𝓜 𝓡 wired =
     sets ! (of_opd ! (get_in ! (fld ! refl (stop !)) (sub ! 0 refl (whole !)))) refl fits $
     sets ! (of_opd ! (get ! refl)) refl fits $
     returns ! (look_at ! 0 refl) $ free_all ! refl $
-    suffices ! _ (ends_at 𝓛 f.ended stayed c y u (with_items i.vec xs) (tt, (tt, tt)) (tt, (tt, tt))) $ says ! (with_items_is i.vec xs (fill.2 ∙ sym same)) $
-    nothing ! $ nothing ! $ fjoin ! $ nothing ! $ fjoin ! $ move ! (2 ∷ 0 ∷ 1 ∷ []) $ done !))))))))
+    suffices ! _ (ends_at 𝓛 f.ended stayed c y u (with_items i.vec xs) (tt, (tt, tt)) (tt, (tt, tt))) $
+    says ! (with_items_is i.vec xs (long ∙ sym same)) $
+    nothing ! $ nothing ! $ fjoin ! $ nothing ! $ fjoin ! $ move ! (2 ∷ 0 ∷ 1 ∷ []) $ done !))))))))))

@@ -1,5 +1,5 @@
 -- The elements go out as a run, and the frame is the `Vec` without them. Assumes `Logic`.
-use Rattle.std.proofs.Common.{◌<◌, List, [], ◌∷◌, ◌++◌, refl, sym, subst}
+use Rattle.std.proofs.Common.{◌≡◌, ◌<◌, List, [], ◌∷◌, ◌++◌, refl, sym, subst}
 use Rattle.std.proofs.alloc.Calls.{Goes-blank}
 use Rattle.std.proofs.raw_atomic.Walks.{proved_at}
 use base.Fml.{ftrue}
@@ -15,11 +15,13 @@ use denote.Signature.{plain, types_at}
 use denote.Steps.{nothing, heard}
 use denote.Struct.Struct.{as_fields}
 use denote.Triple.Entry.{alive}
-use denote.Triple.Walked.{says, Stays, stay_dropped, walk_of, ends_at}
+use denote.Triple.Walked.{walk_of, ends_at}
 use mir.Val.{Val}
 use prog.Wp.{WpFn}
 use types.ByLocal.{alloc_all, pass_all, free_all, look_at, get, sets}
-use types.Kit.{‵, raw, ◌⊛◌, prop, ◌$◌, ◌∵◌, !, qed, move, drop, suffices, done, split, fsplit, fjoin, fpack, regoal, rewrite, use1}
+use types.Kit.{‵, group, raw, ◌⊛◌, prop, ◌$◌, ◌∵◌, !, qed, move, drop, suffices, done, split, fsplit, fjoin, fpack}
+use types.Kit.{regoal}
+use types.Kit.{rewrite, use1}
 use types.Part.{agg}
 use types.Run.{enter, returns, of_opd, no_more, and_then}
 use Rattle.raw_region.specs.Ownership.{run_owns}
@@ -28,28 +30,29 @@ use Rattle.raw_region.specs.contracts.raw.Run as R
 use Rattle.raw_region.specs.contracts.raw.detach as f
 use Rattle.raw_region.specs.declared.raw.Run.{Run}
 use Rattle.raw_region.proofs.Frames.{Owned, owned-laws, extent_of, framed}
+use Rattle.raw_region.proofs.Leaving.{all_gone, shown}
 use Rattle.raw_region.proofs.Runs.{here}
 use Rattle.raw_region.proofs.Steps.{bare, alone, beside, seen, run_made, pair_made}
 use Rattle.raw_region.proofs.raw.detach.Code as code
 use Rattle.raw_region.proofs.raw.detach.Statement.{statement}
 
-abbrev stayed : Stays f.ended.signature.params f.ended.kept
-stayed = (stay_dropped (plain (λ _. Owned)) yes, tt)
-
 pub detach_spec : {M : Type 1} → statement M
 detach_spec 𝓤 𝓛 𝓜 𝓡 wired =
+    let stayed = all_gone f.ended in
     let c = f.clauses 𝓛 𝓜.mem 𝓡.returns in let 𝓣 = tables 𝓤 𝓛.H 𝓜 𝓡 𝓡.env in
     let gone = Goes-blank 𝓛 0 (plain (λ _. Owned)) yes (λ κs x f. tt) in
     proved_at 𝓛 f.ended stayed c 𝓜 𝓡 (gone, tt) f.Key.name code.function (code.unfolded 𝓤 𝓛.H 𝓜 𝓡 wired) (λ y are.
     let v = y.0.3.0 in let vss = y.0.4 in let Some = 0 < v.len in let Post = (walk_of 𝓛 f.ended stayed c).post y in
     let run : Run = record { home = v.ptr; at = 0; items = v.items } in
-    qed 𝓛 ((raw (alive 𝓛 f.signature y.0.0 y.0.1) ⊛ ‵ (owns (types_at f.signature.params y.0.0) y.0.3 vss)) ∷ raw (fact 𝓤 Some) ∷ []) ∵
+    qed 𝓛 ((raw (alive 𝓛 f.signature y.0.0 y.0.1) ⊛ ‵ (owns (types_at f.signature.params y.0.0) y.0.3 vss))
+    ∷ raw (fact 𝓤 Some) ∷ []) ∵
     move ! (1 ∷ []) $ heard ! Some (λ some. split ! $ move ! (1 ∷ []) $
     fsplit ! $ seen ! Owned owned-laws v vss.0 (λ u is fits. move ! (1 ∷ []) $ drop ! $
     let inner = as_fields (layout Owned ∷ []) (u ∷ []) (fits, tt) in
     use1 𝓛 (‵ (run_owns v.ptr v.items) ⊛ ‵ (F.the_own (extent_of v) (alone u ∷ []))) (framed 𝓛 v u some) $ split ! $
     in_a_block ! v.ptr (λ p. run_owns p v.items) (id⊢ 𝓤 (never 𝓤)) (λ b o placed.
-    rewrite ! 0 (λ p. ‵ (run_owns p v.items)) (sym placed) refl $ rewrite ! 0 (λ p. ‵ (run_owns p v.items)) (here v.ptr) refl $ run_made ! run $
+    rewrite ! 0 (λ p. ‵ (run_owns p v.items)) (sym placed) refl $
+    rewrite ! 0 (λ p. ‵ (run_owns p v.items)) (here v.ptr) refl $ run_made ! run $
     -- [the run; what the frame owns; the tokens]
     move ! (1 ∷ []) $ nothing ! $ fpack ! (Typed F.the_row.mir (alone u ∷ [])) (λ _. ftrue) (inner, tt) $ fjoin ! $
     move ! (1 ∷ 0 ∷ []) $ pair_made ! R.the_row F.the_row run (extent_of v) bare (alone u) $
@@ -58,8 +61,12 @@ detach_spec 𝓤 𝓛 𝓜 𝓡 wired =
     sets ! (agg ! (no_more !)) refl (tt, tt) $
     sets ! (of_opd ! (get ! refl)) refl fits $
     sets ! (agg ! (and_then ! (get ! refl) (no_more !))) refl inner $
-    sets ! (agg ! (and_then ! (get ! refl) (and_then ! (get ! refl) (no_more !)))) refl (as_fields (layout R.the_row ∷ layout F.the_row ∷ []) (bare ∷ alone u ∷ []) ((tt, tt), (inner, tt))) $
+    sets ! (agg ! (and_then ! (get ! refl) (and_then ! (get ! refl) (no_more !)))) refl
+    (as_fields (layout R.the_row ∷ layout F.the_row ∷ []) (bare ∷ alone u ∷ []) ((tt, tt), (inner, tt))) $
     returns ! (look_at ! 0 refl) $ free_all ! refl $
     suffices ! _ (ends_at 𝓛 f.ended stayed c y (beside bare (alone u)) (run, extent_of v) (tt, tt) (tt, tt)) $
-    says ! (refl, refl, refl, refl, refl, subst InBlock (sym placed) tt) $
-    nothing ! $ nothing ! $ fjoin ! $ move ! (2 ∷ 0 ∷ 1 ∷ []) $ done !)))))
+    nothing ! $ nothing ! $ fjoin ! $ move ! (2 ∷ 0 ∷ 1 ∷ []) $ group ! 3 $
+    shown 𝓛 (InBlock v.ptr) (subst InBlock (sym placed) tt) $ shown 𝓛 ((extent_of v).len ≡ v.len) refl $
+    shown 𝓛 ((extent_of v).ptr ≡ v.ptr) refl $ shown 𝓛 (run.items ≡ v.items) refl $
+    shown 𝓛 (run.at ≡ 0) refl $ shown 𝓛 (run.home ≡ v.ptr) refl $
+    move ! (6 ∷ []) $ done !)))))

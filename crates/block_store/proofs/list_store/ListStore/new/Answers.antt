@@ -4,11 +4,11 @@ use Rattle.block_store.specs.Block.{Masters, Free, sizes, tidy, count, is_master
 use Rattle.block_store.specs.Run.{has}
 use Rattle.block_store.specs.Slot.{is_used}
 use Rattle.block_store.specs.Compact.{Aligned, Placed}
-use Rattle.block_store.specs.declared.entries.Entry.TheVariants as entry
+use Rattle.block_store.specs.declared.entries.StoredBlock.TheVariants as entry
 use Rattle.block_store.specs.declared.slots.SlotEntry.TheVariants as slot_entry
-use Rattle.block_store.specs.ListStore.{blocks_of, slots_of}
-use Rattle.block_store.proofs.Spots.{free-some}
-use Rattle.block_store.proofs.Apart.{free-apart}
+use Rattle.block_store.specs.Inner.ListStore.{blocks_of, slots_of}
+use Rattle.block_store.proofs.Zone.Spots.{free-some}
+use Rattle.block_store.proofs.Zone.Apart.{free-apart}
 use Rattle.block_store.proofs.SlotLists.{fresh-unused}
 use Rattle.block_store.proofs.list_store.ListStore.new.Goals as goal
 

@@ -1,7 +1,7 @@
 use Rattle.std.proofs.Common.{ap}
-use Rattle.block_store.specs.ListStore.{blocks_of}
-use Rattle.block_store.proofs.Filling.{on_err-map}
-use Rattle.block_store.proofs.FixedBlocks.{lawful-masters, slots-more}
+use Rattle.std.proofs.lemmas.Result.{on_err_weaker}
+use Rattle.block_store.specs.Inner.ListStore.{blocks_of}
+use Rattle.block_store.proofs.Nonrelocatable.FixedBlocks.{lawful-masters, slots-more}
 use Rattle.block_store.proofs.list_store.ListStoreBlockStore.add_masters.Goals as goal
 
 pub invariant_of-self : goal.invariant_of-self
@@ -9,7 +9,7 @@ invariant_of-self c =
     let self = c.args.self.now in
     let put = c.put_masters in
     let lawful = lawful-masters put.result self.slots.items put.new.slots.items self.bytes (blocks_of self.blocks.items) (blocks_of put.new.entries.items) c.args.place
-    (record { covered = self.covered; masters = self.masters; no_block = self.no_block; once = self.once; tidied = self.tidied; aligned = self.aligned; placed = self.placed }) put.ensures.more put.ensures.same c.requires put.ensures.ok (on_err-map put.result (ap blocks_of) put.ensures.err) in
+    (record { covered = self.covered; masters = self.masters; no_block = self.no_block; once = self.once; tidied = self.tidied; aligned = self.aligned; placed = self.placed }) put.ensures.more put.ensures.same c.requires put.ensures.ok (on_err_weaker put.result (ap blocks_of) put.ensures.err) in
     record { covered = lawful.covered; small = self.small; masters = lawful.masters; no_block = lawful.no_block; once = lawful.once; tidied = lawful.tidied; aligned = lawful.aligned; placed = lawful.placed }
 
 pub returns-clause-slots : goal.returns-clause-slots

@@ -1,7 +1,7 @@
 use Rattle.std.proofs.Common.{◌≡◌, ◌∙◌, sym, ap, []}
 use Rattle.block_store.specs.Block.{content_of}
-use Rattle.block_store.specs.ListStore.{block_of}
-use Rattle.block_store.proofs.Spots.{at_entry, content-other}
+use Rattle.block_store.specs.Inner.ListStore.{block_of}
+use Rattle.block_store.proofs.Zone.Spots.{at_entry, content-other}
 use Rattle.block_store.proofs.list_store.ListStoreBlockStore.bytes.Goals as goal
 
 pub returns-in-Fixed : goal.returns-in-Fixed

@@ -2,9 +2,9 @@ use Rattle.std.proofs.Common.{◌∙◌, slice_set, refl}
 use Rattle.std.proofs.lemmas.List.{length-set}
 use Rattle.block_store.specs.declared.slots.SlotEntry.TheVariants as slot_entry
 use Rattle.block_store.specs.Slot.{Unused}
-use Rattle.block_store.specs.ListStore.{blocks_of, slots_of}
+use Rattle.block_store.specs.Inner.ListStore.{blocks_of, slots_of}
 use Rattle.block_store.proofs.SlotLists.{slots_of-set, within-used, unused-set}
-use Rattle.block_store.proofs.Leading.{none-set}
+use Rattle.block_store.proofs.Zone.Leading.{none-set}
 use Rattle.block_store.proofs.list_store.ListStoreBlockStore.give_slot.Goals as goal
 
 pub invariant_of-self : goal.invariant_of-self

@@ -3,8 +3,8 @@ use Rattle.std.specs.Option.{option_map}
 use Rattle.block_store.specs.Block.{sizes}
 use Rattle.block_store.specs.Run.{RunSpot}
 use Rattle.block_store.specs.Compact.{nth_run}
-use Rattle.block_store.specs.ListStore.{blocks_of}
-use Rattle.block_store.proofs.RunSpots.{finds_nth}
+use Rattle.block_store.specs.Inner.ListStore.{blocks_of}
+use Rattle.block_store.proofs.Regroup.RunSpots.{finds_nth}
 use Rattle.block_store.proofs.list_store.ListStoreBlockStore.nth_run.Goals as goal
 
 pub returns : goal.returns

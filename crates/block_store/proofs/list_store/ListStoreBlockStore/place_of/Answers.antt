@@ -2,9 +2,9 @@ use Rattle.std.proofs.Common.{◌∙◌, ap}
 use Rattle.std.specs.Option.{option_map}
 use Rattle.block_store.specs.Block.{is_relocatable, sizes}
 use Rattle.block_store.specs.Room.{Spot, spot}
-use Rattle.block_store.specs.ListStore.{blocks_of}
-use Rattle.block_store.proofs.Apart.{apart-tidied}
-use Rattle.block_store.proofs.Spots.{finds}
+use Rattle.block_store.specs.Inner.ListStore.{blocks_of}
+use Rattle.block_store.proofs.Zone.Apart.{apart-tidied}
+use Rattle.block_store.proofs.Zone.Spots.{finds}
 use Rattle.block_store.proofs.list_store.ListStoreBlockStore.place_of.Goals as goal
 
 pub returns : goal.returns

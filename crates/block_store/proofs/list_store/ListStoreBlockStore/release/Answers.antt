@@ -2,14 +2,14 @@ use Rattle.std.proofs.Common.{◌≤◌, ◌*◌, ◌∙◌, subst, sym, ap, ref
 use Rattle.block_store.specs.Block.{is_relocatable, is_masters, sizes, tidy, size, count}
 use Rattle.block_store.specs.Run.{has}
 use Rattle.block_store.specs.Grow.{freed}
-use Rattle.block_store.specs.ListStore.{blocks_of}
+use Rattle.block_store.specs.Inner.ListStore.{blocks_of}
 use Rattle.block_store.specs.Compact.{Aligned, Placed}
-use Rattle.block_store.proofs.Aligned.{aligned-tidy, aligned-freed}
-use Rattle.block_store.proofs.Placing.{placed-tidy, placed-freed}
-use Rattle.block_store.proofs.Apart.{tidy-tidy}
-use Rattle.block_store.proofs.Tidy.{total-tidy}
-use Rattle.block_store.proofs.Listing.{size-freed}
-use Rattle.block_store.proofs.Leading.{released-none, released-once, masters-released}
+use Rattle.block_store.proofs.Zone.Aligned.{aligned-tidy, aligned-freed}
+use Rattle.block_store.proofs.Nonrelocatable.Placing.{placed-tidy, placed-freed}
+use Rattle.block_store.proofs.Zone.Apart.{tidy-tidy}
+use Rattle.block_store.proofs.Zone.Tidy.{total-tidy}
+use Rattle.block_store.proofs.Zone.Listing.{size-freed}
+use Rattle.block_store.proofs.Zone.Leading.{released-none, released-once, masters-released}
 use Rattle.block_store.proofs.list_store.ListStoreBlockStore.release.Goals as goal
 
 pub tidy_entries-requires : goal.tidy_entries-requires

@@ -1,6 +1,7 @@
 use Rattle.std.proofs.Common.{length}
-use Rattle.block_store.specs.ListStore.{blocks_of, slots_of}
-use Rattle.block_store.proofs.Repacked.{lawful-settled, none-rises}
+use Rattle.block_store.specs.Inner.ListStore.{blocks_of, slots_of}
+use Rattle.block_store.proofs.Regroup.Repacked.{lawful-settled, none-rises}
+use Rattle.block_store.proofs.Regroup.Lowered.{settle-counted}
 use Rattle.block_store.proofs.list_store.ListStoreBlockStore.settle.Goals as goal
 
 pub invariant_of-self : goal.invariant_of-self
@@ -12,3 +13,8 @@ invariant_of-self c =
 
 pub returns-clause-lower : goal.returns-clause-lower
 returns-clause-lower c = none-rises (blocks_of c.args.self.now.blocks.items) (blocks_of c.settle_run-falls.new.entries.items) c.args.run c.requires c.settle_run-falls.ensures.zone
+
+pub returns-clause-counted : goal.returns-clause-counted
+returns-clause-counted c =
+    let self = c.args.self.now in
+    settle-counted (blocks_of self.blocks.items) (blocks_of c.settle_run-falls.new.entries.items) c.args.run self.once self.tidied c.settle_run-falls.ensures.zone

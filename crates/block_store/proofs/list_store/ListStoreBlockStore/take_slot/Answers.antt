@@ -3,9 +3,9 @@ use Rattle.std.proofs.lemmas.List.{length-set}
 use Rattle.block_store.specs.declared.slots.SlotEntry.{SlotEntry}
 use Rattle.block_store.specs.declared.slots.SlotEntry.TheVariants as slot_entry
 use Rattle.block_store.specs.Slot.{Unused, Used, is_used}
-use Rattle.block_store.specs.ListStore.{blocks_of, slots_of}
+use Rattle.block_store.specs.Inner.ListStore.{blocks_of, slots_of}
 use Rattle.block_store.proofs.SlotLists.{slots_of-set, unused-taken}
-use Rattle.block_store.proofs.Leading.{none-set, masters-few}
+use Rattle.block_store.proofs.Zone.Leading.{none-set, masters-few}
 use Rattle.block_store.proofs.list_store.ListStoreBlockStore.take_slot.Goals as goal
 
 pub invariant_of-self : goal.invariant_of-self

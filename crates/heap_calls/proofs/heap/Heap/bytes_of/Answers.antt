@@ -3,8 +3,8 @@ use Rattle.std.specs.Option.{IsSome}
 use Rattle.block_store.specs.Block.{content_of}
 use Rattle.block_store.specs.Room.{Spot}
 use Rattle.heap_calls.specs.Pointers.{pointed_at}
-use Rattle.heap_calls.proofs.Answering.{at_place, content_of-rename}
-use Rattle.heap_calls.proofs.Pointing.{pointer-held, target_in, on_held}
+use Rattle.heap_calls.proofs.Numbering.Answering.{at_place, content_of-rename}
+use Rattle.heap_calls.proofs.Numbering.Pointing.{pointer-held, target_in, on_held}
 use Rattle.heap_calls.proofs.heap.Heap.bytes_of.Goals as goal
 
 pub bytes-requires : goal.bytes-requires

@@ -1,16 +1,19 @@
 use Rattle.std.proofs.Common.{◌≡◌, ◌+◌, sym, ◌∙◌, ap, Ok, arith}
 use Rattle.mac_words.specs.declared.code.TheConstants.OsErr.{NO_ERR}
 use Rattle.block_store.specs.Run.{runs}
-use Rattle.block_store.specs.Compact.{compacted, runs_settled}
+use Rattle.block_store.specs.Compact.{compacted, falls, runs_settled}
 use Rattle.heap_calls.specs.State.{Memory}
 use Rattle.heap_calls.specs.Answer.{compact_mem, noting}
+use Rattle.heap_calls.specs.Moves.{compact_mem_moves}
 use Rattle.heap_calls.specs.Searches.{stretches, compact_mem_searches}
-use Rattle.heap_calls.specs.Numbered.{memory_of, handle_number, pointer_number}
-use Rattle.heap_calls.proofs.Changing.{agrees-kept}
-use Rattle.heap_calls.proofs.Staying.{fixed-settled, fixed-same, fixed-then}
-use Rattle.heap_calls.proofs.Largest.{compact_mem-done, settled_stretches-rename}
-use Rattle.heap_calls.proofs.PurgeTrials.{searching-done, runs_settled-few}
-use Rattle.heap_calls.proofs.Stretches.{stretches-le}
+use Rattle.heap_calls.specs.Inner.Numbered.{memory_of, handle_number, pointer_number}
+use Rattle.heap_calls.proofs.Numbering.Changing.{agrees-kept, unmoved, unmoved-is}
+use Rattle.heap_calls.proofs.Room.MoveCounts.{moving-done}
+use Rattle.heap_calls.proofs.Numbering.MoveNames.{settled_falls-rename}
+use Rattle.heap_calls.proofs.Room.Staying.{fixed-settled, fixed-same, fixed-then}
+use Rattle.heap_calls.proofs.Numbering.Largest.{compact_mem-done, settled_stretches-rename}
+use Rattle.heap_calls.proofs.Numbering.PurgeTrials.{searching-done, runs_settled-few}
+use Rattle.heap_calls.proofs.Room.Stretches.{stretches-le}
 use Rattle.heap_calls.proofs.heap.Heap.compact_mem.Goals as goal
 
 pub overflow_add-stretches : goal.overflow_add-stretches
@@ -23,16 +26,22 @@ returns g c =
     let a = c.self.inside in
     let zone = g.S.BlockStore.zone a.store in
     let zone' = g.S.BlockStore.zone c.compact-stretches.new.store in
+    let rest = g.S.BlockStore.rest a.store in
     let rest' = g.S.BlockStore.rest c.compact-stretches.new.store in
     let es = a.names.items in
     let searches : compact_mem_searches c.args.size c.args.self.now.heap ≡ c.compact-stretches.result + 1 =
     ap (λ (m : Memory). compact_mem_searches c.args.size m.heap) (sym c.self.view_is)
     ∙ ap (λ k. k + 1) (settled_stretches-rename (handle_number es) (pointer_number es) _ zone ∙ ap (λ p. stretches (runs_settled p zone) (runs zone)) (sym c.phys.ensures) ∙ sym c.compact-stretches.ensures.runs) in
+    let moves : compact_mem_moves c.args.size c.args.self.now.heap ≡ falls (runs_settled c.phys.result zone) (runs zone) =
+    ap (λ (m : Memory). compact_mem_moves c.args.size m.heap) (sym c.self.view_is)
+    ∙ settled_falls-rename (handle_number es) (pointer_number es) _ zone ∙ ap (λ p. falls (runs_settled p zone) (runs zone)) (sym c.phys.ensures) in
     record {
-      answer = searching-done _ _ (noting (compact_mem c.args.size) c.args.self.now) (Ok c.saturating_sub-most.result) (memory_of zone' rest' es (record a.log { code = NO_ERR })) (memory_of zone' rest' es c.count.new.self)
-          (compact_mem-done c.args.self.now c.args.size zone zone' (g.S.BlockStore.rest a.store) rest' es a.log c.largest_free.result c.saturating_sub-most.result
-          c.self.view_is (c.compact-stretches.ensures.zone ∙ ap (λ p. compacted p zone) c.phys.ensures) c.compact-stretches.ensures.rest c.largest_free.ensures c.saturating_sub-most.ensures)
-          searches (ap (memory_of zone' rest' es) c.count.ensures);
+      answer = moving-done _ _ _ (Ok c.saturating_sub-most.result) zone' rest rest' es c.count.new.self
+          (searching-done _ _ (noting (compact_mem c.args.size) c.args.self.now) (Ok c.saturating_sub-most.result) (memory_of zone' (unmoved rest rest') es (record a.log { code = NO_ERR })) (memory_of zone' (unmoved rest rest') es c.count.new.self)
+          (compact_mem-done c.args.self.now c.args.size zone zone' rest (unmoved rest rest') es a.log c.largest_free.result c.saturating_sub-most.result
+          c.self.view_is (c.compact-stretches.ensures.zone ∙ ap (λ p. compacted p zone) c.phys.ensures) (unmoved-is rest rest' c.compact-stretches.ensures.rest) c.largest_free.ensures c.saturating_sub-most.ensures)
+          searches (ap (memory_of zone' (unmoved rest rest') es) c.count.ensures))
+          moves c.compact-stretches.ensures.moves;
     }
 
 pub invariant_of-self : goal.invariant_of-self

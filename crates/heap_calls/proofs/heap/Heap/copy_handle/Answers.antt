@@ -1,15 +1,20 @@
-use Rattle.std.proofs.Common.{rules, Fits, w64, ◌≡◌, ℕ, ◌≤◌, ◌<◌, length, Some, None, sym, ◌∙◌, ap, subst, arith, inr, Ok, Err, Option, List}
+use Rattle.std.proofs.Common.{rules, Fits, w64, refl, ◌≡◌, ℕ, ◌≤◌, ◌<◌, length, Some, None, sym, ◌∙◌, ap, subst, arith, inr, Ok, Err, Option, List}
 use Rattle.std.proofs.lemmas.Result.{err_from_is_err_and}
 use Rattle.mac_words.specs.declared.code.TheConstants.OsErr.{NIL_HANDLE, MEM_FULL}
 use Rattle.block_store.specs.Block.{content_of}
-use Rattle.heap_calls.specs.declared.name.Entry.{Entry}
+use Rattle.heap_calls.specs.declared.anchor.Anchor.{Anchor}
 use Rattle.heap_calls.specs.Copying.{hand_to_hand}
-use Rattle.heap_calls.specs.Copied.{IsCopy}
+use Rattle.heap_calls.specs.Inner.Copied.{IsCopy}
 use Rattle.heap_calls.specs.Searches.{hand_to_hand_searches}
-use Rattle.heap_calls.specs.Numbered.{state_of, memory_of, no_number, Agrees}
-use Rattle.heap_calls.proofs.Answering.{at_place}
-use Rattle.heap_calls.proofs.NewHandles.{searched-done, with_handle, agrees-more, kept-memory, one-more}
-use Rattle.heap_calls.proofs.CopiedHandles.{copy-refused, copy-not_found, copy-nil, slot-in, source-few, copy-none, copy-agrees, copy-window, copied-done, copy_searches-is}
+use Rattle.heap_calls.specs.Inner.Numbered.{state_of, memory_of, no_number, Agrees}
+use Rattle.heap_calls.proofs.Numbering.Answering.{at_place}
+use Rattle.heap_calls.proofs.NewBlocks.NewHandles.{searched-done, with_handle, agrees-more, kept-memory, one-more}
+use Rattle.heap_calls.proofs.NewBlocks.CopiedHandles.{copy-refused, copy-not_found, copy-nil, slot-in, source-few, copy-none, copy-agrees, copy-window, copied-done, copy_searches-is, copy_moves-is, copy-still, not_found-still}
+use Rattle.heap_calls.specs.State.{Memory}
+use Rattle.heap_calls.specs.Moves.{hand_to_hand_moves}
+use Rattle.heap_calls.specs.declared.refusal.Refusal.TheVariants.{Code}
+use Rattle.heap_calls.proofs.Numbering.Changing.{unmoved}
+use Rattle.heap_calls.proofs.Room.MoveCounts.{moving-done, not-moved}
 use Rattle.heap_calls.proofs.heap.Heap.copy_handle.Goals as goal
 
 pub returns-in_err-found-clause-answer : goal.returns-in_err-found-clause-answer
@@ -18,8 +23,11 @@ returns-in_err-found-clause-answer g c =
     let a = c.self.inside in
     let fits : Fits w64 a.log.searches = search rules in
     rw (p.1, p.2)
+    (not-moved _ _ c.in_err-found.field-0.0 c.args.self.now (g.S.BlockStore.zone a.store) (g.S.BlockStore.rest a.store) a.names.items a.log c.self.view_is
     (copy-not_found c.args.self.now (g.S.BlockStore.zone a.store) (g.S.BlockStore.rest a.store) a.names.items c.deref.result.now a.log c.args.handle c.in_err-found.field-0.0 c.self.view_is (omega (arith, fits)) c.deref.ensures.value
     (sym c.slot_of.ensures ∙ c.in_err-found.was))
+    (not_found-still c.args.self.now (g.S.BlockStore.zone a.store) (g.S.BlockStore.rest a.store) a.names.items c.deref.result.now a.log c.args.handle c.in_err-found.field-0.0 c.self.view_is c.deref.ensures.value
+    (sym c.slot_of.ensures ∙ c.in_err-found.was)) (omega arith))
 
 pub returns-in_default-clause-answer : goal.returns-in_default-clause-answer
 returns-in_default-clause-answer g c =
@@ -30,8 +38,10 @@ returns-in_default-clause-answer g c =
     let f = c.in_ok-found.found in
     let is = slot-in es c.deref.result.now c.args.handle f c.deref.ensures.value (sym c.slot_of.ensures ∙ c.in_ok-found.was) in
     let fits : Fits w64 a.log.searches = search rules in
-    copy-refused c.args.self.now zone rest es a.log c.args.handle NIL_HANDLE c.self.view_is (omega (arith, fits))
-    (copy-nil zone rest es c.args.handle f.number f.slot is.0 is.1 c.self.invariant (omega arith) c.in_default.ensures)
+    let none = copy-nil zone rest es c.args.handle f.number f.slot is.0 is.1 c.self.invariant (omega arith) c.in_default.ensures in
+    not-moved _ _ (Code NIL_HANDLE) c.args.self.now zone rest es a.log c.self.view_is
+    (copy-refused c.args.self.now zone rest es a.log c.args.handle NIL_HANDLE c.self.view_is (omega (arith, fits)) none)
+    (λ code is. copy-still c.args.self.now zone rest es a.log c.args.handle NIL_HANDLE c.self.view_is none) (omega arith)
 
 pub overflow_cast-size : goal.overflow_cast-size
 overflow_cast-size g c =
@@ -44,14 +54,14 @@ overflow_cast-size g c =
 pub returns-in_err-reserve-clause-host : goal.returns-in_err-reserve-clause-host
 returns-in_err-reserve-clause-host g c host =
     let a = c.self.inside in
-    inr (ap (λ (l : List Entry). memory_of (g.S.BlockStore.zone a.store) (g.S.BlockStore.rest a.store) l a.log) c.reserve.ensures.items ∙ c.self.view_is)
+    inr (ap (λ (l : List Anchor). memory_of (g.S.BlockStore.zone a.store) (g.S.BlockStore.rest a.store) l a.log) c.reserve.ensures.items ∙ c.self.view_is)
 
 pub invariant_of-self-in_err-made : goal.invariant_of-self-in_err-made
 invariant_of-self-in_err-made g c =
     let a = c.self.inside in
     let rest' = g.S.BlockStore.rest c.copy_block.new.store in
-    let P : List Entry → Type 0 = λ l. Agrees (g.S.BlockStore.zone c.copy_block.new.store) rest' l in
-    subst P (sym {A = List Entry} c.in_ok-reserve.ensures.items) (agrees-more (g.S.BlockStore.zone c.copy_block.new.store) (g.S.BlockStore.rest a.store) rest' a.names.items c.self.invariant c.copy_block.ensures.fixed c.in_err-made.ensures.kept)
+    let P : List Anchor → Type 0 = λ l. Agrees (g.S.BlockStore.zone c.copy_block.new.store) rest' l in
+    subst P (sym {A = List Anchor} c.in_ok-reserve.ensures.items) (agrees-more (g.S.BlockStore.zone c.copy_block.new.store) (g.S.BlockStore.rest a.store) rest' a.names.items c.self.invariant c.copy_block.ensures.fixed c.in_err-made.ensures.kept)
 
 pub returns-in_err-made-clause-kept : goal.returns-in_err-made-clause-kept
 returns-in_err-made-clause-kept g c host =
@@ -78,8 +88,8 @@ invariant_of-self-in_default-slot g c =
     let P : Option ℕ → Type 0 = λ o. IsCopy f.slot n zone rest o zone' rest' in
     let none : P None = subst P c.in_default-slot.is c.in_ok-made.ensures.answer in
     let refused = copy-none zone rest es masters c.self.invariant c.args.handle f.number f.slot n is.0 is.1 small there.0 there.1 long few zone' rest' c.copy_block.ensures.fixed none in
-    let Q : List Entry → Type 0 = λ l. Agrees (g.S.BlockStore.zone c.copy_block.new.store) rest' l in
-    subst Q (sym {A = List Entry} c.in_ok-reserve.ensures.items) refused.1
+    let Q : List Anchor → Type 0 = λ l. Agrees (g.S.BlockStore.zone c.copy_block.new.store) rest' l in
+    subst Q (sym {A = List Anchor} c.in_ok-reserve.ensures.items) refused.1
 
 pub returns-in_default-slot-clause-answer : goal.returns-in_default-slot-clause-answer
 returns-in_default-slot-clause-answer g c =
@@ -101,9 +111,11 @@ returns-in_default-slot-clause-answer g c =
     let none : P None = subst P c.in_default-slot.is c.in_ok-made.ensures.answer in
     let refused = copy-none zone rest es masters c.self.invariant c.args.handle f.number f.slot n is.0 is.1 small there.0 there.1 long few zone' rest' c.copy_block.ensures.fixed none in
     let searches = copy_searches-is zone rest es masters c.self.invariant c.args.handle f.number f.slot n is.0 is.1 small there.0 there.1 long few in
-    searched-done (hand_to_hand c.args.handle) (hand_to_hand_searches c.args.handle) c.args.self.now zone zone' rest rest' es es a.log c.count.new.self (Err MEM_FULL) c.in_ok-made.made.searches c.self.view_is
-    refused.0 refused.2 (c.in_ok-made.ensures.searches ∙ sym searches) c.count.ensures
-    ∙ ap (λ (l : List Entry). (Err MEM_FULL, memory_of zone' rest' l c.count.new.self)) (sym {A = List Entry} c.in_ok-reserve.ensures.items)
+    moving-done _ _ _ (Err MEM_FULL) zone' rest rest' es c.count.new.self
+    (searched-done (hand_to_hand c.args.handle) (hand_to_hand_searches c.args.handle) c.args.self.now zone zone' rest (unmoved rest rest') es es a.log c.count.new.self (Err MEM_FULL) c.in_ok-made.made.searches c.self.view_is
+    refused.0 refused.2 refl (c.in_ok-made.ensures.searches ∙ sym searches) c.count.ensures)
+    (ap (λ (m : Memory). hand_to_hand_moves c.args.handle m.heap) (sym c.self.view_is) ∙ copy_moves-is zone rest es masters c.self.invariant c.args.handle f.number f.slot n is.0 is.1 small there.0 there.1 long few) c.in_ok-made.ensures.moves
+    ∙ ap (λ (l : List Anchor). (Err MEM_FULL, memory_of zone' rest' l c.count.new.self)) (sym {A = List Anchor} c.in_ok-reserve.ensures.items)
 
 pub invariant_of-self-2 : goal.invariant_of-self-2
 invariant_of-self-2 g c =
@@ -125,8 +137,8 @@ invariant_of-self-2 g c =
     let P : Option ℕ → Type 0 = λ o. IsCopy f.slot n zone rest o zone' rest' in
     let done : P (Some slot) = subst P c.in-Some-slot.is c.in_ok-made.ensures.answer in
     let items : c.push_reserved.new.self.items ≡ with_handle es slot = one-more es c.reserve.new.self.items c.push_reserved.new.self.items slot c.in_ok-reserve.ensures.items c.push_reserved.ensures.items in
-    let Q : List Entry → Type 0 = λ l. Agrees (g.S.BlockStore.zone c.copy_block.new.store) rest' l in
-    subst Q (sym {A = List Entry} items) (copy-agrees zone rest es masters c.self.invariant c.args.handle f.number f.slot n is.0 is.1 small there.0 there.1 long few zone' rest' c.copy_block.ensures.fixed slot done)
+    let Q : List Anchor → Type 0 = λ l. Agrees (g.S.BlockStore.zone c.copy_block.new.store) rest' l in
+    subst Q (sym {A = List Anchor} items) (copy-agrees zone rest es masters c.self.invariant c.args.handle f.number f.slot n is.0 is.1 small there.0 there.1 long few zone' rest' c.copy_block.ensures.fixed slot done)
 
 pub returns-clause-answer : goal.returns-clause-answer
 returns-clause-answer g c =
@@ -150,8 +162,10 @@ returns-clause-answer g c =
     let items : c.push_reserved.new.self.items ≡ with_handle es slot = one-more es c.reserve.new.self.items c.push_reserved.new.self.items slot c.in_ok-reserve.ensures.items c.push_reserved.ensures.items in
     let number : length es ≡ c.len-number.result = omega arith in
     let searches = copy_searches-is zone rest es masters c.self.invariant c.args.handle f.number f.slot n is.0 is.1 small there.0 there.1 long few in
-    searched-done (hand_to_hand c.args.handle) (hand_to_hand_searches c.args.handle) c.args.self.now zone zone' rest rest' es (with_handle es slot) a.log c.count.new.self (Ok c.len-number.result) c.in_ok-made.made.searches c.self.view_is
+    moving-done _ _ _ (Ok c.len-number.result) zone' rest rest' (with_handle es slot) c.count.new.self
+    (searched-done (hand_to_hand c.args.handle) (hand_to_hand_searches c.args.handle) c.args.self.now zone zone' rest (unmoved rest rest') es (with_handle es slot) a.log c.count.new.self (Ok c.len-number.result) c.in_ok-made.made.searches c.self.view_is
     (copied-done zone rest es masters c.self.invariant c.args.handle f.number f.slot n is.0 is.1 small there.0 there.1 long few zone' rest' c.copy_block.ensures.fixed slot done ∙ ap (λ (k : ℕ). (Ok k, state_of zone' rest'.slots (with_handle es slot))) number)
-    (copy-window zone rest es masters c.self.invariant c.args.handle f.number f.slot n is.0 is.1 small there.0 there.1 long few zone' rest' c.copy_block.ensures.fixed slot done)
-    (c.in_ok-made.ensures.searches ∙ sym searches) c.count.ensures
-    ∙ ap (λ (l : List Entry). (Ok c.len-number.result, memory_of zone' rest' l c.count.new.self)) (sym {A = List Entry} items)
+    (copy-window zone rest es masters c.self.invariant c.args.handle f.number f.slot n is.0 is.1 small there.0 there.1 long few zone' rest' c.copy_block.ensures.fixed slot done) refl
+    (c.in_ok-made.ensures.searches ∙ sym searches) c.count.ensures)
+    (ap (λ (m : Memory). hand_to_hand_moves c.args.handle m.heap) (sym c.self.view_is) ∙ copy_moves-is zone rest es masters c.self.invariant c.args.handle f.number f.slot n is.0 is.1 small there.0 there.1 long few) c.in_ok-made.ensures.moves
+    ∙ ap (λ (l : List Anchor). (Ok c.len-number.result, memory_of zone' rest' l c.count.new.self)) (sym {A = List Anchor} items)

@@ -1,15 +1,15 @@
 use Rattle.std.proofs.Common.{Ok, Err, ◌∙◌, ap}
 use Rattle.std.proofs.lemmas.Result.{err_from_is_err_and}
 use Rattle.heap_calls.specs.Purging.{empty_handle}
-use Rattle.heap_calls.specs.Numbered.{state_of}
-use Rattle.block_store.proofs.Renaming.{tidy-rename}
-use Rattle.heap_calls.proofs.Loosening.{loose_in, loose_refused, emptied_answer, empty_handle-loose, empty_handle-done}
+use Rattle.heap_calls.specs.Inner.Numbered.{state_of}
+use Rattle.block_store.proofs.Renamed.Renaming.{tidy-rename}
+use Rattle.heap_calls.proofs.Numbering.Loosening.{loose_in, loose_refused, emptied_answer, empty_handle-loose, empty_handle-done}
 use Rattle.block_store.specs.Block.{rename}
-use Rattle.heap_calls.specs.Numbered.{handle_number, pointer_number}
+use Rattle.heap_calls.specs.Inner.Numbered.{handle_number, pointer_number}
 use Rattle.block_store.specs.Block.{tidy, is_relocatable}
 use Rattle.block_store.specs.Grow.{freed}
-use Rattle.heap_calls.proofs.Changing.{agrees-same}
-use Rattle.heap_calls.proofs.Staying.{fixed-released, fixed-same, fixed-then}
+use Rattle.heap_calls.proofs.Numbering.Changing.{agrees-same}
+use Rattle.heap_calls.proofs.Room.Staying.{fixed-released, fixed-same, fixed-then}
 use Rattle.heap_calls.proofs.heap.Heap.empty.Goals as goal
 
 pub returns-in_err-slot-clause-answer : goal.returns-in_err-slot-clause-answer

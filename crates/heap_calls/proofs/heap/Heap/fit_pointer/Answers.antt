@@ -2,15 +2,15 @@ use Rattle.std.proofs.Common.{refl, sym, ◌∙◌, ap, arith, Ok, Err}
 use Rattle.std.proofs.lemmas.Result.{err_from_is_err_and}
 use Rattle.block_store.specs.Block.{is_fixed, rename}
 use Rattle.heap_calls.specs.Answer.{Held, nothing, rebuilt}
-use Rattle.heap_calls.specs.Growing.{fitted}
-use Rattle.heap_calls.specs.Numbered.{state_of, handle_number, pointer_number}
+use Rattle.heap_calls.specs.Inner.Growing.{fitted}
+use Rattle.heap_calls.specs.Inner.Numbered.{state_of, handle_number, pointer_number}
 use Rattle.heap_calls.specs.Pointers.{set_pointer_size}
 use Rattle.heap_calls.specs.Searches.{set_pointer_size_searches, found_searches, size_searches}
-use Rattle.heap_calls.proofs.Changing.{agrees-same, kept}
-use Rattle.heap_calls.proofs.Looking.{size_searches-rename, fitted-rename}
-use Rattle.heap_calls.proofs.Pointing.{pointer-held, target_in, is_fixed-number}
-use Rattle.heap_calls.proofs.PointerSizes.{set_pointer_size-row, no_pointer}
-use Rattle.heap_calls.proofs.Rebuilding.{rebuilt-reply}
+use Rattle.heap_calls.proofs.Numbering.Changing.{agrees-same}
+use Rattle.heap_calls.proofs.Numbering.Looking.{size_searches-rename, fitted-rename}
+use Rattle.heap_calls.proofs.Numbering.Pointing.{pointer-held, target_in, is_fixed-number}
+use Rattle.heap_calls.proofs.Sizes.PointerSizes.{set_pointer_size-row, no_pointer}
+use Rattle.heap_calls.proofs.Numbering.Rebuilding.{rebuilt-reply}
 use Rattle.heap_calls.proofs.heap.Heap.fit_pointer.Goals as goal
 
 pub returns-in_err-target-clause-answer : goal.returns-in_err-target-clause-answer
@@ -56,7 +56,7 @@ returns-clause-answer g c =
     let u = is_fixed target.place in
     rw (c.account.ensures.reply, c.account.ensures.counted)
     (rebuilt-reply c.args.self.now zone rest es a.log c.self.view_is (set_pointer_size c.args.pointer n) (set_pointer_size_searches c.args.pointer n)
-    (g.S.BlockStore.zone c.fit_fixed.new.store) rest' (kept rest rest' c.fit_fixed.ensures.rest) c.in_ok-grown.grown.searches
+    (g.S.BlockStore.zone c.fit_fixed.new.store) rest' c.fit_fixed.ensures.rest c.in_ok-grown.grown.searches
     (ap (λ r. found_searches r (λ (k : Held). size_searches (is_fixed k.number) nothing n (rename f h zone))) there.looked ∙ size_searches-rename f h nothing nothing (λ b. refl) t u same n zone ∙ sym c.in_ok-grown.ensures.searches)
     c.in_ok-grown.grown.done (fitted u nothing n zone)
     (set_pointer_size-row c.args.pointer n (state_of zone rest.slots es) _ there.looked ∙ ap (λ o. rebuilt o (state_of zone rest.slots es)) (fitted-rename f h nothing nothing (λ b. refl) t u same n zone))

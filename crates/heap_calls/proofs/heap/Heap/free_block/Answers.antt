@@ -3,11 +3,11 @@ use Rattle.std.proofs.lemmas.Option.{slice_get_within}
 use Rattle.std.specs.Option.{IsSomeAnd}
 use Rattle.block_store.specs.Block.{Block, is_fixed}
 use Rattle.block_store.specs.Room.{Spot}
-use Rattle.heap_calls.specs.Numbered.{state_of, Agrees}
+use Rattle.heap_calls.specs.Inner.Numbered.{state_of, Agrees}
 use Rattle.heap_calls.specs.Pointers.{dispose_pointer}
-use Rattle.heap_calls.specs.declared.name.Entry.TheVariants.{Disposed}
-use Rattle.heap_calls.proofs.Changing.{kept, silent-done}
-use Rattle.heap_calls.proofs.Pointing.{pointer-held, target_in, agrees-left, dispose_pointer-done}
+use Rattle.heap_calls.specs.declared.anchor.Anchor.TheVariants.{Disposed}
+use Rattle.heap_calls.proofs.Numbering.Changing.{kept, silent-done}
+use Rattle.heap_calls.proofs.Numbering.Pointing.{pointer-held, target_in, agrees-left, dispose_pointer-done}
 use Rattle.heap_calls.proofs.heap.Heap.free_block.Goals as goal
 
 pub free_at-requires : goal.free_at-requires
@@ -52,4 +52,4 @@ returns-clause-answer g c =
     silent-done (dispose_pointer c.args.pointer) c.args.self.now zone zone' rest rest' es (slice_set es t.number Disposed) a.log (Ok tt) c.self.view_is
     (dispose_pointer-done zone rest rest' es t.number t.place c.self.invariant there.entry (omega arith) (kept rest rest' c.free_at.ensures.rest) c.args.pointer _ there.looked
     ∙ ap (λ (z : List Block). (Ok tt, state_of z rest'.slots (slice_set es t.number Disposed))) (sym c.free_at.ensures.zone))
-    c.free_at.ensures.rest.window
+    c.free_at.ensures.rest.window c.free_at.ensures.rest.moves

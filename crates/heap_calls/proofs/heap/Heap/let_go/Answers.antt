@@ -4,13 +4,13 @@ use Rattle.block_store.specs.Block.{Block, is_relocatable, tidy}
 use Rattle.block_store.specs.Run.{has}
 use Rattle.block_store.specs.Grow.{freed}
 use Rattle.block_store.specs.Slot.{Unused, set_slot, AreSlots}
-use Rattle.block_store.proofs.Tidy.{has-released}
+use Rattle.block_store.proofs.Zone.Tidy.{has-released}
 use Rattle.heap_calls.specs.Answer.{dispose_handle}
-use Rattle.heap_calls.specs.Numbered.{state_of, Agrees}
-use Rattle.heap_calls.specs.declared.name.Entry.{Entry}
-use Rattle.heap_calls.specs.declared.name.Entry.TheVariants.{Handle, Disposed}
-use Rattle.heap_calls.proofs.Answering.{slot_of-ok}
-use Rattle.heap_calls.proofs.Changing.{agrees-left, dispose_handle-done, silent-done}
+use Rattle.heap_calls.specs.Inner.Numbered.{state_of, Agrees}
+use Rattle.heap_calls.specs.declared.anchor.Anchor.{Anchor}
+use Rattle.heap_calls.specs.declared.anchor.Anchor.TheVariants.{Handle, Disposed}
+use Rattle.heap_calls.proofs.Numbering.Answering.{slot_of-ok}
+use Rattle.heap_calls.proofs.Numbering.Changing.{agrees-left, dispose_handle-done, silent-done}
 use Rattle.heap_calls.proofs.heap.Heap.let_go.Goals as goal
 
 pub give_slot-requires-clause-no_block : goal.give_slot-requires-clause-no_block
@@ -33,7 +33,7 @@ invariant_of-self g c =
     let es = a.names.items in
     let f = c.in_ok-found.found in
     let is = slot_of-ok c.args.handle _ f (sym c.slot_of.ensures ∙ c.in_ok-found.was) in
-    let at : slice_get es f.number ≡ Some (Handle f.slot) = ap (λ (l : List Entry). slice_get l f.number) (sym c.deref.ensures.value) ∙ is.1 in
+    let at : slice_get es f.number ≡ Some (Handle f.slot) = ap (λ (l : List Anchor). slice_get l f.number) (sym c.deref.ensures.value) ∙ is.1 in
     let released = c.release.ensures.rest in
     let gave = c.give_slot.ensures.rest in
     let now : AreSlots (set_slot rest.slots f.slot Unused) rest'.slots = λ k. gave.slots k ∙ ap (cond (k == f.slot) Unused) (released.slots k) in
@@ -52,7 +52,7 @@ returns-clause-answer g c =
     let es = a.names.items in
     let f = c.in_ok-found.found in
     let is = slot_of-ok c.args.handle _ f (sym c.slot_of.ensures ∙ c.in_ok-found.was) in
-    let at : slice_get es f.number ≡ Some (Handle f.slot) = ap (λ (l : List Entry). slice_get l f.number) (sym c.deref.ensures.value) ∙ is.1 in
+    let at : slice_get es f.number ≡ Some (Handle f.slot) = ap (λ (l : List Anchor). slice_get l f.number) (sym c.deref.ensures.value) ∙ is.1 in
     let released = c.release.ensures.rest in
     let gave = c.give_slot.ensures.rest in
     let now : AreSlots (set_slot rest.slots f.slot Unused) rest'.slots = λ k. gave.slots k ∙ ap (cond (k == f.slot) Unused) (released.slots k) in
@@ -63,4 +63,4 @@ returns-clause-answer g c =
     silent-done (dispose_handle c.args.handle) c.args.self.now zone zone' rest rest' es (slice_set es f.number Disposed) a.log (Ok tt) c.self.view_is
     (dispose_handle-done zone rest rest' es f.number f.slot c.self.invariant at (omega arith) now one all c.args.handle is.0
     ∙ ap (λ (z : List Block). (Ok tt, state_of z rest'.slots (slice_set es f.number Disposed))) (sym freed_zone))
-    (gave.window ∙ released.window)
+    (gave.window ∙ released.window) (gave.moves ∙ released.moves)

@@ -2,12 +2,12 @@ use Rattle.std.proofs.Common.{◌≡◌, ◌-◌, ◌+◌, ◌<◌, ◌∙◌, N
 use Rattle.mac_words.specs.declared.code.TheConstants.OsErr.{NO_ERR}
 use Rattle.heap_calls.specs.State.{Memory}
 use Rattle.heap_calls.specs.Answer.{max_block, noting}
-use Rattle.heap_calls.specs.Numbered.{memory_of}
+use Rattle.heap_calls.specs.Inner.Numbered.{memory_of}
 use Rattle.std.specs.Option.{IfSome, IsSome}
 use Rattle.mac_words.specs.Size.{phys}
 use Rattle.block_store.specs.Room.{place}
-use Rattle.heap_calls.proofs.Largest.{largest_run-rename}
-use Rattle.heap_calls.proofs.MostRoom.{most-placed, no_more-placed}
+use Rattle.heap_calls.proofs.Numbering.Largest.{largest_run-rename}
+use Rattle.block_store.proofs.Regroup.MostRoom.{most-placed, no_more-placed}
 use Rattle.heap_calls.proofs.heap.Heap.max_block.Goals as goal
 
 pub returns-clause-answer : goal.returns-clause-answer

@@ -1,10 +1,19 @@
-use Rattle.std.proofs.Common.{◌∙◌, refl, None}
-use Rattle.heap_calls.proofs.PurgeTrials.{purged_all-is, max_mem-done}
-use Rattle.block_store.specs.Compact.{compacted, runs_settled}
-use Rattle.block_store.specs.Named.{purged}
-use Rattle.block_store.specs.declared.named.Named.TheVariants as named
-use Rattle.heap_calls.proofs.Changing.{agrees-kept}
-use Rattle.heap_calls.proofs.Staying.{fixed-purged, fixed-settled, fixed-same, fixed-then}
+use Rattle.block_store.proofs.Plain.Trials.{least_or_last-none}
+use Rattle.std.proofs.Common.{◌≡◌, ◌∙◌, refl, sym, ap, None, Ok, length}
+use Rattle.mac_words.specs.declared.code.TheConstants.OsErr.{NO_ERR}
+use Rattle.block_store.specs.Run.{runs}
+use Rattle.block_store.specs.Rest.{counted}
+use Rattle.heap_calls.specs.State.{Memory}
+use Rattle.heap_calls.specs.Moves.{all_moves, max_mem_moves}
+use Rattle.heap_calls.specs.Inner.Numbered.{handle_number, pointer_number}
+use Rattle.heap_calls.proofs.Numbering.PurgeTrials.{purged_all-is, max_mem-done}
+use Rattle.block_store.specs.Compact.{compacted, falls, runs_settled}
+use Rattle.block_store.specs.Sparing.{purged}
+use Rattle.block_store.specs.declared.sparing.Sparing.TheVariants as sparing
+use Rattle.heap_calls.proofs.Numbering.Changing.{agrees-kept, unmoved}
+use Rattle.heap_calls.proofs.Room.MoveCounts.{moving-done}
+use Rattle.heap_calls.proofs.Numbering.MoveNames.{purged_moves-rename}
+use Rattle.heap_calls.proofs.Room.Staying.{fixed-purged, fixed-settled, fixed-same, fixed-then}
 use Rattle.heap_calls.proofs.heap.Heap.max_mem.Goals as goal
 
 pub returns : goal.returns
@@ -12,10 +21,18 @@ returns g c =
     let a = c.self.inside in
     let zone = g.S.BlockStore.zone a.store in
     let all = g.S.BlockStore.zone c.purge.new.self in
+    let zone' = g.S.BlockStore.zone c.compact.new.store in
+    let rest = g.S.BlockStore.rest a.store in
+    let rest' = g.S.BlockStore.rest c.compact.new.store in
+    let es = a.names.items in
     let emptied = c.purge.ensures.rest in
     let packed = c.compact.ensures.rest in
-    max_mem-done c.args.self.now zone all (g.S.BlockStore.zone c.compact.new.store) (g.S.BlockStore.rest a.store) (g.S.BlockStore.rest c.compact.new.store) a.names.items a.log c.largest_free.result c.saturating_sub.result c.self.view_is
-    (purged_all-is zone all c.purges_for-purges.result c.purges_for-purges.ensures c.purge.ensures.zone) c.compact.ensures.zone
+    let is = purged_all-is zone all c.purges_for-purges.result c.purges_for-purges.ensures c.purge.ensures.zone in
+    let moves : max_mem_moves c.args.self.now.heap ≡ falls (runs_settled None all) (runs all) =
+    ap (λ (m : Memory). max_mem_moves m.heap) (sym c.self.view_is) ∙ purged_moves-rename (handle_number es) (pointer_number es) zone ∙ ap all_moves (sym is)
+    ∙ ap (λ k. falls k (runs all)) (sym (least_or_last-none (length (runs all)))) in
+    moving-done _ _ _ (Ok c.saturating_sub.result) zone' rest rest' es (record a.log { code = NO_ERR })
+    (max_mem-done c.args.self.now zone all zone' rest (unmoved rest rest') es a.log c.largest_free.result c.saturating_sub.result c.self.view_is is c.compact.ensures.zone
     (record {
       slots = λ k. packed.slots k ∙ emptied.slots k;
       unused = packed.unused ∙ emptied.unused;
@@ -23,7 +40,8 @@ returns g c =
       moves = refl;
       window = packed.window ∙ emptied.window;
     })
-    c.largest_free.ensures c.saturating_sub.ensures
+    c.largest_free.ensures c.saturating_sub.ensures)
+    moves (c.compact.ensures.moves ∙ ap (λ k. counted k (falls (runs_settled None all) (runs all))) emptied.moves)
 
 pub invariant_of-self : goal.invariant_of-self
 invariant_of-self g c =
@@ -35,7 +53,7 @@ invariant_of-self g c =
     let emptied = c.purge.ensures.rest in
     let packed = c.compact.ensures.rest in
     agrees-kept zone zone' (g.S.BlockStore.rest a.store) (g.S.BlockStore.rest c.compact.new.store) a.names.items c.self.invariant
-    (fixed-then zone all zone' (fixed-then zone (purged purges named.Nothing zone) all (fixed-purged purges named.Nothing zone) (fixed-same (purged purges named.Nothing zone) all c.purge.ensures.zone))
+    (fixed-then zone all zone' (fixed-then zone (purged purges sparing.Nothing zone) all (fixed-purged purges sparing.Nothing zone) (fixed-same (purged purges sparing.Nothing zone) all c.purge.ensures.zone))
     (fixed-then all (compacted None all) zone' (fixed-settled (runs_settled None all) all) (fixed-same (compacted None all) zone' c.compact.ensures.zone)))
     (record {
       slots = λ k. packed.slots k ∙ emptied.slots k;

@@ -1,14 +1,14 @@
 use Rattle.std.proofs.Common.{◌≡◌, refl, true, false, Ok, Some, None, sym, ◌∙◌, ap, arith, slice_get, List}
 use Rattle.block_store.specs.Block.{is_relocatable, is_mover, tidy}
 use Rattle.block_store.specs.Run.{has, high, with_run}
-use Rattle.heap_calls.specs.Given.{seen_mover}
-use Rattle.heap_calls.specs.declared.name.Entry.{Entry}
-use Rattle.heap_calls.specs.declared.name.Entry.TheVariants.{Handle}
-use Rattle.heap_calls.proofs.Answering.{slot_of-ok}
-use Rattle.heap_calls.proofs.Changing.{agrees-same}
-use Rattle.heap_calls.proofs.Searching.{at_run}
-use Rattle.heap_calls.proofs.Staying.{fixed-run, fixed-same, fixed-then, none-high}
-use Rattle.heap_calls.proofs.Hoisting.{seen-at, seen_mover-is, rest-same, run-found, hoist-allowed, hoisted-done, hoisted-none, move_hhi-emptied, move_hhi-locked, move_hhi-done}
+use Rattle.heap_calls.specs.Inner.Given.{seen_mover}
+use Rattle.heap_calls.specs.declared.anchor.Anchor.{Anchor}
+use Rattle.heap_calls.specs.declared.anchor.Anchor.TheVariants.{Handle}
+use Rattle.heap_calls.proofs.Numbering.Answering.{slot_of-ok}
+use Rattle.heap_calls.proofs.Numbering.Changing.{agrees-same}
+use Rattle.heap_calls.proofs.Room.Searching.{at_run}
+use Rattle.heap_calls.proofs.Room.Staying.{fixed-run, fixed-same, fixed-then, none-high}
+use Rattle.heap_calls.proofs.Numbering.Hoisting.{seen-at, seen_mover-is, rest-same, run-found, hoist-allowed, hoisted-done, hoisted-none, move_hhi-emptied, move_hhi-locked, move_hhi-done}
 use Rattle.heap_calls.proofs.heap.Heap.move_high.Goals as goal
 
 pub returns-in_default-clause-answer : goal.returns-in_default-clause-answer
@@ -19,7 +19,7 @@ returns-in_default-clause-answer g c =
     let es = a.names.items in
     let f = c.in_ok-found.found in
     let is = slot_of-ok c.args.handle _ f (sym c.slot_of.ensures ∙ c.in_ok-found.was) in
-    let at : slice_get es f.number ≡ Some (Handle f.slot) = ap (λ (l : List Entry). slice_get l f.number) (sym c.deref.ensures.value) ∙ is.1 in
+    let at : slice_get es f.number ≡ Some (Handle f.slot) = ap (λ (l : List Anchor). slice_get l f.number) (sym c.deref.ensures.value) ∙ is.1 in
     move_hhi-emptied c.args.self.now zone rest es a.log c.args.handle f.number f.slot c.self.view_is is.0 at c.self.invariant.apart (omega arith) c.in_default.ensures
 
 pub returns-then-not-can_move-clause-answer : goal.returns-then-not-can_move-clause-answer
@@ -30,7 +30,7 @@ returns-then-not-can_move-clause-answer g c =
     let es = a.names.items in
     let f = c.in_ok-found.found in
     let is = slot_of-ok c.args.handle _ f (sym c.slot_of.ensures ∙ c.in_ok-found.was) in
-    let at : slice_get es f.number ≡ Some (Handle f.slot) = ap (λ (l : List Entry). slice_get l f.number) (sym c.deref.ensures.value) ∙ is.1 in
+    let at : slice_get es f.number ≡ Some (Handle f.slot) = ap (λ (l : List Anchor). slice_get l f.number) (sym c.deref.ensures.value) ∙ is.1 in
     let there = c.in-Some.ensures in
     let locked : is_mover there.0.here ≡ false =
     sym (seen_mover-is there.0.here) ∙ sym (seen-at seen_mover c.in-Some.place zone there.0 c.block_at.result there.2 c.block_at.ensures) ∙ sym c.can_move.ensures ∙ c.if-not-can_move.true in
@@ -44,7 +44,7 @@ returns-in_default-run_of-clause-answer g c =
     let es = a.names.items in
     let f = c.in_ok-found.found in
     let is = slot_of-ok c.args.handle _ f (sym c.slot_of.ensures ∙ c.in_ok-found.was) in
-    let at : slice_get es f.number ≡ Some (Handle f.slot) = ap (λ (l : List Entry). slice_get l f.number) (sym c.deref.ensures.value) ∙ is.1 in
+    let at : slice_get es f.number ≡ Some (Handle f.slot) = ap (λ (l : List Anchor). slice_get l f.number) (sym c.deref.ensures.value) ∙ is.1 in
     let there = c.in-Some.ensures in
     let free : is_mover there.0.here ≡ true =
     sym (seen_mover-is there.0.here) ∙ sym (seen-at seen_mover c.in-Some.place zone there.0 c.block_at.result there.2 c.block_at.ensures) ∙ sym c.can_move.ensures ∙ c.if-not-can_move.false in
@@ -80,7 +80,7 @@ returns-clause-answer g c =
     let es = a.names.items in
     let f = c.in_ok-found.found in
     let is = slot_of-ok c.args.handle _ f (sym c.slot_of.ensures ∙ c.in_ok-found.was) in
-    let at : slice_get es f.number ≡ Some (Handle f.slot) = ap (λ (l : List Entry). slice_get l f.number) (sym c.deref.ensures.value) ∙ is.1 in
+    let at : slice_get es f.number ≡ Some (Handle f.slot) = ap (λ (l : List Anchor). slice_get l f.number) (sym c.deref.ensures.value) ∙ is.1 in
     let there = c.in-Some.ensures in
     let free : is_mover there.0.here ≡ true =
     sym (seen_mover-is there.0.here) ∙ sym (seen-at seen_mover c.in-Some.place zone there.0 c.block_at.result there.2 c.block_at.ensures) ∙ sym c.can_move.ensures ∙ c.if-not-can_move.false in

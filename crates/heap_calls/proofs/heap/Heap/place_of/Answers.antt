@@ -1,8 +1,8 @@
 use Rattle.std.proofs.Common.{◌+◌, ◌∙◌, ap, Ok, Err}
 use Rattle.std.proofs.lemmas.Result.{err_from_is_err_and}
 use Rattle.heap_calls.specs.Pointers.{block_named}
-use Rattle.heap_calls.proofs.Answering.{sizes-rename}
-use Rattle.heap_calls.proofs.Pointing.{refused_by, on_held, found_by}
+use Rattle.heap_calls.proofs.Numbering.Answering.{sizes-rename}
+use Rattle.heap_calls.proofs.Numbering.Pointing.{refused_by, on_held, found_by}
 use Rattle.block_store.specs.Block.{sizes}
 use Rattle.heap_calls.proofs.heap.Heap.place_of.Goals as goal
 

@@ -4,13 +4,12 @@ use Rattle.block_store.specs.Compact.{has_room}
 use Rattle.block_store.specs.Room.{purge}
 use Rattle.heap_calls.specs.Answer.{nothing, silent}
 use Rattle.heap_calls.specs.Purging.{blocks_purged, purge_mem}
-use Rattle.heap_calls.specs.Numbered.{memory_of}
-use Rattle.heap_calls.proofs.Changing.{kept}
-use Rattle.heap_calls.proofs.PurgeTrials.{searching-done, blocks_purged-few, served_answer, purge_mem-done, purge_mem_searches-is}
-use Rattle.block_store.specs.Named.{purged}
-use Rattle.block_store.specs.declared.named.Named.TheVariants as named
-use Rattle.heap_calls.proofs.Changing.{agrees-same}
-use Rattle.heap_calls.proofs.Staying.{fixed-purged, fixed-same, fixed-then}
+use Rattle.heap_calls.specs.Inner.Numbered.{memory_of}
+use Rattle.heap_calls.proofs.Numbering.PurgeTrials.{searching-done, blocks_purged-few, served_answer, purge_mem-done, purge_mem_searches-is}
+use Rattle.block_store.specs.Sparing.{purged}
+use Rattle.block_store.specs.declared.sparing.Sparing.TheVariants as sparing
+use Rattle.heap_calls.proofs.Numbering.Changing.{agrees-same}
+use Rattle.heap_calls.proofs.Room.Staying.{fixed-purged, fixed-same, fixed-then}
 use Rattle.heap_calls.proofs.heap.Heap.purge_for.Goals as goal
 
 pub overflow_add-purges : goal.overflow_add-purges
@@ -30,7 +29,7 @@ returns-then-not-served-clause-answer g c =
     let served = c.has_room-served.result in
     let many : c.purges_for-purges.result ≡ blocks_purged _ zone = c.purges_for-purges.ensures ∙ ap (λ (p : Option ℕ). blocks_purged p zone) c.phys-bytes.ensures in
     searching-done _ _ (silent (purge_mem n) c.args.self.now) (Err MEM_FULL) (memory_of zone' rest' es a.log) (memory_of zone' rest' es c.count.new.self)
-    (purge_mem-done c.args.self.now n zone zone' rest rest' es a.log served c.self.view_is (c.purge.ensures.zone ∙ ap (λ k. purge k nothing zone) many) (kept rest rest' c.purge.ensures.rest)
+    (purge_mem-done c.args.self.now n zone zone' rest rest' es a.log served c.self.view_is (c.purge.ensures.zone ∙ ap (λ k. purge k nothing zone) many) c.purge.ensures.rest
     (c.has_room-served.ensures.now refl ∙ ap (λ (p : Option ℕ). has_room p zone') c.phys-bytes.ensures)
     ∙ ap (λ (t : Bool). (served_answer t, memory_of zone' rest' es a.log)) c.if-not-served.true)
     (purge_mem_searches-is c.args.self.now n zone rest es a.log c.self.view_is ∙ ap (λ k. k + 1) (sym many)) (ap (memory_of zone' rest' es) c.count.ensures)
@@ -47,7 +46,7 @@ returns-clause-answer g c =
     let served = c.has_room-served.result in
     let many : c.purges_for-purges.result ≡ blocks_purged _ zone = c.purges_for-purges.ensures ∙ ap (λ (p : Option ℕ). blocks_purged p zone) c.phys-bytes.ensures in
     searching-done _ _ (silent (purge_mem n) c.args.self.now) (Ok tt) (memory_of zone' rest' es a.log) (memory_of zone' rest' es c.count.new.self)
-    (purge_mem-done c.args.self.now n zone zone' rest rest' es a.log served c.self.view_is (c.purge.ensures.zone ∙ ap (λ k. purge k nothing zone) many) (kept rest rest' c.purge.ensures.rest)
+    (purge_mem-done c.args.self.now n zone zone' rest rest' es a.log served c.self.view_is (c.purge.ensures.zone ∙ ap (λ k. purge k nothing zone) many) c.purge.ensures.rest
     (c.has_room-served.ensures.now refl ∙ ap (λ (p : Option ℕ). has_room p zone') c.phys-bytes.ensures)
     ∙ ap (λ (t : Bool). (served_answer t, memory_of zone' rest' es a.log)) c.if-not-served.false)
     (purge_mem_searches-is c.args.self.now n zone rest es a.log c.self.view_is ∙ ap (λ k. k + 1) (sym many)) (ap (memory_of zone' rest' es) c.count.ensures)
@@ -59,7 +58,7 @@ invariant_of-self g c =
     let zone' = g.S.BlockStore.zone c.purge.new.self in
     let purges = c.purges_for-purges.result in
     agrees-same zone zone' (g.S.BlockStore.rest a.store) (g.S.BlockStore.rest c.purge.new.self) a.names.items c.self.invariant
-    (fixed-then zone (purged purges named.Nothing zone) zone' (fixed-purged purges named.Nothing zone) (fixed-same (purged purges named.Nothing zone) zone' c.purge.ensures.zone)) c.purge.ensures.rest
+    (fixed-then zone (purged purges sparing.Nothing zone) zone' (fixed-purged purges sparing.Nothing zone) (fixed-same (purged purges sparing.Nothing zone) zone' c.purge.ensures.zone)) c.purge.ensures.rest
 
 pub invariant_of-self-2 : goal.invariant_of-self-2
 invariant_of-self-2 g c =
@@ -68,4 +67,4 @@ invariant_of-self-2 g c =
     let zone' = g.S.BlockStore.zone c.purge.new.self in
     let purges = c.purges_for-purges.result in
     agrees-same zone zone' (g.S.BlockStore.rest a.store) (g.S.BlockStore.rest c.purge.new.self) a.names.items c.self.invariant
-    (fixed-then zone (purged purges named.Nothing zone) zone' (fixed-purged purges named.Nothing zone) (fixed-same (purged purges named.Nothing zone) zone' c.purge.ensures.zone)) c.purge.ensures.rest
+    (fixed-then zone (purged purges sparing.Nothing zone) zone' (fixed-purged purges sparing.Nothing zone) (fixed-same (purged purges sparing.Nothing zone) zone' c.purge.ensures.zone)) c.purge.ensures.rest

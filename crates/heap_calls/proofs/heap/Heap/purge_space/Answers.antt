@@ -1,7 +1,7 @@
 use Rattle.std.proofs.Common.{refl}
 use Rattle.block_store.specs.Room.{purge}
 use Rattle.heap_calls.specs.Answer.{nothing}
-use Rattle.heap_calls.proofs.PurgeTrials.{purged_all-is, purge_space-done}
+use Rattle.heap_calls.proofs.Numbering.PurgeTrials.{purged_all-is, purge_space-done}
 use Rattle.heap_calls.proofs.heap.Heap.purge_space.Goals as goal
 
 pub returns : goal.returns

@@ -1,10 +1,11 @@
 use Rattle.std.proofs.Common.{◌≡◌, ◌<◌, ◌+◌, ◌++◌, ◌∷◌, length, ap, arith, Ok, Err}
 use Rattle.std.proofs.lemmas.Result.{err_from_is_err_and}
-use Rattle.block_store.specs.Block.{content_of, with_content, written}
+use Rattle.block_store.specs.Block.{content_of, with_content}
+use Rattle.windows.specs.Writes.{written}
 use Rattle.heap_calls.specs.Answer.{written_at, look_up}
-use Rattle.heap_calls.proofs.Answering.{refused_for, found_in, at_place}
-use Rattle.heap_calls.proofs.Changing.{written-done, written-outside, agrees-same, fixed-at}
-use Rattle.heap_calls.proofs.Staying.{fixed-spot, alike-content, fixed-same, fixed-then}
+use Rattle.heap_calls.proofs.Numbering.Answering.{refused_for, found_in, at_place}
+use Rattle.heap_calls.proofs.Numbering.Changing.{written-done, written-outside, agrees-same, fixed-at}
+use Rattle.heap_calls.proofs.Room.Staying.{fixed-spot, alike-content, fixed-same, fixed-then}
 use Rattle.heap_calls.proofs.heap.Heap.put.Goals as goal
 use Rattle.heap_calls.proofs.heap.Heap.put.Goals.{then-bytes-len-via-then-bytes-len, then-bytes-len-via-else-bytes-len+then-from-len}
 

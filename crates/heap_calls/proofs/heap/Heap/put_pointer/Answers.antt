@@ -1,12 +1,13 @@
 use Rattle.std.proofs.Common.{◌≡◌, refl, ◌<◌, ◌+◌, ◌≤◌, ◌++◌, ◌∷◌, length, sym, ap, subst, arith, Option, Ok}
 use Rattle.std.specs.Option.{IsSome, IsSomeAnd}
-use Rattle.block_store.specs.Block.{content_of, with_content, written}
+use Rattle.block_store.specs.Block.{content_of, with_content}
+use Rattle.windows.specs.Writes.{written}
 use Rattle.block_store.specs.Room.{Spot}
 use Rattle.heap_calls.specs.Pointers.{pointed_at}
-use Rattle.heap_calls.proofs.Answering.{at_place}
-use Rattle.heap_calls.proofs.Changing.{written-done, written-outside, agrees-same, fixed-at}
-use Rattle.heap_calls.proofs.Staying.{fixed-spot, alike-content, fixed-same, fixed-then}
-use Rattle.heap_calls.proofs.Pointing.{pointer-held, target_in}
+use Rattle.heap_calls.proofs.Numbering.Answering.{at_place}
+use Rattle.heap_calls.proofs.Numbering.Changing.{written-done, written-outside, agrees-same, fixed-at}
+use Rattle.heap_calls.proofs.Room.Staying.{fixed-spot, alike-content, fixed-same, fixed-then}
+use Rattle.heap_calls.proofs.Numbering.Pointing.{pointer-held, target_in}
 use Rattle.heap_calls.proofs.heap.Heap.put_pointer.Goals as goal
 use Rattle.heap_calls.proofs.heap.Heap.put_pointer.Goals.{then-bytes-len-via-then-bytes-len, then-bytes-len-via-else-bytes-len+then-from-len}
 

@@ -2,14 +2,14 @@ use Rattle.heap_calls.specs.State.{Memory}
 use Rattle.std.proofs.Common.{rules, Fits, w64, ◌≡◌, ℕ, ◌≤◌, Some, None, sym, ◌∙◌, ap, subst, Ok, Err, Option, arith}
 use Rattle.mac_words.specs.declared.code.TheConstants.OsErr.{MEM_FULL}
 use Rattle.mac_words.specs.Size.{phys}
-use Rattle.block_store.specs.declared.named.Named.TheVariants as named
-use Rattle.heap_calls.specs.Base.{IsBaseAt, base}
+use Rattle.block_store.specs.declared.sparing.Sparing.TheVariants as sparing
+use Rattle.heap_calls.specs.Inner.Base.{IsBaseAt, base}
 use Rattle.heap_calls.specs.Pointers.{reserve_mem}
 use Rattle.heap_calls.specs.Searches.{reserve_searches}
-use Rattle.heap_calls.proofs.Seats.{at_none}
-use Rattle.heap_calls.proofs.NewHandles.{searched-done}
-use Rattle.heap_calls.proofs.Reserving.{reserve-none, reserve-done, reserve-too_large, reserve_searches-is}
-use Rattle.heap_calls.proofs.Changing.{agrees-same}
+use Rattle.heap_calls.proofs.Room.Seats.{at_none}
+use Rattle.heap_calls.proofs.NewBlocks.NewHandles.{searched-done}
+use Rattle.heap_calls.proofs.NewBlocks.Reserving.{reserve-none, reserve-done, reserve-too_large, reserve_searches-is}
+use Rattle.heap_calls.proofs.Numbering.Changing.{agrees-same}
 use Rattle.heap_calls.proofs.heap.Heap.reserve_base.Goals as goal
 
 pub returns-in_default-clause-answer : goal.returns-in_default-clause-answer
@@ -29,11 +29,11 @@ returns-in_default-place-clause-answer g c =
     let masters = g.met.S.BlockStore.masters a.store in
     let now = c.in_ok-room.ensures in
     let fits : phys c.args.size ≡ Some c.in-Some.bytes = sym c.phys.ensures ∙ c.in-Some.is in
-    let P : Option ℕ → Type 0 = λ o. IsBaseAt c.in-Some.bytes (base c.in-Some.bytes named.Nothing zone) zone' o in
+    let P : Option ℕ → Type 0 = λ o. IsBaseAt c.in-Some.bytes (base c.in-Some.bytes sparing.Nothing zone) zone' o in
     let none : P None = subst P c.in_default-place.is now.place in
     let refused = reserve-none zone rest es masters c.self.invariant zone' rest' c.make_base.ensures.fixed c.args.size c.in-Some.bytes fits now.rest (at_none c.in_ok-room.room.place _ _ c.in_default-place.is now.none) none in
     searched-done (reserve_mem c.args.size) (reserve_searches (phys c.args.size)) c.args.self.now zone zone' rest rest' es es a.log c.count.new.self (Err MEM_FULL) c.in_ok-room.room.searches c.self.view_is
-    refused.0 refused.2 (now.searches ∙ sym (reserve_searches-is zone rest es masters c.self.invariant c.args.size c.in-Some.bytes fits)) c.count.ensures
+    refused.0 refused.2 now.rest.moves (now.searches ∙ sym (reserve_searches-is zone rest es masters c.self.invariant c.args.size c.in-Some.bytes fits)) c.count.ensures
 
 pub returns-clause-answer : goal.returns-clause-answer
 returns-clause-answer g c =
@@ -46,11 +46,11 @@ returns-clause-answer g c =
     let masters = g.met.S.BlockStore.masters a.store in
     let now = c.in_ok-room.ensures in
     let fits : phys c.args.size ≡ Some c.in-Some.bytes = sym c.phys.ensures ∙ c.in-Some.is in
-    let P : Option ℕ → Type 0 = λ o. IsBaseAt c.in-Some.bytes (base c.in-Some.bytes named.Nothing zone) zone' o in
+    let P : Option ℕ → Type 0 = λ o. IsBaseAt c.in-Some.bytes (base c.in-Some.bytes sparing.Nothing zone) zone' o in
     let found : P (Some c.in-Some-place.field-0) = subst P c.in-Some-place.is now.place in
     let done = reserve-done zone rest es masters c.self.invariant zone' rest' c.make_base.ensures.fixed c.args.size c.in-Some.bytes c.in-Some-place.field-0 fits now.rest found in
     searched-done (reserve_mem c.args.size) (reserve_searches (phys c.args.size)) c.args.self.now zone zone' rest rest' es es a.log c.count.new.self (Ok tt) c.in_ok-room.room.searches c.self.view_is
-    done.0 done.2 (now.searches ∙ sym (reserve_searches-is zone rest es masters c.self.invariant c.args.size c.in-Some.bytes fits)) c.count.ensures
+    done.0 done.2 now.rest.moves (now.searches ∙ sym (reserve_searches-is zone rest es masters c.self.invariant c.args.size c.in-Some.bytes fits)) c.count.ensures
 
 pub invariant_of-self : goal.invariant_of-self
 invariant_of-self g c =

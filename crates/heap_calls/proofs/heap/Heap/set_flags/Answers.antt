@@ -4,12 +4,12 @@ use Rattle.std.proofs.lemmas.Result.{err_from_is_err_and}
 use Rattle.block_store.specs.declared.flags.Flags.{Flags}
 use Rattle.block_store.specs.Seen.{seen, with_flags}
 use Rattle.heap_calls.specs.Answer.{flagged}
-use Rattle.heap_calls.specs.Given.{seen_flags}
-use Rattle.heap_calls.specs.Loose.{flags_with}
-use Rattle.heap_calls.proofs.Answering.{refused_for, found_in, at_place}
-use Rattle.heap_calls.proofs.Changing.{spot_at-is, fixed-at, agrees-same}
-use Rattle.heap_calls.proofs.Staying.{fixed-spot, alike-flags, fixed-same, fixed-then}
-use Rattle.heap_calls.proofs.Hoisting.{flags-none, flags-some, seen-at, rest-same, change_flags-done}
+use Rattle.heap_calls.specs.Inner.Given.{seen_flags}
+use Rattle.heap_calls.specs.Inner.Loose.{flags_with}
+use Rattle.heap_calls.proofs.Numbering.Answering.{refused_for, found_in, at_place}
+use Rattle.heap_calls.proofs.Numbering.Changing.{spot_at-is, fixed-at, agrees-same}
+use Rattle.heap_calls.proofs.Room.Staying.{fixed-spot, alike-flags, fixed-same, fixed-then}
+use Rattle.heap_calls.proofs.Numbering.Hoisting.{flags-none, flags-some, seen-at, rest-same, change_flags-done}
 use Rattle.heap_calls.proofs.heap.Heap.set_flags.Goals as goal
 
 pub returns-in_err-place-clause-answer : goal.returns-in_err-place-clause-answer

@@ -4,13 +4,13 @@ use Rattle.mac_words.specs.declared.code.OsErr.{OsErr}
 use Rattle.block_store.specs.Block.{rename_block}
 use Rattle.block_store.specs.Room.{rename_spot}
 use Rattle.heap_calls.specs.State.{Memory}
-use Rattle.heap_calls.specs.Given.{IsAnswer, seen_flags}
+use Rattle.heap_calls.specs.Inner.Given.{IsAnswer, seen_flags}
 use Rattle.heap_calls.specs.Purging.{block_bits}
-use Rattle.heap_calls.specs.Loose.{bits_of}
-use Rattle.heap_calls.specs.Numbered.{handle_number, pointer_number}
-use Rattle.heap_calls.proofs.Answering.{refused_for, found_in, on_found, held}
-use Rattle.heap_calls.proofs.Hoisting.{seen-at}
-use Rattle.heap_calls.proofs.Loosening.{bits_answer, h_get_state-bits, block_bits-rename}
+use Rattle.heap_calls.specs.Inner.Loose.{bits_of}
+use Rattle.heap_calls.specs.Inner.Numbered.{handle_number, pointer_number}
+use Rattle.heap_calls.proofs.Numbering.Answering.{refused_for, found_in, on_found, held}
+use Rattle.heap_calls.proofs.Numbering.Hoisting.{seen-at}
+use Rattle.heap_calls.proofs.Numbering.Loosening.{bits_answer, h_get_state-bits, block_bits-rename}
 use Rattle.heap_calls.proofs.heap.Heap.state_of.Goals as goal
 
 pub returns-in_err-place-clause-answer : goal.returns-in_err-place-clause-answer

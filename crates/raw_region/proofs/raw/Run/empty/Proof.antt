@@ -3,7 +3,7 @@ use Rattle.std.proofs.Common.{[], ◌∷◌, refl}
 use Rattle.std.proofs.raw_atomic.Walks.{proved_at}
 use denote.RawPtr.{block_ptr}
 use denote.Triple.Entry.{alive}
-use denote.Triple.Walked.{says, Stays, ends_at}
+use denote.Triple.Walked.{says, ends_at}
 use types.ByLocal.{alloc_all, pass_all, free_all, look_at, sets}
 use types.Kit.{‵, raw, ◌⊛◌, ◌$◌, ◌∵◌, !, qed, move, drop, suffices, done, split, use0}
 use types.Part.{agg}
@@ -14,14 +14,13 @@ use Rattle.raw_region.specs.declared.raw.Run.{Run}
 use Rattle.raw_region.specs.contracts.raw.Run.empty as f
 use Rattle.raw_region.proofs.raw.Run.empty.Statement.{statement}
 use Rattle.raw_region.proofs.raw.Run.empty.Code as code
+use Rattle.raw_region.proofs.Leaving.{all_gone}
 use Rattle.raw_region.proofs.Runs as Runs
 use Rattle.raw_region.proofs.Steps.{bare, run_made}
 
-abbrev stayed : Stays f.ended.signature.params f.ended.kept
-stayed = tt
-
 pub empty_spec : {M : Type 1} → statement M
 empty_spec 𝓤 𝓛 𝓜 𝓡 wired =
+    let stayed = all_gone f.ended in
     let c = f.clauses 𝓛 𝓜.mem 𝓡.returns in
     let made : Run = record { home = block_ptr 0 0; at = 0; items = [] } in
     proved_at 𝓛 f.ended stayed c 𝓜 𝓡 tt f.Key.name code.function (code.unfolded 𝓤 𝓛.H 𝓜 𝓡 wired) (λ y are.

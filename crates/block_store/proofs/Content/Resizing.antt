@@ -1,0 +1,535 @@
+use Rattle.std.proofs.Common.{◌≡◌, ℕ, ◌+◌, ◌-◌, ◌≤◌, ◌<◌, zero, suc, Bool, true, false, ◌==◌, List, [], ◌∷◌, ◌++◌}
+use Rattle.std.proofs.Common.{length, take, drop, get_or, slice_set, refl, sym, ◌∙◌, ap, cond, map, subst, arith}
+use Rattle.std.proofs.Common.{Option, Some, None, Result, Ok, Err, nat_le, is_some, ◌⊎◌, inl, inr}
+use Rattle.std.proofs.lemmas.Option.{none-some, same_Some}
+use Rattle.std.proofs.lemmas.Bool.{cond-true, cond-false, or_parts}
+use Rattle.std.proofs.lemmas.Bool.Decides.{nat_tests, Decides-eqb}
+use Rattle.std.proofs.lemmas.List.{length-map, map-append, take-map, drop-map, length-take, length-append}
+use Rattle.std.proofs.lemmas.List.{length-replicate, take-append-drop}
+use Rattle.std.specs.Option.{option_map, IfSome, IsSome, IsSomeAnd}
+use Rattle.std.specs.Result.{OnOk}
+use Rattle.block_store.specs.Block.{Block, Free, Fixed, Masters, Relocatable, size, sizes, free, is_room}
+use Rattle.block_store.specs.Block.{is_relocatable, is_masters, resized, resized_content, content_of, with_content}
+use Rattle.block_store.specs.Block.{count, total, add, tidy}
+use Rattle.block_store.specs.Room.{Spot, spot, spot_at, raised}
+use Rattle.block_store.specs.Find.{FindsLowest}
+use Rattle.block_store.specs.Run.{has}
+use Rattle.block_store.specs.Grow.{taken, growth, grow_up, freed}
+use Rattle.block_store.specs.Inner.ListStore.{block_of, blocks_of, nth_spot}
+use Rattle.block_store.specs.declared.entries.StoredBlock.{StoredBlock}
+use Rattle.block_store.specs.declared.entries.StoredBlock.TheVariants as entry
+use Rattle.block_store.proofs.Zone.Totals.{total-append}
+use Rattle.block_store.proofs.Zone.Tidy.{spot-passes, total-tidy}
+use Rattle.block_store.proofs.Zone.Apart.{Apart, apart-tidied, tidy-apart, tidy-content, apart-shrunk}
+use Rattle.block_store.proofs.Zone.Leading.{masters-released}
+use Rattle.mac_words.specs.Size.{padded}
+use Rattle.block_store.proofs.Zone.Listing.{drop-blocks, blocks-remove, nth_spot-at, size-freed}
+use Rattle.block_store.proofs.Zone.Spots.{blocks-set, room-size, free-some}
+
+-- Blocks at another size.
+
+-- the block that is found, without its spot
+abbrev pub found : (Block → Bool) → List Block → Option Block
+found test bs = option_map (λ s. s.here) (spot test bs)
+
+pub found-here : (test : Block → Bool) (b : Block) (above : List Block) → test b ≡ true
+    → found test (b ∷ above) ≡ Some b
+found-here test b above is = ap (option_map (λ (s : Spot). s.here)) (cond-true (test b) _ _ is)
+
+pub found-above : (test : Block → Bool) (b : Block) (above : List Block) → test b ≡ false
+    → found test (b ∷ above) ≡ found test above
+found-above test b above is = ap (option_map (λ (s : Spot). s.here)) (cond-false (test b) _ _ is)
+    ∙ cases (spot test above)
+  where
+    cases : (o : Option Spot) → option_map (λ (s : Spot). s.here) (option_map (raised b) o)
+        ≡ option_map (λ (s : Spot). s.here) o
+    cases None = refl
+    cases (Some s) = refl
+
+pub if_found : (P : Block → Type 0) (o : Option Spot) (b : Block) → option_map (λ (s : Spot). s.here) o ≡ Some b → P b
+    → IfSome o (λ s. P s.here)
+if_found P None b e holds = absurd (none-some _ e)
+if_found P (Some s) b e holds = subst P (sym (same_Some _ _ e)) holds
+
+pub if_some : {A : Type 0} (P : A → Type 0) (o : Option A) (x : A) → o ≡ Some x → P x → IfSome o P
+if_some P o x e holds = subst (λ (o : Option _). IfSome o P) (sym e) holds
+
+-- the first of the blocks has bytes to take
+pub taken-room : (d : ℕ) (b : Block) (above : List Block) → IsSome (taken d (b ∷ above)) → is_room d b ≡ true
+taken-room d b above is = cases (is_room d b) is
+  where
+    cases : (t : Bool) → IsSome (cond t (Some (free (size b - d) ++ above)) None) → t ≡ true
+    cases true is = refl
+    cases false is = let f : false ≡ true = is in cc
+
+pub taken-fits : (d : ℕ) (bs : List Block) → IsSome (taken d bs) → d ≤ sizes bs
+taken-fits d [] is = let f : false ≡ true = is in cc
+taken-fits d (b ∷ above) is = let le = room-size d b (taken-room d b above is) in omega arith
+
+pub within-taken : (d i : ℕ) (es : List StoredBlock) → IsSome (taken d (drop i (blocks_of es))) → i < length es
+within-taken d zero [] is = let f : false ≡ true = is in cc
+within-taken d (suc i) [] is = let f : false ≡ true = is in cc
+within-taken d zero (e ∷ es) is = omega arith
+within-taken d (suc i) (e ∷ es) is = let r = within-taken d i es is in omega arith
+
+pub taken-at : (es : List StoredBlock) (i d : ℕ) (e : StoredBlock) → i < length es → e ≡ get_or es i e
+    → IsSome (taken d (drop i (blocks_of es)))
+    → (d ≤ size (block_of e)) × (taken d (drop i (blocks_of es))
+    ≡ Some (free (size (block_of e) - d) ++ drop (i + 1) (blocks_of es)))
+taken-at es i d e within is some =
+    let split = drop-blocks es i e within is in
+    let room = taken-room d (block_of e) (drop (i + 1) (blocks_of es))
+    (subst (λ (l : List Block). IsSome (taken d l)) split some) in
+    (room-size d (block_of e) room, ap (taken d) split ∙ cond-true (is_room d (block_of e)) _ _ room)
+
+-- the entry goes, or is what is left
+pub taken-none : (es es' : List StoredBlock) (i d : ℕ) (e : StoredBlock) → es' ≡ take i es ++ drop (suc i) es
+    → i < length es → e ≡ get_or es i e → IsSome (taken d (drop i (blocks_of es))) → size (block_of e) - d ≡ 0
+    → IfSome (taken d (drop i (blocks_of es))) (λ above. blocks_of es' ≡ take i (blocks_of es) ++ above)
+taken-none es es' i d e after within is some none =
+    if_some (λ above. blocks_of es' ≡ take i (blocks_of es) ++ above) _ _ (taken-at es i d e within is some).1
+    (ap blocks_of after ∙ blocks-remove es i ∙ ap (λ n. take i (blocks_of es)
+    ++ (free n ++ drop (i + 1) (blocks_of es))) (sym none))
+
+pub taken-some : (es : List StoredBlock) (i d left : ℕ) (e : StoredBlock) → i < length es → e ≡ get_or es i e
+    → IsSome (taken d (drop i (blocks_of es))) → size (block_of e) - d ≡ left → (left ≡ 0 → ⊥)
+    → IfSome (taken d (drop i (blocks_of es))) (λ above. blocks_of (slice_set es i (entry.Free left))
+    ≡ take i (blocks_of es) ++ above)
+taken-some es i d left e within is some same more =
+    if_some (λ above. blocks_of (slice_set es i (entry.Free left)) ≡ take i (blocks_of es) ++ above) _ _
+    (taken-at es i d e within is some).1
+    (blocks-set es i (entry.Free left) within ∙ ap (λ l. take i (blocks_of es) ++ (l ++ drop (i + 1) (blocks_of es)))
+    (sym (free-some left (omega arith)) ∙ ap free (sym same)))
+
+-- a block and those above it are no more than all
+pub sizes-from : (es : List StoredBlock) (i : ℕ) (e : StoredBlock) → i < length es → e ≡ get_or es i e
+    → size (block_of e) + sizes (drop (i + 1) (blocks_of es)) ≤ sizes (blocks_of es)
+sizes-from es i e within is =
+    let a : sizes (take i (blocks_of es) ++ block_of e ∷ drop (i + 1) (blocks_of es)) ≡ sizes (blocks_of es) =
+    ap (λ l. sizes (take i (blocks_of es) ++ l)) (sym (drop-blocks es i e within is))
+    ∙ ap sizes (take-append-drop i (blocks_of es)) in
+    let b = total-append size (take i (blocks_of es)) (block_of e ∷ drop (i + 1) (blocks_of es)) in
+    omega arith
+
+-- what growth asks of the blocks above
+pub grow_up-taken : (new : Block) (s : Spot) → IsSome (grow_up new s) → IsSome (taken (growth new s) s.above)
+grow_up-taken new s is = cases (taken (growth new s) s.above) is
+  where
+    cases : (o : Option (List Block)) → IsSome (option_map (λ above. s.below ++ new ∷ above) o) → IsSome o
+    cases None is = is
+    cases (Some above) is = refl
+
+pub if_grown : (new : Block) (s : Spot) (zone : List Block) → IfSome (taken (growth new s) s.above)
+    (λ above. zone ≡ s.below ++ new ∷ above) → IfSome (grow_up new s) (λ after. zone ≡ after)
+if_grown new s zone is = cases (taken (growth new s) s.above) is
+  where
+    cases : (o : Option (List Block)) → IfSome o (λ above. zone ≡ s.below ++ new ∷ above)
+        → IfSome (option_map (λ above. s.below ++ new ∷ above) o) (λ after. zone ≡ after)
+    cases None is = tt
+    cases (Some above) is = is
+
+pub if_some-map : {A : Type 0} {P Q : A → Type 0} (o : Option A) → ((x : A) → P x → Q x) → IfSome o P → IfSome o Q
+if_some-map None f p = tt
+if_some-map (Some x) f p = f x p
+
+-- the last of the blocks below is another
+pub set-last : (bs above : List Block) (i : ℕ) (new : Block) → i < length bs
+    → take i (take (i + 1) bs ++ above) ++ new ∷ drop (i + 1) (take (i + 1) bs ++ above) ≡ take i bs ++ new ∷ above
+set-last [] above i new within = absurd (let z : i < 0 = within in omega arith)
+set-last (b ∷ bs) above zero new within = refl
+set-last (b ∷ bs) above (suc i) new within =
+    ap (λ n. take (suc i) (take n (b ∷ bs) ++ above) ++ new ∷ drop n (take n (b ∷ bs) ++ above))
+    (let z : suc i + 1 ≡ suc (i + 1) = omega arith in z)
+    ∙ ap (λ l. b ∷ l) (set-last bs above i new (let z : suc i < suc (length bs) = within in omega arith))
+
+pub grown-within : (es es' : List StoredBlock) (i d : ℕ) → i < length es
+    → IsSome (taken d (drop (i + 1) (blocks_of es))) → IfSome (taken d (drop (i + 1) (blocks_of es)))
+    (λ above. blocks_of es' ≡ take (i + 1) (blocks_of es) ++ above) → i < length es'
+grown-within es es' i d within some is = cases (taken d (drop (i + 1) (blocks_of es))) some is
+  where
+    cases : (o : Option (List Block)) → IsSome o → IfSome o (λ above. blocks_of es' ≡ take (i + 1) (blocks_of es)
+        ++ above) → i < length es'
+    cases None some is = let f : false ≡ true = some in cc
+    cases (Some above) some is =
+        let a : length (blocks_of es') ≡ length es' = length-map es' block_of in
+        let b : length (blocks_of es) ≡ length es = length-map es block_of in
+        let c = ap length is ∙ length-append (take (i + 1) (blocks_of es)) above in
+        let d = length-take (i + 1) (blocks_of es) in
+        omega arith
+
+-- the spot of an entry
+abbrev pub entry_spot : List StoredBlock → ℕ → StoredBlock → Spot
+entry_spot es i e = record { below = take i (blocks_of es); here = block_of e; above = drop (i + 1) (blocks_of es) }
+
+-- what is true of an entry's spot
+pub and_entry : (es es' : List StoredBlock) (place i : ℕ) (e : StoredBlock) (P : Spot → Type 0) → es' ≡ es
+    → (i < length es') × (spot_at place (blocks_of es') ≡ nth_spot i (blocks_of es')) → e ≡ get_or es i e
+    → P (entry_spot es i e) → IsSomeAnd (spot_at place (blocks_of es)) P
+and_entry es es' place i e P same found is holds =
+    let within : i < length es = subst (λ (l : List StoredBlock). i < length l) same found.0 in
+    let spotted : spot_at place (blocks_of es) ≡ nth_spot i (blocks_of es) =
+    subst (λ (l : List StoredBlock). spot_at place (blocks_of l) ≡ nth_spot i (blocks_of l)) same found.1 in
+    subst (λ (o : Option Spot). IsSomeAnd o P) (sym (spotted ∙ nth_spot-at i (blocks_of es) (block_of e)
+    (drop (i + 1) (blocks_of es)) (drop-blocks es i e within is))) holds
+
+-- a block that has room in place of an entry takes no more than all
+pub sized-fits : (es : List StoredBlock) (i : ℕ) (e : StoredBlock) (new : Block) → i < length es → e ≡ get_or es i e
+    → (size new ≤ size (block_of e)) ⊎ IsSome (grow_up new (entry_spot es i e)) → size new ≤ sizes (blocks_of es)
+sized-fits es i e new within is room = cases room
+  where
+    all : size (block_of e) + sizes (drop (i + 1) (blocks_of es)) ≤ sizes (blocks_of es)
+    all = sizes-from es i e within is
+
+    cases : (size new ≤ size (block_of e)) ⊎ IsSome (grow_up new (entry_spot es i e)) → size new ≤ sizes (blocks_of es)
+    cases (inl le) = omega (arith, all)
+    cases (inr some) =
+        let d : size new - size (block_of e) ≤ sizes (drop (i + 1) (blocks_of es)) =
+        taken-fits (size new - size (block_of e)) (drop (i + 1) (blocks_of es))
+        (grow_up-taken new (entry_spot es i e) some) in
+        omega (arith, all)
+
+pub larger : {P : Type 0} (n m : ℕ) → m < n → (n ≤ m) ⊎ P → P
+larger n m more (inl le) = absurd (let z : n ≤ m = le in omega arith)
+larger n m more (inr p) = p
+
+pub on_ok : {T E P : Type 0} (r : Result T E) → P → OnOk r P
+on_ok (Ok x) p = p
+on_ok (Err e) p = tt
+
+-- a Free entry more
+pub blocks-inserted : (es : List StoredBlock) (i left : ℕ) → blocks_of (take i es ++ entry.Free left ∷ drop i es)
+    ≡ take i (blocks_of es) ++ Free left ∷ drop i (blocks_of es)
+blocks-inserted es i left =
+    map-append block_of (take i es) (entry.Free left ∷ drop i es)
+    ∙ ap (λ l. l ++ Free left ∷ map block_of (drop i es)) (sym (take-map block_of i es))
+    ∙ ap (λ l. take i (blocks_of es) ++ Free left ∷ l) (sym (drop-map block_of i es))
+
+pub sizes-inserted : (bs : List Block) (i left : ℕ) → sizes (take i bs ++ Free left ∷ drop i bs) ≡ sizes bs + left
+sizes-inserted bs i left =
+    let a = total-append size (take i bs) (Free left ∷ drop i bs) in
+    let b : sizes (take i bs) + sizes (drop i bs) ≡ sizes bs = sym (total-append size (take i bs) (drop i bs))
+    ∙ ap sizes (take-append-drop i bs) in
+    omega arith
+
+-- a slot's block went, and another stands in place of the block below the new Free one
+pub moved-carved : (number : ℕ) (bs : List Block) (i left : ℕ) (new : Block) → i < length bs
+    → take i (freed (is_relocatable number) (take (i + 1) bs ++ Free left ∷ drop (i + 1) bs))
+    ++ new ∷ drop (i + 1) (freed (is_relocatable number) (take (i + 1) bs ++ Free left ∷ drop (i + 1) bs))
+    ≡ freed (is_relocatable number) (take i bs) ++ new ∷ Free left ∷ freed (is_relocatable number) (drop (i + 1) bs)
+moved-carved number [] i left new within = absurd (let z : i < 0 = within in omega arith)
+moved-carved number (b ∷ bs) zero left new within = refl
+moved-carved number (b ∷ bs) (suc i) left new within =
+    ap (λ n. take (suc i) (freed (is_relocatable number) (take n (b ∷ bs) ++ Free left ∷ drop n (b ∷ bs)))
+    ++ new ∷ drop n (freed (is_relocatable number) (take n (b ∷ bs) ++ Free left ∷ drop n (b ∷ bs))))
+    (let z : suc i + 1 ≡ suc (i + 1) = omega arith in z)
+    ∙ ap (λ l. cond (is_relocatable number b) (Free (size b)) b ∷ l)
+    (moved-carved number bs i left new (let z : suc i < suc (length bs) = within in omega arith))
+    ∙ ap (λ n. freed (is_relocatable number) (take (suc i) (b ∷ bs))
+    ++ new ∷ Free left ∷ freed (is_relocatable number) (drop n (b ∷ bs)))
+    (let z : suc (i + 1) ≡ suc i + 1 = omega arith in z)
+
+pub blocks-moved : (number : ℕ) (es es' : List StoredBlock) (i left : ℕ) (new : StoredBlock) → i < length es
+    → i < length es' → blocks_of es' ≡ freed (is_relocatable number)
+    (take (i + 1) (blocks_of es) ++ Free left ∷ drop (i + 1) (blocks_of es))
+    → blocks_of (slice_set es' i new) ≡ freed (is_relocatable number) (take i (blocks_of es))
+    ++ block_of new ∷ Free left ∷ freed (is_relocatable number) (drop (i + 1) (blocks_of es))
+blocks-moved number es es' i left new within within' is =
+    blocks-set es' i new within' ∙ ap (λ l. take i l ++ block_of new ∷ drop (i + 1) l) is
+    ∙ moved-carved number (blocks_of es) i left (block_of new)
+    (let z : length (blocks_of es) ≡ length es = length-map es block_of in omega arith)
+
+pub sizes-moved : (number : ℕ) (es : List StoredBlock) (i left : ℕ) (e : StoredBlock) (new : Block) → i < length es
+    → e ≡ get_or es i e → size new + left ≡ size (block_of e)
+    → sizes (freed (is_relocatable number) (take i (blocks_of es))
+    ++ new ∷ Free left ∷ freed (is_relocatable number) (drop (i + 1) (blocks_of es))) ≡ sizes (blocks_of es)
+sizes-moved number es i left e new within is same =
+    let t = is_relocatable number in
+    let below = take i (blocks_of es) in
+    let above = drop (i + 1) (blocks_of es) in
+    let a = total-append size (freed t below) (new ∷ Free left ∷ freed t above) in
+    let b = size-freed t below in
+    let c = size-freed t above in
+    let d : sizes (below ++ block_of e ∷ above) ≡ sizes (blocks_of es) =
+    ap (λ l. sizes (below ++ l)) (sym (drop-blocks es i e within is))
+    ∙ ap sizes (take-append-drop i (blocks_of es)) in
+    let f = total-append size below (block_of e ∷ above) in
+    omega arith
+
+pub moved-within : (number : ℕ) (es es' : List StoredBlock) (i left : ℕ) → i < length es
+    → blocks_of es' ≡ freed (is_relocatable number) (take (i + 1) (blocks_of es)
+    ++ Free left ∷ drop (i + 1) (blocks_of es)) → i < length es'
+moved-within number es es' i left within is =
+    let a : length (blocks_of es') ≡ length es' = length-map es' block_of in
+    let b : length (blocks_of es) ≡ length es = length-map es block_of in
+    let c : length (blocks_of es') ≡ length (take (i + 1) (blocks_of es) ++ Free left ∷ drop (i + 1) (blocks_of es)) =
+    ap length is ∙ length-map (take (i + 1) (blocks_of es) ++ Free left ∷ drop (i + 1) (blocks_of es))
+    (λ b. cond (is_relocatable number b) (Free (size b)) b) in
+    let d = length-append (take (i + 1) (blocks_of es)) (Free left ∷ drop (i + 1) (blocks_of es)) in
+    let f = length-take (i + 1) (blocks_of es) in
+    omega arith
+
+-- a block in place of what a place's spot makes of it
+pub if_entry : (es es' : List StoredBlock) (place i : ℕ) (e : StoredBlock) (f : Block → Block) (new : Block)
+    (P : Block → Spot → Type 0) → es' ≡ es → (i < length es') × (spot_at place (blocks_of es')
+    ≡ nth_spot i (blocks_of es')) → e ≡ get_or es i e → new ≡ f (block_of e)
+    → IfSome (spot_at place (blocks_of es)) (λ s. P new s) → IfSome (spot_at place (blocks_of es)) (λ s. P (f s.here) s)
+if_entry es es' place i e f new P same found is made holds =
+    let within : i < length es = subst (λ (l : List StoredBlock). i < length l) same found.0 in
+    let spotted : spot_at place (blocks_of es) ≡ nth_spot i (blocks_of es) =
+    subst (λ (l : List StoredBlock). spot_at place (blocks_of l) ≡ nth_spot i (blocks_of l)) same found.1 in
+    let at = spotted ∙ nth_spot-at i (blocks_of es) (block_of e) (drop (i + 1) (blocks_of es))
+    (drop-blocks es i e within is) in
+    let here : P new (entry_spot es i e) = subst (λ (o : Option Spot). IfSome o (λ s. P new s)) at holds in
+    subst (λ (o : Option Spot). IfSome o (λ s. P (f s.here) s)) (sym at)
+    (subst (λ (b : Block). P b (entry_spot es i e)) made here)
+
+pub length-resized : (n : ℕ) (content : List ℕ) → length (resized_content n content) ≡ n
+length-resized n content = simp (length-append, length-take, length-replicate) (omega arith)
+
+pub size-resized : (number n : ℕ) (b : Block) → is_relocatable number b ≡ true → size (resized n b) ≡ padded n
+size-resized number n (Free m) e = let f : false ≡ true = e in cc
+size-resized number n (Fixed id content) e = let f : false ≡ true = e in cc
+size-resized number n Masters e = let f : false ≡ true = e in cc
+size-resized number n (Relocatable id flags content) e = ap padded (length-resized n content)
+
+-- the slot's block at another size
+pub size-slot : (number n : ℕ) (bs : List Block) (new : Block) → IsSome (spot (is_relocatable number) bs)
+    → IfSome (spot (is_relocatable number) bs) (λ from. new ≡ resized n from.here) → size new ≡ padded n
+size-slot number n bs new some is = cases (spot (is_relocatable number) bs) refl some is
+  where
+    cases : (o : Option Spot) → spot (is_relocatable number) bs ≡ o → IsSome o
+        → IfSome o (λ from. new ≡ resized n from.here) → size new ≡ padded n
+    cases None e some is = let f : false ≡ true = some in cc
+    cases (Some s) e some is = ap size is ∙ size-resized number n s.here (spot-passes (is_relocatable number) bs s e)
+
+-- another size leaves what a block is
+pub is_relocatable-resized : (k n : ℕ) (b : Block) → is_relocatable k (resized n b) ≡ is_relocatable k b
+is_relocatable-resized k n (Free m) = refl
+is_relocatable-resized k n (Fixed id content) = refl
+is_relocatable-resized k n Masters = refl
+is_relocatable-resized k n (Relocatable id flags content) = refl
+
+pub is_masters-resized : (n : ℕ) (b : Block) → is_masters (resized n b) ≡ is_masters b
+is_masters-resized n (Free m) = refl
+is_masters-resized n (Fixed id content) = refl
+is_masters-resized n Masters = refl
+is_masters-resized n (Relocatable id flags content) = refl
+
+resized-is : (n : ℕ) (b : Block) → with_content (resized_content n (content_of b)) b ≡ resized n b
+resized-is n (Free m) = refl
+resized-is n (Fixed id content) = refl
+resized-is n Masters = refl
+resized-is n (Relocatable id flags content) = refl
+
+-- what is taken comes from a Free block
+pub taken-is : (d : ℕ) (above after : List Block) → taken d above ≡ Some after → (m : ℕ) × (rest : List Block)
+    × (above ≡ Free m ∷ rest) × (d ≤ m) × (free (m - d) ++ rest ≡ after)
+taken-is d [] after e = absurd (none-some _ e)
+taken-is d (Free m ∷ rest) after e = cases (nat_le d m) refl e
+  where
+    cases : (t : Bool) → nat_le d m ≡ t → cond t (Some (free (m - d) ++ rest)) None ≡ Some after → (m' : ℕ)
+        × (rest' : List Block) × (Free m ∷ rest ≡ Free m' ∷ rest') × (d ≤ m') × (free (m' - d) ++ rest' ≡ after)
+    cases true fits e = (m, rest, refl, grind (arith, nat_tests), same_Some _ _ e)
+    cases false fits e = absurd (none-some _ e)
+taken-is d (Fixed id content ∷ rest) after e = absurd (none-some _ e)
+taken-is d (Masters ∷ rest) after e = absurd (none-some _ e)
+taken-is d (Relocatable id flags content ∷ rest) after e = absurd (none-some _ e)
+
+pub grown-is : (new : Block) (s : Spot) (zone : List Block) → grow_up new s ≡ Some zone → (m : ℕ) × (rest : List Block)
+    × (s.above ≡ Free m ∷ rest) × (growth new s ≤ m) × (s.below ++ new ∷ (free (m - growth new s) ++ rest) ≡ zone)
+grown-is new s zone e = cases (taken (growth new s) s.above) refl e
+  where
+    cases : (o : Option (List Block)) → taken (growth new s) s.above ≡ o
+        → option_map (λ above. s.below ++ new ∷ above) o ≡ Some zone
+        → (m : ℕ) × (rest : List Block) × (s.above ≡ Free m ∷ rest) × (growth new s ≤ m)
+        × (s.below ++ new ∷ (free (m - growth new s) ++ rest) ≡ zone)
+    cases None same e = absurd (none-some _ e)
+    cases (Some after) same e =
+        let is = taken-is (growth new s) s.above after same in
+        (is.0, is.1, is.2, is.3, ap (λ l. s.below ++ new ∷ l) is.4 ∙ same_Some _ _ e)
+
+total-free : (of : Block → ℕ) → of (Free 0) ≡ 0 → (n : ℕ) (above : List Block)
+    → total of (free n ++ above) ≡ of (Free n) + total of above
+total-free of none zero above = omega arith
+total-free of none (suc n) above = refl
+
+-- growth keeps a measure
+total-grown : (of : Block → ℕ) → of (Free 0) ≡ 0 → (new : Block) (s : Spot) (zone : List Block)
+    → ((m : ℕ) → growth new s ≤ m → of new + of (Free (m - growth new s)) ≡ of s.here + of (Free m))
+    → grow_up new s ≡ Some zone → total of zone ≡ total of (s.below ++ s.here ∷ s.above)
+total-grown of none new s zone keeps e =
+    let is = grown-is new s zone e in
+    let m = is.0 in
+    let rest = is.1 in
+    let k = m - growth new s in
+    let a = total-append of s.below (new ∷ (free k ++ rest)) in
+    let b : total of (s.below ++ s.here ∷ s.above) ≡ total of s.below + (of s.here + (of (Free m) + total of rest)) =
+    total-append of s.below (s.here ∷ s.above) ∙ ap (λ l. total of s.below + (of s.here + total of l)) is.2 in
+    let c = total-free of none k rest in
+    let d : of new + of (Free k) ≡ of s.here + of (Free m) = keeps m is.3 in
+    sym (ap (total of) is.4) ∙ (let z : total of (s.below ++ new ∷ (free k ++ rest))
+    ≡ total of (s.below ++ s.here ∷ s.above) = omega arith in z)
+
+pub sizes-grown : (new : Block) (s : Spot) (zone : List Block) → size s.here < size new → grow_up new s ≡ Some zone
+    → sizes zone ≡ sizes (s.below ++ s.here ∷ s.above)
+sizes-grown new s zone more e = total-grown size refl new s zone
+    (λ m fits. let z : size new + (m - (size new - size s.here)) ≡ size s.here + m = omega arith in z) e
+
+pub count-grown : (test : Block → Bool) → ((n : ℕ) → test (Free n) ≡ false)
+    → (new : Block) (s : Spot) (zone : List Block) → test new ≡ test s.here → grow_up new s ≡ Some zone
+    → count test zone ≡ count test (s.below ++ s.here ∷ s.above)
+count-grown test none new s zone same e = total-grown (λ (b : Block). cond (test b) 1 0) (rw (none 0) refl) new s zone
+    (λ m fits. rw (same, none m, none (m - growth new s)) refl) e
+
+larger-stands : (n : ℕ) (b : Block) → size b < size (resized n b) → (bs : List Block)
+    → add (resized n b) bs ≡ resized n b ∷ bs
+larger-stands n (Free m) more bs = absurd (let z : m < m = more in omega arith)
+larger-stands n (Fixed id content) more bs = refl
+larger-stands n Masters more bs = refl
+larger-stands n (Relocatable id flags content) more bs = refl
+
+pub tidy-grown : (n : ℕ) (s : Spot) (zone : List Block) → size s.here < size (resized n s.here)
+    → tidy (s.below ++ s.here ∷ s.above) ≡ s.below ++ s.here ∷ s.above → grow_up (resized n s.here) s ≡ Some zone
+    → tidy zone ≡ zone
+tidy-grown n s zone more tidied e =
+    let new = resized n s.here in
+    let is = grown-is new s zone e in
+    let x = resized_content n (content_of s.here) in
+    let same : s.below ++ with_content x s.here ∷ s.above ≡ s.below ++ new ∷ Free is.0 ∷ is.1 =
+    ap (λ b. s.below ++ b ∷ s.above) (resized-is n s.here) ∙ ap (λ l. s.below ++ new ∷ l) is.2 in
+    let apart : Apart (s.below ++ new ∷ Free is.0 ∷ is.1) = subst Apart same
+    (apart-tidied (s.below ++ with_content x s.here ∷ s.above) (tidy-content x s.below s.here s.above tidied)) in
+    tidy-apart zone (subst Apart is.4 (apart-shrunk s.below new is.0 (is.0 - growth new s) is.1
+    (larger-stands n s.here more) apart))
+
+pub less_or_more : (n m : ℕ) → (n ≤ m) ⊎ (m < n)
+less_or_more n m = cases (nat_le n m) refl
+  where
+    cases : (t : Bool) → nat_le n m ≡ t → (n ≤ m) ⊎ (m < n)
+    cases true e = inl (grind (arith, nat_tests))
+    cases false e = inr (grind (arith, nat_tests))
+
+-- a block that is found passes
+pub found-has : (test : Block → Bool) (bs : List Block) (s : Spot) → spot test bs ≡ Some s → has test bs ≡ false → ⊥
+found-has test [] s e none = absurd (none-some _ e)
+found-has test (b ∷ bs) s e none = cases (test b) (spot test bs) (or_parts (test b) (has test bs) none)
+    (λ s e. found-has test bs s e (or_parts (test b) (has test bs) none).1) e
+  where
+    cases : (t : Bool) (o : Option Spot) → (t ≡ false) × (has test bs ≡ false) → ((s : Spot) → o ≡ Some s → ⊥)
+        → cond t (Some (record { below = []; here = b; above = bs })) (option_map (raised b) o) ≡ Some s → ⊥
+    cases true o parts rest e = let f : true ≡ false = parts.0 in cc
+    cases false None parts rest e = absurd (none-some _ e)
+    cases false (Some s) parts rest e = rest s refl
+
+-- a slot's block, by its number
+pub is_of : (number k : ℕ) (b : Block) → is_relocatable number b ≡ true → is_relocatable k b ≡ (number == k)
+is_of number k (Free m) e = let f : false ≡ true = e in cc
+is_of number k (Fixed id content) e = let f : false ≡ true = e in cc
+is_of number k Masters e = let f : false ≡ true = e in cc
+is_of number k (Relocatable id flags content) e = ap (λ n. n == k) ((Decides-eqb id number).0 e)
+
+pub not_both : (number : ℕ) (b : Block) → is_relocatable number b ≡ true → is_masters b ≡ false
+not_both number (Free m) e = refl
+not_both number (Fixed id content) e = refl
+not_both number Masters e = let f : false ≡ true = e in cc
+not_both number (Relocatable id flags content) e = refl
+
+-- a Free block stays as it is where a slot's block is freed
+pub freed-around : (number p : ℕ) (s : Spot) (zone : List Block) → is_room p s.here ≡ true
+    → s.below ++ s.here ∷ s.above ≡ zone
+    → freed (is_relocatable number) s.below ++ s.here ∷ freed (is_relocatable number) s.above
+    ≡ freed (is_relocatable number) zone
+freed-around number p s zone room whole =
+    ap (λ b. freed (is_relocatable number) s.below ++ b ∷ freed (is_relocatable number) s.above) (sym (one s.here room))
+    ∙ sym (map-append (λ b. cond (is_relocatable number b) (Free (size b)) b) s.below (s.here ∷ s.above))
+    ∙ ap (freed (is_relocatable number)) whole
+  where
+    one : (b : Block) → is_room p b ≡ true → cond (is_relocatable number b) (Free (size b)) b ≡ b
+    one (Free m) e = refl
+    one (Fixed id content) e = let f : false ≡ true = e in cc
+    one Masters e = let f : false ≡ true = e in cc
+    one (Relocatable id flags content) e = let f : false ≡ true = e in cc
+
+pub masters-freed : (number : ℕ) (bs : List Block) → count is_masters (freed (is_relocatable number) bs)
+    ≡ count is_masters bs
+masters-freed number bs = sym (total-tidy (λ (b : Block). cond (is_masters b) 1 0) (λ n m. refl)
+    (freed (is_relocatable number) bs)) ∙ masters-released number bs
+
+-- the block at the place where another ends is the next one
+pub next-at : (place : ℕ) (bs : List Block) (s s' : Spot) → 0 < size s.here → spot_at place bs ≡ Some s
+    → spot_at (place + size s.here) bs ≡ Some s' → s.above ≡ s'.here ∷ s'.above
+next-at place [] s s' some e e' = absurd (none-some _ e)
+next-at place (b ∷ bs) s s' some e e' = cases (place == 0) refl (nat_le (size b) place) refl
+    (λ s s' some e e'. next-at (place - size b) bs s s' some e e') e
+  where
+    map-some : (o : Option Spot) (s : Spot) → option_map (raised b) o ≡ Some s → (r : Spot) × (o ≡ Some r)
+        × (raised b r ≡ s)
+    map-some None s e = absurd (none-some _ e)
+    map-some (Some r) s e = (r, refl, same_Some _ _ e)
+
+    step : (n k : ℕ) → n ≡ size b + k → 0 < n → spot_at n (b ∷ bs) ≡ option_map (raised b) (spot_at k bs)
+    step n k is more =
+        cond-false (n == 0) _ _ (grind (arith, nat_tests)) ∙ cond-true (nat_le (size b) n) _ _
+        (grind (arith, nat_tests)) ∙ ap (λ m. option_map (raised b) (spot_at m bs))
+        (let z : n - size b ≡ k = omega arith in z)
+
+    first : (above : List Block) (r : Spot) → spot_at 0 above ≡ Some r → above ≡ r.here ∷ r.above
+    first [] r e = absurd (none-some _ e)
+    first (c ∷ above) r e = ap (λ (r : Spot). r.here ∷ r.above) (same_Some _ _ e)
+
+    cases : (t : Bool) → (place == 0) ≡ t → (u : Bool) → nat_le (size b) place ≡ u
+        → ((s s' : Spot) → 0 < size s.here → spot_at (place - size b) bs ≡ Some s
+        → spot_at (place - size b + size s.here) bs ≡ Some s' → s.above ≡ s'.here ∷ s'.above)
+        → cond t (Some (record { below = []; here = b; above = bs }))
+        (cond u (option_map (raised b) (spot_at (place - size b) bs)) None) ≡ Some s → s.above ≡ s'.here ∷ s'.above
+    cases true z u l rest e =
+        let same = same_Some _ _ e in
+        let here : size b ≡ size s.here = ap (λ (s : Spot). size s.here) same in
+        let none : place ≡ 0 = grind (arith, nat_tests) in
+        let r = map-some (spot_at 0 bs) s' (sym (step (place + size s.here) 0 (omega arith) (omega arith)) ∙ e') in
+        sym (ap (λ (s : Spot). s.above) same) ∙ first bs r.0 r.1 ∙ ap (λ (r : Spot). r.here ∷ r.above) r.2
+    cases false z false l rest e = absurd (none-some _ e)
+    cases false z true l rest e =
+        let p = map-some (spot_at (place - size b) bs) s e in
+        let here : size p.0.here ≡ size s.here = ap (λ (s : Spot). size s.here) p.2 in
+        let le : size b ≤ place = grind (arith, nat_tests) in
+        let k = place - size b + size p.0.here in
+        let r = map-some (spot_at k bs) s' (sym (step (place + size s.here) k (omega arith) (omega arith)) ∙ e') in
+        sym (ap (λ (s : Spot). s.above) p.2) ∙ rest p.0 r.0 (omega arith) p.1 r.1
+        ∙ ap (λ (r : Spot). r.here ∷ r.above) r.2
+
+pub taken-grow_up : (new : Block) (s : Spot) → IsSome (taken (growth new s) s.above) → IsSome (grow_up new s)
+taken-grow_up new s is = cases (taken (growth new s) s.above) is
+  where
+    cases : (o : Option (List Block)) → IsSome o → IsSome (option_map (λ above. s.below ++ new ∷ above) o)
+    cases None is = is
+    cases (Some above) is = refl
+
+size-of : (number : ℕ) (b : Block) → is_relocatable number b ≡ true → size b ≡ padded (length (content_of b))
+size-of number (Free m) e = let f : false ≡ true = e in cc
+size-of number (Fixed id content) e = refl
+size-of number Masters e = let f : false ≡ true = e in cc
+size-of number (Relocatable id flags content) e = refl
+
+-- a slot's block may grow where a Free block with room follows it
+pub room-next : (number place was n m : ℕ) (zone : List Block) → FindsLowest (is_relocatable number) zone (Some place)
+    → IfSome (spot_at place zone) (λ s. length (content_of s.here) ≡ was)
+    → FindsLowest (is_room m) zone (Some (place + padded was)) → m ≡ padded n - padded was
+    → IsSomeAnd (spot_at place zone) (λ s. (size (resized n s.here) ≤ size s.here)
+    ⊎ IsSome (grow_up (resized n s.here) s))
+room-next number place was n m zone (s, found, at, below) held (s', found', at', below') same =
+    let passes = spot-passes (is_relocatable number) zone s found in
+    let long : length (content_of s.here) ≡ was = subst (λ (o : Option Spot). IfSome o
+    (λ s. length (content_of s.here) ≡ was)) at held in
+    let here : size s.here ≡ padded was = size-of number s.here passes ∙ ap padded long in
+    let new : size (resized n s.here) ≡ padded n = size-resized number n s.here passes in
+    let next = next-at place zone s s' (let z : 0 < padded was = omega arith in
+    omega arith) at (ap (λ k. spot_at (place + k) zone) here ∙ at') in
+    let room = spot-passes (is_room m) zone s' found' in
+    let more : m ≡ growth (resized n s.here) s = omega arith in
+    let some : IsSome (taken m (s'.here ∷ s'.above)) = ap is_some (cond-true (is_room m s'.here) _ _ room) in
+    let taken-there : IsSome (taken (growth (resized n s.here) s) s.above) =
+    subst (λ (k : ℕ). IsSome (taken k s.above)) more (subst (λ (l : List Block). IsSome (taken m l)) (sym next)
+    some) in
+    subst (λ (o : Option Spot). IsSomeAnd o (λ s. (size (resized n s.here) ≤ size s.here)
+    ⊎ IsSome (grow_up (resized n s.here) s))) (sym at) (inr (taken-grow_up (resized n s.here) s taken-there))

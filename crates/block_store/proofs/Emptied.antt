@@ -1,0 +1,5 @@
+pub mod Stretches
+pub mod Purges
+pub mod Looks
+pub mod PurgedSums
+pub mod Sparing

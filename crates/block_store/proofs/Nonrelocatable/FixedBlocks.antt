@@ -1,0 +1,161 @@
+use Rattle.std.proofs.Common.{◌≡◌, ℕ, ◌+◌, ◌-◌, ◌*◌, ◌≤◌, Bool, true, false, ◌==◌, List, [], ◌∷◌, ◌++◌, length, take}
+use Rattle.std.proofs.Common.{refl, sym, ◌∙◌, ap, cond, subst, arith, Result, Ok, Err, replicate, zero, suc}
+use Rattle.std.proofs.lemmas.List.{length-replicate, length-take-le}
+use Rattle.std.specs.Result.{OnOk, OnErr}
+use Rattle.std.specs.Option.{IfSome, IsSomeAnd}
+use Rattle.mac_words.specs.Size.{padded}
+use Rattle.block_store.specs.Block.{Block, Free, Fixed, Masters, Relocatable, size, sizes, count, is_room, is_masters}
+use Rattle.block_store.specs.Block.{is_relocatable, is_fixed, tidy, with_content, content_of}
+use Rattle.windows.specs.Writes.{written}
+use Rattle.block_store.specs.Room.{spot_at, filled}
+use Rattle.block_store.specs.Grow.{freed}
+use Rattle.block_store.specs.Slot.{Slot, is_used}
+use Rattle.block_store.specs.Compact.{Aligned, Placed}
+use Rattle.block_store.specs.declared.slots.SlotEntry.{SlotEntry}
+use Rattle.block_store.specs.declared.slots.SlotEntry.TheVariants as slot_entry
+use Rattle.block_store.specs.Inner.ListStore.{slots_of}
+use Rattle.block_store.proofs.Zone.Tidy.{total-tidy}
+use Rattle.block_store.proofs.Zone.Apart.{tidy-tidy}
+use Rattle.block_store.proofs.Zone.Listing.{size-freed}
+use Rattle.block_store.proofs.Zone.Spots.{room-size, sizes-carved}
+use Rattle.block_store.proofs.Zone.Leading.{count-carved, count-freed, none-count, count-none}
+use Rattle.block_store.proofs.Zone.Aligned.{Sixteens, spot_at-is, aligned-filled, aligned-freed}
+use Rattle.block_store.proofs.Nonrelocatable.Placing.{StandsAt, placed-filled_at, placed-tidy, placed-freed}
+use Rattle.block_store.proofs.Content.Filling.{Lawful, not_masters, lawful-written}
+use Rattle.block_store.proofs.Emptied.Purges.{lawful-fewer}
+use Rattle.block_store.proofs.Plain.Options.{the_some}
+
+-- Fixed blocks, and new blocks of master pointers.
+
+-- a new block that isn't relocatable, where each slot of a handle stays one
+pub lawful-stood : (slots slots' : ℕ → Slot) (bytes all all' : ℕ) (zone zone' : List Block) (place : ℕ) (new : Block)
+    → Lawful slots bytes all zone
+    → ((k : ℕ) → is_relocatable k new ≡ false) → all' ≡ all + 64 * cond (is_masters new) 1 0
+    → ((k : ℕ) → is_used (slots' k) ≡ false → is_used (slots k) ≡ false) → StandsAt place new → Sixteens new
+    → IsSomeAnd (spot_at place zone) (λ s. is_room (size new) s.here ≡ true)
+    → IfSome (spot_at place zone) (λ s. zone' ≡ filled new s) → Lawful slots' bytes all' zone'
+lawful-stood slots slots' bytes all all' zone zone' place new lawful other more stay stands sixteens room after =
+    let at = the_some (spot_at place zone) (λ s. is_room (size new) s.here ≡ true) (λ s. zone' ≡ filled new s) room
+    after in
+    let s = at.0 in
+    let whole = spot_at-is place zone s at.1 in
+    let left = size s.here - size new in
+    let carved = s.below ++ new ∷ Free left ∷ s.above in
+    let fits = room-size (size new) s.here at.2 in
+    let e : zone' ≡ tidy carved = at.3 in
+    let fewer : (k : ℕ) → count (is_relocatable k) zone' ≤ count (is_relocatable k) zone =
+    λ k. less (is_relocatable k) s.here _ _ (count-carved (is_relocatable k) (λ n. refl) s.below s.above s.here new left
+    zone whole) (other k) (ap (count (is_relocatable k)) e) in
+    record {
+      covered = ap sizes e ∙ total-tidy size (λ n m. refl) carved
+          ∙ sizes-carved s.below s.above s.here new left (omega arith) ∙ ap sizes whole ∙ lawful.covered;
+      masters = slots_more s.here _ _ (count-carved is_masters (λ n. refl) s.below s.above s.here new left zone whole)
+          (not_masters (size new) s.here at.2) lawful.masters ∙ ap (λ l. 64 * count is_masters l) (sym e);
+      no_block = λ k unused. none-count (is_relocatable k) zone' (let n = fewer k in
+          let z = count-none (is_relocatable k) zone (lawful.no_block k (stay k unused)) in omega arith);
+      once = λ k. let n = fewer k in let z = lawful.once k in omega arith;
+      tidied = ap tidy e ∙ tidy-tidy carved ∙ sym e;
+      aligned = subst Aligned (sym e) (aligned-filled new s sixteens (subst Aligned (sym whole) lawful.aligned));
+      placed = subst (Placed 0) (sym e) (placed-filled_at place zone new s lawful.placed at.1 stands fits);
+    }
+  where
+    less : (test : Block → Bool) (b : Block) (n m : ℕ) → n + cond (test b) 1 0 ≡ cond (test new) 1 0 + m
+        → test new ≡ false → {n' : ℕ} → n' ≡ n → n' ≤ m
+    less test b n m e none same = let y : cond {A = ℕ} (test new) 1 0 ≡ 0 =
+        ap {B = ℕ} (λ (t : Bool). cond t 1 0) none in omega arith
+
+    slots_more : (b : Block) (n m : ℕ) → n + cond (is_masters b) 1 0 ≡ cond (is_masters new) 1 0 + m
+        → is_masters b ≡ false → all ≡ 64 * m → all' ≡ 64 * n
+    slots_more b n m e f old = let x : cond {A = ℕ} (is_masters b) 1 0 ≡ 0 = ap {B = ℕ} (λ (t : Bool). cond t 1 0) f in
+        omega arith
+
+-- a new Fixed block, or the host had no memory for it
+pub lawful-fixed : {T E : Type 0} (r : Result T E) (slots : ℕ → Slot) (bytes all : ℕ) (zone zone' : List Block)
+    (place n : ℕ) (content : List ℕ) → Lawful slots bytes all zone → content ≡ replicate n 0
+    → IsSomeAnd (spot_at place zone) (λ s. is_room (padded n) s.here ≡ true)
+    → OnOk r (IfSome (spot_at place zone) (λ s. zone' ≡ filled (Fixed place content) s)) → OnErr r (zone' ≡ zone)
+    → Lawful slots bytes all zone'
+lawful-fixed (Ok x) slots bytes all zone zone' place n content lawful zeros room ok err =
+    let size-new : padded n ≡ padded (length content) = ap padded
+    (sym (ap length zeros ∙ length-replicate {A = ℕ} n 0)) in
+    lawful-stood slots slots bytes all all zone zone' place (Fixed place content) lawful (λ k. refl) (omega arith)
+    (λ k unused. unused) refl refl (subst (λ k. IsSomeAnd (spot_at place zone) (λ s. is_room k s.here ≡ true))
+    size-new room) ok
+lawful-fixed (Err e) slots bytes all zone zone' place n content lawful zeros room ok err =
+    subst (Lawful slots bytes all) (sym err) lawful
+
+-- slots with unused ones after them
+slots_of-more : (slots : List SlotEntry) (n k : ℕ) → is_used (slots_of slots k) ≡ true
+    → slots_of (slots ++ replicate n slot_entry.Unused) k ≡ slots_of slots k
+slots_of-more [] n k used = let f : false ≡ true = used in cc
+slots_of-more (x ∷ slots) n zero used = refl
+slots_of-more (x ∷ slots) n (suc k) used = slots_of-more slots n k used
+
+pub slots-more : (slots slots' : List SlotEntry) (k : ℕ) → slots' ≡ slots ++ replicate 64 slot_entry.Unused
+    → is_used (slots_of slots k) ≡ true → slots_of slots' k ≡ slots_of slots k
+slots-more slots slots' k after used = ap (λ l. slots_of l k) after ∙ slots_of-more slots 64 k used
+
+pub slots-stay : (slots slots' : List SlotEntry) → slots' ≡ slots ++ replicate 64 slot_entry.Unused → (k : ℕ)
+    → is_used (slots_of slots' k) ≡ false → is_used (slots_of slots k) ≡ false
+slots-stay slots slots' after k unused = cases (is_used (slots_of slots k)) refl
+  where
+    cases : (t : Bool) → is_used (slots_of slots k) ≡ t → t ≡ false
+    cases true used = sym (ap is_used (slots-more slots slots' k after used) ∙ used) ∙ unused
+    cases false used = refl
+
+-- a new block of master pointers, or the host had no memory for it
+pub lawful-masters : {T E : Type 0} (r : Result T E) (slots slots' : List SlotEntry) (bytes : ℕ)
+    (zone zone' : List Block) (place : ℕ) → Lawful (slots_of slots) bytes (length slots) zone
+    → OnOk r (slots' ≡ slots ++ replicate 64 slot_entry.Unused)
+    → OnErr r (slots' ≡ slots) → IsSomeAnd (spot_at place zone) (λ s. is_room 272 s.here ≡ true)
+    → OnOk r (IfSome (spot_at place zone) (λ s. zone' ≡ filled Masters s)) → OnErr r (zone' ≡ zone)
+    → Lawful (slots_of slots') bytes (length slots') zone'
+lawful-masters (Ok x) slots slots' bytes zone zone' place lawful more same room after err =
+    lawful-stood (slots_of slots) (slots_of slots') bytes (length slots) (length slots') zone zone' place Masters lawful
+    (λ k. refl) (ap length more ∙ counted slots) (slots-stay slots slots' more) tt refl room after
+  where
+    counted : (l : List SlotEntry) → length (l ++ replicate 64 slot_entry.Unused) ≡ length l + 64
+    counted [] = refl
+    counted (x ∷ l) = let r = counted l in omega arith
+lawful-masters (Err e) slots slots' bytes zone zone' place lawful more same room after err =
+    let P : List SlotEntry → Type 0 = λ l. Lawful (slots_of l) bytes (length l) zone' in
+    subst P (sym same) (subst (Lawful (slots_of slots) bytes (length slots)) (sym err) lawful)
+
+-- a Fixed block becomes Free
+masters-freed : (place : ℕ) (bs : List Block) → count is_masters (freed (is_fixed place) bs) ≡ count is_masters bs
+masters-freed place [] = refl
+masters-freed place (b ∷ bs) = rw (one b, masters-freed place bs) refl
+  where
+    one : (b : Block) → is_masters (cond (is_fixed place b) (Free (size b)) b) ≡ is_masters b
+    one (Free n) = refl
+    one (Fixed id content) = elim (id == place) as (λ t. is_masters
+        (cond t (Free (padded (length content))) (Fixed id content)) ≡ false) [ true ↦ refl | false ↦ refl ]
+    one Masters = refl
+    one (Relocatable id flags content) = refl
+
+pub lawful-unfixed : (slots : ℕ → Slot) (bytes all : ℕ) (zone zone' : List Block) (place : ℕ)
+    → Lawful slots bytes all zone → zone' ≡ tidy (freed (is_fixed place) zone) → Lawful slots bytes all zone'
+lawful-unfixed slots bytes all zone zone' place lawful after =
+    let fewer = freed (is_fixed place) zone in
+    lawful-fewer slots bytes all zone fewer zone' lawful (size-freed (is_fixed place) zone) (masters-freed place zone)
+    (λ k. count-freed (is_relocatable k) (is_fixed place) (λ n. refl) zone)
+    (aligned-freed (is_fixed place) zone lawful.aligned)
+    after (placed-tidy 0 fewer (placed-freed 0 (is_fixed place) zone lawful.placed))
+
+-- the first bytes of a block in another
+pub lawful-copied : (slots : ℕ → Slot) (bytes all : ℕ) (zone zone' : List Block) (source n place from : ℕ)
+    → Lawful slots bytes all zone
+    → IsSomeAnd (spot_at source zone) (λ s. n ≤ length (content_of s.here))
+    → IsSomeAnd (spot_at place zone) (λ s. from + n ≤ length (content_of s.here))
+    → IfSome (spot_at source zone) (λ t. IfSome (spot_at place zone)
+    (λ s. zone' ≡ s.below ++ with_content (written from (take n (content_of t.here)) (content_of s.here)) s.here
+    ∷ s.above)) → Lawful slots bytes all zone'
+lawful-copied slots bytes all zone zone' source n place from lawful fits within after =
+    let at = the_some (spot_at source zone) (λ s. n ≤ length (content_of s.here))
+    (λ t. IfSome (spot_at place zone) (λ s. zone' ≡ s.below ++ with_content
+    (written from (take n (content_of t.here)) (content_of s.here)) s.here ∷ s.above)) fits after in
+    let x = take n (content_of at.0.here) in
+    let many : n ≡ length x = sym (length-take-le n (content_of at.0.here) at.2) in
+    lawful-written slots bytes all zone zone' place from x lawful
+    (let P : ℕ → Type 0 = λ k. IsSomeAnd (spot_at place zone) (λ s. from + k ≤ length (content_of s.here)) in
+    subst P many within) at.3

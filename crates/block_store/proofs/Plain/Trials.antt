@@ -1,0 +1,65 @@
+use Rattle.std.proofs.Common.{◌≡◌, ℕ, ◌≤◌, ◌<◌, ◌⊎◌, inl, inr, zero, suc, Bool, true, false, Option, Some, None}
+use Rattle.std.proofs.Common.{refl, ◌∙◌, ap, cond, arith}
+use Rattle.std.specs.Option.{option_map, option_or}
+use Rattle.block_store.specs.Room.{least}
+use Rattle.block_store.specs.Compact.{least_or_last}
+
+-- The least of 0 .. n that passes, or has an answer.
+
+-- where none passes the last is taken
+pub least_or_last-none : (n : ℕ) → least_or_last (λ k. false) n ≡ n
+least_or_last-none zero = refl
+least_or_last-none (suc n) = ap suc (least_or_last-none n)
+
+-- no more than there are
+pub least_or_last-le : (test : ℕ → Bool) (n : ℕ) → least_or_last test n ≤ n
+least_or_last-le test zero = omega arith
+least_or_last-le test (suc n) = cases (test 0) (least_or_last-le (λ k. test (suc k)) n)
+  where
+    cases : (t : Bool) → least_or_last (λ k. test (suc k)) n ≤ n
+        → cond {A = ℕ} t 0 (suc (least_or_last (λ k. test (suc k)) n)) ≤ suc n
+    cases true le = omega arith
+    cases false le = omega (arith, le)
+
+-- the least of 0 .. n with an answer
+pub least-map : {A B : Type 0} (f : A → B) (answer : ℕ → Option A) (n : ℕ)
+    → least (λ k. option_map f (answer k)) n ≡ option_map f (least answer n)
+least-map f answer zero = refl
+least-map f answer (suc n) = ap (option_or (option_map f (answer 0))) (least-map f (λ k. answer (suc k)) n)
+    ∙ both f (answer 0) (least (λ k. answer (suc k)) n)
+  where
+    both : {A B : Type 0} (f : A → B) (a b : Option A) → option_or (option_map f a) (option_map f b)
+        ≡ option_map f (option_or a b)
+    both f None b = refl
+    both f (Some x) b = refl
+
+-- what is found is an answer
+pub least-found : {A : Type 0} (answer : ℕ → Option A) (n : ℕ) (y : A) → least answer n ≡ Some y → (k : ℕ)
+    × (answer k ≡ Some y)
+least-found answer zero y e = (0, e)
+least-found {A = A} answer (suc n) y e = cases (answer 0) refl e (λ e. least-found (λ k. answer (suc k)) n y e)
+  where
+    cases : (o : Option A) → answer 0 ≡ o → option_or o (least (λ k. answer (suc k)) n) ≡ Some y
+        → (least (λ k. answer (suc k)) n ≡ Some y → (k : ℕ) × (answer (suc k) ≡ Some y)) → (k : ℕ) × (answer k ≡ Some y)
+    cases None is e more = let r = more e in (suc r.0, r.1)
+    cases (Some x) is e more = (0, is ∙ e)
+
+-- and has what each answer has
+pub least-some : {A : Type 0} (P : A → Type 0) (answer : ℕ → Option A) (n : ℕ) (x : A)
+    → ((k : ℕ) (y : A) → answer k ≡ Some y → P y) → least answer n ≡ Some x → P x
+least-some P answer n x each e = let r = least-found answer n x e in each r.0 x r.1
+
+-- the least that passes, or the last
+pub least_or_last-at : (test : ℕ → Bool) (n k : ℕ) → k ≤ n → ((j : ℕ) → j < k → test j ≡ false)
+    → (test k ≡ true) ⊎ (k ≡ n) → least_or_last test n ≡ k
+least_or_last-at test zero k le before here = omega arith
+least_or_last-at test (suc n) zero le before (inl is) = rw is refl
+least_or_last-at test (suc n) zero le before (inr e) = absurd (omega (arith, e))
+least_or_last-at test (suc n) (suc k) le before here =
+    let more = least_or_last-at (λ j. test (suc j)) n k (omega arith) (λ j l. before (suc j) (omega arith))
+    (next here) in
+    rw (before 0 (omega arith)) (ap suc more)
+  where
+    next : (test (suc k) ≡ true) ⊎ (suc k ≡ suc n) → (test (suc k) ≡ true) ⊎ (k ≡ n)
+    next (inl is) = inl is
+    next (inr e) = inr (omega (arith, e))

@@ -1,0 +1,13 @@
+pub mod HavingRoom
+pub mod Parts
+pub mod RunScans
+pub mod RunSpots
+pub mod RunLooks
+pub mod RunLists
+pub mod Packed
+pub mod Repacked
+pub mod Lowered
+mod LoweredExamples
+pub mod Settling
+pub mod MostRoom
+pub mod Regrouping

@@ -1,0 +1,41 @@
+use Rattle.std.proofs.Common.{◌≡◌, true, false, List, [], ◌∷◌, replicate, refl, Some}
+use Rattle.std.specs.Option.{option_map}
+use Rattle.block_store.specs.declared.flags.Flags.{Flags}
+use Rattle.block_store.specs.Block.{Block, Free, Masters, Relocatable, no_flags, tidy}
+use Rattle.block_store.specs.Run.{RunSpot, run_at, settle, with_run}
+use Rattle.block_store.specs.Rest.{falling}
+use Rattle.block_store.specs.Compact.{lowered, distance}
+
+-- Worked examples of what settling counts, by the definitions alone.
+
+abbrev locked : Flags
+locked = record { locked = true; purgeable = false }
+
+-- block 1 has no Free bytes below it in its run, blocks 2 and 3 have; block 4 is locked, and 5 is in the run above it
+abbrev before : List Block
+before = Masters ∷ Relocatable 1 no_flags (replicate 16 0) ∷ Free 48 ∷ Relocatable 2 no_flags []
+    ∷ Relocatable 3 no_flags [] ∷ Relocatable 4 locked [] ∷ Free 16 ∷ Relocatable 5 no_flags [] ∷ []
+
+-- the run above the Masters block, settled
+abbrev after : List Block
+after = Masters ∷ Relocatable 1 no_flags (replicate 16 0) ∷ Relocatable 2 no_flags [] ∷ Relocatable 3 no_flags []
+    ∷ Free 48 ∷ Relocatable 4 locked [] ∷ Free 16 ∷ Relocatable 5 no_flags [] ∷ []
+
+settled-after : option_map (λ (r : RunSpot). tidy (with_run settle r)) (run_at 272 before) ≡ Some after
+settled-after = refl
+
+two-lower : lowered before after ≡ 2
+two-lower = refl
+
+two-falling : option_map (λ (r : RunSpot). falling r.run) (run_at 272 before) ≡ Some 2
+two-falling = refl
+
+second-was : distance 2 before ≡ Some 352
+second-was = refl
+
+second-is : distance 2 after ≡ Some 304
+second-is = refl
+
+-- the other way round none stands lower
+none-back : lowered after before ≡ 0
+none-back = refl

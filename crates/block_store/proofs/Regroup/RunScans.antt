@@ -1,0 +1,213 @@
+use Rattle.std.proofs.Common.{◌≡◌, ℕ, ◌+◌, zero, suc, Bool, true, false, ◌&&◌, ◌||◌, List, [], ◌∷◌, ◌++◌, refl, sym}
+use Rattle.std.proofs.Common.{◌∙◌, ap, cond, arith, Option, Some, None, nat_le, append_assoc}
+use Rattle.std.proofs.lemmas.List.{append-nil}
+use Rattle.std.proofs.lemmas.List.Folds.{list_any-append}
+use Rattle.std.specs.Option.{option_map}
+use Rattle.block_store.specs.Block.{Block, Free, Fixed, Masters, Relocatable, is_relocatable, size, sizes, free_of}
+use Rattle.block_store.specs.Block.{free_sum, add, tidy}
+use Rattle.block_store.specs.Run.{in_run, has, has_free, RunSpot, run_raised, lowest_run, run_spot, segments, Segments}
+use Rattle.block_store.specs.Run.{joined}
+use Rattle.block_store.specs.Room.{may_go, emptied}
+use Rattle.block_store.specs.Sparing.{spared, opened, purged}
+use Rattle.block_store.specs.Inner.RunScan.{is_number, is_wanted, any_run, meets, suits, met_after, scan_runs}
+use Rattle.block_store.specs.declared.sparing.Sparing.{Sparing}
+use Rattle.block_store.specs.declared.sparing.Sparing.TheVariants as sparing
+use Rattle.block_store.proofs.Zone.Totals.{total-append}
+
+-- blocks that would be emptied count as those that are
+scan-emptied : (w : Option ℕ) (p : ℕ) (sp : Block → Bool) (k start free : ℕ) (met : Bool) (place : ℕ) (bs : List Block)
+    → scan_runs w p sp k start free met place bs ≡ scan_runs w p sp 0 start free met place (emptied k sp bs)
+scan-emptied w p sp zero start free met place bs = refl
+scan-emptied w p sp (suc k) start free met place [] = refl
+scan-emptied w p sp (suc k) start free met place (b ∷ bs) =
+    cases (may_go sp b) (scan-emptied w p sp k start (free + size b) met (place + size b) bs)
+    (scan-emptied w p sp (suc k) start (free + free_of b) (met_after w met b) (place + size b) bs)
+    (scan-emptied w p sp (suc k) (place + size b) 0 (any_run w) (place + size b) bs)
+  where
+    cases : (t : Bool) → scan_runs w p sp k start (free + size b) met (place + size b) bs
+        ≡ scan_runs w p sp 0 start (free + size b) met (place + size b) (emptied k sp bs)
+        → scan_runs w p sp (suc k) start (free + free_of b) (met_after w met b) (place + size b) bs
+        ≡ scan_runs w p sp 0 start (free + free_of b) (met_after w met b) (place + size b) (emptied (suc k) sp bs)
+        → scan_runs w p sp (suc k) (place + size b) 0 (any_run w) (place + size b) bs
+        ≡ scan_runs w p sp 0 (place + size b) 0 (any_run w) (place + size b) (emptied (suc k) sp bs)
+        → cond t (scan_runs w p sp k start (free + size b) met (place + size b) bs)
+        (cond (in_run b) (scan_runs w p sp (suc k) start (free + free_of b) (met_after w met b) (place + size b) bs)
+        (cond (met && nat_le p free) (Some start) (scan_runs w p sp (suc k) (place + size b) 0 (any_run w)
+        (place + size b) bs)))
+        ≡ scan_runs w p sp 0 start free met place (cond t (Free (size b) ∷ emptied k sp bs) (b ∷ emptied (suc k) sp bs))
+    cases true one run end = one
+    cases false one run end = ap (λ o. cond (in_run b) o (cond (met && nat_le p free) (Some start)
+        (scan_runs w p sp (suc k) (place + size b) 0 (any_run w) (place + size b) bs))) run
+        ∙ ap (λ o. cond (in_run b) (scan_runs w p sp 0 start (free + free_of b) (met_after w met b) (place + size b)
+        (emptied (suc k) sp bs)) (cond (met && nat_le p free) (Some start) o)) end
+
+-- Free blocks that are made one are as many bytes
+scan-add : (w : Option ℕ) (p : ℕ) (sp : Block → Bool) (start free : ℕ) (met : Bool) (place : ℕ) (b : Block)
+    (bs : List Block)
+    → scan_runs w p sp 0 start free met place (add b bs) ≡ scan_runs w p sp 0 start free met place (b ∷ bs)
+scan-add w p sp start free met place (Free zero) bs = ap (λ n. scan_runs w p sp 0 start n met place bs)
+    (let z : free ≡ free + 0 = omega arith in z) ∙ ap (λ n. scan_runs w p sp 0 start (free + 0) met n bs)
+    (let z : place ≡ place + 0 = omega arith in z)
+scan-add w p sp start free met place (Free (suc n)) [] = refl
+scan-add w p sp start free met place (Free (suc n)) (Free m ∷ bs) =
+    ap (λ k. scan_runs w p sp 0 start k met (place + (suc n + m)) bs)
+    (let z : free + (suc n + m) ≡ free + suc n + m = omega arith in z)
+    ∙ ap (λ k. scan_runs w p sp 0 start (free + suc n + m) met k bs)
+    (let z : place + (suc n + m) ≡ place + suc n + m = omega arith in z)
+scan-add w p sp start free met place (Free (suc n)) (Fixed id content ∷ bs) = refl
+scan-add w p sp start free met place (Free (suc n)) (Masters ∷ bs) = refl
+scan-add w p sp start free met place (Free (suc n)) (Relocatable id flags content ∷ bs) = refl
+scan-add w p sp start free met place (Fixed id content) bs = refl
+scan-add w p sp start free met place Masters bs = refl
+scan-add w p sp start free met place (Relocatable id flags content) bs = refl
+
+scan-tidy : (w : Option ℕ) (p : ℕ) (sp : Block → Bool) (start free : ℕ) (met : Bool) (place : ℕ) (bs : List Block)
+    → scan_runs w p sp 0 start free met place (tidy bs) ≡ scan_runs w p sp 0 start free met place bs
+scan-tidy w p sp start free met place [] = refl
+scan-tidy w p sp start free met place (b ∷ bs) =
+    scan-add w p sp start free met place b (tidy bs)
+    ∙ ap (λ o. cond (in_run b) o (cond (met && nat_le p free) (Some start)
+    (scan_runs w p sp 0 (place + size b) 0 (any_run w) (place + size b) (tidy bs))))
+    (scan-tidy w p sp start (free + free_of b) (met_after w met b) (place + size b) bs)
+    ∙ ap (λ o. cond (in_run b) (scan_runs w p sp 0 start (free + free_of b) (met_after w met b) (place + size b) bs)
+    (cond (met && nat_le p free) (Some start) o)) (scan-tidy w p sp (place + size b) 0 (any_run w) (place + size b)
+    bs)
+
+-- a part of a run with one block more
+or-none : (a h : Bool) → (a || h) ≡ (a || (h || (false || false)))
+or-none true h = refl
+or-none false true = refl
+or-none false false = refl
+
+or-one : (a h t : Bool) → ((a || h) || t) ≡ (a || (h || (t || false)))
+or-one true h t = refl
+or-one false true t = refl
+or-one false false true = refl
+or-one false false false = refl
+
+meets-more : (w : Option ℕ) (met : Bool) (done : List Block) (b : Block) → met ≡ meets w done
+    → met_after w met b ≡ meets w (done ++ b ∷ [])
+meets-more w met done b is = one b ∙ ap (λ t. any_run w || t) (sym (list_any-append (is_wanted w) done (b ∷ [])))
+  where
+    one : (b : Block) → met_after w met b ≡ (any_run w || (has (is_wanted w) done || (is_wanted w b || false)))
+    one (Free n) = is ∙ or-none (any_run w) (has (is_wanted w) done)
+    one (Fixed id content) = is ∙ or-none (any_run w) (has (is_wanted w) done)
+    one Masters = is ∙ or-none (any_run w) (has (is_wanted w) done)
+    one (Relocatable id flags content) = ap (λ t. t || is_number w id) is
+        ∙ or-one (any_run w) (has (is_wanted w) done) (is_number w id)
+
+meets-none : (w : Option ℕ) → any_run w ≡ meets w []
+meets-none None = refl
+meets-none (Some number) = refl
+
+free-more : (free : ℕ) (done : List Block) (b : Block) → free ≡ free_sum done
+    → free + free_of b ≡ free_sum (done ++ b ∷ [])
+free-more free done b is = omega (arith, total-append free_of done (b ∷ []))
+
+place-more : (place start : ℕ) (done : List Block) (b : Block) → place ≡ start + sizes done
+    → place + size b ≡ start + sizes (done ++ b ∷ [])
+place-more place start done b is = omega (arith, total-append size done (b ∷ []))
+
+-- the search above part of a run finds the lowest run
+scan-lowest : (w : Option ℕ) (p : ℕ) (sp : Block → Bool) (start free : ℕ) (met : Bool) (place : ℕ)
+    (done bs : List Block) → free ≡ free_sum done → met ≡ meets w done → place ≡ start + sizes done
+    → scan_runs w p sp 0 start free met place bs ≡ option_map (λ (r : RunSpot). start + sizes r.below)
+    (lowest_run (suits w p) (done ++ (segments bs).first) (segments bs).rest)
+scan-lowest w p sp start free met place done [] is has_it at =
+    ap (λ n. cond (met && nat_le p n) (Some start) None) (is ∙ ap free_sum (sym (append-nil done)))
+    ∙ ap (λ t. cond (t && has_free p (done ++ [])) (Some start) None)
+    (has_it ∙ ap (meets w) (sym (append-nil done)))
+    ∙ here (suits w p (done ++ []))
+  where
+    here : (t : Bool) → cond t (Some start) None ≡ option_map (λ (r : RunSpot). start + sizes r.below)
+        (cond t (Some (record { below = []; run = done ++ []; above = [] })) None)
+    here true = ap Some (let z : start ≡ start + 0 = omega arith in z)
+    here false = refl
+scan-lowest w p sp start free met place done (b ∷ bs) is has_it at =
+    cases (in_run b)
+    (scan-lowest w p sp start (free + free_of b) (met_after w met b) (place + size b) (done ++ b ∷ []) bs
+    (free-more free done b is) (meets-more w met done b has_it) (place-more place start done b at))
+    (scan-lowest w p sp (place + size b) 0 (any_run w) (place + size b) [] bs refl (meets-none w)
+    (let z : place + size b ≡ place + size b + 0 = omega arith in z))
+  where
+    past : (d : List Block) → place + size b ≡ start + sizes (d ++ b ∷ []) → (o : Option RunSpot)
+        → option_map (λ (r : RunSpot). place + size b + sizes r.below) o
+        ≡ option_map (λ (r : RunSpot). start + sizes r.below) (option_map (run_raised (d ++ b ∷ [])) o)
+    past d at None = refl
+    past d at (Some r) = ap Some (omega (arith, total-append size (d ++ b ∷ []) r.below, at))
+
+    either : (d above : List Block) (t : Bool) (x : Option ℕ) (o : Option RunSpot)
+        → x ≡ option_map (λ (r : RunSpot). start + sizes r.below) (option_map (run_raised (d ++ b ∷ [])) o)
+        → cond t (Some start) x ≡ option_map (λ (r : RunSpot). start + sizes r.below)
+        (cond t (Some (record { below = []; run = d; above = above })) (option_map (run_raised (d ++ b ∷ [])) o))
+    either d above true x o e = ap Some (let z : start ≡ start + 0 = omega arith in z)
+    either d above false x o e = e
+
+    ends : (d : List Block) → free ≡ free_sum d → met ≡ meets w d → place ≡ start + sizes d → (x : Option ℕ)
+        → x ≡ option_map (λ (r : RunSpot). place + size b + sizes r.below)
+        (lowest_run (suits w p) (segments bs).first (segments bs).rest)
+        → cond (met && nat_le p free) (Some start) x ≡ option_map (λ (r : RunSpot). start + sizes r.below)
+        (lowest_run (suits w p) d (record { barrier = b; run = (segments bs).first } ∷ (segments bs).rest))
+    ends d is has_it at x e =
+        ap (λ n. cond (met && nat_le p n) (Some start) x) is ∙ ap (λ t. cond (t && has_free p d) (Some start) x) has_it
+        ∙ either d (b ∷ joined (segments bs).first (segments bs).rest) (suits w p d) x
+        (lowest_run (suits w p) (segments bs).first (segments bs).rest)
+        (e ∙ past d (place-more place start d b at) (lowest_run (suits w p) (segments bs).first (segments bs).rest))
+
+    cases : (t : Bool) → scan_runs w p sp 0 start (free + free_of b) (met_after w met b) (place + size b) bs
+        ≡ option_map (λ (r : RunSpot). start + sizes r.below) (lowest_run (suits w p)
+        ((done ++ b ∷ []) ++ (segments bs).first) (segments bs).rest)
+        → scan_runs w p sp 0 (place + size b) 0 (any_run w) (place + size b) bs
+        ≡ option_map (λ (r : RunSpot). place + size b + sizes r.below)
+        (lowest_run (suits w p) (segments bs).first (segments bs).rest)
+        → cond t (scan_runs w p sp 0 start (free + free_of b) (met_after w met b) (place + size b) bs)
+        (cond (met && nat_le p free) (Some start) (scan_runs w p sp 0 (place + size b) 0 (any_run w)
+        (place + size b) bs))
+        ≡ (let s : Segments = cond t (record { first = b ∷ (segments bs).first; rest = (segments bs).rest })
+        (record { first = []; rest = record { barrier = b; run = (segments bs).first } ∷ (segments bs).rest }) in
+        option_map (λ (r : RunSpot). start + sizes r.below) (lowest_run (suits w p) (done ++ s.first) s.rest))
+    cases true run end = run ∙ ap (λ l. option_map (λ (r : RunSpot). start + sizes r.below)
+        (lowest_run (suits w p) l (segments bs).rest)) (append_assoc done (b ∷ []) (segments bs).first)
+    cases false run end = ends (done ++ []) (is ∙ ap free_sum (sym (append-nil done)))
+        (has_it ∙ ap (meets w) (sym (append-nil done))) (at ∙ ap (λ l. start + sizes l) (sym (append-nil done)))
+        (scan_runs w p sp 0 (place + size b) 0 (any_run w) (place + size b) bs) end
+
+-- the lowest run that suits after k purges
+pub scan-is : (w : Option ℕ) (p : ℕ) (n : Sparing) (k : ℕ) (zone : List Block)
+    → scan_runs w p (spared n) k 0 0 (any_run w) 0 (opened n zone)
+    ≡ option_map (λ (r : RunSpot). sizes r.below) (run_spot (suits w p) (purged k n zone))
+scan-is w p n k zone =
+    scan-emptied w p (spared n) k 0 0 (any_run w) 0 (opened n zone)
+    ∙ sym (scan-tidy w p (spared n) 0 0 (any_run w) 0 (emptied k (spared n) (opened n zone)))
+    ∙ scan-lowest w p (spared n) 0 0 (any_run w) 0 [] (purged k n zone) refl (meets-none w) refl
+    ∙ from_zero (run_spot (suits w p) (purged k n zone))
+  where
+    from_zero : (o : Option RunSpot) → option_map (λ (r : RunSpot). 0 + sizes r.below) o
+        ≡ option_map (λ (r : RunSpot). sizes r.below) o
+    from_zero None = refl
+    from_zero (Some r) = ap Some (let z : 0 + sizes r.below ≡ sizes r.below = omega arith in z)
+
+-- a search at its end
+pub scan-end : (w : Option ℕ) (p : ℕ) (n : Sparing) (k start free : ℕ) (met : Bool) (place : ℕ) (bs : List Block)
+    → bs ≡ [] → scan_runs w p (spared n) k start free met place (opened n bs)
+    ≡ cond (met && nat_le p free) (Some start) None
+scan-end w p n k start free met place bs none = ap (λ l. scan_runs w p (spared n) k start free met place (opened n l))
+    none ∙ ends n
+  where
+    ends : (n : Sparing) → scan_runs w p (spared n) k start free met place (opened n [])
+        ≡ cond (met && nat_le p free) (Some start) None
+    ends sparing.Nothing = refl
+    ends (sparing.One slot) = refl
+    ends (sparing.Two slot other) = refl
+    ends (sparing.Freed slot) = refl
+
+-- the block of a slot, and any run
+wanted-is : (number : ℕ) (b : Block) → is_wanted (Some number) b ≡ is_relocatable number b
+wanted-is number (Free n) = refl
+wanted-is number (Fixed id content) = refl
+wanted-is number Masters = refl
+wanted-is number (Relocatable id flags content) = refl
+
+pub suits-slot : (number p : ℕ) → suits (Some number) p ≡ (λ run. has (is_relocatable number) run && has_free p run)
+suits-slot number p = ap {B = List Block → Bool} (λ (test : Block → Bool). λ (run : List Block). has test run
+    && has_free p run) (λ i b. wanted-is number b i)

@@ -1,0 +1,14 @@
+pub mod Totals
+pub mod Zones
+pub mod Tidy
+pub mod Apart
+pub mod Passing
+pub mod Leading
+pub mod Listing
+pub mod Spots
+pub mod Aligned
+pub mod Views
+pub mod Keeping
+pub mod Absence
+pub mod Alike
+pub mod Surviving

@@ -1,0 +1,41 @@
+use Rattle.std.proofs.Common.{◌≡◌, ℕ, ◌+◌, ◌≤◌, Bool, true, false, ◌||◌, List, [], ◌∷◌, ◌++◌, filter, refl, ◌∙◌, cond}
+use Rattle.std.proofs.Common.{arith}
+use Rattle.std.proofs.lemmas.Bool.{cond-false, or_parts}
+use Rattle.std.proofs.lemmas.List.Folds.{list_any-append}
+use Rattle.block_store.specs.Block.{Block, count}
+use Rattle.block_store.specs.Run.{has}
+
+-- Whether a block passes a test.
+
+pub none-append : (t : Block → Bool) (xs ys : List Block) → has t xs ≡ false → has t ys ≡ false
+    → has t (xs ++ ys) ≡ false
+none-append t xs ys a b = list_any-append t xs ys ∙ rw (a, b) refl
+
+pub has-append : (t : Block → Bool) (xs ys : List Block) → has t ys ≡ true → has t (xs ++ ys) ≡ true
+has-append t [] ys e = e
+has-append t (x ∷ xs) ys e = rw (has-append t xs ys e) (elim (t x) as (λ u. (u || true) ≡ true)
+    [ true ↦ refl | false ↦ refl ])
+
+pub has-front : (t : Block → Bool) (xs ys : List Block) → has t xs ≡ true → has t (xs ++ ys) ≡ true
+has-front t [] ys e = let f : false ≡ true = e in cc
+has-front t (x ∷ xs) ys e = cases (t x) e (has-front t xs ys)
+  where
+    cases : (u : Bool) → (u || has t xs) ≡ true → (has t xs ≡ true → has t (xs ++ ys) ≡ true)
+        → (u || has t (xs ++ ys)) ≡ true
+    cases true e more = refl
+    cases false e more = more e
+
+-- a test that a block passes counts it
+pub has-count : (test : Block → Bool) (bs : List Block) → has test bs ≡ true → 1 ≤ count test bs
+has-count test [] e = let f : false ≡ true = e in cc
+has-count test (b ∷ bs) e = cases (test b) e (λ e. has-count test bs e)
+  where
+    cases : (t : Bool) → (t || has test bs) ≡ true → (has test bs ≡ true → 1 ≤ count test bs)
+        → 1 ≤ cond {A = ℕ} t 1 0 + count test bs
+    cases true e more = omega arith
+    cases false e more = let r = more e in omega arith
+
+-- what is left of a test that nothing passes
+pub filter-none : (t : Block → Bool) (bs : List Block) → has t bs ≡ false → filter t bs ≡ []
+filter-none t [] e = refl
+filter-none t (b ∷ bs) e = let p = or_parts (t b) (has t bs) e in cond-false (t b) _ _ p.0 ∙ filter-none t bs p.1

@@ -1,0 +1,6 @@
+pub mod ListStore
+pub mod Stretch
+pub mod Purging
+pub mod RunScan
+pub mod Packing
+pub mod ListStoreLaws

@@ -1,0 +1,61 @@
+use Rattle.std.proofs.Common.{◌≡◌, ◌∙◌, ◌+◌, ◌++◌, ◌∷◌, sym, ap, subst, map, drop, length, List, Some}
+use Rattle.std.specs.Prelude.{is_some}
+use Rattle.std.specs.List.{flat_map}
+use Rattle.fork_format.specs.Content.{Ref, Group, refs_of, AreRefs}
+use Rattle.fork_format.specs.Canonical.{datum, name, references}
+use Rattle.fork_format.specs.Extent.{behind, no_starts}
+use Rattle.fork_format.specs.declared.fit.Starts.{Starts}
+use Rattle.fork_format.specs.declared.content.Ref.{Ref as StoredRef}
+use Rattle.fork_format.specs.View.{view_ref, view_group}
+use Rattle.fork_format.proofs.Groups.{references-two}
+use Rattle.fork_format.proofs.Extending.{behind-front, behind-goes_on, behind-sums}
+use Rattle.fork_format.proofs.Putting.{put-next}
+use Rattle.fork_format.proofs.Rest.{rest-map}
+use Rattle.fork_format.proofs.Sized.{groups-next}
+use Rattle.fork_format.proofs.write.put_all_references.Goals as goal
+
+pub put_references-requires : goal.put_references-requires
+put_references-requires c =
+    let s : Starts = c.loop-group.starts in
+    let xs : List Ref = map view_ref c.group-item.result.refs.items in
+    let ys : List Group = map view_group (drop (c.loop-group.group-index + 1) c.args.groups.now) in
+    let left : map view_group (drop c.loop-group.group-index c.args.groups.now)
+    ≡ view_group c.group-item.result ∷ ys = rest-map view_group c.args.groups.now c.loop-group.group-index
+    c.group-item.result c.loop-group-test.true c.group-item.is in
+    let all : behind s (xs ++ refs_of ys) ≡ behind no_starts (refs_of (map view_group c.args.groups.now)) =
+    ap (λ l. behind s (refs_of l)) (sym left) ∙ c.loop-group.invariant.behind in
+    ap (λ (l : List StoredRef). is_some (behind s (map view_ref l))) c.as_slice.ensures.value
+    ∙ behind-front s xs (refs_of ys) (ap is_some all ∙ c.requires)
+
+pub loop-group-preserved : goal.loop-group-preserved
+loop-group-preserved c =
+    let s : Starts = c.loop-group.starts in
+    let t : Starts = c.in_ok-starts.starts in
+    let xs : List Ref = map view_ref c.group-item.result.refs.items in
+    let ys : List Group = map view_group (drop (c.loop-group.group-index + 1) c.args.groups.now) in
+    let left : map view_group (drop c.loop-group.group-index c.args.groups.now)
+    ≡ view_group c.group-item.result ∷ ys = rest-map view_group c.args.groups.now c.loop-group.group-index
+    c.group-item.result c.loop-group-test.true c.group-item.is in
+    let all : behind s (xs ++ refs_of ys) ≡ behind no_starts (refs_of (map view_group c.args.groups.now)) =
+    ap (λ l. behind s (refs_of l)) (sym left) ∙ c.loop-group.invariant.behind in
+    let some : behind s xs ≡ Some t = ap (λ (l : List StoredRef). behind s (map view_ref l))
+    (sym c.as_slice.ensures.value) ∙ sym c.in_ok-starts.ensures.behind in
+    let sums : (t.datum ≡ s.datum + length (flat_map datum xs)) × (t.name ≡ s.name + length (flat_map name xs)) =
+    behind-sums s t xs some in
+    let put : c.put_references.new.out.items ≡ c.loop-group.out.items ++ references s.datum s.name xs =
+    c.in_ok-starts.ensures.references ∙ ap (λ (l : List StoredRef). c.loop-group.out.items
+    ++ references s.datum s.name (map view_ref l)) c.as_slice.ensures.value in
+    record {
+      sized = groups-next _ ys (view_group c.group-item.result) _ left
+          (subst (λ (l : List StoredRef). AreRefs (map view_ref l)) c.as_slice.ensures.value
+          c.in_ok-starts.ensures.sized) c.loop-group.invariant.sized;
+      behind = sym (behind-goes_on s t xs (refs_of ys) some) ∙ all;
+      out = ap (λ n. c.put_references.new.out.items ++ references n t.name (refs_of ys)) sums.0
+          ∙ ap (λ n. c.put_references.new.out.items ++ references (s.datum + length (flat_map datum xs)) n (refs_of ys))
+          sums.1
+          ∙ put-next c.loop-group.out.items c.put_references.new.out.items (references s.datum s.name xs)
+          (references (s.datum + length (flat_map datum xs)) (s.name + length (flat_map name xs)) (refs_of ys)) _ put
+          (ap (λ l. c.loop-group.out.items ++ l) (sym (references-two s.datum s.name xs (refs_of ys)))
+          ∙ ap (λ l. c.loop-group.out.items ++ references s.datum s.name (refs_of l)) (sym left)
+          ∙ c.loop-group.invariant.out);
+    }

@@ -1,0 +1,8 @@
+pub mod Basing
+pub mod NewPointers
+pub mod NewHandles
+pub mod Renewing
+pub mod NewSlots
+pub mod Reserving
+pub mod Copies
+pub mod CopiedHandles

@@ -1,0 +1,399 @@
+use Rattle.std.proofs.Common.{◌≡◌, ℕ, ◌+◌, ◌-◌, ◌*◌, ◌<◌, zero, suc, Bool, true, false, List, [], ◌∷◌, ◌++◌, length}
+use Rattle.std.proofs.Common.{refl, sym, ◌∙◌, ap, subst, cond, map, arith, Option, Some, None, Result, Ok, Err, is_some}
+use Rattle.std.proofs.Common.{nat_lt, replicate, count_by, inl, inr}
+use Rattle.std.proofs.lemmas.List.{map-append, length-replicate}
+use Rattle.std.proofs.lemmas.Bool.{cond-true, cond-false, false_from_ne_true}
+use Rattle.std.proofs.lemmas.Bool.Decides.{Decides-ltb}
+use Rattle.std.specs.Option.{option_map}
+use Rattle.mac_words.specs.Size.{phys, padded}
+use Rattle.mac_words.specs.declared.code.OsErr.{OsErr}
+use Rattle.mac_words.specs.declared.code.TheConstants.OsErr.{MEM_FULL}
+use Rattle.block_store.specs.Block.{Block, Masters, Relocatable, size, count, free_of, free_sum, free, rename}
+use Rattle.block_store.specs.Block.{rename_block, is_mover, is_masters, no_flags, tidy}
+use Rattle.block_store.specs.Run.{low, movers, has_free, change_run}
+use Rattle.block_store.specs.Room.{rename_spot, filled, place, room, purge, count_of, put_at_base, put_in_place}
+use Rattle.block_store.specs.Slot.{Slot}
+use Rattle.block_store.specs.Rest.{Rest, KeepsSlots, counted}
+use Rattle.block_store.specs.Sparing.{spared, opened}
+use Rattle.block_store.specs.declared.sparing.Sparing.{Sparing}
+use Rattle.block_store.specs.declared.sparing.Sparing.TheVariants as sparing
+use Rattle.block_store.proofs.Renamed.Renaming.{size-rename, free_of-rename, free-rename, total-rename, filter-rename}
+use Rattle.block_store.proofs.Renamed.Renaming.{is_mover-rename, tidy-rename, change_run-rename, has_free-rename}
+use Rattle.block_store.proofs.Renamed.Renaming.{place-rename, purge-rename, room-rename, put_in_place-rename}
+use Rattle.block_store.proofs.Plain.Options.{map-none}
+use Rattle.block_store.proofs.Plain.Trials.{least-map}
+use Rattle.heap_calls.specs.declared.log.Log.{Log}
+use Rattle.heap_calls.specs.declared.anchor.Anchor.{Anchor}
+use Rattle.heap_calls.specs.declared.anchor.Anchor.TheVariants.{Handle}
+use Rattle.heap_calls.specs.State.{State, Memory, Plain, used_slots, all_slots, uses_slot}
+use Rattle.heap_calls.specs.State as names
+use Rattle.heap_calls.specs.Answer.{Answer, nothing, given, refused, silent, searching}
+use Rattle.heap_calls.specs.Slots.{more_masters, slotted, if_ready, new_block, new_handle}
+use Rattle.heap_calls.specs.Inner.Search.{tries, seat_searches}
+use Rattle.heap_calls.specs.Searches.{room_searches, slot_searches, ready_searches, block_searches, new_handle_searches}
+use Rattle.heap_calls.specs.Inner.Base.{base_searches}
+use Rattle.heap_calls.specs.Inner.NewSlot.{zone_with_masters, zone_slotted, zone_searches, HasMore}
+use Rattle.heap_calls.specs.Inner.NewBlock.{place_searches, ready_count, new_searches, HasNoRoom, IsPut, IsNewBlock}
+use Rattle.heap_calls.specs.Inner.Numbered.{state_of, memory_of, name_of, handle_number, pointer_number, KeepsFixed}
+use Rattle.heap_calls.specs.Inner.Numbered.{Agrees}
+use Rattle.heap_calls.proofs.NewBlocks.NewSlots.{tries-map, searches-base}
+use Rattle.heap_calls.proofs.Numbering.Changing.{names-same, masters-rename, silent-done, es', agrees-now, block-given}
+use Rattle.heap_calls.proofs.Numbering.Changing.{agrees-kept}
+use Rattle.heap_calls.proofs.Numbering.Looking.{count_of-rename, room_searches-rename}
+
+-- A store's new slots and blocks, seen as the heap's.
+
+pub low-rename : (f g : ℕ → ℕ) (new : Block) (run : List Block)
+    → low (rename_block f g new) (rename f g run) ≡ rename f g (low new run)
+low-rename f g new run =
+    rw (
+      filter-rename f g is_mover is_mover (is_mover-rename f g) run,
+      total-rename f g free_of free_of
+          (free_of-rename f g) run,
+      size-rename f g new,
+    )
+    (ap (λ l. rename_block f g new ∷ l) (ap (λ l. rename f g (movers run) ++ l)
+    (sym (free-rename f g (free_sum run - size new))) ∙ sym (map-append (rename_block f g) (movers run)
+    (free (free_sum run - size new)))))
+
+tidied-rename : (f g : ℕ → ℕ) (o : Option (List Block)) → option_map tidy (option_map (rename f g) o)
+    ≡ option_map (rename f g) (option_map tidy o)
+tidied-rename f g None = refl
+tidied-rename f g (Some zone) = ap Some (tidy-rename f g zone)
+
+-- room at the base of a run sees no names
+pub low_run-rename : (f g : ℕ → ℕ) (p : ℕ) (new : Block) (bs : List Block)
+    → option_map tidy (change_run (has_free p) (low (rename_block f g new)) (rename f g bs))
+    ≡ option_map (rename f g) (option_map tidy (change_run (has_free p) (low new) bs))
+low_run-rename f g p new bs =
+    ap (option_map tidy) (change_run-rename f g (has_free p) (has_free p) (low (rename_block f g new)) (low new)
+    (has_free-rename f g p) (low-rename f g new) bs)
+    ∙ tidied-rename f g (change_run (has_free p) (low new) bs)
+
+pub put_at_base-rename : (f g : ℕ → ℕ) (new : Block) (bs : List Block)
+    → put_at_base (rename_block f g new) (rename f g bs) ≡ option_map (rename f g) (put_at_base new bs)
+put_at_base-rename f g new bs =
+    ap (λ p. option_map tidy (change_run (has_free p) (low (rename_block f g new)) (rename f g bs)))
+    (size-rename f g new) ∙ low_run-rename f g (size new) new bs
+
+-- as many are tried
+pub tries-same : {A B : Type 0} (h : A → B) (a : ℕ → Option B) (b : ℕ → Option A) → ((k : ℕ) → a k ≡ option_map h (b k))
+    → (n : ℕ) → tries a n ≡ tries b n
+tries-same h a b same n = ap (λ f. tries f n) (λ i k. same k i) ∙ tries-map h b n
+
+-- the looks for a place of a new block are those for a seat
+pub block_searches-seat : (f g : ℕ → ℕ) (p : Block → Bool) (sparing : Sparing)
+    → ((b : Block) → p (rename_block f g b) ≡ spared sparing b) → (number : ℕ) (bytes : List ℕ) (bs : List Block)
+    → opened sparing bs ≡ bs
+    → room_searches (put_in_place (Relocatable number no_flags bytes)) p (rename f g bs)
+    ≡ seat_searches (padded (length bytes)) sparing bs
+block_searches-seat f g p sparing same number bytes bs closed =
+    tries-map (filled new) (λ k. place (size new) (purge k p (rename f g bs))) (count_of p (rename f g bs))
+    ∙ ap (tries (λ k. place (size new) (purge k p (rename f g bs)))) (count_of-rename f g p (spared sparing) same bs)
+    ∙ tries-same (rename_spot f g) (λ k. place (size new) (purge k p (rename f g bs)))
+    (λ k. place (size new) (purge k (spared sparing) bs))
+    (λ k. ap (place (size new)) (purge-rename f g p (spared sparing) same k bs)
+    ∙ place-rename f g (size new) (purge k (spared sparing) bs)) (count_of (spared sparing) bs)
+    ∙ ap (λ z. tries (λ k. place (size new) (purge k (spared sparing) z)) (count_of (spared sparing) z)) (sym closed)
+  where
+    new : Block
+    new = Relocatable number no_flags bytes
+
+-- where one block finds no room, no other of its size does
+pub no_room-any : (sp : Block → Bool) (a b : ℕ) (bytes : List ℕ) (zone : List Block)
+    → room (put_in_place (Relocatable a no_flags bytes)) sp zone ≡ None
+    → room (put_in_place (Relocatable b no_flags bytes)) sp zone ≡ None
+no_room-any sp a b bytes zone none =
+    least-map (filled (Relocatable b no_flags bytes)) (λ k. place (padded (length bytes)) (purge k sp zone))
+    (count_of sp zone)
+    ∙ ap (option_map (filled (Relocatable b no_flags bytes)))
+    (map-none (filled (Relocatable a no_flags bytes)) _ (sym (least-map (filled (Relocatable a no_flags bytes))
+    (λ k. place (padded (length bytes)) (purge k sp zone)) (count_of sp zone)) ∙ none))
+
+pub no_room-rename : (f g : ℕ → ℕ) (p q : Block → Bool) → ((b : Block) → p (rename_block f g b) ≡ q b)
+    → (slot number : ℕ) (bytes : List ℕ) (zone : List Block) → room (put_in_place (Relocatable slot no_flags bytes)) q
+    zone ≡ None
+    → room (put_in_place (Relocatable number no_flags bytes)) p (rename f g zone) ≡ None
+no_room-rename f g p q same slot number bytes zone none =
+    no_room-any p (f slot) number bytes (rename f g zone)
+    (room-rename f g p q (put_in_place (Relocatable (f slot) no_flags bytes))
+    (put_in_place (Relocatable slot no_flags bytes)) same (put_in_place-rename f g
+    (Relocatable slot no_flags bytes)) zone ∙ ap (option_map (rename f g)) none)
+
+-- the names of a store that has more slots
+pub names-more : {zone : List Block} (rest more : Rest) (es : List Anchor) → Agrees zone rest es → HasMore rest more
+    → map (name_of more.slots) es ≡ map (name_of rest.slots) es
+names-more rest more es agrees has = names-same rest.slots more.slots es
+    (λ h s at. has.slots s (let used = agrees.used h s at in rw used refl))
+
+pub agrees-more : {zone : List Block} (zone' : List Block) (rest more : Rest) (es : List Anchor) → Agrees zone rest es
+    → KeepsFixed zone zone' → HasMore rest more → Agrees zone' more es
+agrees-more zone' rest more es agrees fixed has = record {
+  used = λ h s at. has.slots s (let used = agrees.used h s at in rw used refl) ∙ agrees.used h s at;
+  apart = agrees.apart;
+  pointed = λ h p at. fixed p ∙ agrees.pointed h p at;
+  lone = agrees.lone;
+  counted =
+      let a = agrees.counted in
+      let e : count_by uses_slot (map (name_of more.slots) es) ≡ count_by uses_slot (map (name_of rest.slots) es) =
+      ap (count_by uses_slot) (names-more rest more es agrees has) in
+      omega (arith, has.counts);
+}
+
+pub state-more : {before : List Block} (zone : List Block) (rest more : Rest) (es : List Anchor) → Agrees before rest es
+    → HasMore rest more → state_of zone more.slots es ≡ state_of zone rest.slots es
+state-more zone rest more es agrees has =
+    ap (λ l. let s : State = record { zone = rename (handle_number es) (pointer_number es) zone; names = l } in
+    s) (names-more rest more es agrees has)
+
+pub state-kept : (zone : List Block) (rest rest' : Rest) (es : List Anchor) → KeepsSlots rest rest'
+    → state_of zone rest'.slots es ≡ state_of zone rest.slots es
+state-kept zone rest rest' es now =
+    ap (λ l. let s : State = record { zone = rename (handle_number es) (pointer_number es) zone; names = l } in
+    s) (names-same rest.slots rest'.slots es (λ h s at. now.slots s))
+
+-- a slot of the heap is one of its store
+module _ (zone : List Block) (rest : Rest) (es : List Anchor) (masters : rest.all ≡ 64 * count is_masters zone)
+    (agrees : Agrees zone rest es)
+    (sp : Block → Bool) (sparing : Sparing) (same : (b : Block)
+    → sp (rename_block (handle_number es) (pointer_number es) b) ≡ spared sparing b)
+    (closed : opened sparing zone ≡ zone)
+  where
+    abbrev f : ℕ → ℕ
+    f = handle_number es
+
+    abbrev g : ℕ → ℕ
+    g = pointer_number es
+
+    abbrev s : State
+    s = state_of zone rest.slots es
+
+    none-left : rest.unused ≡ 0 → nat_lt (used_slots s) (all_slots s) ≡ false
+    none-left e =
+        let a = agrees.counted in
+        let m = masters-rename f g zone in
+        false_from_ne_true (nat_lt (used_slots s) (all_slots s))
+        (λ t. let less = (Decides-ltb (used_slots s) (all_slots s)).0 t in absurd (omega (arith, masters, e)))
+
+    some-left : (n : ℕ) → rest.unused ≡ suc n → nat_lt (used_slots s) (all_slots s) ≡ true
+    some-left n e =
+        let a = agrees.counted in
+        let m = masters-rename f g zone in
+        let less : used_slots s < all_slots s = omega (arith, masters, e) in
+        (Decides-ltb (used_slots s) (all_slots s)).1 less
+
+    -- a block at the base of a run
+    pub base-is : (new : Block) → room (put_at_base (rename_block f g new)) sp (rename f g zone)
+        ≡ option_map (rename f g) (room (put_at_base new) (spared sparing) (opened sparing zone))
+    base-is new =
+        room-rename f g sp (spared sparing) (put_at_base (rename_block f g new)) (put_at_base new) same
+        (put_at_base-rename f g new) zone
+        ∙ ap (λ z. option_map (rename f g) (room (put_at_base new) (spared sparing) z)) (sym closed)
+
+    pub slotted-is : slotted sp s ≡ option_map (λ z. state_of z rest.slots es) (zone_slotted sparing rest.unused zone)
+    slotted-is = cases rest.unused refl
+      where
+        renamed : (o : Option (List Block)) → option_map (λ (z : List Block). record s { zone = z })
+            (option_map (rename f g) o) ≡ option_map (λ z. state_of z rest.slots es) o
+        renamed None = refl
+        renamed (Some z) = refl
+
+        cases : (n : ℕ) → rest.unused ≡ n → slotted sp s ≡ option_map (λ z. state_of z rest.slots es)
+            (zone_slotted sparing n zone)
+        cases zero e =
+            cond-false (nat_lt (used_slots s) (all_slots s)) (Some s) (more_masters sp s) (none-left e)
+            ∙ ap (option_map (λ (z : List Block). record s { zone = z })) (base-is Masters)
+            ∙ renamed (zone_with_masters sparing zone)
+        cases (suc n) e = cond-true (nat_lt (used_slots s) (all_slots s)) (Some s) (more_masters sp s) (some-left n e)
+
+    pub base_searches-is : (new : Block) → room_searches (put_at_base (rename_block f g new)) sp (rename f g zone)
+        ≡ base_searches (size new) sparing zone
+    base_searches-is new =
+        room_searches-rename f g sp (spared sparing) same (put_at_base (rename_block f g new)) (put_at_base new)
+        (put_at_base-rename f g new) zone
+        ∙ ap (room_searches (put_at_base new) (spared sparing)) (sym closed) ∙ searches-base new sparing zone
+
+    pub slot_searches-is : slot_searches sp s ≡ zone_searches sparing rest.unused zone
+    slot_searches-is = cases rest.unused refl
+      where
+        cases : (n : ℕ) → rest.unused ≡ n → slot_searches sp s ≡ zone_searches sparing n zone
+        cases zero e = cond-false {A = ℕ} (nat_lt (used_slots s) (all_slots s)) 0 _ (none-left e)
+            ∙ base_searches-is Masters
+        cases (suc n) e = cond-true {A = ℕ} (nat_lt (used_slots s) (all_slots s)) 0 _ (some-left n e)
+
+-- the looks of NewHandle
+pub new_handle_searches-is : (zone : List Block) (rest : Rest) (es : List Anchor) (n : ℕ)
+    → rest.all ≡ 64 * count is_masters zone → Agrees zone rest es
+    → new_handle_searches n (state_of zone rest.slots es) ≡ new_searches sparing.Nothing n rest.unused zone
+new_handle_searches-is zone rest es n masters agrees =
+    ap (λ a. a + ready_searches (slotted nothing s) looks) (slot_searches-is zone rest es masters agrees nothing
+    sparing.Nothing (λ b. refl) refl)
+    ∙ ap (λ o. zone_searches sparing.Nothing rest.unused zone + ready_searches o looks)
+    (slotted-is zone rest es masters agrees nothing sparing.Nothing (λ b. refl) refl)
+    ∙ ap (λ a. zone_searches sparing.Nothing rest.unused zone + a)
+    (ready (zone_slotted sparing.Nothing rest.unused zone))
+  where
+    s : State
+    s = state_of zone rest.slots es
+
+    looks : State → ℕ
+    looks ready = cond (is_some (phys n)) (block_searches nothing (replicate n 0) ready) 0
+
+    ready : (o : Option (List Block)) → ready_searches (option_map (λ z. state_of z rest.slots es) o) looks
+        ≡ ready_count o (place_searches sparing.Nothing n)
+    ready None = refl
+    ready (Some z) =
+        ap (λ a. cond {A = ℕ} (is_some (phys n)) a 0)
+        (block_searches-seat (handle_number es) (pointer_number es) nothing sparing.Nothing (λ b. refl)
+        (length (map (name_of rest.slots) es)) (replicate n 0) z refl
+        ∙ ap (λ k. seat_searches (padded k) sparing.Nothing z) (length-replicate n 0))
+
+-- what a call that looks for room gives, told of the whole heap
+pub searched-done : {T : Type 0} (row : State → Answer T) (looks : State → ℕ) (value : Memory) (zone zone' : List Block)
+    (rest rest' : Rest) (es es' : List Anchor) (log log' : Log) (r : Result T OsErr) (n : ℕ)
+    → memory_of zone rest es log ≡ value → row (state_of zone rest.slots es) ≡ (r, state_of zone' rest'.slots es')
+    → rest'.window ≡ rest.window → rest'.moves ≡ rest.moves
+    → n ≡ looks (state_of zone rest.slots es) → log' ≡ record log { searches = counted log.searches n }
+    → searching (looks value.heap) (silent row value) ≡ (r, memory_of zone' rest' es' log')
+searched-done {T = T} row looks value zone zone' rest rest' es es' log log' r n is done window moves some now =
+    let P : Memory → Type 0 = λ m. searching (looks m.heap) (silent {T = T} row m)
+    ≡ (r, memory_of zone' rest' es' log') in
+    subst P is
+    (ap (searching (looks (state_of zone rest.slots es))) (silent-done row (memory_of zone rest es log) zone zone' rest
+    rest' es es' log r refl done window moves)
+    ∙ ap (λ (k : ℕ). (r, memory_of zone' rest' es' (record log { searches = counted log.searches k }))) (sym some)
+    ∙ ap (λ (l : Log). (r, memory_of zone' rest' es' l)) (sym now))
+
+-- the entries with a new handle
+abbrev pub with_handle : List Anchor → ℕ → List Anchor
+with_handle es slot = es ++ Handle slot ∷ []
+
+-- a list that was copied and got a handle more
+pub one-more : (es copy more : List Anchor) (slot : ℕ) → copy ≡ es → more ≡ copy ++ Handle slot ∷ []
+    → more ≡ with_handle es slot
+one-more es copy more slot same new = new ∙ ap (λ l. l ++ Handle slot ∷ []) same
+
+-- NewHandle, where its block was put in its place
+module _ (zone : List Block) (rest : Rest) (es : List Anchor) (n : ℕ) (masters : rest.all ≡ 64 * count is_masters zone)
+    (agrees : Agrees zone rest es)
+    (zone' : List Block) (rest' : Rest) (fixed : KeepsFixed zone zone')
+  where
+    abbrev old : State
+    old = state_of zone rest.slots es
+
+    -- where there is a slot
+    abbrev then_block : State → Answer ℕ
+    then_block ready = cond (is_some (phys n)) (new_block nothing (replicate n 0) ready) (refused MEM_FULL ready)
+
+    with_slot : (o : Option (List Block)) → zone_slotted sparing.Nothing rest.unused zone ≡ o
+        → new_handle n old ≡ if_ready (option_map (λ z. state_of z rest.slots es) o) old then_block
+    with_slot o is = ap (λ o. if_ready o old then_block) (slotted-is zone rest es masters agrees nothing sparing.Nothing
+        (λ b. refl) refl ∙ ap (option_map (λ z. state_of z rest.slots es)) is)
+
+    pub handle-agrees : (slot : ℕ) → IsPut sparing.Nothing n slot zone rest zone' rest'
+        → Agrees zone' rest' (with_handle es slot)
+    handle-agrees slot p = agrees-now p.ready p.more rest' es slot
+        (agrees-more zone rest p.more es agrees (λ k. refl) p.has_more) p.was p.slots.slots p.one p.slots.all p.none
+        zone' fixed
+
+    pub handle-window : (slot : ℕ) → IsPut sparing.Nothing n slot zone rest zone' rest' → rest'.window ≡ rest.window
+    handle-window slot p = p.slots.window ∙ p.has_more.window
+
+    pub new_handle-done : (slot : ℕ) → IsPut sparing.Nothing n slot zone rest zone' rest'
+        → new_handle n old ≡ (Ok (length es), state_of zone' rest'.slots (with_handle es slot))
+    new_handle-done slot p =
+        with_slot (Some p.ready) p.slotted
+        ∙ cond-true (is_some (phys n)) (new_block nothing (replicate n 0) ready) (refused MEM_FULL ready) p.fits
+        ∙ ap (new_block nothing (replicate n 0)) (sym (state-more p.ready rest p.more es agrees p.has_more))
+        ∙ block-given p.ready p.more rest' es slot (agrees-more zone rest p.more es agrees (λ k. refl) p.has_more) p.was
+        p.slots.slots p.one p.slots.all p.none nothing nothing (λ b. refl) (replicate n 0) zone' p.put
+      where
+        ready : State
+        ready = state_of p.ready rest.slots es
+
+    -- no block can be made in a heap with a slot
+    no_block : (slot : ℕ) → HasNoRoom sparing.Nothing slot n zone' → (slots : ℕ → Slot)
+        → then_block (state_of zone' slots es) ≡ (Err MEM_FULL, state_of zone' slots es)
+    no_block slot (inl large) slots = cond-false (is_some (phys n))
+        (new_block nothing (replicate n 0) (state_of zone' slots es)) (refused MEM_FULL (state_of zone' slots es))
+        (ap is_some large)
+    no_block slot (inr full) slots =
+        ap (λ o. cond (is_some (phys n)) (given (names.Handle Plain) o (state_of zone' slots es))
+        (refused MEM_FULL (state_of zone' slots es)))
+        (no_room-rename (handle_number es) (pointer_number es) nothing nothing (λ b. refl) slot
+        (length (map (name_of slots) es)) (replicate n 0) zone' full)
+        ∙ either (is_some (phys n))
+      where
+        either : (t : Bool) → cond t (refused {T = ℕ} MEM_FULL (state_of zone' slots es))
+            (refused {T = ℕ} MEM_FULL (state_of zone' slots es)) ≡ refused {T = ℕ} MEM_FULL (state_of zone' slots es)
+        either true = refl
+        either false = refl
+
+    abbrev Refused : Type 0
+    Refused = (new_handle n old ≡ (Err MEM_FULL, state_of zone' rest'.slots es)) × (Agrees zone' rest' es)
+        × (rest'.window ≡ rest.window)
+
+    pub new_handle-refused : IsNewBlock sparing.Nothing n zone rest None zone' rest' → Refused
+    new_handle-refused (inl none) = (
+      with_slot None none.0 ∙ ap (λ (t : State). refused {T = ℕ} MEM_FULL t)
+          (sym (ap (λ z. state_of z rest'.slots es) none.1 ∙ state-kept zone rest rest' es none.2)),
+      agrees-kept zone zone' rest rest' es agrees fixed none.2,
+      none.2.window,
+    )
+    new_handle-refused (inr only) = (
+      with_slot (Some zone') only.0 ∙ no_block only.2.0 only.2.1 rest.slots
+          ∙ ap (λ (t : State). refused {T = ℕ} MEM_FULL t) (sym (state-more zone' rest rest' es agrees only.1)),
+      agrees-more zone' rest rest' es agrees fixed only.1,
+      only.1.window,
+    )
+
+-- all but the zone is what it was, where the host had no memory, and how many blocks were moved
+pub kept-memory : (value : Memory) (zone zone' : List Block) (rest rest' : Rest) (es es' : List Anchor) (log : Log)
+    → memory_of zone rest es log ≡ value → es' ≡ es → Agrees zone rest es → HasMore rest rest'
+    → memory_of zone' rest' es' log ≡ record value {
+      heap = record value.heap
+          { zone = rename (handle_number es') (pointer_number es') zone' };
+      moves = rest'.moves;
+    }
+kept-memory value zone zone' rest rest' es es' log is same agrees has =
+    let P : Memory → Type 0 = λ m. memory_of zone' rest' es' log
+    ≡ record m {
+      heap = record m.heap { zone = rename (handle_number es') (pointer_number es') zone' };
+      moves =
+          rest'.moves;
+    } in
+    let kept : map (name_of rest'.slots) es' ≡ map (name_of rest.slots) es = ap (map (name_of rest'.slots)) same
+    ∙ names-more rest rest' es agrees has in
+    subst P is
+    (ap (λ l. record {
+      heap = record { zone = rename (handle_number es') (pointer_number es') zone'; names = l };
+      log =
+          log;
+      moves = rest'.moves;
+      window = rest'.window;
+    }) kept
+    ∙ ap (λ w. record {
+      heap = record {
+        zone = rename (handle_number es') (pointer_number es') zone';
+        names = map
+            (name_of rest.slots) es;
+      };
+      log = log;
+      moves = rest'.moves;
+      window = w;
+    }) has.window)
+
+-- and where none was moved
+pub kept-still : (value : Memory) (zone zone' : List Block) (rest rest' : Rest) (es es' : List Anchor) (log : Log)
+    → memory_of zone rest es log ≡ value → es' ≡ es → Agrees zone rest es → HasMore rest rest'
+    → rest'.moves ≡ rest.moves
+    → memory_of zone' rest' es' log ≡ record value {
+      heap = record value.heap
+          { zone = rename (handle_number es') (pointer_number es') zone' };
+    }
+kept-still value zone zone' rest rest' es es' log is same agrees has still =
+    kept-memory value zone zone' rest rest' es es' log is same agrees has
+    ∙ ap (λ m. record value {
+      heap = record value.heap { zone = rename (handle_number es') (pointer_number es') zone' };
+      moves = m;
+    }) (still ∙ ap (λ (m : Memory). m.moves) is)

@@ -1,0 +1,11 @@
+pub mod Numbers
+pub mod Answering
+pub mod Pointing
+pub mod Changing
+pub mod Hoisting
+pub mod Largest
+pub mod Loosening
+pub mod PurgeTrials
+pub mod Looking
+pub mod Rebuilding
+pub mod MoveNames

@@ -1,0 +1,162 @@
+use Rattle.std.proofs.Common.{◌≡◌, ℕ, ◌+◌, ◌≤◌, ◌<◌, true, List, ◌∷◌, ◌++◌, length, refl, sym, ◌∙◌, ap, arith, Option}
+use Rattle.std.proofs.Common.{Some, None, Result, Ok, Err, slice_get, subst}
+use Rattle.std.proofs.lemmas.Option.{slice_get-map}
+use Rattle.std.specs.Option.{option_map, ok_or, IfSome}
+use Rattle.mac_words.specs.declared.code.OsErr.{OsErr}
+use Rattle.heap_calls.specs.declared.log.Log.{Log}
+use Rattle.mac_words.specs.declared.code.TheConstants.OsErr.{NIL_HANDLE, WRONG_ZONE}
+use Rattle.block_store.specs.Block.{Block, Free, Fixed, Masters, Relocatable, size, sizes, rename, rename_block}
+use Rattle.block_store.specs.Block.{is_relocatable, content_of, with_content}
+use Rattle.block_store.specs.Slot.{Slot}
+use Rattle.block_store.specs.Rest.{Rest}
+use Rattle.block_store.specs.Room.{Spot, spot, spot_at, rename_spot}
+use Rattle.block_store.proofs.Renamed.Renaming.{spot-rename, total-rename, size-rename}
+use Rattle.block_store.proofs.Zone.Tidy.{spot-is}
+use Rattle.block_store.proofs.Zone.Totals.{total-append}
+use Rattle.heap_calls.specs.State.{State, Memory}
+use Rattle.heap_calls.specs.Answer.{Answer, Held, look_up, held_at, handle_at, known_as, for_found, on_block, noting}
+use Rattle.heap_calls.specs.Answer.{silent, code_of}
+use Rattle.heap_calls.specs.Inner.Given.{slot_at, slot_of, found, FindsBlock, IsAnswer, IsShown, last_after}
+use Rattle.heap_calls.specs.declared.refusal.Refusal.{Refusal}
+use Rattle.heap_calls.specs.declared.refusal.Refusal.TheVariants.{Code, HostMemory}
+use Rattle.heap_calls.specs.declared.anchor.Found.{Found}
+use Rattle.heap_calls.specs.declared.anchor.Anchor.{Anchor}
+use Rattle.heap_calls.specs.declared.anchor.Anchor.TheVariants.{Handle, Pointer, Disposed}
+use Rattle.heap_calls.specs.Inner.Numbered.{state_of, memory_of, name_of, handle_number, pointer_number, no_number}
+use Rattle.heap_calls.proofs.Numbering.Numbers.{Apart, is_relocatable-number}
+
+-- a call that was noted: the code of its answer is kept
+pub noted : {T : Type 0} (call : State → Answer T) (old mid new : Memory) (r : Result T Refusal)
+    → IsAnswer (silent call old) r mid → new ≡ record mid { log = record mid.log { code = last_after r mid.log.code } }
+    → IsAnswer (noting call old) r new
+noted {T = T} call old mid new (Ok value) is e =
+    (λ i. ((is i).0, record ((is i).1) { log = record ((is i).1.log) { code = code_of {T = T} ((is i).0) } }))
+    ∙ ap (λ (m : Memory). (Ok value, m)) (sym e)
+noted {T = T} call old mid new (Err (Code code)) is e =
+    (λ i. ((is i).0, record ((is i).1) { log = record ((is i).1.log) { code = code_of {T = T} ((is i).0) } }))
+    ∙ ap (λ (m : Memory). (Err code, m)) (sym e)
+noted call old mid new (Err HostMemory) is e = tt
+
+-- a slot was found where the entry is its handle's
+slot_at-ok : (h : ℕ) (o : Option Anchor) (f : Found) → slot_at h o ≡ Ok f → (o ≡ Some (Handle f.slot)) × (f.number ≡ h)
+slot_at-ok h None f e = cc
+slot_at-ok h (Some (Handle s)) f e = let same : found h s ≡ f = cc in
+    (ap (λ (x : Found). Some (Handle x.slot)) same, ap (λ (x : Found). x.number) (sym same))
+slot_at-ok h (Some (Pointer p)) f e = cc
+slot_at-ok h (Some Disposed) f e = cc
+
+pub slot_of-ok : (handle : Option ℕ) (es : List Anchor) (f : Found) → slot_of handle es ≡ Ok f
+    → (handle ≡ Some f.number) × (slice_get es f.number ≡ Some (Handle f.slot))
+slot_of-ok None es f e = cc
+slot_of-ok (Some h) es f e = let p = slot_at-ok h (slice_get es h) f e in
+    (ap Some (sym p.1), ap (slice_get es) p.1 ∙ p.0)
+
+-- the block of a handle, by the store's spot of its slot
+abbrev pub held : ℕ → Spot → Held
+held h s = record { number = h; at = s }
+
+pub look_up-by : (zone : List Block) (slots : ℕ → Slot) (es : List Anchor) (handle : Option ℕ) (h slot : ℕ)
+    → handle ≡ Some h → slice_get es h ≡ Some (Handle slot) → Apart es → h < no_number
+    → look_up handle (state_of zone slots es) ≡ ok_or (option_map (held h)
+    (option_map (rename_spot (handle_number es) (pointer_number es)) (spot (is_relocatable slot) zone))) NIL_HANDLE
+look_up-by zone slots es handle h slot is at apart small =
+    ap (λ o. look_up o (state_of zone slots es)) is
+    ∙ ap (λ o. held_at (known_as h o) (state_of zone slots es))
+    (slice_get-map (name_of slots) es h ∙ ap (option_map (name_of slots)) at)
+    ∙ ap (λ o. ok_or (option_map (held h) o) NIL_HANDLE) (spot-rename (handle_number es) (pointer_number es)
+    (is_relocatable h) (is_relocatable slot) (is_relocatable-number es h slot at apart small) zone)
+
+-- a name that is no handle's
+pub handle_at-refused : (zone : List Block) (slots : ℕ → Slot) (es : List Anchor) (handle : Option ℕ) (code : OsErr)
+    → slot_of handle es ≡ Err (Code code) → handle_at handle (state_of zone slots es) ≡ Err code
+handle_at-refused zone slots es None code e = let same : NIL_HANDLE ≡ code = cc in ap Err same
+handle_at-refused zone slots es (Some h) code e = ap (known_as h) (slice_get-map (name_of slots) es h)
+    ∙ cases (slice_get es h) e
+  where
+    cases : (o : Option Anchor) → slot_at h o ≡ Err (Code code) → known_as h (option_map (name_of slots) o) ≡ Err code
+    cases None e = let same : NIL_HANDLE ≡ code = cc in ap Err same
+    cases (Some (Handle slot)) e = cc
+    cases (Some (Pointer p)) e = let same : WRONG_ZONE ≡ code = cc in ap Err same
+    cases (Some Disposed) e = let same : WRONG_ZONE ≡ code = cc in ap Err same
+
+pub look_up-refused : (zone : List Block) (slots : ℕ → Slot) (es : List Anchor) (handle : Option ℕ) (code : OsErr)
+    → slot_of handle es ≡ Err (Code code) → look_up handle (state_of zone slots es) ≡ Err code
+look_up-refused zone slots es handle code e = ap (λ k. held_at k (state_of zone slots es))
+    (handle_at-refused zone slots es handle code e)
+
+pub content_of-rename : (f g : ℕ → ℕ) (b : Block) → content_of (rename_block f g b) ≡ content_of b
+content_of-rename f g (Free n) = refl
+content_of-rename f g (Fixed id content) = refl
+content_of-rename f g Masters = refl
+content_of-rename f g (Relocatable id flags content) = refl
+
+pub with_content-rename : (f g : ℕ → ℕ) (x : List ℕ) (b : Block)
+    → with_content x (rename_block f g b) ≡ rename_block f g (with_content x b)
+with_content-rename f g x (Free n) = refl
+with_content-rename f g x (Fixed id content) = refl
+with_content-rename f g x Masters = refl
+with_content-rename f g x (Relocatable id flags content) = refl
+
+pub sizes-rename : (f g : ℕ → ℕ) (bs : List Block) → sizes (rename f g bs) ≡ sizes bs
+sizes-rename f g bs = total-rename f g size size (size-rename f g) bs
+
+-- a block of a handle ends within the zone
+pub place-small : (zone : List Block) (slot : ℕ) (s : Spot) → spot (is_relocatable slot) zone ≡ Some s
+    → sizes s.below + size s.here ≤ sizes zone
+place-small zone slot s is =
+    let e : sizes zone ≡ sizes (s.below ++ s.here ∷ s.above) = ap sizes (spot-is (is_relocatable slot) zone s is) in
+    let a : sizes (s.below ++ s.here ∷ s.above) ≡ sizes s.below + sizes (s.here ∷ s.above) =
+    total-append size s.below (s.here ∷ s.above) in
+    omega arith
+
+pub header-fits : (slot : ℕ) (b : Block) → is_relocatable slot b ≡ true → length (content_of b) + 16 ≤ size b
+header-fits slot (Free n) e = cc
+header-fits slot (Fixed id content) e = cc
+header-fits slot Masters e = cc
+header-fits slot (Relocatable id flags content) e = omega arith
+
+-- a call that is refused, where it was looked at in the state that the store stands for
+pub refused_for : {T : Type 0} (e : Refusal) (zone : List Block) (rest : Rest) (es : List Anchor) (log : Log)
+    (handle : Option ℕ) (value : Memory) → memory_of zone rest es log ≡ value
+    → FindsBlock zone rest.slots es handle (Err e) → (answer : State → Held → Answer T)
+    → IsAnswer (silent (λ s. on_block handle s (answer s)) value) (Err e) value
+refused_for {T = T} (Code code) zone rest es log handle value is found answer =
+    let P : Memory → Type 0 = λ m. silent {T = T} (λ s. on_block handle s (answer s)) m ≡ (Err code, m) in
+    subst P is (ap (λ r. let a : Answer T = for_found r (state_of zone rest.slots es)
+    (answer (state_of zone rest.slots es)) in (a.0, record (memory_of zone rest es log) { heap = a.1 })) found)
+refused_for HostMemory zone rest es log handle value is found answer = tt
+
+-- the same where bytes are lent
+pub not_shown_for : (e : Refusal) (zone : List Block) (rest : Rest) (es : List Anchor) (log : Log) (handle : Option ℕ)
+    (value : Memory) → memory_of zone rest es log ≡ value
+    → FindsBlock zone rest.slots es handle (Err e) → (answer : State → Held → Answer (List ℕ))
+    → IsShown (silent (λ s. on_block handle s (answer s)) value) (Err e) value
+not_shown_for (Code code) zone rest es log handle value is found answer =
+    refused_for (Code code) zone rest es log handle value is found answer
+not_shown_for HostMemory zone rest es log handle value is found answer = tt
+
+-- what a call answers at the block that was found
+pub on_found : {T : Type 0} (zone : List Block) (rest : Rest) (es : List Anchor) (log : Log) (handle : Option ℕ)
+    (value : Memory) (k : Held) → memory_of zone rest es log ≡ value
+    → look_up handle (state_of zone rest.slots es) ≡ Ok k → (answer : State → Held → Answer T)
+    → silent (λ s. on_block handle s (answer s)) value ≡ (
+      (answer value.heap k).0,
+      record value
+          { heap = (answer value.heap k).1 },
+    )
+on_found {T = T} zone rest es log handle value k is found answer =
+    let P : Memory → Type 0 = λ m. silent {T = T} (λ s. on_block handle s (answer s)) m
+    ≡ ((answer m.heap k).0, record m { heap = (answer m.heap k).1 }) in
+    subst P is (ap (λ r. let a : Answer T = for_found r (state_of zone rest.slots es)
+    (answer (state_of zone rest.slots es)) in (a.0, record (memory_of zone rest es log) { heap = a.1 })) found)
+
+-- where the block of a place is known
+pub at_place : (place : ℕ) (zone : List Block) (s : Spot) (P : Spot → Type 0) → spot_at place zone ≡ Some s
+    → IfSome (spot_at place zone) P → P s
+at_place place zone s P is holds = let Q : Option Spot → Type 0 = λ o. IfSome o P in subst Q is holds
+
+-- the same for a copy of the entries
+pub found_in : (zone : List Block) (slots : ℕ → Slot) (es es' : List Anchor) (handle : Option ℕ) (r : Result ℕ Refusal)
+    → es' ≡ es → FindsBlock zone slots es' handle r → FindsBlock zone slots es handle r
+found_in zone slots es es' handle r same found = let P : List Anchor → Type 0 = λ l. FindsBlock zone slots l handle r in
+    subst P same found

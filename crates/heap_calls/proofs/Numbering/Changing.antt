@@ -1,0 +1,554 @@
+use Rattle.std.proofs.Common.{◌≡◌, ℕ, ◌+◌, ◌-◌, ◌≤◌, ◌<◌, zero, suc, Bool, true, false, ◌==◌, List, [], ◌∷◌, ◌++◌}
+use Rattle.std.proofs.Common.{length, refl, sym, ◌∙◌, ap, cond, map, arith, Option, Some, None, Result, Ok, Err}
+use Rattle.std.proofs.Common.{slice_get, slice_set, get_or, count_by, subst, ◌⊎◌, inl, inr, nat_le}
+use Rattle.std.proofs.lemmas.List.{map-append, map_push, map-set, length-map}
+use Rattle.std.proofs.lemmas.List.Sums.{sum_by_push, sum_by-set}
+use Rattle.std.proofs.lemmas.Option.{none-some, same_Some, slice_get_within, slice_get-map, get_or_from_slice_get}
+use Rattle.std.proofs.lemmas.Bool.{cond-true, cond-false, false_from_ne_true}
+use Rattle.std.proofs.lemmas.Bool.Decides.{Decides-eqb, nat_tests}
+use Rattle.std.specs.Prelude.{is_some}
+use Rattle.std.specs.Option.{option_map, IfSome, IsSomeAnd}
+use Rattle.std.specs.Bool.{IsTrue}
+use Rattle.mac_words.specs.Size.{phys, padded}
+use Rattle.mac_words.specs.declared.code.OsErr.{OsErr}
+use Rattle.heap_calls.specs.declared.log.Log.{Log}
+use Rattle.mac_words.specs.declared.code.TheConstants.OsErr.{PROFILE}
+use Rattle.block_store.specs.Block.{Block, Free, Fixed, Masters, Relocatable, size, count, free_sum, free_of, rename}
+use Rattle.block_store.specs.Block.{rename_block, is_fixed, is_relocatable, is_room, content_of, with_content}
+use Rattle.block_store.specs.Block.{is_masters, tidy, no_flags}
+use Rattle.windows.specs.Writes.{written}
+use Rattle.block_store.specs.Run.{has}
+use Rattle.block_store.specs.Slot.{Slot, Unused, Used, set_slot, AreSlots}
+use Rattle.block_store.specs.Rest.{Rest, IsRest, KeepsSlots}
+use Rattle.block_store.specs.Room.{Spot, spot_at, raised, rename_spot, filled, room, put_in_place}
+use Rattle.block_store.specs.Grow.{freed}
+use Rattle.block_store.proofs.Renamed.Renaming.{total-rename, free_of-rename, freed-rename, tidy-rename, room-rename}
+use Rattle.block_store.proofs.Renamed.Renaming.{put_in_place-rename}
+use Rattle.block_store.proofs.Zone.Tidy.{rename-unless, rename_fixed-unless, has-released}
+use Rattle.block_store.proofs.Nonrelocatable.FixedCounts.{not_fixed-room}
+use Rattle.heap_calls.specs.State.{State, Memory, Meaning, Role, Plain, Resource, used_slots, all_slots, uses_slot}
+use Rattle.heap_calls.specs.State as names
+use Rattle.heap_calls.specs.Answer.{Answer, Held, given, refused, dispose_handle, disposed_of, written_at, for_found}
+use Rattle.heap_calls.specs.Answer.{known_as, silent}
+use Rattle.heap_calls.specs.declared.anchor.Anchor.{Anchor}
+use Rattle.heap_calls.specs.declared.anchor.Anchor.TheVariants.{Handle, Pointer, Disposed}
+use Rattle.heap_calls.specs.Inner.Numbered.{state_of, memory_of, name_of, handle_number, pointer_number, number_from}
+use Rattle.heap_calls.specs.Inner.Numbered.{leads_to, points_to, no_number, role_of, KeepsFixed, Agrees}
+use Rattle.heap_calls.proofs.Numbering.Answering.{content_of-rename, with_content-rename, held}
+use Rattle.heap_calls.proofs.Room.Staying.{fixed-released, fixed-filled}
+use Rattle.heap_calls.specs.Slots.{new_block}
+use Rattle.heap_calls.proofs.Numbering.Numbers.{is_relocatable-number, leads_to-same, leads_to-is}
+
+-- an entry that doesn't pass changes no number
+pub number_from-push : (n : ℕ) (test : Anchor → Bool) (es : List Anchor) (e : Anchor) → test e ≡ false
+    → number_from n test (es ++ e ∷ []) ≡ number_from n test es
+number_from-push n test [] e fails = cond-false (test e) n no_number fails
+number_from-push n test (x ∷ es) e fails = ap (cond (test x) n) (number_from-push (n + 1) test es e fails)
+
+-- the number of a new entry
+pub number_from-new : (n : ℕ) (test : Anchor → Bool) (es : List Anchor) (e : Anchor) → test e ≡ true
+    → ((k : ℕ) (x : Anchor) → slice_get es k ≡ Some x → test x ≡ false)
+    → number_from n test (es ++ e ∷ []) ≡ n + length es
+number_from-new n test [] e is none = cond-true (test e) n no_number is ∙ omega arith
+number_from-new n test (x ∷ es) e is none =
+    cond-false (test x) n _ (none 0 x refl) ∙ number_from-new (n + 1) test es e is (λ k y at. none (suc k) y at)
+    ∙ omega arith
+
+-- an entry that is changed from one that doesn't pass to another that doesn't
+pub number_from-set : (n : ℕ) (test : Anchor → Bool) (es : List Anchor) (h : ℕ) (old new : Anchor)
+    → slice_get es h ≡ Some old → test old ≡ false → test new ≡ false
+    → number_from n test (slice_set es h new) ≡ number_from n test es
+number_from-set n test [] h old new at fails fails' = refl
+number_from-set n test (x ∷ es) zero old new at fails fails' =
+    cond-false (test new) n _ fails' ∙ sym (cond-false (test x) n _ (ap test (same_Some _ _ at) ∙ fails))
+number_from-set n test (x ∷ es) (suc h) old new at fails fails' =
+    ap (cond (test x) n) (number_from-set (n + 1) test es h old new at fails fails')
+
+-- an entry of a list with one more
+pub slice_get-push : (es : List Anchor) (e : Anchor) (h : ℕ) (x : Anchor) → slice_get (es ++ e ∷ []) h ≡ Some x
+    → (slice_get es h ≡ Some x) ⊎ ((h ≡ length es) × (x ≡ e))
+slice_get-push [] e zero x at = inr (refl, sym (same_Some _ _ at))
+slice_get-push [] e (suc h) x at = absurd (none-some _ at)
+slice_get-push (y ∷ es) e zero x at = inl at
+slice_get-push (y ∷ es) e (suc h) x at = elim (slice_get-push es e h x at)
+    [ inl found ↦ inl found | inr new ↦ inr (ap suc new.0, new.1) ]
+
+-- an entry of a list with one changed
+pub slice_get-set : (es : List Anchor) (i : ℕ) (e : Anchor) (h : ℕ) (x : Anchor)
+    → slice_get (slice_set es i e) h ≡ Some x → (slice_get es h ≡ Some x) ⊎ ((h ≡ i) × (x ≡ e))
+slice_get-set [] i e h x at = absurd (none-some _ at)
+slice_get-set (y ∷ es) zero e zero x at = inr (refl, sym (same_Some _ _ at))
+slice_get-set (y ∷ es) zero e (suc h) x at = inl at
+slice_get-set (y ∷ es) (suc i) e zero x at = inl at
+slice_get-set (y ∷ es) (suc i) e (suc h) x at = elim (slice_get-set es i e h x at)
+    [ inl found ↦ inl found | inr new ↦ inr (ap suc new.0, new.1) ]
+
+pub slice_get-set_same : (es : List Anchor) (i : ℕ) (e : Anchor) → i < length es
+    → slice_get (slice_set es i e) i ≡ Some e
+slice_get-set_same [] i e within = absurd (let z : i < 0 = within in omega arith)
+slice_get-set_same (y ∷ es) zero e within = refl
+slice_get-set_same (y ∷ es) (suc i) e within = slice_get-set_same es i e (let z : suc i < suc (length es) = within in
+    omega arith)
+
+-- entries stand for the same names where their slots are in the same state
+pub names-same : (slots slots' : ℕ → Slot) (es : List Anchor)
+    → ((h s : ℕ) → slice_get es h ≡ Some (Handle s) → slots' s ≡ slots s)
+    → map (name_of slots') es ≡ map (name_of slots) es
+names-same slots slots' [] same = refl
+names-same slots slots' (Handle s ∷ es) same = rw (same 0 s refl)
+    (ap (λ l. names.Handle (role_of (slots s)) ∷ l) (names-same slots slots' es (λ h s at. same (suc h) s at)))
+names-same slots slots' (Pointer p ∷ es) same = ap (λ l. names.Pointer ∷ l)
+    (names-same slots slots' es (λ h s at. same (suc h) s at))
+names-same slots slots' (Disposed ∷ es) same = ap (λ l. names.Disposed ∷ l)
+    (names-same slots slots' es (λ h s at. same (suc h) s at))
+
+unused-not_used : {P : Type 0} (state : Slot) → state ≡ Unused → state ≡ Used false → P
+unused-not_used state a b = let fails : Unused ≡ Used false = sym a ∙ b in cc
+
+-- one for a name with a slot
+abbrev used_by : Meaning → ℕ
+used_by x = cond (uses_slot x) 1 0
+
+-- one for a Masters block
+abbrev masters_in : Block → ℕ
+masters_in b = cond (is_masters b) 1 0
+
+-- the Masters blocks of a zone
+pub masters-rename : (f g : ℕ → ℕ) (zone : List Block) → count is_masters (rename f g zone) ≡ count is_masters zone
+masters-rename f g zone = total-rename f g masters_in masters_in same zone
+  where
+    same : (b : Block) → masters_in (rename_block f g b) ≡ masters_in b
+    same (Free n) = refl
+    same (Fixed id content) = refl
+    same Masters = refl
+    same (Relocatable id flags content) = refl
+
+-- a size that has room
+pub phys-some : (n bytes : ℕ) → phys n ≡ Some bytes → (is_some (phys n) ≡ true) × (bytes ≡ padded n)
+phys-some n bytes is = (ap is_some is, cases (nat_le n 2147483616) is)
+  where
+    cases : (t : Bool) → cond t (Some (padded n)) None ≡ Some bytes → bytes ≡ padded n
+    cases true e = sym (same_Some _ _ e)
+    cases false e = absurd (none-some _ e)
+
+-- the names of a heap with a handle more
+module _ {before : List Block} (zone : List Block) (rest rest' : Rest) (es : List Anchor) (slot : ℕ)
+    (agrees : Agrees before rest es) (was : rest.slots slot ≡ Unused)
+    (now : AreSlots (set_slot rest.slots slot (Used false)) rest'.slots) (one : rest'.unused + 1 ≡ rest.unused)
+    (all : rest'.all ≡ rest.all) (none : has (is_relocatable slot) zone ≡ false)
+  where
+    -- the entries with the new one
+    abbrev pub es' : List Anchor
+    es' = es ++ Handle slot ∷ []
+
+    other-slot : (k : ℕ) → (k == slot) ≡ false → rest'.slots k ≡ rest.slots k
+    other-slot k apart = now k ∙ cond-false (k == slot) (Used false) (rest.slots k) apart
+
+    pub slot-now : rest'.slots slot ≡ Used false
+    slot-now = now slot ∙ cond-true (slot == slot) (Used false) (rest.slots slot) (leads_to-same slot)
+
+    apart-from : (h s : ℕ) → slice_get es h ≡ Some (Handle s) → (s == slot) ≡ false
+    apart-from h s at = false_from_ne_true (s == slot) (λ e. unused-not_used (rest.slots s)
+        (ap rest.slots ((Decides-eqb s slot).0 e) ∙ was) (agrees.used h s at))
+
+    pub number-now : handle_number es' slot ≡ length es
+    number-now =
+        number_from-new 0 (leads_to slot) es (Handle slot) (leads_to-same slot)
+        (λ k x at. false_from_ne_true (leads_to slot x) (λ e. let is = leads_to-is slot x e in
+        unused-not_used (rest.slots slot) was (agrees.used k slot (at ∙ ap Some is))))
+        ∙ omega arith
+
+    flip : (k : ℕ) → (k == slot) ≡ false → (slot == k) ≡ false
+    flip k e = false_from_ne_true (slot == k) (λ t. let same : slot ≡ k = (Decides-eqb slot k).0 t in
+        let z : (k == slot) ≡ true = (Decides-eqb k slot).1 (sym same) in let f : true ≡ false = sym z ∙ e in cc)
+
+    -- the zone as it was has the names that it had
+    pub zone-kept : rename (handle_number es') (pointer_number es') zone
+        ≡ rename (handle_number es) (pointer_number es) zone
+    zone-kept =
+        rename_fixed-unless (handle_number es') (pointer_number es) (pointer_number es')
+        (λ k. number_from-push 0 (points_to k) es (Handle slot) refl) zone
+        ∙ rename-unless (handle_number es) (handle_number es') (pointer_number es) slot
+        (λ k e. number_from-push 0 (leads_to k) es (Handle slot) (flip k e)) zone none
+
+    pub names-now : map (name_of rest'.slots) es' ≡ map (name_of rest.slots) es ++ names.Handle Plain ∷ []
+    names-now =
+        map_push (name_of rest'.slots) es (Handle slot)
+        ∙ ap (λ l. l ++ names.Handle (role_of (rest'.slots slot)) ∷ [])
+        (names-same rest.slots rest'.slots es (λ h s at. other-slot s (apart-from h s at)))
+        ∙ ap (λ t. map (name_of rest.slots) es ++ names.Handle (role_of t) ∷ []) slot-now
+
+    pub agrees-now : (zone' : List Block) → KeepsFixed before zone' → Agrees zone' rest' es'
+    agrees-now zone' fixed = record {
+      used = λ h s at. elim (slice_get-push es (Handle slot) h (Handle s) at) [
+        | inl found ↦ other-slot s (apart-from h s found) ∙ agrees.used h s found
+        | inr new ↦
+            (let is : s ≡ slot = handle-same s slot new.1 in ap rest'.slots is ∙ slot-now)
+      ];
+      apart = λ h k s at at'. elim (slice_get-push es (Handle slot) h (Handle s) at) [
+        | inl found ↦ elim (slice_get-push es (Handle slot) k (Handle s) at') [
+          | inl found' ↦ agrees.apart h k s found found'
+          | inr new' ↦ absurd
+              (clash h s found (handle-same s slot new'.1))
+        ]
+        | inr new ↦ elim (slice_get-push es (Handle slot) k (Handle s) at')
+            [ inl found' ↦ absurd (clash k s found' (handle-same s slot new.1)) | inr new' ↦ new.0 ∙ sym new'.0 ]
+      ];
+      pointed = λ h p at. fixed p ∙ agrees.pointed h p (old h p at);
+      lone = λ h k p at at'. agrees.lone h k p (old h p at) (old k p at');
+      counted =
+          let a = agrees.counted in
+          let e : count_by uses_slot (map (name_of rest'.slots) es')
+          ≡ count_by uses_slot (map (name_of rest.slots) es ++ names.Handle Plain ∷ []) =
+          ap (count_by uses_slot) names-now in
+          let c : count_by uses_slot (map (name_of rest.slots) es ++ names.Handle Plain ∷ [])
+          ≡ count_by uses_slot (map (name_of rest.slots) es) + 1 =
+          sum_by_push (λ x. cond (uses_slot x) 1 0) (map (name_of rest.slots) es) (names.Handle Plain) in
+          omega (arith, one, all);
+    }
+      where
+        handle-same : (s t : ℕ) → Handle s ≡ Handle t → s ≡ t
+        handle-same s t e = cc
+
+        not_handle : (p s : ℕ) → Pointer p ≡ Handle s → ⊥
+        not_handle p s e = cc
+
+        old : (h p : ℕ) → slice_get es' h ≡ Some (Pointer p) → slice_get es h ≡ Some (Pointer p)
+        old h p at = elim (slice_get-push es (Handle slot) h (Pointer p) at)
+            [ inl found ↦ found | inr new ↦ absurd (not_handle p slot new.1) ]
+
+        clash : (h s : ℕ) → slice_get es h ≡ Some (Handle s) → s ≡ slot → ⊥
+        clash h s found is = unused-not_used (rest.slots s) (ap rest.slots is ∙ was) (agrees.used h s found)
+
+    -- a new handle over another zone
+    pub handle-given : (zone' : List Block) → given (names.Handle Plain)
+        (Some (rename (handle_number es') (pointer_number es') zone')) (state_of zone rest.slots es)
+        ≡ (Ok (length es), state_of zone' rest'.slots es')
+    handle-given zone' =
+        ap (λ k. (
+          Ok k,
+          record {
+            zone = rename (handle_number es') (pointer_number es') zone';
+            names = map
+                (name_of rest.slots) es ++ names.Handle Plain ∷ [];
+          },
+        )) (length-map es (name_of rest.slots))
+        ∙ ap (λ l. (Ok (length es), record { zone = rename (handle_number es') (pointer_number es') zone'; names = l }))
+        (sym names-now)
+
+    -- a new handle with no block
+    pub handle-empty : given (names.Handle Plain) (Some (rename (handle_number es) (pointer_number es) zone))
+        (state_of zone rest.slots es) ≡ (Ok (length es), state_of zone rest'.slots es')
+    handle-empty = ap (λ z. given (names.Handle Plain) (Some z) (state_of zone rest.slots es)) (sym zone-kept)
+        ∙ handle-given zone
+
+    -- a new handle whose block was put in its place
+    pub block-given : (sp t : Block → Bool) → ((b : Block) → sp
+        (rename_block (handle_number es') (pointer_number es') b) ≡ t b) → (bytes : List ℕ) (zone' : List Block)
+        → room (put_in_place (Relocatable slot no_flags bytes)) t zone ≡ Some zone'
+        → new_block sp bytes (state_of zone rest.slots es) ≡ (Ok (length es), state_of zone' rest'.slots es')
+    block-given sp t same bytes zone' done = ap (λ o. given (names.Handle Plain) o (state_of zone rest.slots es)) put
+        ∙ handle-given zone'
+      where
+        put : room (put_in_place (Relocatable (length (map (name_of rest.slots) es)) no_flags bytes)) sp
+            (rename (handle_number es) (pointer_number es) zone) ≡ Some
+            (rename (handle_number es') (pointer_number es') zone')
+        put =
+            ap (λ k. room (put_in_place (Relocatable k no_flags bytes)) sp
+            (rename (handle_number es) (pointer_number es) zone))
+            (length-map es (name_of rest.slots) ∙ sym number-now)
+            ∙ ap (room (put_in_place (Relocatable (handle_number es' slot) no_flags bytes)) sp) (sym zone-kept)
+            ∙ room-rename (handle_number es') (pointer_number es') sp t
+            (put_in_place (Relocatable (handle_number es' slot) no_flags bytes))
+            (put_in_place (Relocatable slot no_flags bytes)) same
+            (put_in_place-rename (handle_number es') (pointer_number es') (Relocatable slot no_flags bytes)) zone
+            ∙ ap (option_map (rename (handle_number es') (pointer_number es'))) done
+
+-- the names of a heap with a handle disposed of
+module _ (zone : List Block) (rest rest' : Rest) (es : List Anchor) (h slot : ℕ)
+    (agrees : Agrees zone rest es) (at : slice_get es h ≡ Some (Handle slot)) (small : h < no_number)
+    (now : AreSlots (set_slot rest.slots slot Unused) rest'.slots) (one : rest'.unused ≡ rest.unused + 1)
+    (all : rest'.all ≡ rest.all)
+  where
+    -- the entries without it
+    abbrev pub left : List Anchor
+    left = slice_set es h Disposed
+
+    other-left : (k s : ℕ) → slice_get left k ≡ Some (Handle s) → (slice_get es k ≡ Some (Handle s))
+        × ((s == slot) ≡ false)
+    other-left k s found = elim (slice_get-set es h Disposed k (Handle s) found) [
+      | inl old ↦ (
+        old,
+        false_from_ne_true (s == slot) (λ e. let same : k
+            ≡ h = agrees.apart k h s old (at ∙ ap (λ n. Some (Handle n)) (sym ((Decides-eqb s slot).0 e))) in
+            changed (sym (slice_get-set_same es h Disposed (slice_get_within es h (Handle slot) at))
+            ∙ ap (slice_get left) (sym same) ∙ found)),
+      )
+      | inr new ↦ absurd (changed (sym (ap Some new.1)))
+    ]
+      where
+        changed : Some Disposed ≡ Some (Handle s) → ⊥
+        changed e = cc
+
+    slots-left : (s : ℕ) → (s == slot) ≡ false → rest'.slots s ≡ rest.slots s
+    slots-left s e = now s ∙ cond-false (s == slot) Unused (rest.slots s) e
+
+    flipped : (k : ℕ) → (k == slot) ≡ false → (slot == k) ≡ false
+    flipped k e = false_from_ne_true (slot == k) (λ t. let same : slot ≡ k = (Decides-eqb slot k).0 t in
+        let z : (k == slot) ≡ true = (Decides-eqb k slot).1 (sym same) in let f : true ≡ false = sym z ∙ e in cc)
+
+    pub names-left : map (name_of rest'.slots) left ≡ slice_set (map (name_of rest.slots) es) h names.Disposed
+    names-left = names-same rest.slots rest'.slots left (λ k s found. slots-left s (other-left k s found).1)
+        ∙ map-set (name_of rest.slots) es h Disposed
+
+    pointer-left : (k p : ℕ) → slice_get left k ≡ Some (Pointer p) → slice_get es k ≡ Some (Pointer p)
+    pointer-left k p found = elim (slice_get-set es h Disposed k (Pointer p) found)
+        [ inl old ↦ old | inr new ↦ absurd (gone new.1) ]
+      where
+        gone : Pointer p ≡ Disposed → ⊥
+        gone e = cc
+
+    pub agrees-left : Agrees (tidy (freed (is_relocatable slot) zone)) rest' left
+    agrees-left = record {
+      used = λ k s found. slots-left s (other-left k s found).1 ∙ agrees.used k s (other-left k s found).0;
+      apart = λ j k s a b. agrees.apart j k s (other-left j s a).0 (other-left k s b).0;
+      pointed = λ k p found. fixed-released slot zone p ∙ agrees.pointed k p (pointer-left k p found);
+      lone = λ j k p a b. agrees.lone j k p (pointer-left j p a) (pointer-left k p b);
+      counted =
+          let a = agrees.counted in
+          let e : count_by uses_slot (map (name_of rest'.slots) left)
+          ≡ count_by uses_slot (slice_set (map (name_of rest.slots) es) h names.Disposed) =
+          ap (count_by uses_slot) names-left in
+          let was : get_or (map (name_of rest.slots) es) h names.Disposed ≡ names.Handle (role_of (rest.slots slot)) =
+          get_or_from_slice_get (map (name_of rest.slots) es) h _ names.Disposed
+          (slice_get-map (name_of rest.slots) es h ∙ ap (option_map (name_of rest.slots)) at) in
+          let one_there : used_by (get_or (map (name_of rest.slots) es) h names.Disposed) ≡ 1 = ap used_by was in
+          let c = sum_by-set used_by (map (name_of rest.slots) es) h names.Disposed names.Disposed
+          (let w : h < length es = slice_get_within es h (Handle slot) at in
+          omega (arith, length-map es (name_of rest.slots))) in
+          omega (arith, one, all);
+    }
+
+    pub dispose_handle-done : (handle : Option ℕ) → handle ≡ Some h
+        → dispose_handle handle (state_of zone rest.slots es) ≡ (
+          Ok tt,
+          state_of
+              (tidy (freed (is_relocatable slot) zone)) rest'.slots left,
+        )
+    dispose_handle-done handle is =
+        ap (λ o. dispose_handle o (state_of zone rest.slots es)) is
+        ∙ ap (λ o. for_found (known_as h o) (state_of zone rest.slots es)
+        (λ k. disposed_of k.role k.number (state_of zone rest.slots es)))
+        (slice_get-map (name_of rest.slots) es h ∙ ap (option_map (name_of rest.slots)) at)
+        ∙ ap (λ t. disposed_of (role_of t) h (state_of zone rest.slots es)) (agrees.used h slot at)
+        ∙ ap (λ z. (Ok tt, record { zone = z; names = slice_set (map (name_of rest.slots) es) h names.Disposed }))
+        zone-left
+        ∙ ap (λ l. (
+          Ok tt,
+          record {
+            zone = rename (handle_number left) (pointer_number left)
+                (tidy (freed (is_relocatable slot) zone));
+            names = l;
+          },
+        )) (sym names-left)
+      where
+        zone-left : tidy (freed (is_relocatable h) (rename (handle_number es) (pointer_number es) zone))
+            ≡ rename (handle_number left) (pointer_number left) (tidy (freed (is_relocatable slot) zone))
+        zone-left =
+            ap tidy (freed-rename (handle_number es) (pointer_number es) (is_relocatable h) (is_relocatable slot)
+            (is_relocatable-number es h slot at agrees.apart small) zone)
+            ∙ tidy-rename (handle_number es) (pointer_number es) (freed (is_relocatable slot) zone)
+            ∙ sym (rename_fixed-unless (handle_number left) (pointer_number es) (pointer_number left)
+            (λ k. number_from-set 0 (points_to k) es h (Handle slot) Disposed at refl refl)
+            (tidy (freed (is_relocatable slot) zone))
+            ∙ rename-unless (handle_number es) (handle_number left) (pointer_number es) slot
+            (λ k e. number_from-set 0 (leads_to k) es h (Handle slot) Disposed at (flipped k e) refl)
+            (tidy (freed (is_relocatable slot) zone)) (has-released slot zone))
+
+-- the spot of a place is a way to see the zone
+pub spot_at-is : (place : ℕ) (zone : List Block) (s : Spot) → spot_at place zone ≡ Some s
+    → zone ≡ s.below ++ s.here ∷ s.above
+spot_at-is place [] s e = absurd (none-some _ e)
+spot_at-is place (b ∷ above) s e = cases (place == 0) (nat_le (size b) place) (spot_at (place - size b) above)
+    (spot_at-is (place - size b) above) e
+  where
+    cases : (t u : Bool) (o : Option Spot) → ((s : Spot) → o ≡ Some s → above ≡ s.below ++ s.here ∷ s.above)
+        → cond t (Some (record { below = []; here = b; above = above })) (cond u (option_map (raised b) o) None)
+        ≡ Some s → b ∷ above ≡ s.below ++ s.here ∷ s.above
+    cases true u o rest e = ap (λ (s : Spot). s.below ++ s.here ∷ s.above) (same_Some _ _ e)
+    cases false false o rest e = absurd (none-some _ e)
+    cases false true None rest e = absurd (none-some _ e)
+    cases false true (Some s') rest e = ap (λ l. b ∷ l) (rest s' refl)
+        ∙ ap (λ (s : Spot). s.below ++ s.here ∷ s.above) (same_Some _ _ e)
+
+-- the Fixed blocks stay where a block is changed at the spot of a place
+pub fixed-at : (place : ℕ) (zone zone' : List Block) (s : Spot) → spot_at place zone ≡ Some s
+    → KeepsFixed (s.below ++ s.here ∷ s.above) zone' → KeepsFixed zone zone'
+fixed-at place zone zone' s at stays p = stays p ∙ ap (has (is_fixed p)) (sym (spot_at-is place zone s at))
+
+-- and where another block than a Fixed one is put there
+pub fixed-carved : (place n : ℕ) (zone after : List Block) (new : Block) → ((p : ℕ) → is_fixed p new ≡ false)
+    → IsSomeAnd (spot_at place zone) (λ s. IsTrue (is_room n s.here))
+    → IfSome (spot_at place zone) (λ s. after ≡ filled new s) → KeepsFixed zone after
+fixed-carved place n zone after new none wide done = cases (spot_at place zone) refl wide done
+  where
+    cases : (o : Option Spot) → spot_at place zone ≡ o → IsSomeAnd o (λ s. IsTrue (is_room n s.here))
+        → IfSome o (λ s. after ≡ filled new s) → KeepsFixed zone after
+    cases None at wide done p = absurd wide
+    cases (Some s) at wide done p =
+        ap (has (is_fixed p)) done ∙ fixed-at place zone (filled new s) s at
+        (fixed-filled new s (λ p. none p ∙ sym (not_fixed-room p n s.here wide))) p
+
+-- the store goes on with the same slots
+pub agrees-kept : (zone zone' : List Block) (rest rest' : Rest) (es : List Anchor) → Agrees zone rest es
+    → KeepsFixed zone zone' → KeepsSlots rest rest' → Agrees zone' rest' es
+agrees-kept zone zone' rest rest' es agrees fixed now = record {
+  used = λ h s at. now.slots s ∙ agrees.used h s at;
+  apart = agrees.apart;
+  pointed = λ h p at. fixed p ∙ agrees.pointed h p at;
+  lone = agrees.lone;
+  counted =
+      let a = agrees.counted in
+      let e : count_by uses_slot (map (name_of rest'.slots) es) ≡ count_by uses_slot (map (name_of rest.slots) es) =
+      ap (count_by uses_slot) (names-same rest.slots rest'.slots es (λ h s at. now.slots s)) in
+      omega (arith, now.unused, now.all);
+}
+
+-- where nothing is moved the slots are kept
+pub kept : (rest rest' : Rest) → IsRest rest rest' → KeepsSlots rest rest'
+kept rest rest' now = record {
+  slots = now.slots;
+  unused = now.unused;
+  all = now.all;
+  moves = refl;
+  window =
+      now.window;
+}
+
+-- what a store has beside its blocks, as if none had moved
+abbrev pub unmoved : Rest → Rest → Rest
+unmoved rest rest' = record rest' { moves = rest.moves }
+
+pub unmoved-is : (rest rest' : Rest) → KeepsSlots rest rest' → IsRest rest (unmoved rest rest')
+unmoved-is rest rest' now = record {
+  slots = now.slots;
+  unused = now.unused;
+  all = now.all;
+  moves = refl;
+  window =
+      now.window;
+}
+
+pub agrees-same : (zone zone' : List Block) (rest rest' : Rest) (es : List Anchor) → Agrees zone rest es
+    → KeepsFixed zone zone' → IsRest rest rest' → Agrees zone' rest' es
+agrees-same zone zone' rest rest' es agrees fixed now = agrees-kept zone zone' rest rest' es agrees fixed
+    (kept rest rest' now)
+
+-- a heap over another zone and the same slots
+pub memory-same : (zone : List Block) (rest rest' : Rest) (es : List Anchor) (log : Log) → IsRest rest rest'
+    → memory_of zone rest' es log ≡ memory_of zone rest es log
+memory-same zone rest rest' es log now =
+    ap (λ l. record {
+      heap = record { zone = rename (handle_number es) (pointer_number es) zone; names = l };
+      log = log;
+      moves = rest'.moves;
+      window = rest'.window;
+    }) (names-same rest.slots rest'.slots es (λ h s at. now.slots s))
+    ∙ ap (λ m. record { heap = state_of zone rest.slots es; log = log; moves = m; window = rest'.window }) now.moves
+    ∙ ap (λ w. record { heap = state_of zone rest.slots es; log = log; moves = rest.moves; window = w }) now.window
+
+-- what a call gives, told of the whole heap
+pub silent-done : {T : Type 0} (row : State → Answer T) (value : Memory) (zone zone' : List Block) (rest rest' : Rest)
+    (es es' : List Anchor) (log : Log) (r : Result T OsErr)
+    → memory_of zone rest es log ≡ value → row (state_of zone rest.slots es) ≡ (r, state_of zone' rest'.slots es')
+    → rest'.window ≡ rest.window → rest'.moves ≡ rest.moves → silent row value ≡ (r, memory_of zone' rest' es' log)
+silent-done {T = T} row value zone zone' rest rest' es es' log r is done window moves =
+    let P : Memory → Type 0 = λ m. silent {T = T} row m ≡ (r, memory_of zone' rest' es' log) in
+    subst P is ((λ i. ((done i).0, record (memory_of zone rest es log) { heap = (done i).1 }))
+    ∙ ap (λ m. (r, record { heap = state_of zone' rest'.slots es'; log = log; moves = m; window = rest.window }))
+    (sym moves)
+    ∙ ap (λ w. (r, record { heap = state_of zone' rest'.slots es'; log = log; moves = rest'.moves; window = w }))
+    (sym window))
+
+-- what a refused call gives
+pub silent-refused : {T : Type 0} (row : State → Answer T) (value : Memory) (zone : List Block) (rest : Rest)
+    (es : List Anchor) (log : Log) (code : OsErr)
+    → memory_of zone rest es log ≡ value → row (state_of zone rest.slots es) ≡ (Err code, state_of zone rest.slots es)
+    → silent row value ≡ (Err code, value)
+silent-refused row value zone rest es log code is done = silent-done row value zone zone rest rest es es log (Err code)
+    is done refl refl ∙ ap (λ (m : Memory). (Err code, m)) is
+
+-- the answer of a call that writes bytes into the block that it looks up, where they were written
+pub written-done : (value : Memory) (zone zone' : List Block) (rest rest' : Rest) (es : List Anchor) (log : Log)
+    (look : State → Result Held OsErr) (h i : ℕ) (x : List ℕ) (s : Spot) → memory_of zone rest es log ≡ value
+    → look (state_of zone rest.slots es) ≡ Ok (held h (rename_spot (handle_number es) (pointer_number es) s))
+    → IsRest rest rest' → i + length x ≤ length (content_of s.here)
+    → zone' ≡ s.below ++ with_content (written i x (content_of s.here)) s.here ∷ s.above
+    → silent (λ s. for_found (look s) s (λ k. written_at i x k.at s)) value ≡ (Ok tt, memory_of zone' rest' es log)
+written-done value zone zone' rest rest' es log look h i x s is found now fits done =
+    silent-done (λ s. for_found (look s) s (λ k. written_at i x k.at s)) value zone zone' rest rest' es es log (Ok tt)
+    is
+    (ap (λ r. for_found r state (λ k. written_at i x k.at state)) found
+    ∙ ap (λ t. cond t (
+      Ok tt,
+      record state {
+        zone = rename f g s.below
+            ++ with_content (written i x (content_of (rename_block f g s.here))) (rename_block f g s.here)
+            ∷ rename f g s.above;
+      },
+    ) (refused PROFILE state)) (ap (λ c. nat_le (i + length x) (length c))
+    (content_of-rename f g s.here) ∙ test)
+    ∙ ap (λ z. (Ok tt, record state { zone = z })) (ap (λ b. rename f g s.below ++ b ∷ rename f g s.above)
+    (with_content-rename f g _ s.here ∙ ap (λ c. rename_block f g (with_content (written i x c) s.here))
+    (content_of-rename f g s.here)) ∙ sym (map-append (rename_block f g) s.below
+    (with_content (written i x (content_of s.here)) s.here ∷ s.above)) ∙ ap (rename f g) (sym done))
+    ∙ ap (λ l. (Ok tt, record { zone = rename f g zone'; names = l }))
+    (sym (names-same rest.slots rest'.slots es (λ h s at. now.slots s))))
+    now.window now.moves
+  where
+    f : ℕ → ℕ
+    f = handle_number es
+
+    g : ℕ → ℕ
+    g = pointer_number es
+
+    state : State
+    state = state_of zone rest.slots es
+
+    test : nat_le (i + length x) (length (content_of s.here)) ≡ true
+    test = grind (arith, nat_tests)
+
+-- and where they don't fit
+pub written-outside : (value : Memory) (zone : List Block) (rest : Rest) (es : List Anchor) (log : Log)
+    (look : State → Result Held OsErr) (h i : ℕ) (x : List ℕ) (s : Spot) → memory_of zone rest es log ≡ value
+    → look (state_of zone rest.slots es) ≡ Ok (held h (rename_spot (handle_number es) (pointer_number es) s))
+    → length (content_of s.here) < i + length x → silent (λ s. for_found (look s) s (λ k. written_at i x k.at s)) value
+    ≡ (Err PROFILE, value)
+written-outside value zone rest es log look h i x s is found past =
+    silent-refused (λ s. for_found (look s) s (λ k. written_at i x k.at s)) value zone rest es log PROFILE is
+    (ap (λ r. for_found r state (λ k. written_at i x k.at state)) found
+    ∙ ap (λ t. cond t (
+      Ok tt,
+      record state {
+        zone = rename f g s.below
+            ++ with_content (written i x (content_of (rename_block f g s.here))) (rename_block f g s.here)
+            ∷ rename f g s.above;
+      },
+    ) (refused PROFILE state)) (ap (λ c. nat_le (i + length x) (length c))
+    (content_of-rename f g s.here) ∙ test))
+  where
+    f : ℕ → ℕ
+    f = handle_number es
+
+    g : ℕ → ℕ
+    g = pointer_number es
+
+    state : State
+    state = state_of zone rest.slots es
+
+    test : nat_le (i + length x) (length (content_of s.here)) ≡ false
+    test = grind (arith, nat_tests)
+
+-- the Free bytes of a zone don't see names
+pub free_sum-rename : (f g : ℕ → ℕ) (zone : List Block) → free_sum (rename f g zone) ≡ free_sum zone
+free_sum-rename f g zone = total-rename f g free_of free_of (free_of-rename f g) zone

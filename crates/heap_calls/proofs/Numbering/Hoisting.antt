@@ -1,0 +1,218 @@
+use Rattle.std.proofs.Common.{◌≡◌, ℕ, ◌<◌, Bool, true, false, ◌&&◌, List, ◌∷◌, ◌++◌, refl, sym, ◌∙◌, ap, cond, Option}
+use Rattle.std.proofs.Common.{Some, None, Ok, Err, slice_get, subst, filter, unwrap_or, arith}
+use Rattle.std.proofs.lemmas.List.{map-append}
+use Rattle.std.proofs.lemmas.Option.{none-some, same_Some}
+use Rattle.std.proofs.lemmas.Bool.{le-leb}
+use Rattle.std.specs.Option.{option_map, ok_or, IfSome, IsSomeAnd}
+use Rattle.std.specs.Bool.{IsTrue}
+use Rattle.heap_calls.specs.declared.log.Log.{Log}
+use Rattle.mac_words.specs.declared.code.TheConstants.OsErr.{NIL_HANDLE, LOCKED}
+use Rattle.block_store.specs.declared.flags.Flags.{Flags}
+use Rattle.block_store.specs.Block.{Block, Free, Fixed, Masters, Relocatable, free_of, free_sum, free, rename}
+use Rattle.block_store.specs.Block.{rename_block, is_relocatable, is_mover, tidy}
+use Rattle.block_store.specs.Run.{RunSpot, run_spot, run_at, change_run, with_run, has, has_free, others, high}
+use Rattle.block_store.specs.Seen.{seen, with_flags}
+use Rattle.block_store.specs.Rest.{Rest, IsRest}
+use Rattle.block_store.specs.Room.{Spot, spot, spot_at, rename_spot}
+use Rattle.block_store.specs.Find.{FindsLowestRun}
+use Rattle.block_store.proofs.Renamed.Renaming.{change_run-rename, has-rename, others-rename, filter-rename}
+use Rattle.block_store.proofs.Renamed.Renaming.{free-rename, total-rename, free_of-rename, tidy-rename, is_mover-rename}
+use Rattle.block_store.proofs.Regroup.RunSpots.{run_spot-passes}
+use Rattle.heap_calls.specs.State.{State, Memory}
+use Rattle.heap_calls.specs.Answer.{Answer, Held, look_up, for_found, refused, flagged, change_flags, hoisted, move_hhi}
+use Rattle.heap_calls.specs.Answer.{silent}
+use Rattle.heap_calls.specs.Inner.Given.{seen_flags, seen_mover}
+use Rattle.heap_calls.specs.declared.anchor.Anchor.{Anchor}
+use Rattle.heap_calls.specs.declared.anchor.Anchor.TheVariants.{Handle}
+use Rattle.heap_calls.specs.Inner.Numbered.{state_of, memory_of, handle_number, pointer_number, no_number}
+use Rattle.heap_calls.proofs.Numbering.Answering.{look_up-by, held}
+use Rattle.heap_calls.proofs.Numbering.Numbers.{Apart, is_relocatable-number}
+use Rattle.heap_calls.proofs.Numbering.Changing.{silent-done, silent-refused, names-same}
+
+-- a block without flags has none to change
+pub flags-none : (change : Flags → Flags) (b : Block) → seen_flags (Some (seen b)) ≡ None → flagged change b ≡ b
+flags-none change (Free n) e = refl
+flags-none change (Fixed id content) e = refl
+flags-none change Masters e = refl
+flags-none change (Relocatable id flags content) e = absurd (none-some _ (sym e))
+
+pub flags-some : (change : Flags → Flags) (flags : Flags) (b : Block) → seen_flags (Some (seen b)) ≡ Some flags
+    → with_flags (change flags) b ≡ flagged change b
+flags-some change flags (Free n) e = refl
+flags-some change flags (Fixed id content) e = refl
+flags-some change flags Masters e = refl
+flags-some change flags (Relocatable id old content) e = ap (λ f. Relocatable id (change f) content)
+    (sym (same_Some _ _ e))
+
+pub flagged-rename : (f g : ℕ → ℕ) (change : Flags → Flags) (b : Block)
+    → flagged change (rename_block f g b) ≡ rename_block f g (flagged change b)
+flagged-rename f g change (Free n) = refl
+flagged-rename f g change (Fixed id content) = refl
+flagged-rename f g change Masters = refl
+flagged-rename f g change (Relocatable id flags content) = refl
+
+pub seen_mover-is : (b : Block) → seen_mover (Some (seen b)) ≡ is_mover b
+seen_mover-is (Free n) = refl
+seen_mover-is (Fixed id content) = refl
+seen_mover-is Masters = refl
+seen_mover-is (Relocatable id flags content) = refl
+
+-- what was seen at a place
+pub seen-at : {A : Type 0} (of : Option _ → A) (place : ℕ) (zone : List Block) (s : Spot) (r : Option _)
+    → spot_at place zone ≡ Some s → r ≡ option_map (λ (s : Spot). seen s.here) (spot_at place zone)
+    → of r ≡ of (Some (seen s.here))
+seen-at of place zone s r at is = ap of (is ∙ ap (option_map (λ (s : Spot). seen s.here)) at)
+
+-- the rest is what it was
+pub rest-same : (rest : Rest) → IsRest rest rest
+rest-same rest = record { slots = λ k. refl; unused = refl; all = refl; moves = refl; window = refl }
+
+-- the answer of a call that changes flags, where they were changed
+pub change_flags-done : (change : Flags → Flags) (value : Memory) (zone zone' : List Block) (rest rest' : Rest)
+    (es : List Anchor) (log : Log) (handle : Option ℕ) (h : ℕ) (s : Spot) → memory_of zone rest es log ≡ value
+    → look_up handle (state_of zone rest.slots es) ≡ Ok (held h (rename_spot (handle_number es) (pointer_number es) s))
+    → IsRest rest rest' → zone' ≡ s.below ++ flagged change s.here ∷ s.above
+    → silent (change_flags change handle) value ≡ (Ok tt, memory_of zone' rest' es log)
+change_flags-done change value zone zone' rest rest' es log handle h s is found now done =
+    silent-done (change_flags change handle) value zone zone' rest rest' es es log (Ok tt) is
+    (ap (λ r. for_found r state (λ k. (
+      Ok tt,
+      record state {
+        zone = k.at.below
+            ++ flagged change k.at.here ∷ k.at.above;
+      },
+    ))) found
+    ∙ ap (λ z. (Ok tt, record state { zone = z })) (ap (λ b. rename f g s.below ++ b ∷ rename f g s.above)
+    (flagged-rename f g change s.here) ∙ sym (map-append (rename_block f g) s.below
+    (flagged change s.here ∷ s.above)) ∙ ap (rename f g) (sym done))
+    ∙ ap (λ l. (Ok tt, record { zone = rename f g zone'; names = l }))
+    (sym (names-same rest.slots rest'.slots es (λ h s at. now.slots s))))
+    now.window now.moves
+  where
+    f : ℕ → ℕ
+    f = handle_number es
+
+    g : ℕ → ℕ
+    g = pointer_number es
+
+    state : State
+    state = state_of zone rest.slots es
+
+-- moving a block to the top sees no names
+pub high-rename : (f g : ℕ → ℕ) (p q : Block → Bool) → ((b : Block) → p (rename_block f g b) ≡ q b) → (run : List Block)
+    → high p (rename f g run) ≡ rename f g (high q run)
+high-rename f g p q same run =
+    ap (λ l. l ++ free (free_sum (rename f g run)) ++ filter p (rename f g run)) (others-rename f g p q same run)
+    ∙ ap (λ n. rename f g (others q run) ++ free n ++ filter p (rename f g run))
+    (total-rename f g free_of free_of (free_of-rename f g) run)
+    ∙ ap (λ l. rename f g (others q run) ++ free (free_sum run) ++ l) (filter-rename f g p q same run)
+    ∙ ap (λ l. rename f g (others q run) ++ l ++ rename f g (filter q run)) (sym (free-rename f g (free_sum run)))
+    ∙ ap (λ l. l ++ rename f g (filter q run)) (sym (map-append (rename_block f g) (others q run)
+    (free (free_sum run))))
+    ∙ sym (map-append (rename_block f g) (others q run ++ free (free_sum run)) (filter q run))
+
+pub hoisted-rename : (f g : ℕ → ℕ) (h slot : ℕ) → ((b : Block)
+    → is_relocatable h (rename_block f g b) ≡ is_relocatable slot b) → (zone : List Block)
+    → hoisted h (rename f g zone) ≡ rename f g (hoisted slot zone)
+hoisted-rename f g h slot same zone =
+    ap (λ o. unwrap_or (option_map tidy o) (rename f g zone))
+    (change_run-rename f g (has (is_relocatable h)) (has (is_relocatable slot)) (high (is_relocatable h))
+    (high (is_relocatable slot))
+    (λ run. has-rename f g (is_relocatable h) (is_relocatable slot) same run)
+    (λ run. high-rename f g (is_relocatable h) (is_relocatable slot) same run) zone)
+    ∙ cases (change_run (has (is_relocatable slot)) (high (is_relocatable slot)) zone)
+  where
+    cases : (o : Option (List Block)) → unwrap_or (option_map tidy (option_map (rename f g) o)) (rename f g zone)
+        ≡ rename f g (unwrap_or (option_map tidy o) zone)
+    cases None = refl
+    cases (Some z) = tidy-rename f g z
+
+-- the block of a slot, looked up by its handle
+module _ (value : Memory) (zone : List Block) (rest : Rest) (es : List Anchor) (log : Log) (handle : Option ℕ)
+    (h slot : ℕ)
+    (is : memory_of zone rest es log ≡ value) (bound : handle ≡ Some h) (at : slice_get es h ≡ Some (Handle slot))
+    (apart : Apart es) (small : h < no_number)
+  where
+    abbrev f : ℕ → ℕ
+    f = handle_number es
+
+    abbrev g : ℕ → ℕ
+    g = pointer_number es
+
+    abbrev state : State
+    state = state_of zone rest.slots es
+
+    looked : (o : Option Spot) → spot (is_relocatable slot) zone ≡ o
+        → look_up handle state ≡ ok_or (option_map (held h) (option_map (rename_spot f g) o)) NIL_HANDLE
+    looked o e = look_up-by zone rest.slots es handle h slot bound at apart small
+        ∙ ap (λ o. ok_or (option_map (held h) (option_map (rename_spot f g) o)) NIL_HANDLE) e
+
+    abbrev moved : Held → Answer (Unit {0})
+    moved k = cond (is_mover k.at.here) (Ok tt, record state { zone = hoisted k.number state.zone })
+        (refused LOCKED state)
+
+    pub move_hhi-emptied : spot (is_relocatable slot) zone ≡ None
+        → silent (move_hhi handle) value ≡ (Err NIL_HANDLE, value)
+    move_hhi-emptied none = silent-refused (move_hhi handle) value zone rest es log NIL_HANDLE is
+        (ap (λ r. for_found r state moved) (looked None none))
+
+    pub move_hhi-locked : (s : Spot) → spot (is_relocatable slot) zone ≡ Some s → is_mover s.here ≡ false
+        → silent (move_hhi handle) value ≡ (Err LOCKED, value)
+    move_hhi-locked s found locked =
+        silent-refused (move_hhi handle) value zone rest es log LOCKED is
+        (ap (λ r. for_found r state moved) (looked (Some s) found)
+        ∙ ap (λ t. cond t (Ok tt, record state { zone = hoisted h state.zone }) (refused LOCKED state))
+        (is_mover-rename f g s.here ∙ locked))
+
+    pub move_hhi-done : (zone' : List Block) (rest' : Rest) (s : Spot) → spot (is_relocatable slot) zone ≡ Some s
+        → is_mover s.here ≡ true → IsRest rest rest' → zone' ≡ hoisted slot zone
+        → silent (move_hhi handle) value ≡ (Ok tt, memory_of zone' rest' es log)
+    move_hhi-done zone' rest' s found free now done =
+        silent-done (move_hhi handle) value zone zone' rest rest' es es log (Ok tt) is
+        (ap (λ r. for_found r state moved) (looked (Some s) found)
+        ∙ ap (λ t. cond t (Ok tt, record state { zone = hoisted h state.zone }) (refused LOCKED state))
+        (is_mover-rename f g s.here ∙ free)
+        ∙ ap (λ z. (Ok tt, record state { zone = z })) (hoisted-rename f g h slot
+        (is_relocatable-number es h slot at apart small) zone ∙ ap (rename f g) (sym done))
+        ∙ ap (λ l. (Ok tt, record { zone = rename f g zone'; names = l }))
+        (sym (names-same rest.slots rest'.slots es (λ h s at. now.slots s))))
+        now.window now.moves
+
+-- the run of a block, found in a tidy zone with no purge and no Free bytes wanted
+and-free : (test : List Block → Bool) (zone : List Block) → run_spot (λ run. test run && has_free 0 run) zone
+    ≡ run_spot test zone
+and-free test zone = ap (λ (p : List Block → Bool). run_spot p zone)
+    (λ i run. (ap (λ t. test run && t) (le-leb 0 (free_sum run) (omega arith)) ∙ and_true (test run)) i)
+  where
+    and_true : (t : Bool) → (t && true) ≡ t
+    and_true true = refl
+    and_true false = refl
+
+pub run-found : (test : List Block → Bool) (zone zone' : List Block) (r : Option ℕ) → zone' ≡ zone
+    → FindsLowestRun (λ run. test run && has_free 0 run) zone' r → FindsLowestRun test zone r
+run-found test zone zone' None same e = sym (and-free test zone)
+    ∙ ap (run_spot (λ run. test run && has_free 0 run)) (sym same) ∙ e
+run-found test zone zone' (Some p) same found = (
+  found.0,
+  sym (and-free test zone) ∙ ap (run_spot (λ run. test run && has_free 0 run)) (sym same) ∙ found.1,
+  ap (run_at p) (sym same) ∙ found.2,
+  found.3,
+)
+
+pub hoist-allowed : (test : Block → Bool) (p : ℕ) (zone : List Block) → FindsLowestRun (has test) zone (Some p)
+    → IsSomeAnd (run_at p zone) (λ r. IsTrue (has test r.run))
+hoist-allowed test p zone found = let P : Option RunSpot → Type 0 = λ o. IsSomeAnd o (λ r. IsTrue (has test r.run)) in
+    subst P (sym found.2) (run_spot-passes (has test) zone found.0 found.1)
+
+-- the zone with the block of a slot at the top of its run
+pub hoisted-done : (slot p : ℕ) (zone zone' : List Block) → FindsLowestRun (has (is_relocatable slot)) zone (Some p)
+    → IfSome (run_at p zone) (λ r. zone' ≡ tidy (with_run (high (is_relocatable slot)) r)) → zone' ≡ hoisted slot zone
+hoisted-done slot p zone zone' found h =
+    let P : Option RunSpot → Type 0 = λ o. IfSome o (λ r. zone' ≡ tidy (with_run (high (is_relocatable slot)) r)) in
+    let is : zone' ≡ tidy (with_run (high (is_relocatable slot)) found.0) = subst P found.2 h in
+    is ∙ ap (λ o. unwrap_or (option_map tidy (option_map (with_run (high (is_relocatable slot))) o)) zone) (sym found.1)
+
+pub hoisted-none : (slot : ℕ) (zone : List Block) → FindsLowestRun (has (is_relocatable slot)) zone None
+    → zone ≡ hoisted slot zone
+hoisted-none slot zone none = ap (λ o. unwrap_or (option_map tidy
+    (option_map (with_run (high (is_relocatable slot))) o)) zone) (sym none)

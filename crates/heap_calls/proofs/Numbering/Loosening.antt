@@ -1,0 +1,298 @@
+use Rattle.std.proofs.Common.{◌≡◌, ℕ, ◌+◌, ◌<◌, Bool, true, false, List, [], ◌∷◌, refl, sym, ◌∙◌, ap, map, cond, Option}
+use Rattle.std.proofs.Common.{Some, None, Result, Ok, Err, slice_get, subst, is_some, arith}
+use Rattle.std.proofs.lemmas.Option.{slice_get-map, none-some}
+use Rattle.std.specs.Option.{option_map}
+use Rattle.mac_words.specs.Size.{phys}
+use Rattle.mac_words.specs.declared.code.OsErr.{OsErr}
+use Rattle.mac_words.specs.declared.code.TheConstants.OsErr.{PURGED, MEM_FULL}
+use Rattle.block_store.specs.Block.{Block, Free, Fixed, Masters, Relocatable, size, rename, rename_block}
+use Rattle.block_store.specs.Block.{is_relocatable, is_mover, tidy}
+use Rattle.block_store.specs.Slot.{Slot, Used}
+use Rattle.block_store.specs.Room.{Spot, spot, raised, rename_spot}
+use Rattle.block_store.specs.Rest.{Rest, IsRest, counted}
+use Rattle.block_store.specs.Seen.{seen}
+use Rattle.block_store.specs.Grow.{freed}
+use Rattle.block_store.proofs.Renamed.Renaming.{spot-rename, is_mover-rename, tidy-rename, freed-rename}
+use Rattle.heap_calls.specs.declared.log.Log.{Log}
+use Rattle.heap_calls.specs.State.{State, Memory}
+use Rattle.heap_calls.specs.Answer.{Answer, Known, Held, handle_at, known_as, held_at, for_found, on_block, refused}
+use Rattle.heap_calls.specs.Answer.{rebuilt, noting, silent, searching, code_of}
+use Rattle.heap_calls.specs.Inner.Given.{IsAnswer, last_after, seen_flags}
+use Rattle.heap_calls.specs.Purging.{bit, is_resource, block_bits, h_get_state, is_loose, emptied_at, empty_handle}
+use Rattle.heap_calls.specs.Purging.{reallocated, reallocate_handle}
+use Rattle.heap_calls.specs.Searches.{found_searches, reallocate_handle_searches}
+use Rattle.heap_calls.specs.Moves.{reallocate_handle_moves}
+use Rattle.heap_calls.specs.Inner.Loose.{FindsLoose, bits_of, loose, loose_at, renewed, renewed_searches, renewed_moves}
+use Rattle.heap_calls.specs.Inner.Numbered.{state_of, memory_of, name_of, role_of, handle_number, pointer_number}
+use Rattle.heap_calls.specs.Inner.Numbered.{no_number}
+use Rattle.heap_calls.specs.declared.refusal.Refusal.{Refusal}
+use Rattle.heap_calls.specs.declared.refusal.Refusal.TheVariants.{Code, HostMemory}
+use Rattle.heap_calls.specs.declared.anchor.Anchor.{Anchor}
+use Rattle.heap_calls.specs.declared.anchor.Anchor.TheVariants.{Handle, Pointer, Disposed}
+use Rattle.heap_calls.proofs.Numbering.Numbers.{Apart, is_relocatable-number}
+use Rattle.heap_calls.proofs.Numbering.Changing.{names-same, silent-done, silent-refused}
+
+-- Handles that have no block that is locked, and calls that look for room.
+
+-- a call that looks for room, and was noted
+pub noted-searching : {T : Type 0} (n : ℕ) (call : State → Answer T) (old mid new : Memory) (r : Result T Refusal)
+    → IsAnswer (searching n (silent call old)) r mid
+    → new ≡ record mid { log = record mid.log { code = last_after r mid.log.code } }
+    → IsAnswer (searching n (noting call old)) r new
+noted-searching {T = T} n call old mid new (Ok value) is e =
+    (λ i. ((is i).0, record ((is i).1) { log = record ((is i).1.log) { code = code_of {T = T} ((is i).0) } }))
+    ∙ ap (λ (m : Memory). (Ok value, m)) (sym e)
+noted-searching {T = T} n call old mid new (Err (Code code)) is e =
+    (λ i. ((is i).0, record ((is i).1) { log = record ((is i).1.log) { code = code_of {T = T} ((is i).0) } }))
+    ∙ ap (λ (m : Memory). (Err code, m)) (sym e)
+noted-searching n call old mid new (Err HostMemory) is e = tt
+
+-- a handle as it is known
+abbrev pub known : (ℕ → Slot) → ℕ → ℕ → Known
+known slots h slot = record { number = h; role = role_of (slots slot) }
+
+pub handle_at-by : (zone : List Block) (slots : ℕ → Slot) (es : List Anchor) (handle : Option ℕ) (h slot : ℕ)
+    → handle ≡ Some h → slice_get es h ≡ Some (Handle slot) → handle_at handle (state_of zone slots es)
+    ≡ Ok (known slots h slot)
+handle_at-by zone slots es handle h slot bound at =
+    ap (λ o. handle_at o (state_of zone slots es)) bound ∙ ap (known_as h)
+    (slice_get-map (name_of slots) es h ∙ ap (option_map (name_of slots)) at)
+
+is_loose-rename : (f g : ℕ → ℕ) (o : Option Spot) → is_loose (option_map (rename_spot f g) o) ≡ is_loose o
+is_loose-rename f g None = refl
+is_loose-rename f g (Some s) = is_mover-rename f g s.here
+
+-- a handle is loose where its slot is
+pub loose_at-by : (zone : List Block) (slots : ℕ → Slot) (es : List Anchor) (handle : Option ℕ) (h slot : ℕ) (t : Bool)
+    → handle ≡ Some h → slice_get es h ≡ Some (Handle slot) → Apart es → h < no_number
+    → is_loose (spot (is_relocatable slot) zone) ≡ t → loose_at handle (state_of zone slots es)
+    ≡ cond t (Ok (known slots h slot)) (Err PURGED)
+loose_at-by zone slots es handle h slot t bound at apart small is =
+    ap (λ r. loose r (rename f g zone)) (handle_at-by zone slots es handle h slot bound at)
+    ∙ ap (λ u. cond u (Ok (known slots h slot)) (Err PURGED))
+    (ap is_loose (spot-rename f g (is_relocatable h) (is_relocatable slot)
+    (is_relocatable-number es h slot at apart small) zone) ∙ is_loose-rename f g (spot (is_relocatable slot) zone)
+    ∙ is)
+  where
+    f : ℕ → ℕ
+    f = handle_number es
+
+    g : ℕ → ℕ
+    g = pointer_number es
+
+-- where no block passes none is freed
+pub freed-none : (test : Block → Bool) (bs : List Block) → spot test bs ≡ None → freed test bs ≡ bs
+freed-none test [] e = refl
+freed-none test (b ∷ bs) e = cases (test b) (spot test bs) (freed-none test bs) e
+  where
+    cases : (t : Bool) (o : Option Spot) → (o ≡ None → freed test bs ≡ bs)
+        → cond t (Some (record { below = []; here = b; above = bs })) (option_map (raised b) o) ≡ None
+        → cond t (Free (size b)) b ∷ freed test bs ≡ b ∷ bs
+    cases true o rest e = absurd (none-some _ (sym e))
+    cases false (Some s) rest e = absurd (none-some _ (sym e))
+    cases false None rest e = ap (λ l. b ∷ l) (rest refl)
+
+-- the answer of EmptyHandle at a handle that is loose
+abbrev pub emptied_answer : State → Known → Answer (Unit {0})
+emptied_answer s k = (Ok tt, record s { zone = tidy (freed (is_relocatable k.number) s.zone) })
+
+pub empty_handle-loose : (handle : Option ℕ) (s : State) → tidy s.zone ≡ s.zone
+    → empty_handle handle s ≡ for_found (loose_at handle s) s (emptied_answer s)
+empty_handle-loose handle s tidied = found (handle_at handle s)
+  where
+    here : (k : Known) (o : Option Spot) → spot (is_relocatable k.number) s.zone ≡ o
+        → emptied_at k.number o s ≡ for_found (cond (is_loose o) (Ok k) (Err PURGED)) s (emptied_answer s)
+    here k None is = ap (λ z. (Ok tt, record s { zone = z })) (sym
+        (ap tidy (freed-none (is_relocatable k.number) s.zone is) ∙ tidied))
+    here k (Some at) is = cases (is_mover at.here)
+      where
+        cases : (t : Bool) → cond t (Ok tt, record s { zone = tidy (freed (is_relocatable k.number) s.zone) })
+            (refused PURGED s) ≡ for_found (cond t (Ok k) (Err PURGED)) s (emptied_answer s)
+        cases true = refl
+        cases false = refl
+
+    found : (r : Result Known OsErr) → for_found r s (λ k. emptied_at k.number (spot (is_relocatable k.number) s.zone)
+        s) ≡ for_found (loose r s.zone) s (emptied_answer s)
+    found (Err code) = refl
+    found (Ok k) = here k (spot (is_relocatable k.number) s.zone) refl
+
+-- the answer of ReallocateHandle at a handle that is loose
+abbrev pub renewed_answer : ℕ → State → Known → Answer (Unit {0})
+renewed_answer n s k = rebuilt (renewed k.number n s.zone) s
+
+pub reallocate_handle-loose : (handle : Option ℕ) (n : ℕ) (s : State)
+    → reallocate_handle handle n s ≡ for_found (loose_at handle s) s (renewed_answer n s)
+reallocate_handle-loose handle n s = found (handle_at handle s)
+  where
+    here : (k : Known) (t u : Bool) → cond t (cond u (rebuilt (reallocated k.number n s.zone) s) (refused MEM_FULL s))
+        (refused PURGED s) ≡ for_found (cond t (Ok k) (Err PURGED)) s
+        (λ k. rebuilt (cond u (reallocated k.number n s.zone) None) s)
+    here k true true = refl
+    here k true false = refl
+    here k false u = refl
+
+    found : (r : Result Known OsErr) → for_found r s (λ k. cond (is_loose (spot (is_relocatable k.number) s.zone))
+        (cond (is_some (phys n)) (rebuilt (reallocated k.number n s.zone) s) (refused MEM_FULL s)) (refused PURGED s))
+        ≡ for_found (loose r s.zone) s (renewed_answer n s)
+    found (Err code) = refl
+    found (Ok k) = here k (is_loose (spot (is_relocatable k.number) s.zone)) (is_some (phys n))
+
+-- what is counted of a handle that has no block that is locked
+loose-counted : (of : Known → ℕ) (handle : Option ℕ) (s : State)
+    → found_searches (handle_at handle s) (λ k. cond {A = ℕ} (is_loose (spot (is_relocatable k.number) s.zone)) (of k)
+    0) ≡ found_searches (loose_at handle s) of
+loose-counted of handle s = found (handle_at handle s)
+  where
+    here : (k : Known) (t : Bool) → cond {A = ℕ} t (of k) 0 ≡ found_searches (cond t (Ok k) (Err PURGED)) of
+    here k true = refl
+    here k false = refl
+
+    found : (r : Result Known OsErr) → found_searches r (λ k. cond {A = ℕ}
+        (is_loose (spot (is_relocatable k.number) s.zone)) (of k) 0) ≡ found_searches (loose r s.zone) of
+    found (Err code) = refl
+    found (Ok k) = here k (is_loose (spot (is_relocatable k.number) s.zone))
+
+-- the looks that it takes
+pub reallocate_searches-loose : (handle : Option ℕ) (n : ℕ) (s : State)
+    → reallocate_handle_searches handle n s ≡ found_searches (loose_at handle s)
+    (λ k. renewed_searches k.number n s.zone)
+reallocate_searches-loose handle n s = loose-counted (λ k. renewed_searches k.number n s.zone) handle s
+
+-- the blocks that it moves
+pub reallocate_moves-loose : (handle : Option ℕ) (n : ℕ) (s : State)
+    → reallocate_handle_moves handle n s ≡ found_searches (loose_at handle s) (λ k. renewed_moves k.number n s.zone)
+reallocate_moves-loose handle n s = loose-counted (λ k. renewed_moves k.number n s.zone) handle s
+
+-- none where the handle isn't loose
+pub no_moves-loose : (handle : Option ℕ) (n : ℕ) (e : Refusal) (value : Memory) (zone : List Block) (rest : Rest)
+    (es : List Anchor) (log : Log) → memory_of zone rest es log ≡ value → FindsLoose zone rest.slots es handle (Err e)
+    → (code : OsErr) → e ≡ Code code → reallocate_handle_moves handle n value.heap ≡ 0
+no_moves-loose handle n e value zone rest es log is found code code_is =
+    let P : Refusal → Type 0 = λ e. FindsLoose zone rest.slots es handle (Err e) in
+    let none : P (Code code) = subst P code_is found in
+    ap (λ (m : Memory). reallocate_handle_moves handle n m.heap) (sym is)
+    ∙ reallocate_moves-loose handle n (state_of zone rest.slots es)
+    ∙ ap (λ r. found_searches r (λ k. renewed_moves k.number n (state_of zone rest.slots es).zone)) none
+
+-- each handle of a store is an application's own
+own : (slots : ℕ → Slot) (es : List Anchor) (h : ℕ) (k : Known)
+    → ((h slot : ℕ) → slice_get es h ≡ Some (Handle slot) → slots slot ≡ Used false)
+    → known_as h (slice_get (map (name_of slots) es) h) ≡ Ok k → is_resource k.role ≡ false
+own slots es h k used e = cases (slice_get es h) refl (ap (known_as h) (sym (slice_get-map (name_of slots) es h)) ∙ e)
+  where
+    cases : (o : Option Anchor) → slice_get es h ≡ o → known_as h (option_map (name_of slots) o) ≡ Ok k
+        → is_resource k.role ≡ false
+    cases None at e = cc
+    cases (Some (Handle slot)) at e =
+        let same : known slots h slot ≡ k = cc in
+        ap (λ (k : Known). is_resource k.role) (sym same) ∙ ap (λ t. is_resource (role_of t)) (used h slot at)
+    cases (Some (Pointer p)) at e = cc
+    cases (Some Disposed) at e = cc
+
+-- the bits of a handle's block, where no handle is a resource's
+abbrev pub bits_answer : State → Held → Answer ℕ
+bits_answer s held = (Ok (block_bits held.at.here + 0), s)
+
+pub h_get_state-own : (handle : Option ℕ) (zone : List Block) (slots : ℕ → Slot) (es : List Anchor)
+    → ((h slot : ℕ) → slice_get es h ≡ Some (Handle slot) → slots slot ≡ Used false)
+    → h_get_state handle (state_of zone slots es) ≡ on_block handle (state_of zone slots es)
+    (bits_answer (state_of zone slots es))
+h_get_state-own None zone slots es used = refl
+h_get_state-own (Some h) zone slots es used = found (known_as h (slice_get s.names h)) (λ k e. own slots es h k used e)
+  where
+    s : State
+    s = state_of zone slots es
+
+    found : (r : Result Known OsErr) → ((k : Known) → r ≡ Ok k → is_resource k.role ≡ false)
+        → for_found r s (λ k. for_found (held_at r s) s (λ held.
+        (Ok (block_bits held.at.here + bit 32 (is_resource k.role)), s)))
+        ≡ for_found (held_at r s) s (bits_answer s)
+    found (Err code) plain = refl
+    found (Ok k) plain = ap (λ t. for_found (held_at (Ok k) s) s (λ held. (Ok (block_bits held.at.here + bit 32 t), s)))
+        (plain k refl)
+
+pub block_bits-rename : (f g : ℕ → ℕ) (b : Block) → block_bits (rename_block f g b)
+    ≡ bits_of (seen_flags (Some (seen b)))
+block_bits-rename f g (Free n) = refl
+block_bits-rename f g (Fixed id content) = refl
+block_bits-rename f g Masters = refl
+block_bits-rename f g (Relocatable id flags content) = refl
+
+-- the row of HGetState over a store is that of its bits
+pub h_get_state-bits : (handle : Option ℕ) (value : Memory) (zone : List Block) (rest : Rest) (es : List Anchor)
+    (log : Log) → ((h slot : ℕ) → slice_get es h ≡ Some (Handle slot) → rest.slots slot ≡ Used false)
+    → memory_of zone rest es log ≡ value → silent (h_get_state handle) value
+    ≡ silent (λ s. on_block handle s (bits_answer s)) value
+h_get_state-bits handle value zone rest es log used is =
+    let P : Memory → Type 0 = λ m. silent (h_get_state handle) m ≡ silent (λ s. on_block handle s (bits_answer s)) m in
+    subst P is (ap (λ (a : Answer ℕ). (a.0, record (memory_of zone rest es log) { heap = a.1 }))
+    (h_get_state-own handle zone rest.slots es used))
+
+-- the same for a copy of the entries
+pub loose_in : (zone : List Block) (slots : ℕ → Slot) (es es' : List Anchor) (handle : Option ℕ) (r : Result ℕ Refusal)
+    → es' ≡ es → FindsLoose zone slots es' handle r → FindsLoose zone slots es handle r
+loose_in zone slots es es' handle r same found = let P : List Anchor → Type 0 = λ l. FindsLoose zone slots l handle r in
+    subst P same found
+
+-- a call that is refused, since its handle isn't loose
+pub loose_refused : {T : Type 0} (row : State → Answer T) (e : Refusal) (zone : List Block) (rest : Rest)
+    (es : List Anchor) (log : Log) (handle : Option ℕ) (value : Memory) (answer : Known → Answer T)
+    → memory_of zone rest es log ≡ value
+    → FindsLoose zone rest.slots es handle (Err e) → row (state_of zone rest.slots es)
+    ≡ for_found (loose_at handle (state_of zone rest.slots es)) (state_of zone rest.slots es) answer
+    → IsAnswer (silent row value) (Err e) value
+loose_refused row (Code code) zone rest es log handle value answer is found by =
+    silent-refused row value zone rest es log code is (by ∙ ap (λ r. for_found r (state_of zone rest.slots es) answer)
+    found)
+loose_refused row HostMemory zone rest es log handle value answer is found by = tt
+
+-- no look for room
+counted-none : (n : ℕ) → n < 18446744073709551616 → counted n 0 ≡ n
+counted-none n less = omega arith
+
+-- the same for a call that looks for room
+pub loose_not_searched : (n : ℕ) (e : Refusal) (zone : List Block) (rest : Rest) (es : List Anchor) (log : Log)
+    (handle : Option ℕ) (value : Memory) → log.searches < 18446744073709551616 → memory_of zone rest es log ≡ value
+    → FindsLoose zone rest.slots es handle (Err e) → IsAnswer (searching
+    (reallocate_handle_searches handle n value.heap) (silent (reallocate_handle handle n) value)) (Err e) value
+loose_not_searched n (Code code) zone rest es log handle value few is found =
+    let state : State = state_of zone rest.slots es in
+    let none : reallocate_handle_searches handle n value.heap ≡ 0 =
+    ap (λ (m : Memory). reallocate_handle_searches handle n m.heap) (sym is) ∙ reallocate_searches-loose handle n state
+    ∙ ap (λ r. found_searches r (λ k. renewed_searches k.number n state.zone)) found in
+    let same : counted value.log.searches 0 ≡ value.log.searches =
+    ap (λ (m : Memory). counted m.log.searches 0) (sym is) ∙ counted-none log.searches few
+    ∙ ap (λ (m : Memory). m.log.searches) is in
+    ap (searching (reallocate_handle_searches handle n value.heap))
+    (loose_refused (reallocate_handle handle n) (Code code) zone rest es log handle value (renewed_answer n state)
+    is found (reallocate_handle-loose handle n state))
+    ∙ ap (λ k. searching k (Err code, value)) none
+    ∙ ap (λ k. (Err code, record value { log = record value.log { searches = k } })) same
+loose_not_searched n HostMemory zone rest es log handle value few is found = tt
+
+-- the answer of EmptyHandle, where the block of its slot was released
+pub empty_handle-done : (value : Memory) (zone zone' : List Block) (rest rest' : Rest) (es : List Anchor) (log : Log)
+    (handle : Option ℕ) (h slot : ℕ) → memory_of zone rest es log ≡ value
+    → loose_at handle (state_of zone rest.slots es) ≡ Ok (known rest.slots h slot) → slice_get es h ≡ Some (Handle slot)
+    → Apart es → h < no_number → tidy zone ≡ zone
+    → IsRest rest rest' → zone' ≡ tidy (freed (is_relocatable slot) zone)
+    → silent (empty_handle handle) value ≡ (Ok tt, memory_of zone' rest' es log)
+empty_handle-done value zone zone' rest rest' es log handle h slot is found at apart small tidied now done =
+    silent-done (empty_handle handle) value zone zone' rest rest' es es log (Ok tt) is
+    (empty_handle-loose handle state (tidy-rename f g zone ∙ ap (rename f g) tidied)
+    ∙ ap (λ r. for_found r state (emptied_answer state)) found
+    ∙ ap (λ z. (Ok tt, record state { zone = z }))
+    (ap tidy (freed-rename f g (is_relocatable h) (is_relocatable slot) (is_relocatable-number es h slot at apart small)
+    zone) ∙ tidy-rename f g (freed (is_relocatable slot) zone) ∙ ap (rename f g) (sym done))
+    ∙ ap (λ l. (Ok tt, record { zone = rename f g zone'; names = l }))
+    (sym (names-same rest.slots rest'.slots es (λ h s at. now.slots s))))
+    now.window now.moves
+  where
+    f : ℕ → ℕ
+    f = handle_number es
+
+    g : ℕ → ℕ
+    g = pointer_number es
+
+    state : State
+    state = state_of zone rest.slots es

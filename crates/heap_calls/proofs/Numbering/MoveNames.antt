@@ -1,0 +1,203 @@
+use Rattle.std.proofs.Common.{◌≡◌, ℕ, ◌+◌, ◌-◌, ◌*◌, zero, suc, Bool, ◌&&◌, List, [], ◌∷◌, length, refl, sym, ◌∙◌, ap}
+use Rattle.std.proofs.Common.{cond, map, replicate, Option, Some, None, is_some, nat_le}
+use Rattle.std.proofs.lemmas.List.{length-map, length-replicate}
+use Rattle.std.specs.Option.{option_map}
+use Rattle.mac_words.specs.Size.{phys, padded}
+use Rattle.block_store.specs.Block.{Block, Free, Fixed, Masters, Relocatable, size, count, rename, rename_block}
+use Rattle.block_store.specs.Block.{is_mover, is_masters, is_room, no_flags, resized}
+use Rattle.block_store.specs.Run.{RunSpot, run_spot, runs, has, has_free, high}
+use Rattle.block_store.specs.Room.{Spot, rename_spot, spot, place, purge, put_in_place}
+use Rattle.block_store.specs.Grow.{growth, grow_up, grow_mover}
+use Rattle.block_store.specs.Compact.{falls, runs_settled}
+use Rattle.block_store.specs.Sparing.{spared, opened}
+use Rattle.block_store.specs.Rest.{Rest, falling}
+use Rattle.block_store.specs.declared.sparing.Sparing.{Sparing}
+use Rattle.block_store.specs.declared.sparing.Sparing.TheVariants as sparing
+use Rattle.block_store.proofs.Renamed.Renaming.{size-rename, total-rename, is_mover-rename, is_room-rename, spot-rename}
+use Rattle.block_store.proofs.Renamed.Renaming.{run_spot-rename, rename_run_spot, has-rename, has_free-rename}
+use Rattle.block_store.proofs.Renamed.Renaming.{place-rename, purge-rename, put_in_place-rename, grow_up-rename}
+use Rattle.block_store.proofs.Renamed.Renaming.{grow_mover-rename}
+use Rattle.block_store.proofs.Renamed.GrowRenaming.{resized-rename}
+use Rattle.block_store.proofs.Plain.Options.{is_some-map}
+use Rattle.heap_calls.specs.declared.anchor.Anchor.{Anchor}
+use Rattle.heap_calls.specs.State.{State}
+use Rattle.heap_calls.specs.Answer.{nothing}
+use Rattle.heap_calls.specs.Moves.{run_moves, as_it_is, place_moves, mover_moves, grow_moves, room_moves, put_moves}
+use Rattle.heap_calls.specs.Moves.{block_moves, new_handle_moves, growth_moves, size_moves, all_moves}
+use Rattle.heap_calls.specs.Inner.NewBlock.{ready_count}
+use Rattle.heap_calls.specs.Inner.NewSlot.{zone_slotted}
+use Rattle.heap_calls.specs.Inner.Numbered.{state_of, name_of, handle_number, pointer_number, Agrees}
+use Rattle.heap_calls.specs.Inner.Packed.{seat_moves, content_moves, new_moves}
+use Rattle.heap_calls.specs.Purging.{purged_all}
+use Rattle.heap_calls.specs.Inner.Search.{seat_searches}
+use Rattle.heap_calls.specs.Searches.{room_searches, ready_searches, resized_at}
+use Rattle.heap_calls.proofs.Numbering.Hoisting.{high-rename}
+use Rattle.heap_calls.proofs.Numbering.Largest.{runs-rename, runs_settled-rename}
+use Rattle.heap_calls.proofs.Numbering.Looking.{room_searches-rename}
+use Rattle.heap_calls.proofs.NewBlocks.NewHandles.{block_searches-seat, slotted-is}
+use Rattle.heap_calls.proofs.Numbering.PurgeTrials.{purged_all-rename}
+
+-- How many blocks packing moves down sees no names.
+
+pub falling-rename : (f g : ℕ → ℕ) (run : List Block) → falling (rename f g run) ≡ falling run
+falling-rename f g [] = refl
+falling-rename f g (Free n ∷ run) = total-rename f g (λ (b : Block). cond {A = ℕ} (is_mover b) 1 0)
+    (λ (b : Block). cond {A = ℕ} (is_mover b) 1 0) (λ b. rw (is_mover-rename f g b) refl) run
+falling-rename f g (Fixed id content ∷ run) = falling-rename f g run
+falling-rename f g (Masters ∷ run) = falling-rename f g run
+falling-rename f g (Relocatable id flags content ∷ run) = falling-rename f g run
+
+falls_of-rename : (f g : ℕ → ℕ) (k : ℕ) (rs : List (List Block)) → falls k (map (rename f g) rs) ≡ falls k rs
+falls_of-rename f g zero rs = refl
+falls_of-rename f g (suc k) [] = refl
+falls_of-rename f g (suc k) (run ∷ rs) = ap (λ n. n + falls k (map (rename f g) rs)) (falling-rename f g run)
+    ∙ ap (λ n. falling run + n) (falls_of-rename f g k rs)
+
+pub falls-rename : (f g : ℕ → ℕ) (k : ℕ) (zone : List Block) → falls k (runs (rename f g zone)) ≡ falls k (runs zone)
+falls-rename f g k zone = ap (falls k) (runs-rename f g zone) ∙ falls_of-rename f g k (runs zone)
+
+pub settled_falls-rename : (f g : ℕ → ℕ) (p : Option ℕ) (zone : List Block)
+    → falls (runs_settled p (rename f g zone)) (runs (rename f g zone)) ≡ falls (runs_settled p zone) (runs zone)
+settled_falls-rename f g p zone = ap (λ k. falls k (runs (rename f g zone))) (runs_settled-rename f g p zone)
+    ∙ falls-rename f g (runs_settled p zone) zone
+
+pub all_moves-rename : (f g : ℕ → ℕ) (zone : List Block) → all_moves (rename f g zone) ≡ all_moves zone
+all_moves-rename f g zone = ap (λ k. falls k (runs (rename f g zone)))
+    (ap length (runs-rename f g zone) ∙ length-map (runs zone) (rename f g))
+    ∙ falls-rename f g (length (runs zone)) zone
+
+pub purged_moves-rename : (f g : ℕ → ℕ) (zone : List Block) → all_moves (purged_all (rename f g zone))
+    ≡ all_moves (purged_all zone)
+purged_moves-rename f g zone = ap all_moves (purged_all-rename f g zone) ∙ all_moves-rename f g (purged_all zone)
+
+module _ (f g : ℕ → ℕ)
+  where
+    run_moves-rename : (c d : List Block → List Block) → ((run : List Block) → c (rename f g run) ≡ rename f g (d run))
+        → (o : Option RunSpot) → run_moves c (option_map (rename_run_spot f g) o) ≡ run_moves d o
+    run_moves-rename c d same None = refl
+    run_moves-rename c d same (Some r) = ap falling (same r.run) ∙ falling-rename f g (d r.run)
+
+    pub place_moves-rename : (p : ℕ) (zone : List Block) → place_moves p (rename f g zone) ≡ place_moves p zone
+    place_moves-rename p zone =
+        let free : is_some (spot (is_room p) (rename f g zone)) ≡ is_some (spot (is_room p) zone) =
+        ap is_some (spot-rename f g (is_room p) (is_room p) (is_room-rename f g p) zone)
+        ∙ is_some-map (rename_spot f g) (spot (is_room p) zone) in
+        let packed : run_moves as_it_is (run_spot (has_free p) (rename f g zone))
+        ≡ run_moves as_it_is (run_spot (has_free p) zone) =
+        ap (run_moves as_it_is) (run_spot-rename f g (has_free p) (has_free p) (has_free-rename f g p) zone)
+        ∙ run_moves-rename as_it_is as_it_is (λ run. refl) (run_spot (has_free p) zone) in
+        (λ i. cond {A = ℕ} (free i) 0 (packed i))
+
+    module _ (p q : Block → Bool) (spares : (b : Block) → p (rename_block f g b) ≡ q b)
+      where
+        pub room_moves-rename : (try try' : List Block → Option (List Block))
+            → ((bs : List Block) → try (rename f g bs) ≡ option_map (rename f g) (try' bs))
+            → (m m' : List Block → ℕ) → ((bs : List Block) → m (rename f g bs) ≡ m' bs) → (zone : List Block)
+            → room_moves try m p (rename f g zone) ≡ room_moves try' m' q zone
+        room_moves-rename try try' same m m' moves zone =
+            ap (λ (k : ℕ). m (purge (k - 1) p (rename f g zone))) (room_searches-rename f g p q spares try try' same
+            zone)
+            ∙ ap m (purge-rename f g p q spares (room_searches try' q zone - 1) zone)
+            ∙ moves (purge (room_searches try' q zone - 1) q zone)
+
+        pub put_moves-rename : (new : Block) (zone : List Block)
+            → put_moves (rename_block f g new) p (rename f g zone) ≡ put_moves new q zone
+        put_moves-rename new zone =
+            room_moves-rename (put_in_place (rename_block f g new)) (put_in_place new) (put_in_place-rename f g new)
+            (place_moves (size (rename_block f g new))) (place_moves (size new))
+            (λ bs. ap (λ k. place_moves k (rename f g bs)) (size-rename f g new) ∙ place_moves-rename (size new) bs)
+            zone
+
+        module _ (t u : Block → Bool) (same : (b : Block) → t (rename_block f g b) ≡ u b)
+          where
+            mover_moves-rename : (new : Block) (zone : List Block) (o : Option Spot)
+                → mover_moves t (rename_block f g new) (rename f g zone) (option_map (rename_spot f g) o)
+                ≡ mover_moves u new zone o
+            mover_moves-rename new zone None = refl
+            mover_moves-rename new zone (Some s) =
+                let wide : growth (rename_block f g new) (rename_spot f g s) ≡ growth new s =
+                rw (size-rename f g new, size-rename f g s.here) refl in
+                let up : is_some (grow_up (rename_block f g new) (rename_spot f g s)) ≡ is_some (grow_up new s) =
+                ap is_some (grow_up-rename f g new s) ∙ is_some-map (rename f g) (grow_up new s) in
+                let there : is_some (place (size (rename_block f g new)) (rename f g zone))
+                ≡ is_some (place (size new) zone) =
+                ap (λ k. is_some (place k (rename f g zone))) (size-rename f g new)
+                ∙ ap is_some (place-rename f g (size new) zone) ∙ is_some-map (rename_spot f g)
+                (place (size new) zone) in
+                let away : place_moves (size (rename_block f g new)) (rename f g zone) ≡ place_moves (size new) zone =
+                ap (λ k. place_moves k (rename f g zone)) (size-rename f g new)
+                ∙ place_moves-rename (size new) zone in
+                let last : run_moves (high t) (run_spot (λ run. has t run
+                && has_free (growth (rename_block f g new) (rename_spot f g s)) run) (rename f g zone))
+                ≡ run_moves (high u) (run_spot (λ run. has u run && has_free (growth new s) run) zone) =
+                ap (run_moves (high t)) (run_spot-rename f g (λ run. has t run
+                && has_free (growth (rename_block f g new) (rename_spot f g s)) run)
+                (λ run. has u run && has_free (growth new s) run)
+                (λ run. rw (wide, has-rename f g t u same run, has_free-rename f g (growth new s) run) refl) zone)
+                ∙ run_moves-rename (high t) (high u) (high-rename f g t u same)
+                (run_spot (λ run. has u run && has_free (growth new s) run) zone) in
+                (λ i. cond {A = ℕ} (up i) 0 (cond {A = ℕ} (there i) (away i) (last i)))
+
+            grow_moves-rename : (new : Block) (zone : List Block) → grow_moves t (rename_block f g new)
+                (rename f g zone) ≡ grow_moves u new zone
+            grow_moves-rename new zone = ap (mover_moves t (rename_block f g new) (rename f g zone))
+                (spot-rename f g t u same zone) ∙ mover_moves-rename new zone (spot u zone)
+
+            growth_moves-rename : (n : ℕ) (zone : List Block) (o : Option Spot)
+                → growth_moves t p (resized_at n (option_map (rename_spot f g) o)) (rename f g zone)
+                (option_map (rename_spot f g) o) ≡ growth_moves u q (resized_at n o) zone o
+            growth_moves-rename n zone None = refl
+            growth_moves-rename n zone (Some s) =
+                let new : Block = resized n s.here in
+                let fits : nat_le (size (rename_block f g new)) (size (rename_block f g s.here))
+                ≡ nat_le (size new) (size s.here) = rw (size-rename f g new, size-rename f g s.here) refl in
+                let mover : is_mover (rename_block f g s.here) ≡ is_mover s.here = is_mover-rename f g s.here in
+                let many : room_moves (grow_mover t (rename_block f g new)) (grow_moves t (rename_block f g new)) p
+                (rename f g zone) ≡ room_moves (grow_mover u new) (grow_moves u new) q zone =
+                room_moves-rename (grow_mover t (rename_block f g new)) (grow_mover u new)
+                (grow_mover-rename f g t u same new) (grow_moves t (rename_block f g new)) (grow_moves u new)
+                (grow_moves-rename new) zone in
+                ap (λ b. growth_moves t p b (rename f g zone) (Some (rename_spot f g s))) (resized-rename f g n s.here)
+                ∙ (λ i. cond {A = ℕ} (fits i) 0 (cond {A = ℕ} (mover i) (many i) 0))
+
+            pub size_moves-rename : (n : ℕ) (zone : List Block) → size_moves t p n (rename f g zone)
+                ≡ size_moves u q n zone
+            size_moves-rename n zone =
+                ap {B = ℕ} (λ (m : ℕ). cond (is_some (phys n)) m 0)
+                (ap (λ o. growth_moves t p (resized_at n o) (rename f g zone) o) (spot-rename f g t u same zone)
+                ∙ growth_moves-rename n zone (spot u zone))
+
+-- for a place of a new block
+pub block_moves-seat : (f g : ℕ → ℕ) (p : Block → Bool) (nd : Sparing)
+    → ((b : Block) → p (rename_block f g b) ≡ spared nd b) → (number : ℕ) (bytes : List ℕ) (bs : List Block)
+    → opened nd bs ≡ bs
+    → put_moves (Relocatable number no_flags bytes) p (rename f g bs) ≡ seat_moves (padded (length bytes)) nd bs
+block_moves-seat f g p nd same number bytes bs closed =
+    ap (λ k. place_moves wide (purge (k - 1) p (rename f g bs)))
+    (block_searches-seat f g p nd same number bytes bs closed)
+    ∙ ap (place_moves wide) (purge-rename f g p (spared nd) same (seat_searches wide nd bs - 1) bs)
+    ∙ place_moves-rename f g wide (purge (seat_searches wide nd bs - 1) (spared nd) bs)
+    ∙ ap (λ z. place_moves wide (purge (seat_searches wide nd bs - 1) (spared nd) z)) (sym closed)
+  where
+    wide : ℕ
+    wide = padded (length bytes)
+
+-- of NewHandle
+pub new_handle_moves-is : (zone : List Block) (rest : Rest) (es : List Anchor) (n : ℕ)
+    → rest.all ≡ 64 * count is_masters zone → Agrees zone rest es
+    → new_handle_moves n (state_of zone rest.slots es) ≡ new_moves sparing.Nothing n rest.unused zone
+new_handle_moves-is zone rest es n masters agrees =
+    ap (λ o. ready_searches o moves) (slotted-is zone rest es masters agrees nothing sparing.Nothing (λ b. refl) refl)
+    ∙ ready (zone_slotted sparing.Nothing rest.unused zone)
+  where
+    moves : State → ℕ
+    moves ready = cond (is_some (phys n)) (block_moves nothing (replicate n 0) ready) 0
+
+    ready : (o : Option (List Block)) → ready_searches (option_map (λ z. state_of z rest.slots es) o) moves
+        ≡ ready_count o (content_moves sparing.Nothing n)
+    ready None = refl
+    ready (Some z) =
+        ap (λ a. cond {A = ℕ} (is_some (phys n)) a 0)
+        (block_moves-seat (handle_number es) (pointer_number es) nothing sparing.Nothing (λ b. refl)
+        (length (map (name_of rest.slots) es)) (replicate n 0) z refl
+        ∙ ap (λ k. seat_moves (padded k) sparing.Nothing z) (length-replicate n 0))

@@ -1,0 +1,88 @@
+use Rattle.std.proofs.Common.{◌≡◌, ℕ, ◌+◌, ◌<◌, zero, suc, Bool, true, false, ◌==◌, List, [], ◌∷◌, refl, sym, ◌∙◌, ap}
+use Rattle.std.proofs.Common.{cond, arith, Some, slice_get}
+use Rattle.std.proofs.lemmas.Option.{none-some, same_Some}
+use Rattle.std.proofs.lemmas.Bool.{false≢true, cond-true, cond-false}
+use Rattle.std.proofs.lemmas.Bool.Decides.{same_from_decides, Decides-eqb, Decides-like}
+use Rattle.block_store.specs.Block.{Block, Free, Fixed, Masters, Relocatable, rename_block, is_relocatable}
+use Rattle.heap_calls.specs.declared.anchor.Anchor.{Anchor}
+use Rattle.heap_calls.specs.declared.anchor.Anchor.TheVariants.{Handle, Pointer, Disposed}
+use Rattle.heap_calls.specs.Inner.Numbered.{number_from, handle_number, pointer_number, leads_to, no_number}
+
+-- two tests of numbers agree where each equation gives the other
+pub same_test : (a b c d : ℕ) → (a ≡ b → c ≡ d) → (c ≡ d → a ≡ b) → (a == b) ≡ (c == d)
+same_test a b c d there back = same_from_decides (a == b) (c == d) (Decides-eqb a b)
+    (Decides-like (c == d) back there (Decides-eqb c d))
+
+-- the number of the only entry that passes
+pub number_from-at : (n : ℕ) (test : Anchor → Bool) (es : List Anchor) (h : ℕ) (e : Anchor) → slice_get es h ≡ Some e
+    → test e ≡ true
+    → ((k : ℕ) (x : Anchor) → slice_get es k ≡ Some x → test x ≡ true → k ≡ h) → number_from n test es ≡ n + h
+number_from-at n test [] h e at is only = absurd (none-some _ at)
+number_from-at n test (x ∷ es) zero e at is only = cond-true (test x) n _ (ap test (same_Some _ _ at) ∙ is)
+    ∙ omega arith
+number_from-at n test (x ∷ es) (suc h) e at is only =
+    let here : (test x ≡ true) → 0 ≡ suc h = only 0 x refl in
+    let rest = number_from-at (n + 1) test es h e at is (λ k y at' is'. let same : suc k
+    ≡ suc h = only (suc k) y at' is' in omega arith) in
+    cond-false (test x) n _ (false_if (test x) (λ t. absurd (let z : 0 ≡ suc h = here t in omega arith))) ∙ rest
+    ∙ omega arith
+  where
+    false_if : (t : Bool) → (t ≡ true → ⊥) → t ≡ false
+    false_if true h = absurd (h refl)
+    false_if false h = refl
+
+-- an entry that has a number passes
+pub number_from-found : (n : ℕ) (test : Anchor → Bool) (es : List Anchor) (m : ℕ) → number_from n test es ≡ m
+    → m < no_number → (k : ℕ) × (e : Anchor) × (m ≡ n + k) × (slice_get es k ≡ Some e) × (test e ≡ true)
+number_from-found n test [] m is small = absurd (omega arith)
+number_from-found n test (x ∷ es) m is small = cases (test x) refl is (λ e. number_from-found (n + 1) test es m e small)
+  where
+    cases : (t : Bool) → test x ≡ t → cond t n (number_from (n + 1) test es) ≡ m
+        → (number_from (n + 1) test es ≡ m → (k : ℕ) × (e : Anchor) × (m ≡ n + 1 + k) × (slice_get es k ≡ Some e)
+        × (test e ≡ true))
+        → (k : ℕ) × (e : Anchor) × (m ≡ n + k) × (slice_get (x ∷ es) k ≡ Some e) × (test e ≡ true)
+    cases true passes is rest = (0, x, omega arith, refl, passes)
+    cases false fails is rest = let found = rest is in (suc found.0, found.1, omega (arith, found.2), found.3, found.4)
+
+pub leads_to-is : (slot : ℕ) (e : Anchor) → leads_to slot e ≡ true → e ≡ Handle slot
+leads_to-is slot (Handle s) is = ap Handle ((Decides-eqb s slot).0 is)
+leads_to-is slot (Pointer p) is = absurd (false≢true is)
+leads_to-is slot Disposed is = absurd (false≢true is)
+
+pub leads_to-same : (slot : ℕ) → (slot == slot) ≡ true
+leads_to-same slot = (Decides-eqb slot slot).1 refl
+
+-- no two handles have one slot
+abbrev pub Apart : List Anchor → Type 0
+Apart es = (h k slot : ℕ) → slice_get es h ≡ Some (Handle slot) → slice_get es k ≡ Some (Handle slot) → h ≡ k
+
+-- the number of a slot is that of its handle
+pub handle_number-at : (es : List Anchor) (h slot : ℕ) → slice_get es h ≡ Some (Handle slot) → Apart es
+    → handle_number es slot ≡ h
+handle_number-at es h slot at apart =
+    number_from-at 0 (leads_to slot) es h (Handle slot) at (leads_to-same slot)
+    (λ k e found is. apart k h slot (found ∙ ap Some (leads_to-is slot e is)) at) ∙ omega arith
+
+-- and no other slot has it
+pub handle_number-only : (es : List Anchor) (h slot id : ℕ) → slice_get es h ≡ Some (Handle slot) → h < no_number
+    → handle_number es id ≡ h → id ≡ slot
+handle_number-only es h slot id at small is =
+    let found = number_from-found 0 (leads_to id) es h is small in
+    let place : h ≡ 0 + found.0 = found.2 in
+    let same : h ≡ found.0 = omega arith in
+    let both : Some found.1 ≡ Some (Handle slot) = sym found.3 ∙ ap (slice_get es) (sym same) ∙ at in
+    slot_from (sym (leads_to-is id found.1 found.4) ∙ same_Some _ _ both)
+  where
+    slot_from : Handle id ≡ Handle slot → id ≡ slot
+    slot_from e = cc
+
+-- a block has a handle's number where it has its slot
+pub is_relocatable-number : (es : List Anchor) (h slot : ℕ) → slice_get es h ≡ Some (Handle slot) → Apart es
+    → h < no_number
+    → (b : Block) → is_relocatable h (rename_block (handle_number es) (pointer_number es) b) ≡ is_relocatable slot b
+is_relocatable-number es h slot at apart small (Free n) = refl
+is_relocatable-number es h slot at apart small (Fixed id content) = refl
+is_relocatable-number es h slot at apart small Masters = refl
+is_relocatable-number es h slot at apart small (Relocatable id flags content) =
+    same_test (handle_number es id) h id slot (handle_number-only es h slot id at small)
+    (λ e. ap (handle_number es) e ∙ handle_number-at es h slot at apart)

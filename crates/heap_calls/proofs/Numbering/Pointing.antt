@@ -1,0 +1,435 @@
+use Rattle.std.proofs.Common.{◌≡◌, ℕ, ◌+◌, ◌-◌, ◌≤◌, ◌<◌, Bool, true, false, ◌||◌, ◌==◌, List, [], ◌∷◌, ◌++◌, length}
+use Rattle.std.proofs.Common.{refl, sym, ◌∙◌, ap, cond, map, arith, Option, Some, None, Result, Ok, Err, slice_get}
+use Rattle.std.proofs.Common.{slice_set, get_or, count_by, subst, inl, inr, nat_le}
+use Rattle.std.proofs.lemmas.List.{map-set, length-map}
+use Rattle.std.proofs.lemmas.List.Sums.{sum_by-set}
+use Rattle.std.proofs.lemmas.Option.{same_Some, slice_get_within, slice_get-map, get_or_from_slice_get}
+use Rattle.std.proofs.lemmas.Bool.{cond-true, cond-false, false≢true, false_from_ne_true, or_parts}
+use Rattle.std.proofs.lemmas.Bool.Decides.{Decides-eqb, nat_tests}
+use Rattle.std.specs.Option.{option_map, ok_or}
+use Rattle.mac_words.specs.declared.code.OsErr.{OsErr}
+use Rattle.mac_words.specs.declared.code.TheConstants.OsErr.{NIL_HANDLE, WRONG_ZONE}
+use Rattle.block_store.specs.Block.{Block, Free, Fixed, Masters, Relocatable, size, sizes, tidy, rename, rename_block}
+use Rattle.block_store.specs.Block.{is_fixed, content_of}
+use Rattle.block_store.specs.Run.{has}
+use Rattle.block_store.specs.Compact.{Placed}
+use Rattle.block_store.specs.Slot.{Slot}
+use Rattle.block_store.specs.Rest.{Rest, KeepsSlots}
+use Rattle.block_store.specs.Room.{Spot, spot, spot_at, raised, rename_spot}
+use Rattle.block_store.specs.Grow.{freed}
+use Rattle.block_store.proofs.Zone.Apart.{Apart, apart-tidied, apart-size}
+use Rattle.block_store.proofs.Renamed.Renaming.{spot-rename, freed-rename, tidy-rename}
+use Rattle.block_store.proofs.Zone.Tidy.{has-tidy, has-freed, spot-passes, spot-is}
+use Rattle.block_store.proofs.Zone.Totals.{total-append}
+use Rattle.block_store.proofs.Nonrelocatable.FixedCounts.{not_fixed-other}
+use Rattle.heap_calls.specs.State.{State, Memory, Meaning, uses_slot}
+use Rattle.heap_calls.specs.State as names
+use Rattle.heap_calls.specs.Answer.{Answer, Held, look_up, for_found, silent}
+use Rattle.heap_calls.specs.Inner.Given.{IsAnswer, FindsBlock}
+use Rattle.heap_calls.specs.Pointers.{pointed, pointed_at, named_block, block_named, dispose_pointer}
+use Rattle.heap_calls.specs.Inner.Pointing.{target, target_at, target_of, FindsHeld}
+use Rattle.heap_calls.specs.declared.refusal.Refusal.{Refusal}
+use Rattle.heap_calls.specs.declared.refusal.Refusal.TheVariants.{Code, HostMemory}
+use Rattle.heap_calls.specs.declared.log.Log.{Log}
+use Rattle.heap_calls.specs.declared.anchor.Target.{Target}
+use Rattle.heap_calls.specs.declared.anchor.Anchor.{Anchor}
+use Rattle.heap_calls.specs.declared.anchor.Anchor.TheVariants.{Handle, Pointer, Disposed}
+use Rattle.heap_calls.specs.Inner.Numbered.{state_of, memory_of, name_of, handle_number, pointer_number, leads_to}
+use Rattle.heap_calls.specs.Inner.Numbered.{points_to, no_number, Agrees}
+use Rattle.heap_calls.proofs.Numbering.Answering.{held}
+use Rattle.heap_calls.proofs.Numbering.Numbers.{same_test, number_from-at, number_from-found, leads_to-same}
+use Rattle.heap_calls.proofs.Numbering.Changing.{number_from-set, slice_get-set, slice_get-set_same, names-same}
+use Rattle.heap_calls.proofs.Room.Staying.{fixed-tidy, fixed-freed_other}
+
+-- Pointers, by the places of their blocks.
+
+-- where the Fixed block of a place is, seen in blocks that begin at a base
+pub record IsThere (place base : ℕ) (zone : List Block) : Type 0 where
+  pub s : Spot
+  pub found : spot (is_fixed place) zone ≡ Some s
+  pub at : spot_at (place - base) zone ≡ Some s
+  pub distance : base + sizes s.below ≡ place
+
+pub fixed-there : (place base : ℕ) (zone : List Block) → Placed base zone → Apart zone
+    → has (is_fixed place) zone ≡ true → IsThere place base zone
+fixed-there place base [] placed apart e = absurd (false≢true e)
+fixed-there place base (b ∷ above) placed apart e = start b placed (apart-size b above apart.0) e
+    (λ k placed e. fixed-there place k above placed apart.1 e)
+  where
+    -- the block is above the first one
+    further : (b : Block) → is_fixed place b ≡ false → 0 < size b → IsThere place (base + size b) above
+        → IsThere place base (b ∷ above)
+    further b other some r = record {
+      s = raised b r.s;
+      found = cond-false (is_fixed place b) _ _ other ∙ ap (option_map (raised b)) r.found;
+      at =
+          let d = r.distance in
+          let first : (place - base == 0) ≡ false = grind (arith, nat_tests) in
+          let fits : nat_le (size b) (place - base) ≡ true = grind (arith, nat_tests) in
+          let same : place - base - size b ≡ place - (base + size b) = omega arith in
+          cond-false (place - base == 0) _ _ first ∙ cond-true (nat_le (size b) (place - base)) _ _ fits
+          ∙ ap (option_map (raised b)) (ap (λ n. spot_at n above) same ∙ r.at);
+      distance = let d = r.distance in let z : sizes (b ∷ r.s.below) ≡ size b + sizes r.s.below = refl in omega arith;
+    }
+
+    here : (id : ℕ) (content : List ℕ) → id ≡ base → (t : Bool) → (id == place) ≡ t
+        → (t ≡ false → IsThere place (base + size (Fixed id content)) above)
+        → IsThere place base (Fixed id content ∷ above)
+    here id content is true e rest = record {
+      s = record { below = []; here = Fixed id content; above = above };
+      found = cond-true (id == place) _ _ e;
+      at = let same : id ≡ place = (Decides-eqb id place).0 e in
+          let z : (place - base == 0) ≡ true = grind (arith, nat_tests) in cond-true (place - base == 0) _ _ z;
+      distance = let same : id ≡ place = (Decides-eqb id place).0 e in omega arith;
+    }
+    here id content is false e rest = further (Fixed id content) e (omega arith) (rest refl)
+
+    start : (b : Block) → Placed base (b ∷ above) → 0 < size b → has (is_fixed place) (b ∷ above) ≡ true
+        → ((k : ℕ) → Placed k above → has (is_fixed place) above ≡ true → IsThere place k above)
+        → IsThere place base (b ∷ above)
+    start (Free n) placed some e rest = further (Free n) refl some (rest (base + n) placed e)
+    start (Fixed id content) placed some e rest = here id content placed.0 (id == place) refl
+        (λ f. rest (base + size (Fixed id content)) placed.1 (ap (λ t. t || has (is_fixed place) above) (sym f) ∙ e))
+    start Masters placed some e rest = further Masters refl some (rest (base + 272) placed e)
+    start (Relocatable id flags content) placed some e rest = further (Relocatable id flags content) refl some
+        (rest (base + size (Relocatable id flags content)) placed e)
+
+-- no two pointers have one place
+abbrev pub Lone : List Anchor → Type 0
+Lone es = (h k place : ℕ) → slice_get es h ≡ Some (Pointer place) → slice_get es k ≡ Some (Pointer place) → h ≡ k
+
+pub points_to-is : (place : ℕ) (e : Anchor) → points_to place e ≡ true → e ≡ Pointer place
+points_to-is place (Handle s) is = absurd (false≢true is)
+points_to-is place (Pointer p) is = ap Pointer ((Decides-eqb p place).0 is)
+points_to-is place Disposed is = absurd (false≢true is)
+
+-- the number of a place is that of its pointer
+pub pointer_number-at : (es : List Anchor) (h place : ℕ) → slice_get es h ≡ Some (Pointer place) → Lone es
+    → pointer_number es place ≡ h
+pointer_number-at es h place at lone =
+    number_from-at 0 (points_to place) es h (Pointer place) at (leads_to-same place)
+    (λ k e found is. lone k h place (found ∙ ap Some (points_to-is place e is)) at) ∙ omega arith
+
+-- and no other place has it
+pub pointer_number-only : (es : List Anchor) (h place id : ℕ) → slice_get es h ≡ Some (Pointer place) → h < no_number
+    → pointer_number es id ≡ h → id ≡ place
+pointer_number-only es h place id at small is =
+    let found = number_from-found 0 (points_to id) es h is small in
+    let same : h ≡ found.0 = omega (arith, found.2) in
+    let both : Some found.1 ≡ Some (Pointer place) = sym found.3 ∙ ap (slice_get es) (sym same) ∙ at in
+    place_from (sym (points_to-is id found.1 found.4) ∙ same_Some _ _ both)
+  where
+    place_from : Pointer id ≡ Pointer place → id ≡ place
+    place_from e = cc
+
+-- a block has a pointer's number where it has its place
+pub is_fixed-number : (es : List Anchor) (h place : ℕ) → slice_get es h ≡ Some (Pointer place) → Lone es → h < no_number
+    → (b : Block) → is_fixed h (rename_block (handle_number es) (pointer_number es) b) ≡ is_fixed place b
+is_fixed-number es h place at lone small (Free n) = refl
+is_fixed-number es h place at lone small (Fixed id content) =
+    same_test (pointer_number es id) h id place (pointer_number-only es h place id at small)
+    (λ e. ap (pointer_number es) e ∙ pointer_number-at es h place at lone)
+is_fixed-number es h place at lone small Masters = refl
+is_fixed-number es h place at lone small (Relocatable id flags content) = refl
+
+-- a pointer was found where the entry is its own
+target_at-ok : (p : ℕ) (o : Option Anchor) (t : Target) → target_at p o ≡ Ok t → (o ≡ Some (Pointer t.place))
+    × (t.number ≡ p)
+target_at-ok p None t e = cc
+target_at-ok p (Some (Handle s)) t e = cc
+target_at-ok p (Some (Pointer q)) t e = let same : target p q ≡ t = cc in
+    (ap (λ (x : Target). Some (Pointer x.place)) same, ap (λ (x : Target). x.number) (sym same))
+target_at-ok p (Some Disposed) t e = cc
+
+pub target_of-ok : (pointer : Option ℕ) (es : List Anchor) (t : Target) → target_of pointer es ≡ Ok t
+    → (pointer ≡ Some t.number) × (slice_get es t.number ≡ Some (Pointer t.place))
+target_of-ok None es t e = cc
+target_of-ok (Some p) es t e = let r = target_at-ok p (slice_get es p) t e in
+    (ap Some (sym r.1), ap (slice_get es) r.1 ∙ r.0)
+
+-- a name that is no pointer's
+pub pointed_at-refused : (zone : List Block) (slots : ℕ → Slot) (es : List Anchor) (pointer : Option ℕ) (code : OsErr)
+    → target_of pointer es ≡ Err (Code code) → pointed_at pointer (state_of zone slots es) ≡ Err code
+pointed_at-refused zone slots es None code e = let same : NIL_HANDLE ≡ code = cc in ap Err same
+pointed_at-refused zone slots es (Some p) code e = ap (λ o. pointed p o (state_of zone slots es))
+    (slice_get-map (name_of slots) es p) ∙ cases (slice_get es p) e
+  where
+    cases : (o : Option Anchor) → target_at p o ≡ Err (Code code)
+        → pointed p (option_map (name_of slots) o) (state_of zone slots es) ≡ Err code
+    cases None e = let same : NIL_HANDLE ≡ code = cc in ap Err same
+    cases (Some (Handle slot)) e = let same : WRONG_ZONE ≡ code = cc in ap Err same
+    cases (Some (Pointer q)) e = cc
+    cases (Some Disposed) e = let same : WRONG_ZONE ≡ code = cc in ap Err same
+
+-- a pointer's block, where it was looked up
+pub record IsHeld (zone : List Block) (slots : ℕ → Slot) (es : List Anchor) (pointer : Option ℕ) (t : Target) : Type 0
+  where
+    pub s : Spot
+    pub bound : pointer ≡ Some t.number
+    pub entry : slice_get es t.number ≡ Some (Pointer t.place)
+    pub looked : pointed_at pointer (state_of zone slots es) ≡ Ok
+        (held t.number (rename_spot (handle_number es) (pointer_number es) s))
+    pub found : spot (is_fixed t.place) zone ≡ Some s
+    pub at : spot_at t.place zone ≡ Some s
+    pub distance : sizes s.below ≡ t.place
+    pub fixed : is_fixed t.place s.here ≡ true
+    pub few : t.place + 16 + length (content_of s.here) ≤ sizes zone
+
+header-fits : (place : ℕ) (b : Block) → is_fixed place b ≡ true → length (content_of b) + 16 ≤ size b
+header-fits place (Free n) e = absurd (false≢true e)
+header-fits place (Fixed id content) e = omega arith
+header-fits place Masters e = absurd (false≢true e)
+header-fits place (Relocatable id flags content) e = absurd (false≢true e)
+
+pub pointer-held : (zone : List Block) (rest : Rest) (es : List Anchor) (pointer : Option ℕ) (t : Target)
+    → Agrees zone rest es → Placed 0 zone → tidy zone ≡ zone → t.number < no_number → target_of pointer es ≡ Ok t
+    → IsHeld zone rest.slots es pointer t
+pointer-held zone rest es pointer t agrees placed tidied small is =
+    let e = target_of-ok pointer es t is in
+    let there = fixed-there t.place 0 zone placed (apart-tidied zone tidied) (agrees.pointed t.number t.place e.1) in
+    let fixed = spot-passes (is_fixed t.place) zone there.s there.found in
+    let distance : sizes there.s.below ≡ t.place = let d = there.distance in omega arith in
+    let header = header-fits t.place there.s.here fixed in
+    let whole : sizes zone ≡ sizes (there.s.below ++ there.s.here ∷ there.s.above) =
+    ap sizes (spot-is (is_fixed t.place) zone there.s there.found) in
+    let parts : sizes (there.s.below ++ there.s.here ∷ there.s.above)
+    ≡ sizes there.s.below + sizes (there.s.here ∷ there.s.above) =
+    total-append size there.s.below (there.s.here ∷ there.s.above) in
+    record {
+      s = there.s;
+      bound = e.0;
+      entry = e.1;
+      looked =
+          ap (λ o. pointed_at o (state_of zone rest.slots es)) e.0
+          ∙ ap (λ o. pointed t.number o (state_of zone rest.slots es))
+          (slice_get-map (name_of rest.slots) es t.number ∙ ap (option_map (name_of rest.slots)) e.1)
+          ∙ ap (λ o. ok_or (option_map (held t.number) o) NIL_HANDLE)
+          (spot-rename (handle_number es) (pointer_number es) (is_fixed t.number) (is_fixed t.place)
+          (is_fixed-number es t.number t.place e.1 agrees.lone small) zone
+          ∙ ap (option_map (rename_spot (handle_number es) (pointer_number es))) there.found);
+      found = there.found;
+      at = let same : t.place - 0 ≡ t.place = omega arith in ap (λ n. spot_at n zone) (sym same) ∙ there.at;
+      distance = distance;
+      fixed = fixed;
+      few = omega (arith, header, whole, parts, distance);
+    }
+
+-- a copy of the entries
+pub target_in : (es es' : List Anchor) (pointer : Option ℕ) (r : Result Target Refusal) → es' ≡ es
+    → r ≡ target_of pointer es' → target_of pointer es ≡ r
+target_in es es' pointer r same is = ap (target_of pointer) (sym same) ∙ sym is
+
+-- the block of a name that is a pointer's, and of another
+pub sparing-pointer : (zone : List Block) (slots : ℕ → Slot) (es : List Anchor) (name : Option ℕ) (t : Target)
+    → target_of name es ≡ Ok t → block_named name (state_of zone slots es) ≡ pointed_at name (state_of zone slots es)
+sparing-pointer zone slots es None t e = cc
+sparing-pointer zone slots es (Some n) t e = ap (λ o. named_block n o state) at ∙ sym (ap (λ o. pointed n o state) at)
+  where
+    state : State
+    state = state_of zone slots es
+
+    at : slice_get (map (name_of slots) es) n ≡ Some names.Pointer
+    at = slice_get-map (name_of slots) es n ∙ ap (option_map (name_of slots)) (target_at-ok n (slice_get es n) t e).0
+
+pub sparing-other : (zone : List Block) (slots : ℕ → Slot) (es : List Anchor) (name : Option ℕ) (e : Refusal)
+    → target_of name es ≡ Err e → block_named name (state_of zone slots es) ≡ look_up name (state_of zone slots es)
+sparing-other zone slots es None e is = refl
+sparing-other zone slots es (Some n) e is = ap (λ o. named_block n o state) (slice_get-map (name_of slots) es n)
+    ∙ cases (slice_get es n) is
+  where
+    state : State
+    state = state_of zone slots es
+
+    cases : (o : Option Anchor) → target_at n o ≡ Err e → named_block n (option_map (name_of slots) o) state
+        ≡ look_up (Some n) state
+    cases None is = refl
+    cases (Some (Handle slot)) is = refl
+    cases (Some (Pointer p)) is = cc
+    cases (Some Disposed) is = refl
+
+-- what was found for a look that is the same
+pub finds-same : (looked looked' : Result Held OsErr) (zone : List Block) (es : List Anchor) (r : Result ℕ Refusal)
+    → looked' ≡ looked → FindsHeld looked zone es r → FindsHeld looked' zone es r
+finds-same looked looked' zone es r same found = let P : Result Held OsErr → Type 0 = λ l. FindsHeld l zone es r in
+    subst P (sym same) found
+
+pub finds-block : (zone : List Block) (slots : ℕ → Slot) (es : List Anchor) (handle : Option ℕ) (r : Result ℕ Refusal)
+    → FindsBlock zone slots es handle r → FindsHeld (look_up handle (state_of zone slots es)) zone es r
+finds-block zone slots es handle (Ok place) found = found
+finds-block zone slots es handle (Err (Code code)) found = found
+finds-block zone slots es handle (Err HostMemory) found = found
+
+-- a pointer's block is found by its place
+pub finds-pointer : (zone : List Block) (slots : ℕ → Slot) (es : List Anchor) (pointer : Option ℕ) (t : Target)
+    → sizes zone ≤ 134217728 → IsHeld zone slots es pointer t → FindsHeld (pointed_at pointer (state_of zone slots es))
+    zone es (Ok t.place)
+finds-pointer zone slots es pointer t fits there = (
+  t.number,
+  there.s,
+  there.looked,
+  there.at,
+  there.distance,
+  omega
+      (arith, there.few),
+)
+
+-- the same for a copy of the entries
+pub found_by : (look : State → Result Held OsErr) (zone : List Block) (slots : ℕ → Slot) (es es' : List Anchor)
+    (r : Result ℕ Refusal) → es' ≡ es → FindsHeld (look (state_of zone slots es')) zone es' r
+    → FindsHeld (look (state_of zone slots es)) zone es r
+found_by look zone slots es es' r same found = let P : List Anchor
+    → Type 0 = λ l. FindsHeld (look (state_of zone slots l)) zone l r in subst P same found
+
+-- a call that is refused for what was looked up
+pub refused_by : {T : Type 0} (look : State → Result Held OsErr) (e : Refusal) (zone : List Block) (rest : Rest)
+    (es : List Anchor) (log : Log) (value : Memory) → memory_of zone rest es log ≡ value
+    → FindsHeld (look (state_of zone rest.slots es)) zone es (Err e) → (answer : State → Held → Answer T)
+    → IsAnswer (silent (λ s. for_found (look s) s (answer s)) value) (Err e) value
+refused_by {T = T} look (Code code) zone rest es log value is found answer =
+    let P : Memory → Type 0 = λ m. silent {T = T} (λ s. for_found (look s) s (answer s)) m ≡ (Err code, m) in
+    subst P is (ap (λ r. let a : Answer T = for_found r (state_of zone rest.slots es)
+    (answer (state_of zone rest.slots es)) in (a.0, record (memory_of zone rest es log) { heap = a.1 })) found)
+refused_by look HostMemory zone rest es log value is found answer = tt
+
+-- what a call answers at the block that was looked up
+pub on_held : {T : Type 0} (look : State → Result Held OsErr) (zone : List Block) (rest : Rest) (es : List Anchor)
+    (log : Log) (value : Memory) (k : Held) → memory_of zone rest es log ≡ value
+    → look (state_of zone rest.slots es) ≡ Ok k → (answer : State → Held → Answer T)
+    → silent (λ s. for_found (look s) s (answer s)) value ≡ (
+      (answer value.heap k).0,
+      record value
+          { heap = (answer value.heap k).1 },
+    )
+on_held {T = T} look zone rest es log value k is found answer =
+    let P : Memory → Type 0 = λ m. silent {T = T} (λ s. for_found (look s) s (answer s)) m
+    ≡ ((answer m.heap k).0, record m { heap = (answer m.heap k).1 }) in
+    subst P is (ap (λ r. let a : Answer T = for_found r (state_of zone rest.slots es)
+    (answer (state_of zone rest.slots es)) in (a.0, record (memory_of zone rest es log) { heap = a.1 })) found)
+
+-- one for a name with a slot
+abbrev used_by : Meaning → ℕ
+used_by x = cond (uses_slot x) 1 0
+
+-- other names of pointers than blocks have
+pub rename_pointer-unless : (f g g' : ℕ → ℕ) (id : ℕ) → ((k : ℕ) → (k == id) ≡ false → g' k ≡ g k) → (bs : List Block)
+    → has (is_fixed id) bs ≡ false → rename f g' bs ≡ rename f g bs
+rename_pointer-unless f g g' id same [] none = refl
+rename_pointer-unless f g g' id same (Free n ∷ bs) none = ap (λ l. Free n ∷ l)
+    (rename_pointer-unless f g g' id same bs none)
+rename_pointer-unless f g g' id same (Fixed k content ∷ bs) none =
+    let parts = or_parts (k == id) (has (is_fixed id) bs) none in
+    rw (same k parts.0) (ap (λ l. Fixed (g k) content ∷ l) (rename_pointer-unless f g g' id same bs parts.1))
+rename_pointer-unless f g g' id same (Masters ∷ bs) none = ap (λ l. Masters ∷ l)
+    (rename_pointer-unless f g g' id same bs none)
+rename_pointer-unless f g g' id same (Relocatable k flags content ∷ bs) none =
+    ap (λ l. Relocatable (f k) flags content ∷ l) (rename_pointer-unless f g g' id same bs none)
+
+-- other numbers of slots
+pub rename_slots-same : (f f' g : ℕ → ℕ) → ((k : ℕ) → f' k ≡ f k) → (bs : List Block) → rename f' g bs ≡ rename f g bs
+rename_slots-same f f' g same bs = ap (λ h. rename h g bs) (λ i k. same k i)
+
+flip : (k n : ℕ) → (k == n) ≡ false → (n == k) ≡ false
+flip k n e = false_from_ne_true (n == k) (λ t. let same : n ≡ k = (Decides-eqb n k).0 t in
+    let z : (k == n) ≡ true = (Decides-eqb k n).1 (sym same) in let f : true ≡ false = sym z ∙ e in cc)
+
+-- the names of a heap with a pointer disposed of
+module _ (zone : List Block) (rest rest' : Rest) (es : List Anchor) (h place : ℕ)
+    (agrees : Agrees zone rest es) (at : slice_get es h ≡ Some (Pointer place)) (small : h < no_number)
+    (now : KeepsSlots rest rest')
+  where
+    -- the entries without it
+    abbrev pub left : List Anchor
+    left = slice_set es h Disposed
+
+    handle-left : (k s : ℕ) → slice_get left k ≡ Some (Handle s) → slice_get es k ≡ Some (Handle s)
+    handle-left k s found = elim (slice_get-set es h Disposed k (Handle s) found)
+        [ inl old ↦ old | inr new ↦ absurd (gone new.1) ]
+      where
+        gone : Handle s ≡ Disposed → ⊥
+        gone e = cc
+
+    pointer-left : (k p : ℕ) → slice_get left k ≡ Some (Pointer p) → (slice_get es k ≡ Some (Pointer p))
+        × (p ≡ place → ⊥)
+    pointer-left k p found = elim (slice_get-set es h Disposed k (Pointer p) found) [
+      | inl old ↦ (
+        old,
+        λ e. let same : k ≡ h = agrees.lone k h p old (at ∙ ap (λ n. Some (Pointer n)) (sym e)) in
+            changed (sym (slice_get-set_same es h Disposed (slice_get_within es h (Pointer place) at))
+            ∙ ap (slice_get left) (sym same) ∙ found),
+      )
+      | inr new ↦ absurd (changed (sym (ap Some new.1)))
+    ]
+      where
+        changed : Some Disposed ≡ Some (Pointer p) → ⊥
+        changed e = cc
+
+    pub names-left : map (name_of rest'.slots) left ≡ slice_set (map (name_of rest.slots) es) h names.Disposed
+    names-left = names-same rest.slots rest'.slots left (λ k s found. now.slots s)
+        ∙ map-set (name_of rest.slots) es h Disposed
+
+    pub agrees-left : Agrees (tidy (freed (is_fixed place) zone)) rest' left
+    agrees-left = record {
+      used = λ k s found. now.slots s ∙ agrees.used k s (handle-left k s found);
+      apart = λ j k s a b. agrees.apart j k s (handle-left j s a) (handle-left k s b);
+      pointed = λ k p found. fixed-tidy (freed (is_fixed place) zone) p
+          ∙ fixed-freed_other p (is_fixed place) (not_fixed-other p place (λ e. (pointer-left k p found).1 (sym e)))
+          zone ∙ agrees.pointed k p (pointer-left k p found).0;
+      lone = λ j k p a b. agrees.lone j k p (pointer-left j p a).0 (pointer-left k p b).0;
+      counted =
+          let a = agrees.counted in
+          let e : count_by uses_slot (map (name_of rest'.slots) left)
+          ≡ count_by uses_slot (slice_set (map (name_of rest.slots) es) h names.Disposed) =
+          ap (count_by uses_slot) names-left in
+          let was : get_or (map (name_of rest.slots) es) h names.Disposed ≡ names.Pointer =
+          get_or_from_slice_get (map (name_of rest.slots) es) h _ names.Disposed
+          (slice_get-map (name_of rest.slots) es h ∙ ap (option_map (name_of rest.slots)) at) in
+          let none_there : used_by (get_or (map (name_of rest.slots) es) h names.Disposed) ≡ 0 = ap used_by was in
+          let c = sum_by-set used_by (map (name_of rest.slots) es) h names.Disposed names.Disposed
+          (let w : h < length es = slice_get_within es h (Pointer place) at in
+          omega (arith, length-map es (name_of rest.slots))) in
+          omega (arith, now.unused, now.all);
+    }
+
+    pub dispose_pointer-done : (pointer : Option ℕ) (s : Spot)
+        → pointed_at pointer (state_of zone rest.slots es) ≡ Ok (held h s)
+        → dispose_pointer pointer (state_of zone rest.slots es) ≡
+        (Ok tt, state_of (tidy (freed (is_fixed place) zone)) rest'.slots left)
+    dispose_pointer-done pointer s looked =
+        ap (λ r. for_found r (state_of zone rest.slots es) (λ (held : Held). (
+          Ok tt,
+          record {
+            zone = tidy (freed (is_fixed held.number)
+                (rename (handle_number es) (pointer_number es) zone));
+            names = slice_set (map (name_of rest.slots) es)
+                held.number names.Disposed;
+          },
+        ))) looked
+        ∙ ap (λ z. (Ok tt, record { zone = z; names = slice_set (map (name_of rest.slots) es) h names.Disposed }))
+        zone-left
+        ∙ ap (λ l. (
+          Ok tt,
+          record {
+            zone = rename (handle_number left) (pointer_number left)
+                (tidy (freed (is_fixed place) zone));
+            names = l;
+          },
+        )) (sym names-left)
+      where
+        zone' : List Block
+        zone' = tidy (freed (is_fixed place) zone)
+
+        none : has (is_fixed place) zone' ≡ false
+        none = has-tidy (is_fixed place) (λ n. refl) (freed (is_fixed place) zone)
+            ∙ has-freed (is_fixed place) (λ n. refl) zone
+
+        zone-left : tidy (freed (is_fixed h) (rename (handle_number es) (pointer_number es) zone))
+            ≡ rename (handle_number left) (pointer_number left) zone'
+        zone-left =
+            ap tidy (freed-rename (handle_number es) (pointer_number es) (is_fixed h) (is_fixed place)
+            (is_fixed-number es h place at agrees.lone small) zone)
+            ∙ tidy-rename (handle_number es) (pointer_number es) (freed (is_fixed place) zone)
+            ∙ sym (rename_slots-same (handle_number es) (handle_number left) (pointer_number left)
+            (λ k. number_from-set 0 (leads_to k) es h (Pointer place) Disposed at refl refl) zone'
+            ∙ rename_pointer-unless (handle_number es) (pointer_number es) (pointer_number left) place
+            (λ k e. number_from-set 0 (points_to k) es h (Pointer place) Disposed at (flip k place e) refl) zone'
+            none)

@@ -1,0 +1,181 @@
+use Rattle.std.proofs.Common.{◌≡◌, ℕ, ◌+◌, ◌-◌, ◌≤◌, Bool, List, length, refl, sym, ◌∙◌, ap, cond, map, arith, Option}
+use Rattle.std.proofs.Common.{None, Result, Ok, Err, subst}
+use Rattle.mac_words.specs.Size.{phys}
+use Rattle.mac_words.specs.declared.code.OsErr.{OsErr}
+use Rattle.mac_words.specs.declared.code.TheConstants.OsErr.{NO_ERR, MEM_FULL}
+use Rattle.block_store.specs.Block.{Block, sizes, free_sum, rename}
+use Rattle.block_store.specs.Run.{runs}
+use Rattle.block_store.specs.Room.{purge, may_go}
+use Rattle.block_store.specs.Compact.{least_or_last, runs_settled, has_room, largest_free, settled, compacted}
+use Rattle.block_store.specs.Rest.{Rest, Site, counted, IsRest}
+use Rattle.block_store.proofs.Renamed.Renaming.{total-rename, is_purgeable-rename, purge-rename}
+use Rattle.block_store.proofs.Plain.Trials.{least_or_last-le, least_or_last-none}
+use Rattle.heap_calls.specs.declared.log.Log.{Log}
+use Rattle.heap_calls.specs.declared.anchor.Anchor.{Anchor}
+use Rattle.heap_calls.specs.State.{State, Memory, Meaning}
+use Rattle.heap_calls.specs.Answer.{nothing, silent, noting, searching}
+use Rattle.heap_calls.specs.Purging.{purgeable, blocks_purged, purged_all, purge_mem, purge_space, max_mem}
+use Rattle.heap_calls.specs.Searches.{purge_mem_searches}
+use Rattle.heap_calls.specs.Inner.Numbered.{state_of, memory_of, name_of, handle_number, pointer_number}
+use Rattle.block_store.specs.declared.sparing.Sparing.TheVariants as sparing
+use Rattle.heap_calls.proofs.Room.Searching.{most-le}
+use Rattle.block_store.proofs.Regroup.Settling.{runs-few}
+use Rattle.heap_calls.proofs.Numbering.Largest.{has_room-rename, largest_free-rename, runs-rename, settled-rename}
+use Rattle.heap_calls.proofs.Numbering.Changing.{names-same, silent-done, free_sum-rename}
+use Rattle.std.proofs.lemmas.List.{length-map}
+
+-- Purging sees no names.
+
+-- a count of looks fits
+pub runs_settled-few : (p : Option ℕ) (zone : List Block) → runs_settled p zone ≤ sizes zone + 1
+runs_settled-few p zone = omega (
+  arith,
+  least_or_last-le (λ k. has_room p (settled k zone)) (length (runs zone)),
+  runs-few zone,
+)
+
+pub blocks_purged-few : (p : Option ℕ) (zone : List Block) → blocks_purged p zone ≤ sizes zone
+blocks_purged-few p zone = omega (
+  arith,
+  least_or_last-le (λ k. has_room p (purge k nothing zone)) (purgeable zone),
+  most-le sparing.Nothing zone,
+)
+
+-- where no size is given all are emptied
+pub blocks_purged-none : (zone : List Block) → blocks_purged None zone ≡ purgeable zone
+blocks_purged-none zone = least_or_last-none (purgeable zone)
+
+pub purgeable-rename : (f g : ℕ → ℕ) (zone : List Block) → purgeable (rename f g zone) ≡ purgeable zone
+purgeable-rename f g zone = total-rename f g (λ b. cond (may_go nothing b) 1 0) (λ b. cond (may_go nothing b) 1 0)
+    (λ b. rw (is_purgeable-rename f g b) refl) zone
+
+pub blocks_purged-rename : (f g : ℕ → ℕ) (p : Option ℕ) (zone : List Block)
+    → blocks_purged p (rename f g zone) ≡ blocks_purged p zone
+blocks_purged-rename f g p zone =
+    ap (λ (test : ℕ → Bool). least_or_last test (purgeable (rename f g zone)))
+    (λ i k. (ap (has_room p) (purge-rename f g nothing nothing (λ b. refl) k zone)
+    ∙ has_room-rename f g p (purge k nothing zone)) i)
+    ∙ ap (least_or_last (λ k. has_room p (purge k nothing zone))) (purgeable-rename f g zone)
+
+-- the zone in which blocks were purged for a size
+pub purged_for-rename : (f g : ℕ → ℕ) (p : Option ℕ) (zone : List Block)
+    → purge (blocks_purged p (rename f g zone)) nothing (rename f g zone)
+    ≡ rename f g (purge (blocks_purged p zone) nothing zone)
+purged_for-rename f g p zone = ap (λ k. purge k nothing (rename f g zone)) (blocks_purged-rename f g p zone)
+    ∙ purge-rename f g nothing nothing (λ b. refl) (blocks_purged p zone) zone
+
+pub purged_all-rename : (f g : ℕ → ℕ) (zone : List Block) → purged_all (rename f g zone) ≡ rename f g (purged_all zone)
+purged_all-rename f g zone = ap (λ k. purge k nothing (rename f g zone)) (purgeable-rename f g zone)
+    ∙ purge-rename f g nothing nothing (λ b. refl) (purgeable zone) zone
+
+-- all that may be emptied is
+pub purged_all-is : (zone zone' : List Block) (k : ℕ) → k ≡ blocks_purged None zone → zone' ≡ purge k nothing zone
+    → zone' ≡ purged_all zone
+purged_all-is zone zone' k all is = is ∙ ap (λ n. purge n nothing zone) (all ∙ blocks_purged-none zone)
+
+-- a call that looked for room so many times
+pub searching-done : {T : Type 0} (n m : ℕ) (a : Result T OsErr × Memory) (r : Result T OsErr) (mid new : Memory)
+    → a ≡ (r, mid) → n ≡ m → new ≡ record mid { log = record mid.log { searches = counted mid.log.searches m } }
+    → searching n a ≡ (r, new)
+searching-done n m a r mid new is same e = ap (searching n) is ∙ ap (λ k. searching k (r, mid)) same
+    ∙ ap (λ (m : Memory). (r, m)) (sym e)
+
+-- what PurgeMem tells
+abbrev pub served_answer : Bool → Result (Unit {0}) OsErr
+served_answer t = cond t (Ok tt) (Err MEM_FULL)
+
+-- the answer of PurgeMem, where so many blocks were emptied
+pub purge_mem-done : (value : Memory) (n : ℕ) (zone zone' : List Block) (rest rest' : Rest) (es : List Anchor)
+    (log : Log) (served : Bool) → memory_of zone rest es log ≡ value
+    → zone' ≡ purge (blocks_purged (phys n) zone) nothing zone
+    → IsRest rest rest' → served ≡ has_room (phys n) zone' → silent (purge_mem n) value
+    ≡ (served_answer served, memory_of zone' rest' es log)
+purge_mem-done value n zone zone' rest rest' es log served is done now room =
+    silent-done (purge_mem n) value zone zone' rest rest' es es log (served_answer served) is
+    (ap (λ z. (served_answer (has_room (phys n) z), record state { zone = z }))
+    (purged_for-rename f g (phys n) zone ∙ ap (rename f g) (sym done))
+    ∙ ap (λ t. (served_answer t, record state { zone = rename f g zone' }))
+    (has_room-rename f g (phys n) zone' ∙ sym room)
+    ∙ ap (λ l. (served_answer served, record { zone = rename f g zone'; names = l }))
+    (sym (names-same rest.slots rest'.slots es (λ h s at. now.slots s))))
+    now.window now.moves
+  where
+    f : ℕ → ℕ
+    f = handle_number es
+
+    g : ℕ → ℕ
+    g = pointer_number es
+
+    state : State
+    state = state_of zone rest.slots es
+
+pub purge_mem_searches-is : (value : Memory) (n : ℕ) (zone : List Block) (rest : Rest) (es : List Anchor) (log : Log)
+    → memory_of zone rest es log ≡ value → purge_mem_searches n value.heap ≡ blocks_purged (phys n) zone + 1
+purge_mem_searches-is value n zone rest es log is =
+    ap (λ (m : Memory). purge_mem_searches n m.heap) (sym is) ∙ ap (λ k. k + 1)
+    (blocks_purged-rename (handle_number es) (pointer_number es) (phys n) zone)
+
+-- the answer of PurgeSpace
+pub purge_space-done : (value : Memory) (zone all : List Block) (rest : Rest) (es : List Anchor) (log : Log)
+    (total bytes most : ℕ) → memory_of zone rest es log ≡ value → all ≡ purged_all zone
+    → total ≡ free_sum all → bytes ≡ largest_free all → most ≡ bytes - 16
+    → noting purge_space value ≡ (Ok (total, most), memory_of zone rest es (record log { code = NO_ERR }))
+purge_space-done value zone all rest es log total bytes most is done sum free less =
+    let P : Memory → Type 0 = λ m. noting purge_space m ≡ (
+      Ok (total, most),
+      memory_of zone rest es
+          (record log { code = NO_ERR }),
+    ) in
+    let after : Memory = memory_of zone rest es (record log { code = NO_ERR }) in
+    subst P is
+    (ap (λ (z : List Block). (Ok (free_sum z, largest_free z - 16), after))
+    (purged_all-rename (handle_number es) (pointer_number es) zone
+    ∙ ap (rename (handle_number es) (pointer_number es)) (sym done))
+    ∙ ap (λ (k : ℕ). (Ok (k, largest_free (rename (handle_number es) (pointer_number es) all) - 16), after))
+    (free_sum-rename (handle_number es) (pointer_number es) all ∙ sym sum)
+    ∙ ap (λ (k : ℕ). (Ok (total, k), after)) (ap (λ k. k - 16)
+    (largest_free-rename (handle_number es) (pointer_number es) all ∙ sym free) ∙ sym less))
+
+-- the zone with all runs settled
+abbrev pub settled_all : List Block → List Block
+settled_all zone = settled (length (runs zone)) zone
+
+settled_all-rename : (f g : ℕ → ℕ) (zone : List Block) → settled_all (rename f g zone) ≡ rename f g (settled_all zone)
+settled_all-rename f g zone = ap (λ k. settled k (rename f g zone))
+    (ap length (runs-rename f g zone) ∙ length-map (runs zone) (rename f g))
+    ∙ settled-rename f g (length (runs zone)) zone
+
+-- the answer of MaxMem
+pub max_mem-done : (value : Memory) (zone all zone' : List Block) (rest rest' : Rest) (es : List Anchor) (log : Log)
+    (bytes most : ℕ) → memory_of zone rest es log ≡ value → all ≡ purged_all zone → zone' ≡ compacted None all
+    → IsRest rest rest' → bytes ≡ largest_free zone' → most ≡ bytes - 16
+    → noting max_mem value ≡ (Ok most, memory_of zone' rest' es (record log { code = NO_ERR }))
+max_mem-done value zone all zone' rest rest' es log bytes most is done packed now free less =
+    let P : Memory → Type 0 = λ m. noting max_mem m ≡ (Ok most, memory_of zone' rest' es (record log { code = NO_ERR }))
+    in
+    let end : settled_all all ≡ zone' = ap (λ k. settled k all) (sym (least_or_last-none (length (runs all))))
+    ∙ sym packed in
+    subst P is
+    (ap (λ z. (Ok (largest_free z - 16), after z (map (name_of rest.slots) es) rest.moves rest.window))
+    (ap settled_all (purged_all-rename f g zone ∙ ap (rename f g) (sym done)) ∙ settled_all-rename f g all
+    ∙ ap (rename f g) end)
+    ∙ ap (λ k. (Ok k, after (rename f g zone') (map (name_of rest.slots) es) rest.moves rest.window))
+    (ap (λ k. k - 16) (largest_free-rename f g zone' ∙ sym free) ∙ sym less)
+    ∙ ap (λ l. (Ok most, after (rename f g zone') l rest.moves rest.window))
+    (sym (names-same rest.slots rest'.slots es (λ h s at. now.slots s)))
+    ∙ ap (λ m. (Ok most, after (rename f g zone') (map (name_of rest'.slots) es) m rest.window)) (sym now.moves)
+    ∙ ap (λ w. (Ok most, after (rename f g zone') (map (name_of rest'.slots) es) rest'.moves w)) (sym now.window))
+  where
+    f : ℕ → ℕ
+    f = handle_number es
+
+    g : ℕ → ℕ
+    g = pointer_number es
+
+    after : List Block → List Meaning → ℕ → Site → Memory
+    after z l m w = record {
+      heap = record { zone = z; names = l };
+      log = record log { code = NO_ERR };
+      moves = m;
+      window = w;
+    }

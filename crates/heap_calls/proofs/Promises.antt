@@ -1,0 +1,11 @@
+pub mod Knowing
+pub mod KnownChanges
+pub mod LastPutLaws
+pub mod Fullness
+pub mod AlikeCalls
+pub mod LockedLaws
+pub mod StandingLaws
+pub mod FewSearches
+pub mod EmptyingLaws
+pub mod RefusedCalls
+pub mod AtMostOnce

@@ -1,0 +1,77 @@
+use Rattle.std.proofs.Common.{ℕ, ◌+◌, ◌≤◌, zero, suc, Bool, true, false, List, [], ◌∷◌, refl, cond, arith, map, length}
+use Rattle.mac_words.specs.Size.{phys}
+use Rattle.block_store.specs.Block.{Block, Free, Fixed, Masters, Relocatable, size, count, is_mover}
+use Rattle.block_store.specs.Run.{in_run, Stretch, Segments, segments, runs}
+use Rattle.block_store.specs.Room.{may_go, emptied, purge}
+use Rattle.block_store.specs.Compact.{falls, runs_settled}
+use Rattle.block_store.specs.Rest.{falling}
+use Rattle.block_store.proofs.Zone.Tidy.{total-tidy}
+use Rattle.heap_calls.specs.State.{State}
+use Rattle.heap_calls.specs.Answer.{nothing}
+use Rattle.heap_calls.specs.Moves.{compact_mem_moves, max_mem_moves}
+use Rattle.heap_calls.specs.Purging.{purged_all, purgeable}
+
+-- Compaction moves each block at most once: it moves no more than may be moved.
+
+falling-le : (run : List Block) → falling run ≤ count is_mover run
+falling-le [] = omega arith
+falling-le (Free n ∷ run) = omega arith
+falling-le (Fixed id content ∷ run) = omega (arith, falling-le run)
+falling-le (Masters ∷ run) = omega (arith, falling-le run)
+falling-le (Relocatable id flags content ∷ run) = omega (arith, falling-le run)
+
+abbrev movers_in : List (List Block) → ℕ
+movers_in [] = 0
+movers_in (run ∷ rs) = count is_mover run + movers_in rs
+
+falls-le : (k : ℕ) (rs : List (List Block)) → falls k rs ≤ movers_in rs
+falls-le zero rs = omega arith
+falls-le (suc k) [] = omega arith
+falls-le (suc k) (run ∷ rs) = omega (arith, falling-le run, falls-le k rs)
+
+abbrev in_segments : Segments → ℕ
+in_segments s = count is_mover s.first + movers_in (map (λ (p : Stretch). p.run) s.rest)
+
+segments-le : (zone : List Block) → in_segments (segments zone) ≤ count is_mover zone
+segments-le [] = omega arith
+segments-le (b ∷ above) = cases (in_run b) (segments-le above)
+  where
+    cases : (t : Bool) → in_segments (segments above) ≤ count is_mover above
+        → in_segments (cond t (record { first = b ∷ (segments above).first; rest = (segments above).rest })
+        (record { first = []; rest = record { barrier = b; run = (segments above).first } ∷ (segments above).rest }))
+        ≤ cond {A = ℕ} (is_mover b) 1 0 + count is_mover above
+    cases true le = omega (arith, le)
+    cases false le = omega (arith, le)
+
+falls_of-le : (k : ℕ) (zone : List Block) → falls k (runs zone) ≤ count is_mover zone
+falls_of-le k zone = omega (arith, falls-le k (runs zone), segments-le zone)
+
+emptied-le : (k : ℕ) (sp : Block → Bool) (bs : List Block) → count is_mover (emptied k sp bs) ≤ count is_mover bs
+emptied-le zero sp bs = omega arith
+emptied-le (suc k) sp [] = omega arith
+emptied-le (suc k) sp (b ∷ bs) = cases (may_go sp b) (emptied-le k sp bs) (emptied-le (suc k) sp bs)
+  where
+    cases : (m : Bool) → count is_mover (emptied k sp bs) ≤ count is_mover bs
+        → count is_mover (emptied (suc k) sp bs) ≤ count is_mover bs
+        → count is_mover (cond m (Free (size b) ∷ emptied k sp bs) (b ∷ emptied (suc k) sp bs)) ≤ cond {A = ℕ}
+        (is_mover b) 1 0 + count is_mover bs
+    cases true one more = omega (arith, one)
+    cases false one more = omega (arith, more)
+
+purged-le : (k : ℕ) (sp : Block → Bool) (bs : List Block) → count is_mover (purge k sp bs) ≤ count is_mover bs
+purged-le k sp bs =
+    let e = total-tidy (λ (b : Block). cond {A = ℕ} (is_mover b) 1 0) (λ n m. refl) (emptied k sp bs) in
+    omega (arith, emptied-le k sp bs, e)
+
+-- CompactMem
+pub compact_mem_once : (n : ℕ) (s : State) → compact_mem_moves n s ≤ count is_mover s.zone
+compact_mem_once n s = falls_of-le (runs_settled (phys n) s.zone) s.zone
+
+-- MaxMem
+pub max_mem_once : (s : State) → max_mem_moves s ≤ count is_mover s.zone
+max_mem_once s = omega (
+  arith,
+  falls_of-le (length (runs (purged_all s.zone))) (purged_all s.zone),
+  purged-le
+      (purgeable s.zone) nothing s.zone,
+)

@@ -1,0 +1,723 @@
+use Rattle.std.proofs.Common.{◌≡◌, ℕ, ◌+◌, ◌/◌, ◌%◌, ◌≤◌, Bool, true, false, not, ◌&&◌, ◌||◌, ◌==◌, List, [], ◌∷◌, ◌++◌}
+use Rattle.std.proofs.Common.{length, slice_set, refl, sym, ◌∙◌, ap, subst, cond, arith, Option, Some, None, Result, Ok}
+use Rattle.std.proofs.Common.{Err, replicate, nat_le, nat_lt}
+use Rattle.std.proofs.lemmas.Bool.{cond-false}
+use Rattle.std.proofs.lemmas.Bool.Decides.{Decides-eqb}
+use Rattle.std.proofs.lemmas.Option.{same_Some}
+use Rattle.std.specs.Option.{option_map}
+use Rattle.std.specs.Prelude.{IsTrue, is_some, unwrap_or, if◌then◌else◌}
+use Rattle.mac_words.specs.Size.{phys}
+use Rattle.mac_words.specs.declared.code.OsErr.{OsErr}
+use Rattle.mac_words.specs.declared.code.TheConstants.OsErr.{MEM_FULL, LOCKED, PROFILE, PURGED}
+use Rattle.block_store.specs.declared.flags.Flags.{Flags}
+use Rattle.block_store.specs.Block.{Block, Free, Fixed, Masters, Relocatable, sizes, total, count, is_mover}
+use Rattle.block_store.specs.Block.{is_purgeable, is_masters, is_relocatable, is_fixed, content_of, with_content}
+use Rattle.block_store.specs.Block.{no_flags, tidy, resized}
+use Rattle.windows.specs.Writes.{written}
+use Rattle.block_store.specs.Run.{change_run, has, high, runs}
+use Rattle.block_store.specs.Room.{Spot, spot, put_in_place, put_at_base, room}
+use Rattle.block_store.specs.Grow.{freed, grow}
+use Rattle.block_store.specs.Compact.{runs_settled}
+use Rattle.block_store.proofs.Zone.Tidy.{spot-is, spot-passes}
+use Rattle.block_store.proofs.Zone.Totals.{total-append, total-le}
+use Rattle.block_store.proofs.Zone.Leading.{count-none}
+use Rattle.block_store.proofs.Zone.Passing.{has-count}
+use Rattle.heap_calls.specs.State.{State, Memory, Role, Plain, Resource, SystemResource, used_slots, all_slots}
+use Rattle.heap_calls.specs.State as names
+use Rattle.heap_calls.specs.Answer.{Answer, Held, nothing, given, refused, disposed_of, rebuilt, flagged, change_flags}
+use Rattle.heap_calls.specs.Answer.{hoisted, move_hhi, look_up, handle_at, for_found, written_at, on_block}
+use Rattle.heap_calls.specs.Answer as calls
+use Rattle.heap_calls.specs.Slots.{slotted, if_ready, new_block, more_masters}
+use Rattle.heap_calls.specs.Pointers.{pointed_at, block_named, reserved, reserve_mem}
+use Rattle.heap_calls.specs.Purging.{is_resource, block_bits, emptied_at, is_loose, reallocated, blocks_purged}
+use Rattle.heap_calls.specs.Purging.{purgeable}
+use Rattle.heap_calls.specs.Purging as purging
+use Rattle.heap_calls.specs.Copying.{append, appended, written_in}
+use Rattle.heap_calls.specs.Asked.{Asked, answered}
+use Rattle.heap_calls.specs.Asked as asked
+use Rattle.heap_calls.specs.Locked.{OneBlockEach}
+use Rattle.heap_calls.specs.Emptying.{may_be_emptied, OnlyPurgeableGo}
+use Rattle.block_store.proofs.Zone.Views.{map-some}
+use Rattle.block_store.proofs.Zone.Keeping.{unless, tidied, freed-is}
+use Rattle.heap_calls.proofs.Promises.Knowing.{look_up-spot, pointed_at-spot}
+use Rattle.heap_calls.proofs.Promises.LastPutLaws.{found-same, handle_at-name}
+use Rattle.heap_calls.proofs.Promises.AlikeCalls.{flagged-number}
+use Rattle.block_store.proofs.Zone.Surviving.{changed-all, high-all, settled-all, purged-all, made-all, base-all}
+use Rattle.block_store.proofs.Zone.Surviving.{grown-all}
+
+-- Each block that may not be emptied is there after each call that doesn't let it go.
+
+-- blocks that pass come to nothing
+abbrev pub Unseen : (Block → ℕ) → (Block → Bool) → Type 0
+Unseen of test = (b : Block) → test b ≡ true → of b ≡ 0
+
+-- a block doesn't come to less with other flags
+abbrev pub Rises : (Block → ℕ) → (Flags → Flags) → Type 0
+Rises of change = (b : Block) → of b ≤ of (flagged change b)
+
+-- a call lets only blocks go that come to nothing
+abbrev pub Spares : (Block → ℕ) → Asked → Type 0
+Spares of (asked.DisposeHandle (Some k)) = Unseen of (is_relocatable k)
+Spares of (asked.EmptyHandle (Some k)) = Unseen of (is_relocatable k)
+Spares of (asked.ReallocateHandle (Some k) n) = Unseen of (is_relocatable k)
+Spares of (asked.DisposePtr (Some p)) = Unseen of (is_fixed p)
+Spares of (asked.HLock handle) = Rises of (λ f. record f { locked = true })
+Spares of (asked.HUnlock handle) = Rises of (λ f. record f { locked = false })
+Spares of (asked.HPurge handle) = Rises of (λ f. record f { purgeable = true })
+Spares of (asked.HNoPurge handle) = Rises of (λ f. record f { purgeable = false })
+Spares of (asked.HSetState handle byte) = Rises of (λ f. record {
+  locked = byte / 128 % 2 == 1;
+  purgeable = byte / 64 %
+      2 == 1;
+})
+Spares of (asked.HLockHi handle) = Rises of (λ f. record f { locked = true })
+Spares of asked = Unit {0}
+
+-- a block at a spot that comes to no less
+swapped-rises : (of : Block → ℕ) (test : Block → Bool) (zone : List Block) (at : Spot) (new : Block)
+    → spot test zone ≡ Some at → of at.here ≤ of new → total of zone ≤ total of (at.below ++ new ∷ at.above)
+swapped-rises of test zone at new found le = omega (
+  arith,
+  ap (total of) (spot-is test zone at found),
+  total-append of
+      at.below (at.here ∷ at.above),
+  total-append of at.below (new ∷ at.above),
+)
+
+-- other flags
+flags-rise : (of : Block → ℕ) (change : Flags → Flags) → Rises of change → (handle : Option ℕ) (s : State)
+    → total of s.zone ≤ total of (change_flags change handle s).1.zone
+flags-rise of change rises None s = omega arith
+flags-rise of change rises (Some k) s = by_spot (look_up (Some k) s) (λ held is. (look_up-spot k s held is).0)
+  where
+    by_spot : (r : Result Held OsErr) → ((held : Held) → r ≡ Ok held → spot (is_relocatable k) s.zone ≡ Some held.at)
+        → total of s.zone ≤ total of (for_found {T = Unit {0}} r s
+        (λ held. (Ok tt, record s { zone = held.at.below ++ flagged change held.at.here ∷ held.at.above }))).1.zone
+    by_spot (Err code) found = omega arith
+    by_spot (Ok held) found = swapped-rises of (is_relocatable k) s.zone held.at (flagged change held.at.here)
+        (found held refl) (rises held.at.here)
+
+module _ (of : Block → ℕ) (none : (n : ℕ) → of (Free n) ≡ 0) (goes : (b : Block) → is_purgeable b ≡ true → of b ≡ 0)
+    (sized : (n : ℕ) (b : Block) → of b ≡ of (resized n b)) (filled : (x : List ℕ) (b : Block)
+    → of b ≡ of (with_content x b))
+  where
+    -- a state that is as it was
+    unmoved : (s t : State) → t ≡ s → total of s.zone ≤ total of t.zone
+    unmoved s t e = let z : total of t.zone ≡ total of s.zone = ap (λ (x : State). total of x.zone) e in omega arith
+
+    -- what was found is dealt with
+    of-found : {A T : Type 0} (r : Result A OsErr) (s : State) (answer : A → Answer T)
+        → ((k : A) → r ≡ Ok k → total of s.zone ≤ total of (answer k).1.zone)
+        → total of s.zone ≤ total of (for_found r s answer).1.zone
+    of-found (Err code) s answer each = omega arith
+    of-found (Ok k) s answer each = each k refl
+
+    of-rebuilt : (s : State) (o : Option (List Block)) → ((zone : List Block) → o ≡ Some zone
+        → total of s.zone ≤ total of zone) → total of s.zone ≤ total of (rebuilt o s).1.zone
+    of-rebuilt s None made = omega arith
+    of-rebuilt s (Some zone) made = made zone refl
+
+    of-slotted : (sp : Block → Bool) (s r : State) → slotted sp s ≡ Some r → total of s.zone ≤ total of r.zone
+    of-slotted sp s r e = by_slots (nat_lt (used_slots s) (all_slots s)) e
+      where
+        by_slots : (t : Bool) → cond t (Some s) (more_masters sp s) ≡ Some r → total of s.zone ≤ total of r.zone
+        by_slots true e = unmoved s r (sym (same_Some _ _ e))
+        by_slots false e =
+            map-some (λ zone. record s { zone = zone }) (room (put_at_base Masters) sp s.zone) r
+            (total of s.zone ≤ total of r.zone) e
+            (λ zone made is. let l = base-all of none goes Masters sp s.zone zone made in
+            let z : total of zone ≡ total of r.zone = ap (λ (x : State). total of x.zone) is in omega arith)
+
+    of-made : (sp : Block → Bool) (x : List ℕ) (s : State) → total of s.zone ≤ total of (new_block sp x s).1.zone
+    of-made sp x s = by_room (room (put_in_place (Relocatable (length s.names) no_flags x)) sp s.zone) refl
+      where
+        by_room : (o : Option (List Block)) → room (put_in_place (Relocatable (length s.names) no_flags x)) sp s.zone
+            ≡ o → total of s.zone ≤ total of (given (names.Handle Plain) o s).1.zone
+        by_room None e = omega arith
+        by_room (Some zone) e = made-all of none goes (Relocatable (length s.names) no_flags x) sp s.zone zone e
+
+    of-ready : {T : Type 0} (sp : Block → Bool) (s : State) (answer : State → Answer T)
+        → ((r : State) → total of r.zone ≤ total of (answer r).1.zone)
+        → total of s.zone ≤ total of (if_ready (slotted sp s) s answer).1.zone
+    of-ready sp s answer next = by_ready (slotted sp s) (of-slotted sp s)
+      where
+        by_ready : (o : Option State) → ((r : State) → o ≡ Some r → total of s.zone ≤ total of r.zone)
+            → total of s.zone ≤ total of (if_ready o s answer).1.zone
+        by_ready None ready = omega arith
+        by_ready (Some r) ready = let a = ready r refl in let b = next r in omega arith
+
+    of-hoisted : (k : ℕ) (zone : List Block) → total of zone ≤ total of (hoisted k zone)
+    of-hoisted k zone =
+        cases (change_run (has (is_relocatable k)) (high (is_relocatable k)) zone)
+        (λ z e. changed-all of none (has (is_relocatable k)) (high (is_relocatable k))
+        (λ run one. let h = high-all of none (is_relocatable k) run one in omega arith) zone z e)
+      where
+        cases : (o : Option (List Block)) → ((z : List Block) → o ≡ Some z → total of zone ≤ total of z)
+            → total of zone ≤ total of (unwrap_or (option_map tidy o) zone)
+        cases None less = omega arith
+        cases (Some z) less = let l = less z refl in omega (arith, tidied of none z)
+
+    of-moved : (handle : Option ℕ) (s : State) → total of s.zone ≤ total of (move_hhi handle s).1.zone
+    of-moved handle s = of-found (look_up handle s) s (λ held. if is_mover held.at.here
+        then (Ok tt, record s { zone = hoisted held.number s.zone }) else refused LOCKED s)
+        (λ held is. by_mover held.number (is_mover held.at.here))
+      where
+        by_mover : (k : ℕ) (t : Bool) → total of s.zone ≤ total of
+            (cond t (let done : Answer (Unit {0}) = (Ok tt, record s { zone = hoisted k s.zone }) in
+            done) (refused LOCKED s)).1.zone
+        by_mover k true = of-hoisted k s.zone
+        by_mover k false = omega arith
+
+    of-put_at : (test : Block → Bool) (i : ℕ) (x : List ℕ) (s : State) (at : Spot) → spot test s.zone ≡ Some at
+        → total of s.zone ≤ total of (written_at i x at s).1.zone
+    of-put_at test i x s at found = by_test (nat_le (i + length x) (length (content_of at.here)))
+      where
+        new : Block
+        new = with_content (written i x (content_of at.here)) at.here
+
+        by_test : (t : Bool) → total of s.zone ≤ total of (cond t
+            (let done : Answer (Unit {0}) = (Ok tt, record s { zone = at.below ++ new ∷ at.above }) in
+            done) (refused PROFILE s)).1.zone
+        by_test true = swapped-rises of test s.zone at new found
+            (let f = filled (written i x (content_of at.here)) at.here in omega arith)
+        by_test false = omega arith
+
+    of-sized : (k : ℕ) (sp : Block → Bool) (n : ℕ) (zone z : List Block) → OneBlockEach zone
+        → grow (is_relocatable k) sp n zone ≡ Some z → total of zone ≤ total of z
+    of-sized k sp n zone z once = grown-all of none goes sized (is_relocatable k) sp n zone z (λ s found mover. once k)
+
+    of-appended : (sp : Block → Bool) (k len : ℕ) (x : List ℕ) (s : State) → OneBlockEach s.zone
+        → total of s.zone ≤ total of (append sp k len x s).1.zone
+    of-appended sp k len x s once = by_size (is_some (phys (len + length x)))
+      where
+        grew : Option (List Block)
+        grew = grow (is_relocatable k) sp (len + length x) s.zone
+
+        by_spot : (zone : List Block) (o : Option Spot) → spot (is_relocatable k) zone ≡ o
+            → total of zone ≤ total of (written_in k len x zone o)
+        by_spot zone None found = omega arith
+        by_spot zone (Some at) found =
+            swapped-rises of (is_relocatable k) zone at (with_content (written len x (content_of at.here)) at.here)
+            found (let f = filled (written len x (content_of at.here)) at.here in omega arith)
+
+        by_zone : (o : Option (List Block)) → grew ≡ o → total of s.zone ≤ total of (appended sp k len x o s).1.zone
+        by_zone None e = omega arith
+        by_zone (Some zone) e = let a = of-sized k sp (len + length x) s.zone zone once e in
+            let b = by_spot zone (spot (is_relocatable k) zone) refl in omega arith
+
+        by_size : (t : Bool) → total of s.zone ≤ total of (cond t (appended sp k len x grew s)
+            (refused MEM_FULL s)).1.zone
+        by_size true = by_zone grew refl
+        by_size false = omega arith
+
+    -- blocks that come to nothing are Free
+    of-freed : (test : Block → Bool) → Unseen of test → (bs : List Block) → total of bs ≡ total of (freed test bs)
+    of-freed test unseen bs = sym (freed-is of none test bs ∙ rest bs)
+      where
+        rest : (bs : List Block) → total (unless test of) bs ≡ total of bs
+        rest [] = refl
+        rest (b ∷ bs) = cases (test b) refl (rest bs)
+          where
+            cases : (t : Bool) → test b ≡ t → total (unless test of) bs ≡ total of bs
+                → cond t 0 (of b) + total (unless test of) bs ≡ of b + total of bs
+            cases true e r = omega (arith, unseen b e)
+            cases false e r = omega arith
+
+    of-gone : (test : Block → Bool) → Unseen of test → (zone : List Block)
+        → total of zone ≤ total of (tidy (freed test zone))
+    of-gone test unseen zone = omega (arith, of-freed test unseen zone, tidied of none (freed test zone))
+
+    -- each call
+    pub of-answered : (a : Asked) (m : Memory) → OneBlockEach m.heap.zone → Spares of a
+        → total of m.heap.zone ≤ total of (answered a m).1.heap.zone
+    of-answered (asked.NewHandle n) m once spares =
+        of-ready nothing m.heap (λ ready. if is_some (phys n) then new_block nothing (replicate n 0) ready
+        else refused MEM_FULL ready) (λ r. by_size r (is_some (phys n)))
+      where
+        by_size : (r : State) (t : Bool) → total of r.zone ≤ total of
+            (cond t (new_block nothing (replicate n 0) r) (refused MEM_FULL r)).1.zone
+        by_size r true = of-made nothing (replicate n 0) r
+        by_size r false = omega arith
+    of-answered asked.NewEmptyHandle m once spares = of-ready nothing m.heap
+        (λ ready. given (names.Handle Plain) (Some ready.zone) ready) (λ r. omega arith)
+    of-answered (asked.DisposeHandle None) m once spares = omega arith
+    of-answered (asked.DisposeHandle (Some k)) m once spares =
+        of-found (handle_at (Some k) m.heap) m.heap (λ found. disposed_of found.role found.number m.heap)
+        (λ found is. subst (λ (j : ℕ). total of m.heap.zone ≤ total of (disposed_of found.role j m.heap).1.zone)
+        (sym (handle_at-name k m.heap found is).1) (by_role found.role))
+      where
+        by_role : (role : Role) → total of m.heap.zone ≤ total of (disposed_of role k m.heap).1.zone
+        by_role Plain = of-gone (is_relocatable k) spares m.heap.zone
+        by_role Resource = omega arith
+        by_role SystemResource = omega arith
+    of-answered (asked.GetHandleSize handle) m once spares =
+        unmoved m.heap (answered (asked.GetHandleSize handle) m).1.heap
+        (found-same (look_up handle m.heap) m.heap (λ held. (Ok (length (content_of held.at.here)), m.heap))
+        (λ held. refl))
+    of-answered (asked.SetHandleSize handle n) m once spares =
+        of-found (look_up handle m.heap) m.heap (λ held. if is_some (phys n)
+        then rebuilt (grow (is_relocatable held.number) (is_relocatable held.number) n m.heap.zone) m.heap
+        else refused MEM_FULL m.heap)
+        (λ held is. by_size held.number (is_some (phys n)))
+      where
+        by_size : (j : ℕ) (t : Bool) → total of m.heap.zone ≤ total of
+            (cond t (rebuilt (grow (is_relocatable j) (is_relocatable j) n m.heap.zone) m.heap)
+            (refused MEM_FULL m.heap)).1.zone
+        by_size j true = of-rebuilt m.heap (grow (is_relocatable j) (is_relocatable j) n m.heap.zone)
+            (λ zone e. of-sized j (is_relocatable j) n m.heap.zone zone once e)
+        by_size j false = omega arith
+    of-answered (asked.ReallocateHandle None n) m once spares = omega arith
+    of-answered (asked.ReallocateHandle (Some h) n) m once spares =
+        of-found (handle_at (Some h) m.heap) m.heap (λ k. answer k.number)
+        (λ k is. subst (λ (j : ℕ). total of zone ≤ total of (answer j).1.zone) (sym (handle_at-name h m.heap k is).1)
+        (by_tests (is_loose (spot (is_relocatable h) zone)) (is_some (phys n))))
+      where
+        zone : List Block
+        zone = m.heap.zone
+
+        answer : ℕ → Answer (Unit {0})
+        answer j = if is_loose (spot (is_relocatable j) zone) then
+            (if is_some (phys n) then rebuilt (reallocated j n zone) m.heap else refused MEM_FULL m.heap)
+            else refused PURGED m.heap
+
+        by_tests : (t u : Bool) → total of zone ≤ total of (cond t
+            (cond u (rebuilt (reallocated h n zone) m.heap) (refused MEM_FULL m.heap)) (refused PURGED m.heap)).1.zone
+        by_tests true true =
+            of-rebuilt m.heap (reallocated h n zone)
+            (λ z made. let l = made-all of none goes (Relocatable h no_flags (replicate n 0)) nothing
+            (freed (is_relocatable h) zone) z made in let f = of-freed (is_relocatable h) spares zone in
+            omega arith)
+        by_tests true false = omega arith
+        by_tests false u = omega arith
+    of-answered (asked.EmptyHandle None) m once spares = omega arith
+    of-answered (asked.EmptyHandle (Some h)) m once spares =
+        of-found (handle_at (Some h) m.heap) m.heap (λ k. emptied_at k.number
+        (spot (is_relocatable k.number) m.heap.zone) m.heap)
+        (λ k is. subst (λ (j : ℕ). total of m.heap.zone ≤ total of
+        (emptied_at j (spot (is_relocatable j) m.heap.zone) m.heap).1.zone) (sym (handle_at-name h m.heap k is).1)
+        (by_spot (spot (is_relocatable h) m.heap.zone)))
+      where
+        by_mover : (t : Bool) → total of m.heap.zone ≤ total of (cond t
+            (let gone : Answer (Unit {0}) = (
+              Ok tt,
+              record m.heap {
+                zone = tidy
+                    (freed (is_relocatable h) m.heap.zone);
+              },
+            ) in gone) (refused PURGED m.heap)).1.zone
+        by_mover true = of-gone (is_relocatable h) spares m.heap.zone
+        by_mover false = omega arith
+
+        by_spot : (o : Option Spot) → total of m.heap.zone ≤ total of (emptied_at h o m.heap).1.zone
+        by_spot None = omega arith
+        by_spot (Some at) = by_mover (is_mover at.here)
+    of-answered (asked.HLock handle) m once spares = flags-rise of (λ f. record f { locked = true }) spares handle
+        m.heap
+    of-answered (asked.HUnlock handle) m once spares = flags-rise of (λ f. record f { locked = false }) spares handle
+        m.heap
+    of-answered (asked.HPurge handle) m once spares = flags-rise of (λ f. record f { purgeable = true }) spares handle
+        m.heap
+    of-answered (asked.HNoPurge handle) m once spares = flags-rise of (λ f. record f { purgeable = false }) spares
+        handle m.heap
+    of-answered (asked.HGetState handle) m once spares =
+        unmoved m.heap (answered (asked.HGetState handle) m).1.heap
+        (found-same (handle_at handle m.heap) m.heap (λ k. on_block handle m.heap
+        (λ held. (Ok (block_bits held.at.here + cond (is_resource k.role) 32 0), m.heap)))
+        (λ k. found-same (look_up handle m.heap) m.heap (λ held.
+        (Ok (block_bits held.at.here + cond (is_resource k.role) 32 0), m.heap)) (λ held. refl)))
+    of-answered (asked.HSetState handle byte) m once spares = flags-rise of
+        (λ f. record { locked = byte / 128 % 2 == 1; purgeable = byte / 64 % 2 == 1 }) spares handle m.heap
+    of-answered (asked.MoveHHi handle) m once spares = of-moved handle m.heap
+    of-answered (asked.HLockHi handle) m once spares = cases (move_hhi handle m.heap).0
+      where
+        cases : (r : Result (Unit {0}) OsErr) → total of m.heap.zone ≤ total of
+            (for_found r m.heap (λ (u : Unit {0}). calls.h_lock handle (move_hhi handle m.heap).1)).1.zone
+        cases (Err code) = omega arith
+        cases (Ok u) =
+            let a = of-moved handle m.heap in
+            let b = flags-rise of (λ f. record f { locked = true }) spares handle (move_hhi handle m.heap).1 in
+            omega arith
+    of-answered (asked.HandToHand handle) m once spares =
+        of-found (look_up handle m.heap) m.heap (λ held. if_ready (slotted (is_relocatable held.number) m.heap) m.heap
+        (new_block (is_relocatable held.number) (content_of held.at.here)))
+        (λ held is. of-ready (is_relocatable held.number) m.heap
+        (new_block (is_relocatable held.number) (content_of held.at.here))
+        (of-made (is_relocatable held.number) (content_of held.at.here)))
+    of-answered (asked.HandAndHand from to) m once spares =
+        of-found (look_up from m.heap) m.heap (λ a. for_found (look_up to m.heap) m.heap (answer a))
+        (λ a is. of-found (look_up to m.heap) m.heap (answer a)
+        (λ b is. of-appended (λ block. is_relocatable a.number block || is_relocatable b.number block) b.number
+        (length (content_of b.at.here)) (content_of a.at.here) m.heap once))
+      where
+        answer : Held → Held → Answer (Unit {0})
+        answer a b = append (λ block. is_relocatable a.number block || is_relocatable b.number block) b.number
+            (length (content_of b.at.here)) (content_of a.at.here) m.heap
+    of-answered (asked.PtrAndHand handle x) m once spares =
+        of-found (look_up handle m.heap) m.heap (λ held. append (is_relocatable held.number) held.number
+        (length (content_of held.at.here)) x m.heap)
+        (λ held is. of-appended (is_relocatable held.number) held.number (length (content_of held.at.here)) x m.heap
+        once)
+    of-answered (asked.NewPtr n) m once spares = by_size (is_some (phys n))
+      where
+        made : Option (List Block)
+        made = room (put_at_base (Fixed (length m.heap.names) (replicate n 0))) nothing m.heap.zone
+
+        by_room : (o : Option (List Block)) → made ≡ o → total of m.heap.zone ≤ total of
+            (given names.Pointer o m.heap).1.zone
+        by_room None e = omega arith
+        by_room (Some z) e = base-all of none goes (Fixed (length m.heap.names) (replicate n 0)) nothing m.heap.zone z e
+
+        by_size : (t : Bool) → total of m.heap.zone ≤ total of (cond t (given names.Pointer made m.heap)
+            (refused MEM_FULL m.heap)).1.zone
+        by_size true = by_room made refl
+        by_size false = omega arith
+    of-answered (asked.DisposePtr None) m once spares = omega arith
+    of-answered (asked.DisposePtr (Some p)) m once spares =
+        of-found (pointed_at (Some p) m.heap) m.heap (λ held. (
+          Ok tt,
+          record {
+            zone = tidy (freed (is_fixed held.number) m.heap.zone);
+            names = slice_set m.heap.names held.number
+                names.Disposed;
+          },
+        ))
+        (λ held is. subst (λ (j : ℕ). total of m.heap.zone ≤ total of (tidy (freed (is_fixed j) m.heap.zone)))
+        (sym (pointed_at-spot p m.heap held is).1) (of-gone (is_fixed p) spares m.heap.zone))
+    of-answered (asked.GetPtrSize pointer) m once spares =
+        unmoved m.heap (answered (asked.GetPtrSize pointer) m).1.heap
+        (found-same (pointed_at pointer m.heap) m.heap (λ held. (Ok (length (content_of held.at.here)), m.heap))
+        (λ held. refl))
+    of-answered (asked.SetPtrSize pointer n) m once spares =
+        of-found (pointed_at pointer m.heap) m.heap (λ held. if is_some (phys n)
+        then rebuilt (grow (is_fixed held.number) nothing n m.heap.zone) m.heap else refused MEM_FULL m.heap)
+        (λ held is. by_size held.number (is_some (phys n)))
+      where
+        still : (p : ℕ) (b : Block) (R : Type 0) → is_fixed p b ≡ true → is_mover b ≡ true → R
+        still p (Free k) R e mover = let f : false ≡ true = e in cc
+        still p (Fixed id content) R e mover = let f : false ≡ true = mover in cc
+        still p Masters R e mover = let f : false ≡ true = e in cc
+        still p (Relocatable id flags content) R e mover = let f : false ≡ true = e in cc
+
+        by_size : (j : ℕ) (t : Bool) → total of m.heap.zone ≤ total of
+            (cond t (rebuilt (grow (is_fixed j) nothing n m.heap.zone) m.heap) (refused MEM_FULL m.heap)).1.zone
+        by_size j true =
+            of-rebuilt m.heap (grow (is_fixed j) nothing n m.heap.zone)
+            (λ zone e. grown-all of none goes sized (is_fixed j) nothing n m.heap.zone zone
+            (λ s found mover. still j s.here (count (is_fixed j) m.heap.zone ≤ 1)
+            (spot-passes (is_fixed j) m.heap.zone s found) mover) e)
+        by_size j false = omega arith
+    of-answered asked.FreeMem m once spares = omega arith
+    of-answered asked.MaxBlock m once spares = omega arith
+    of-answered asked.PurgeSpace m once spares = omega arith
+    of-answered (asked.CompactMem n) m once spares = settled-all of none (runs_settled (phys n) m.heap.zone) m.heap.zone
+    of-answered (asked.PurgeMem n) m once spares = let p = purged-all of none goes (blocks_purged (phys n) m.heap.zone)
+        nothing m.heap.zone in omega arith
+    of-answered asked.MaxMem m once spares =
+        let left : List Block = purging.purged_all m.heap.zone in
+        let p = purged-all of none goes (purgeable m.heap.zone) nothing m.heap.zone in
+        let q = settled-all of none (length (runs left)) left in
+        omega arith
+    of-answered (asked.ReserveMem n) m once spares = by_size (phys n) refl
+      where
+        by_size : (o : Option ℕ) → phys n ≡ o → total of m.heap.zone ≤ total of (reserve_mem n m.heap).1.zone
+        by_size None e = rw e (let z : total of m.heap.zone ≤ total of m.heap.zone = omega arith in z)
+        by_size (Some p) e = rw e (of-rebuilt m.heap (room (reserved p) nothing m.heap.zone)
+            (λ zone made. base-all of none goes (Free p) nothing m.heap.zone zone made))
+    of-answered asked.MoreMasters m once spares = by_room (room (put_at_base Masters) nothing m.heap.zone) refl
+      where
+        by_room : (o : Option (List Block)) → room (put_at_base Masters) nothing m.heap.zone ≡ o
+            → total of m.heap.zone ≤ total of (rebuilt (option_map (λ (ready : State). ready.zone)
+            (option_map (λ zone. record m.heap { zone = zone }) o)) m.heap).1.zone
+        by_room None e = omega arith
+        by_room (Some zone) e = base-all of none goes Masters nothing m.heap.zone zone e
+    of-answered asked.MemError m once spares = omega arith
+    of-answered (asked.Put None i x) m once spares = omega arith
+    of-answered (asked.Put (Some k) i x) m once spares =
+        of-found (look_up (Some k) m.heap) m.heap (λ held. written_at i x held.at m.heap)
+        (λ held is. of-put_at (is_relocatable k) i x m.heap held.at (look_up-spot k m.heap held is).0)
+    of-answered (asked.Show handle) m once spares =
+        unmoved m.heap (answered (asked.Show handle) m).1.heap (found-same (look_up handle m.heap) m.heap
+        (λ held. (Ok (content_of held.at.here), m.heap)) (λ held. refl))
+    of-answered (asked.PutPtr None i x) m once spares = omega arith
+    of-answered (asked.PutPtr (Some p) i x) m once spares =
+        of-found (pointed_at (Some p) m.heap) m.heap (λ held. written_at i x held.at m.heap)
+        (λ held is. of-put_at (is_fixed p) i x m.heap held.at (pointed_at-spot p m.heap held is).0)
+    of-answered (asked.ShowPtr pointer) m once spares =
+        unmoved m.heap (answered (asked.ShowPtr pointer) m).1.heap
+        (found-same (pointed_at pointer m.heap) m.heap (λ held. (Ok (content_of held.at.here), m.heap))
+        (λ held. refl))
+    of-answered (asked.Where name) m once spares =
+        unmoved m.heap (answered (asked.Where name) m).1.heap (found-same (block_named name m.heap) m.heap
+        (λ held. (Ok (sizes held.at.below + 16), m.heap)) (λ held. refl))
+
+-- 1 for a block of a handle that may not be emptied
+abbrev stays : ℕ → Block → ℕ
+stays h b = cond (is_relocatable h b && not (is_purgeable b)) 1 0
+
+-- 1 for a block of a handle
+abbrev is_of : ℕ → Block → ℕ
+is_of h b = cond (is_relocatable h b) 1 0
+
+stays-goes : (h : ℕ) (b : Block) → is_purgeable b ≡ true → stays h b ≡ 0
+stays-goes h b e = ap {B = ℕ} (λ (t : Bool). cond (is_relocatable h b && not t) 1 0) e ∙ cases (is_relocatable h b)
+  where
+    cases : (t : Bool) → cond {A = ℕ} (t && false) 1 0 ≡ 0
+    cases true = refl
+    cases false = refl
+
+stays-sized : (h n : ℕ) (b : Block) → stays h b ≡ stays h (resized n b)
+stays-sized h n (Free m) = refl
+stays-sized h n (Fixed id content) = refl
+stays-sized h n Masters = refl
+stays-sized h n (Relocatable id flags content) = refl
+
+stays-filled : (h : ℕ) (x : List ℕ) (b : Block) → stays h b ≡ stays h (with_content x b)
+stays-filled h x (Free m) = refl
+stays-filled h x (Fixed id content) = refl
+stays-filled h x Masters = refl
+stays-filled h x (Relocatable id flags content) = refl
+
+-- a block that may not be emptied is one
+stays-le : (h : ℕ) (bs : List Block) → total (stays h) bs ≤ count (is_relocatable h) bs
+stays-le h bs = total-le (stays h) (is_of h) (λ b. cases (is_relocatable h b) (is_purgeable b)) bs
+  where
+    cases : (t u : Bool) → cond {A = ℕ} (t && not u) 1 0 ≤ cond {A = ℕ} t 1 0
+    cases true true = omega arith
+    cases true false = omega arith
+    cases false u = omega arith
+
+-- and each block where none may be emptied
+stays-all : (h : ℕ) (bs : List Block) → may_be_emptied h bs ≡ false → count (is_relocatable h) bs ≤ total (stays h) bs
+stays-all h [] e = omega arith
+stays-all h (b ∷ bs) e = cases (is_relocatable h b) (is_purgeable b) e (λ e. stays-all h bs e)
+  where
+    cases : (t u : Bool) → ((t && u) || may_be_emptied h bs) ≡ false
+        → (may_be_emptied h bs ≡ false → count (is_relocatable h) bs ≤ total (stays h) bs)
+        → cond {A = ℕ} t 1 0 + count (is_relocatable h) bs ≤ cond {A = ℕ} (t && not u) 1 0 + total (stays h) bs
+    cases true true e rest = let f : true ≡ false = e in cc
+    cases true false e rest = let r = rest e in omega arith
+    cases false u e rest = let r = rest e in omega arith
+
+-- a block of another handle, or of a pointer
+stays-other : (h k : ℕ) → (k == h) ≡ false → Unseen (stays h) (is_relocatable k)
+stays-other h k other (Free n) e = refl
+stays-other h k other (Fixed id content) e = refl
+stays-other h k other Masters e = refl
+stays-other h k other (Relocatable id flags content) e = cond-false
+    ((id == h) && not (is_purgeable (Relocatable id flags content))) 1 0
+    (ap (λ j. (j == h) && not (is_purgeable (Relocatable id flags content))) ((Decides-eqb id k).0 e)
+    ∙ ap (λ t. t && not (is_purgeable (Relocatable id flags content))) other)
+
+stays-pointer : (h p : ℕ) → Unseen (stays h) (is_fixed p)
+stays-pointer h p (Free n) e = refl
+stays-pointer h p (Fixed id content) e = refl
+stays-pointer h p Masters e = refl
+stays-pointer h p (Relocatable id flags content) e = let f : false ≡ true = e in cc
+
+-- flags by which a block may not be emptied
+stays-rises : (h : ℕ) (change : Flags → Flags) → ((f : Flags) → (not (change f).locked && (change f).purgeable) ≡ false)
+    → Rises (stays h) change
+stays-rises h change kept (Free n) = omega arith
+stays-rises h change kept (Fixed id content) = omega arith
+stays-rises h change kept Masters = omega arith
+stays-rises h change kept (Relocatable id flags content) =
+    let z : stays h (Relocatable id (change flags) content) ≡ cond {A = ℕ} (id == h && true) 1 0 =
+    ap {B = ℕ} (λ (t : Bool). cond (id == h && not t) 1 0) (kept flags) in
+    let l = cases (id == h) (not flags.locked && flags.purgeable) in omega arith
+  where
+    cases : (t u : Bool) → cond {A = ℕ} (t && not u) 1 0 ≤ cond {A = ℕ} (t && true) 1 0
+    cases true true = omega arith
+    cases true false = omega arith
+    cases false u = omega arith
+
+-- other flags leave each block
+is_of-rises : (h : ℕ) (change : Flags → Flags) → Rises (is_of h) change
+is_of-rises h change b = let z : is_of h (flagged change b) ≡ is_of h b =
+    ap {B = ℕ} (λ (t : Bool). cond t 1 0) (flagged-number change h b) in omega arith
+
+-- where there are no fewer blocks of a handle, none is gone
+still-there : (h : ℕ) (zone z : List Block) (R : Type 0) → has (is_relocatable h) zone ≡ true
+    → has (is_relocatable h) z ≡ false → count (is_relocatable h) zone ≤ count (is_relocatable h) z → R
+still-there h zone z R before after le = absurd (let b = has-count (is_relocatable h) zone before in
+    let a = count-none (is_relocatable h) z after in omega arith)
+
+-- a call that spares blocks that may not be emptied
+spared-stays : (h : ℕ) (a : Asked) (m : Memory) → OneBlockEach m.heap.zone → Spares (stays h) a
+    → has (is_relocatable h) m.heap.zone ≡ true → has (is_relocatable h) (answered a m).1.heap.zone ≡ false
+    → may_be_emptied h m.heap.zone ≡ true
+spared-stays h a m once spares before after = cases (may_be_emptied h m.heap.zone) refl
+  where
+    cases : (t : Bool) → may_be_emptied h m.heap.zone ≡ t → t ≡ true
+    cases true e = refl
+    cases false e =
+        let s = of-answered (stays h) (λ n. refl) (stays-goes h) (stays-sized h) (stays-filled h) a m once spares in
+        let all = stays-all h m.heap.zone e in
+        let le = stays-le h (answered a m).1.heap.zone in
+        still-there h m.heap.zone (answered a m).1.heap.zone (false ≡ true) before after (omega arith)
+
+-- a call that changes flags alone
+flagged-stays : (h : ℕ) (change : Flags → Flags) (handle : Option ℕ) (s : State) → has (is_relocatable h) s.zone ≡ true
+    → has (is_relocatable h) (change_flags change handle s).1.zone ≡ false → may_be_emptied h s.zone ≡ true
+flagged-stays h change handle s before after =
+    still-there h s.zone (change_flags change handle s).1.zone (may_be_emptied h s.zone ≡ true) before after
+    (flags-rise (is_of h) change (is_of-rises h change) handle s)
+
+unlocked-none : (f : Flags) → (not true && f.purgeable) ≡ false
+unlocked-none f = refl
+
+unpurgeable-none : (f : Flags) → (not f.locked && false) ≡ false
+unpurgeable-none f = cases f.locked
+  where
+    cases : (t : Bool) → (not t && false) ≡ false
+    cases true = refl
+    cases false = refl
+
+-- no call empties a block that may not be emptied, unless it lets it go
+pub only-purgeable-go : (a : Asked) (m : Memory) → OneBlockEach m.heap.zone → OnlyPurgeableGo a m
+only-purgeable-go (asked.DisposeHandle None) m once h keeps = spared-stays h (asked.DisposeHandle None) m once tt
+only-purgeable-go (asked.DisposeHandle (Some k)) m once h keeps =
+    spared-stays h (asked.DisposeHandle (Some k)) m once (stays-other h k keeps)
+only-purgeable-go (asked.EmptyHandle None) m once h keeps = spared-stays h (asked.EmptyHandle None) m once tt
+only-purgeable-go (asked.EmptyHandle (Some k)) m once h keeps =
+    spared-stays h (asked.EmptyHandle (Some k)) m once (stays-other h k keeps)
+only-purgeable-go (asked.ReallocateHandle None n) m once h keeps =
+    spared-stays h (asked.ReallocateHandle None n) m once tt
+only-purgeable-go (asked.ReallocateHandle (Some k) n) m once h keeps =
+    spared-stays h (asked.ReallocateHandle (Some k) n) m once (stays-other h k keeps)
+only-purgeable-go (asked.DisposePtr None) m once h keeps = spared-stays h (asked.DisposePtr None) m once tt
+only-purgeable-go (asked.DisposePtr (Some p)) m once h keeps =
+    spared-stays h (asked.DisposePtr (Some p)) m once (stays-pointer h p)
+only-purgeable-go (asked.HLock handle) m once h keeps = spared-stays h (asked.HLock handle) m once
+    (stays-rises h (λ f. record f { locked = true }) unlocked-none)
+only-purgeable-go (asked.HUnlock handle) m once h keeps = flagged-stays h (λ f. record f { locked = false }) handle
+    m.heap
+only-purgeable-go (asked.HPurge handle) m once h keeps = flagged-stays h (λ f. record f { purgeable = true }) handle
+    m.heap
+only-purgeable-go (asked.HNoPurge handle) m once h keeps = spared-stays h (asked.HNoPurge handle) m once
+    (stays-rises h (λ f. record f { purgeable = false }) unpurgeable-none)
+only-purgeable-go (asked.HSetState handle byte) m once h keeps =
+    flagged-stays h (λ f. record { locked = byte / 128 % 2 == 1; purgeable = byte / 64 % 2 == 1 }) handle m.heap
+only-purgeable-go (asked.HLockHi handle) m once h keeps = spared-stays h (asked.HLockHi handle) m once
+    (stays-rises h (λ f. record f { locked = true }) unlocked-none)
+only-purgeable-go (asked.NewHandle n) m once h keeps = spared-stays h (asked.NewHandle n) m once tt
+only-purgeable-go asked.NewEmptyHandle m once h keeps = spared-stays h asked.NewEmptyHandle m once tt
+only-purgeable-go (asked.GetHandleSize handle) m once h keeps = spared-stays h (asked.GetHandleSize handle) m once tt
+only-purgeable-go (asked.SetHandleSize handle n) m once h keeps =
+    spared-stays h (asked.SetHandleSize handle n) m once tt
+only-purgeable-go (asked.HGetState handle) m once h keeps = spared-stays h (asked.HGetState handle) m once tt
+only-purgeable-go (asked.MoveHHi handle) m once h keeps = spared-stays h (asked.MoveHHi handle) m once tt
+only-purgeable-go (asked.HandToHand handle) m once h keeps = spared-stays h (asked.HandToHand handle) m once tt
+only-purgeable-go (asked.HandAndHand from to) m once h keeps = spared-stays h (asked.HandAndHand from to) m once tt
+only-purgeable-go (asked.PtrAndHand handle x) m once h keeps = spared-stays h (asked.PtrAndHand handle x) m once tt
+only-purgeable-go (asked.NewPtr n) m once h keeps = spared-stays h (asked.NewPtr n) m once tt
+only-purgeable-go (asked.GetPtrSize pointer) m once h keeps = spared-stays h (asked.GetPtrSize pointer) m once tt
+only-purgeable-go (asked.SetPtrSize pointer n) m once h keeps = spared-stays h (asked.SetPtrSize pointer n) m once tt
+only-purgeable-go asked.FreeMem m once h keeps = spared-stays h asked.FreeMem m once tt
+only-purgeable-go asked.MaxBlock m once h keeps = spared-stays h asked.MaxBlock m once tt
+only-purgeable-go asked.PurgeSpace m once h keeps = spared-stays h asked.PurgeSpace m once tt
+only-purgeable-go (asked.CompactMem n) m once h keeps = spared-stays h (asked.CompactMem n) m once tt
+only-purgeable-go (asked.PurgeMem n) m once h keeps = spared-stays h (asked.PurgeMem n) m once tt
+only-purgeable-go asked.MaxMem m once h keeps = spared-stays h asked.MaxMem m once tt
+only-purgeable-go (asked.ReserveMem n) m once h keeps = spared-stays h (asked.ReserveMem n) m once tt
+only-purgeable-go asked.MoreMasters m once h keeps = spared-stays h asked.MoreMasters m once tt
+only-purgeable-go asked.MemError m once h keeps = spared-stays h asked.MemError m once tt
+only-purgeable-go (asked.Put handle i x) m once h keeps = spared-stays h (asked.Put handle i x) m once tt
+only-purgeable-go (asked.Show handle) m once h keeps = spared-stays h (asked.Show handle) m once tt
+only-purgeable-go (asked.PutPtr pointer i x) m once h keeps = spared-stays h (asked.PutPtr pointer i x) m once tt
+only-purgeable-go (asked.ShowPtr pointer) m once h keeps = spared-stays h (asked.ShowPtr pointer) m once tt
+only-purgeable-go (asked.Where name) m once h keeps = spared-stays h (asked.Where name) m once tt
+
+-- 1 for a Masters block
+abbrev masters : Block → ℕ
+masters b = cond (is_masters b) 1 0
+
+masters-goes : (b : Block) → is_purgeable b ≡ true → masters b ≡ 0
+masters-goes (Free n) e = refl
+masters-goes (Fixed id content) e = refl
+masters-goes Masters e = let f : false ≡ true = e in cc
+masters-goes (Relocatable id flags content) e = refl
+
+masters-sized : (n : ℕ) (b : Block) → masters b ≡ masters (resized n b)
+masters-sized n (Free m) = refl
+masters-sized n (Fixed id content) = refl
+masters-sized n Masters = refl
+masters-sized n (Relocatable id flags content) = refl
+
+masters-filled : (x : List ℕ) (b : Block) → masters b ≡ masters (with_content x b)
+masters-filled x (Free m) = refl
+masters-filled x (Fixed id content) = refl
+masters-filled x Masters = refl
+masters-filled x (Relocatable id flags content) = refl
+
+masters-handle : (k : ℕ) → Unseen masters (is_relocatable k)
+masters-handle k (Free n) e = refl
+masters-handle k (Fixed id content) e = refl
+masters-handle k Masters e = let f : false ≡ true = e in cc
+masters-handle k (Relocatable id flags content) e = refl
+
+masters-pointer : (p : ℕ) → Unseen masters (is_fixed p)
+masters-pointer p (Free n) e = refl
+masters-pointer p (Fixed id content) e = refl
+masters-pointer p Masters e = let f : false ≡ true = e in cc
+masters-pointer p (Relocatable id flags content) e = refl
+
+masters-rises : (change : Flags → Flags) → Rises masters change
+masters-rises change (Free n) = omega arith
+masters-rises change (Fixed id content) = omega arith
+masters-rises change Masters = omega arith
+masters-rises change (Relocatable id flags content) = omega arith
+
+masters-spared : (a : Asked) → Spares masters a
+masters-spared (asked.DisposeHandle None) = tt
+masters-spared (asked.DisposeHandle (Some k)) = masters-handle k
+masters-spared (asked.EmptyHandle None) = tt
+masters-spared (asked.EmptyHandle (Some k)) = masters-handle k
+masters-spared (asked.ReallocateHandle None n) = tt
+masters-spared (asked.ReallocateHandle (Some k) n) = masters-handle k
+masters-spared (asked.DisposePtr None) = tt
+masters-spared (asked.DisposePtr (Some p)) = masters-pointer p
+masters-spared (asked.HLock handle) = masters-rises (λ f. record f { locked = true })
+masters-spared (asked.HUnlock handle) = masters-rises (λ f. record f { locked = false })
+masters-spared (asked.HPurge handle) = masters-rises (λ f. record f { purgeable = true })
+masters-spared (asked.HNoPurge handle) = masters-rises (λ f. record f { purgeable = false })
+masters-spared (asked.HSetState handle byte) = masters-rises
+    (λ f. record { locked = byte / 128 % 2 == 1; purgeable = byte / 64 % 2 == 1 })
+masters-spared (asked.HLockHi handle) = masters-rises (λ f. record f { locked = true })
+masters-spared (asked.NewHandle n) = tt
+masters-spared asked.NewEmptyHandle = tt
+masters-spared (asked.GetHandleSize handle) = tt
+masters-spared (asked.SetHandleSize handle n) = tt
+masters-spared (asked.HGetState handle) = tt
+masters-spared (asked.MoveHHi handle) = tt
+masters-spared (asked.HandToHand handle) = tt
+masters-spared (asked.HandAndHand from to) = tt
+masters-spared (asked.PtrAndHand handle x) = tt
+masters-spared (asked.NewPtr n) = tt
+masters-spared (asked.GetPtrSize pointer) = tt
+masters-spared (asked.SetPtrSize pointer n) = tt
+masters-spared asked.FreeMem = tt
+masters-spared asked.MaxBlock = tt
+masters-spared asked.PurgeSpace = tt
+masters-spared (asked.CompactMem n) = tt
+masters-spared (asked.PurgeMem n) = tt
+masters-spared asked.MaxMem = tt
+masters-spared (asked.ReserveMem n) = tt
+masters-spared asked.MoreMasters = tt
+masters-spared asked.MemError = tt
+masters-spared (asked.Put handle i x) = tt
+masters-spared (asked.Show handle) = tt
+masters-spared (asked.PutPtr pointer i x) = tt
+masters-spared (asked.ShowPtr pointer) = tt
+masters-spared (asked.Where name) = tt
+
+-- a zone with a Masters block has one after each call
+pub masters-kept : (a : Asked) (m : Memory) → OneBlockEach m.heap.zone → IsTrue (has is_masters m.heap.zone)
+    → IsTrue (has is_masters (answered a m).1.heap.zone)
+masters-kept a m once before = cases (has is_masters (answered a m).1.heap.zone) refl
+  where
+    cases : (t : Bool) → has is_masters (answered a m).1.heap.zone ≡ t → t ≡ true
+    cases true e = refl
+    cases false e =
+        let s = of-answered masters (λ n. refl) masters-goes masters-sized masters-filled a m once (masters-spared a) in
+        let b = has-count is_masters m.heap.zone before in
+        absurd (let c = count-none is_masters (answered a m).1.heap.zone e in omega arith)

@@ -1,0 +1,377 @@
+use Rattle.std.proofs.Common.{◌≡◌, ℕ, ◌+◌, ◌≤◌, ◌<◌, ◌^◌, zero, suc, Bool, true, false, ◌||◌, List, [], ◌∷◌, ◌++◌}
+use Rattle.std.proofs.Common.{length, length-append, refl, sym, ◌∙◌, ap, cond, map, arith, Option, Some, None, Result}
+use Rattle.std.proofs.Common.{Ok, Err, replicate, nat_le, nat_lt}
+use Rattle.std.specs.Option.{option_map, option_or}
+use Rattle.std.specs.Prelude.{is_some, if◌then◌else◌}
+use Rattle.mac_words.specs.Size.{phys}
+use Rattle.mac_words.specs.declared.code.OsErr.{OsErr}
+use Rattle.block_store.specs.Block.{Block, Free, Fixed, Masters, Relocatable, size, count, fresh, is_mover, is_masters}
+use Rattle.block_store.specs.Block.{is_relocatable, is_fixed, no_flags, content_of}
+use Rattle.block_store.specs.Run.{Stretch, Segments, in_run, has_free, segments, runs}
+use Rattle.block_store.specs.Room.{Spot, spot, put_at_base, put_in_place, purge, emptied, may_go, count_of, least, room}
+use Rattle.block_store.specs.Grow.{growth, grow_up, grow_mover, freed}
+use Rattle.block_store.specs.Compact.{beyond, has_room, runs_settled}
+use Rattle.block_store.specs.Rest.{counted}
+use Rattle.block_store.proofs.Zone.Tidy.{spot-is}
+use Rattle.block_store.proofs.Zone.Zones.{joined-segments, joined-is}
+use Rattle.block_store.proofs.Plain.Trials.{least_or_last-le}
+use Rattle.heap_calls.specs.State.{State, Memory, used_slots, all_slots}
+use Rattle.heap_calls.specs.Answer.{Held, nothing, look_up, handle_at}
+use Rattle.heap_calls.specs.Slots.{slotted, more_masters}
+use Rattle.heap_calls.specs.Pointers.{pointed_at, reserved}
+use Rattle.heap_calls.specs.Purging.{is_loose, purgeable}
+use Rattle.heap_calls.specs.Inner.Search.{tries}
+use Rattle.heap_calls.specs.Searches.{room_searches, slot_searches, ready_searches, block_searches, reserve_searches}
+use Rattle.heap_calls.specs.Searches.{in_place_searches, growth_searches, resized_at, size_searches, found_searches}
+use Rattle.heap_calls.specs.Searches.{stretches, compact_mem_searches, new_handle_searches, new_empty_handle_searches}
+use Rattle.heap_calls.specs.Searches.{more_masters_searches, new_pointer_searches, set_handle_size_searches}
+use Rattle.heap_calls.specs.Searches.{set_pointer_size_searches, reallocate_handle_searches, hand_to_hand_searches}
+use Rattle.heap_calls.specs.Searches.{hand_and_hand_searches, pointer_and_hand_searches, purge_mem_searches}
+use Rattle.heap_calls.specs.Asked.{Asked, answered}
+use Rattle.heap_calls.specs.Asked as asked
+use Rattle.heap_calls.specs.Looks.{LooksFew}
+use Rattle.block_store.proofs.Zone.Zones.{joined-is}
+use Rattle.block_store.proofs.Plain.Counters.{counted-none}
+use Rattle.block_store.proofs.Zone.Keeping.{tidied, freed-is, unless-le, based-le}
+
+-- A call looks for room no more often than once for each block and once more.
+
+-- a trial ends at the last number at the latest
+tries-le : {A : Type 0} (answer : ℕ → Option A) (n : ℕ) → tries answer n ≤ n + 1
+tries-le answer zero = omega arith
+tries-le answer (suc n) = cases (is_some (answer 0)) (tries-le (λ k. answer (suc k)) n)
+  where
+    cases : (t : Bool) → tries (λ k. answer (suc k)) n ≤ n + 1
+        → cond t 1 (tries (λ k. answer (suc k)) n + 1) ≤ suc n + 1
+    cases true r = omega arith
+    cases false r = omega arith
+
+-- and where there is an answer with the least number that has one
+tries-least : {A : Type 0} (answer : ℕ → Option A) (n : ℕ) (y : A) → least answer n ≡ Some y → (k : ℕ) × (k ≤ n)
+    × (answer k ≡ Some y) × (tries answer n ≡ k + 1)
+tries-least answer zero y e = (0, omega arith, e, refl)
+tries-least {A = A} answer (suc n) y e = cases (answer 0) refl e (λ e. tries-least (λ k. answer (suc k)) n y e)
+  where
+    rest : ℕ → Option A
+    rest k = answer (suc k)
+
+    cases : (o : Option A) → answer 0 ≡ o → option_or o (least rest n) ≡ Some y
+        → (least rest n ≡ Some y → (k : ℕ) × (k ≤ n) × (rest k ≡ Some y) × (tries rest n ≡ k + 1))
+        → (k : ℕ) × (k ≤ suc n) × (answer k ≡ Some y) × (cond (is_some o) 1 (tries rest n + 1) ≡ k + 1)
+    cases None is e more = let r = more e in (suc r.0, (let le = r.1 in omega arith), r.2, (let t = r.3 in omega arith))
+    cases (Some x) is e more = (0, omega arith, is ∙ e, refl)
+
+-- no more blocks pass than there are
+count-length : (test : Block → Bool) (bs : List Block) → count test bs ≤ length bs
+count-length test [] = omega arith
+count-length test (b ∷ bs) = cases (test b) (count-length test bs)
+  where
+    cases : (t : Bool) → count test bs ≤ length bs → cond {A = ℕ} t 1 0 + count test bs ≤ length (b ∷ bs)
+    cases true r = omega arith
+    cases false r = omega arith
+
+-- a Masters block is never emptied
+goes-stays : (sp : Block → Bool) (bs : List Block) → count_of sp bs + count is_masters bs ≤ length bs
+goes-stays sp [] = omega arith
+goes-stays sp (Free n ∷ bs) = let r = goes-stays sp bs in omega arith
+goes-stays sp (Fixed id content ∷ bs) = let r = goes-stays sp bs in omega arith
+goes-stays sp (Masters ∷ bs) = let r = goes-stays sp bs in omega arith
+goes-stays sp (Relocatable id flags content ∷ bs) = cases (may_go sp (Relocatable id flags content)) (goes-stays sp bs)
+  where
+    cases : (t : Bool) → count_of sp bs + count is_masters bs ≤ length bs
+        → (cond {A = ℕ} t 1 0 + count_of sp bs) + (0 + count is_masters bs) ≤ length (Relocatable id flags content ∷ bs)
+    cases true r = omega arith
+    cases false r = omega arith
+
+goes-le : (sp : Block → Bool) (zone : List Block) → 0 < count is_masters zone → count_of sp zone + 1 ≤ length zone
+goes-le sp zone masters = let g = goes-stays sp zone in omega arith
+
+-- looks for what is tried
+room-few : (try : List Block → Option (List Block)) (sp : Block → Bool) (zone : List Block)
+    → room_searches try sp zone ≤ count_of sp zone + 1
+room-few try sp zone = tries-le (λ k. try (purge k sp zone)) (count_of sp zone)
+
+room-blocks : (try : List Block → Option (List Block)) (sp : Block → Bool) (zone : List Block)
+    → 0 < count is_masters zone → room_searches try sp zone ≤ length zone
+room-blocks try sp zone masters = let r = room-few try sp zone in let g = goes-le sp zone masters in omega arith
+
+-- blocks that were emptied can't be emptied once more
+goes-emptied : (k : ℕ) (sp : Block → Bool) (bs : List Block) → k ≤ count_of sp bs
+    → count_of sp (emptied k sp bs) + k ≡ count_of sp bs
+goes-emptied zero sp bs le = omega arith
+goes-emptied (suc k) sp [] le = absurd (let f : suc k ≤ 0 = le in omega arith)
+goes-emptied (suc k) sp (b ∷ bs) le = cases (may_go sp b) refl le (goes-emptied k sp bs) (goes-emptied (suc k) sp bs)
+  where
+    cases : (t : Bool) → may_go sp b ≡ t → suc k ≤ cond {A = ℕ} t 1 0 + count_of sp bs
+        → (k ≤ count_of sp bs → count_of sp (emptied k sp bs) + k ≡ count_of sp bs)
+        → (suc k ≤ count_of sp bs → count_of sp (emptied (suc k) sp bs) + suc k ≡ count_of sp bs)
+        → count_of sp (cond t (Free (size b) ∷ emptied k sp bs) (b ∷ emptied (suc k) sp bs)) + suc k
+        ≡ cond {A = ℕ} t 1 0 + count_of sp bs
+    cases true e le less same = let r = less (omega arith) in omega arith
+    cases false e le less same = let r = same (omega arith) in
+        let z : cond {A = ℕ} (may_go sp b) 1 0 ≡ 0 = ap {B = ℕ} (λ (t : Bool). cond t 1 0) e in omega arith
+
+goes-purged : (k : ℕ) (sp : Block → Bool) (zone : List Block) → k ≤ count_of sp zone
+    → count_of sp (purge k sp zone) + k ≡ count_of sp zone
+goes-purged k sp zone le = let e = goes-emptied k sp zone le in
+    omega (arith, tidied (λ (b : Block). cond {A = ℕ} (may_go sp b) 1 0) (λ n. refl) (emptied k sp zone))
+
+-- a slot and then a block: what was emptied for the slot isn't there for the block
+slot-few : (sp : Block → Bool) (s : State) (count : State → ℕ) → ((r : State) → count r ≤ count_of sp r.zone + 1)
+    → slot_searches sp s + ready_searches (slotted sp s) count ≤ count_of sp s.zone + 2
+slot-few sp s count few = by_slots (nat_lt (used_slots s) (all_slots s))
+  where
+    by_room : (o : Option (List Block)) → room (put_at_base Masters) sp s.zone ≡ o
+        → room_searches (put_at_base Masters) sp s.zone + ready_searches
+        (option_map (λ zone. record s { zone = zone }) o) count ≤ count_of sp s.zone + 2
+    by_room None e = let r = room-few (put_at_base Masters) sp s.zone in omega arith
+    by_room (Some zone) e =
+        let r = tries-least (λ k. put_at_base Masters (purge k sp s.zone)) (count_of sp s.zone) zone e in
+        let tried = r.3 in
+        let left = goes-purged r.0 sp s.zone r.1 in
+        let based = based-le (λ (b : Block). cond {A = ℕ} (may_go sp b) 1 0) (λ n. refl) Masters (has_free 272)
+        (purge r.0 sp s.zone) zone r.2 in
+        let c = few (record s { zone = zone }) in
+        omega arith
+
+    by_slots : (t : Bool) → cond t 0 (room_searches (put_at_base Masters) sp s.zone) + ready_searches
+        (cond t (Some s) (more_masters sp s)) count ≤ count_of sp s.zone + 2
+    by_slots true = let c = few s in omega arith
+    by_slots false = by_room (room (put_at_base Masters) sp s.zone) refl
+
+slot-blocks : (sp : Block → Bool) (s : State) (looks : State → ℕ) → 0 < count is_masters s.zone
+    → ((r : State) → looks r ≤ count_of sp r.zone + 1) → slot_searches sp s + ready_searches (slotted sp s) looks ≤
+    length s.zone + 1
+slot-blocks sp s looks masters few = let f = slot-few sp s looks few in let g = goes-le sp s.zone masters in omega arith
+
+-- a part of the blocks above one
+first-length : (zone : List Block) → length (segments zone).first ≤ length zone
+first-length zone =
+    let whole : length zone ≡ length ((segments zone).first ++ beyond (segments zone).rest) =
+    ap length (sym (joined-segments zone) ∙ joined-is (segments zone).first (segments zone).rest) in
+    omega (arith, length-append (segments zone).first (beyond (segments zone).rest))
+
+in_place-few : (sp : Block → Bool) (new : Block) (test : Block → Bool) (zone : List Block) (s : Spot)
+    → spot test zone ≡ Some s → in_place_searches sp new s ≤ length zone + 1
+in_place-few sp new test zone s found = cases (is_some (grow_up new s))
+  where
+    looks : ℕ
+    looks = room_searches (λ run. if has_free (growth new s) run then Some run else None) sp (segments s.above).first
+
+    cases : (t : Bool) → cond t 1 looks ≤ length zone + 1
+    cases true = omega arith
+    cases false =
+        let r = room-few (λ run. if has_free (growth new s) run then Some run else None) sp (segments s.above).first in
+        let c = count-length (may_go sp) (segments s.above).first in
+        let f = first-length s.above in
+        let whole : length zone ≡ length (s.below ++ s.here ∷ s.above) = ap length (spot-is test zone s found) in
+        omega (arith, length-append s.below (s.here ∷ s.above))
+
+growth-few : (test sp : Block → Bool) (new : Block) (zone : List Block) → 0 < count is_masters zone → (o : Option Spot)
+    → spot test zone ≡ o → growth_searches test sp new zone o ≤ length zone + 1
+growth-few test sp new zone masters None found = omega arith
+growth-few test sp new zone masters (Some s) found = cases (nat_le (size new) (size s.here)) (is_mover s.here)
+  where
+    cases : (t u : Bool) → cond t 0 (cond u (room_searches (grow_mover test new) sp zone) (in_place_searches sp new s))
+        ≤ length zone + 1
+    cases true u = omega arith
+    cases false true = let r = room-blocks (grow_mover test new) sp zone masters in omega arith
+    cases false false = in_place-few sp new test zone s found
+
+size-few : (test sp : Block → Bool) (n : ℕ) (zone : List Block) → 0 < count is_masters zone
+    → size_searches test sp n zone ≤ length zone + 1
+size-few test sp n zone masters = cases (is_some (phys n))
+  where
+    cases : (t : Bool) → cond t (growth_searches test sp (resized_at n (spot test zone)) zone (spot test zone)) 0 ≤
+        length zone + 1
+    cases true = growth-few test sp (resized_at n (spot test zone)) zone masters (spot test zone) refl
+    cases false = omega arith
+
+-- looks on what was found
+found-few : {A : Type 0} (r : Result A OsErr) (count : A → ℕ) (most : ℕ) → ((k : A) → count k ≤ most)
+    → found_searches r count ≤ most
+found-few (Err code) count most few = omega arith
+found-few (Ok k) count most few = few k
+
+-- looks that are made only in one case
+only-if : (t : Bool) (n most : ℕ) → n ≤ most → cond t n 0 ≤ most
+only-if true n most le = le
+only-if false n most le = omega arith
+
+-- no more runs have a block than there are blocks that runs are made of
+stretches-blocks : (k : ℕ) (zone : List Block) → stretches k (runs zone) ≤ count in_run zone
+stretches-blocks zero zone = omega arith
+stretches-blocks (suc k) [] = none k
+  where
+    none : (k : ℕ) → 0 + stretches k [] ≤ 0
+    none zero = omega arith
+    none (suc k) = omega arith
+stretches-blocks (suc k) (b ∷ zone) = cases (in_run b) (segments zone) (stretches-blocks (suc k) zone)
+    (stretches-blocks k zone)
+  where
+    cases : (t : Bool) (s : Segments) → stretches (suc k) (s.first ∷ map (λ (p : Stretch). p.run) s.rest) ≤ count in_run
+        zone → stretches k (s.first ∷ map (λ (p : Stretch). p.run) s.rest) ≤ count in_run zone
+        → let put : Segments = cond t (record { first = b ∷ s.first; rest = s.rest })
+        (record { first = []; rest = record { barrier = b; run = s.first } ∷ s.rest }) in
+        stretches (suc k) (put.first ∷ map (λ (p : Stretch). p.run) put.rest) ≤ cond {A = ℕ} t 1 0 + count in_run zone
+    cases true s more less = let fewer : stretches k (map (λ (p : Stretch). p.run) s.rest) ≤ stretches (suc k)
+        (s.first ∷ map (λ (p : Stretch). p.run) s.rest) = omega arith in omega arith
+    cases false s more less = omega arith
+
+-- a compaction
+compact-few : (n : ℕ) (s : State) → compact_mem_searches n s ≤ length s.zone + 1
+compact-few n s =
+    let few = stretches-blocks (runs_settled (phys n) s.zone) s.zone in
+    let most = count-length in_run s.zone in
+    omega arith
+
+-- a call that doesn't look
+unlooked : (zone : List Block) (n : ℕ) → n < 2 ^ 64 → (k : ℕ) × (k ≤ length zone + 1) × (n ≡ counted n k)
+unlooked zone n fits = (0, omega arith, sym (counted-none n (omega arith)))
+
+-- no call looks more often
+pub looks_few : (a : Asked) (m : Memory) → LooksFew a m
+looks_few (asked.NewHandle n) m masters fits =
+    let s = m.heap in
+    let few =
+    slot-blocks nothing s (λ ready. if is_some (phys n) then block_searches nothing (replicate n 0) ready else 0)
+    masters
+    (λ r. only-if (is_some (phys n)) (block_searches nothing (replicate n 0) r) (count_of nothing r.zone + 1)
+    (room-few (put_in_place (Relocatable (length r.names) no_flags (replicate n 0))) nothing r.zone)) in
+    (new_handle_searches n s, few, refl)
+looks_few asked.NewEmptyHandle m masters fits =
+    (new_empty_handle_searches m.heap, slots (nat_lt (used_slots m.heap) (all_slots m.heap)), refl)
+  where
+    slots : (t : Bool) → cond t 0 (room_searches (put_at_base Masters) nothing m.heap.zone) ≤ length m.heap.zone + 1
+    slots true = omega arith
+    slots false = let r = room-blocks (put_at_base Masters) nothing m.heap.zone masters in omega arith
+looks_few (asked.SetHandleSize handle n) m masters fits =
+    let zone = m.heap.zone in
+    let few =
+    found-few (look_up handle m.heap)
+    (λ held. size_searches (is_relocatable held.number) (is_relocatable held.number) n zone) (length zone + 1)
+    (λ held. size-few (is_relocatable held.number) (is_relocatable held.number) n zone masters) in
+    (set_handle_size_searches handle n m.heap, few, refl)
+looks_few (asked.ReallocateHandle handle n) m masters fits = (reallocate_handle_searches handle n m.heap, few, refl)
+  where
+    zone : List Block
+    zone = m.heap.zone
+
+    looks : ℕ → ℕ
+    looks j =
+        if is_some (phys n) then room_searches (put_in_place (Relocatable j no_flags (replicate n 0))) nothing
+        (freed (is_relocatable j) zone) else 0
+
+    looks-few : (j : ℕ) → looks j ≤ length zone + 1
+    looks-few j =
+        only-if (is_some (phys n))
+        (room_searches (put_in_place (Relocatable j no_flags (replicate n 0))) nothing (freed (is_relocatable j) zone))
+        (length zone + 1)
+        (let goes : Block → ℕ = λ b. cond {A = ℕ} (may_go nothing b) 1 0 in
+        let r = room-few (put_in_place (Relocatable j no_flags (replicate n 0))) nothing
+        (freed (is_relocatable j) zone) in
+        let u = unless-le (is_relocatable j) goes zone in
+        let g = goes-le nothing zone masters in
+        omega (arith, freed-is goes (λ m. refl) (is_relocatable j) zone))
+
+    few : reallocate_handle_searches handle n m.heap ≤ length zone + 1
+    few =
+        found-few (handle_at handle m.heap)
+        (λ k. if is_loose (spot (is_relocatable k.number) zone) then looks k.number else 0) (length zone + 1)
+        (λ k. only-if (is_loose (spot (is_relocatable k.number) zone)) (looks k.number) (length zone + 1)
+        (looks-few k.number))
+looks_few (asked.HandToHand handle) m masters fits =
+    let s = m.heap in
+    let few =
+    found-few (look_up handle s)
+    (λ held. slot_searches (is_relocatable held.number) s + ready_searches (slotted (is_relocatable held.number) s)
+    (block_searches (is_relocatable held.number) (content_of held.at.here)))
+    (length s.zone + 1)
+    (λ held. slot-blocks (is_relocatable held.number) s
+    (block_searches (is_relocatable held.number) (content_of held.at.here)) masters
+    (λ r. room-few (put_in_place (Relocatable (length r.names) no_flags (content_of held.at.here)))
+    (is_relocatable held.number) r.zone)) in
+    (hand_to_hand_searches handle s, few, refl)
+looks_few (asked.HandAndHand from to) m masters fits = (hand_and_hand_searches from to m.heap, few, refl)
+  where
+    zone : List Block
+    zone = m.heap.zone
+
+    looks : Held → Held → ℕ
+    looks a b =
+        size_searches (is_relocatable b.number)
+        (λ block. is_relocatable a.number block || is_relocatable b.number block)
+        (length (content_of b.at.here) + length (content_of a.at.here)) zone
+
+    few : hand_and_hand_searches from to m.heap ≤ length zone + 1
+    few =
+        found-few (look_up from m.heap) (λ a. found_searches (look_up to m.heap) (looks a)) (length zone + 1)
+        (λ a. found-few (look_up to m.heap) (looks a) (length zone + 1)
+        (λ b. size-few (is_relocatable b.number)
+        (λ block. is_relocatable a.number block || is_relocatable b.number block)
+        (length (content_of b.at.here) + length (content_of a.at.here)) zone masters))
+looks_few (asked.PtrAndHand handle x) m masters fits =
+    let zone = m.heap.zone in
+    let few =
+    found-few (look_up handle m.heap)
+    (λ held. size_searches (is_relocatable held.number) (is_relocatable held.number)
+    (length (content_of held.at.here) + length x) zone) (length zone + 1)
+    (λ held. size-few (is_relocatable held.number) (is_relocatable held.number)
+    (length (content_of held.at.here) + length x) zone masters) in
+    (pointer_and_hand_searches handle x m.heap, few, refl)
+looks_few (asked.NewPtr n) m masters fits =
+    let s = m.heap in
+    let few =
+    only-if (is_some (phys n)) (room_searches (put_at_base (Fixed (length s.names) (replicate n 0))) nothing s.zone)
+    (length s.zone + 1)
+    (let r = room-blocks (put_at_base (Fixed (length s.names) (replicate n 0))) nothing s.zone masters in omega arith)
+    in
+    (new_pointer_searches n s, few, refl)
+looks_few (asked.SetPtrSize pointer n) m masters fits =
+    let zone = m.heap.zone in
+    let few =
+    found-few (pointed_at pointer m.heap) (λ held. size_searches (is_fixed held.number) nothing n zone)
+    (length zone + 1)
+    (λ held. size-few (is_fixed held.number) nothing n zone masters) in
+    (set_pointer_size_searches pointer n m.heap, few, refl)
+looks_few (asked.CompactMem n) m masters fits = (compact_mem_searches n m.heap, compact-few n m.heap, refl)
+looks_few (asked.PurgeMem n) m masters fits =
+    let zone = m.heap.zone in
+    let l = least_or_last-le (λ k. has_room (phys n) (purge k nothing zone)) (purgeable zone) in
+    let g = goes-le nothing zone masters in
+    (purge_mem_searches n m.heap, omega arith, refl)
+looks_few (asked.ReserveMem n) m masters fits = (reserve_searches (phys n) m.heap, looks-few (phys n), refl)
+  where
+    looks-few : (o : Option ℕ) → reserve_searches o m.heap ≤ length m.heap.zone + 1
+    looks-few None = omega arith
+    looks-few (Some p) = let r = room-blocks (reserved p) nothing m.heap.zone masters in omega arith
+looks_few asked.MoreMasters m masters fits =
+    let few = room-blocks (put_at_base Masters) nothing m.heap.zone masters in
+    (more_masters_searches m.heap, omega arith, refl)
+looks_few a m masters fits = unlooked m.heap.zone m.log.searches fits
+
+-- a compaction that never serves looks once for each run with a block, and once more
+abbrev searches_in : List Block → ℕ
+searches_in zone = compact_mem_searches 2147483647 (record { zone = zone; names = [] })
+
+one_run_and_once_more : searches_in (fresh 1024) ≡ 2
+one_run_and_once_more = refl
+
+no_run_has_a_block : searches_in (Masters ∷ []) ≡ 1
+no_run_has_a_block = refl
+
+-- packed runs are looked at too, and those with no Free block
+each_run_with_a_block : searches_in
+    (Masters ∷ Free 32 ∷ Masters ∷ Masters ∷ Relocatable 0 no_flags [] ∷ Fixed 0 [] ∷ []) ≡ 3
+each_run_with_a_block = refl
+
+-- it ends where a block has room
+one_run_before_it_serves : compact_mem_searches 16
+    (record {
+      zone = Masters ∷ Masters ∷ Free 16 ∷ Relocatable 0 no_flags [] ∷ Free 16 ∷ Masters ∷ Free 16 ∷ [];
+      names = [];
+    }) ≡ 2
+one_run_before_it_serves = refl
+
+no_run_where_it_has_room : compact_mem_searches 16 (record { zone = fresh 1024; names = [] }) ≡ 1
+no_run_where_it_has_room = refl

@@ -1,0 +1,372 @@
+use Rattle.std.proofs.Common.{◌≡◌, ℕ, ◌+◌, ◌-◌, ◌≤◌, Bool, true, false, ◌==◌, List, [], ◌∷◌, ◌++◌, length}
+use Rattle.std.proofs.Common.{length-append, take, drop, replicate, refl, sym, ◌∙◌, ap, subst, cond, arith, Option}
+use Rattle.std.proofs.Common.{Some, None, Result, Ok, Err, slice_get, slice_set, nat_lt}
+use Rattle.std.proofs.lemmas.List.{take_all, drop_all, length-replicate, append-nil}
+use Rattle.std.proofs.Math.Seq.{take-append_seam}
+use Rattle.std.proofs.lemmas.Option.{none-some, same_Some}
+use Rattle.std.specs.Option.{option_map}
+use Rattle.std.specs.Prelude.{is_some, unwrap_or, if◌then◌else◌}
+use Rattle.mac_words.specs.Size.{phys}
+use Rattle.mac_words.specs.declared.code.OsErr.{OsErr}
+use Rattle.mac_words.specs.declared.code.TheConstants.OsErr.{MEM_FULL, LOCKED}
+use Rattle.block_store.specs.declared.flags.Flags.{Flags}
+use Rattle.block_store.specs.Block.{Block, Free, Fixed, Masters, Relocatable, total, count, is_mover, is_relocatable}
+use Rattle.block_store.specs.Block.{is_fixed, content_of, with_content, no_flags, tidy, resized, resized_content}
+use Rattle.windows.specs.Writes.{written}
+use Rattle.block_store.specs.Run.{change_run, has, high}
+use Rattle.block_store.specs.Room.{Spot, spot, raised, put_at_base, put_in_place, room}
+use Rattle.block_store.specs.Grow.{freed, grow}
+use Rattle.heap_calls.specs.State.{State, Meaning, used_slots, all_slots}
+use Rattle.heap_calls.specs.State as names
+use Rattle.heap_calls.specs.Answer.{Answer, Held, nothing, given, refused, rebuilt, flagged, change_flags, hoisted}
+use Rattle.heap_calls.specs.Answer.{move_hhi, look_up, for_found, written_at}
+use Rattle.heap_calls.specs.Answer as calls
+use Rattle.heap_calls.specs.Slots.{slotted, more_masters, new_block}
+use Rattle.heap_calls.specs.Purging.{reallocated}
+use Rattle.heap_calls.specs.Copying.{append, appended, written_in}
+use Rattle.heap_calls.specs.Asked.{Told, Done, Given, Refused, told_as}
+use Rattle.block_store.proofs.Zone.Views.{map-some}
+use Rattle.block_store.proofs.Zone.Keeping.{SeesNoFree, unless, unless-le, unless-none, tidied, freed-is, changed-le}
+use Rattle.block_store.proofs.Zone.Keeping.{high-le, room-le, base-le, swapped-le, grown-le}
+use Rattle.heap_calls.proofs.Promises.Knowing.{Known, for_handle, for_pointer, handle-only, pointer-only, look_up-spot}
+use Rattle.heap_calls.proofs.Promises.Knowing.{known-at, known-pointed, handle-changed, pointer-changed, known-more}
+use Rattle.heap_calls.proofs.Promises.Knowing.{known-less, none-handle, none-pointer, push-stands, pushed, set-stands}
+use Rattle.heap_calls.proofs.Promises.Knowing.{next-none, flipped, with_bytes, with-same, with-other, handle-plain}
+use Rattle.heap_calls.proofs.Promises.Knowing.{pointer-plain}
+
+-- What each change of a heap leaves known of its blocks' bytes.
+
+-- a new Masters block
+pub known-based : (s : State) (bytes : ℕ → List ℕ) → Known s bytes → (sp : Block → Bool) (zone : List Block)
+    → room (put_at_base Masters) sp s.zone ≡ Some zone → Known (record s { zone = zone }) bytes
+known-based s bytes known sp zone made = known-more s (record s { zone = zone }) bytes Masters refl (λ k. refl)
+    (λ k. refl) (λ k n at. at) (λ of none. base-le of none Masters sp s.zone zone made) known
+
+-- an unused slot
+pub known-slotted : (sp : Block → Bool) (s : State) (bytes : ℕ → List ℕ) → Known s bytes → (r : State)
+    → slotted sp s ≡ Some r → Known r bytes
+known-slotted sp s bytes known r e = by_slots (nat_lt (used_slots s) (all_slots s)) e
+  where
+    by_slots : (t : Bool) → cond t (Some s) (more_masters sp s) ≡ Some r → Known r bytes
+    by_slots true e = subst (λ (x : State). Known x bytes) (same_Some _ _ e) known
+    by_slots false e =
+        map-some (λ zone. record s { zone = zone }) (room (put_at_base Masters) sp s.zone) r (Known r bytes) e
+        (λ zone made is. subst (λ (x : State). Known x bytes) is (known-based s bytes known sp zone made))
+
+-- a new block of the next number
+known-new : (s : State) (bytes : ℕ → List ℕ) → Known s bytes → (sp : Block → Bool) (x : List ℕ) (zone : List Block)
+    → room (put_in_place (Relocatable (length s.names) no_flags x)) sp s.zone ≡ Some zone
+    → Known (record { zone = zone; names = s.names ++ names.Handle names.Plain ∷ [] })
+    (with_bytes (length s.names) x bytes)
+known-new s bytes known sp x zone is =
+    handle-changed s (record { zone = zone; names = s.names ++ name ∷ [] }) bytes (with_bytes h x bytes) h
+    (Relocatable h no_flags x)
+    (handle-plain (with_bytes h x bytes) (s.names ++ name ∷ []) h no_flags x (ap for_handle (pushed s.names name))
+    (sym (with-same h x bytes))) (flipped h) (λ k. refl)
+    (ap for_pointer (next-none s.names)) (with-other h x bytes) (λ k other n e. push-stands s.names name k n e)
+    (λ of none.
+    let l = room-le of none (Relocatable h no_flags x) sp s.zone zone is in
+    omega (
+      arith,
+      unless-none (is_relocatable h) of s.zone (none-handle s bytes known h
+          (ap for_handle (next-none s.names))),
+    )) known
+  where
+    h : ℕ
+    h = length s.names
+
+    name : Meaning
+    name = names.Handle names.Plain
+
+pub known-made : (s : State) (bytes : ℕ → List ℕ) → Known s bytes
+    → (sp : Block → Bool) (x : List ℕ) (tells : Told → ℕ → List ℕ) → ((k : ℕ) → with_bytes k x bytes ≡ tells (Given k))
+    → ((code : OsErr) → bytes ≡ tells (Refused code))
+    → Known (new_block sp x s).1 (tells (told_as {T = ℕ} Given (new_block sp x s).0))
+known-made s bytes known sp x tells given_told refused_told =
+    by_room (room (put_in_place (Relocatable (length s.names) no_flags x)) sp s.zone) refl
+  where
+    by_room : (o : Option (List Block)) → room (put_in_place (Relocatable (length s.names) no_flags x)) sp s.zone ≡ o
+        → Known (given (names.Handle names.Plain) o s).1 (tells (told_as {T = ℕ} Given
+        (given (names.Handle names.Plain) o s).0))
+    by_room None e = subst (Known s) (refused_told MEM_FULL) known
+    by_room (Some zone) e = subst (Known (record { zone = zone; names = s.names ++ names.Handle names.Plain ∷ [] }))
+        (given_told (length s.names)) (known-new s bytes known sp x zone e)
+
+-- a new handle without a block
+pub known-sparing : (s : State) (bytes : ℕ → List ℕ) → Known s bytes → (name : Meaning)
+    → Known (record s { names = s.names ++ name ∷ [] }) bytes
+known-sparing s bytes known name =
+    known-more s (record s { names = s.names ++ name ∷ [] }) bytes (Free 0) refl (λ k. refl) (λ k. refl)
+    (λ k n e. push-stands s.names name k n e) (λ of none. omega (arith, none 0)) known
+
+-- a new pointer's block
+pub known-new_pointer : (s : State) (bytes : ℕ → List ℕ) → Known s bytes → (x : List ℕ) (zone : List Block)
+    → room (put_at_base (Fixed (length s.names) x)) nothing s.zone ≡ Some zone
+    → Known (record { zone = zone; names = s.names ++ names.Pointer ∷ [] }) (with_bytes (length s.names) x bytes)
+known-new_pointer s bytes known x zone is =
+    pointer-changed s (record { zone = zone; names = s.names ++ names.Pointer ∷ [] }) bytes (with_bytes p x bytes) p
+    (Fixed p x)
+    (pointer-plain (with_bytes p x bytes) (s.names ++ names.Pointer ∷ []) p x
+    (ap for_pointer (pushed s.names names.Pointer)) (sym (with-same p x bytes))) (flipped p) (λ k. refl)
+    (ap for_handle (next-none s.names)) (with-other p x bytes) (λ k other n e. push-stands s.names names.Pointer k n e)
+    (λ of none.
+    let l = base-le of none (Fixed p x) nothing s.zone zone is in
+    omega (
+      arith,
+      unless-none (is_fixed p) of s.zone (none-pointer s bytes known p
+          (ap for_pointer (next-none s.names))),
+    )) known
+  where
+    p : ℕ
+    p = length s.names
+
+-- a disposed handle or pointer leaves the others
+pub known-disposed : (s : State) (bytes : ℕ → List ℕ) → Known s bytes → (h : ℕ)
+    → for_handle (slice_get s.names h) ≡ true → Known (calls.without h s) bytes
+known-disposed s bytes known h is =
+    handle-changed s (calls.without h s) bytes bytes h (Free 0) refl (λ k e. refl) (λ k. refl)
+    (handle-only (slice_get s.names h) is) (λ k e. refl) (set-stands s.names h names.Disposed)
+    (λ of none. omega (
+      arith,
+      none 0,
+      tidied of none (freed (is_relocatable h) s.zone),
+      freed-is of none
+          (is_relocatable h) s.zone,
+    )) known
+
+pub known-disposed_pointer : (s : State) (bytes : ℕ → List ℕ) → Known s bytes → (p : ℕ)
+    → for_pointer (slice_get s.names p) ≡ true
+    → Known (record { zone = tidy (freed (is_fixed p) s.zone); names = slice_set s.names p names.Disposed }) bytes
+known-disposed_pointer s bytes known p is =
+    pointer-changed s (record { zone = tidy (freed (is_fixed p) s.zone); names = slice_set s.names p names.Disposed })
+    bytes bytes p (Free 0) refl (λ k e. refl) (λ k. refl) (pointer-only (slice_get s.names p) is) (λ k e. refl)
+    (set-stands s.names p names.Disposed)
+    (λ of none. omega (arith, none 0, tidied of none (freed (is_fixed p) s.zone), freed-is of none (is_fixed p) s.zone))
+    known
+
+-- a handle's block, or none, in place of what it had: then its bytes are those of that
+pub known-replaced : (s : State) (zone : List Block) (bytes : ℕ → List ℕ) → Known s bytes → (h : ℕ)
+    → for_handle (slice_get s.names h) ≡ true → (bytes' : ℕ → List ℕ)
+    → ((k : ℕ) → (k == h) ≡ false → bytes' k ≡ bytes k)
+    → (flags : Flags) (new : Block) → new ≡ Relocatable h flags (bytes' h)
+    → ((of : Block → ℕ) → SeesNoFree of → total of zone ≤ of new + total (unless (is_relocatable h) of) s.zone)
+    → Known (record s { zone = zone }) bytes'
+known-replaced s zone bytes known h is bytes' same flags new eq less =
+    handle-changed s (record s { zone = zone }) bytes bytes' h (Relocatable h flags (bytes' h))
+    (handle-plain bytes' s.names h flags (bytes' h) is refl) (flipped h) (λ k. refl)
+    (handle-only (slice_get s.names h) is) same (λ k other n e. e)
+    (λ of none. let l = less of none in omega (arith, ap of eq)) known
+
+pub known-replaced_pointer : (s : State) (zone : List Block) (bytes : ℕ → List ℕ) → Known s bytes → (p : ℕ)
+    → for_pointer (slice_get s.names p) ≡ true → (x : List ℕ) (new : Block) → new ≡ Fixed p x
+    → ((of : Block → ℕ) → SeesNoFree of → total of zone ≤ of new + total (unless (is_fixed p) of) s.zone)
+    → Known (record s { zone = zone }) (with_bytes p x bytes)
+known-replaced_pointer s zone bytes known p is x new eq less =
+    pointer-changed s (record s { zone = zone }) bytes (with_bytes p x bytes) p (Fixed p x)
+    (pointer-plain (with_bytes p x bytes) s.names p x is (sym (with-same p x bytes))) (flipped p) (λ k. refl)
+    (pointer-only (slice_get s.names p) is) (with-other p x bytes) (λ k other n e. e)
+    (λ of none. let l = less of none in omega (arith, ap of eq)) known
+
+-- bytes that were put into a block
+pub known-put : (s : State) (bytes : ℕ → List ℕ) → Known s bytes → (h i : ℕ) (x : List ℕ) (at : Spot)
+    → spot (is_relocatable h) s.zone ≡ Some at → (bytes' : ℕ → List ℕ)
+    → ((k : ℕ) → (k == h) ≡ false → bytes' k ≡ bytes k) → written i x (bytes h) ≡ bytes' h
+    → Known (record s { zone = at.below ++ with_content (written i x (content_of at.here)) at.here ∷ at.above }) bytes'
+known-put s bytes known h i x at is bytes' same now =
+    let here = known-at s bytes known h at is in
+    let new : Block = with_content (written i x (content_of at.here)) at.here in
+    known-replaced s (at.below ++ new ∷ at.above) bytes known h here.2 bytes' same here.0 new
+    (ap (λ b. with_content (written i x (content_of b)) b) here.1 ∙ ap (λ y. Relocatable h here.0 y) now)
+    (λ of none. swapped-le of none (is_relocatable h) (λ n. refl) s.zone at new is (known.once h))
+
+pub known-put_pointer : (s : State) (bytes : ℕ → List ℕ) → Known s bytes → (p i : ℕ) (x : List ℕ) (at : Spot)
+    → spot (is_fixed p) s.zone ≡ Some at
+    → Known (record s { zone = at.below ++ with_content (written i x (content_of at.here)) at.here ∷ at.above })
+    (with_bytes p (written i x (bytes p)) bytes)
+known-put_pointer s bytes known p i x at is =
+    let here = known-pointed s bytes known p at is in
+    let new : Block = with_content (written i x (content_of at.here)) at.here in
+    known-replaced_pointer s (at.below ++ new ∷ at.above) bytes known p here.1 (written i x (bytes p)) new
+    (ap (λ b. with_content (written i x (content_of b)) b) here.0)
+    (λ of none. swapped-le of none (is_fixed p) (λ n. refl) s.zone at new is (known.single p))
+
+-- a block that grew or was cut
+pub known-grown : (s : State) (bytes : ℕ → List ℕ) → Known s bytes
+    → (h n : ℕ) (sp : Block → Bool) (at : Spot) (zone : List Block) → spot (is_relocatable h) s.zone ≡ Some at
+    → grow (is_relocatable h) sp n s.zone ≡ Some zone
+    → Known (record s { zone = zone }) (with_bytes h (resized_content n (bytes h)) bytes)
+known-grown s bytes known h n sp at zone is grew =
+    let here = known-at s bytes known h at is in
+    known-replaced s zone bytes known h here.2 (with_bytes h (resized_content n (bytes h)) bytes)
+    (with-other h (resized_content n (bytes h)) bytes) here.0 (resized n at.here)
+    (ap (resized n) here.1 ∙ ap (λ y. Relocatable h here.0 y) (sym (with-same h (resized_content n (bytes h)) bytes)))
+    (λ of none. grown-le of none (is_relocatable h) (λ n. refl) sp n s.zone zone at is (known.once h) grew)
+
+pub known-grown_pointer : (s : State) (bytes : ℕ → List ℕ) → Known s bytes → (p n : ℕ) (at : Spot) (zone : List Block)
+    → spot (is_fixed p) s.zone ≡ Some at → grow (is_fixed p) nothing n s.zone ≡ Some zone
+    → Known (record s { zone = zone }) (with_bytes p (resized_content n (bytes p)) bytes)
+known-grown_pointer s bytes known p n at zone is grew =
+    let here = known-pointed s bytes known p at is in
+    known-replaced_pointer s zone bytes known p here.1 (resized_content n (bytes p)) (resized n at.here)
+    (ap (resized n) here.0)
+    (λ of none. grown-le of none (is_fixed p) (λ n. refl) nothing n s.zone zone at is (known.single p) grew)
+
+-- an emptied handle leaves the others
+pub known-emptied : (s : State) (bytes : ℕ → List ℕ) → Known s bytes → (h : ℕ)
+    → Known (record s { zone = tidy (freed (is_relocatable h) s.zone) }) bytes
+known-emptied s bytes known h =
+    known-less s (tidy (freed (is_relocatable h) s.zone)) bytes
+    (λ of none. let u = unless-le (is_relocatable h) of s.zone in
+    omega (arith, tidied of none (freed (is_relocatable h) s.zone), freed-is of none (is_relocatable h) s.zone))
+    known
+
+-- a new block of a handle
+pub known-reallocated : (s : State) (bytes : ℕ → List ℕ) → Known s bytes → (h n : ℕ)
+    → for_handle (slice_get s.names h) ≡ true → (zone : List Block) → reallocated h n s.zone ≡ Some zone
+    → Known (record s { zone = zone }) (with_bytes h (replicate n 0) bytes)
+known-reallocated s bytes known h n is zone made =
+    let new : Block = Relocatable h no_flags (replicate n 0) in
+    known-replaced s zone bytes known h is (with_bytes h (replicate n 0) bytes) (with-other h (replicate n 0) bytes)
+    no_flags new (ap (λ y. Relocatable h no_flags y) (sym (with-same h (replicate n 0) bytes)))
+    (λ of none. let l = room-le of none new nothing (freed (is_relocatable h) s.zone) zone made in
+    omega (arith, freed-is of none (is_relocatable h) s.zone))
+
+-- a block with other flags
+pub known-flags : (change : Flags → Flags) (handle : Option ℕ) (s : State) (bytes : ℕ → List ℕ) → Known s bytes
+    → Known (change_flags change handle s).1 bytes
+known-flags change None s bytes known = known
+known-flags change (Some h) s bytes known = by_spot (look_up (Some h) s) (λ k is. (look_up-spot h s k is).0)
+  where
+    by_spot : (r : Result Held OsErr) → ((k : Held) → r ≡ Ok k → spot (is_relocatable h) s.zone ≡ Some k.at)
+        → Known (for_found {T = Unit {0}} r s (λ held. (
+          Ok tt,
+          record s
+              { zone = held.at.below ++ flagged change held.at.here ∷ held.at.above },
+        ))).1 bytes
+    by_spot (Err code) found = known
+    by_spot (Ok k) found =
+        let here = known-at s bytes known h k.at (found k refl) in
+        known-replaced s (k.at.below ++ flagged change k.at.here ∷ k.at.above) bytes known h here.2 bytes (λ j e. refl)
+        (change here.0) (flagged change k.at.here) (ap (flagged change) here.1)
+        (λ of none. swapped-le of none (is_relocatable h) (λ n. refl) s.zone k.at (flagged change k.at.here)
+        (found k refl) (known.once h))
+
+-- a block moved to the top of its run
+hoisted-le : (of : Block → ℕ) → SeesNoFree of → (h : ℕ) (zone : List Block) → total of (hoisted h zone) ≤ total of zone
+hoisted-le of none h zone = cases (change_run (has (is_relocatable h)) (high (is_relocatable h)) zone)
+    (λ z e. changed-le of none (has (is_relocatable h)) (high (is_relocatable h)) (high-le of none (is_relocatable h))
+    zone z e)
+  where
+    cases : (o : Option (List Block)) → ((z : List Block) → o ≡ Some z → total of z ≤ total of zone)
+        → total of (unwrap_or (option_map tidy o) zone) ≤ total of zone
+    cases None less = omega arith
+    cases (Some z) less = let l = less z refl in omega (arith, tidied of none z)
+
+pub known-hoisted : (handle : Option ℕ) (s : State) (bytes : ℕ → List ℕ) → Known s bytes
+    → Known (move_hhi handle s).1 bytes
+known-hoisted handle s bytes known = by_spot (look_up handle s)
+  where
+    by_mover : (h : ℕ) (t : Bool) → Known (cond t (let done : Answer (Unit {0}) =
+        (Ok tt, record s { zone = hoisted h s.zone }) in done) (refused LOCKED s)).1 bytes
+    by_mover h true = known-less s (hoisted h s.zone) bytes (λ of none. hoisted-le of none h s.zone) known
+    by_mover h false = known
+
+    by_spot : (r : Result Held OsErr) → Known (for_found {T = Unit {0}} r s
+        (λ held. if is_mover held.at.here then (Ok tt, record s { zone = hoisted held.number s.zone })
+        else refused LOCKED s)).1 bytes
+    by_spot (Err code) = known
+    by_spot (Ok k) = by_mover k.number (is_mover k.at.here)
+
+-- bytes written behind those that a block had
+written-behind : (len : ℕ) (x old : List ℕ) → length old ≡ len
+    → written len x (resized_content (len + length x) old) ≡ old ++ x
+written-behind len x old is = ap (written len x) whole ∙ parts
+  where
+    filler : List ℕ
+    filler = replicate (length x) 0
+
+    whole : resized_content (len + length x) old ≡ old ++ filler
+    whole =
+        ap (λ (l : List ℕ). l ++ replicate (len + length x - length old) 0)
+        (take_all (len + length x) old (omega (arith, is)))
+        ∙ ap (λ (n : ℕ). old ++ replicate n 0) (let z : len + length x - length old ≡ length x = omega (arith, is) in z)
+
+    parts : (take len (old ++ filler) ++ x) ++ drop (len + length x) (old ++ filler) ≡ old ++ x
+    parts =
+        ap (λ (l : List ℕ). (l ++ x) ++ drop (len + length x) (old ++ filler))
+        (ap (λ (n : ℕ). take n (old ++ filler)) (sym is) ∙ take-append_seam old filler)
+        ∙ ap (λ (l : List ℕ). (old ++ x) ++ l) (drop_all (len + length x) (old ++ filler)
+        (omega (arith, is, length-append old filler, length-replicate {A = ℕ} (length x) 0)))
+        ∙ append-nil (old ++ x)
+
+-- where none is found none passes
+pub none-spot : (test : Block → Bool) (bs : List Block) → spot test bs ≡ None → count test bs ≤ 0
+none-spot test [] e = omega arith
+none-spot test (b ∷ bs) e = cases (test b) (spot test bs) e (λ e. none-spot test bs e)
+  where
+    cases : (t : Bool) (o : Option Spot) → cond t (Some (let s : Spot = record { below = []; here = b; above = bs } in
+        s)) (option_map (raised b) o) ≡ None → (o ≡ None → count test bs ≤ 0) → cond {A = ℕ} t 1 0 + count test bs ≤ 0
+    cases true o e rest = absurd (none-some _ (sym e))
+    cases false None e rest = let r = rest refl in omega arith
+    cases false (Some s) e rest = absurd (none-some _ (sym e))
+
+-- a block with bytes behind its own
+known-written : (s : State) (bytes : ℕ → List ℕ) (h len : ℕ) (x : List ℕ) → for_handle (slice_get s.names h) ≡ true
+    → length (bytes h) ≡ len → Known s (with_bytes h (resized_content (len + length x) (bytes h)) bytes)
+    → Known (record s { zone = written_in h len x s.zone (spot (is_relocatable h) s.zone) })
+    (with_bytes h (bytes h ++ x) bytes)
+known-written s bytes h len x is long known = by_spot (spot (is_relocatable h) s.zone) refl
+  where
+    mid : ℕ → List ℕ
+    mid = with_bytes h (resized_content (len + length x) (bytes h)) bytes
+
+    new : ℕ → List ℕ
+    new = with_bytes h (bytes h ++ x) bytes
+
+    same : (k : ℕ) → (k == h) ≡ false → new k ≡ mid k
+    same k e = with-other h (bytes h ++ x) bytes k e ∙ sym (with-other h (resized_content (len + length x) (bytes h))
+        bytes k e)
+
+    by_spot : (o : Option Spot) → spot (is_relocatable h) s.zone ≡ o
+        → Known (record s { zone = written_in h len x s.zone o }) new
+    by_spot None e =
+        handle-changed s s mid new h (Free 0) refl (λ k e. refl) (λ k. refl) (handle-only (slice_get s.names h) is) same
+        (λ k other n e. e)
+        (λ of none. omega (
+          arith,
+          none 0,
+          unless-none (is_relocatable h) of s.zone
+              (none-spot (is_relocatable h) s.zone e),
+        )) known
+    by_spot (Some at) e =
+        known-put s mid known h len x at e new same
+        (ap (written len x) (with-same h (resized_content (len + length x) (bytes h)) bytes)
+        ∙ written-behind len x (bytes h) long ∙ sym (with-same h (bytes h ++ x) bytes))
+
+pub known-appended : (s : State) (bytes : ℕ → List ℕ) → Known s bytes → (sp : Block → Bool) (h : ℕ) (at : Spot)
+    → spot (is_relocatable h) s.zone ≡ Some at → (x : List ℕ) (tells : Told → ℕ → List ℕ)
+    → with_bytes h (bytes h ++ x) bytes ≡ tells Done → ((code : OsErr) → bytes ≡ tells (Refused code))
+    → Known (append sp h (length (content_of at.here)) x s).1 (tells
+    (told_as {T = Unit {0}} (λ (u : Unit {0}). Done) (append sp h (length (content_of at.here)) x s).0))
+known-appended s bytes known sp h at found x tells done_told refused_told = by_size (is_some (phys (len + length x)))
+  where
+    len : ℕ
+    len = length (content_of at.here)
+
+    grew : Option (List Block)
+    grew = grow (is_relocatable h) sp (len + length x) s.zone
+
+    by_zone : (o : Option (List Block)) → grew ≡ o → Known (appended sp h len x o s).1
+        (tells (told_as {T = Unit {0}} (λ (u : Unit {0}). Done) (appended sp h len x o s).0))
+    by_zone None e = subst (Known s) (refused_told MEM_FULL) known
+    by_zone (Some zone) e =
+        let here = known-at s bytes known h at found in
+        subst (Known (record s { zone = written_in h len x zone (spot (is_relocatable h) zone) })) done_told
+        (known-written (record s { zone = zone }) bytes h len x here.2 (ap (λ b. length (content_of b)) (sym here.1))
+        (known-grown s bytes known h (len + length x) sp at zone found e))
+
+    by_size : (t : Bool) → Known (cond t (appended sp h len x grew s) (refused MEM_FULL s)).1
+        (tells (told_as {T = Unit {0}} (λ (u : Unit {0}). Done) (cond t (appended sp h len x grew s)
+        (refused MEM_FULL s)).0))
+    by_size true = by_zone grew refl
+    by_size false = subst (Known s) (refused_told MEM_FULL) known

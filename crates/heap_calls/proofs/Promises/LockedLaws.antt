@@ -1,0 +1,237 @@
+use Rattle.std.proofs.Common.{◌≡◌, ℕ, ◌/◌, ◌%◌, ◌≤◌, Bool, true, false, not, ◌&&◌, ◌==◌, List, ◌∷◌, refl, sym, ◌∙◌, ap}
+use Rattle.std.proofs.Common.{subst, cond, arith, Option, Some, None}
+use Rattle.std.proofs.lemmas.Bool.{cond-false, and_parts}
+use Rattle.std.proofs.lemmas.Bool.Decides.{Decides-eqb}
+use Rattle.std.proofs.lemmas.Option.{none-some}
+use Rattle.block_store.specs.declared.flags.Flags.{Flags}
+use Rattle.block_store.specs.Block.{Block, Free, Fixed, Masters, Relocatable, total, count, is_mover, is_relocatable}
+use Rattle.block_store.specs.Block.{is_fixed, with_content, resized}
+use Rattle.block_store.specs.Run.{in_run}
+use Rattle.block_store.specs.Room.{Spot, spot}
+use Rattle.block_store.proofs.Zone.Tidy.{spot-is, spot-passes}
+use Rattle.block_store.proofs.Zone.Totals.{total-append, total-le}
+use Rattle.heap_calls.specs.State.{Memory}
+use Rattle.heap_calls.specs.Answer.{flagged}
+use Rattle.heap_calls.specs.Purging.{is_loose}
+use Rattle.heap_calls.specs.Asked.{Asked, answered}
+use Rattle.heap_calls.specs.Asked as asked
+use Rattle.heap_calls.specs.Locked.{is_locked, locked_place, releases, OneBlockEach, StaysLocked}
+use Rattle.block_store.proofs.Zone.Keeping.{apart}
+use Rattle.heap_calls.proofs.Promises.KnownChanges.{none-spot}
+use Rattle.block_store.proofs.Zone.Alike.{stands-is, locks, stands-none}
+use Rattle.heap_calls.proofs.Promises.AlikeCalls.{Steady, LeavesFlags, Leaves, LeavesLoose, flagged-number}
+use Rattle.heap_calls.proofs.Promises.AlikeCalls.{alike-answered}
+
+-- No call moves or empties a locked block, unless it releases it.
+
+-- no block of a run is locked, and a lock hangs on neither size nor bytes
+steady-locked : (h : ℕ) → Steady (is_locked h)
+steady-locked h = record { rigid = rigid; sized = sized; filled = filled; masters = refl }
+  where
+    rigid : (b : Block) → in_run b ≡ true → is_locked h b ≡ false
+    rigid (Free n) e = refl
+    rigid (Fixed id content) e = refl
+    rigid Masters e = refl
+    rigid (Relocatable id flags content) e = cases (id == h) flags.locked e
+      where
+        cases : (t l : Bool) → not l ≡ true → (t && l) ≡ false
+        cases t true e = let f : false ≡ true = e in cc
+        cases true false e = refl
+        cases false false e = refl
+
+    sized : (n : ℕ) (b : Block) → is_locked h b ≡ is_locked h (resized n b)
+    sized n (Free m) = refl
+    sized n (Fixed id content) = refl
+    sized n Masters = refl
+    sized n (Relocatable id flags content) = refl
+
+    filled : (x : List ℕ) (b : Block) → is_locked h b ≡ is_locked h (with_content x b)
+    filled x (Free n) = refl
+    filled x (Fixed id content) = refl
+    filled x Masters = refl
+    filled x (Relocatable id flags content) = refl
+
+-- a locked block of a handle is one of its blocks
+fewer : (h : ℕ) (bs : List Block) → total (locks (is_locked h)) bs ≤ count (is_relocatable h) bs
+fewer h bs = total-le (locks (is_locked h)) (λ b. cond (is_relocatable h b) 1 0) each bs
+  where
+    each : (b : Block) → locks (is_locked h) b ≤ cond {A = ℕ} (is_relocatable h b) 1 0
+    each (Free n) = omega arith
+    each (Fixed id content) = omega arith
+    each Masters = omega arith
+    each (Relocatable id flags content) = cases (id == h) flags.locked
+      where
+        cases : (t l : Bool) → cond {A = ℕ} (t && l) 1 0 ≤ cond {A = ℕ} t 1 0
+        cases true true = omega arith
+        cases true false = omega arith
+        cases false l = omega arith
+
+-- there is a locked block where it has a place
+some-locked : (h place : ℕ) (zone : List Block) → locked_place h zone ≡ Some place → (R : Type 0)
+    → total (locks (is_locked h)) zone ≤ 0 → R
+some-locked h place zone is R none = absurd (none-some place
+    (sym (stands-none (is_locked h) zone none) ∙ sym (stands-is (is_locked h) zone) ∙ is))
+
+-- the block of a handle that is locked
+locked-only : (h place : ℕ) (zone : List Block) (s : Spot) → count (is_relocatable h) zone ≤ 1
+    → spot (is_relocatable h) zone ≡ Some s → locked_place h zone ≡ Some place → is_locked h s.here ≡ true
+locked-only h place zone s once found is = cases (is_locked h s.here) refl
+  where
+    cases : (t : Bool) → is_locked h s.here ≡ t → is_locked h s.here ≡ true
+    cases true e = e
+    cases false e =
+        let a = apart (is_relocatable h) zone s found once in
+        let below = fewer h s.below in let above = fewer h s.above in
+        let here : locks (is_locked h) s.here ≡ 0 = cond-false (is_locked h s.here) 1 0 e in
+        some-locked h place zone is (is_locked h s.here ≡ true)
+        (omega (
+          arith,
+          ap (total (locks (is_locked h))) (spot-is (is_relocatable h) zone s found),
+          total-append
+              (locks (is_locked h)) s.below (s.here ∷ s.above),
+        ))
+
+locked-stands : (h : ℕ) (b : Block) → is_locked h b ≡ true → is_mover b ≡ false
+locked-stands h (Free n) e = refl
+locked-stands h (Fixed id content) e = refl
+locked-stands h Masters e = refl
+locked-stands h (Relocatable id flags content) e = ap not (and_parts (id == h) flags.locked e).1
+
+-- a block of another handle
+other-unlocked : (h k : ℕ) → (k == h) ≡ false → (b : Block) → is_relocatable k b ≡ true → is_locked h b ≡ false
+other-unlocked h k other (Free n) e = refl
+other-unlocked h k other (Fixed id content) e = refl
+other-unlocked h k other Masters e = refl
+other-unlocked h k other (Relocatable id flags content) e = ap (λ j. j == h && flags.locked) ((Decides-eqb id k).0 e)
+    ∙ ap (λ t. t && flags.locked) other
+
+-- a number is another one or the same
+by_number : (h k : ℕ) (R : Type 0) → (k ≡ h → R) → ((k == h) ≡ false → R) → R
+by_number h k R same other = cases (k == h) refl
+  where
+    cases : (t : Bool) → (k == h) ≡ t → R
+    cases true e = same ((Decides-eqb k h).0 e)
+    cases false e = other e
+
+-- a handle without a locked block isn't that of the locked one
+loose-unlocked : (h place : ℕ) (zone : List Block) → OneBlockEach zone → locked_place h zone ≡ Some place
+    → LeavesLoose (is_locked h) zone
+loose-unlocked h place zone once is k loose =
+    by_number h k ((b : Block) → is_relocatable k b ≡ true → is_locked h b ≡ false)
+    (λ same. by_spot (spot (is_relocatable h) zone) refl (subst
+    (λ (j : ℕ). is_loose (spot (is_relocatable j) zone) ≡ true) same loose)) (other-unlocked h k)
+  where
+    by_spot : (o : Option Spot) → spot (is_relocatable h) zone ≡ o → is_loose o ≡ true → (b : Block)
+        → is_relocatable k b ≡ true → is_locked h b ≡ false
+    by_spot None found e b passes =
+        let few = fewer h zone in let none = none-spot (is_relocatable h) zone found in
+        some-locked h place zone is (is_locked h b ≡ false) (omega arith)
+    by_spot (Some at) found e b passes = let f : true ≡ false = sym e
+        ∙ locked-stands h at.here (locked-only h place zone at (once h) found is) in cc
+
+-- other flags, where the lock of a locked block stays
+flags-locked : (h place : ℕ) (zone : List Block) → OneBlockEach zone → locked_place h zone ≡ Some place
+    → (k : ℕ) (change : Flags → Flags) → (k ≡ h → (b : Block) → is_locked h b ≡ true
+    → is_locked h (flagged change b) ≡ true)
+    → LeavesFlags (is_locked h) zone k change
+flags-locked h place zone once is k change kept at found =
+    by_number h k (is_locked h at.here ≡ is_locked h (flagged change at.here))
+    (λ same. let locked = locked-only h place zone at (once h)
+    (subst (λ (j : ℕ). spot (is_relocatable j) zone ≡ Some at) same found) is in
+    locked ∙ sym (kept same at.here locked))
+    (λ other. let passes = spot-passes (is_relocatable k) zone at found in
+    other-unlocked h k other at.here passes ∙ sym (other-unlocked h k other (flagged change at.here)
+    (flagged-number change k at.here ∙ passes)))
+
+-- a change that locks, or leaves the lock
+still-locked : (h : ℕ) (change : Flags → Flags) → ((f : Flags) → f.locked ≡ true → (change f).locked ≡ true)
+    → (b : Block) → is_locked h b ≡ true → is_locked h (flagged change b) ≡ true
+still-locked h change kept (Free n) e = e
+still-locked h change kept (Fixed id content) e = e
+still-locked h change kept Masters e = e
+still-locked h change kept (Relocatable id flags content) e = let both = and_parts (id == h) flags.locked e in
+    rw (both.0, kept flags both.1) refl
+
+-- a call on another handle
+another : (h k : ℕ) (R : Type 0) → (k == h) ≡ false → k ≡ h → R
+another h k R other same = let f : true ≡ false = sym ((Decides-eqb k h).1 same) ∙ other in cc
+
+leaves-locked : (h place : ℕ) (zone : List Block) → OneBlockEach zone → locked_place h zone ≡ Some place → (a : Asked)
+    → releases h a ≡ false → Leaves (is_locked h) zone a
+leaves-locked h place zone once is (asked.DisposeHandle None) keeps = tt
+leaves-locked h place zone once is (asked.DisposeHandle (Some k)) keeps = other-unlocked h k keeps
+leaves-locked h place zone once is (asked.DisposePtr None) keeps = tt
+leaves-locked h place zone once is (asked.DisposePtr (Some p)) keeps = unlocked
+  where
+    unlocked : (b : Block) → is_fixed p b ≡ true → is_locked h b ≡ false
+    unlocked (Free n) e = refl
+    unlocked (Fixed id content) e = refl
+    unlocked Masters e = refl
+    unlocked (Relocatable id flags content) e = let f : false ≡ true = e in cc
+leaves-locked h place zone once is (asked.HLock None) keeps = tt
+leaves-locked h place zone once is (asked.HLock (Some k)) keeps =
+    flags-locked h place zone once is k (λ f. record f { locked = true })
+    (λ same b. still-locked h (λ f. record f { locked = true }) (λ f e. refl) b)
+leaves-locked h place zone once is (asked.HUnlock None) keeps = tt
+leaves-locked h place zone once is (asked.HUnlock (Some k)) keeps =
+    flags-locked h place zone once is k (λ f. record f { locked = false })
+    (λ same b e. another h k (is_locked h (flagged (λ f. record f { locked = false }) b) ≡ true) keeps same)
+leaves-locked h place zone once is (asked.HPurge None) keeps = tt
+leaves-locked h place zone once is (asked.HPurge (Some k)) keeps =
+    flags-locked h place zone once is k (λ f. record f { purgeable = true })
+    (λ same b. still-locked h (λ f. record f { purgeable = true }) (λ f e. e) b)
+leaves-locked h place zone once is (asked.HNoPurge None) keeps = tt
+leaves-locked h place zone once is (asked.HNoPurge (Some k)) keeps =
+    flags-locked h place zone once is k (λ f. record f { purgeable = false })
+    (λ same b. still-locked h (λ f. record f { purgeable = false }) (λ f e. e) b)
+leaves-locked h place zone once is (asked.HSetState None byte) keeps = tt
+leaves-locked h place zone once is (asked.HSetState (Some k) byte) keeps =
+    flags-locked h place zone once is k set (λ same b. still-locked h set
+    (λ f e. locks_too (byte / 128 % 2 == 1) (released same)) b)
+  where
+    set : Flags → Flags
+    set f = record { locked = byte / 128 % 2 == 1; purgeable = byte / 64 % 2 == 1 }
+
+    released : k ≡ h → not (byte / 128 % 2 == 1) ≡ false
+    released same = ap (λ t. t && not (byte / 128 % 2 == 1)) (sym ((Decides-eqb k h).1 same)) ∙ keeps
+
+    locks_too : (t : Bool) → not t ≡ false → t ≡ true
+    locks_too true e = refl
+    locks_too false e = let f : true ≡ false = e in cc
+leaves-locked h place zone once is (asked.NewHandle n) keeps = tt
+leaves-locked h place zone once is asked.NewEmptyHandle keeps = tt
+leaves-locked h place zone once is (asked.GetHandleSize handle) keeps = tt
+leaves-locked h place zone once is (asked.SetHandleSize handle n) keeps = tt
+leaves-locked h place zone once is (asked.ReallocateHandle handle n) keeps = tt
+leaves-locked h place zone once is (asked.EmptyHandle handle) keeps = tt
+leaves-locked h place zone once is (asked.HGetState handle) keeps = tt
+leaves-locked h place zone once is (asked.MoveHHi handle) keeps = tt
+leaves-locked h place zone once is (asked.HLockHi handle) keeps = tt
+leaves-locked h place zone once is (asked.HandToHand handle) keeps = tt
+leaves-locked h place zone once is (asked.HandAndHand from to) keeps = tt
+leaves-locked h place zone once is (asked.PtrAndHand handle x) keeps = tt
+leaves-locked h place zone once is (asked.NewPtr n) keeps = tt
+leaves-locked h place zone once is (asked.GetPtrSize pointer) keeps = tt
+leaves-locked h place zone once is (asked.SetPtrSize pointer n) keeps = tt
+leaves-locked h place zone once is asked.FreeMem keeps = tt
+leaves-locked h place zone once is asked.MaxBlock keeps = tt
+leaves-locked h place zone once is asked.PurgeSpace keeps = tt
+leaves-locked h place zone once is (asked.CompactMem n) keeps = tt
+leaves-locked h place zone once is (asked.PurgeMem n) keeps = tt
+leaves-locked h place zone once is asked.MaxMem keeps = tt
+leaves-locked h place zone once is (asked.ReserveMem n) keeps = tt
+leaves-locked h place zone once is asked.MoreMasters keeps = tt
+leaves-locked h place zone once is asked.MemError keeps = tt
+leaves-locked h place zone once is (asked.Put handle i x) keeps = tt
+leaves-locked h place zone once is (asked.Show handle) keeps = tt
+leaves-locked h place zone once is (asked.PutPtr pointer i x) keeps = tt
+leaves-locked h place zone once is (asked.ShowPtr pointer) keeps = tt
+leaves-locked h place zone once is (asked.Where name) keeps = tt
+
+pub stays-locked : (a : Asked) (m : Memory) → OneBlockEach m.heap.zone → StaysLocked a m
+stays-locked a m once h place keeps is =
+    let zone = m.heap.zone in
+    let z = (answered a m).1.heap.zone in
+    let alike = alike-answered (is_locked h) (steady-locked h) a m once (loose-unlocked h place zone once is)
+    (λ x. refl) (leaves-locked h place zone once is a keeps) in
+    stands-is (is_locked h) z ∙ sym alike.1 ∙ sym (stands-is (is_locked h) zone) ∙ is

@@ -1,0 +1,467 @@
+use Rattle.std.proofs.Common.{◌≡◌, ◌≢◌, ℕ, ◌+◌, ◌≤◌, Bool, true, false, ◌||◌, List, ◌∷◌, ◌++◌, length, refl, sym, ◌∙◌}
+use Rattle.std.proofs.Common.{ap, subst, cond, arith, Option, Some, None, Result, Ok, Err, replicate, nat_le, nat_lt}
+use Rattle.std.proofs.Common.{slice_get, slice_set, ◌/◌, ◌%◌, ◌==◌}
+use Rattle.std.specs.Option.{option_map, ok_or}
+use Rattle.std.specs.Prelude.{is_some, unwrap_or}
+use Rattle.mac_words.specs.Size.{phys}
+use Rattle.mac_words.specs.declared.code.OsErr.{OsErr}
+use Rattle.mac_words.specs.declared.code.TheConstants.OsErr.{NIL_HANDLE, MEM_FULL, LOCKED, PROFILE, PURGED}
+use Rattle.block_store.specs.declared.flags.Flags.{Flags}
+use Rattle.block_store.specs.Block.{Block, Fixed, Masters, Relocatable, is_mover, is_relocatable, is_fixed, content_of}
+use Rattle.block_store.specs.Block.{with_content, no_flags, sizes, tidy, count}
+use Rattle.windows.specs.Writes.{written}
+use Rattle.block_store.specs.Run.{change_run, has, high}
+use Rattle.block_store.specs.Room.{Spot, spot, put_in_place, put_at_base, room}
+use Rattle.block_store.specs.Grow.{freed, grow}
+use Rattle.block_store.proofs.Zone.Tidy.{spot-is, spot-passes}
+use Rattle.block_store.proofs.Zone.Totals.{total-append}
+use Rattle.heap_calls.specs.State.{State, Memory, Role, Plain, Resource, SystemResource, Meaning, Handle, Pointer}
+use Rattle.heap_calls.specs.State.{Disposed, used_slots, all_slots}
+use Rattle.heap_calls.specs.Answer.{Answer, Known, Held, nothing, given, refused, disposed_of, rebuilt, flagged}
+use Rattle.heap_calls.specs.Answer.{change_flags, hoisted, look_up, held_at, handle_at, known_as, for_found, written_at}
+use Rattle.heap_calls.specs.Answer.{on_block, code_of, without}
+use Rattle.heap_calls.specs.Answer as calls
+use Rattle.heap_calls.specs.Slots.{slotted, if_ready, new_block, more_masters, new_handle, new_empty_handle}
+use Rattle.heap_calls.specs.Pointers.{pointed_at, block_named, reserved, reserve_mem, new_pointer, dispose_pointer}
+use Rattle.heap_calls.specs.Pointers.{get_pointer_size, set_pointer_size, put_pointer, show_pointer, place_of}
+use Rattle.heap_calls.specs.Pointers.{add_masters}
+use Rattle.heap_calls.specs.Purging.{is_resource, block_bits, bit, emptied_at, is_loose, reallocated, h_purge}
+use Rattle.heap_calls.specs.Purging.{h_no_purge, h_get_state, h_set_state, empty_handle, reallocate_handle, purge_mem}
+use Rattle.heap_calls.specs.Copying.{append, appended, hand_to_hand, hand_and_hand, pointer_and_hand}
+use Rattle.heap_calls.specs.Asked.{Asked, Told, Done, Given, Number, Numbers, Bytes, Refused, told_as, answered}
+use Rattle.heap_calls.specs.Asked as asked
+use Rattle.heap_calls.specs.Refused.{slotted_zone, copying_zone, zone_left, RefusedLeaves}
+use Rattle.block_store.proofs.Zone.Keeping.{tidied}
+use Rattle.heap_calls.proofs.Promises.KnownChanges.{none-spot}
+use Rattle.heap_calls.proofs.Promises.Knowing.{look_up-spot}
+use Rattle.block_store.proofs.Zone.Surviving.{changed-all, high-all}
+
+-- A refused call leaves all as it was, but for the zone where the table says so.
+
+-- what an answer leaves of a heap where it is a refusal
+abbrev Leaves : {T : Type 0} → List Block → State → Answer T → Type 0
+Leaves zone s answer = (code : OsErr) → answer.0 ≡ Err code → answer.1 ≡ record s { zone = zone }
+
+-- what is told of a value isn't a refusal
+abbrev Tells : {T : Type 0} → (T → Told) → Type 0
+Tells {T = T} tell = (value : T) (code : OsErr) → tell value ≢ Refused code
+
+refused-told : {T : Type 0} (tell : T → Told) → Tells tell → (r : Result T OsErr) (code : OsErr)
+    → told_as tell r ≡ Refused code → r ≡ Err code
+refused-told tell tells (Ok value) code e = absurd (tells value code e)
+refused-told tell tells (Err other) code e = cc
+
+done-tells : Tells {T = Unit {0}} (λ _. Done)
+done-tells value code e = cc
+
+given-tells : Tells {T = ℕ} Given
+given-tells value code e = cc
+
+number-tells : Tells {T = ℕ} Number
+number-tells value code e = cc
+
+bytes-tells : Tells {T = List ℕ} Bytes
+bytes-tells value code e = cc
+
+-- a call as it is told: its code is noted
+noted : {T : Type 0} (tell : T → Told) → Tells tell → (answer : Answer T) (m after : Memory) (zone : List Block)
+    → Leaves zone m.heap answer
+    → after.heap ≡ answer.1 → after.log.code ≡ code_of answer.0 → after.window ≡ m.window
+    → (code : OsErr) → told_as tell answer.0 ≡ Refused code
+    → (after.heap ≡ record m.heap { zone = zone }) × (after.log.code ≡ code) × (after.window ≡ m.window)
+noted tell tells answer m after zone leaves heap told window code e =
+    let is = refused-told tell tells answer.0 code e in
+    (heap ∙ leaves code is, told ∙ ap code_of is, window)
+
+-- or its code isn't noted
+silent : {T : Type 0} (tell : T → Told) → Tells tell → (answer : Answer T) (m after : Memory)
+    → Leaves m.heap.zone m.heap answer
+    → after.heap ≡ answer.1 → after.log.code ≡ m.log.code → after.window ≡ m.window
+    → (code : OsErr) → told_as tell answer.0 ≡ Refused code
+    → (after.heap ≡ m.heap) × (after.log.code ≡ m.log.code) × (after.window ≡ m.window)
+silent tell tells answer m after leaves heap same window code e =
+    (heap ∙ leaves code (refused-told tell tells answer.0 code e), same, window)
+
+-- the answers that a call is made of
+done : {T : Type 0} (value : T) (zone : List Block) (s after : State) → Leaves zone s (Ok value, after)
+done value zone s after code e = cc
+
+refused-leaves : {T : Type 0} (why : OsErr) (s : State) → Leaves {T = T} s.zone s (refused why s)
+refused-leaves why s code e = refl
+
+found-leaves : {A T : Type 0} (r : Result A OsErr) (s : State) (answer : A → Answer T)
+    → ((k : A) → Leaves s.zone s (answer k)) → Leaves s.zone s (for_found r s answer)
+found-leaves (Err why) s answer each code e = refl
+found-leaves (Ok k) s answer each code e = each k code e
+
+either-leaves : {T : Type 0} (t : Bool) (zone : List Block) (s : State) (one other : Answer T) → Leaves zone s one
+    → Leaves zone s other → Leaves zone s (cond t one other)
+either-leaves true zone s one other first second = first
+either-leaves false zone s one other first second = second
+
+rebuilt-leaves : (o : Option (List Block)) (s : State) → Leaves s.zone s (rebuilt o s)
+rebuilt-leaves None s code e = refl
+rebuilt-leaves (Some zone) s code e = cc
+
+given-leaves : (name : Meaning) (o : Option (List Block)) (s : State) → Leaves s.zone s (given name o s)
+given-leaves name None s code e = refl
+given-leaves name (Some zone) s code e = cc
+
+appended-leaves : (sp : Block → Bool) (h len : ℕ) (x : List ℕ) (o : Option (List Block)) (s : State)
+    → Leaves s.zone s (appended sp h len x o s)
+appended-leaves sp h len x None s code e = refl
+appended-leaves sp h len x (Some zone) s code e = cc
+
+append-leaves : (sp : Block → Bool) (h len : ℕ) (x : List ℕ) (s : State) → Leaves s.zone s (append sp h len x s)
+append-leaves sp h len x s =
+    either-leaves (is_some (phys (len + length x))) s.zone s
+    (appended sp h len x (grow (is_relocatable h) sp (len + length x) s.zone) s) (refused MEM_FULL s)
+    (appended-leaves sp h len x (grow (is_relocatable h) sp (len + length x) s.zone) s) (refused-leaves MEM_FULL s)
+
+written-leaves : (i : ℕ) (x : List ℕ) (at : Spot) (s : State) → Leaves s.zone s (written_at i x at s)
+written-leaves i x at s = by_test (nat_le (i + length x) (length (content_of at.here)))
+  where
+    after : State
+    after = record s { zone = at.below ++ with_content (written i x (content_of at.here)) at.here ∷ at.above }
+
+    by_test : (t : Bool) → Leaves {T = Unit {0}} s.zone s (cond t (Ok tt, after) (refused PROFILE s))
+    by_test true = done tt s.zone s after
+    by_test false = refused-leaves PROFILE s
+
+sized-leaves : (o : Option (List Block)) (n : ℕ) (s : State)
+    → Leaves s.zone s (cond (is_some (phys n)) (rebuilt o s) (refused MEM_FULL s))
+sized-leaves o n s =
+    either-leaves (is_some (phys n)) s.zone s (rebuilt o s) (refused MEM_FULL s) (rebuilt-leaves o s)
+    (refused-leaves MEM_FULL s)
+
+disposed-leaves : (role : Role) (h : ℕ) (s : State) → Leaves s.zone s (disposed_of role h s)
+disposed-leaves Plain h s = done tt s.zone s (without h s)
+disposed-leaves Resource h s = refused-leaves PROFILE s
+disposed-leaves SystemResource h s = refused-leaves PROFILE s
+
+emptied-leaves : (h : ℕ) (o : Option Spot) (s : State) → Leaves s.zone s (emptied_at h o s)
+emptied-leaves h None s = done tt s.zone s s
+emptied-leaves h (Some at) s = by_mover (is_mover at.here)
+  where
+    gone : State
+    gone = record s { zone = tidy (freed (is_relocatable h) s.zone) }
+
+    by_mover : (t : Bool) → Leaves {T = Unit {0}} s.zone s (cond t (Ok tt, gone) (refused PURGED s))
+    by_mover true = done tt s.zone s gone
+    by_mover false = refused-leaves PURGED s
+
+flags-leave : (change : Flags → Flags) (handle : Option ℕ) (s : State) → Leaves s.zone s (change_flags change handle s)
+flags-leave change handle s =
+    found-leaves (look_up handle s) s
+    (λ held. (Ok tt, record s { zone = held.at.below ++ flagged change held.at.here ∷ held.at.above }))
+    (λ held. done tt s.zone s (record s { zone = held.at.below ++ flagged change held.at.here ∷ held.at.above }))
+
+-- a new Masters block stays, and so does what the search for it emptied and moved
+ready-leaves : {T : Type 0} (sp : Block → Bool) (s : State) (answer : State → Answer T)
+    → ((r : State) → Leaves r.zone r (answer r)) → Leaves (slotted_zone sp s) s (if_ready (slotted sp s) s answer)
+ready-leaves {T = T} sp s answer each = by_slots (nat_lt (used_slots s) (all_slots s))
+  where
+    leaves : Option State → Type 0
+    leaves o = Leaves {T = T} (unwrap_or (option_map (λ (r : State). r.zone) o) s.zone) s (if_ready o s answer)
+
+    by_room : (o : Option (List Block)) → leaves (option_map (λ zone. record s { zone = zone }) o)
+    by_room None = refused-leaves MEM_FULL s
+    by_room (Some zone) = each (record s { zone = zone })
+
+    by_slots : (t : Bool) → leaves (cond t (Some s) (more_masters sp s))
+    by_slots true = each s
+    by_slots false = by_room (room (put_at_base Masters) sp s.zone)
+
+made-leaves : (sp : Block → Bool) (x : List ℕ) (s : State) → Leaves s.zone s (new_block sp x s)
+made-leaves sp x s =
+    given-leaves (Handle Plain) (room (put_in_place (Relocatable (length s.names) no_flags x)) sp s.zone) s
+
+handle-leaves : (n : ℕ) (s : State) → Leaves (slotted_zone nothing s) s (new_handle n s)
+handle-leaves n s =
+    ready-leaves nothing s (λ r. cond (is_some (phys n)) (new_block nothing (replicate n 0) r) (refused MEM_FULL r))
+    (λ r. either-leaves (is_some (phys n)) r.zone r (new_block nothing (replicate n 0) r) (refused MEM_FULL r)
+    (made-leaves nothing (replicate n 0) r) (refused-leaves MEM_FULL r))
+
+-- NewEmptyHandle isn't refused where there is a slot
+empty-leaves : (s : State) → Leaves s.zone s (new_empty_handle s)
+empty-leaves s = by_ready (slotted nothing s)
+  where
+    by_ready : (o : Option State) → Leaves s.zone s (if_ready o s (λ r. given (Handle Plain) (Some r.zone) r))
+    by_ready None = refused-leaves MEM_FULL s
+    by_ready (Some r) = done (length r.names) s.zone s (given (Handle Plain) (Some r.zone) r).1
+
+copy-leaves : (handle : Option ℕ) (s : State) → Leaves (copying_zone (look_up handle s) s) s (hand_to_hand handle s)
+copy-leaves handle s = by_held (look_up handle s)
+  where
+    by_held : (r : Result Held OsErr)
+        → Leaves (copying_zone r s) s
+        (for_found r s (λ held. if_ready (slotted (is_relocatable held.number) s) s
+        (new_block (is_relocatable held.number) (content_of held.at.here))))
+    by_held (Err why) = refused-leaves why s
+    by_held (Ok held) =
+        ready-leaves (is_relocatable held.number) s (new_block (is_relocatable held.number) (content_of held.at.here))
+        (made-leaves (is_relocatable held.number) (content_of held.at.here))
+
+-- a block that was moved high is there
+hoisted-count : (k : ℕ) (zone : List Block) → count (is_relocatable k) zone ≤ count (is_relocatable k) (hoisted k zone)
+hoisted-count k zone =
+    cases (change_run (has (is_relocatable k)) (high (is_relocatable k)) zone)
+    (λ z e. changed-all one (λ n. refl) (has (is_relocatable k)) (high (is_relocatable k))
+    (λ run alone. let h = high-all one (λ n. refl) (is_relocatable k) run alone in omega arith) zone z e)
+  where
+    one : Block → ℕ
+    one b = cond {A = ℕ} (is_relocatable k b) 1 0
+
+    cases : (o : Option (List Block))
+        → ((z : List Block) → o ≡ Some z → count (is_relocatable k) zone ≤ count (is_relocatable k) z)
+        → count (is_relocatable k) zone ≤ count (is_relocatable k) (unwrap_or (option_map tidy o) zone)
+    cases None less = omega arith
+    cases (Some z) less = let l = less z refl in omega (arith, tidied one (λ n. refl) z)
+
+-- a handle with a block has one where its block is in another zone
+found-again : (k : ℕ) (zone : List Block) (s : State) (held : Held) → look_up (Some k) s ≡ Ok held
+    → 1 ≤ count (is_relocatable k) zone → {code : OsErr} → look_up (Some k) (record s { zone = zone }) ≢ Err code
+found-again k zone s held is there {code = code} = by_name (slice_get s.names k) is
+  where
+    by_spot : (o : Option Spot) → spot (is_relocatable k) zone ≡ o
+        → ok_or {E = OsErr} (option_map (λ (at : Spot). let x : Held = record { number = k; at = at } in x) o)
+        NIL_HANDLE ≢ Err code
+    by_spot None none e = let c = none-spot (is_relocatable k) zone none in omega arith
+    by_spot (Some at) found e = cc
+
+    by_name : (o : Option Meaning) → held_at (known_as k o) s ≡ Ok held
+        → held_at (known_as k o) (record s { zone = zone }) ≢ Err code
+    by_name None is = cc
+    by_name (Some (Handle role)) is = by_spot (spot (is_relocatable k) zone) refl
+    by_name (Some Pointer) is = cc
+    by_name (Some Disposed) is = cc
+
+-- there is one that passes where it was found
+found-count : (test : Block → Bool) (zone : List Block) (at : Spot) → spot test zone ≡ Some at → 1 ≤ count test zone
+found-count test zone at found =
+    let here : cond {A = ℕ} (test at.here) 1 0 ≡ 1 =
+    ap {B = ℕ} (λ (t : Bool). cond t 1 0) (spot-passes test zone at found) in
+    omega (
+      arith,
+      ap (count test) (spot-is test zone at found),
+      total-append (λ b. cond (test b) 1 0) at.below
+          (at.here ∷ at.above),
+    )
+
+-- flags are changed of each block that is found
+flags-refused : (change : Flags → Flags) (handle : Option ℕ) (s : State) (code : OsErr)
+    → (change_flags change handle s).0 ≡ Err code → look_up handle s ≡ Err code
+flags-refused change handle s code e = by_held (look_up handle s) e
+  where
+    by_held : (r : Result Held OsErr)
+        → (for_found {T = Unit {0}} r s
+        (λ held. (Ok tt, record s { zone = held.at.below ++ flagged change held.at.here ∷ held.at.above }))).0
+        ≡ Err code → r ≡ Err code
+    by_held (Err why) e = cc
+    by_held (Ok held) e = cc
+
+moved-leaves : (handle : Option ℕ) (s : State) → Leaves s.zone s (calls.move_hhi handle s)
+moved-leaves handle s =
+    found-leaves (look_up handle s) s (λ held. moved held (is_mover held.at.here))
+    (λ held. by_mover held (is_mover held.at.here))
+  where
+    moved : Held → Bool → Answer (Unit {0})
+    moved held t = cond t (Ok tt, record s { zone = hoisted held.number s.zone }) (refused LOCKED s)
+
+    by_mover : (held : Held) (t : Bool) → Leaves s.zone s (moved held t)
+    by_mover held true = done tt s.zone s (record s { zone = hoisted held.number s.zone })
+    by_mover held false = refused-leaves LOCKED s
+
+-- HLockHi isn't refused once the block was moved
+locked_high-leaves : (handle : Option ℕ) (s : State) → Leaves s.zone s (calls.hlock_hi handle s)
+locked_high-leaves None s = refused-leaves NIL_HANDLE s
+locked_high-leaves (Some k) s = by_held (look_up (Some k) s) (λ held is. is)
+  where
+    lock : Flags → Flags
+    lock f = record f { locked = true }
+
+    moved : ℕ → Bool → Answer (Unit {0})
+    moved j t = cond t (Ok tt, record s { zone = hoisted j s.zone }) (refused LOCKED s)
+
+    by_mover : (held : Held) → look_up (Some k) s ≡ Ok held → (t : Bool)
+        → Leaves s.zone s (for_found (moved held.number t).0 s
+        (λ (u : Unit {0}). change_flags lock (Some k) (moved held.number t).1))
+    by_mover held is false = refused-leaves LOCKED s
+    by_mover held is true = λ code e.
+        let own = look_up-spot k s held is in
+        let one = found-count (is_relocatable k) s.zone held.at own.0 in
+        let rises : ℕ → Type 0 = λ j. count (is_relocatable k) s.zone ≤ count (is_relocatable k) (hoisted j s.zone) in
+        let more : rises held.number = subst rises (sym own.1) (hoisted-count k s.zone) in
+        absurd
+        (found-again k (hoisted held.number s.zone) s held is (omega arith)
+        (flags-refused lock (Some k) (record s { zone = hoisted held.number s.zone }) code e))
+
+    by_held : (r : Result Held OsErr) → ((held : Held) → r ≡ Ok held → look_up (Some k) s ≡ Ok held)
+        → Leaves s.zone s (for_found (for_found {T = Unit {0}} r s
+        (λ held. moved held.number (is_mover held.at.here))).0 s
+        (λ (u : Unit {0}). change_flags lock (Some k)
+        (for_found {T = Unit {0}} r s (λ held. moved held.number (is_mover held.at.here))).1))
+    by_held (Err why) is = refused-leaves why s
+    by_held (Ok held) is = by_mover held (is held refl) (is_mover held.at.here)
+
+renewed-leaves : (handle : Option ℕ) (n : ℕ) (s : State) → Leaves s.zone s (reallocate_handle handle n s)
+renewed-leaves handle n s =
+    found-leaves (handle_at handle s) s
+    (λ k. cond (is_loose (spot (is_relocatable k.number) s.zone))
+    (cond (is_some (phys n)) (rebuilt (reallocated k.number n s.zone) s) (refused MEM_FULL s)) (refused PURGED s))
+    (λ k. either-leaves (is_loose (spot (is_relocatable k.number) s.zone)) s.zone s
+    (cond (is_some (phys n)) (rebuilt (reallocated k.number n s.zone) s) (refused MEM_FULL s)) (refused PURGED s)
+    (sized-leaves (reallocated k.number n s.zone) n s) (refused-leaves PURGED s))
+
+reserved-leaves : (n : ℕ) (s : State) → Leaves s.zone s (reserve_mem n s)
+reserved-leaves n s = by_size (phys n) refl
+  where
+    by_size : (o : Option ℕ) → phys n ≡ o → Leaves s.zone s (reserve_mem n s)
+    by_size None e = rw e (refused-leaves MEM_FULL s)
+    by_size (Some p) e = rw e (rebuilt-leaves (room (reserved p) nothing s.zone) s)
+
+-- each call, refused, leaves its heap so
+pub refused_leaves : (a : Asked) (m : Memory) → RefusedLeaves a m
+refused_leaves (asked.NewHandle n) m =
+    noted Given given-tells (new_handle n m.heap) m (answered (asked.NewHandle n) m).1 (slotted_zone nothing m.heap)
+    (handle-leaves n m.heap) refl refl refl
+refused_leaves asked.NewEmptyHandle m =
+    noted Given given-tells (new_empty_handle m.heap) m (answered asked.NewEmptyHandle m).1 m.heap.zone
+    (empty-leaves m.heap) refl refl refl
+refused_leaves (asked.DisposeHandle handle) m =
+    noted (λ _. Done) done-tells (calls.dispose_handle handle m.heap) m (answered (asked.DisposeHandle handle) m).1
+    m.heap.zone
+    (found-leaves (handle_at handle m.heap) m.heap (λ k. disposed_of k.role k.number m.heap)
+    (λ k. disposed-leaves k.role k.number m.heap)) refl refl refl
+refused_leaves (asked.GetHandleSize handle) m =
+    noted Number number-tells (calls.get_handle_size handle m.heap) m (answered (asked.GetHandleSize handle) m).1
+    m.heap.zone
+    (found-leaves (look_up handle m.heap) m.heap (λ held. (Ok (length (content_of held.at.here)), m.heap))
+    (λ held code e. refl)) refl refl refl
+refused_leaves (asked.SetHandleSize handle n) m =
+    noted (λ _. Done) done-tells (calls.set_handle_size handle n m.heap) m (answered (asked.SetHandleSize handle n) m).1
+    m.heap.zone
+    (found-leaves (look_up handle m.heap) m.heap
+    (λ held. cond (is_some (phys n))
+    (rebuilt (grow (is_relocatable held.number) (is_relocatable held.number) n m.heap.zone) m.heap)
+    (refused MEM_FULL m.heap))
+    (λ held. sized-leaves (grow (is_relocatable held.number) (is_relocatable held.number) n m.heap.zone) n m.heap))
+    refl refl refl
+refused_leaves (asked.ReallocateHandle handle n) m =
+    noted (λ _. Done) done-tells (reallocate_handle handle n m.heap) m (answered (asked.ReallocateHandle handle n) m).1
+    m.heap.zone (renewed-leaves handle n m.heap) refl refl refl
+refused_leaves (asked.EmptyHandle handle) m =
+    noted (λ _. Done) done-tells (empty_handle handle m.heap) m (answered (asked.EmptyHandle handle) m).1 m.heap.zone
+    (found-leaves (handle_at handle m.heap) m.heap
+    (λ k. emptied_at k.number (spot (is_relocatable k.number) m.heap.zone) m.heap)
+    (λ k. emptied-leaves k.number (spot (is_relocatable k.number) m.heap.zone) m.heap)) refl refl refl
+refused_leaves (asked.HLock handle) m =
+    noted (λ _. Done) done-tells (calls.h_lock handle m.heap) m (answered (asked.HLock handle) m).1 m.heap.zone
+    (flags-leave (λ f. record f { locked = true }) handle m.heap) refl refl refl
+refused_leaves (asked.HUnlock handle) m =
+    noted (λ _. Done) done-tells (calls.h_unlock handle m.heap) m (answered (asked.HUnlock handle) m).1 m.heap.zone
+    (flags-leave (λ f. record f { locked = false }) handle m.heap) refl refl refl
+refused_leaves (asked.HPurge handle) m =
+    noted (λ _. Done) done-tells (h_purge handle m.heap) m (answered (asked.HPurge handle) m).1 m.heap.zone
+    (flags-leave (λ f. record f { purgeable = true }) handle m.heap) refl refl refl
+refused_leaves (asked.HNoPurge handle) m =
+    noted (λ _. Done) done-tells (h_no_purge handle m.heap) m (answered (asked.HNoPurge handle) m).1 m.heap.zone
+    (flags-leave (λ f. record f { purgeable = false }) handle m.heap) refl refl refl
+refused_leaves (asked.HGetState handle) m =
+    noted Number number-tells (h_get_state handle m.heap) m (answered (asked.HGetState handle) m).1 m.heap.zone
+    (found-leaves (handle_at handle m.heap) m.heap
+    (λ k. on_block handle m.heap (λ held. (Ok (block_bits held.at.here + bit 32 (is_resource k.role)), m.heap)))
+    (λ k. found-leaves (look_up handle m.heap) m.heap
+    (λ held. (Ok (block_bits held.at.here + bit 32 (is_resource k.role)), m.heap)) (λ held code e. refl)))
+    refl refl refl
+refused_leaves (asked.HSetState handle byte) m =
+    noted (λ _. Done) done-tells (h_set_state handle byte m.heap) m (answered (asked.HSetState handle byte) m).1
+    m.heap.zone
+    (flags-leave (λ f. record { locked = byte / 128 % 2 == 1; purgeable = byte / 64 % 2 == 1 }) handle m.heap)
+    refl refl refl
+refused_leaves (asked.MoveHHi handle) m =
+    noted (λ _. Done) done-tells (calls.move_hhi handle m.heap) m (answered (asked.MoveHHi handle) m).1 m.heap.zone
+    (moved-leaves handle m.heap) refl refl refl
+refused_leaves (asked.HLockHi handle) m =
+    noted (λ _. Done) done-tells (calls.hlock_hi handle m.heap) m (answered (asked.HLockHi handle) m).1 m.heap.zone
+    (locked_high-leaves handle m.heap) refl refl refl
+refused_leaves (asked.HandToHand handle) m =
+    noted Given given-tells (hand_to_hand handle m.heap) m (answered (asked.HandToHand handle) m).1
+    (copying_zone (look_up handle m.heap) m.heap) (copy-leaves handle m.heap) refl refl refl
+refused_leaves (asked.HandAndHand from to) m =
+    noted (λ _. Done) done-tells (hand_and_hand from to m.heap) m (answered (asked.HandAndHand from to) m).1 m.heap.zone
+    (found-leaves (look_up from m.heap) m.heap (λ a. on_block to m.heap (joined a))
+    (λ a. found-leaves (look_up to m.heap) m.heap (joined a)
+    (λ b. append-leaves (λ block. is_relocatable a.number block || is_relocatable b.number block) b.number
+    (length (content_of b.at.here)) (content_of a.at.here) m.heap))) refl refl refl
+  where
+    joined : Held → Held → Answer (Unit {0})
+    joined a b =
+        append (λ block. is_relocatable a.number block || is_relocatable b.number block) b.number
+        (length (content_of b.at.here)) (content_of a.at.here) m.heap
+refused_leaves (asked.PtrAndHand handle x) m =
+    noted (λ _. Done) done-tells (pointer_and_hand handle x m.heap) m (answered (asked.PtrAndHand handle x) m).1
+    m.heap.zone
+    (found-leaves (look_up handle m.heap) m.heap
+    (λ held. append (is_relocatable held.number) held.number (length (content_of held.at.here)) x m.heap)
+    (λ held. append-leaves (is_relocatable held.number) held.number (length (content_of held.at.here)) x m.heap))
+    refl refl refl
+refused_leaves (asked.NewPtr n) m =
+    let made = room (put_at_base (Fixed (length m.heap.names) (replicate n 0))) nothing m.heap.zone in
+    noted Given given-tells (new_pointer n m.heap) m (answered (asked.NewPtr n) m).1 m.heap.zone
+    (either-leaves (is_some (phys n)) m.heap.zone m.heap (given Pointer made m.heap) (refused MEM_FULL m.heap)
+    (given-leaves Pointer made m.heap) (refused-leaves MEM_FULL m.heap)) refl refl refl
+refused_leaves (asked.DisposePtr pointer) m =
+    noted (λ _. Done) done-tells (dispose_pointer pointer m.heap) m (answered (asked.DisposePtr pointer) m).1
+    m.heap.zone
+    (found-leaves (pointed_at pointer m.heap) m.heap (λ held. (Ok tt, gone held.number))
+    (λ held. done tt m.heap.zone m.heap (gone held.number))) refl refl refl
+  where
+    gone : ℕ → State
+    gone p = record { zone = tidy (freed (is_fixed p) m.heap.zone); names = slice_set m.heap.names p Disposed }
+refused_leaves (asked.GetPtrSize pointer) m =
+    noted Number number-tells (get_pointer_size pointer m.heap) m (answered (asked.GetPtrSize pointer) m).1 m.heap.zone
+    (found-leaves (pointed_at pointer m.heap) m.heap (λ held. (Ok (length (content_of held.at.here)), m.heap))
+    (λ held code e. refl)) refl refl refl
+refused_leaves (asked.SetPtrSize pointer n) m =
+    noted (λ _. Done) done-tells (set_pointer_size pointer n m.heap) m (answered (asked.SetPtrSize pointer n) m).1
+    m.heap.zone
+    (found-leaves (pointed_at pointer m.heap) m.heap
+    (λ held. cond (is_some (phys n)) (rebuilt (grow (is_fixed held.number) nothing n m.heap.zone) m.heap)
+    (refused MEM_FULL m.heap))
+    (λ held. sized-leaves (grow (is_fixed held.number) nothing n m.heap.zone) n m.heap)) refl refl refl
+refused_leaves asked.FreeMem m = λ code e. cc
+refused_leaves asked.MaxBlock m = λ code e. cc
+refused_leaves asked.PurgeSpace m = λ code e. cc
+refused_leaves (asked.CompactMem n) m = λ code e. cc
+refused_leaves (asked.PurgeMem n) m =
+    noted (λ _. Done) done-tells (purge_mem n m.heap) m (answered (asked.PurgeMem n) m).1
+    (zone_left (asked.PurgeMem n) m.heap) (λ code e. refl) refl refl refl
+refused_leaves asked.MaxMem m = λ code e. cc
+refused_leaves (asked.ReserveMem n) m =
+    noted (λ _. Done) done-tells (reserve_mem n m.heap) m (answered (asked.ReserveMem n) m).1 m.heap.zone
+    (reserved-leaves n m.heap) refl refl refl
+refused_leaves asked.MoreMasters m =
+    noted (λ _. Done) done-tells (add_masters m.heap) m (answered asked.MoreMasters m).1 m.heap.zone
+    (rebuilt-leaves (option_map (λ (ready : State). ready.zone) (more_masters nothing m.heap)) m.heap) refl refl refl
+refused_leaves asked.MemError m = λ code e. cc
+refused_leaves (asked.Put handle i x) m =
+    silent (λ _. Done) done-tells (calls.put handle i x m.heap) m (answered (asked.Put handle i x) m).1
+    (found-leaves (look_up handle m.heap) m.heap (λ held. written_at i x held.at m.heap)
+    (λ held. written-leaves i x held.at m.heap)) refl refl refl
+refused_leaves (asked.Show handle) m =
+    silent Bytes bytes-tells (calls.show handle m.heap) m (answered (asked.Show handle) m).1
+    (found-leaves (look_up handle m.heap) m.heap (λ held. (Ok (content_of held.at.here), m.heap)) (λ held code e. refl))
+    refl refl refl
+refused_leaves (asked.PutPtr pointer i x) m =
+    silent (λ _. Done) done-tells (put_pointer pointer i x m.heap) m (answered (asked.PutPtr pointer i x) m).1
+    (found-leaves (pointed_at pointer m.heap) m.heap (λ held. written_at i x held.at m.heap)
+    (λ held. written-leaves i x held.at m.heap)) refl refl refl
+refused_leaves (asked.ShowPtr pointer) m =
+    silent Bytes bytes-tells (show_pointer pointer m.heap) m (answered (asked.ShowPtr pointer) m).1
+    (found-leaves (pointed_at pointer m.heap) m.heap (λ held. (Ok (content_of held.at.here), m.heap))
+    (λ held code e. refl)) refl refl refl
+refused_leaves (asked.Where name) m =
+    silent Number number-tells (place_of name m.heap) m (answered (asked.Where name) m).1
+    (found-leaves (block_named name m.heap) m.heap (λ held. (Ok (sizes held.at.below + 16), m.heap))
+    (λ held code e. refl)) refl refl refl

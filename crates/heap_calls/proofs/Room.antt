@@ -1,0 +1,7 @@
+pub mod Searching
+pub mod Staying
+pub mod Packing
+pub mod Seats
+pub mod Stretches
+pub mod LeastLooks
+pub mod MoveCounts

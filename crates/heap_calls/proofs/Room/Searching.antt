@@ -1,0 +1,145 @@
+use Rattle.std.proofs.Common.{◌≡◌, ℕ, ◌+◌, ◌-◌, ◌≤◌, ◌<◌, zero, suc, Bool, true, false, ◌||◌, List, [], ◌∷◌, length}
+use Rattle.std.proofs.Common.{refl, sym, ◌∙◌, ap, subst, cond, arith, Option, Some, None, is_some}
+use Rattle.std.proofs.lemmas.Option.{none-some}
+use Rattle.std.specs.Option.{option_map, IfSome}
+use Rattle.mac_words.specs.Size.{padded}
+use Rattle.block_store.specs.Block.{Block, Free, Fixed, Masters, Relocatable, size, sizes, count, is_room, tidy}
+use Rattle.block_store.specs.Block.{is_relocatable}
+use Rattle.block_store.specs.Run.{has, has_free, settle, with_run, RunSpot, run_spot, run_at}
+use Rattle.block_store.specs.Room.{Spot, raised, spot, place, may_go, emptied, purge, count_of}
+use Rattle.block_store.specs.Grow.{freed}
+use Rattle.block_store.proofs.Zone.Tidy.{total-tidy}
+use Rattle.block_store.proofs.Zone.Totals.{total-le}
+use Rattle.block_store.proofs.Zone.Listing.{size-freed}
+use Rattle.block_store.proofs.Regroup.RunSpots.{run_spot-passes}
+use Rattle.block_store.proofs.Regroup.HavingRoom.{room-settled}
+use Rattle.block_store.specs.Sparing.{spared, opened, purged, most_purges}
+use Rattle.heap_calls.specs.Inner.Search.{FindsSeat}
+use Rattle.heap_calls.specs.declared.search.Seat.{Seat}
+use Rattle.heap_calls.specs.declared.search.Seat.TheVariants as see
+use Rattle.block_store.specs.declared.sparing.Sparing.{Sparing}
+use Rattle.block_store.specs.declared.sparing.Sparing.TheVariants as sparing
+
+-- how many may go after k went
+count-emptied : (k : ℕ) (t : Block → Bool) (bs : List Block) → count (may_go t) (emptied k t bs) ≡ count_of t bs - k
+count-emptied zero t bs = omega arith
+count-emptied (suc k) t [] = omega arith
+count-emptied (suc k) t (b ∷ bs) = cases (may_go t b) refl (count-emptied k t bs) (count-emptied (suc k) t bs)
+  where
+    cases : (m : Bool) → may_go t b ≡ m → count (may_go t) (emptied k t bs) ≡ count_of t bs - k
+        → count (may_go t) (emptied (suc k) t bs) ≡ count_of t bs - suc k
+        → count (may_go t) (cond m (Free (size b) ∷ emptied k t bs) (b ∷ emptied (suc k) t bs))
+        ≡ cond {A = ℕ} (may_go t b) 1 0 + count_of t bs - suc k
+    cases true e one more =
+        let a : cond {A = ℕ} (may_go t b) 1 0 ≡ 1 = ap {B = ℕ} (λ (t : Bool). cond t 1 0) e in
+        let g : 0 + count (may_go t) (emptied k t bs) ≡ cond {A = ℕ} (may_go t b) 1 0 + count_of t bs - suc k =
+        omega (arith, one) in g
+    cases false e one more =
+        let a : cond {A = ℕ} (may_go t b) 1 0 ≡ 0 = ap {B = ℕ} (λ (t : Bool). cond t 1 0) e in
+        let g : cond {A = ℕ} (may_go t b) 1 0 + count (may_go t) (emptied (suc k) t bs)
+        ≡ cond {A = ℕ} (may_go t b) 1 0 + count_of t bs - suc k = omega (arith, more) in g
+
+pub count-purged : (k : ℕ) (t : Block → Bool) (bs : List Block) → count (may_go t) (purge k t bs) ≡ count_of t bs - k
+count-purged k t bs = total-tidy (λ (b : Block). cond (may_go t b) 1 0) (λ n m. refl) (emptied k t bs)
+    ∙ count-emptied k t bs
+
+-- no block passes, or some do
+pub count-none : (t : Block → Bool) (bs : List Block) → spot t bs ≡ None → count t bs ≡ 0
+count-none t [] e = refl
+count-none t (b ∷ bs) e = cases (t b) refl (spot t bs) (count-none t bs) e
+  where
+    cases : (m : Bool) → t b ≡ m → (o : Option Spot) → (o ≡ None → count t bs ≡ 0)
+        → cond m (Some (record { below = []; here = b; above = bs })) (option_map (raised b) o) ≡ None
+        → cond {A = ℕ} (t b) 1 0 + count t bs ≡ 0
+    cases true is o more e = absurd (none-some _ (sym e))
+    cases false is (Some s) more e = absurd (none-some _ (sym e))
+    cases false is None more e =
+        let a : cond {A = ℕ} (t b) 1 0 ≡ 0 = ap {B = ℕ} (λ (t : Bool). cond t 1 0) is in
+        omega (arith, more refl)
+
+pub count-some : (t : Block → Bool) (bs : List Block) (s : Spot) → spot t bs ≡ Some s → 0 < count t bs
+count-some t [] s e = absurd (none-some _ e)
+count-some t (b ∷ bs) s e = cases (t b) refl (spot t bs) (count-some t bs) e
+  where
+    cases : (m : Bool) → t b ≡ m → (o : Option Spot) → ((s : Spot) → o ≡ Some s → 0 < count t bs)
+        → cond m (Some (record { below = []; here = b; above = bs })) (option_map (raised b) o) ≡ Some s
+        → 0 < cond {A = ℕ} (t b) 1 0 + count t bs
+    cases true is o more e = let a : cond {A = ℕ} (t b) 1 0 ≡ 1 = ap {B = ℕ} (λ (t : Bool). cond t 1 0) is in
+        omega arith
+    cases false is (Some s') more e = omega (arith, more s' refl)
+    cases false is None more e = absurd (none-some _ e)
+
+-- each block that may go takes bytes
+pub count-le : (t : Block → Bool) (bs : List Block) → count_of t bs ≤ sizes bs
+count-le t bs = total-le (λ (b : Block). cond (may_go t b) 1 0) size one bs
+  where
+    one : (b : Block) → cond (may_go t b) 1 0 ≤ size b
+    one (Free n) = omega arith
+    one (Fixed id content) = omega arith
+    one Masters = omega arith
+    one (Relocatable id flags content) = elim (may_go t (Relocatable id flags content)) as
+        (λ m. cond m 1 0 ≤ padded (length content)) [ true ↦ omega arith | false ↦ omega arith ]
+
+pub most-le : (n : Sparing) (bs : List Block) → most_purges n bs ≤ sizes bs
+most-le sparing.Nothing bs = count-le (spared sparing.Nothing) bs
+most-le (sparing.One a) bs = count-le (spared (sparing.One a)) bs
+most-le (sparing.Two a b) bs = count-le (spared (sparing.Two a b)) bs
+most-le (sparing.Freed a) bs = let e = size-freed (is_relocatable a) bs in
+    omega (arith, count-le (spared (sparing.Freed a)) (freed (is_relocatable a) bs), e)
+
+-- there is one more to go, or there is none
+pub more-none : (n : Sparing) (k : ℕ) (zone : List Block) → spot (may_go (spared n)) (purged k n zone) ≡ None
+    → most_purges n zone ≤ k
+more-none n k zone e = omega (
+  arith,
+  count-none (may_go (spared n)) (purged k n zone) e,
+  count-purged k (spared n)
+      (opened n zone),
+)
+
+pub more-some : (n : Sparing) (k : ℕ) (zone : List Block) (s : Spot)
+    → spot (may_go (spared n)) (purged k n zone) ≡ Some s → k < most_purges n zone
+more-some n k zone s e = omega (
+  arith,
+  count-some (may_go (spared n)) (purged k n zone) s e,
+  count-purged k (spared n)
+      (opened n zone),
+)
+
+pub has-none : (t : Block → Bool) (bs : List Block) → spot t bs ≡ None → has t bs ≡ false
+has-none t [] e = refl
+has-none t (b ∷ bs) e = cases (t b) (spot t bs) (has-none t bs) e
+  where
+    cases : (m : Bool) (o : Option Spot) → (o ≡ None → has t bs ≡ false)
+        → cond m (Some (record { below = []; here = b; above = bs })) (option_map (raised b) o) ≡ None
+        → (m || has t bs) ≡ false
+    cases true o more e = absurd (none-some _ (sym e))
+    cases false (Some s) more e = absurd (none-some _ (sym e))
+    cases false None more e = more refl
+
+-- where there is a seat, there is a place
+pub room-found : (p : ℕ) → 0 < p → (zone : List Block) (r : RunSpot) → run_spot (has_free p) zone ≡ Some r
+    → (after : List Block) → after ≡ tidy (with_run settle r) → spot (is_room p) after ≡ None → ⊥
+room-found p pos zone r e after is none =
+    let a : has (is_room p) after ≡ true = ap (has (is_room p)) is
+    ∙ room-settled p pos r (run_spot-passes (has_free p) zone r e) in
+    let b : has (is_room p) after ≡ false = has-none (is_room p) after none in
+    let f : true ≡ false = sym a ∙ b in cc
+
+pub seat-some : (p : ℕ) (zone : List Block) → 0 < p → (o : Option Seat) → FindsSeat p zone o → is_some o ≡ true
+    → is_some (place p zone) ≡ true
+seat-some p zone pos None found is = let f : false ≡ true = is in cc
+seat-some p zone pos (Some (see.Free at)) found is = rw found.1 refl
+seat-some p zone pos (Some (see.Run run)) found is = rw (found.0, found.1.1)
+    (cases (spot (is_room p) (tidy (with_run settle found.1.0))) refl)
+  where
+    cases : (o : Option Spot) → spot (is_room p) (tidy (with_run settle found.1.0)) ≡ o → is_some o ≡ true
+    cases None e = absurd (room-found p pos zone found.1.0 found.1.1 (tidy (with_run settle found.1.0)) refl e)
+    cases (Some s) e = refl
+
+-- what holds of the run at a place
+pub at_run : (place : ℕ) (zone zone' : List Block) (r : RunSpot) (P : RunSpot → Type 0) → zone' ≡ zone
+    → run_at place zone ≡ Some r → IfSome (run_at place zone') P → P r
+at_run place zone zone' r P same e h =
+    let Q : Option RunSpot → Type 0 = λ o. IfSome o P in
+    subst Q (ap (run_at place) same ∙ e) h

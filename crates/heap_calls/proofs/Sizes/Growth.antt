@@ -1,0 +1,160 @@
+use Rattle.std.proofs.Common.{◌≡◌, ℕ, ◌+◌, ◌-◌, ◌<◌, zero, suc, Bool, true, false, not, ◌&&◌, List, [], ◌∷◌, ◌++◌, refl}
+use Rattle.std.proofs.Common.{sym, ◌∙◌, ap, subst, cond, Option, Some, None, is_some}
+use Rattle.std.proofs.lemmas.Option.{none-some, same_Some}
+use Rattle.std.specs.List.{find}
+use Rattle.std.specs.Option.{option_map, option_or, IfSome, IsSomeAnd}
+use Rattle.block_store.specs.Block.{Block, is_purgeable, Free, Fixed, Masters, Relocatable, size, add, tidy}
+use Rattle.block_store.specs.Run.{has, has_free, run_spot}
+use Rattle.block_store.specs.Room.{Spot, raised, spot, place, may_go, emptied}
+use Rattle.block_store.specs.Grow.{growth, taken, grow_up, grow_mover, move_away}
+use Rattle.block_store.specs.Find.{FindsLowestRun}
+use Rattle.block_store.specs.Sparing.{spared, opened, purged}
+use Rattle.heap_calls.specs.Inner.Search.{FindsSeat}
+use Rattle.heap_calls.specs.Inner.Growing.{FindsGrowth, Spares, Stays}
+use Rattle.block_store.specs.declared.sparing.Sparing.{Sparing}
+use Rattle.block_store.specs.declared.sparing.Sparing.TheVariants as sparing
+use Rattle.block_store.proofs.Plain.Options.{is_some-map, not_some, the_some}
+use Rattle.heap_calls.specs.declared.search.Seat.{Seat}
+use Rattle.heap_calls.specs.declared.growing.Growth.{Growth}
+use Rattle.heap_calls.specs.declared.growing.Growth.TheVariants as grows
+use Rattle.heap_calls.proofs.Room.Searching.{seat-some}
+
+module _ (test : Block → Bool) (new : Block) (zone : List Block) (d : ℕ) (r : Bool)
+    (more : IsSomeAnd (spot test zone) (λ s. growth new s ≡ d))
+    (above : IfSome (spot test zone) (λ s. r ≡ is_some (taken d s.above)))
+  where
+    at : (s : Spot) × (spot test zone ≡ Some s) × (growth new s ≡ d) × (r ≡ is_some (taken d s.above))
+    at = the_some (spot test zone) (λ s. growth new s ≡ d) (λ s. r ≡ is_some (taken d s.above)) more above
+
+    up : is_some (grow_up new at.0) ≡ r
+    up = is_some-map (λ l. at.0.below ++ new ∷ l) (taken (growth new at.0) at.0.above)
+        ∙ ap (λ n. is_some (taken n at.0.above)) at.2 ∙ sym at.3
+
+    pub up-found : r ≡ true → FindsGrowth test new zone (Some grows.Up)
+    up-found is = (at.0, at.1, up ∙ is)
+
+    no-up : r ≡ false → grow_up new at.0 ≡ None
+    no-up is = not_some (grow_up new at.0) (up ∙ is)
+
+    pub away-found : (p : ℕ) (seat : Seat) → size new ≡ p → r ≡ false → FindsSeat p zone (Some seat)
+        → FindsGrowth test new zone (Some (grows.Away seat))
+    away-found p seat e is found = let P : ℕ → Type 0 = λ n. FindsSeat n zone (Some seat) in
+        (at.0, at.1, no-up is, subst P (sym e) found)
+
+    pub last-found : (p run : ℕ) → size new ≡ p → r ≡ false → place p zone ≡ None
+        → FindsLowestRun (λ run. has test run && has_free d run) zone (Some run)
+        → FindsGrowth test new zone (Some (grows.Last run))
+    last-found p run e is none found =
+        let P : ℕ → Type 0 = λ n. FindsLowestRun (λ run. has test run && has_free n run) zone (Some run) in
+        (at.0, at.1, no-up is, ap (λ n. place n zone) e ∙ none, subst P (sym at.2) found)
+
+    pub none-found : (p : ℕ) → size new ≡ p → r ≡ false → place p zone ≡ None
+        → FindsLowestRun (λ run. has test run && has_free d run) zone None → FindsGrowth test new zone None
+    none-found p e is none found = rw (
+      at.1,
+      no-up is,
+      ap (λ n. place n zone) e
+          ∙ none,
+      ap (λ n. run_spot (λ run. has test run && has_free n run) zone) at.2 ∙ found,
+    ) refl
+
+-- where a way to grow is found, the block grows
+pub growth-some : (test : Block → Bool) (new : Block) (zone : List Block) → 0 < size new → (o : Option Growth)
+    → FindsGrowth test new zone o → is_some o ≡ true → is_some (grow_mover test new zone) ≡ true
+growth-some test new zone pos None found is = let f : false ≡ true = is in cc
+growth-some test new zone pos (Some grows.Up) found is = rw found.1 (either (grow_up new found.0) _ found.2)
+  where
+    either : (a b : Option (List Block)) → is_some a ≡ true → is_some (option_or a b) ≡ true
+    either None b e = let f : false ≡ true = e in cc
+    either (Some x) b e = refl
+growth-some test new zone pos (Some (grows.Away seat)) found is =
+    rw (found.1, found.2) (either (move_away test new zone) _ (is_some-map _ (place (size new) zone)
+    ∙ seat-some (size new) zone pos (Some seat) found.3 refl))
+  where
+    either : (a b : Option (List Block)) → is_some a ≡ true → is_some (option_or a b) ≡ true
+    either None b e = let f : false ≡ true = e in cc
+    either (Some x) b e = refl
+growth-some test new zone pos (Some (grows.Last run)) found is = rw (found.1, found.2, found.3, found.4.1) refl
+
+pub spot-find : (test : Block → Bool) (bs : List Block) → option_map (λ (s : Spot). s.here) (spot test bs)
+    ≡ find test bs
+spot-find test [] = refl
+spot-find test (b ∷ bs) = cases (test b) (spot test bs) (spot-find test bs)
+  where
+    cases : (t : Bool) (o : Option Spot) → option_map (λ (s : Spot). s.here) o ≡ find test bs
+        → option_map (λ (s : Spot). s.here) (cond t (Some (record { below = []; here = b; above = bs }))
+        (option_map (raised b) o)) ≡ cond t (Some b) (find test bs)
+    cases true o e = refl
+    cases false None e = e
+    cases false (Some s) e = e
+
+find-add : (test : Block → Bool) → ((n : ℕ) → test (Free n) ≡ false) → (b : Block) (bs : List Block)
+    → find test (add b bs) ≡ cond (test b) (Some b) (find test bs)
+find-add test none (Free zero) bs = rw (none 0) refl
+find-add test none (Free (suc n)) [] = refl
+find-add test none (Free (suc n)) (Free m ∷ bs) = rw (none (suc n), none m, none (suc n + m)) refl
+find-add test none (Free (suc n)) (Fixed id content ∷ bs) = refl
+find-add test none (Free (suc n)) (Masters ∷ bs) = refl
+find-add test none (Free (suc n)) (Relocatable id flags content ∷ bs) = refl
+find-add test none (Fixed id content) bs = refl
+find-add test none Masters bs = refl
+find-add test none (Relocatable id flags content) bs = refl
+
+pub find-tidy : (test : Block → Bool) → ((n : ℕ) → test (Free n) ≡ false) → (bs : List Block)
+    → find test (tidy bs) ≡ find test bs
+find-tidy test none [] = refl
+find-tidy test none (b ∷ bs) = find-add test none b (tidy bs) ∙ ap (cond (test b) (Some b)) (find-tidy test none bs)
+
+-- a block that is spared stays
+pub find-emptied : (test sp : Block → Bool) → ((n : ℕ) → test (Free n) ≡ false)
+    → ((b : Block) → test b ≡ true → sp b ≡ true) → (k : ℕ) (bs : List Block)
+    → find test (emptied k sp bs) ≡ find test bs
+find-emptied test sp none spares zero bs = refl
+find-emptied test sp none spares (suc k) [] = refl
+find-emptied test sp none spares (suc k) (b ∷ bs) = cases (may_go sp b) refl (find-emptied test sp none spares k bs)
+    (find-emptied test sp none spares (suc k) bs)
+  where
+    gone : (t u : Bool) → u ≡ true → (t && not u) ≡ false
+    gone t true e = elim t as (λ t. (t && false) ≡ false) [ true ↦ refl | false ↦ refl ]
+    gone t false e = let f : false ≡ true = e in cc
+
+    stays : (t : Bool) → test b ≡ t → may_go sp b ≡ true → test b ≡ false
+    stays true e go = let f : false ≡ true = sym (gone (is_purgeable b) (sp b) (spares b e)) ∙ go in cc
+    stays false e go = e
+
+    cases : (m : Bool) → may_go sp b ≡ m → find test (emptied k sp bs) ≡ find test bs
+        → find test (emptied (suc k) sp bs) ≡ find test bs
+        → find test (cond m (Free (size b) ∷ emptied k sp bs) (b ∷ emptied (suc k) sp bs))
+        ≡ cond (test b) (Some b) (find test bs)
+    cases true e one more = rw (none (size b), stays (test b) refl e) one
+    cases false e one more = ap (cond (test b) (Some b)) more
+
+-- a search that counts no block as Free looks at the zone as it is
+pub opened-stays : (test : Block → Bool) (n : Sparing) (zone : List Block) → Stays n test → opened n zone ≡ zone
+opened-stays test sparing.Nothing zone s = refl
+opened-stays test (sparing.One a) zone s = refl
+opened-stays test (sparing.Two a b) zone s = refl
+opened-stays test (sparing.Freed a) zone s = absurd s
+
+find-opened : (test : Block → Bool) (n : Sparing) → ((m : ℕ) → test (Free m) ≡ false) → (zone : List Block)
+    → Stays n test → find test (opened n zone) ≡ find test zone
+find-opened test n none zone s = ap (find test) (opened-stays test n zone s)
+
+-- a block that is spared is the same after purges
+pub find-purged : (test : Block → Bool) (n : Sparing) → ((m : ℕ) → test (Free m) ≡ false) → Spares n test → Stays n test
+    → (k : ℕ) (zone : List Block) → find test (purged k n zone) ≡ find test zone
+find-purged test n none spares stays k zone = find-tidy test none (emptied k (spared n) (opened n zone))
+    ∙ find-emptied test (spared n) none spares k (opened n zone) ∙ find-opened test n none zone stays
+
+pub growth-stays : (test : Block → Bool) (new : Block) (d : ℕ) (n : Sparing) → ((m : ℕ) → test (Free m) ≡ false)
+    → Spares n test → Stays n test → (k : ℕ) (zone : List Block) → IsSomeAnd (spot test zone) (λ s. growth new s ≡ d)
+    → IsSomeAnd (spot test (purged k n zone)) (λ s. growth new s ≡ d)
+growth-stays test new d n none spares stays k zone h =
+    by_here (spot test zone) (spot test (purged k n zone)) (spot-find test zone
+    ∙ sym (spot-find test (purged k n zone) ∙ find-purged test n none spares stays k zone)) h
+  where
+    by_here : (a b : Option Spot) → option_map (λ (s : Spot). s.here) a ≡ option_map (λ (s : Spot). s.here) b
+        → IsSomeAnd a (λ s. growth new s ≡ d) → IsSomeAnd b (λ s. growth new s ≡ d)
+    by_here None b e h = absurd h
+    by_here (Some s) None e h = absurd (none-some _ (sym e))
+    by_here (Some s) (Some t) e h = ap (λ b. size new - size b) (sym (same_Some _ _ e)) ∙ h

@@ -1,0 +1,92 @@
+use Rattle.std.proofs.Common.{◌≡◌, ℕ, ◌-◌, ◌≤◌, Bool, true, false, List, length, take, replicate, refl, sym, ◌∙◌, ap}
+use Rattle.std.proofs.Common.{cond, arith, Option, Some, None, Result, Ok, Err, is_some}
+use Rattle.std.proofs.lemmas.List.{length-append, length-take, length-replicate}
+use Rattle.std.specs.Option.{IfSome}
+use Rattle.std.specs.Result.{IfOk}
+use Rattle.mac_words.specs.Size.{phys, padded}
+use Rattle.mac_words.specs.declared.code.TheConstants.OsErr.{MEM_FULL}
+use Rattle.block_store.specs.Block.{Block, Free, Fixed, Masters, Relocatable, size, is_fixed, is_mover, resized}
+use Rattle.block_store.specs.Run.{in_run}
+use Rattle.block_store.specs.Room.{Spot, spot_at}
+use Rattle.block_store.specs.Grow.{grow}
+use Rattle.block_store.specs.Rest.{Rest}
+use Rattle.heap_calls.specs.State.{State, Memory}
+use Rattle.heap_calls.specs.Answer.{Held, nothing, rebuilt, refused, for_found, silent, searching}
+use Rattle.heap_calls.specs.Inner.Given.{IsAnswer}
+use Rattle.heap_calls.specs.Inner.Growing.{fitted}
+use Rattle.heap_calls.specs.Inner.GrowingInPlace.{made_zone}
+use Rattle.heap_calls.specs.Pointers.{pointed_at, set_pointer_size}
+use Rattle.heap_calls.specs.Inner.Pointing.{target_of}
+use Rattle.heap_calls.specs.Searches.{size_searches, found_searches, set_pointer_size_searches}
+use Rattle.heap_calls.specs.declared.growing_in_place.Grown.{Grown}
+use Rattle.heap_calls.specs.declared.log.Log.{Log}
+use Rattle.heap_calls.specs.declared.anchor.Anchor.{Anchor}
+use Rattle.heap_calls.specs.declared.refusal.Refusal.{Refusal}
+use Rattle.heap_calls.specs.declared.refusal.Refusal.TheVariants.{Code, HostMemory}
+use Rattle.heap_calls.specs.Inner.Numbered.{state_of, memory_of}
+use Rattle.heap_calls.proofs.Numbering.Answering.{at_place}
+use Rattle.heap_calls.proofs.Numbering.Changing.{phys-some}
+use Rattle.heap_calls.proofs.Numbering.Pointing.{pointed_at-refused}
+use Rattle.heap_calls.proofs.Numbering.Rebuilding.{not-looked}
+
+-- The size of a pointer's block.
+
+-- a Fixed block stands where it is
+pub stands : (place : ℕ) (b : Block) → is_fixed place b ≡ true → (is_mover b ≡ false) × (in_run b ≡ false)
+stands place (Free n) e = let f : false ≡ true = e in cc
+stands place (Fixed id content) e = (refl, refl)
+stands place Masters e = let f : false ≡ true = e in cc
+stands place (Relocatable id flags content) e = let f : false ≡ true = e in cc
+
+-- what it takes at n bytes
+pub fixed-size : (place n : ℕ) (b : Block) → is_fixed place b ≡ true → size (resized n b) ≡ padded n
+fixed-size place n (Free m) e = let f : false ≡ true = e in cc
+fixed-size place n (Fixed id content) e = ap padded (length-append (take n content) (replicate (n - length content) 0)
+    ∙ omega (arith, length-take n content, length-replicate {A = ℕ} (n - length content) 0))
+fixed-size place n Masters e = let f : false ≡ true = e in cc
+fixed-size place n (Relocatable id flags content) e = let f : false ≡ true = e in cc
+
+-- the sizes that are compared
+pub sizes-are : (place n bytes taken : ℕ) (zone : List Block) (s : Spot) → spot_at place zone ≡ Some s
+    → is_fixed place s.here ≡ true → phys n ≡ Some bytes → IfSome (spot_at place zone) (λ s. taken ≡ size s.here)
+    → (bytes ≡ size (resized n s.here)) × (taken ≡ size s.here)
+sizes-are place n bytes taken zone s at fixed fits takes = (
+  (phys-some n bytes fits).1
+      ∙ sym (fixed-size place n s.here fixed),
+  at_place place zone s (λ s. taken ≡ size s.here) at takes,
+)
+
+-- where n is the size of a block, what its growth came to is what the call wants
+pub fitted-done : {E : Type 0} (test sp : Block → Bool) (n : ℕ) (zone zone' : List Block) (r : Result Grown E)
+    → is_some (phys n) ≡ true → IfOk r (λ g. grow test sp n zone ≡ made_zone g.done zone')
+    → IfOk r (λ g. fitted test sp n zone ≡ made_zone g.done zone')
+fitted-done test sp n zone zone' (Err error) fits done = tt
+fitted-done test sp n zone zone' (Ok grown) fits done = ap (λ t. cond t (grow test sp n zone) None) fits ∙ done
+
+-- what SetPtrSize answers
+pub set_pointer_size-row : (pointer : Option ℕ) (n : ℕ) (s : State) (k : Held) → pointed_at pointer s ≡ Ok k
+    → set_pointer_size pointer n s ≡ rebuilt (fitted (is_fixed k.number) nothing n s.zone) s
+set_pointer_size-row pointer n s k found =
+    ap (λ r. for_found r s (λ (held : Held). cond (is_some (phys n))
+    (rebuilt (grow (is_fixed held.number) nothing n s.zone) s) (refused MEM_FULL s))) found
+    ∙ cases (is_some (phys n))
+  where
+    cases : (t : Bool) → cond t (rebuilt (grow (is_fixed k.number) nothing n s.zone) s) (refused MEM_FULL s)
+        ≡ rebuilt (cond t (grow (is_fixed k.number) nothing n s.zone) None) s
+    cases true = refl
+    cases false = refl
+
+-- what it answers for a name that is no pointer's
+pub no_pointer : (value : Memory) (zone : List Block) (rest : Rest) (es : List Anchor) (log : Log) (e : Refusal)
+    (pointer : Option ℕ) (n : ℕ) → memory_of zone rest es log ≡ value → target_of pointer es ≡ Err e
+    → log.searches ≤ 18446744073709551615
+    → IsAnswer (searching (set_pointer_size_searches pointer n value.heap) (silent (set_pointer_size pointer n) value))
+    (Err e) value
+no_pointer value zone rest es log (Code code) pointer n is found small =
+    let s = state_of zone rest.slots es in
+    let none = pointed_at-refused zone rest.slots es pointer code found in
+    not-looked value zone rest es log is (set_pointer_size pointer n) (set_pointer_size_searches pointer n) code
+    (ap (λ r. for_found r s (λ (held : Held). cond (is_some (phys n))
+    (rebuilt (grow (is_fixed held.number) nothing n s.zone) s) (refused MEM_FULL s))) none)
+    (ap (λ r. found_searches r (λ (held : Held). size_searches (is_fixed held.number) nothing n s.zone)) none) small
+no_pointer value zone rest es log HostMemory pointer n is found small = tt

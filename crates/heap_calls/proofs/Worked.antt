@@ -1,0 +1,6 @@
+mod Table
+mod Moves
+mod LockedRows
+mod StandingRows
+mod EmptyingRows
+mod RefusedRows

@@ -1,0 +1,86 @@
+use Rattle.std.proofs.Common.{◌≡◌, true, false, [], ◌∷◌, refl, Some}
+use Rattle.block_store.specs.declared.flags.Flags.{Flags}
+use Rattle.block_store.specs.Block.{Free, Masters, Relocatable, no_flags}
+use Rattle.heap_calls.specs.State.{State, Handle, Plain}
+use Rattle.heap_calls.specs.Moves.{place_moves, new_handle_moves, set_handle_size_moves, reallocate_handle_moves}
+use Rattle.heap_calls.specs.Moves.{hand_to_hand_moves, hand_and_hand_moves, pointer_and_hand_moves, compact_mem_moves}
+use Rattle.heap_calls.specs.Moves.{max_mem_moves}
+
+-- How many blocks packing moves down, by the definitions alone.
+
+-- a block of no bytes, which takes 16, between 32 Free bytes and 48
+abbrev between : State
+between = record { zone = Masters ∷ Free 32 ∷ Relocatable 0 no_flags [] ∷ Free 48 ∷ []; names = Handle Plain ∷ [] }
+
+-- a Free block serves, or the run is packed, or there is no room
+a_free_block_serves : place_moves 48 between.zone ≡ 0
+a_free_block_serves = refl
+
+a_run_is_packed : place_moves 64 between.zone ≡ 1
+a_run_is_packed = refl
+
+no_run_has_room : place_moves 96 between.zone ≡ 0
+no_run_has_room = refl
+
+a_block_that_fits_moves_none : new_handle_moves 32 between ≡ 0
+a_block_that_fits_moves_none = refl
+
+a_block_for_a_packed_run_moves_one : new_handle_moves 40 between ≡ 1
+a_block_for_a_packed_run_moves_one = refl
+
+a_copy_moves_none : hand_to_hand_moves (Some 0) between ≡ 0
+a_copy_moves_none = refl
+
+-- it grows into the Free block above it, at a place of its own, as the last of its run, or not at all
+grows_into_the_free_block_above : set_handle_size_moves (Some 0) 30 between ≡ 0
+grows_into_the_free_block_above = refl
+
+grows_at_a_place_of_its_own : set_handle_size_moves (Some 0) 60 between ≡ 1
+grows_at_a_place_of_its_own = refl
+
+grows_as_the_last_of_its_run : set_handle_size_moves (Some 0) 75 between ≡ 1
+grows_as_the_last_of_its_run = refl
+
+cannot_grow : set_handle_size_moves (Some 0) 81 between ≡ 0
+cannot_grow = refl
+
+appended_bytes_fit_above : pointer_and_hand_moves (Some 0) (1 ∷ 2 ∷ 3 ∷ []) between ≡ 0
+appended_bytes_fit_above = refl
+
+appended_to_itself : hand_and_hand_moves (Some 0) (Some 0) between ≡ 0
+appended_to_itself = refl
+
+-- a new block for it: its old one counts as Free, so that all 96 bytes are
+renewed_where_its_old_block_is_free : reallocate_handle_moves (Some 0) 80 between ≡ 0
+renewed_where_its_old_block_is_free = refl
+
+-- a run is packed only where no Free block serves
+compaction_where_there_is_room : compact_mem_moves 32 between ≡ 0
+compaction_where_there_is_room = refl
+
+compaction_packs_the_run : compact_mem_moves 33 between ≡ 1
+compaction_packs_the_run = refl
+
+all_runs_are_packed : max_mem_moves between ≡ 1
+all_runs_are_packed = refl
+
+-- a block that may be emptied, and one above it, which then has Free bytes below it
+abbrev above_purgeable : State
+above_purgeable = record {
+  zone = Masters ∷ Relocatable 0 purgeable [] ∷ Relocatable 1 no_flags [] ∷ Free 48
+      ∷ [];
+  names = Handle Plain ∷ Handle Plain ∷ [];
+}
+  where
+    purgeable : Flags
+    purgeable = record { locked = false; purgeable = true }
+
+compaction_empties_nothing : compact_mem_moves 100 above_purgeable ≡ 0
+compaction_empties_nothing = refl
+
+what_is_emptied_lets_the_next_fall : max_mem_moves above_purgeable ≡ 1
+what_is_emptied_lets_the_next_fall = refl
+
+-- for a new handle it is emptied, and then the run is packed
+emptied_then_packed : new_handle_moves 40 above_purgeable ≡ 1
+emptied_then_packed = refl

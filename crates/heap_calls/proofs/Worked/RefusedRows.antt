@@ -1,0 +1,67 @@
+use Rattle.std.proofs.Common.{◌≡◌, ℕ, true, false, zero, suc, [], ◌∷◌, replicate, refl, Some, Err}
+use Rattle.mac_words.specs.declared.code.TheConstants.OsErr.{NO_ERR, MEM_FULL, NIL_HANDLE, PROFILE}
+use Rattle.block_store.specs.declared.flags.Flags.{Flags}
+use Rattle.block_store.specs.Block.{Free, Fixed, Masters, Relocatable, is_relocatable}
+use Rattle.block_store.specs.Run.{has}
+use Rattle.heap_calls.specs.State.{State, Handle, Pointer, Plain, fresh_heap}
+use Rattle.heap_calls.specs.Answer.{put, show}
+use Rattle.heap_calls.specs.Slots.{new_handle, new_empty_handle}
+use Rattle.heap_calls.specs.Purging.{h_purge, purge_mem}
+use Rattle.heap_calls.specs.Asked.{NewHandle, PurgeMem, NewPtr, Put}
+use Rattle.heap_calls.specs.Refused.{zone_left, code_left}
+
+-- What refused calls leave, on small zones.
+
+-- a block of 480 bytes that may be emptied, in a zone of 1024
+abbrev with_block : State
+with_block = (h_purge (Some 0) (new_handle 480 (fresh_heap 1024)).1).1
+
+abbrev with_empty : ℕ → State → State
+with_empty zero s = s
+with_empty (suc n) s = with_empty n (new_empty_handle s).1
+
+-- and 63 emptied handles: all slots are used
+abbrev full : State
+full = with_empty 63 with_block
+
+block-there : has (is_relocatable 0) full.zone ≡ true
+block-there = refl
+
+-- there is no room for 700 bytes beside a new Masters block
+no-room : (new_handle 700 full).0 ≡ Err MEM_FULL
+no-room = refl
+
+-- and the block is emptied by the search for that
+block-emptied : (show (Some 0) (new_handle 700 full).1).0 ≡ Err NIL_HANDLE
+block-emptied = refl
+
+masters-left : zone_left (NewHandle 700) full ≡ Masters ∷ Masters ∷ Free 480 ∷ []
+masters-left = refl
+
+-- a search for a block alone leaves it
+block-left : zone_left (NewPtr 900) full ≡ full.zone
+block-left = refl
+
+abbrev purgeable : Flags
+purgeable = record { locked = false; purgeable = true }
+
+-- the block of handle 0, which may be emptied, below that of pointer 1
+abbrev heap : State
+heap = record {
+  zone = Masters ∷ Relocatable 0 purgeable (replicate 8 0) ∷ Fixed 1 (replicate 8 0) ∷ [];
+  names = Handle Plain ∷ Pointer ∷ [];
+}
+
+-- PurgeMem empties it for more than it gives
+too-much : (purge_mem 100 heap).0 ≡ Err MEM_FULL
+too-much = refl
+
+purged-left : zone_left (PurgeMem 100) heap ≡ Masters ∷ Free 32 ∷ Fixed 1 (replicate 8 0) ∷ []
+purged-left = refl
+
+-- a refused Put leaves MemError's code
+past-end : (put (Some 0) 8 (1 ∷ []) heap).0 ≡ Err PROFILE
+past-end = refl
+
+code-stays : code_left (Put (Some 0) 8 (1 ∷ [])) PROFILE NO_ERR ≡ NO_ERR
+code-stays = refl

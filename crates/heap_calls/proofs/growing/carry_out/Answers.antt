@@ -1,0 +1,17 @@
+use Rattle.std.proofs.Common.{Some, subst, arith}
+use Rattle.block_store.specs.Block.{is_relocatable}
+use Rattle.block_store.specs.Room.{spot}
+use Rattle.heap_calls.specs.Inner.Growing.{FindsGrowth, grown}
+use Rattle.heap_calls.specs.Moves.{grow_moves}
+use Rattle.heap_calls.specs.declared.growing.Growth.{Growth}
+use Rattle.heap_calls.specs.declared.growing.Growth.TheVariants as grows
+use Rattle.heap_calls.proofs.Room.MoveCounts.{packs-none, up-moves}
+use Rattle.heap_calls.proofs.growing.carry_out.Goals as goal
+
+pub returns-in-Up-clause-moves : goal.returns-in-Up-clause-moves
+returns-in-Up-clause-moves g c =
+    let zone = g.S.BlockStore.zone c.args.store.now in
+    let t = is_relocatable c.args.number in
+    let P : Growth → Type 0 = λ o. FindsGrowth t (grown c.args.size (spot t zone)) zone (Some o) in
+    let found : P grows.Up = subst P c.in-Up.is c.requires.found in
+    packs-none (g.S.BlockStore.rest c.args.store.now) (g.S.BlockStore.rest c.grow_up.new.store) (grow_moves t (grown c.args.size (spot t zone)) zone) (omega arith) c.grow_up.ensures.rest.moves (up-moves t (grown c.args.size (spot t zone)) zone found)

@@ -1,0 +1,16 @@
+pub mod Given
+pub mod Numbered
+pub mod Search
+pub mod Base
+pub mod NewPointer
+pub mod NewBlock
+pub mod Growing
+pub mod NewSlot
+pub mod GrowingInPlace
+pub mod Pointing
+pub mod Copied
+pub mod Packed
+pub mod Least
+pub mod Reaching
+pub mod Loose
+pub mod Appending

@@ -1,0 +1,95 @@
+use Rattle.std.specs.Prelude.{◌≡◌, ◌≤◌, ℕ, ◌+◌, Bool, true, false, not, Option, Some, None, Result, Ok, Err, List}
+use Rattle.std.specs.Prelude.{length, slice_get}
+use Rattle.std.specs.Borrow.{Bor}
+use Rattle.mac_words.specs.declared.code.OsErr.{OsErr}
+use Rattle.mac_words.specs.declared.code.TheConstants.OsErr.{NO_ERR, NIL_HANDLE, WRONG_ZONE}
+use Rattle.block_store.specs.Block.{Block, sizes, content_of}
+use Rattle.block_store.specs.Slot.{Slot}
+use Rattle.block_store.specs.declared.flags.Flags.{Flags}
+use Rattle.block_store.specs.declared.sparing.Seen.{Seen}
+use Rattle.block_store.specs.declared.sparing.Seen.TheVariants as see
+use Rattle.block_store.specs.Room.{Spot, spot_at, rename_spot}
+use Rattle.heap_calls.specs.State.{Memory}
+use Rattle.heap_calls.specs.Answer.{look_up}
+use Rattle.heap_calls.specs.Inner.Numbered.{handle_number, pointer_number, state_of}
+use Rattle.heap_calls.specs.declared.refusal.Refusal.{Refusal}
+use Rattle.heap_calls.specs.declared.refusal.Refusal.TheVariants.{Code, HostMemory}
+use Rattle.heap_calls.specs.declared.anchor.Anchor.{Anchor}
+use Rattle.heap_calls.specs.declared.anchor.Anchor.TheVariants as entry
+use Rattle.heap_calls.specs.declared.anchor.Found.{Found}
+use Rattle.block_store.specs.declared.measures.TheConstants.{GREATEST_ZONE, HEADER_SIZE}
+
+-- what is given back, and the state after it, are the answer; where the host had no memory nothing is said
+abbrev pub IsAnswer : {T S : Type 0} → Result T OsErr × S → Result T Refusal → S → Type 0
+IsAnswer answer (Ok value) after = answer ≡ (Ok value, after)
+IsAnswer answer (Err (Code code)) after = answer ≡ (Err code, after)
+IsAnswer answer (Err HostMemory) after = Unit {0}
+
+-- the same where bytes are lent
+abbrev pub IsShown : {S : Type 0} → Result (List ℕ) OsErr × S → Result (Bor (List ℕ)) Refusal → S → Type 0
+IsShown answer (Ok bytes) after = answer ≡ (Ok bytes.now, after)
+IsShown answer (Err (Code code)) after = answer ≡ (Err code, after)
+IsShown answer (Err HostMemory) after = Unit {0}
+
+-- all but the blocks of the zone is what it was, and how often packing moved one down
+abbrev pub KeepsNames : Memory → Memory → Type 0
+KeepsNames old new = new ≡ record old { heap = record old.heap { zone = new.heap.zone }; moves = new.moves }
+
+-- all but the blocks of the zone is what it was, and none was packed
+abbrev pub KeepsMoves : Memory → Memory → Type 0
+KeepsMoves old new = new ≡ record old { heap = record old.heap { zone = new.heap.zone } }
+
+-- the code of the last call after one that gave this; where the host had no memory it stays
+abbrev pub last_after : {T : Type 0} → Result T Refusal → OsErr → OsErr
+last_after (Ok value) last = NO_ERR
+last_after (Err (Code code)) last = code
+last_after (Err HostMemory) last = last
+
+-- a handle and its slot
+abbrev pub found : ℕ → ℕ → Found
+found number slot = record { number = number; slot = slot }
+
+-- the slot of a handle's entry; or why it has none: never given, a pointer, or disposed of
+abbrev pub slot_at : ℕ → Option Anchor → Result Found Refusal
+slot_at h None = Err (Code NIL_HANDLE)
+slot_at h (Some (entry.Handle slot)) = Ok (found h slot)
+slot_at h (Some (entry.Pointer place)) = Err (Code WRONG_ZONE)
+slot_at h (Some entry.Disposed) = Err (Code WRONG_ZONE)
+
+-- the slot of the handle that a name is bound to
+abbrev pub slot_of : Option ℕ → List Anchor → Result Found Refusal
+slot_of None es = Err (Code NIL_HANDLE)
+slot_of (Some h) es = slot_at h (slice_get es h)
+
+-- the store's place of the block of a handle; or why there is none
+abbrev pub FindsBlock : List Block → (ℕ → Slot) → List Anchor → Option ℕ → Result ℕ Refusal → Type 0
+FindsBlock zone slots es handle (Ok place) =
+    (h : ℕ) × (s : Spot) × (look_up handle (state_of zone slots es)
+    ≡ Ok (record { number = h; at = rename_spot (handle_number es) (pointer_number es) s }))
+    × (spot_at place zone ≡ Some s) × (sizes s.below ≡ place) × (place + HEADER_SIZE + length (content_of s.here) ≤ GREATEST_ZONE)
+FindsBlock zone slots es handle (Err (Code code)) = look_up handle (state_of zone slots es) ≡ Err code
+FindsBlock zone slots es handle (Err HostMemory) = ⊥
+
+-- the flags of a block that was looked at, where it is a relocatable one
+abbrev pub seen_flags : Option Seen → Option Flags
+seen_flags None = None
+seen_flags (Some (see.Free n)) = None
+seen_flags (Some (see.Fixed n)) = None
+seen_flags (Some see.Masters) = None
+seen_flags (Some (see.Relocatable slot flags n)) = Some flags
+
+-- a block that was looked at, if there was one, is an unlocked relocatable one
+abbrev pub seen_mover : Option Seen → Bool
+seen_mover None = false
+seen_mover (Some (see.Free n)) = false
+seen_mover (Some (see.Fixed n)) = false
+seen_mover (Some see.Masters) = false
+seen_mover (Some (see.Relocatable slot flags n)) = not flags.locked
+
+-- a block that was looked at, if there was one, is of those that a run is made of
+abbrev pub seen_in_run : Option Seen → Bool
+seen_in_run None = false
+seen_in_run (Some (see.Free n)) = true
+seen_in_run (Some (see.Fixed n)) = false
+seen_in_run (Some see.Masters) = false
+seen_in_run (Some (see.Relocatable slot flags n)) = not flags.locked

@@ -1,0 +1,75 @@
+use Rattle.std.specs.Prelude.{◌≡◌, ℕ, ◌<◌, Bool, true, ◌&&◌, Option, Some, None, List, is_some, IsSomeAnd, IfSome}
+use Rattle.std.specs.Prelude.{if◌then◌else◌}
+use Rattle.std.specs.Option.{option_map}
+use Rattle.mac_words.specs.Size.{phys}
+use Rattle.block_store.specs.Block.{Block, Masters, size, resized, is_relocatable}
+use Rattle.block_store.specs.Run.{has, has_free}
+use Rattle.block_store.specs.Room.{Spot, spot, place, least}
+use Rattle.block_store.specs.Grow.{growth, grow_up, grow_mover, grow}
+use Rattle.block_store.specs.Find.{FindsLowestRun}
+use Rattle.block_store.specs.Sparing.{purged, most_purges, spared}
+use Rattle.block_store.specs.declared.sparing.Sparing.{Sparing}
+use Rattle.block_store.specs.declared.sparing.Sparing.TheVariants as sparing
+use Rattle.heap_calls.specs.Inner.Search.{FindsSeat, tries}
+use Rattle.heap_calls.specs.declared.growing.Growth.{Growth}
+use Rattle.heap_calls.specs.declared.growing.Growth.TheVariants as grows
+
+-- the block that passes, at n bytes of content
+abbrev pub grown : ℕ → Option Spot → Block
+grown n None = Masters
+grown n (Some s) = resized n s.here
+
+-- how a block grows in a zone, by the first that serves
+abbrev pub FindsGrowth : (Block → Bool) → Block → List Block → Option Growth → Type 0
+FindsGrowth test new zone None = grow_mover test new zone ≡ None
+FindsGrowth test new zone (Some grows.Up) = (s : Spot) × (spot test zone ≡ Some s) × (is_some (grow_up new s) ≡ true)
+FindsGrowth test new zone (Some (grows.Away seat)) = (s : Spot) × (spot test zone ≡ Some s) × (grow_up new s ≡ None)
+    × FindsSeat (size new) zone (Some seat)
+FindsGrowth test new zone (Some (grows.Last run)) =
+    (s : Spot) × (spot test zone ≡ Some s) × (grow_up new s ≡ None) × (place (size new) zone ≡ None)
+    × FindsLowestRun (λ run. has test run && has_free (growth new s) run) zone (Some run)
+
+-- the blocks that pass aren't emptied
+abbrev pub Spares : Sparing → (Block → Bool) → Type 0
+Spares sparing test = (b : Block) → test b ≡ true → spared sparing b ≡ true
+
+-- no named block counts as Free
+abbrev pub Stays : Sparing → (Block → Bool) → Type 0
+Stays sparing.Nothing test = Unit {0}
+Stays (sparing.One slot) test = Unit {0}
+Stays (sparing.Two slot other) test = Unit {0}
+Stays (sparing.Freed slot) test = ⊥
+
+-- the zone with the block that passes grown, after as few purges as serve
+abbrev pub growing : (Block → Bool) → Block → Sparing → List Block → Option (List Block)
+growing test new sparing zone = least (λ k. grow_mover test new (purged k sparing zone)) (most_purges sparing zone)
+
+-- the looks that this takes
+abbrev pub growing_searches : (Block → Bool) → Block → Sparing → List Block → ℕ
+growing_searches test new sparing zone = tries (λ k. grow_mover test new (purged k sparing zone))
+    (most_purges sparing zone)
+
+-- the block that passes is there, and is to grow to n bytes of content
+abbrev pub IsToGrow : (Block → Bool) → ℕ → List Block → Type 0
+IsToGrow test n zone = IsSomeAnd (spot test zone) (λ s. size s.here < size (resized n s.here))
+
+-- the block that a slot leads to
+abbrev pub block_of : ℕ → List Block → Option Block
+block_of number zone = option_map (λ (s : Spot). s.here) (spot (is_relocatable number) zone)
+
+-- each slot leads to the same block
+abbrev pub SameBlocks : List Block → List Block → Type 0
+SameBlocks old new = (number : ℕ) → block_of number new ≡ block_of number old
+
+-- the block that passes can grow to n bytes of content into the Free block above it
+abbrev pub CanGrowUp : (Block → Bool) → ℕ → List Block → Type 0
+CanGrowUp test n zone = (s : Spot) × (spot test zone ≡ Some s) × (size s.here < size (resized n s.here))
+    × (is_some (grow_up (resized n s.here) s) ≡ true)
+
+-- and did
+abbrev pub GrewUp : (Block → Bool) → ℕ → List Block → List Block → Type 0
+GrewUp test n old new = IfSome (spot test old) (λ s. grow_up (resized n s.here) s ≡ Some new)
+
+-- the zone with the block that passes at n bytes of content, if a block can have so many
+abbrev pub fitted : (Block → Bool) → (Block → Bool) → ℕ → List Block → Option (List Block)
+fitted test spared n zone = if is_some (phys n) then grow test spared n zone else None

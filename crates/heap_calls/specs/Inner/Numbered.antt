@@ -1,0 +1,88 @@
+use Rattle.std.specs.Prelude.{◌≡◌, ℕ, ◌+◌, ◌^◌, ◌==◌, Bool, true, false, Some, List, [], ◌∷◌, map, count_by, slice_get}
+use Rattle.std.specs.Prelude.{if◌then◌else◌}
+use Rattle.block_store.specs.Block.{Block, is_fixed, rename}
+use Rattle.block_store.specs.Run.{has}
+use Rattle.block_store.specs.Slot.{Slot, NoSlot, Unused, Used}
+use Rattle.block_store.specs.Rest.{Rest}
+use Rattle.heap_calls.specs.declared.log.Log.{Log}
+use Rattle.heap_calls.specs.State.{Role, Plain, Resource, Meaning, State, Memory, uses_slot}
+use Rattle.heap_calls.specs.State as names
+use Rattle.heap_calls.specs.declared.anchor.Anchor.{Anchor}
+use Rattle.heap_calls.specs.declared.anchor.Anchor.TheVariants as entry
+
+-- How a heap is seen in a store: blocks that the store names by slot or place are named by number.
+
+-- whose the handle of a slot is
+abbrev pub role_of : Slot → Role
+role_of NoSlot = Plain
+role_of Unused = Plain
+role_of (Used false) = Plain
+role_of (Used true) = Resource
+
+-- what an entry stands for, by the table of slots
+abbrev pub name_of : (ℕ → Slot) → Anchor → Meaning
+name_of slots (entry.Handle slot) = names.Handle (role_of (slots slot))
+name_of slots (entry.Pointer place) = names.Pointer
+name_of slots entry.Disposed = names.Disposed
+
+-- an entry of a slot
+abbrev pub leads_to : ℕ → Anchor → Bool
+leads_to slot (entry.Handle s) = s == slot
+leads_to slot (entry.Pointer place) = false
+leads_to slot entry.Disposed = false
+
+-- an entry of a place
+abbrev pub points_to : ℕ → Anchor → Bool
+points_to place (entry.Handle slot) = false
+points_to place (entry.Pointer p) = p == place
+points_to place entry.Disposed = false
+
+-- no number is so large
+abbrev pub no_number : ℕ
+no_number = 2 ^ 64
+
+-- the number of the first entry that passes, counted from n
+abbrev pub number_from : ℕ → (Anchor → Bool) → List Anchor → ℕ
+number_from n test [] = no_number
+number_from n test (e ∷ entries) = if test e then n else number_from (n + 1) test entries
+
+-- the number of the handle of a slot, and of the pointer to a place
+abbrev pub handle_number : List Anchor → ℕ → ℕ
+handle_number entries slot = number_from 0 (leads_to slot) entries
+
+abbrev pub pointer_number : List Anchor → ℕ → ℕ
+pointer_number entries place = number_from 0 (points_to place) entries
+
+-- the heap that a store's zone and slots are for its names
+abbrev pub state_of : List Block → (ℕ → Slot) → List Anchor → State
+state_of zone slots entries = record {
+  zone = rename (handle_number entries) (pointer_number entries) zone;
+  names = map
+      (name_of slots) entries;
+}
+
+-- the same with what its calls so far came to, how often a block was moved down, and where it lies
+abbrev pub memory_of : List Block → Rest → List Anchor → Log → Memory
+memory_of zone rest entries log = record {
+  heap = state_of zone rest.slots entries;
+  log = log;
+  moves = rest.moves;
+  window = rest.window;
+}
+
+-- the Fixed blocks are those that there were
+abbrev pub KeepsFixed : List Block → List Block → Type 0
+KeepsFixed old new = (place : ℕ) → has (is_fixed place) new ≡ has (is_fixed place) old
+
+-- the names and the store agree
+pub record Agrees (zone : List Block) (rest : Rest) (entries : List Anchor) : Type 0 where
+  -- a handle's slot is used, and by no other handle
+  pub used : (h slot : ℕ) → slice_get entries h ≡ Some (entry.Handle slot) → rest.slots slot ≡ Used false
+  pub apart : (h k slot : ℕ) → slice_get entries h ≡ Some (entry.Handle slot)
+      → slice_get entries k ≡ Some (entry.Handle slot) → h ≡ k
+  -- a pointer's block is there, and is no other pointer's
+  pub pointed : (h place : ℕ) → slice_get entries h ≡ Some (entry.Pointer place) → has (is_fixed place) zone ≡ true
+  pub lone : (h k place : ℕ) → slice_get entries h ≡ Some (entry.Pointer place)
+      → slice_get entries k ≡ Some (entry.Pointer place) → h ≡ k
+  -- each slot is a handle's or unused
+  pub counted : rest.unused + count_by uses_slot (map (name_of rest.slots) entries) ≡ rest.all

@@ -1,0 +1,32 @@
+use Rattle.std.specs.Prelude.{◌≡◌, ℕ, ◌-◌, List, is_some, if◌then◌else◌}
+use Rattle.mac_words.specs.Size.{phys, padded}
+use Rattle.block_store.specs.Block.{Block}
+use Rattle.block_store.specs.Sparing.{purged}
+use Rattle.block_store.specs.Rest.{Rest, counted}
+use Rattle.block_store.specs.declared.sparing.Sparing.{Sparing}
+use Rattle.heap_calls.specs.Moves.{place_moves}
+use Rattle.heap_calls.specs.Inner.NewBlock.{ready_count}
+use Rattle.heap_calls.specs.Inner.NewSlot.{zone_slotted}
+use Rattle.heap_calls.specs.Inner.Search.{seat_searches}
+
+-- How many blocks a store's packing moves down.
+
+-- so many were moved down
+abbrev pub Packs : ℕ → Rest → Rest → Type 0
+Packs n old new = new.moves ≡ counted old.moves n
+
+-- none was moved down
+abbrev pub PacksNone : Rest → Rest → Type 0
+PacksNone old new = new.moves ≡ old.moves
+
+-- for a relocatable block of p bytes, after as few purges as give a place
+abbrev pub seat_moves : ℕ → Sparing → List Block → ℕ
+seat_moves p sparing zone = place_moves p (purged (seat_searches p sparing zone - 1) sparing zone)
+
+-- for one of n bytes of content
+abbrev pub content_moves : Sparing → ℕ → List Block → ℕ
+content_moves sparing n zone = if is_some (phys n) then seat_moves (padded n) sparing zone else 0
+
+-- for a new slot and its block of n bytes, where so many slots are unused
+abbrev pub new_moves : Sparing → ℕ → ℕ → List Block → ℕ
+new_moves sparing n unused zone = ready_count (zone_slotted sparing unused zone) (content_moves sparing n)

@@ -1,0 +1,67 @@
+//! What numbers stand for.
+
+ghost use Rattle.std.specs.Prelude.{◌≡◌, slice_get, option_and_then, Some, None, Err};
+ghost use Rattle.heap_calls.specs.Inner.Given.{slot_of};
+ghost use Rattle.heap_calls.specs.Inner.Pointing.{target_of};
+
+use crate::refusal::Refusal;
+use mac_words::OsErr;
+
+/// What a number stands for in a store.
+#[derive(Clone, Copy, Debug, PartialEq, Eq)]
+pub enum Anchor {
+    /// A handle, by its slot.
+    Handle(u32),
+    /// A pointer, by the place of its block.
+    Pointer(u32),
+    /// Nothing any more.
+    Disposed,
+}
+
+/// A handle that was looked up, and its slot.
+#[derive(Clone, Copy, Debug, PartialEq, Eq)]
+pub struct Found {
+    pub number: usize,
+    pub slot: u32,
+}
+
+/// A pointer that was looked up, and the place of its block.
+#[derive(Clone, Copy, Debug, PartialEq, Eq)]
+pub struct Target {
+    pub number: usize,
+    pub place: u32,
+}
+
+/// The slot of the handle that a name is bound to.
+pub fn slot_of(names: &[Anchor], handle: Option<usize>) -> Result<Found, Refusal>
+    ensures { result ≡ slot_of handle names.now }
+{
+    let Some(number) = handle else {
+        return Err(Refusal::Code(OsErr::NIL_HANDLE));
+    };
+    match names.get(number) {
+        None => Err(Refusal::Code(OsErr::NIL_HANDLE)),
+        Some(Anchor::Handle(slot)) => Ok(Found {
+            number,
+            slot: *slot,
+        }),
+        Some(_) => Err(Refusal::Code(OsErr::WRONG_ZONE)),
+    }
+}
+
+/// The place of the block of the pointer that a name is bound to.
+pub fn target_of(names: &[Anchor], pointer: Option<usize>) -> Result<Target, Refusal>
+    ensures { result ≡ target_of pointer names.now }
+{
+    let Some(number) = pointer else {
+        return Err(Refusal::Code(OsErr::NIL_HANDLE));
+    };
+    match names.get(number) {
+        None => Err(Refusal::Code(OsErr::NIL_HANDLE)),
+        Some(Anchor::Pointer(place)) => Ok(Target {
+            number,
+            place: *place,
+        }),
+        Some(Anchor::Handle(_) | Anchor::Disposed) => Err(Refusal::Code(OsErr::WRONG_ZONE)),
+    }
+}

@@ -1,0 +1,242 @@
+//! The examples of README. Each text and each fork here is a copy of the file of `examples/` that it names.
+
+use crate::tests::printed;
+use std::alloc::Global;
+use std::test::Fail;
+
+/// `examples/first.script`
+const FIRST: &str = "NewHandle a 100
+Put a 1 \"Hi\"
+NewHandle b 3
+Show b
+GetHandleSize a
+DisposeHandle a
+Where a
+NewHandle c 500
+Where c
+FreeMem
+NewHandle d 737
+Put b 3 \"x\"
+";
+
+const FIRST_TRANSCRIPT: &str = "launch 0 1024
+1 NewHandle 0
+2 Put 0
+3 NewHandle 0
+4 Show 0 $000000
+5 GetHandleSize 0 100
+6 DisposeHandle 0
+7 Where -111
+8 NewHandle 0
+9 Where 0 448
+10 FreeMem 0 192
+11 NewHandle -108
+12 Put -30001
+end 0
+";
+
+/// `examples/compaction.script`
+const COMPACTION: &str = "# In 1024 bytes: b goes, and c moves down so that d fits.
+NewHandle a 100
+NewHandle b 100
+NewHandle c 100
+Put c 0 \"xyz\"
+DisposeHandle b
+NewHandle d 400
+Where d
+Where c
+Show c
+";
+
+const COMPACTION_TRANSCRIPT: &str = concat!(
+    "launch 0 1024
+2 NewHandle 0
+3 NewHandle 0
+4 NewHandle 0
+5 Put 0
+6 DisposeHandle 0
+7 NewHandle 0
+8 Where 0 544
+9 Where 0 416
+10 Show 0 $78797a",
+    "0000000000000000000000000000000000000000000000000000000000000000",
+    "0000000000000000000000000000000000000000000000000000000000000000",
+    "000000000000000000000000000000000000000000000000000000000000000000",
+    "
+end 0
+"
+);
+
+/// `examples/moving.script`
+const MOVING: &str = "NewHandle a 100
+NewHandle b 100
+HLock a
+SetHandleSize a 300
+Where a
+Where b
+FreeMem
+HUnlock a
+HLockHi b
+Where b
+HLockHi b
+CompactMem 1000
+SetHandleSize b 101
+SetHandleSize b 113
+MemError
+GetHandleSize b
+";
+
+const MOVING_TRANSCRIPT: &str = "launch 0 1024
+1 NewHandle 0
+2 NewHandle 0
+3 HLock 0
+4 SetHandleSize 0
+5 Where 0 288
+6 Where 0 608
+7 FreeMem 0 304
+8 HUnlock 0
+9 HLockHi 0
+10 Where 0 912
+11 HLockHi -117
+12 CompactMem 0 288
+13 SetHandleSize 0
+14 SetHandleSize -108
+15 MemError 0 -108
+16 GetHandleSize 0 101
+end 0
+";
+
+/// `examples/kept_pointer.script`
+const KEPT_POINTER: &str =
+    "# In 1024 bytes: a pointer that is kept across NewHandle points into another block.
+NewHandle gap 100
+NewHandle text 100
+Put text 0 \"Hi\"
+DisposeHandle gap
+# p = *text: the application keeps where the bytes of text stand.
+Where text
+NewHandle list 500
+# p is stale: text has moved down, and list begins where p points to.
+Where text
+Where list
+";
+
+const KEPT_POINTER_TRANSCRIPT: &str = "launch 0 1024
+2 NewHandle 0
+3 NewHandle 0
+4 Put 0
+5 DisposeHandle 0
+7 Where 0 416
+8 NewHandle 0
+10 Where 0 288
+11 Where 0 416
+end 0
+";
+
+/// `examples/kept_pointer_locked.script`
+const KEPT_POINTER_LOCKED: &str =
+    "# In 1024 bytes: the same, but text is moved high and locked before the pointer is taken.
+NewHandle gap 100
+NewHandle text 100
+Put text 0 \"Hi\"
+DisposeHandle gap
+MoveHHi text
+HLock text
+# p = *text
+Where text
+NewHandle list 500
+# text has stayed, and p still points to its bytes.
+Where text
+Where list
+HUnlock text
+";
+
+const KEPT_POINTER_LOCKED_TRANSCRIPT: &str = "launch 0 1024
+2 NewHandle 0
+3 NewHandle 0
+4 Put 0
+5 DisposeHandle 0
+6 MoveHHi 0
+7 HLock 0
+9 Where 0 912
+10 NewHandle 0
+12 Where 0 912
+13 Where 0 288
+14 HUnlock 0
+end 0
+";
+
+/// `examples/Document.rsrc`: a header, 240 bytes 0, the data of four resources, the header again, and the rest of the
+/// map.
+fn document(alloc: Global) -> Result<Vec<u8>, Fail> {
+    let mut fork = vec![in alloc; 0u8; 256]?;
+    fork[..16].copy_from_slice(b"\x00\x00\x01\x00\x00\x00\x01P\x00\x00\x00P\x00\x00\x00}");
+    fork.extend_from_slice(b"\x00\x00\x00\x06\x05Hello")?;
+    fork.extend_from_slice(b"\x00\x00\x00\x08\x07Goodbye")?;
+    fork.extend_from_slice(b"\x00\x00\x00(Handles move.\x0dPointers to them go stale.")?;
+    fork.extend_from_slice(b"\x00\x00\x00\x0aX\x80\x00\x06\x00\x00\x00\x04\x00\x00")?;
+    fork.extend_from_slice(b"\x00\x00\x01\x00\x00\x00\x01P\x00\x00\x00P\x00\x00\x00}")?;
+    fork.extend_from_slice(b"\x00\x00\x00\x00\x00\x00\x00\x00\x00\x1c\x00f")?;
+    fork.extend_from_slice(b"\x00\x02")?;
+    fork.extend_from_slice(b"STR \x00\x01\x00\x1a")?;
+    fork.extend_from_slice(b"TEXT\x00\x00\x002")?;
+    fork.extend_from_slice(b"SIZE\x00\x00\x00>")?;
+    fork.extend_from_slice(b"\x00\x80\x00\x00 \x00\x00\x00\x00\x00\x00\x00")?;
+    fork.extend_from_slice(b"\x00\x81\xff\xff\x00\x00\x00\x0a\x00\x00\x00\x00")?;
+    fork.extend_from_slice(b"\x00\x80\x00\x09$\x00\x00\x16\x00\x00\x00\x00")?;
+    fork.extend_from_slice(b"\xff\xff\xff\xff\x00\x00\x00B\x00\x00\x00\x00")?;
+    fork.extend_from_slice(b"\x08Greeting")?;
+    fork.extend_from_slice(b"\x0dRead me first")?;
+    Ok(fork)
+}
+
+/// `examples/OtherForm.rsrc`: the same, but with 16 bytes 0 in place of the map's copy of the header.
+fn other_form(alloc: Global) -> Result<Vec<u8>, Fail> {
+    let mut fork = document(alloc)?;
+    for byte in fork.iter_mut().skip(336).take(16) {
+        *byte = 0;
+    }
+    Ok(fork)
+}
+
+#[test]
+fn runs_the_scripts(rt: HostRuntime) -> Result<(), Fail> {
+    for (script, transcript) in [
+        (FIRST, FIRST_TRANSCRIPT),
+        (COMPACTION, COMPACTION_TRANSCRIPT),
+        (MOVING, MOVING_TRANSCRIPT),
+        (KEPT_POINTER, KEPT_POINTER_TRANSCRIPT),
+        (KEPT_POINTER_LOCKED, KEPT_POINTER_LOCKED_TRANSCRIPT),
+    ] {
+        let text = printed(
+            rt.alloc(),
+            &["macmem", "script", "1024", "file"],
+            script.as_bytes(),
+        )?;
+        assert_eq!(rt; text.as_slice(), transcript.as_bytes());
+    }
+    Ok(())
+}
+
+#[test]
+fn lists_and_checks_the_forks(rt: HostRuntime) -> Result<(), Fail> {
+    let alloc = rt.alloc();
+    let listing: &[u8] = b"map 0 3 4
+$53545220 128 32 6 $4772656574696e67
+$53545220 129 0 8 -
+$54455854 128 36 40 $52656164206d65206669727374
+$53495a45 -1 0 10 -
+";
+    let document = document(alloc)?;
+    assert_eq!(rt; document.len(), 461);
+    let text = printed(alloc, &["macmem", "map", "file"], document.as_slice())?;
+    assert_eq!(rt; text.as_slice(), listing);
+    let text = printed(alloc, &["macmem", "check", "file"], document.as_slice())?;
+    assert_eq!(rt; text.as_slice(), b"canonical\n".as_slice());
+    let other_form = other_form(alloc)?;
+    let text = printed(alloc, &["macmem", "map", "file"], other_form.as_slice())?;
+    assert_eq!(rt; text.as_slice(), listing);
+    let text = printed(alloc, &["macmem", "check", "file"], other_form.as_slice())?;
+    assert_eq!(rt; text.as_slice(), b"accepted\n".as_slice());
+    Ok(())
+}
