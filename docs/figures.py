@@ -28,6 +28,7 @@ def best(command, runs):
 
 
 def put(name, data):
+    os.makedirs(FOLDER, exist_ok=True)
     path = os.path.join(FOLDER, name)
     with open(path, "wb") as file:
         file.write(data)
@@ -71,14 +72,19 @@ def types_fork():
     return fork(bytes(16), struct.pack(">H", 65534) + b"".join(type_entry(k, 1, 2) for k in kinds))
 
 
-def names_fork():
+def names_fork(size=8):
     """65,536 references with names of 8 bytes"""
-    types_at, size = 65535, 8
+    types_at = 65535
     names = bytes([size]) * (types_at - 28)
     header = struct.pack(">IIII", 256, 272, 16, types_at + 10 + 12 * 65536)
     lists = struct.pack(">H", 0) + type_entry(TEXT, 65536, 10)
     lists += b"".join(reference(i, i % (len(names) - size - 1), 0) for i in range(65536))
     return header + bytes(240) + bytes(16) + header + bytes(6) + struct.pack(">HHH", 0, types_at, 30)[:6] + names + lists
+
+
+def long_names_fork():
+    """65,536 references with names of 255 bytes, whose listing has 33 MB"""
+    return names_fork(255)
 
 
 def shared_fork():
@@ -123,7 +129,7 @@ def rounds(count):
     return "\n".join(text).encode() + b"\n"
 
 
-FORKS = [references_fork, types_fork, names_fork, shared_fork, canonical_fork]
+FORKS = [references_fork, types_fork, names_fork, long_names_fork, shared_fork, canonical_fork]
 SCRIPTS = [
     ("4194304", "churn of 100,000 lines", churn(100000)),
     ("4194304", "churn of 40,000 lines", churn(40000)),
