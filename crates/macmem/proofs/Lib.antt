@@ -1,4 +1,5 @@
 mod Digits
 mod Faults
 mod Numerals
+mod Printing
 mod Wholes

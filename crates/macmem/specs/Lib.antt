@@ -1,5 +1,6 @@
 pub mod Fault
 pub mod Size
 pub mod Listing
+pub mod Printing
 pub mod Work
 pub mod Tasks

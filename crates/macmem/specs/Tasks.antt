@@ -1,4 +1,5 @@
-use Rattle.std.specs.Prelude.{◌≡◌, ◌≢◌, ℕ, Option, Some, None, Err, List, []}
+use Rattle.std.specs.Prelude.{◌≡◌, ◌≢◌, ◌⊎◌, ℕ, Option, Some, None, Err, List, [], codes}
+use Rattle.std.specs.Io.KnownBytes.{append_known}
 use Rattle.mac_words.specs.declared.code.OsErr.{OsErr}
 use Rattle.script_text.specs.declared.fault.FaultKind.{FaultKind}
 use Rattle.script_text.specs.declared.fault.FaultKind.TheVariants as kinds
@@ -8,7 +9,14 @@ use Rattle.fork_format.specs.declared.fault.ForkFault.TheVariants as fork_fault
 use Rattle.fork_format.specs.Code.{read_code}
 use Rattle.fork_format.specs.Fork.{IsUnspelled}
 use Rattle.macmem.specs.Fault.{Message, Usage, CannotRead, Script, Fork, CannotWrite, HostMemory}
-use Rattle.macmem.specs.Work.{IsTranscriptOf, IsListingOf, IsFormText}
+use Rattle.fork_format.specs.View.{view}
+use Rattle.macmem.specs.Listing.{listing}
+use Rattle.macmem.specs.Printing.{PrintsFront}
+use Rattle.macmem.specs.Work.{IsTranscriptOf, IsListingOf, IsFormText, text_of}
+use Rattle.macmem.specs.declared.host.WriteError.{WriteError}
+use Rattle.macmem.specs.declared.host.WriteError.TheVariants as write_error
+use Rattle.macmem.specs.declared.tasks.Output.{Output}
+use Rattle.macmem.specs.declared.tasks.Output.TheVariants as output
 use Rattle.macmem.specs.declared.tasks.Work.{Work}
 use Rattle.macmem.specs.declared.tasks.Work.TheVariants as work
 
@@ -69,3 +77,34 @@ abbrev pub IsFault : Work → List ℕ → List ℕ → Message → Type 0
 IsFault (work.Script size) path bytes message = IsScriptFault path bytes message
 IsFault work.Map path bytes message = IsForkFault path bytes message
 IsFault work.Check path bytes message = IsForkFault path bytes message
+
+-- a print that failed, with the path of the standard output
+abbrev pub write_message : WriteError → Message
+write_message write_error.CannotWrite = CannotWrite (codes "-")
+write_message write_error.HostMemory = HostMemory
+
+-- the text of an output
+abbrev pub output_text : Output → List ℕ
+output_text (output.Transcript text) = text.items
+output_text (output.Listing content) = listing (view content)
+output_text (output.Form form) = text_of form
+
+-- what is printed of a file's bytes was printed
+abbrev pub Prints : Work → List ℕ → Option (List ℕ) → Option (List ℕ) → Type 0
+Prints w bytes old new = (out : List ℕ) × IsPrinted w bytes out × (new ≡ append_known old out)
+
+-- a front of it was printed
+abbrev pub PrintsPart : Work → List ℕ → Option (List ℕ) → Option (List ℕ) → Type 0
+PrintsPart w bytes old new = (out : List ℕ) × IsPrinted w bytes out × PrintsFront out old new
+
+-- why a task was not done, or not to its end, and what was printed before
+abbrev pub IsRefusal : Work → List ℕ → List ℕ → Option (List ℕ) → Option (List ℕ) → Message → Type 0
+IsRefusal w path bytes old new (CannotWrite named) = (named ≡ codes "-") × PrintsPart w bytes old new
+IsRefusal w path bytes old new HostMemory = (new ≡ old) ⊎ PrintsPart w bytes old new
+IsRefusal w path bytes old new message = IsFault w path bytes message × (new ≡ old)
+
+-- nothing is printed where a fault isn't that of a print
+abbrev pub IsQuiet : Option (List ℕ) → Option (List ℕ) → Message → Type 0
+IsQuiet old new (CannotWrite named) = Unit {0}
+IsQuiet old new HostMemory = Unit {0}
+IsQuiet old new message = new ≡ old

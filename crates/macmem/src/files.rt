@@ -1,5 +1,7 @@
 //! Real files.
 
+ghost use Rattle.std.specs.Prelude.{None};
+
 use crate::host::{Host, ReadError, WriteError};
 use crate::reading::read_all;
 use std::alloc::Global;
@@ -38,6 +40,9 @@ fn read_file<F: OpenFile + Read>(alloc: Global, file: &mut F) -> Result<Vec<u8>,
 }
 
 impl<'r, R: Files + Input + Print> Host for HostFiles<'r, R> {
+    // What a terminal, a pipe or a file has taken is known to nobody.
+    ghost printed = { λ _. None };
+
     /// Pipes and devices are read like files. The standard input is read as it is open, since a host need
     /// not let it be opened by its path.
     fn read(&mut self, alloc: Global, path: &str) -> Result<Vec<u8>, ReadError> {
@@ -53,7 +58,7 @@ impl<'r, R: Files + Input + Print> Host for HostFiles<'r, R> {
     fn print(&mut self, bytes: &[u8]) -> Result<(), WriteError> {
         match io::writer(self.rt).write_all(bytes) {
             Ok(()) => Ok(()),
-            Err(_) => Err(WriteError),
+            Err(_) => Err(WriteError::CannotWrite),
         }
     }
 }

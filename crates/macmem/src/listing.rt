@@ -1,17 +1,26 @@
 //! What a fork holds, as a person reads it.
 
-ghost use Rattle.std.specs.Prelude.{◌≡◌, ◌<◌, ◌≤◌, ◌*◌, ◌++◌, OnOk, IfOk, length, take};
+ghost use Rattle.std.specs.Prelude.{◌≡◌, ◌<◌, ◌≤◌, ◌*◌, ◌++◌, OnOk, length, take};
 ghost use Rattle.std.specs.List.{flat_map};
+ghost use Rattle.std.specs.Io.KnownBytes.{append_known};
 ghost use Rattle.byteorder.specs.Endian.{big_bytes};
 ghost use Rattle.script_text.specs.Transcript.{hex_digit, hex};
 ghost use Rattle.fork_format.specs.Content.{refs_of};
 ghost use Rattle.fork_format.specs.View.{view_name, view_ref, view_group, view};
 ghost use Rattle.macmem.specs.Listing.{numbers_listed, name_listed, line_behind, group_lines, head_line, listing};
+ghost use Rattle.macmem.specs.Printing.{PrintsBut, PrintsFront};
 
+use crate::host::{Host, WriteError};
 use byteorder::{BigEndian, ByteOrder};
 use fork_format::{Content, Group, Ref, RefName, kind_of};
 use itoa::Buffer;
 use std::alloc::{AllocError, Global};
+
+/// So many bytes of lines are printed at a time.
+const MANY: usize = 65_536;
+
+/// No line has more bytes.
+const LONGEST: usize = 600;
 
 /// The hexadecimal digit of a number below 16, in lower case.
 fn digit_of(value: u8) -> u8
@@ -90,17 +99,6 @@ fn push_resource(text: &mut Vec<u8>, digits: &[u8; 8], resource: &Ref<'_>) -> Re
     text.extend_from_slice(b"\n")
 }
 
-/// Appends the lines of a type's resources.
-fn push_group(text: &mut Vec<u8>, group: &Group<'_>) -> Result<(), AllocError>
-    ensures { OnOk result (text.new.items ≡ text.old.items ++ group_lines (view_group group.now)) }
-{
-    let digits = digits_of(kind_of(group.ty));
-    for resource in &group.refs {
-        push_resource(text, &digits, resource)?;
-    }
-    Ok(())
-}
-
 /// How many resources there are.
 fn count_of(content: &Content<'_>) -> u128
     ensures { result ≡ length (refs_of (view content.now).groups) }
@@ -125,24 +123,69 @@ fn push_head(text: &mut Vec<u8>, content: &Content<'_>) -> Result<(), AllocError
     text.extend_from_slice(b"\n")
 }
 
-/// Appends the lines of all resources.
-fn push_groups(text: &mut Vec<u8>, content: &Content<'_>) -> Result<(), AllocError>
-    ensures { OnOk result (text.new.items ≡ text.old.items ++ flat_map group_lines (view content.now).groups) }
+/// Prints the lines that wait, once they are many.
+fn print_many<H: Host>(host: &mut H, lines: &mut Vec<u8>) -> Result<(), WriteError>
+    ensures some { OnOk result (PrintsBut lines.old.items lines.new.items (H.printed host.old) (H.printed host.new)) }
+    ensures front { PrintsFront lines.old.items (H.printed host.old) (H.printed host.new) }
 {
-    for group in &content.groups {
-        push_group(text, group)?;
+    if lines.len() >= MANY {
+        host.print(lines.as_slice())?;
+        lines.clear();
     }
     Ok(())
 }
 
-/// The listing of a content: a line with the map's attributes and the numbers of types and of resources,
+/// Prints the lines that wait and those of a type's resources, of which the last may be left waiting.
+fn print_group<H: Host>(
+    host: &mut H,
+    lines: &mut Vec<u8>,
+    group: &Group<'_>,
+) -> Result<(), WriteError>
+    ensures some { OnOk result (PrintsBut (lines.old.items ++ group_lines (view_group group.now)) lines.new.items
+        (H.printed host.old) (H.printed host.new)) }
+    ensures front { PrintsFront (lines.old.items ++ group_lines (view_group group.now))
+        (H.printed host.old) (H.printed host.new) }
+{
+    let digits = digits_of(kind_of(group.ty));
+    for resource in &group.refs {
+        push_resource(lines, &digits, resource)?;
+        print_many(host, lines)?;
+    }
+    Ok(())
+}
+
+/// Prints the lines that wait and those of all resources, of which the last may be left waiting.
+fn print_groups<H: Host>(
+    host: &mut H,
+    lines: &mut Vec<u8>,
+    content: &Content<'_>,
+) -> Result<(), WriteError>
+    ensures some { OnOk result (PrintsBut (lines.old.items ++ flat_map group_lines (view content.now).groups)
+        lines.new.items (H.printed host.old) (H.printed host.new)) }
+    ensures front { PrintsFront (lines.old.items ++ flat_map group_lines (view content.now).groups)
+        (H.printed host.old) (H.printed host.new) }
+{
+    for group in &content.groups {
+        print_group(host, lines, group)?;
+    }
+    Ok(())
+}
+
+/// Prints the listing of a content: a line with the map's attributes and the numbers of types and of resources,
 /// then a line for each resource: its type, ID, attributes, length in bytes, and name. Types and names are
 /// `$` and hexadecimal digits in lower case; `-` stands for no name.
-pub fn listing_of(alloc: Global, content: &Content<'_>) -> Result<Vec<u8>, AllocError>
-    ensures { IfOk result (λ text. text.items ≡ listing (view content.now)) }
+///
+/// The lines are gathered in room that is taken before any is printed, and printed some 65,536 bytes at a time.
+pub fn print_listing<H: Host>(
+    alloc: Global,
+    host: &mut H,
+    content: &Content<'_>,
+) -> Result<(), WriteError>
+    ensures all { OnOk result (H.printed host.new ≡ append_known (H.printed host.old) (listing (view content.now))) }
+    ensures front { PrintsFront (listing (view content.now)) (H.printed host.old) (H.printed host.new) }
 {
-    let mut text = Vec::new(alloc);
-    push_head(&mut text, content)?;
-    push_groups(&mut text, content)?;
-    Ok(text)
+    let mut lines = Vec::with_capacity(alloc, MANY + LONGEST)?;
+    push_head(&mut lines, content)?;
+    print_groups(host, &mut lines, content)?;
+    host.print(lines.as_slice())
 }

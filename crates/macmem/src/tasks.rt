@@ -1,16 +1,24 @@
 //! A task: what is printed of the bytes of its file.
 
-ghost use Rattle.std.specs.Prelude.{◌≡◌, IfOk, IfErr};
+ghost use Rattle.std.specs.Prelude.{◌≡◌, IfOk, IfErr, OnOk};
+ghost use Rattle.std.specs.Io.KnownBytes.{append_known};
 ghost use Rattle.macmem.specs.Fault.{message_of};
 ghost use Rattle.macmem.specs.Work.{IsTranscriptOf, IsListingOf, IsFormText};
-ghost use Rattle.macmem.specs.Tasks.{script_message, fork_message, IsScriptFault, IsForkFault, IsPrinted, IsFault};
+ghost use Rattle.macmem.specs.Printing.{PrintsFront};
+ghost use Rattle.macmem.specs.Tasks.{script_message, fork_message, write_message, IsScriptFault, IsForkFault};
+ghost use Rattle.macmem.specs.Tasks.{output_text, IsPrinted, IsFault, Prints, IsRefusal};
 
 use crate::fault::ToolFault;
+use crate::host::{Host, WriteError};
+use crate::listing::print_listing;
 use crate::size::PartitionSize;
-use crate::work::{fork_listing, form_of, transcript_of};
-use fork_format::ForkFault;
+use crate::work::{Form, form_of, transcript_of};
+use fork_format::{Content, ForkFault, read_fork};
 use script_text::{FaultKind, ScriptFault};
 use std::alloc::{AllocError, Global};
+
+/// The path that stands for the standard output.
+const STANDARD_OUTPUT: &str = "-";
 
 /// What is done with the bytes of a file.
 #[derive(Clone, Copy, Debug, PartialEq, Eq)]
@@ -29,6 +37,17 @@ pub struct Task<'a> {
     pub work: Work,
     /// The file's path as it was given.
     pub path: &'a str,
+}
+
+/// What a task prints of the bytes of its file.
+#[derive(Debug, Drop)]
+pub enum Output<'b> {
+    /// A script's transcript.
+    Transcript(Vec<u8>),
+    /// The listing of a fork's content, which is made as it is printed, from the fork's bytes.
+    Listing(Content<'b>),
+    /// The line of a fork's form.
+    Form(Form),
 }
 
 /// A script's fault, with the script's path.
@@ -58,40 +77,52 @@ fn fork_fault(alloc: Global, path: &str, fault: ForkFault) -> Result<ToolFault, 
     }
 }
 
+/// The fault of what could not be printed.
+fn write_fault(alloc: Global, error: WriteError) -> Result<ToolFault, AllocError>
+    ensures { IfOk result (λ told. message_of told ≡ write_message error) }
+{
+    match error {
+        WriteError::CannotWrite => Ok(ToolFault::CannotWrite {
+            path: String::from_str(alloc, STANDARD_OUTPUT)?,
+        }),
+        WriteError::HostMemory => Ok(ToolFault::HostMemory),
+    }
+}
+
 /// The transcript of a script.
-fn script_printed(
+fn script_output<'b>(
     alloc: Global,
     size: PartitionSize,
     path: &str,
-    text: &[u8],
-) -> Result<Vec<u8>, ToolFault>
-    ensures printed { IfOk result (λ out. IsTranscriptOf size.bytes text.now out.items) }
+    text: &'b [u8],
+) -> Result<Output<'b>, ToolFault>
+    ensures output { IfOk result (λ output. IsTranscriptOf size.bytes text.now (output_text output)) }
     ensures fault { IfErr result (λ fault. IsScriptFault path.now text.now (message_of fault)) }
 {
     match transcript_of(alloc, size, text) {
-        Ok(transcript) => Ok(transcript),
+        Ok(transcript) => Ok(Output::Transcript(transcript)),
         Err(fault) => Err(script_fault(alloc, path, fault)?),
     }
 }
 
 /// The listing of a fork.
-fn map_printed(alloc: Global, path: &str, bytes: &[u8]) -> Result<Vec<u8>, ToolFault>
-    ensures printed { IfOk result (λ out. IsListingOf bytes.now out.items) }
+fn map_output<'b>(alloc: Global, path: &str, bytes: &'b [u8]) -> Result<Output<'b>, ToolFault>
+    ensures output { IfOk result (λ output. IsListingOf bytes.now (output_text output)) }
     ensures fault { IfErr result (λ fault. IsForkFault path.now bytes.now (message_of fault)) }
 {
-    match fork_listing(alloc, bytes) {
-        Ok(listing) => Ok(listing),
+    match read_fork(alloc, bytes) {
+        Ok(content) => Ok(Output::Listing(content)),
         Err(fault) => Err(fork_fault(alloc, path, fault)?),
     }
 }
 
-/// What a fork is to its content, as a line.
-fn check_printed(alloc: Global, path: &str, bytes: &[u8]) -> Result<Vec<u8>, ToolFault>
-    ensures printed { IfOk result (λ out. IsFormText bytes.now out.items) }
+/// What a fork is to its content.
+fn check_output<'b>(alloc: Global, path: &str, bytes: &'b [u8]) -> Result<Output<'b>, ToolFault>
+    ensures output { IfOk result (λ output. IsFormText bytes.now (output_text output)) }
     ensures fault { IfErr result (λ fault. IsForkFault path.now bytes.now (message_of fault)) }
 {
     match form_of(alloc, bytes) {
-        Ok(form) => Ok(Vec::from_slice(alloc, form.text())?),
+        Ok(form) => Ok(Output::Form(form)),
         Err(fault) => Err(fork_fault(alloc, path, fault)?),
     }
 }
@@ -101,16 +132,59 @@ fn check_printed(alloc: Global, path: &str, bytes: &[u8]) -> Result<Vec<u8>, Too
 /// # Errors
 ///
 /// The fault of the bytes, with the file's path. Where the host refuses memory nothing is said of them.
-pub fn printed(alloc: Global, task: Task<'_>, bytes: &[u8]) -> Result<Vec<u8>, ToolFault>
+pub fn output_of<'b>(
+    alloc: Global,
+    task: Task<'_>,
+    bytes: &'b [u8],
+) -> Result<Output<'b>, ToolFault>
     // A script's transcript, a fork's listing, or the line that tells a fork's form.
-    ensures printed { IfOk result (λ out. IsPrinted task.entry.work bytes.now out.items) }
+    ensures output { IfOk result (λ output. IsPrinted task.entry.work bytes.now (output_text output)) }
 
     // The script's first faulty line, or the result code of bytes that are no fork.
     ensures fault { IfErr result (λ fault. IsFault task.entry.work task.entry.path.now bytes.now (message_of fault)) }
 {
     match task.work {
-        Work::Script(size) => script_printed(alloc, size, task.path, bytes),
-        Work::Map => map_printed(alloc, task.path, bytes),
-        Work::Check => check_printed(alloc, task.path, bytes),
+        Work::Script(size) => script_output(alloc, size, task.path, bytes),
+        Work::Map => map_output(alloc, task.path, bytes),
+        Work::Check => check_output(alloc, task.path, bytes),
+    }
+}
+
+/// Prints an output: a listing piece by piece, and all else at once.
+fn print_output<H: Host>(alloc: Global, host: &mut H, output: &Output<'_>) -> Result<(), WriteError>
+    ensures all { OnOk result (H.printed host.new ≡ append_known (H.printed host.old) (output_text output.now)) }
+    ensures front { PrintsFront (output_text output.now) (H.printed host.old) (H.printed host.new) }
+{
+    match output {
+        Output::Transcript(text) => host.print(text.as_slice()),
+        Output::Listing(content) => print_listing(alloc, host, content),
+        Output::Form(form) => host.print(form.text()),
+    }
+}
+
+/// Does a task: prints what it prints of the bytes of its file. Nothing is printed before it is known that they
+/// have no fault.
+///
+/// # Errors
+///
+/// The fault of the bytes, with the file's path. Where the standard output fails, or the host refuses memory, a front
+/// of what is to be printed may have been.
+pub fn do_task<H: Host>(
+    alloc: Global,
+    host: &mut H,
+    task: Task<'_>,
+    bytes: &[u8],
+) -> Result<(), ToolFault>
+    // A script's transcript, a fork's listing, or the line that tells a fork's form: that and nothing else.
+    ensures printed { OnOk result (Prints task.entry.work bytes.now (H.printed host.old) (H.printed host.new)) }
+
+    // Faulty bytes, of which nothing is printed, or a print that failed.
+    ensures fault { IfErr result (λ fault. IsRefusal task.entry.work task.entry.path.now bytes.now
+        (H.printed host.old) (H.printed host.new) (message_of fault)) }
+{
+    let output = output_of(alloc, task, bytes)?;
+    match print_output(alloc, host, &output) {
+        Ok(()) => Ok(()),
+        Err(error) => Err(write_fault(alloc, error)?),
     }
 }

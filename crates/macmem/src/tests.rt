@@ -1,5 +1,7 @@
 //! The program's work with a host in memory.
 
+ghost use Rattle.std.specs.Prelude.{Some};
+
 use crate::tasks::Work;
 use crate::words::read_words;
 use crate::{Host, ReadError, ToolFault, WriteError, tool};
@@ -12,11 +14,14 @@ use std::test::Fail;
 #[derive(Drop)]
 struct Memory<'a> {
     file: &'a [u8],
-    fails_print: bool,
+    /// So many prints succeed.
+    prints: usize,
     printed: Vec<u8>,
 }
 
 impl<'a> Host for Memory<'a> {
+    ghost printed = { λ host. Some host.printed.items };
+
     fn read(&mut self, alloc: Global, path: &str) -> Result<Vec<u8>, ReadError> {
         match path {
             "file" => Ok(Vec::from_slice(alloc, self.file)?),
@@ -26,20 +31,19 @@ impl<'a> Host for Memory<'a> {
     }
 
     fn print(&mut self, bytes: &[u8]) -> Result<(), WriteError> {
-        if self.fails_print {
-            return Err(WriteError);
+        if self.prints == 0 {
+            return Err(WriteError::CannotWrite);
         }
-        match self.printed.extend_from_slice(bytes) {
-            Ok(()) => Ok(()),
-            Err(_) => Err(WriteError),
-        }
+        self.prints -= 1;
+        self.printed.extend_from_slice(bytes)?;
+        Ok(())
     }
 }
 
 fn host(alloc: Global, file: &[u8]) -> Memory<'_> {
     Memory {
         file,
-        fails_print: false,
+        prints: 1,
         printed: Vec::new(alloc),
     }
 }
@@ -279,7 +283,7 @@ fn tells_a_want_of_memory(rt: HostRuntime) -> Result<(), Fail> {
 fn tells_what_cannot_be_printed(rt: HostRuntime) -> Result<(), Fail> {
     let alloc = rt.alloc();
     let mut host = host(alloc, b"FreeMem\n");
-    host.fails_print = true;
+    host.prints = 0;
     let words: [&str; 4] = ["macmem", "script", "1024", "file"];
     match tool(alloc, &words, &mut host) {
         Err(fault) => {
@@ -368,6 +372,64 @@ fn lists_forks(rt: HostRuntime) -> Result<(), Fail> {
         text.as_slice(),
         b"map 0 1 1\n$54455854 128 0 2 -\n".as_slice()
     );
+    Ok(())
+}
+
+/// A fork with references that share a datum of no bytes and a name of 255 bytes `n`.
+fn named_fork(alloc: Global, references: u8) -> Result<Vec<u8>, Fail> {
+    let mut fork = vec![in alloc; 0u8; 256]?;
+    fork[..16].copy_from_slice(b"\x00\x00\x01\x00\x00\x00\x01\x04\x00\x00\x00\x04\x00\x00\x0a\x4a");
+    fork.extend_from_slice(b"\x00\x00\x00\x00")?;
+    fork.extend_from_slice(b"\x00\x00\x01\x00\x00\x00\x01\x04\x00\x00\x00\x04\x00\x00\x0a\x4a")?;
+    fork.extend_from_slice(b"\x00\x00\x00\x00\x00\x00\x00\x00\x00\x1c\x09\x4a")?;
+    fork.extend_from_slice(b"\x00\x00TEXT\x00")?;
+    fork.push(references.wrapping_sub(1))?;
+    fork.extend_from_slice(b"\x00\x0a")?;
+    for i in 0..references {
+        fork.extend_from_slice(b"\x00")?;
+        fork.push(i)?;
+        fork.extend_from_slice(b"\x00\x00\x00\x00\x00\x00\x00\x00\x00\x00")?;
+    }
+    fork.push(255)?;
+    for _ in 0..255 {
+        fork.push(b'n')?;
+    }
+    Ok(fork)
+}
+
+/// The listing of such a fork.
+fn named_listing(alloc: Global, references: u8) -> Result<Vec<u8>, Fail> {
+    let mut text = String::new(alloc);
+    writeln!(text, "map 0 1 {references}")?;
+    for i in 0..references {
+        write!(text, "$54455854 {i} 0 0 $")?;
+        for _ in 0..255 {
+            text.push_str("6e")?;
+        }
+        text.push_str("\n")?;
+    }
+    Ok(text.into_bytes())
+}
+
+#[test]
+fn lists_large_forks_piece_by_piece(rt: HostRuntime) -> Result<(), Fail> {
+    let alloc = rt.alloc();
+    let fork = named_fork(alloc, 195)?;
+    let listing = named_listing(alloc, 195)?;
+    let words: [&str; 3] = ["macmem", "map", "file"];
+    for (prints, length) in [(0, 0), (1, 65_622), (2, listing.len())] {
+        let mut host = host(alloc, fork.as_slice());
+        host.prints = prints;
+        match tool(alloc, &words, &mut host) {
+            Ok(()) => assert_eq!(rt; prints, 2),
+            Err(fault) => {
+                assert_eq!(rt; (fault.kind(), fault.path()), (4, "-"));
+                assert!(rt; prints < 2);
+            }
+        }
+        assert_eq!(rt; host.printed.len(), length);
+        assert!(rt; listing.as_slice().starts_with(host.printed.as_slice()));
+    }
     Ok(())
 }
 

@@ -1,4 +1,4 @@
-//! The work of the commands, from the bytes of a file to the bytes that are printed.
+//! The work of the commands, from the bytes of a file to what is printed of them.
 
 ghost use Rattle.std.specs.Prelude.{◌≡◌, ◌≢◌, ◌↔◌, [], IfOk, IfErr, IsTrue};
 ghost use Rattle.script_text.specs.Script.{statements_of};
@@ -6,9 +6,8 @@ ghost use Rattle.script_text.specs.Reading.{FailsAt};
 ghost use Rattle.fork_format.specs.Canonical.{canon, fits};
 ghost use Rattle.fork_format.specs.Fork.{IsUnspelled};
 ghost use Rattle.fork_format.specs.View.{view};
-ghost use Rattle.macmem.specs.Work.{IsTranscriptOf, IsListingOf, IsFormOf, TellsForm, text_of};
+ghost use Rattle.macmem.specs.Work.{IsTranscriptOf, IsFormOf, TellsForm, text_of};
 
-use crate::listing::listing_of;
 use crate::size::PartitionSize;
 use desk::run_script;
 use fork_format::{Content, ForkFault, WriteFault, read_fork, write_fork};
@@ -55,21 +54,6 @@ pub fn transcript_of(
             line: 0,
             kind: FaultKind::HostMemory,
         }),
-    }
-}
-
-/// The listing of a fork.
-pub fn fork_listing(alloc: Global, bytes: &[u8]) -> Result<Vec<u8>, ForkFault>
-    // The listing is that of the content that the bytes spell.
-    ensures listing { IfOk result (λ out. IsListingOf bytes.now out.items) }
-
-    // No bytes, or bytes that spell no content.
-    ensures empty { (result ≡ Err ForkFault.Empty) ↔ (bytes.now ≡ []) }
-    ensures bad_map { (result ≡ Err ForkFault.BadMap) ↔ ((bytes.now ≢ []) × IsUnspelled bytes.now) }
-{
-    match read_fork(alloc, bytes) {
-        Ok(content) => Ok(listing_of(alloc, &content)?),
-        Err(fault) => Err(fault),
     }
 }
 
