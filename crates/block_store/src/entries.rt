@@ -56,6 +56,7 @@ pub fn is_of_slot(entry: &StoredBlock, number: u32) -> bool
 }
 
 /// The place of the block that a slot leads to.
+#[tactic(auto, using(crate::proofs::Zone::Listing::entry_fits))]
 pub fn find_slot(entries: &[StoredBlock], number: u32) -> Option<u32>
     requires { sizes (blocks_of entries.now) < 2 ^ 32 }
     ensures { result ≡ option_map (λ s. sizes s.below) (spot (is_relocatable number) (blocks_of entries.now)) }

@@ -40,6 +40,7 @@ pub fn look_at(entries: &[StoredBlock], place: u32) -> Option<Seen>
 }
 
 /// The place of the lowest block that may be emptied, after so many purges.
+#[tactic(auto, using(crate::proofs::Zone::Listing::entry_fits))]
 pub fn find_purgeable(entries: &[StoredBlock], purges: u32, sparing: Sparing) -> Option<u32>
     requires { sizes (blocks_of entries.now) < 2 ^ 32 }
     ensures { result ≡ option_map (λ s. sizes s.below)
@@ -96,6 +97,7 @@ fn above_slot(
 }
 
 /// The bytes of the Free blocks that come first, after so many purges.
+#[tactic(auto, using(crate::proofs::Zone::Listing::entry_fits))]
 fn free_first(entries: &[StoredBlock], purges: u32, sparing: Sparing) -> u32
     requires { sizes (blocks_of entries.now) < 2 ^ 32 }
     ensures { result ≡ leading_free (spared sparing) purges (opened sparing (blocks_of entries.now)) }

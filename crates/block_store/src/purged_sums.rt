@@ -1,4 +1,5 @@
 //! The Free bytes of a list of blocks, some of which would be emptied.
+#![tactic(auto, using(crate::proofs::Zone::Listing::entry_fits))]
 
 ghost use Rattle.std.specs.Prelude.{◌≡◌, ◌<◌, ◌^◌};
 ghost use Rattle.block_store.specs.Block.{sizes, free_sum};

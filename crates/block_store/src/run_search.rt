@@ -92,6 +92,7 @@ fn scan_run(
 
 /// The place of the lowest run that has so many Free bytes after so many purges, and the block of a slot
 /// where one is given.
+#[tactic(auto, using(crate::proofs::Zone::Listing::entry_fits))]
 pub fn search_runs(
     entries: &[StoredBlock],
     number: Option<u32>,

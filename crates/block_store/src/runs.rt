@@ -14,6 +14,7 @@ use crate::run_search::ends_run;
 use crate::sparing::Sparing;
 
 /// The place of the run of an index, counted from 0 at the lowest.
+#[tactic(auto, using(crate::proofs::Zone::Listing::entry_fits))]
 pub fn place_of_run(entries: &[StoredBlock], index: u32) -> Option<u32>
     requires { sizes (blocks_of entries.now) < 2 ^ 32 }
     ensures { result ≡ option_map (λ r. sizes r.below) (nth_run index (blocks_of entries.now)) }
@@ -109,6 +110,7 @@ fn goes(entry: &StoredBlock, left: u32, sparing: Sparing) -> bool
 }
 
 /// The Free bytes of the lowest run, after so many purges in it.
+#[tactic(auto, using(crate::proofs::Zone::Listing::entry_fits))]
 fn free_after_purges(entries: &[StoredBlock], purges: u32, sparing: Sparing) -> u32
     requires { sizes (blocks_of entries.now) < 2 ^ 32 }
     ensures { result ≡ free_sum (emptied purges (spared sparing) (segments (blocks_of entries.now)).first) }
@@ -130,6 +132,7 @@ fn free_after_purges(entries: &[StoredBlock], purges: u32, sparing: Sparing) -> 
 }
 
 /// How many blocks of the lowest run may be emptied.
+#[tactic(auto, using(crate::proofs::Zone::Listing::entry_fits))]
 fn purgeable_in_run(entries: &[StoredBlock], sparing: Sparing) -> u32
     requires { sizes (blocks_of entries.now) < 2 ^ 32 }
     ensures { result ≡ count_of (spared sparing) (segments (blocks_of entries.now)).first }

@@ -102,6 +102,7 @@ fn scan_entry(entry: &StoredBlock, bytes: u32, scan: Scan, sparing: Sparing) -> 
 }
 
 /// The place of the lowest stretch that is room for so many bytes, after so many purges.
+#[tactic(auto, using(crate::proofs::Zone::Listing::entry_fits))]
 pub fn find_room(entries: &[StoredBlock], bytes: u32, purges: u32, sparing: Sparing) -> Option<u32>
     requires { sizes (blocks_of entries.now) < 2 ^ 32 }
     ensures { result ≡ option_map (λ s. sizes s.below)

@@ -3,11 +3,8 @@ use Rattle.std.specs.Prelude.{bytes_eq}
 use Rattle.std.specs.Map.{lookup}
 use Rattle.indexmap.specs.IndexMap.{insert_entry}
 use Rattle.mac_words.specs.declared.name.Label.{Label}
+use Rattle.script_text.proofs.Naming.{TellsBytes}
 use Rattle.desk.specs.Names.{bound_to, bind, binding}
-
--- a test of names that tells whether their bytes are equal
-abbrev pub TellsBytes : (Label → Label → Bool) → Type 0
-TellsBytes eq = (a b : Label) → eq a b ≡ bytes_eq a.0.items b.0.items
 
 -- what a map holds at a name is what the name is bound to
 pub lookup-bound : (eq : Label → Label → Bool) → TellsBytes eq → (name : Label) (es : List (Label × ℕ))

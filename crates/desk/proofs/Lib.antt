@@ -1,3 +1,11 @@
 mod Binding
-mod Stepping
-mod Telling
+mod Rounds
+mod Saying
+mod TryLaws
+mod Carrying
+mod StepLaws
+mod Marking
+mod Ending
+mod Elsewhere
+mod Rows
+mod Runs

@@ -1,4 +1,6 @@
 pub mod Names
+pub mod Trying
+pub mod Step
 pub mod Application
 pub mod Replies
 pub mod Laws

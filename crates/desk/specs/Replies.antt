@@ -1,9 +1,17 @@
-use Rattle.std.specs.Prelude.{◌≡◌, None, Result, Ok, Err}
+use Rattle.std.specs.Prelude.{◌≡◌, ℕ, false, None, Result, Ok, Err, List, ◌++◌}
 use Rattle.mac_words.specs.declared.reply.Reply.{Reply}
 use Rattle.heap_calls.specs.Asked.{Told, Refused}
 use Rattle.heap_calls.specs.declared.refusal.Refusal.{Refusal}
 use Rattle.heap_calls.specs.declared.refusal.Refusal.TheVariants.{Code, HostMemory}
-use Rattle.desk.specs.Application.{code_told, numbers_told}
+use Rattle.desk.specs.Trying.{Running, code_told, is_full}
+use Rattle.desk.specs.Trying as specs
+use Rattle.desk.specs.Application.{numbers_told, lines_told}
+use Rattle.desk.specs.Step.{Course, Round, Ends, Again, number_given}
+use Rattle.desk.specs.declared.tried.Tried.{Tried}
+use Rattle.desk.specs.declared.stepping.Next.{Next}
+use Rattle.desk.specs.declared.stepping.Next.TheVariants as next
+
+-- How replies and tries say what the definitions tell.
 
 -- a reply says what is told, but for bytes that are shown
 pub record Says (reply : Reply) (told : Told) : Type 0 where
@@ -17,3 +25,29 @@ abbrev pub GivenAs : {T : Type 0} → (T → Told) → Result T Refusal → Told
 GivenAs tell (Ok value) told = told ≡ tell value
 GivenAs tell (Err (Code code)) told = told ≡ Refused code
 GivenAs tell (Err HostMemory) told = Unit {0}
+
+-- a try of a call of the heap's table says what is told
+pub record TellsTold (tried : Tried) (told : Told) : Type 0 where
+  pub reply : Says tried.reply told
+  pub given : tried.given ≡ number_given told
+  pub reading : tried.reading ≡ None
+  pub over : tried.over ≡ false
+
+-- a try is that of the definitions
+pub record IsTried (tried : Tried) (t : specs.Tried) : Type 0 where
+  pub reply : Says tried.reply t.told
+  pub given : tried.given ≡ number_given t.told
+  pub reading : tried.reading ≡ t.reading
+  pub wants : is_full tried.reply.code ≡ t.wants
+  pub over : tried.over ≡ t.over
+
+-- a transcript with the lines of a course, and the application after it
+abbrev pub Came : Course → List ℕ → List ℕ → Running → Type 0
+Came c old new after = (new ≡ old ++ lines_told c.lines) × (after ≡ c.after)
+
+-- a round came, and what is done next
+abbrev pub CameRound : Round → Next → List ℕ → List ℕ → Running → Type 0
+CameRound (Ends c) (next.Ended over) old new after = (over ≡ c.over) × Came c old new after
+CameRound (Ends c) next.Again old new after = ⊥
+CameRound (Again c) (next.Ended over) old new after = ⊥
+CameRound (Again c) next.Again old new after = Came c old new after

@@ -3,11 +3,17 @@
 
 mod application;
 mod names;
+mod naming;
 mod run;
+mod stepping;
+mod tried;
+mod trying;
 
 pub use application::Application;
 pub use run::run_script;
 
+#[cfg(test)]
+mod grow_tests;
 #[cfg(test)]
 mod table_tests;
 #[cfg(test)]

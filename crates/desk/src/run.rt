@@ -1,9 +1,10 @@
 //! A script, run to its end.
 
-ghost use Rattle.std.specs.Prelude.{◌≡◌, ◌%◌, ◌≤◌, [], IfOk, OnOk};
-ghost use Rattle.desk.specs.Application.{transcript, launched, nowhere};
-ghost use Rattle.desk.specs.Laws.{ShowsLastPut, HoldsLastPut, LockedStays, FixedStays};
-ghost use Rattle.desk.specs.Laws.{OnlyPurgeableGo, LooksFew, RefusedLeave};
+ghost use Rattle.std.specs.Prelude.{◌≡◌, ◌%◌, ◌≤◌, [], IfOk};
+ghost use Rattle.desk.specs.Trying.{launched, nowhere};
+ghost use Rattle.desk.specs.Application.{transcript, run_alone};
+ghost use Rattle.desk.specs.Laws.{EachTry, ShowsPut, HoldsPut, KeepsLocked, KeepsFixed, EmptiesPurgeable, LooksFew};
+ghost use Rattle.desk.specs.Laws.{RefusedLeaves, RefusedBinds, GoesByRule, Linked, NothingBusy};
 
 use crate::application::Application;
 use block_store::ListStore;
@@ -12,12 +13,13 @@ use script_text::{Script, write_end, write_launch};
 use std::alloc::{AllocError, Global};
 
 /// Runs a script to its end in a fresh partition of `size` bytes, and gives its transcript: the line of the
-/// launch, a line for each call, and the line of the end, each as the call tables say.
+/// launch, the lines of each call, and the line of the end, each as the call tables say. Where a call finds no room,
+/// the lines of its grow-zone script stand before its own.
 ///
 /// # Errors
 ///
 /// Where the host refuses memory there is no transcript.
-#[tactic(auto, using(crate::proofs::Telling::shows_last_put, crate::proofs::Telling::holds_last_put, crate::proofs::Telling::locked_stays, crate::proofs::Telling::fixed_stays, crate::proofs::Telling::only_purgeable_go, crate::proofs::Telling::looks_few, crate::proofs::Telling::refused_leave))]
+#[tactic(auto, using(crate::proofs::Runs::shows_put, crate::proofs::Runs::holds_put, crate::proofs::Runs::locked_stays, crate::proofs::Runs::fixed_stays, crate::proofs::Runs::only_purgeable_go, crate::proofs::Runs::looks_few, crate::proofs::Runs::refused_leave, crate::proofs::Runs::refused_bind, crate::proofs::Runs::goes_by_rule, crate::proofs::Runs::linked, crate::proofs::Runs::nothing_stays_busy))]
 pub fn run_script(alloc: Global, size: u32, script: &Script) -> Result<Vec<u8>, AllocError>
     requires even { size % 16 ≡ 0 }
     requires low { 512 ≤ size }
@@ -26,35 +28,45 @@ pub fn run_script(alloc: Global, size: u32, script: &Script) -> Result<Vec<u8>, 
     // The transcript is that of the definitions.
     ensures transcript { IfOk result (λ text. text.items ≡ transcript size script.now) }
 
-    // Each Show and ShowPtr shows the bytes last put into its handle or pointer, by the history of calls alone.
-    ensures shown { ShowsLastPut script.now (launched size nowhere) (λ _. []) }
+    // Each step is a try, and the same step again as long as its grow-zone script makes room: no bound ends it.
+    ensures rule { GoesByRule script.now.blocks script.now.steps (launched size nowhere) }
 
-    // After each number of steps each handle with a block, and each pointer, holds the bytes last put into it.
-    ensures held { HoldsLastPut script.now (launched size nowhere) }
+    // Each try begins with the heap that the one before it left.
+    ensures linked { Linked (launched size nowhere).memory.heap (run_alone size script.now).events }
 
-    // A locked block is neither moved nor emptied by a step, unless that disposes of its handle or unlocks it.
-    ensures locked { LockedStays script.now (launched size nowhere) }
+    // Each Show and ShowPtr shows the bytes last put into its handle or pointer, by the history of tries alone.
+    ensures shown { EachTry ShowsPut (λ _. []) (run_alone size script.now).events }
+
+    // After each try, those of grow-zone scripts too, each handle with a block, and each pointer, holds the bytes last
+    // put into it.
+    ensures held { EachTry HoldsPut (λ _. []) (run_alone size script.now).events }
+
+    // A locked block is neither moved nor emptied by a try, unless that disposes of its handle or unlocks it.
+    ensures locked { EachTry KeepsLocked (λ _. []) (run_alone size script.now).events }
 
     // A pointer's block never moves.
-    ensures fixed { FixedStays script.now (launched size nowhere) }
+    ensures fixed { EachTry KeepsFixed (λ _. []) (run_alone size script.now).events }
 
-    // What a step empties was unlocked and purgeable, unless the step lets go of that handle.
-    ensures purged { OnlyPurgeableGo script.now (launched size nowhere) }
+    // What a try empties was unlocked and purgeable, unless the call lets go of that handle.
+    ensures purged { EachTry EmptiesPurgeable (λ _. []) (run_alone size script.now).events }
 
-    // A step looks for room at most once more than there are blocks at its start.
-    ensures looks { LooksFew script.now (launched size nowhere) }
+    // A try looks for room at most once more than there are blocks at its start.
+    ensures looks { EachTry LooksFew (λ _. []) (run_alone size script.now).events }
 
-    // A refused step leaves the heap as it was, but for the zone where the table says so, and each name bound as
-    // it was.
-    ensures refused { RefusedLeave script.now (launched size nowhere) }
+    // A refused try leaves the heap as it was, but for the zone where the table says so, and each name bound as it was.
+    ensures refused { EachTry RefusedLeaves (λ _. []) (run_alone size script.now).events }
+
+    // After each step no name is busy.
+    ensures idle { NothingBusy script.now.blocks script.now.steps (launched size nowhere) }
+
+    // A step whose call is refused binds no name.
+    ensures bound { RefusedBinds script.now.blocks script.now.steps (launched size nowhere) }
 {
     let store = ListStore::new(alloc, size)?;
     let mut application = Application::launch(alloc, store);
     let mut text = Vec::new(alloc);
     write_launch(&mut text, size)?;
-    for line in script.lines() {
-        application.step(line, &mut text)?;
-    }
+    application.run(script, &mut text)?;
     write_end(&mut text, OsErr::NO_ERR)?;
     Ok(text)
 }

@@ -1,524 +1,313 @@
-//! Scripts and their transcripts, from the worked examples.
+//! Calls and their answers, from the worked examples.
+
+ghost use Rattle.std.specs.Prelude.{◌≡◌, ◌%◌, ◌≤◌};
 
 use crate::run_script;
 use script_text::read_script;
 use std::alloc::Global;
+use std::process::Abort;
 use std::test::Fail;
 
-/// The transcript of a script in a partition of 1024 bytes, or nothing where the script is faulty.
-fn transcript(alloc: Global, script: &[u8]) -> Result<Vec<u8>, Fail> {
-    match read_script(alloc, script) {
-        Ok(script) => Ok(run_script(alloc, 1024, &script)?),
-        Err(_) => Ok(Vec::new(alloc)),
+/// Runs a script of these calls in a partition of so many bytes. Each call stands with the code that answers it, and
+/// with the values behind the code.
+pub fn play(rt: &impl Abort, alloc: Global, size: u32, rows: &[(&str, &str)]) -> Result<(), Fail>
+    requires even { size % 16 ≡ 0 }
+    requires low { 512 ≤ size }
+    requires high { size ≤ 134217728 }
+{
+    let mut script = String::new(alloc);
+    let mut expected = format!(in alloc; "launch 0 {size}\n")?;
+    for (index, (call, answer)) in rows.iter().enumerate() {
+        let word = match call.split_once(' ') {
+            Some((word, _)) => word,
+            None => call,
+        };
+        let line = index.wrapping_add(1);
+        writeln!(script, "{call}")?;
+        writeln!(expected, "{line} {word} {answer}")?;
     }
+    expected.push_str("end 0\n")?;
+    match read_script(alloc, script.as_bytes()) {
+        Ok(script) => {
+            let transcript = run_script(alloc, size, &script)?;
+            assert_eq!(rt; transcript.as_slice(), expected.as_bytes());
+            Ok(())
+        }
+        Err(_) => Err(Fail::new("a faulty script")),
+    }
+}
+
+/// The answer to a `Show` of bytes that begin with these digits and go on with so many zeros.
+fn shown(alloc: Global, digits: &str, zeros: usize) -> Result<String, Fail> {
+    let mut shown = format!(in alloc; "0 ${digits}")?;
+    for _ in 0..zeros {
+        shown.push_str("00")?;
+    }
+    Ok(shown)
 }
 
 #[test]
 fn runs_the_first_script(rt: HostRuntime) -> Result<(), Fail> {
-    let script = b"NewHandle a 100
-Put a 1 \"Hi\"
-NewHandle b 3
-Show b
-GetHandleSize a
-DisposeHandle a
-Where a
-NewHandle c 500
-Where c
-FreeMem
-NewHandle d 737
-Put b 3 \"x\"
-";
-    let expected = b"launch 0 1024
-1 NewHandle 0
-2 Put 0
-3 NewHandle 0
-4 Show 0 $000000
-5 GetHandleSize 0 100
-6 DisposeHandle 0
-7 Where -111
-8 NewHandle 0
-9 Where 0 448
-10 FreeMem 0 192
-11 NewHandle -108
-12 Put -30001
-end 0
-";
-    let text = transcript(rt.alloc(), script)?;
-    assert_eq!(rt; text.as_slice(), expected.as_slice());
-    Ok(())
+    let rows = [
+        ("NewHandle a 100", "0"),
+        ("Put a 1 \"Hi\"", "0"),
+        ("NewHandle b 3", "0"),
+        ("Show b", "0 $000000"),
+        ("GetHandleSize a", "0 100"),
+        ("DisposeHandle a", "0"),
+        ("Where a", "-111"),
+        ("NewHandle c 500", "0"),
+        ("Where c", "0 448"),
+        ("FreeMem", "0 192"),
+        ("NewHandle d 737", "-108"),
+        ("Put b 3 \"x\"", "-30001"),
+    ];
+    play(&rt, rt.alloc(), 1024, &rows)
 }
 
 #[test]
 fn refused_new_handle_leaves_its_name(rt: HostRuntime) -> Result<(), Fail> {
-    let script = b"NewHandle a 737
-FreeMem
-GetHandleSize a
-NewHandle a 2147483647
-NewHandle a 5
-NewHandle a 737
-GetHandleSize a
-";
-    let expected = b"launch 0 1024
-1 NewHandle -108
-2 FreeMem 0 752
-3 GetHandleSize -109
-4 NewHandle -108
-5 NewHandle 0
-6 NewHandle -108
-7 GetHandleSize 0 5
-end 0
-";
-    let text = transcript(rt.alloc(), script)?;
-    assert_eq!(rt; text.as_slice(), expected.as_slice());
-    Ok(())
+    let rows = [
+        ("NewHandle a 737", "-108"),
+        ("FreeMem", "0 752"),
+        ("GetHandleSize a", "-109"),
+        ("NewHandle a 2147483647", "-108"),
+        ("NewHandle a 5", "0"),
+        ("NewHandle a 737", "-108"),
+        ("GetHandleSize a", "0 5"),
+    ];
+    play(&rt, rt.alloc(), 1024, &rows)
 }
 
 #[test]
 fn name_bound_anew_lets_its_handle_go(rt: HostRuntime) -> Result<(), Fail> {
-    let script = b"NewHandle a 10
-Put a 0 \"A\"
-NewHandle a 20
-GetHandleSize a
-DisposeHandle a
-GetHandleSize a
-GetHandleSize zz
-FreeMem
-";
-    let expected = b"launch 0 1024
-1 NewHandle 0
-2 Put 0
-3 NewHandle 0
-4 GetHandleSize 0 20
-5 DisposeHandle 0
-6 GetHandleSize -111
-7 GetHandleSize -109
-8 FreeMem 0 720
-end 0
-";
-    let text = transcript(rt.alloc(), script)?;
-    assert_eq!(rt; text.as_slice(), expected.as_slice());
-    Ok(())
+    let rows = [
+        ("NewHandle a 10", "0"),
+        ("Put a 0 \"A\"", "0"),
+        ("NewHandle a 20", "0"),
+        ("GetHandleSize a", "0 20"),
+        ("DisposeHandle a", "0"),
+        ("GetHandleSize a", "-111"),
+        ("GetHandleSize zz", "-109"),
+        ("FreeMem", "0 720"),
+    ];
+    play(&rt, rt.alloc(), 1024, &rows)
 }
 
 #[test]
 fn zone_is_filled_to_its_last_byte(rt: HostRuntime) -> Result<(), Fail> {
-    let script = b"FreeMem
-NewHandle a 736
-FreeMem
-Put a 735 \"z\"
-Put a 736 \"\"
-Put a 737 \"\"
-NewHandle b 0
-";
-    let expected = b"launch 0 1024
-1 FreeMem 0 752
-2 NewHandle 0
-3 FreeMem 0 0
-4 Put 0
-5 Put 0
-6 Put -30001
-7 NewHandle -108
-end 0
-";
-    let text = transcript(rt.alloc(), script)?;
-    assert_eq!(rt; text.as_slice(), expected.as_slice());
-    Ok(())
+    let rows = [
+        ("FreeMem", "0 752"),
+        ("NewHandle a 736", "0"),
+        ("FreeMem", "0 0"),
+        ("Put a 735 \"z\"", "0"),
+        ("Put a 736 \"\"", "0"),
+        ("Put a 737 \"\"", "-30001"),
+        ("NewHandle b 0", "-108"),
+    ];
+    play(&rt, rt.alloc(), 1024, &rows)
 }
 
 #[test]
 fn new_bytes_are_0(rt: HostRuntime) -> Result<(), Fail> {
-    let script = b"NewHandle a 4
-Put a 0 \"abcd\"
-Show a
-DisposeHandle a
-NewHandle b 4
-Show b
-";
-    let expected = b"launch 0 1024
-1 NewHandle 0
-2 Put 0
-3 Show 0 $61626364
-4 DisposeHandle 0
-5 NewHandle 0
-6 Show 0 $00000000
-end 0
-";
-    let text = transcript(rt.alloc(), script)?;
-    assert_eq!(rt; text.as_slice(), expected.as_slice());
-    Ok(())
+    let rows = [
+        ("NewHandle a 4", "0"),
+        ("Put a 0 \"abcd\"", "0"),
+        ("Show a", "0 $61626364"),
+        ("DisposeHandle a", "0"),
+        ("NewHandle b 4", "0"),
+        ("Show b", "0 $00000000"),
+    ];
+    play(&rt, rt.alloc(), 1024, &rows)
 }
 
 #[test]
 fn empty_script_is_launched_and_ends(rt: HostRuntime) -> Result<(), Fail> {
-    let text = transcript(rt.alloc(), b"")?;
-    assert_eq!(rt;
-        text.as_slice(),
-        b"launch 0 1024
-end 0
-"
-            .as_slice()
-    );
-    Ok(())
+    play(&rt, rt.alloc(), 1024, &[])
 }
 
 #[test]
 fn max_block_is_what_a_new_block_can_have(rt: HostRuntime) -> Result<(), Fail> {
-    let script = b"FreeMem
-MaxBlock
-NewHandle a 736
-FreeMem
-MaxBlock
-";
-    let expected = b"launch 0 1024
-1 FreeMem 0 752
-2 MaxBlock 0 736
-3 NewHandle 0
-4 FreeMem 0 0
-5 MaxBlock 0 0
-end 0
-";
-    let text = transcript(rt.alloc(), script)?;
-    assert_eq!(rt; text.as_slice(), expected.as_slice());
-    Ok(())
+    let rows = [
+        ("FreeMem", "0 752"),
+        ("MaxBlock", "0 736"),
+        ("NewHandle a 736", "0"),
+        ("FreeMem", "0 0"),
+        ("MaxBlock", "0 0"),
+    ];
+    play(&rt, rt.alloc(), 1024, &rows)
 }
 
 #[test]
 fn mem_error_tells_the_last_code(rt: HostRuntime) -> Result<(), Fail> {
-    let script = b"NewHandle a 737
-MemError
-FreeMem
-GetHandleSize a
-NewHandle a 2147483647
-NewHandle a 5
-NewHandle a 737
-GetHandleSize a
-";
-    let expected = b"launch 0 1024
-1 NewHandle -108
-2 MemError 0 -108
-3 FreeMem 0 752
-4 GetHandleSize -109
-5 NewHandle -108
-6 NewHandle 0
-7 NewHandle -108
-8 GetHandleSize 0 5
-end 0
-";
-    let text = transcript(rt.alloc(), script)?;
-    assert_eq!(rt; text.as_slice(), expected.as_slice());
-    Ok(())
+    let rows = [
+        ("NewHandle a 737", "-108"),
+        ("MemError", "0 -108"),
+        ("FreeMem", "0 752"),
+        ("GetHandleSize a", "-109"),
+        ("NewHandle a 2147483647", "-108"),
+        ("NewHandle a 5", "0"),
+        ("NewHandle a 737", "-108"),
+        ("GetHandleSize a", "0 5"),
+    ];
+    play(&rt, rt.alloc(), 1024, &rows)
 }
 
 #[test]
 fn blocks_move_together_for_a_new_one(rt: HostRuntime) -> Result<(), Fail> {
-    let script = b"NewHandle a 100
-NewHandle b 100
-NewHandle c 100
-Where a
-Where b
-Where c
-Put c 0 \"xyz\"
-DisposeHandle b
-NewHandle d 400
-Where d
-Where c
-Show c
-";
-    let expected = concat!(
-        "launch 0 1024
-1 NewHandle 0
-2 NewHandle 0
-3 NewHandle 0
-4 Where 0 288
-5 Where 0 416
-6 Where 0 544
-7 Put 0
-8 DisposeHandle 0
-9 NewHandle 0
-10 Where 0 544
-11 Where 0 416
-12 Show 0 $",
-        "78797a000000000000000000000000000000000000000000000000000000000000000000000000000000000000000000",
-        "000000000000000000000000000000000000000000000000000000000000000000000000000000000000000000000000",
-        "00000000",
-        "
-end 0
-"
-    )
-    .as_bytes();
-    let text = transcript(rt.alloc(), script)?;
-    assert_eq!(rt; text.as_slice(), expected);
-    Ok(())
+    let shown = shown(rt.alloc(), "78797a", 97)?;
+    let rows = [
+        ("NewHandle a 100", "0"),
+        ("NewHandle b 100", "0"),
+        ("NewHandle c 100", "0"),
+        ("Where a", "0 288"),
+        ("Where b", "0 416"),
+        ("Where c", "0 544"),
+        ("Put c 0 \"xyz\"", "0"),
+        ("DisposeHandle b", "0"),
+        ("NewHandle d 400", "0"),
+        ("Where d", "0 544"),
+        ("Where c", "0 416"),
+        ("Show c", shown.as_str()),
+    ];
+    play(&rt, rt.alloc(), 1024, &rows)
 }
 
 #[test]
 fn locked_block_stays_where_it_is(rt: HostRuntime) -> Result<(), Fail> {
-    let script = b"NewHandle a 100
-NewHandle b 100
-NewHandle c 100
-Put c 0 \"xyz\"
-DisposeHandle b
-HLock c
-NewHandle d 400
-Where c
-HUnlock c
-NewHandle d 400
-Where c
-";
-    let expected = b"launch 0 1024
-1 NewHandle 0
-2 NewHandle 0
-3 NewHandle 0
-4 Put 0
-5 DisposeHandle 0
-6 HLock 0
-7 NewHandle -108
-8 Where 0 544
-9 HUnlock 0
-10 NewHandle 0
-11 Where 0 416
-end 0
-";
-    let text = transcript(rt.alloc(), script)?;
-    assert_eq!(rt; text.as_slice(), expected.as_slice());
-    Ok(())
+    let rows = [
+        ("NewHandle a 100", "0"),
+        ("NewHandle b 100", "0"),
+        ("NewHandle c 100", "0"),
+        ("Put c 0 \"xyz\"", "0"),
+        ("DisposeHandle b", "0"),
+        ("HLock c", "0"),
+        ("NewHandle d 400", "-108"),
+        ("Where c", "0 544"),
+        ("HUnlock c", "0"),
+        ("NewHandle d 400", "0"),
+        ("Where c", "0 416"),
+    ];
+    play(&rt, rt.alloc(), 1024, &rows)
 }
 
 #[test]
 fn bytes_cut_off_are_0_when_they_come_back(rt: HostRuntime) -> Result<(), Fail> {
-    let script = b"NewHandle a 0
-Show a
-SetHandleSize a 17
-FreeMem
-Put a 16 \"z\"
-Put a 17 \"z\"
-Show a
-SetHandleSize a 0
-FreeMem
-SetHandleSize a 17
-Show a
-";
-    let expected = b"launch 0 1024
-1 NewHandle 0
-2 Show 0 $
-3 SetHandleSize 0
-4 FreeMem 0 704
-5 Put 0
-6 Put -30001
-7 Show 0 $000000000000000000000000000000007a
-8 SetHandleSize 0
-9 FreeMem 0 736
-10 SetHandleSize 0
-11 Show 0 $0000000000000000000000000000000000
-end 0
-";
-    let text = transcript(rt.alloc(), script)?;
-    assert_eq!(rt; text.as_slice(), expected.as_slice());
-    Ok(())
+    let rows = [
+        ("NewHandle a 0", "0"),
+        ("Show a", "0 $"),
+        ("SetHandleSize a 17", "0"),
+        ("FreeMem", "0 704"),
+        ("Put a 16 \"z\"", "0"),
+        ("Put a 17 \"z\"", "-30001"),
+        ("Show a", "0 $000000000000000000000000000000007a"),
+        ("SetHandleSize a 0", "0"),
+        ("FreeMem", "0 736"),
+        ("SetHandleSize a 17", "0"),
+        ("Show a", "0 $0000000000000000000000000000000000"),
+    ];
+    play(&rt, rt.alloc(), 1024, &rows)
 }
 
 #[test]
 fn block_grows_elsewhere_and_as_the_last_of_its_run(rt: HostRuntime) -> Result<(), Fail> {
-    let script = b"NewHandle a 100
-NewHandle b 100
-Put a 0 \"A\"
-SetHandleSize a 300
-Where a
-SetHandleSize a 600
-Where a
-Where b
-FreeMem
-SetHandleSize a 608
-SetHandleSize a 609
-Show a
-";
-    let expected = concat!(
-        "launch 0 1024
-1 NewHandle 0
-2 NewHandle 0
-3 Put 0
-4 SetHandleSize 0
-5 Where 0 544
-6 SetHandleSize 0
-7 Where 0 416
-8 Where 0 288
-9 FreeMem 0 0
-10 SetHandleSize 0
-11 SetHandleSize -108
-12 Show 0 $",
-        "410000000000000000000000000000000000000000000000000000000000000000000000000000000000000000000000",
-        "000000000000000000000000000000000000000000000000000000000000000000000000000000000000000000000000",
-        "000000000000000000000000000000000000000000000000000000000000000000000000000000000000000000000000",
-        "000000000000000000000000000000000000000000000000000000000000000000000000000000000000000000000000",
-        "000000000000000000000000000000000000000000000000000000000000000000000000000000000000000000000000",
-        "000000000000000000000000000000000000000000000000000000000000000000000000000000000000000000000000",
-        "000000000000000000000000000000000000000000000000000000000000000000000000000000000000000000000000",
-        "000000000000000000000000000000000000000000000000000000000000000000000000000000000000000000000000",
-        "000000000000000000000000000000000000000000000000000000000000000000000000000000000000000000000000",
-        "000000000000000000000000000000000000000000000000000000000000000000000000000000000000000000000000",
-        "000000000000000000000000000000000000000000000000000000000000000000000000000000000000000000000000",
-        "000000000000000000000000000000000000000000000000000000000000000000000000000000000000000000000000",
-        "0000000000000000000000000000000000000000000000000000000000000000",
-        "
-end 0
-"
-    )
-    .as_bytes();
-    let text = transcript(rt.alloc(), script)?;
-    assert_eq!(rt; text.as_slice(), expected);
-    Ok(())
+    let shown = shown(rt.alloc(), "41", 607)?;
+    let rows = [
+        ("NewHandle a 100", "0"),
+        ("NewHandle b 100", "0"),
+        ("Put a 0 \"A\"", "0"),
+        ("SetHandleSize a 300", "0"),
+        ("Where a", "0 544"),
+        ("SetHandleSize a 600", "0"),
+        ("Where a", "0 416"),
+        ("Where b", "0 288"),
+        ("FreeMem", "0 0"),
+        ("SetHandleSize a 608", "0"),
+        ("SetHandleSize a 609", "-108"),
+        ("Show a", shown.as_str()),
+    ];
+    play(&rt, rt.alloc(), 1024, &rows)
 }
 
 #[test]
 fn locked_block_grows_where_it_stands(rt: HostRuntime) -> Result<(), Fail> {
-    let script = b"NewHandle a 100
-NewHandle b 100
-HLock a
-SetHandleSize a 300
-Where a
-Where b
-FreeMem
-HUnlock a
-HLockHi b
-Where b
-HLockHi b
-CompactMem 1000
-SetHandleSize b 101
-SetHandleSize b 113
-MemError
-GetHandleSize b
-";
-    let expected = b"launch 0 1024
-1 NewHandle 0
-2 NewHandle 0
-3 HLock 0
-4 SetHandleSize 0
-5 Where 0 288
-6 Where 0 608
-7 FreeMem 0 304
-8 HUnlock 0
-9 HLockHi 0
-10 Where 0 912
-11 HLockHi -117
-12 CompactMem 0 288
-13 SetHandleSize 0
-14 SetHandleSize -108
-15 MemError 0 -108
-16 GetHandleSize 0 101
-end 0
-";
-    let text = transcript(rt.alloc(), script)?;
-    assert_eq!(rt; text.as_slice(), expected.as_slice());
-    Ok(())
+    let rows = [
+        ("NewHandle a 100", "0"),
+        ("NewHandle b 100", "0"),
+        ("HLock a", "0"),
+        ("SetHandleSize a 300", "0"),
+        ("Where a", "0 288"),
+        ("Where b", "0 608"),
+        ("FreeMem", "0 304"),
+        ("HUnlock a", "0"),
+        ("HLockHi b", "0"),
+        ("Where b", "0 912"),
+        ("HLockHi b", "-117"),
+        ("CompactMem 1000", "0 288"),
+        ("SetHandleSize b 101", "0"),
+        ("SetHandleSize b 113", "-108"),
+        ("MemError", "0 -108"),
+        ("GetHandleSize b", "0 101"),
+    ];
+    play(&rt, rt.alloc(), 1024, &rows)
 }
 
 #[test]
 fn block_moves_to_the_top_of_its_run(rt: HostRuntime) -> Result<(), Fail> {
-    let script = b"NewHandle a 100
-NewHandle b 100
-MoveHHi a
-Where a
-Where b
-HLock a
-MoveHHi a
-MemError
-Where a
-";
-    let expected = b"launch 0 1024
-1 NewHandle 0
-2 NewHandle 0
-3 MoveHHi 0
-4 Where 0 912
-5 Where 0 288
-6 HLock 0
-7 MoveHHi -117
-8 MemError 0 -117
-9 Where 0 912
-end 0
-";
-    let text = transcript(rt.alloc(), script)?;
-    assert_eq!(rt; text.as_slice(), expected.as_slice());
-    Ok(())
+    let rows = [
+        ("NewHandle a 100", "0"),
+        ("NewHandle b 100", "0"),
+        ("MoveHHi a", "0"),
+        ("Where a", "0 912"),
+        ("Where b", "0 288"),
+        ("HLock a", "0"),
+        ("MoveHHi a", "-117"),
+        ("MemError", "0 -117"),
+        ("Where a", "0 912"),
+    ];
+    play(&rt, rt.alloc(), 1024, &rows)
 }
 
 #[test]
 fn calls_on_no_handle(rt: HostRuntime) -> Result<(), Fail> {
-    let script = b"HLock a
-NewHandle a 8
-DisposeHandle a
-HUnlock a
-MoveHHi a
-HLockHi a
-SetHandleSize a 4
-SetHandleSize zz 4
-MemError
-MemError
-";
-    let expected = b"launch 0 1024
-1 HLock -109
-2 NewHandle 0
-3 DisposeHandle 0
-4 HUnlock -111
-5 MoveHHi -111
-6 HLockHi -111
-7 SetHandleSize -111
-8 SetHandleSize -109
-9 MemError 0 -109
-10 MemError 0 -109
-end 0
-";
-    let text = transcript(rt.alloc(), script)?;
-    assert_eq!(rt; text.as_slice(), expected.as_slice());
-    Ok(())
+    let rows = [
+        ("HLock a", "-109"),
+        ("NewHandle a 8", "0"),
+        ("DisposeHandle a", "0"),
+        ("HUnlock a", "-111"),
+        ("MoveHHi a", "-111"),
+        ("HLockHi a", "-111"),
+        ("SetHandleSize a 4", "-111"),
+        ("SetHandleSize zz 4", "-109"),
+        ("MemError", "0 -109"),
+        ("MemError", "0 -109"),
+    ];
+    play(&rt, rt.alloc(), 1024, &rows)
 }
 
 #[test]
 fn compaction_goes_on_until_there_is_room(rt: HostRuntime) -> Result<(), Fail> {
-    let script = b"NewHandle a 96
-NewHandle b 96
-NewHandle c 96
-NewHandle d 96
-NewHandle e 96
-NewHandle g 176
-HLock d
-DisposeHandle a
-DisposeHandle c
-DisposeHandle e
-MaxBlock
-CompactMem 96
-Where b
-CompactMem 200
-Where b
-Where g
-CompactMem 209
-Where g
-Where d
-CompactMem 2147483647
-";
-    let expected = b"launch 0 1024
-1 NewHandle 0
-2 NewHandle 0
-3 NewHandle 0
-4 NewHandle 0
-5 NewHandle 0
-6 NewHandle 0
-7 HLock 0
-8 DisposeHandle 0
-9 DisposeHandle 0
-10 DisposeHandle 0
-11 MaxBlock 0 208
-12 CompactMem 0 96
-13 Where 0 400
-14 CompactMem 0 208
-15 Where 0 288
-16 Where 0 848
-17 CompactMem 0 208
-18 Where 0 736
-19 Where 0 624
-20 CompactMem 0 208
-end 0
-";
-    let text = transcript(rt.alloc(), script)?;
-    assert_eq!(rt; text.as_slice(), expected.as_slice());
-    Ok(())
+    let rows = [
+        ("NewHandle a 96", "0"),
+        ("NewHandle b 96", "0"),
+        ("NewHandle c 96", "0"),
+        ("NewHandle d 96", "0"),
+        ("NewHandle e 96", "0"),
+        ("NewHandle g 176", "0"),
+        ("HLock d", "0"),
+        ("DisposeHandle a", "0"),
+        ("DisposeHandle c", "0"),
+        ("DisposeHandle e", "0"),
+        ("MaxBlock", "0 208"),
+        ("CompactMem 96", "0 96"),
+        ("Where b", "0 400"),
+        ("CompactMem 200", "0 208"),
+        ("Where b", "0 288"),
+        ("Where g", "0 848"),
+        ("CompactMem 209", "0 208"),
+        ("Where g", "0 736"),
+        ("Where d", "0 624"),
+        ("CompactMem 2147483647", "0 208"),
+    ];
+    play(&rt, rt.alloc(), 1024, &rows)
 }

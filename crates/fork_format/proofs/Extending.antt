@@ -14,6 +14,15 @@ use Rattle.fork_format.specs.declared.fit.Extents.{Extents}
 use Rattle.fork_format.specs.declared.fit.Starts.{Starts}
 use Rattle.fork_format.proofs.Bools.{and_both}
 
+-- what is behind a group has no end, so the whole has none
+refs_end-behind : (at : ℕ) (g : Group) (groups : List Group) → refs_end (at + 12 * length g.refs) groups ≡ None
+    → refs_end at (g ∷ groups) ≡ None
+refs_end-behind at g groups none = cases (nat_le 1 (length g.refs))
+  where
+    cases : (t : Bool) → cond t (refs_end (at + 12 * length g.refs) groups) None ≡ None
+    cases true = none
+    cases false = refl
+
 -- references that begin too late end too late
 pub refs_end-late : (at : ℕ) (groups : List Group) → 65507 < at → refs_end at groups ≡ None
 refs_end-late at [] late = cases (nat_le at 65507) refl
@@ -21,13 +30,8 @@ refs_end-late at [] late = cases (nat_le at 65507) refl
     cases : (t : Bool) → nat_le at 65507 ≡ t → cond t (Some at) None ≡ None
     cases true h = absurd (let e : at ≤ 65507 = leb-true at 65507 h in omega arith)
     cases false h = refl
-refs_end-late at (g ∷ groups) late = cases (nat_le 1 (length g.refs))
-    (refs_end-late (at + 12 * length g.refs) groups (omega arith))
-  where
-    cases : (t : Bool) → refs_end (at + 12 * length g.refs) groups ≡ None
-        → cond t (refs_end (at + 12 * length g.refs) groups) None ≡ None
-    cases true again = again
-    cases false again = refl
+refs_end-late at (g ∷ groups) late =
+    refs_end-behind at g groups (refs_end-late (at + 12 * length g.refs) groups (omega arith))
 
 -- a group that is empty, or too large
 pub refs_end-stops : (at n : ℕ) (g : Group) (groups : List Group) → length g.refs ≡ n
@@ -37,13 +41,8 @@ refs_end-stops at n g groups size (inl none) = cases (nat_le 1 (length g.refs)) 
     cases : (t : Bool) → nat_le 1 (length g.refs) ≡ t → cond t (refs_end (at + 12 * length g.refs) groups) None ≡ None
     cases true h = absurd (let e : 1 ≤ length g.refs = leb-true 1 (length g.refs) h in omega arith)
     cases false h = refl
-refs_end-stops at n g groups size (inr late) = cases (nat_le 1 (length g.refs))
-    (refs_end-late (at + 12 * length g.refs) groups (omega arith))
-  where
-    cases : (t : Bool) → refs_end (at + 12 * length g.refs) groups ≡ None
-        → cond t (refs_end (at + 12 * length g.refs) groups) None ≡ None
-    cases true again = again
-    cases false again = refl
+refs_end-stops at n g groups size (inr late) =
+    refs_end-behind at g groups (refs_end-late (at + 12 * length g.refs) groups (omega arith))
 
 -- what an end of the references tells of the groups
 pub record ListsFit (at e : ℕ) (groups : List Group) : Type 0 where

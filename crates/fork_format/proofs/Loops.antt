@@ -3,6 +3,7 @@ use Rattle.std.proofs.Common.{Some, None, refl, sym, ◌∙◌, ap, arith, suc, 
 use Rattle.std.proofs.Common.{append_assoc}
 use Rattle.std.specs.List.{list_all}
 use Rattle.std.specs.Option.{option_map}
+use Rattle.std.proofs.lemmas.List.{map_push}
 use Rattle.std.proofs.lemmas.List.Sums.{sum_by-cons}
 use Rattle.fork_format.specs.Fork.{offsets}
 use Rattle.fork_format.specs.Layout.{sizes_if}
@@ -20,10 +21,10 @@ abbrev pub tally : (ℕ → Bool) → (ℕ → ℕ) → List ℕ → Option ℕ
 tally test size xs = sizes_if (list_all test xs) (sum_by size xs)
 
 -- an item that doesn't pass ends the count
-pub tally-stops : (test : ℕ → Bool) (size : ℕ → ℕ) (d at step n k : ℕ) (total : Option ℕ) → k < n
+pub tally_stops : (test : ℕ → Bool) (size : ℕ → ℕ) (d at step n k : ℕ) (total : Option ℕ) → k < n
     → cond (test at) (Some (size at)) None ≡ None
     → counted d (tally test size (offsets at step (n - k))) ≡ total → None ≡ total
-tally-stops test size d at step n k total h stops e =
+tally_stops test size d at step n k total h stops e =
     cases (test at) stops (ap (λ xs. counted d (tally test size xs)) (sym (offsets-left at step n k h)) ∙ e)
   where
     cases : (t : Bool) → cond t (Some (size at)) None ≡ None
@@ -33,11 +34,11 @@ tally-stops test size d at step n k total h stops e =
     cases false s e = e
 
 -- one that passes is counted
-pub tally-goes_on : (test : ℕ → Bool) (size : ℕ → ℕ) (d at step n k s : ℕ) (total : Option ℕ) → k < n
+pub tally_goes_on : (test : ℕ → Bool) (size : ℕ → ℕ) (d at step n k s : ℕ) (total : Option ℕ) → k < n
     → cond (test at) (Some (size at)) None ≡ Some s
     → counted d (tally test size (offsets at step (n - k))) ≡ total
     → counted (d + s) (tally test size (offsets (at + step) step (n - (k + 1)))) ≡ total
-tally-goes_on test size d at step n k s total h passes e =
+tally_goes_on test size d at step n k s total h passes e =
     cases (test at) passes (ap (λ xs. counted d (tally test size xs)) (sym (offsets-left at step n k h)) ∙ e)
   where
     rest : List ℕ
@@ -62,17 +63,21 @@ sum-goes_on size d at step n k total h e =
     ∙ ap (sum_by size) (sym (offsets-left at step n k h))) ∙ e
 
 -- nothing is left
-pub tally-ends : (test : ℕ → Bool) (size : ℕ → ℕ) (d at step n k : ℕ) (total : Option ℕ) → n ≤ k
+pub tally_ends : (test : ℕ → Bool) (size : ℕ → ℕ) (d at step n k : ℕ) (total : Option ℕ) → n ≤ k
     → counted d (tally test size (offsets at step (n - k))) ≡ total → Some d ≡ total
-tally-ends test size d at step n k total h e =
+tally_ends test size d at step n k total h e =
     let none : n - k ≡ 0 = omega arith in
     let zero_more : d ≡ d + 0 = omega arith in
     ap Some zero_more ∙ ap (λ m. counted d (tally test size (offsets at step m))) (sym none) ∙ e
 
+-- an item that passes, and so do those behind it
+abbrev pub GoesOn : (ℕ → Bool) → ℕ → ℕ → ℕ → ℕ → Type 0
+GoesOn test at step n k = (test at ≡ true) × (list_all test (offsets (at + step) step (n - (k + 1))) ≡ true)
+
 -- items that all pass, and those that are read from them
-pub all-goes_on : (test : ℕ → Bool) (at step n k : ℕ) → k < n → list_all test (offsets at step (n - k)) ≡ true
-    → (test at ≡ true) × (list_all test (offsets (at + step) step (n - (k + 1))) ≡ true)
-all-goes_on test at step n k h e = both (test at) (list_all test (offsets (at + step) step (n - (k + 1))))
+pub all_goes_on : (test : ℕ → Bool) (at step n k : ℕ) → k < n → list_all test (offsets at step (n - k)) ≡ true
+    → GoesOn test at step n k
+all_goes_on test at step n k h e = both (test at) (list_all test (offsets (at + step) step (n - (k + 1))))
     (ap (list_all test) (sym (offsets-left at step n k h)) ∙ e)
   where
     both : (a b : Bool) → (a && b) ≡ true → (a ≡ true) × (b ≡ true)
@@ -85,6 +90,17 @@ pub map-goes_on : {A : Type 0} (f : ℕ → A) (front : List A) (at step n k : �
 map-goes_on f front at step n k total h e = append_assoc front (f at ∷ [])
     (map f (offsets (at + step) step (n - (k + 1)))) ∙ ap (λ l. front ++ map f l) (sym (offsets-left at step n k h))
     ∙ e
+
+-- an item that is read and pushed behind those that were read before
+pub pushed_goes_on : {A B : Type 0} (view : B → A) (f : ℕ → A) (xs xs' : List B) (x : B) (at step n k : ℕ)
+    (total : List A) → k < n → xs' ≡ xs ++ x ∷ [] → view x ≡ f at
+    → map view xs ++ map f (offsets at step (n - k)) ≡ total
+    → map view xs' ++ map f (offsets (at + step) step (n - (k + 1))) ≡ total
+pushed_goes_on view f xs xs' x at step n k total h pushed read e =
+    ap (λ l. map view l ++ map f (offsets (at + step) step (n - (k + 1)))) pushed
+    ∙ ap (λ l. l ++ map f (offsets (at + step) step (n - (k + 1)))) (map_push view xs x)
+    ∙ ap (λ y. (map view xs ++ y ∷ []) ++ map f (offsets (at + step) step (n - (k + 1)))) read
+    ∙ map-goes_on f (map view xs) at step n k total h e
 
 -- one offset more
 pub offsets-push : (first k : ℕ) → offsets first 8 (k + 1) ≡ offsets first 8 k ++ (first + 8 * k) ∷ []

@@ -1,5 +1,5 @@
-use Rattle.std.proofs.Common.{◌≡◌, ℕ, ◌+◌, ◌-◌, ◌*◌, ◌%◌, ◌≤◌, Bool, true, false, cond, ◌&&◌, List, [], ◌∷◌, ◌++◌}
-use Rattle.std.proofs.Common.{length, refl, sym, ◌∙◌, ap, subst, arith, Option, Some, None, lit<, ◌⊎◌, inl, inr, ◌≢◌}
+use Rattle.std.proofs.Common.{◌≡◌, ℕ, ◌+◌, ◌*◌, ◌≤◌, Bool, true, false, cond, ◌&&◌, List, [], ◌∷◌}
+use Rattle.std.proofs.Common.{length, subst, refl, sym, ◌∙◌, ap, arith, Option, Some, None, lit<, ◌⊎◌, inl, inr, ◌≢◌}
 use Rattle.std.proofs.Common.{length-append, sum_by}
 use Rattle.std.specs.Prelude.{nat_le, ◌==◌, IfSome}
 use Rattle.std.specs.List.{flat_map, list_all}
@@ -16,9 +16,9 @@ use Rattle.fork_format.specs.Canonical.{datum, name, name_offset, name_or_none, 
 use Rattle.fork_format.proofs.Standing.{StandsAt, stands_first, stands_second, stands_same, stands_drop}
 use Rattle.fork_format.proofs.Standing.{number-stands, stands_inside}
 use Rattle.fork_format.proofs.Again.{AreLow, IsSized, ReferenceStands, reference_stands}
-use Rattle.fork_format.proofs.Groups.{AreLowGroups, length-references, references-two, flat_map-two}
-use Rattle.fork_format.proofs.Whole.{CanSpell, CanonStands, canon_stands, length-types, content_again}
-use Rattle.fork_format.specs.Canonical.{canon, refs_offset, names_offset, names_of, data_of, lists, clear}
+use Rattle.fork_format.proofs.Groups.{AreLowGroups, GroupStands, group_stands, flat_map-two}
+use Rattle.fork_format.proofs.Whole.{CanSpell, CanonStands, canon_stands, ListsStand, lists_stand, content_again}
+use Rattle.fork_format.specs.Canonical.{canon, refs_offset, names_offset, data_of, clear}
 use Rattle.fork_format.proofs.Bools.{and_both}
 
 and_three : (a b d : Bool) → a ≡ true → b ≡ true → d ≡ true → (a && b && d) ≡ true
@@ -124,25 +124,8 @@ pub groups_lie : (groups : List Group) (t at d n : ℕ) (bytes : List ℕ) → A
 groups_lie [] t at d n bytes low s in_list in_data in_names to_end inside =
     record { fit = refl; refs = refl; size = refl }
 groups_lie (g ∷ groups) t at d n bytes low s in_list in_data in_names to_end inside =
-    let k : List ℕ = big_bytes 4 g.kind in
-    let c : List ℕ = big_bytes 2 (length g.refs - 1) in
-    let a : List ℕ = big_bytes 2 at in
-    let more : List ℕ = types (at + 12 * length g.refs) groups in
-    let d' : ℕ = d + length (flat_map datum g.refs) in
-    let n' : ℕ = n + length (flat_map name g.refs) in
-    let s3 : StandsAt (k ++ c ++ a) t bytes = stands_first (k ++ c ++ a) more t bytes s in
-    let s2 : StandsAt (k ++ c) t bytes = stands_first (k ++ c) a t bytes s3 in
-    let count : number 2 (t + 4) bytes ≡ length g.refs - 1 =
-    number-stands 2 (length g.refs - 1) (t + 4) bytes (omega arith) (stands_second k c t bytes s2) in
-    let place : number 2 (t + 6) bytes ≡ at = number-stands 2 at (t + 6) bytes (omega arith)
-    (stands_second (k ++ c) a t bytes s3) in
-    let full : number 2 (t + 4) bytes + 1 ≡ length g.refs = omega arith in
-    let list : StandsAt (references d n g.refs ++ references d' n' (refs_of groups)) (type_list bytes + at) bytes =
-    subst (λ l. StandsAt l (type_list bytes + at) bytes) (references-two d n g.refs (refs_of groups)) in_list in
-    let datas : StandsAt (flat_map datum g.refs ++ flat_map datum (refs_of groups)) (data_start bytes + d) bytes =
-    subst (λ l. StandsAt l (data_start bytes + d) bytes) (flat_map-two datum g.refs (refs_of groups)) in_data in
-    let names : StandsAt (flat_map name g.refs ++ flat_map name (refs_of groups)) (name_list bytes + n) bytes =
-    subst (λ l. StandsAt l (name_list bytes + n) bytes) (flat_map-two name g.refs (refs_of groups)) in_names in
+    let e : GroupStands g groups t at d n bytes =
+    group_stands g groups t at d n bytes low s in_list in_data in_names in
     let size : length (flat_map datum (refs_of (g ∷ groups)))
     ≡ length (flat_map datum g.refs) + length (flat_map datum (refs_of groups)) =
     ap length (flat_map-two datum g.refs (refs_of groups))
@@ -150,27 +133,17 @@ groups_lie (g ∷ groups) t at d n bytes low s in_list in_data in_names to_end i
     let refs : (list_all (ref_fits bytes) (offsets (type_list bytes + at) 12 (length g.refs)) ≡ true)
     × (sum_by (ref_size bytes) (offsets (type_list bytes + at) 12 (length g.refs))
     ≡ length (flat_map datum g.refs)) =
-    refs_lie g.refs d n (type_list bytes + at) bytes low.4 (stands_first (references d n g.refs) _ _ bytes list)
-    (stands_first (flat_map datum g.refs) _ _ bytes datas) (stands_first (flat_map name g.refs) _ _ bytes names)
-    to_end (omega arith) in
-    let places : ref_places t bytes ≡ offsets (type_list bytes + at) 12 (length g.refs) =
-    ap (λ p. offsets (type_list bytes + p) 12 (ref_count bytes t)) place
-    ∙ ap (λ p. offsets (type_list bytes + at) 12 p) full in
-    let len : length (references d n g.refs) ≡ 12 * length g.refs = length-references d n g.refs in
+    refs_lie g.refs d n (type_list bytes + at) bytes low.4 e.own_refs e.own_data e.own_names to_end (omega arith) in
     let others : TypesLie bytes (offsets (t + 8) 8 (length groups)) groups =
-    groups_lie groups (t + 8) (at + 12 * length g.refs) d' n' bytes low.5 (stands_second (k ++ c ++ a) more t bytes s)
-    (stands_same (references d' n' (refs_of groups)) _ _ bytes (omega arith)
-    (stands_second (references d n g.refs) _ _ bytes list))
-    (stands_same (flat_map datum (refs_of groups)) _ _ bytes (omega arith)
-    (stands_second (flat_map datum g.refs) _ _ bytes datas))
-    (stands_same (flat_map name (refs_of groups)) _ _ bytes (omega arith)
-    (stands_second (flat_map name g.refs) _ _ bytes names)) to_end (omega arith) in
+    groups_lie groups (t + 8) (at + 12 * length g.refs) (d + length (flat_map datum g.refs))
+    (n + length (flat_map name g.refs)) bytes low.5 e.more_types e.more_refs e.more_data e.more_names to_end
+    (omega arith) in
     let own : sum_by (ref_size bytes) (ref_places t bytes) ≡ length (flat_map datum g.refs) =
-    ap (sum_by (ref_size bytes)) places ∙ refs.1 in
+    ap (sum_by (ref_size bytes)) e.places ∙ refs.1 in
     record {
-      fit = and_both (refs_fit bytes t) _ (ap (list_all (ref_fits bytes)) places ∙ refs.0) others.fit;
+      fit = and_both (refs_fit bytes t) _ (ap (list_all (ref_fits bytes)) e.places ∙ refs.0) others.fit;
       refs = sum_by-cons (ref_count bytes) t (offsets (t + 8) 8 (length groups))
-          ∙ ap (λ m. ref_count bytes t + m) others.refs ∙ ap (λ m. m + length (refs_of groups)) full
+          ∙ ap (λ m. ref_count bytes t + m) others.refs ∙ ap (λ m. m + length (refs_of groups)) e.counted
           ∙ sym (length-append g.refs (refs_of groups));
       size = sum_by-cons (type_size bytes) t (offsets (t + 8) 8 (length groups))
           ∙ omega (arith, own, others.size, size);
@@ -182,40 +155,15 @@ fork_again c can =
     let bytes : List ℕ = canon c in
     let gs : List Group = c.groups in
     let s : CanonStands c bytes = canon_stands c can in
-    let t : ℕ = type_list bytes in
-    let l1 : List ℕ = big_bytes 2 ((length gs + 65535) % 65536) in
-    let l2 : List ℕ = types (refs_offset gs) gs in
-    let l3 : List ℕ = references 0 0 (refs_of gs) in
-    let l4 : List ℕ = names_of gs in
-    let s3 : StandsAt (l1 ++ l2 ++ l3) t bytes = stands_first (l1 ++ l2 ++ l3) l4 t bytes s.in_lists in
-    let s2 : StandsAt (l1 ++ l2) t bytes = stands_first (l1 ++ l2) l3 t bytes s3 in
-    let few : length gs ≤ 65535 = can.few in
-    let count : number 2 t bytes ≡ (length gs + 65535) % 65536 =
-    number-stands 2 ((length gs + 65535) % 65536) t bytes (omega arith) (stands_first l1 l2 t bytes s2) in
-    let counted : type_count bytes ≡ length gs = ap (λ n. (n + 1) % 65536) count ∙ omega arith in
-    let n2 : length l2 ≡ 8 * length gs = length-types (refs_offset gs) gs in
-    let n3 : length l3 ≡ 12 * length (refs_of gs) = length-references 0 0 (refs_of gs) in
-    let n12 : length (l1 ++ l2) ≡ refs_offset gs = length-append l1 l2 ∙ omega arith in
-    let p3 : t + length (l1 ++ l2) ≡ t + refs_offset gs = ap (λ n. t + n) n12 in
-    let p4 : t + length (l1 ++ l2 ++ l3) ≡ name_list bytes + 0 =
-    ap (λ n. t + n) (length-append (l1 ++ l2) l3 ∙ ap (λ n. n + length l3) (length-append l1 l2))
-    ∙ omega (arith, s.at_types, s.at_names) in
+    let l : ListsStand c bytes = lists_stand c bytes can s in
     let data_end_is : data_end bytes ≡ 256 + length (data_of gs) =
     ap (λ n. n + number 4 8 bytes) s.at_data ∙ ap (λ n. 256 + n) s.data_length in
     let map_end_is : map_end bytes ≡ length bytes = ap (λ n. map_start bytes + n) s.map_length ∙ sym s.whole in
-    let lie : TypesLie bytes (offsets (t + 2) 8 (length gs)) gs =
-    groups_lie gs (t + 2) (refs_offset gs) 0 0 bytes can.low (stands_second l1 l2 t bytes s2)
-    (stands_same l3 _ _ bytes p3 (stands_second (l1 ++ l2) l3 t bytes s3))
-    (stands_same (data_of gs) _ _ bytes (omega (arith, s.at_data)) s.datas)
-    (stands_same l4 _ _ bytes p4 (stands_second (l1 ++ l2 ++ l3) l4 t bytes s.in_lists))
-    map_end_is (omega (arith, s.at_data, data_end_is)) in
-    let places : type_places bytes ≡ offsets (t + 2) 8 (length gs) = ap (λ n. offsets (t + 2) 8 n) counted in
-    let refs : all_refs bytes ≡ length (refs_of gs) = ap (sum_by (ref_count bytes)) places ∙ lie.refs in
-    let size : all_data bytes ≡ length (data_of gs) = ap (sum_by (type_size bytes)) places ∙ lie.size in
-    let fit : list_all (refs_fit bytes) (type_places bytes) ≡ true = ap (list_all (refs_fit bytes)) places ∙ lie.fit in
-    let n4 : length (lists gs) ≡ refs_offset gs + 12 * length (refs_of gs) + length l4 =
-    length-append (l1 ++ l2 ++ l3) l4 ∙ ap (λ n. n + length l4) (length-append (l1 ++ l2) l3
-    ∙ ap (λ n. n + length l3) n12) ∙ omega arith in
+    let lie : TypesLie bytes (type_places bytes) gs =
+    subst (λ ps. TypesLie bytes ps gs) (sym l.places) (groups_lie gs (type_list bytes + 2) (refs_offset gs) 0 0 bytes
+    can.low l.in_types l.in_refs l.in_data l.in_names map_end_is (omega (arith, s.at_data, data_end_is))) in
+    let refs : all_refs bytes ≡ length (refs_of gs) = lie.refs in
+    let size : all_data bytes ≡ length (data_of gs) = lie.size in
     let names : names_offset gs ≤ 65535 = can.names in
     let small : length (data_of gs) ≤ 134217728 = can.small in
     and_five (parts_fit bytes) (types_fit bytes) _ _ _
@@ -225,8 +173,9 @@ fork_again c can =
     (le-leb _ _ (omega arith)) (le-leb _ _ (omega (arith, s.whole))))
     (and_both (nat_le (type_list bytes + 2) (map_end bytes))
     (nat_le (type_list bytes + 2 + 8 * type_count bytes) (map_end bytes))
-    (le-leb _ _ (omega (arith, s.whole, s.at_types))) (le-leb _ _ (omega (arith, s.whole, s.at_types, counted))))
-    (le-leb _ _ (omega arith)) fit (le-leb _ _ (omega arith))
+    (le-leb _ _ (omega (arith, s.whole, s.at_types)))
+    (le-leb _ _ (omega (arith, s.whole, s.at_types, l.counted, l.long))))
+    (le-leb _ _ (omega arith)) lie.fit (le-leb _ _ (omega arith))
 
 -- the round trip: a canonical fork spells its content, as it is read again
 pub spells_again : (c : Content) → CanSpell c → Spells (canon c) (clear c)

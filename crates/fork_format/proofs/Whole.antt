@@ -165,6 +165,48 @@ canon_stands c can =
       in_lists = stands_same l _ _ bytes (sym list) (stands_second (h ++ z ++ y1 ++ y2 ++ y3) l at bytes s);
     }
 
+-- where the lists of the canonical fork stand
+pub record ListsStand (c : Content) (bytes : List ℕ) : Type 0 where
+  pub counted : type_count bytes ≡ length c.groups
+  pub places : type_places bytes ≡ offsets (type_list bytes + 2) 8 (length c.groups)
+  pub in_types : StandsAt (types (refs_offset c.groups) c.groups) (type_list bytes + 2) bytes
+  pub in_refs : StandsAt (references 0 0 (refs_of c.groups)) (type_list bytes + refs_offset c.groups) bytes
+  pub in_data : StandsAt (data_of c.groups) (data_start bytes + 0) bytes
+  pub in_names : StandsAt (names_of c.groups) (name_list bytes + 0) bytes
+  pub long : length (lists c.groups)
+      ≡ refs_offset c.groups + 12 * length (refs_of c.groups) + length (names_of c.groups)
+
+pub lists_stand : (c : Content) (bytes : List ℕ) → CanSpell c → CanonStands c bytes → ListsStand c bytes
+lists_stand c bytes can s =
+    let gs : List Group = c.groups in
+    let t : ℕ = type_list bytes in
+    let l1 : List ℕ = big_bytes 2 ((length gs + 65535) % 65536) in
+    let l2 : List ℕ = types (refs_offset gs) gs in
+    let l3 : List ℕ = references 0 0 (refs_of gs) in
+    let l4 : List ℕ = names_of gs in
+    let s3 : StandsAt (l1 ++ l2 ++ l3) t bytes = stands_first (l1 ++ l2 ++ l3) l4 t bytes s.in_lists in
+    let s2 : StandsAt (l1 ++ l2) t bytes = stands_first (l1 ++ l2) l3 t bytes s3 in
+    let few : length gs ≤ 65535 = can.few in
+    let count : number 2 t bytes ≡ (length gs + 65535) % 65536 =
+    number-stands 2 ((length gs + 65535) % 65536) t bytes (omega arith) (stands_first l1 l2 t bytes s2) in
+    let n2 : length l2 ≡ 8 * length gs = length-types (refs_offset gs) gs in
+    let n3 : length l3 ≡ 12 * length (refs_of gs) = length-references 0 0 (refs_of gs) in
+    let n12 : length (l1 ++ l2) ≡ refs_offset gs = length-append l1 l2 ∙ omega arith in
+    let p4 : t + length (l1 ++ l2 ++ l3) ≡ name_list bytes + 0 =
+    ap (λ n. t + n) (length-append (l1 ++ l2) l3 ∙ ap (λ n. n + length l3) (length-append l1 l2))
+    ∙ omega (arith, s.at_types, s.at_names) in
+    let counted : type_count bytes ≡ length gs = ap (λ n. (n + 1) % 65536) count ∙ omega arith in
+    record {
+      counted = counted;
+      places = ap (λ n. offsets (t + 2) 8 n) counted;
+      in_types = stands_second l1 l2 t bytes s2;
+      in_refs = stands_same l3 _ _ bytes (ap (λ n. t + n) n12) (stands_second (l1 ++ l2) l3 t bytes s3);
+      in_data = stands_same (data_of gs) _ _ bytes (omega (arith, s.at_data)) s.datas;
+      in_names = stands_same l4 _ _ bytes p4 (stands_second (l1 ++ l2 ++ l3) l4 t bytes s.in_lists);
+      long = length-append (l1 ++ l2 ++ l3) l4
+          ∙ ap (λ n. n + length l4) (length-append (l1 ++ l2) l3 ∙ ap (λ n. n + length l3) n12) ∙ omega arith;
+    }
+
 chosen : (a b d : Bool) (xs ys : List ℕ) → a ≡ true → b ≡ true → d ≡ true → cond (a && b && d) xs ys ≡ xs
 chosen true true true xs ys p q r = refl
 chosen true true false xs ys p q r = cc
@@ -177,31 +219,12 @@ content_again c can =
     let bytes : List ℕ = canon c in
     let gs : List Group = c.groups in
     let s : CanonStands c bytes = canon_stands c can in
-    let t : ℕ = type_list bytes in
-    let l1 : List ℕ = big_bytes 2 ((length gs + 65535) % 65536) in
-    let l2 : List ℕ = types (refs_offset gs) gs in
-    let l3 : List ℕ = references 0 0 (refs_of gs) in
-    let l4 : List ℕ = names_of gs in
-    let s3 : StandsAt (l1 ++ l2 ++ l3) t bytes = stands_first (l1 ++ l2 ++ l3) l4 t bytes s.in_lists in
-    let s2 : StandsAt (l1 ++ l2) t bytes = stands_first (l1 ++ l2) l3 t bytes s3 in
-    let few : length gs ≤ 65535 = can.few in
-    let count : number 2 t bytes ≡ (length gs + 65535) % 65536 =
-    number-stands 2 ((length gs + 65535) % 65536) t bytes (omega arith) (stands_first l1 l2 t bytes s2) in
-    let counted : type_count bytes ≡ length gs = ap (λ n. (n + 1) % 65536) count ∙ omega arith in
-    let n2 : length l2 ≡ 8 * length gs = length-types (refs_offset gs) gs in
-    let n3 : length l3 ≡ 12 * length (refs_of gs) = length-references 0 0 (refs_of gs) in
-    let p3 : t + length (l1 ++ l2) ≡ t + refs_offset gs = ap (λ n. t + n) (length-append l1 l2 ∙ omega arith) in
-    let p4 : t + length (l1 ++ l2 ++ l3) ≡ name_list bytes + 0 =
-    ap (λ n. t + n) (length-append (l1 ++ l2) l3 ∙ ap (λ n. n + length l3) (length-append l1 l2))
-    ∙ omega (arith, s.at_types, s.at_names) in
-    let groups : map (group_at bytes) (offsets (t + 2) 8 (length gs)) ≡ map clear_group gs =
-    groups_again gs (t + 2) (refs_offset gs) 0 0 bytes can.low (stands_second l1 l2 t bytes s2)
-    (stands_same l3 _ _ bytes p3 (stands_second (l1 ++ l2) l3 t bytes s3))
-    (stands_same (data_of gs) _ _ bytes (omega (arith, s.at_data)) s.datas)
-    (stands_same l4 _ _ bytes p4 (stands_second (l1 ++ l2 ++ l3) l4 t bytes s.in_lists)) in
+    let l : ListsStand c bytes = lists_stand c bytes can s in
+    let groups : map (group_at bytes) (type_places bytes) ≡ map clear_group gs =
+    ap (map (group_at bytes)) l.places ∙ groups_again gs (type_list bytes + 2) (refs_offset gs) 0 0 bytes can.low
+    l.in_types l.in_refs l.in_data l.in_names in
     let all : joined (map (group_at bytes) (type_places bytes)) ≡ map clear_group gs =
-    ap (λ n. joined (map (group_at bytes) (offsets (t + 2) 8 n))) counted ∙ ap joined groups
-    ∙ joined-same (map clear_group gs) (ap are_distinct (kinds-clear gs) ∙ can.different) in
+    ap joined groups ∙ joined-same (map clear_group gs) (ap are_distinct (kinds-clear gs) ∙ can.different) in
     let attrs : map_kept (number 2 (map_start bytes + 22) bytes) ≡ map_kept c.attrs =
     ap map_kept (number-stands 2 c.attrs (map_start bytes + 22) bytes can.attrs s.attrs) in
     let long : 256 + length (data_of gs) ≤ length bytes = stands_inside (data_of gs) 256 bytes s.datas in

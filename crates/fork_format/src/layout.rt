@@ -159,6 +159,7 @@ fn ref_size_of(l: Layout, bytes: &[u8], at: usize) -> Option<usize>
 }
 
 /// What the data of references take, if all of these lie where they must.
+#[tactic(auto, using(crate::proofs::Loops::tally_goes_on))]
 fn refs_size_of(l: Layout, bytes: &[u8], first: usize, count: usize) -> Option<usize>
     requires layout { IsLayout l bytes.now }
     requires small { first < 2 ^ 35 }
@@ -195,6 +196,7 @@ fn type_size_of(l: Layout, bytes: &[u8], at: usize) -> Option<usize>
 }
 
 /// What the data of all types' references take, if all of these lie where they must.
+#[tactic(auto, using(crate::proofs::Loops::tally_goes_on, crate::proofs::Loops::tally_ends))]
 fn types_size_of(l: Layout, bytes: &[u8], first: usize, count: usize) -> Option<usize>
     requires layout { IsLayout l bytes.now }
     requires room { first + 8 * count ≤ length bytes.now }

@@ -84,6 +84,7 @@ fn ref_of<'b>(l: Layout, bytes: &'b [u8], at: usize) -> Ref<'b>
 }
 
 /// Puts the resources of references that follow one another behind those that are there.
+#[tactic(auto, using(crate::proofs::Loops::all_goes_on, crate::proofs::Loops::pushed_goes_on))]
 fn read_refs<'b>(
     l: Layout,
     bytes: &'b [u8],

@@ -6,3 +6,4 @@ pub mod NewSlots
 pub mod Reserving
 pub mod Copies
 pub mod CopiedHandles
+pub mod Naming

@@ -9,3 +9,4 @@ pub mod FewSearches
 pub mod EmptyingLaws
 pub mod RefusedCalls
 pub mod AtMostOnce
+pub mod ShowingLaws

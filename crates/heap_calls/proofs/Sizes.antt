@@ -6,3 +6,4 @@ pub mod Steady
 pub mod PointerSizes
 pub mod Fronts
 pub mod Behind
+pub mod Grown

@@ -4,3 +4,4 @@ mod LockedRows
 mod StandingRows
 mod EmptyingRows
 mod RefusedRows
+mod BusyRows

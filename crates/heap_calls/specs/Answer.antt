@@ -166,7 +166,10 @@ max_block s = (Ok (largest_run s.zone - HEADER_SIZE), s)
 
 -- CompactMem: runs are settled until a block of n bytes has room; the most that one block can then have
 abbrev pub compact_mem : ℕ → State → Answer ℕ
-compact_mem n s = (Ok (largest_free (compacted (phys n) s.zone) - HEADER_SIZE), record s { zone = compacted (phys n) s.zone })
+compact_mem n s = (
+  Ok (largest_free (compacted (phys n) s.zone) - HEADER_SIZE),
+  record s { zone = compacted (phys n) s.zone },
+)
 
 -- the code of a reply
 abbrev pub code_of : {T : Type 0} → Result T OsErr → OsErr

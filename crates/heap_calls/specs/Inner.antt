@@ -14,3 +14,4 @@ pub mod Least
 pub mod Reaching
 pub mod Loose
 pub mod Appending
+pub mod Naming

@@ -14,3 +14,7 @@ pub mod Standing
 pub mod Looks
 pub mod Emptying
 pub mod Refused
+pub mod Busy
+pub mod Naming
+pub mod Shown
+pub mod Staying

@@ -1,4 +1,4 @@
-use Rattle.std.specs.Prelude.{ℕ, ◌*◌, Bool, true, false, List, [], count_by}
+use Rattle.std.specs.Prelude.{ℕ, ◌*◌, Bool, true, false, None, List, [], ◌∷◌, count_by}
 use Rattle.block_store.specs.Block.{Block, count, fresh, is_masters}
 use Rattle.block_store.specs.Rest.{Site}
 use Rattle.heap_calls.specs.declared.log.Log.{Log}
@@ -40,7 +40,7 @@ fresh_heap n = record { zone = fresh n; names = [] }
 abbrev pub fresh_memory : ℕ → Site → Memory
 fresh_memory n window = record {
   heap = fresh_heap n;
-  log = record { code = NO_ERR; searches = 0 };
+  log = record { code = NO_ERR; searches = 0; busy = None ∷ None ∷ None ∷ [] };
   moves = 0;
   window =
       window;

@@ -1,7 +1,8 @@
 //! What numbers stand for.
 
-ghost use Rattle.std.specs.Prelude.{◌≡◌, slice_get, option_and_then, Some, None, Err};
+ghost use Rattle.std.specs.Prelude.{◌≡◌, ◌<◌, slice_get, option_and_then, Some, None, Err, vec_len, vec_capacity};
 ghost use Rattle.heap_calls.specs.Inner.Given.{slot_of};
+ghost use Rattle.heap_calls.specs.Inner.Naming.{entered, number_of};
 ghost use Rattle.heap_calls.specs.Inner.Pointing.{target_of};
 
 use crate::refusal::Refusal;
@@ -64,4 +65,18 @@ pub fn target_of(names: &[Anchor], pointer: Option<usize>) -> Result<Target, Ref
         }),
         Some(Anchor::Handle(_) | Anchor::Disposed) => Err(Refusal::Code(OsErr::WRONG_ZONE)),
     }
+}
+
+/// Gives the next number, for which there is room, to the handle of a slot; -108 where there is no slot.
+pub fn name_handle(names: &mut Vec<Anchor>, slot: Option<u32>) -> Result<usize, Refusal>
+    requires { vec_len names.old < vec_capacity names.old }
+    ensures number { result ≡ number_of slot names.old.items }
+    ensures entered { names.new.items ≡ entered slot names.old.items }
+{
+    let Some(slot) = slot else {
+        return Err(Refusal::Code(OsErr::MEM_FULL));
+    };
+    let number = names.len();
+    names.push_reserved(Anchor::Handle(slot));
+    Ok(number)
 }

@@ -1,18 +1,19 @@
 //! Bytes behind those of a handle's block.
 
-ghost use Rattle.std.specs.Prelude.{◌≡◌, ◌≤◌, ◌+◌, ◌||◌, Some, false, length, take, IsSome, IsSomeAnd, IfSome, IsTrue};
+ghost use Rattle.std.specs.Prelude.{◌≡◌, ◌≤◌, ◌+◌, ◌||◌, Some, false, length, take, IsSome, IsSomeAnd, IsTrue};
 ghost use Rattle.std.specs.Prelude.{IsErr, IfOk};
 ghost use Rattle.block_store.specs.Block.{is_relocatable, content_of};
 ghost use Rattle.block_store.specs.Find.{FindsLowest};
 ghost use Rattle.block_store.specs.Sparing.{spared};
 ghost use Rattle.block_store.specs.Rest.{IsRest, KeepsSlots};
-ghost use Rattle.block_store.specs.Room.{spot, spot_at};
+ghost use Rattle.block_store.specs.Room.{spot};
+ghost use Rattle.heap_calls.specs.Busy.{barred, both_barred, unless};
 ghost use Rattle.heap_calls.specs.Asked.{packing};
 ghost use Rattle.heap_calls.specs.Answer.{silent, searching, moving};
-ghost use Rattle.heap_calls.specs.Inner.Appending.{size_for, behind, lengthened, bytes_of};
+ghost use Rattle.heap_calls.specs.Inner.Appending.{size_for, behind, lengthened, bytes_of, length_of};
 ghost use Rattle.heap_calls.specs.Copying.{hand_and_hand, pointer_and_hand};
 ghost use Rattle.heap_calls.specs.Inner.Given.{IsAnswer, KeepsNames};
-ghost use Rattle.heap_calls.specs.Inner.Growing.{Spares, Stays};
+ghost use Rattle.heap_calls.specs.Inner.Growing.{Spares, Stays, fitted};
 ghost use Rattle.heap_calls.specs.Inner.GrowingInPlace.{made_zone};
 ghost use Rattle.heap_calls.specs.Moves.{size_moves, hand_and_hand_moves, pointer_and_hand_moves};
 ghost use Rattle.heap_calls.specs.Inner.Numbered.{KeepsFixed};
@@ -24,7 +25,7 @@ use crate::growing_in_place::Grown;
 use crate::heap::Heap;
 use crate::reaching::reach;
 use crate::refusal::Refusal;
-use crate::sizing::resize_block;
+use crate::sizing::fit_block;
 use block_store::{BlockStore, Sparing};
 use std::alloc::AllocError;
 
@@ -34,11 +35,14 @@ impl<S: BlockStore> Heap<S> {
     ///
     /// *Inside Macintosh: Memory*, chapter 2, "Manipulating Blocks of Memory".
     pub fn hand_and_hand(&mut self, from: Option<usize>, to: Option<usize>) -> Result<(), Refusal>
-        ensures answer { IsAnswer (packing (hand_and_hand_moves from to) (hand_and_hand_searches from to)
-            (hand_and_hand from to) self.old) result self.new }
+        ensures answer { IsAnswer (unless (both_barred from to self.old) (packing (hand_and_hand_moves from to)
+            (hand_and_hand_searches from to) (hand_and_hand from to)) self.old) result self.new }
         ensures host { result ≡ Err Refusal.HostMemory → IsTrue S.TAKES_HOST }
         ensures kept { result ≡ Err Refusal.HostMemory → KeepsNames self.old self.new }
     {
+        if let Some(code) = self.both_barred(from, to) {
+            return self.refuse(code);
+        }
         let answer = self.append_handle(from, to);
         self.note(answer)
     }
@@ -48,11 +52,15 @@ impl<S: BlockStore> Heap<S> {
     ///
     /// *Inside Macintosh: Memory*, chapter 2, "Manipulating Blocks of Memory".
     pub fn pointer_and_hand(&mut self, handle: Option<usize>, bytes: &[u8]) -> Result<(), Refusal>
-        ensures answer { IsAnswer (packing (pointer_and_hand_moves handle bytes.now)
-            (pointer_and_hand_searches handle bytes.now) (pointer_and_hand handle bytes.now) self.old) result self.new }
+        ensures answer { IsAnswer (unless (barred handle self.old)
+            (packing (pointer_and_hand_moves handle bytes.now) (pointer_and_hand_searches handle bytes.now)
+            (pointer_and_hand handle bytes.now)) self.old) result self.new }
         ensures host { result ≡ Err Refusal.HostMemory → IsTrue S.TAKES_HOST }
         ensures kept { result ≡ Err Refusal.HostMemory → KeepsNames self.old self.new }
     {
+        if let Some(code) = self.barred(handle) {
+            return self.refuse(code);
+        }
         let answer = self.append_slice(handle, bytes);
         self.note(answer)
     }
@@ -70,7 +78,8 @@ impl<S: BlockStore> Heap<S> {
         let _moves = self.store.moves();
         let source = reach(&self.store, &self.names, from)?;
         let held = reach(&self.store, &self.names, to)?;
-        let grown = append_block(&mut self.store, source.slot, held.slot, held.place)?;
+        let more = length_at(&self.store, source.slot, source.place);
+        let grown = append_block(&mut self.store, source.slot, more, held.slot, held.place)?;
         self.account(grown)
     }
 
@@ -91,10 +100,10 @@ impl<S: BlockStore> Heap<S> {
     }
 }
 
-/// How many bytes the block at a place holds.
-fn length_at<S: BlockStore>(store: &S, place: u32) -> u32
-    requires { IsSome (spot_at place (S.zone store.now)) }
-    ensures is { IfSome (spot_at place (S.zone store.now)) (λ s. result ≡ length (content_of s.here)) }
+/// How many bytes the block of a slot holds, which stands at a place.
+fn length_at<S: BlockStore>(store: &S, slot: u32, place: u32) -> u32
+    requires { FindsLowest (is_relocatable slot) (S.zone store.now) (Some place) }
+    ensures is { result ≡ length_of slot (S.zone store.now) }
     ensures small { result ≤ GREATEST_ZONE }
 {
     store.bytes(place).len() as u32
@@ -110,6 +119,43 @@ fn joined_size(len: u32, more: usize) -> Option<u32>
         return None;
     }
     Some(len + more as u32)
+}
+
+/// Gives the block of a slot, which stands at a place, the size of `len` bytes with more behind them, if a
+/// block can have that.
+fn lengthen<S: BlockStore>(
+    store: &mut S,
+    slot: u32,
+    place: u32,
+    len: u32,
+    more: usize,
+    sparing: Sparing,
+) -> Result<Grown, AllocError>
+    requires spared { Spares sparing (is_relocatable slot) }
+    requires stays { Stays sparing (is_relocatable slot) }
+    requires found { FindsLowest (is_relocatable slot) (S.zone store.old) (Some place) }
+    requires len { len ≡ length_of slot (S.zone store.old) }
+    requires small { len ≤ GREATEST_ZONE }
+    ensures zone { IfOk result (λ grown. fitted (is_relocatable slot) (spared sparing)
+        (length_of slot (S.zone store.old) + more) (S.zone store.old) ≡ made_zone grown.done (S.zone store.new)) }
+    ensures full { IfOk result (λ grown. grown.done ≡ false → S.zone store.new ≡ S.zone store.old) }
+    ensures searches { IfOk result (λ grown. grown.searches ≡ size_searches (is_relocatable slot) (spared sparing)
+        (length_of slot (S.zone store.old) + more) (S.zone store.old)) }
+    ensures fixed { KeepsFixed (S.zone store.old) (S.zone store.new) }
+    ensures rest { KeepsSlots (S.rest store.old) (S.rest store.new) }
+    ensures moves { Packs (size_moves (is_relocatable slot) (spared sparing)
+        (length_of slot (S.zone store.old) + more) (S.zone store.old)) (S.rest store.old) (S.rest store.new) }
+    ensures host { IsErr result → IsTrue S.TAKES_HOST }
+{
+    // The count of moves is known to fit its type once it is read.
+    let _moves = store.moves();
+    let Some(size) = joined_size(len, more) else {
+        return Ok(Grown {
+            done: false,
+            searches: 0,
+        });
+    };
+    fit_block(store, slot, place, size, sparing)
 }
 
 /// Writes bytes behind the first `len` bytes of the block of a slot.
@@ -153,78 +199,59 @@ fn append_bytes<S: BlockStore>(
     bytes: &[u8],
 ) -> Result<Grown, AllocError>
     requires found { FindsLowest (is_relocatable slot) (S.zone store.old) (Some place) }
-    ensures zone { IfOk result (λ grown. IfSome (spot (is_relocatable slot) (S.zone store.old)) (λ s.
-        lengthened (is_relocatable slot) slot (length (content_of s.here)) bytes.now (S.zone store.old)
-        ≡ made_zone grown.done (S.zone store.new))) }
+    ensures zone { IfOk result (λ grown. lengthened (is_relocatable slot) slot (length_of slot (S.zone store.old))
+        bytes.now (S.zone store.old) ≡ made_zone grown.done (S.zone store.new)) }
     ensures full { IfOk result (λ grown. grown.done ≡ false → S.zone store.new ≡ S.zone store.old) }
-    ensures searches { IfOk result (λ grown. IfSome (spot (is_relocatable slot) (S.zone store.old)) (λ s.
-        grown.searches ≡ size_searches (is_relocatable slot) (is_relocatable slot)
-        (length (content_of s.here) + length bytes.now) (S.zone store.old))) }
+    ensures searches { IfOk result (λ grown. grown.searches ≡ size_searches (is_relocatable slot) (is_relocatable slot)
+        (length_of slot (S.zone store.old) + length bytes.now) (S.zone store.old)) }
     ensures fixed { KeepsFixed (S.zone store.old) (S.zone store.new) }
     ensures rest { KeepsSlots (S.rest store.old) (S.rest store.new) }
-    ensures moves { IfOk result (λ _. IfSome (spot (is_relocatable slot) (S.zone store.old)) (λ s.
-        Packs (size_moves (is_relocatable slot) (is_relocatable slot)
-        (length (content_of s.here) + length bytes.now) (S.zone store.old))
-        (S.rest store.old) (S.rest store.new))) }
+    ensures moves { Packs (size_moves (is_relocatable slot) (is_relocatable slot)
+        (length_of slot (S.zone store.old) + length bytes.now) (S.zone store.old)) (S.rest store.old)
+        (S.rest store.new) }
     ensures host { IsErr result → IsTrue S.TAKES_HOST }
 {
-    // The count of moves is known to fit its type once it is read.
-    let _moves = store.moves();
-    let len = length_at(store, place);
-    let Some(size) = joined_size(len, bytes.len()) else {
-        return Ok(Grown {
-            done: false,
-            searches: 0,
-        });
-    };
-    let grown = resize_block(store, slot, place, size, Sparing::One(slot))?;
+    let len = length_at(store, slot, place);
+    let grown = lengthen(store, slot, place, len, bytes.len(), Sparing::One(slot))?;
     if grown.done {
         write_behind(store, slot, len, bytes);
     }
     Ok(grown)
 }
 
-/// Appends the bytes of the block of one slot to the block of another, which stands at a place, or to itself.
+/// Appends the bytes of the block of one slot, which are so many, to the block of another, which stands at a
+/// place, or to itself.
 fn append_block<S: BlockStore>(
     store: &mut S,
     source: u32,
+    more: u32,
     slot: u32,
     place: u32,
 ) -> Result<Grown, AllocError>
     requires source { IsSome (spot (is_relocatable source) (S.zone store.old)) }
+    requires more { more ≡ length_of source (S.zone store.old) }
     requires found { FindsLowest (is_relocatable slot) (S.zone store.old) (Some place) }
-    ensures zone { IfOk result (λ grown. IfSome (spot (is_relocatable slot) (S.zone store.old)) (λ s.
-        lengthened (spared (Sparing.Two source slot)) slot (length (content_of s.here))
-        (bytes_of (spot (is_relocatable source) (S.zone store.old))) (S.zone store.old)
-        ≡ made_zone grown.done (S.zone store.new))) }
+    ensures zone { IfOk result (λ grown. lengthened (spared (Sparing.Two source slot)) slot
+        (length_of slot (S.zone store.old)) (bytes_of (spot (is_relocatable source) (S.zone store.old)))
+        (S.zone store.old) ≡ made_zone grown.done (S.zone store.new)) }
     ensures full { IfOk result (λ grown. grown.done ≡ false → S.zone store.new ≡ S.zone store.old) }
-    ensures searches { IfOk result (λ grown. IfSome (spot (is_relocatable slot) (S.zone store.old)) (λ s.
-        grown.searches ≡ size_searches (is_relocatable slot) (spared (Sparing.Two source slot))
-        (length (content_of s.here) + length (bytes_of (spot (is_relocatable source) (S.zone store.old))))
-        (S.zone store.old))) }
+    ensures searches { IfOk result (λ grown. grown.searches ≡ size_searches (is_relocatable slot)
+        (spared (Sparing.Two source slot)) (length_of slot (S.zone store.old) + more) (S.zone store.old)) }
     ensures fixed { KeepsFixed (S.zone store.old) (S.zone store.new) }
     ensures rest { KeepsSlots (S.rest store.old) (S.rest store.new) }
-    ensures moves { IfOk result (λ _. IfSome (spot (is_relocatable slot) (S.zone store.old)) (λ s.
-        Packs (size_moves (is_relocatable slot) (spared (Sparing.Two source slot))
-        (length (content_of s.here) + length (bytes_of (spot (is_relocatable source) (S.zone store.old))))
-        (S.zone store.old))
-        (S.rest store.old) (S.rest store.new))) }
+    ensures moves { Packs (size_moves (is_relocatable slot) (spared (Sparing.Two source slot))
+        (length_of slot (S.zone store.old) + more) (S.zone store.old)) (S.rest store.old) (S.rest store.new) }
     ensures host { IsErr result → IsTrue S.TAKES_HOST }
 {
-    // The count of moves is known to fit its type once it is read.
-    let _moves = store.moves();
-    let Some(from) = store.place_of(source) else {
-        unreachable!()
-    };
-    let more = length_at(store, from);
-    let len = length_at(store, place);
-    let Some(size) = joined_size(len, more as usize) else {
-        return Ok(Grown {
-            done: false,
-            searches: 0,
-        });
-    };
-    let grown = resize_block(store, slot, place, size, Sparing::Two(source, slot))?;
+    let len = length_at(store, slot, place);
+    let grown = lengthen(
+        store,
+        slot,
+        place,
+        len,
+        more as usize,
+        Sparing::Two(source, slot),
+    )?;
     if grown.done {
         copy_behind(store, source, more, slot, len);
     }

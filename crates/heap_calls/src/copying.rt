@@ -5,6 +5,7 @@ ghost use Rattle.block_store.specs.Block.{content_of, is_relocatable};
 ghost use Rattle.block_store.specs.Room.{spot};
 ghost use Rattle.block_store.specs.Slot.{is_used};
 ghost use Rattle.block_store.specs.declared.sparing.Sparing.TheVariants.{One};
+ghost use Rattle.heap_calls.specs.Busy.{barred, unless};
 ghost use Rattle.heap_calls.specs.Asked.{packing};
 ghost use Rattle.heap_calls.specs.Inner.Given.{IsAnswer, KeepsNames};
 ghost use Rattle.heap_calls.specs.Answer.{searching, silent, moving};
@@ -17,7 +18,7 @@ ghost use Rattle.heap_calls.specs.Inner.Numbered.{KeepsFixed};
 ghost use Rattle.heap_calls.specs.Inner.Packed.{Packs, new_moves};
 ghost use Rattle.heap_calls.specs.Searches.{hand_to_hand_searches};
 
-use crate::anchor::{Anchor, slot_of};
+use crate::anchor::{name_handle, slot_of};
 use crate::base::Taken;
 use crate::heap::Heap;
 use crate::new_block::new_block;
@@ -30,11 +31,14 @@ impl<S: BlockStore> Heap<S> {
     /// `HandToHand`: a new handle with the bytes of another, which isn't emptied for it. -108 where there is no
     /// room for its block, or all slots are used and there is no room for more.
     pub fn hand_to_hand(&mut self, handle: Option<usize>) -> Result<usize, Refusal>
-        ensures answer { IsAnswer (packing (hand_to_hand_moves handle) (hand_to_hand_searches handle)
-            (hand_to_hand handle) self.old) result self.new }
+        ensures answer { IsAnswer (unless (barred handle self.old) (packing (hand_to_hand_moves handle)
+            (hand_to_hand_searches handle) (hand_to_hand handle)) self.old) result self.new }
         ensures host { result ≡ Err Refusal.HostMemory → IsTrue S.TAKES_HOST ⊎ (self.new ≡ self.old) }
         ensures kept { result ≡ Err Refusal.HostMemory → KeepsNames self.old self.new }
     {
+        if let Some(code) = self.barred(handle) {
+            return self.refuse(code);
+        }
         let answer = self.copy_handle(handle);
         self.note(answer)
     }
@@ -58,12 +62,7 @@ impl<S: BlockStore> Heap<S> {
         self.names.reserve(1)?;
         let made = copy_block(&mut self.store, found.slot, size)?;
         self.log.count(made.searches);
-        let Some(slot) = made.slot else {
-            return Err(Refusal::Code(OsErr::MEM_FULL));
-        };
-        let number = self.names.len();
-        self.names.push_reserved(Anchor::Handle(slot));
-        Ok(number)
+        name_handle(&mut self.names, made.slot)
     }
 }
 

@@ -1,6 +1,7 @@
 //! Emptied handles.
 
 ghost use Rattle.std.specs.Prelude.{◌≡◌, ◌≢◌, IsTrue, IsErr};
+ghost use Rattle.heap_calls.specs.Busy.{barred, unless};
 ghost use Rattle.heap_calls.specs.Inner.Given.{IsAnswer, KeepsNames};
 ghost use Rattle.heap_calls.specs.Asked.{packing};
 ghost use Rattle.heap_calls.specs.Inner.Numbered.{Agrees, KeepsFixed};
@@ -13,6 +14,7 @@ ghost use Rattle.heap_calls.specs.Inner.Packed.{Packs};
 ghost use Rattle.block_store.specs.Slot.{is_used};
 
 use crate::anchor::{Anchor, slot_of};
+use crate::growing_in_place::Grown;
 use crate::heap::Heap;
 use crate::locking::can_move;
 use crate::refusal::Refusal;
@@ -24,9 +26,13 @@ use std::alloc::AllocError;
 impl<S: BlockStore> Heap<S> {
     /// `EmptyHandle`: a handle's block is Free, and the handle stays, emptied; -112 where it is locked.
     pub fn empty_handle(&mut self, handle: Option<usize>) -> Result<(), Refusal>
-        ensures answer { IsAnswer (noting (empty_handle handle) self.old) result self.new }
+        ensures answer { IsAnswer (unless (barred handle self.old) (noting (empty_handle handle)) self.old)
+            result self.new }
         ensures host { result ≢ Err Refusal.HostMemory }
     {
+        if let Some(code) = self.barred(handle) {
+            return self.refuse(code);
+        }
         let answer = self.empty(handle);
         self.note(answer)
     }
@@ -34,11 +40,14 @@ impl<S: BlockStore> Heap<S> {
     /// `ReallocateHandle`: a handle gets a new block of `size` bytes 0, and its old one is Free; -112 where
     /// that is locked. A want of host memory leaves all but the zone as it was.
     pub fn reallocate_handle(&mut self, handle: Option<usize>, size: u32) -> Result<(), Refusal>
-        ensures answer { IsAnswer (packing (reallocate_handle_moves handle size)
-            (reallocate_handle_searches handle size) (reallocate_handle handle size) self.old) result self.new }
+        ensures answer { IsAnswer (unless (barred handle self.old) (packing (reallocate_handle_moves handle size)
+            (reallocate_handle_searches handle size) (reallocate_handle handle size)) self.old) result self.new }
         ensures host { result ≡ Err Refusal.HostMemory → IsTrue S.TAKES_HOST }
         ensures kept { result ≡ Err Refusal.HostMemory → KeepsNames self.old self.new }
     {
+        if let Some(code) = self.barred(handle) {
+            return self.refuse(code);
+        }
         let answer = self.reallocate(handle, size);
         self.note(answer)
     }
@@ -65,11 +74,10 @@ impl<S: BlockStore> Heap<S> {
         let _moves = self.store.moves();
         let slot = loose_slot(&self.store, &self.names, handle)?;
         let room = renew_block(&mut self.store, slot, size)?;
-        self.log.count(room.searches);
-        if room.place.is_none() {
-            return Err(Refusal::Code(OsErr::MEM_FULL));
-        }
-        Ok(())
+        self.account(Grown {
+            done: room.place.is_some(),
+            searches: room.searches,
+        })
     }
 }
 

@@ -1,6 +1,7 @@
 //! The flags of handles.
 
 ghost use Rattle.std.specs.Prelude.{◌≡◌, ◌≢◌};
+ghost use Rattle.heap_calls.specs.Busy.{barred, unless};
 ghost use Rattle.heap_calls.specs.Inner.Given.{IsAnswer, seen_flags};
 ghost use Rattle.heap_calls.specs.Answer.{change_flags, noting, silent};
 ghost use Rattle.heap_calls.specs.Purging.{h_purge, h_no_purge, h_get_state, h_set_state};
@@ -13,36 +14,51 @@ use block_store::{BlockStore, Flags, Seen};
 impl<S: BlockStore> Heap<S> {
     /// `HPurge`: a handle's block may be emptied.
     pub fn h_purge(&mut self, handle: Option<usize>) -> Result<(), Refusal>
-        ensures answer { IsAnswer (noting (h_purge handle) self.old) result self.new }
+        ensures answer { IsAnswer (unless (barred handle self.old) (noting (h_purge handle)) self.old) result self.new }
         ensures host { result ≢ Err Refusal.HostMemory }
     {
+        if let Some(code) = self.barred(handle) {
+            return self.refuse(code);
+        }
         let answer = self.set_flags(handle, None, Some(true));
         self.note(answer)
     }
 
     /// `HNoPurge`: a handle's block isn't emptied.
     pub fn h_no_purge(&mut self, handle: Option<usize>) -> Result<(), Refusal>
-        ensures answer { IsAnswer (noting (h_no_purge handle) self.old) result self.new }
+        ensures answer { IsAnswer (unless (barred handle self.old) (noting (h_no_purge handle)) self.old)
+            result self.new }
         ensures host { result ≢ Err Refusal.HostMemory }
     {
+        if let Some(code) = self.barred(handle) {
+            return self.refuse(code);
+        }
         let answer = self.set_flags(handle, None, Some(false));
         self.note(answer)
     }
 
     /// `HGetState`: a handle's flags as bits of a byte: locked 128, purgeable 64.
     pub fn h_get_state(&mut self, handle: Option<usize>) -> Result<u8, Refusal>
-        ensures answer { IsAnswer (noting (h_get_state handle) self.old) result self.new }
+        ensures answer { IsAnswer (unless (barred handle self.old) (noting (h_get_state handle)) self.old)
+            result self.new }
         ensures host { result ≢ Err Refusal.HostMemory }
     {
+        if let Some(code) = self.barred(handle) {
+            return self.refuse(code);
+        }
         let answer = self.state_of(handle);
         self.note(answer)
     }
 
     /// `HSetState`: a handle's flags become those of a byte as `HGetState` tells it.
     pub fn h_set_state(&mut self, handle: Option<usize>, byte: u8) -> Result<(), Refusal>
-        ensures answer { IsAnswer (noting (h_set_state handle byte) self.old) result self.new }
+        ensures answer { IsAnswer (unless (barred handle self.old) (noting (h_set_state handle byte)) self.old)
+            result self.new }
         ensures host { result ≢ Err Refusal.HostMemory }
     {
+        if let Some(code) = self.barred(handle) {
+            return self.refuse(code);
+        }
         let locked = byte / 128 % 2 == 1;
         let purgeable = byte / 64 % 2 == 1;
         let answer = self.set_flags(handle, Some(locked), Some(purgeable));

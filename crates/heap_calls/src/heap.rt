@@ -2,6 +2,7 @@
 
 ghost use Rattle.std.specs.Prelude.{◌≡◌, ◌≢◌, ◌⊎◌, IsTrue};
 ghost use Rattle.block_store.specs.Block.{fresh, sizes};
+ghost use Rattle.heap_calls.specs.Busy.{barred, either_barred, unless, unless_silent};
 ghost use Rattle.heap_calls.specs.Asked.{packing};
 ghost use Rattle.heap_calls.specs.Inner.Given.{IsAnswer, IsShown, KeepsNames, FindsBlock, last_after};
 ghost use Rattle.heap_calls.specs.Inner.Numbered.{Agrees};
@@ -14,10 +15,11 @@ ghost use Rattle.heap_calls.specs.Searches.{new_handle_searches};
 ghost use Rattle.heap_calls.specs.Pointers.{place_of};
 ghost use Rattle.block_store.specs.declared.measures.TheConstants.{SLOTS_A_BLOCK};
 
-use crate::anchor::{Anchor, slot_of};
+use crate::anchor::{Anchor, name_handle, slot_of};
 use crate::log::Log;
 use crate::new_block::new_block;
 use crate::pointers::find_named;
+use crate::reaching::reach;
 use crate::refusal::Refusal;
 use block_store::{BlockStore, HEADER_SIZE, Sparing};
 use mac_words::OsErr;
@@ -25,7 +27,8 @@ use std::alloc::{AllocError, Global};
 use std::marker::Model;
 
 /// A heap over a store of blocks. Handles are given by the number that a name is bound to, `None` for an
-/// unbound name; a number is never given twice. Sizes and offsets are in bytes.
+/// unbound name; a number is never given twice. Sizes and offsets are in bytes. A call on a handle or a pointer
+/// that is busy answers -117 and changes nothing, but for the code that `MemError` tells.
 ///
 /// *Inside Macintosh: Memory*, chapter 1, "Heap Management".
 #[derive(Drop)]
@@ -62,6 +65,7 @@ impl<S: BlockStore> Heap<S> {
             log: Log {
                 code: OsErr::NO_ERR,
                 searches: 0,
+                busy: [None, None, None],
             },
         }
     }
@@ -81,18 +85,26 @@ impl<S: BlockStore> Heap<S> {
 
     /// `DisposeHandle`: disposes of a handle; its block, locked or not, is Free, and its slot unused.
     pub fn dispose_handle(&mut self, handle: Option<usize>) -> Result<(), Refusal>
-        ensures answer { IsAnswer (noting (dispose_handle handle) self.old) result self.new }
+        ensures answer { IsAnswer (unless (barred handle self.old) (noting (dispose_handle handle)) self.old)
+            result self.new }
         ensures host { result ≢ Err Refusal.HostMemory }
     {
+        if let Some(code) = self.barred(handle) {
+            return self.refuse(code);
+        }
         let answer = self.let_go(handle);
         self.note(answer)
     }
 
     /// `GetHandleSize`: how many bytes a handle has.
     pub fn get_handle_size(&mut self, handle: Option<usize>) -> Result<u32, Refusal>
-        ensures answer { IsAnswer (noting (get_handle_size handle) self.old) result self.new }
+        ensures answer { IsAnswer (unless (barred handle self.old) (noting (get_handle_size handle)) self.old)
+            result self.new }
         ensures host { result ≢ Err Refusal.HostMemory }
     {
+        if let Some(code) = self.barred(handle) {
+            return self.refuse(code);
+        }
         let answer = self.size_of(handle);
         self.note(answer)
     }
@@ -103,6 +115,13 @@ impl<S: BlockStore> Heap<S> {
     {
         self.log.code = OsErr::NO_ERR;
         self.store.free_bytes()
+    }
+
+    /// The bytes of the zone.
+    pub fn len(&self) -> u32
+        ensures { result ≡ sizes self.now.heap.zone }
+    {
+        self.store.len()
     }
 
     /// How many looks for room the calls so far took; the count stays at its greatest value.
@@ -131,34 +150,38 @@ impl<S: BlockStore> Heap<S> {
 
     /// Writes bytes into a handle's block from an offset on; -30001 where they end past its content.
     pub fn put(&mut self, handle: Option<usize>, from: u32, bytes: &[u8]) -> Result<(), Refusal>
-        ensures answer { IsAnswer (silent (put handle from bytes.now) self.old) result self.new }
+        ensures answer { IsAnswer (unless_silent (barred handle self.old) (silent (put handle from bytes.now)) self.old)
+            result self.new }
         ensures host { result ≢ Err Refusal.HostMemory }
     {
-        let place = find_block(&self.store, &self.names, handle)?;
-        let len = self.store.bytes(place).len();
-        if bytes.len() > len || from as usize > len - bytes.len() {
-            return Err(Refusal::Code(OsErr::PROFILE));
+        if let Some(code) = self.barred(handle) {
+            return Err(Refusal::Code(code));
         }
-        self.store.write(place, from, bytes);
-        Ok(())
+        self.write_block(handle, from, bytes)
     }
 
     /// The bytes of a handle's block.
     pub fn show(&self, handle: Option<usize>) -> Result<&[u8], Refusal>
-        ensures answer { IsShown (silent (show handle) self.now) result self.now }
+        ensures answer { IsShown (unless_silent (barred handle self.now) (silent (show handle)) self.now) result
+            self.now }
         ensures host { result ≢ Err Refusal.HostMemory }
     {
-        let place = find_block(&self.store, &self.names, handle)?;
-        Ok(self.store.bytes(place))
+        if let Some(code) = self.barred(handle) {
+            return Err(Refusal::Code(code));
+        }
+        self.block_bytes(handle)
     }
 
     /// The offset of a handle's or a pointer's bytes from the zone's start.
     pub fn place_of(&self, name: Option<usize>) -> Result<u32, Refusal>
-        ensures answer { IsAnswer (silent (place_of name) self.now) result self.now }
+        ensures answer { IsAnswer (unless_silent (either_barred name self.now) (silent (place_of name)) self.now)
+            result self.now }
         ensures host { result ≢ Err Refusal.HostMemory }
     {
-        let place = find_named(&self.store, &self.names, name)?;
-        Ok(place + HEADER_SIZE)
+        if let Some(code) = self.either_barred(name) {
+            return Err(Refusal::Code(code));
+        }
+        self.bytes_place(name)
     }
 
     /// A new handle.
@@ -171,12 +194,7 @@ impl<S: BlockStore> Heap<S> {
         self.names.reserve(1)?;
         let made = new_block(&mut self.store, size, Sparing::Nothing)?;
         self.log.count(made.searches);
-        let Some(slot) = made.slot else {
-            return Err(Refusal::Code(OsErr::MEM_FULL));
-        };
-        let number = self.names.len();
-        self.names.push_reserved(Anchor::Handle(slot));
-        Ok(number)
+        name_handle(&mut self.names, made.slot)
     }
 
     /// Lets a handle and its block go.
@@ -198,6 +216,38 @@ impl<S: BlockStore> Heap<S> {
     {
         let place = find_block(&self.store, &self.names, handle)?;
         Ok(self.store.bytes(place).len() as u32)
+    }
+
+    /// Writes bytes into a handle's block.
+    fn write_block(&mut self, handle: Option<usize>, from: u32, bytes: &[u8]) -> Result<(), Refusal>
+        ensures answer { IsAnswer (silent (put handle from bytes.now) self.old) result self.new }
+        ensures host { result ≢ Err Refusal.HostMemory }
+    {
+        let place = find_block(&self.store, &self.names, handle)?;
+        let len = self.store.bytes(place).len();
+        if bytes.len() > len || from as usize > len - bytes.len() {
+            return Err(Refusal::Code(OsErr::PROFILE));
+        }
+        self.store.write(place, from, bytes);
+        Ok(())
+    }
+
+    /// The bytes of a handle's block, busy or not.
+    fn block_bytes(&self, handle: Option<usize>) -> Result<&[u8], Refusal>
+        ensures answer { IsShown (silent (show handle) self.now) result self.now }
+        ensures host { result ≢ Err Refusal.HostMemory }
+    {
+        let place = find_block(&self.store, &self.names, handle)?;
+        Ok(self.store.bytes(place))
+    }
+
+    /// Where the bytes of a handle or a pointer are, busy or not.
+    fn bytes_place(&self, name: Option<usize>) -> Result<u32, Refusal>
+        ensures answer { IsAnswer (silent (place_of name) self.now) result self.now }
+        ensures host { result ≢ Err Refusal.HostMemory }
+    {
+        let place = find_named(&self.store, &self.names, name)?;
+        Ok(place + HEADER_SIZE)
     }
 
     /// Keeps the code of a call, and passes its answer on.
@@ -226,9 +276,6 @@ pub(crate) fn find_block<S: BlockStore>(
     requires { Agrees (S.zone store.now) (S.rest store.now) names.now }
     ensures { FindsBlock (S.zone store.now) (S.rest store.now).slots names.now handle result }
 {
-    let found = slot_of(names, handle)?;
-    let Some(place) = store.place_of(found.slot) else {
-        return Err(Refusal::Code(OsErr::NIL_HANDLE));
-    };
-    Ok(place)
+    let held = reach(store, names, handle)?;
+    Ok(held.place)
 }

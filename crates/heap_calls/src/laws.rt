@@ -1,13 +1,15 @@
 //! Laws of the calls' definitions.
 
-ghost use Rattle.std.specs.Prelude.{◌≡◌, ◌<◌, ◌^◌, ℕ, true, Some, Err, nat_lt, ◌≤◌};
+ghost use Rattle.std.specs.Prelude.{◌≡◌, ◌<◌, ◌+◌, ◌%◌, ℕ, true, Some, Err, List, nat_lt, ◌≤◌};
 ghost use Rattle.mac_words.specs.Size.{phys};
-ghost use Rattle.block_store.specs.Block.{count, is_masters, is_mover};
+ghost use Rattle.block_store.specs.Block.{Block, count, sizes, is_masters, is_mover};
 ghost use Rattle.block_store.specs.Compact.{largest_run};
 ghost use Rattle.heap_calls.specs.State.{State, Memory, used_slots, all_slots};
-ghost use Rattle.heap_calls.specs.Asked.{Asked};
+ghost use Rattle.heap_calls.specs.Asked.{Asked, answered};
+ghost use Rattle.heap_calls.specs.Busy.{idle, served};
 ghost use Rattle.heap_calls.specs.Looks.{LooksFew};
-ghost use Rattle.heap_calls.specs.Refused.{RefusedLeaves};
+ghost use Rattle.heap_calls.specs.Refused.{RefusedLeaves, BarredLeaves};
+ghost use Rattle.heap_calls.specs.Staying.{ease, Parted, RefusedKeepsNoMore, LessStaysLater, KeepsBytes, KeepsMasters};
 ghost use Rattle.heap_calls.specs.Moves.{compact_mem_moves, max_mem_moves};
 ghost use Rattle.heap_calls.specs.Slots.{new_handle};
 ghost use Rattle.heap_calls.specs.Purging.{purged_all};
@@ -23,17 +25,55 @@ pub fn new_handle_is_full_only_without_room()
         → largest_run (purged_all heap.zone) < bytes }
 {}
 
-/// Each call looks for room at most once more than there are blocks at its start, by the heap's own count, where
-/// one of them is a block of master pointers.
-#[tactic(auto, using(crate::proofs::Promises::FewSearches::looks_few))]
+/// Each try of a call looks for room at most once more than there are blocks at its start, by the heap's own count,
+/// where one of them is a block of master pointers.
+#[tactic(auto, using(crate::proofs::Tries::Gating::served_looks))]
 pub fn a_call_looks_few_times()
     ensures { (asked : Asked) (m : Memory) → LooksFew asked m }
 {}
 
-/// A refused call leaves the heap as it was, but for the zone where a block of master pointers was made for it, and
-/// where it is `PurgeMem`.
+/// A refused try leaves the heap as it was, but for the zone where a block of master pointers was made for it, and
+/// where it is `PurgeMem`. A call that a busy name bars is refused with -117, and leaves the zone too.
 pub fn a_refused_call_leaves_the_heap()
-    ensures { (asked : Asked) (m : Memory) → RefusedLeaves asked m }
+    ensures refused { (asked : Asked) (m : Memory) → RefusedLeaves asked m }
+    ensures barred { (asked : Asked) (m : Memory) → BarredLeaves asked m }
+{}
+
+/// A refused try leaves no more bytes that stay: those of blocks that are neither Free, nor may be emptied, nor
+/// hold master pointers. Where more can be had later, of as many bytes and with no fewer blocks of master pointers,
+/// less stays than before the try: so a call that is tried again only where more can be had comes to an end.
+#[tactic(auto, using(crate::proofs::Tries::Keeping::served_no_more, crate::proofs::Tries::Keeping::served_less_later))]
+pub fn a_refused_call_keeps_no_more()
+    ensures refused { (asked : Asked) (m : Memory) → RefusedKeepsNoMore asked m }
+    ensures later { (asked : Asked) (m : Memory) → LessStaysLater asked m }
+{}
+
+/// In a zone where no handle has two blocks, no try changes how many bytes the zone has, or lets a block of master
+/// pointers go.
+#[tactic(auto, using(crate::proofs::Tries::Keeping::served_bytes, crate::proofs::Tries::Keeping::served_masters_no_fewer))]
+pub fn a_call_keeps_the_zones_bytes()
+    ensures bytes { (asked : Asked) (m : Memory) → KeepsBytes asked m }
+    ensures masters { (asked : Asked) (m : Memory) → KeepsMasters asked m }
+{}
+
+/// The bytes that can be had of a zone, those that stay and the master pointers make up the zone.
+#[tactic(auto, using(crate::proofs::Tries::Parting::parted))]
+pub fn what_can_be_had_and_what_stays_make_up_a_zone()
+    ensures { (zone : List Block) → Parted zone }
+{}
+
+/// Where a zone has a multiple of 16 bytes, as each zone has that began with one, what can be had of it rises by 16
+/// bytes at least.
+#[tactic(auto, using(crate::proofs::Tries::Parting::rises_by_sixteen))]
+pub fn what_can_be_had_rises_by_sixteens()
+    ensures { (before after : List Block) → sizes before % 16 ≡ 0 → sizes after ≡ sizes before
+        → ease before < ease after → ease before + 16 ≤ ease after }
+{}
+
+/// Where no name is busy, a try of a call is answered by the call's row of the table.
+#[tactic(auto, using(crate::proofs::Tries::Barring::served_idle))]
+pub fn a_call_is_its_row_where_no_name_is_busy()
+    ensures { (asked : Asked) (m : Memory) → m.log.busy ≡ idle → served asked m ≡ answered asked m }
 {}
 
 /// Compaction moves each block at most once: `CompactMem` and `MaxMem` move no more blocks down than there

@@ -5,6 +5,7 @@
 mod anchor;
 mod appending;
 mod base;
+mod busy;
 mod compaction;
 mod copying;
 mod emptying;

@@ -1,6 +1,7 @@
 //! Locking handles and moving them out of the way.
 
 ghost use Rattle.std.specs.Prelude.{◌≡◌, ◌≢◌};
+ghost use Rattle.heap_calls.specs.Busy.{barred, unless};
 ghost use Rattle.heap_calls.specs.Inner.Given.{IsAnswer, seen_mover};
 ghost use Rattle.heap_calls.specs.Answer.{h_lock, h_unlock, move_hhi, hlock_hi, noting, silent};
 
@@ -13,36 +14,51 @@ use mac_words::OsErr;
 impl<S: BlockStore> Heap<S> {
     /// `HLock`: a handle's block doesn't move and isn't emptied.
     pub fn h_lock(&mut self, handle: Option<usize>) -> Result<(), Refusal>
-        ensures answer { IsAnswer (noting (h_lock handle) self.old) result self.new }
+        ensures answer { IsAnswer (unless (barred handle self.old) (noting (h_lock handle)) self.old) result self.new }
         ensures host { result ≢ Err Refusal.HostMemory }
     {
+        if let Some(code) = self.barred(handle) {
+            return self.refuse(code);
+        }
         let answer = self.set_flags(handle, Some(true), None);
         self.note(answer)
     }
 
     /// `HUnlock`: a handle's block may move.
     pub fn h_unlock(&mut self, handle: Option<usize>) -> Result<(), Refusal>
-        ensures answer { IsAnswer (noting (h_unlock handle) self.old) result self.new }
+        ensures answer { IsAnswer (unless (barred handle self.old) (noting (h_unlock handle)) self.old)
+            result self.new }
         ensures host { result ≢ Err Refusal.HostMemory }
     {
+        if let Some(code) = self.barred(handle) {
+            return self.refuse(code);
+        }
         let answer = self.set_flags(handle, Some(false), None);
         self.note(answer)
     }
 
     /// `MoveHHi`: a handle's block goes to the top of its run; -117 where it is locked.
     pub fn move_hhi(&mut self, handle: Option<usize>) -> Result<(), Refusal>
-        ensures answer { IsAnswer (noting (move_hhi handle) self.old) result self.new }
+        ensures answer { IsAnswer (unless (barred handle self.old) (noting (move_hhi handle)) self.old)
+            result self.new }
         ensures host { result ≢ Err Refusal.HostMemory }
     {
+        if let Some(code) = self.barred(handle) {
+            return self.refuse(code);
+        }
         let answer = self.move_high(handle);
         self.note(answer)
     }
 
     /// `HLockHi`: as `MoveHHi`, and then the block is locked.
     pub fn hlock_hi(&mut self, handle: Option<usize>) -> Result<(), Refusal>
-        ensures answer { IsAnswer (noting (hlock_hi handle) self.old) result self.new }
+        ensures answer { IsAnswer (unless (barred handle self.old) (noting (hlock_hi handle)) self.old)
+            result self.new }
         ensures host { result ≢ Err Refusal.HostMemory }
     {
+        if let Some(code) = self.barred(handle) {
+            return self.refuse(code);
+        }
         let answer = self.lock_high(handle);
         self.note(answer)
     }

@@ -1,16 +1,18 @@
-//! What the calls so far came to.
+//! What a heap keeps beside its zone and its names.
 
-ghost use Rattle.std.specs.Prelude.{◌≡◌};
+ghost use Rattle.std.specs.Prelude.{◌≡◌, if◌then◌else◌};
 ghost use Rattle.block_store.specs.Rest.{counted};
+ghost use Rattle.heap_calls.specs.Busy.{bar, holds, is_busy, busied, eased, eased_place};
 
 use mac_words::OsErr;
 
-/// What the calls of a heap so far came to: the code that `MemError` tells, and how many looks for room they
-/// took.
+/// What a heap keeps beside its zone and its names: the code that `MemError` tells, how many looks for room its
+/// calls took, and the handles and pointers that are busy, three at most.
 #[derive(Clone, Copy, Debug, PartialEq, Eq)]
 pub struct Log {
     pub code: OsErr,
     pub searches: u64,
+    pub busy: [Option<usize>; 3],
 }
 
 impl Log {
@@ -20,4 +22,58 @@ impl Log {
     {
         self.searches = self.searches.saturating_add(u64::from(searches));
     }
+
+    /// Whether a number is busy.
+    pub(crate) fn is_busy(&self, number: usize) -> bool
+        ensures { result ≡ is_busy number self.now.busy }
+    {
+        let [first, second, third] = self.busy;
+        holds(number, first) || holds(number, second) || holds(number, third)
+    }
+
+    /// The code of a call on a number, if it is busy.
+    pub(crate) fn bar(&self, number: usize) -> Option<OsErr>
+        ensures { result ≡ bar (is_busy number self.now.busy) }
+    {
+        if self.is_busy(number) {
+            Some(OsErr::LOCKED)
+        } else {
+            None
+        }
+    }
+
+    /// Makes a number busy, or idle again. A fourth number isn't kept.
+    pub(crate) fn set_busy(&mut self, number: usize, busy: bool)
+        ensures { self.new ≡ record self.old
+            { busy = if busy then busied number self.old.busy else eased number self.old.busy } }
+    {
+        let [first, second, third] = self.busy;
+        self.busy = if !busy {
+            [
+                eased(number, first),
+                eased(number, second),
+                eased(number, third),
+            ]
+        } else if first.is_none() {
+            [Some(number), second, third]
+        } else if second.is_none() {
+            [first, Some(number), third]
+        } else {
+            [first, second, third.or(Some(number))]
+        };
+    }
+}
+
+/// Whether a place holds a number.
+fn holds(number: usize, place: Option<usize>) -> bool
+    ensures { result ≡ holds number place }
+{
+    place == Some(number)
+}
+
+/// A place without a number.
+fn eased(number: usize, place: Option<usize>) -> Option<usize>
+    ensures { result ≡ eased_place number place }
+{
+    if holds(number, place) { None } else { place }
 }

@@ -8,8 +8,9 @@ ghost use Rattle.heap_calls.specs.Slots.{new_empty_handle};
 ghost use Rattle.heap_calls.specs.Pointers.{add_masters, reserve_mem};
 ghost use Rattle.heap_calls.specs.Searches.{new_empty_handle_searches, more_masters_searches, reserve_searches};
 
-use crate::anchor::Anchor;
+use crate::anchor::name_handle;
 use crate::base::{make_base, make_masters, make_slot};
+use crate::growing_in_place::Grown;
 use crate::heap::Heap;
 use crate::refusal::Refusal;
 use block_store::{BlockStore, Sparing};
@@ -60,12 +61,7 @@ impl<S: BlockStore> Heap<S> {
         self.names.reserve(1)?;
         let taken = make_slot(&mut self.store, Sparing::Nothing)?;
         self.log.count(taken.searches);
-        let Some(slot) = taken.slot else {
-            return Err(Refusal::Code(OsErr::MEM_FULL));
-        };
-        let number = self.names.len();
-        self.names.push_reserved(Anchor::Handle(slot));
-        Ok(number)
+        name_handle(&mut self.names, taken.slot)
     }
 
     /// A Masters block more.
@@ -76,11 +72,10 @@ impl<S: BlockStore> Heap<S> {
         ensures kept { result ≡ Err Refusal.HostMemory → KeepsMoves self.old self.new }
     {
         let room = make_masters(&mut self.store, Sparing::Nothing)?;
-        self.log.count(room.searches);
-        let Some(_) = room.place else {
-            return Err(Refusal::Code(OsErr::MEM_FULL));
-        };
-        Ok(())
+        self.account(Grown {
+            done: room.place.is_some(),
+            searches: room.searches,
+        })
     }
 
     /// Room for a block at the base of a run.
@@ -96,10 +91,9 @@ impl<S: BlockStore> Heap<S> {
             return Err(Refusal::Code(OsErr::MEM_FULL));
         };
         let room = make_base(&mut self.store, bytes, Sparing::Nothing)?;
-        self.log.count(room.searches);
-        let Some(_) = room.place else {
-            return Err(Refusal::Code(OsErr::MEM_FULL));
-        };
-        Ok(())
+        self.account(Grown {
+            done: room.place.is_some(),
+            searches: room.searches,
+        })
     }
 }

@@ -4,6 +4,8 @@ ghost use Rattle.std.specs.Prelude.{◌≡◌, Some, false, IfOk, IsErr, IsTrue}
 ghost use Rattle.block_store.specs.Block.{is_fixed};
 ghost use Rattle.block_store.specs.Find.{FindsLowest};
 ghost use Rattle.block_store.specs.Rest.{IsRest};
+ghost use Rattle.heap_calls.specs.Asked.{seeking};
+ghost use Rattle.heap_calls.specs.Busy.{pointer_barred, unless};
 ghost use Rattle.heap_calls.specs.Answer.{nothing, noting, searching, silent};
 ghost use Rattle.heap_calls.specs.Inner.Given.{IsAnswer, KeepsMoves};
 ghost use Rattle.heap_calls.specs.Inner.Growing.{fitted};
@@ -26,11 +28,15 @@ impl<S: BlockStore> Heap<S> {
     ///
     /// *Inside Macintosh: Memory*, chapter 2, "Changing the Sizes of Relocatable and Nonrelocatable Blocks".
     pub fn set_pointer_size(&mut self, pointer: Option<usize>, size: u32) -> Result<(), Refusal>
-        ensures answer { IsAnswer (searching (set_pointer_size_searches pointer size self.old.heap)
-            (noting (set_pointer_size pointer size) self.old)) result self.new }
+        ensures answer { IsAnswer (unless (pointer_barred pointer self.old)
+            (seeking (set_pointer_size_searches pointer size) (set_pointer_size pointer size)) self.old) result
+            self.new }
         ensures host { result ≡ Err Refusal.HostMemory → IsTrue S.TAKES_HOST }
         ensures kept { result ≡ Err Refusal.HostMemory → KeepsMoves self.old self.new }
     {
+        if let Some(code) = self.pointer_barred(pointer) {
+            return self.refuse(code);
+        }
         let answer = self.fit_pointer(pointer, size);
         self.note(answer)
     }

@@ -2,6 +2,7 @@
 
 ghost use Rattle.std.specs.Prelude.{◌≡◌, ◌≢◌, ◌⊎◌, IfOk, OnErr, IsErr, IsTrue};
 ghost use Rattle.block_store.specs.Rest.{IsRest};
+ghost use Rattle.heap_calls.specs.Busy.{pointer_barred, unless, unless_silent};
 ghost use Rattle.heap_calls.specs.Inner.Given.{IsAnswer, IsShown, KeepsMoves};
 ghost use Rattle.heap_calls.specs.Answer.{noting, searching, silent};
 ghost use Rattle.heap_calls.specs.Inner.NewPointer.{IsNewFixed, fixed_searches};
@@ -36,18 +37,26 @@ impl<S: BlockStore> Heap<S> {
 
     /// `DisposePtr`: disposes of a pointer; its block is Free.
     pub fn dispose_pointer(&mut self, pointer: Option<usize>) -> Result<(), Refusal>
-        ensures answer { IsAnswer (noting (dispose_pointer pointer) self.old) result self.new }
+        ensures answer { IsAnswer (unless (pointer_barred pointer self.old) (noting (dispose_pointer pointer)) self.old)
+            result self.new }
         ensures host { result ≢ Err Refusal.HostMemory }
     {
+        if let Some(code) = self.pointer_barred(pointer) {
+            return self.refuse(code);
+        }
         let answer = self.free_block(pointer);
         self.note(answer)
     }
 
     /// `GetPtrSize`: how many bytes a pointer has.
     pub fn get_pointer_size(&mut self, pointer: Option<usize>) -> Result<u32, Refusal>
-        ensures answer { IsAnswer (noting (get_pointer_size pointer) self.old) result self.new }
+        ensures answer { IsAnswer (unless (pointer_barred pointer self.old) (noting (get_pointer_size pointer))
+            self.old) result self.new }
         ensures host { result ≢ Err Refusal.HostMemory }
     {
+        if let Some(code) = self.pointer_barred(pointer) {
+            return self.refuse(code);
+        }
         let answer = self.bytes_of(pointer);
         self.note(answer)
     }
@@ -59,25 +68,26 @@ impl<S: BlockStore> Heap<S> {
         from: u32,
         bytes: &[u8],
     ) -> Result<(), Refusal>
-        ensures answer { IsAnswer (silent (put_pointer pointer from bytes.now) self.old) result self.new }
+        ensures answer { IsAnswer (unless_silent (pointer_barred pointer self.old)
+            (silent (put_pointer pointer from bytes.now)) self.old) result self.new }
         ensures host { result ≢ Err Refusal.HostMemory }
     {
-        let target = target_of(&self.names, pointer)?;
-        let len = self.store.bytes(target.place).len();
-        if bytes.len() > len || from as usize > len - bytes.len() {
-            return Err(Refusal::Code(OsErr::PROFILE));
+        if let Some(code) = self.pointer_barred(pointer) {
+            return Err(Refusal::Code(code));
         }
-        self.store.write(target.place, from, bytes);
-        Ok(())
+        self.write_pointer(pointer, from, bytes)
     }
 
     /// The bytes of a pointer's block.
     pub fn show_pointer(&self, pointer: Option<usize>) -> Result<&[u8], Refusal>
-        ensures answer { IsShown (silent (show_pointer pointer) self.now) result self.now }
+        ensures answer { IsShown (unless_silent (pointer_barred pointer self.now) (silent (show_pointer pointer))
+            self.now) result self.now }
         ensures host { result ≢ Err Refusal.HostMemory }
     {
-        let target = target_of(&self.names, pointer)?;
-        Ok(self.store.bytes(target.place))
+        if let Some(code) = self.pointer_barred(pointer) {
+            return Err(Refusal::Code(code));
+        }
+        self.pointer_bytes(pointer)
     }
 
     /// A new pointer.
@@ -107,6 +117,34 @@ impl<S: BlockStore> Heap<S> {
         self.store.free_at(target.place);
         self.names[target.number] = Anchor::Disposed;
         Ok(())
+    }
+
+    /// Writes bytes into a pointer's block.
+    fn write_pointer(
+        &mut self,
+        pointer: Option<usize>,
+        from: u32,
+        bytes: &[u8],
+    ) -> Result<(), Refusal>
+        ensures answer { IsAnswer (silent (put_pointer pointer from bytes.now) self.old) result self.new }
+        ensures host { result ≢ Err Refusal.HostMemory }
+    {
+        let target = target_of(&self.names, pointer)?;
+        let len = self.store.bytes(target.place).len();
+        if bytes.len() > len || from as usize > len - bytes.len() {
+            return Err(Refusal::Code(OsErr::PROFILE));
+        }
+        self.store.write(target.place, from, bytes);
+        Ok(())
+    }
+
+    /// The bytes of a pointer's block, busy or not.
+    fn pointer_bytes(&self, pointer: Option<usize>) -> Result<&[u8], Refusal>
+        ensures answer { IsShown (silent (show_pointer pointer) self.now) result self.now }
+        ensures host { result ≢ Err Refusal.HostMemory }
+    {
+        let target = target_of(&self.names, pointer)?;
+        Ok(self.store.bytes(target.place))
     }
 
     /// The size of a pointer's block.

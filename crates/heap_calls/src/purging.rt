@@ -1,16 +1,18 @@
 //! Purging.
 
 ghost use Rattle.std.specs.Prelude.{◌≡◌, ◌≢◌};
+ghost use Rattle.block_store.specs.Block.{free_sum};
 ghost use Rattle.block_store.specs.Compact.{has_room};
 ghost use Rattle.block_store.specs.Sparing.{purged, most_purges};
 ghost use Rattle.block_store.specs.declared.sparing.Sparing.TheVariants.{Nothing};
 ghost use Rattle.heap_calls.specs.Inner.Given.{IsAnswer};
 ghost use Rattle.heap_calls.specs.Answer.{noting, silent, searching, moving};
-ghost use Rattle.heap_calls.specs.Purging.{blocks_purged, purge_mem, purge_space, max_mem};
+ghost use Rattle.heap_calls.specs.Purging.{blocks_purged, purged_all, purge_mem, purge_space, max_mem};
 ghost use Rattle.heap_calls.specs.Moves.{max_mem_moves};
 ghost use Rattle.heap_calls.specs.Searches.{purge_mem_searches};
 
 use crate::compaction::{compact, has_room};
+use crate::growing_in_place::Grown;
 use crate::heap::Heap;
 use crate::least::{Look, least_look, next_goes};
 use crate::refusal::Refusal;
@@ -53,6 +55,14 @@ impl<S: BlockStore> Heap<S> {
         }
     }
 
+    /// The bytes that are Free or may be emptied.
+    pub fn to_be_had(&self) -> u32
+        ensures { result ≡ free_sum (purged_all self.now.heap.zone) }
+    {
+        let purges = purges_for(&self.store, None);
+        self.store.free_after(purges, Sparing::Nothing)
+    }
+
     /// `MaxMem`: empties all blocks that may be, and settles all runs; the most bytes that one block can then
     /// have.
     pub fn max_mem(&mut self) -> u32
@@ -75,11 +85,10 @@ impl<S: BlockStore> Heap<S> {
         let purges = purges_for(&self.store, bytes);
         self.store.purge(purges, Sparing::Nothing);
         let served = has_room(&self.store, bytes, 0);
-        self.log.count(purges + 1);
-        if !served {
-            return Err(Refusal::Code(OsErr::MEM_FULL));
-        }
-        Ok(())
+        self.account(Grown {
+            done: served,
+            searches: purges + 1,
+        })
     }
 }
 

@@ -6,6 +6,7 @@ ghost use Rattle.block_store.specs.Block.{is_relocatable};
 ghost use Rattle.block_store.specs.Find.{FindsLowest};
 ghost use Rattle.block_store.specs.Grow.{grow};
 ghost use Rattle.block_store.specs.Rest.{KeepsSlots, counted};
+ghost use Rattle.heap_calls.specs.Busy.{barred, unless};
 ghost use Rattle.heap_calls.specs.Asked.{packing};
 ghost use Rattle.heap_calls.specs.Inner.Reaching.{sized_reply};
 ghost use Rattle.heap_calls.specs.Inner.GrowingInPlace.{made_zone};
@@ -34,11 +35,14 @@ impl<S: BlockStore> Heap<S> {
     ///
     /// *Inside Macintosh: Memory*, chapter 2, "Changing the Sizes of Relocatable and Nonrelocatable Blocks".
     pub fn set_handle_size(&mut self, handle: Option<usize>, size: u32) -> Result<(), Refusal>
-        ensures answer { IsAnswer (packing (set_handle_size_moves handle size) (set_handle_size_searches handle size)
-            (set_handle_size handle size) self.old) result self.new }
+        ensures answer { IsAnswer (unless (barred handle self.old) (packing (set_handle_size_moves handle size)
+            (set_handle_size_searches handle size) (set_handle_size handle size)) self.old) result self.new }
         ensures host { result ≡ Err Refusal.HostMemory → IsTrue S.TAKES_HOST }
         ensures kept { result ≡ Err Refusal.HostMemory → KeepsNames self.old self.new }
     {
+        if let Some(code) = self.barred(handle) {
+            return self.refuse(code);
+        }
         let answer = self.give_size(handle, size);
         self.note(answer)
     }
@@ -78,7 +82,7 @@ impl<S: BlockStore> Heap<S> {
 }
 
 /// Gives the block of a slot, which stands at a place, another size, if a block can have that.
-fn fit_block<S: BlockStore>(
+pub fn fit_block<S: BlockStore>(
     store: &mut S,
     slot: u32,
     place: u32,
@@ -112,7 +116,7 @@ fn fit_block<S: BlockStore>(
 
 /// Gives the block of a slot, which stands at a place, another size: cuts it where it stands, or lets it grow,
 /// where it stands if it is locked.
-pub fn resize_block<S: BlockStore>(
+fn resize_block<S: BlockStore>(
     store: &mut S,
     slot: u32,
     place: u32,

@@ -46,21 +46,10 @@ within at k xs h =
     ∙ ap (λ n. take 4 (drop k (take n (drop at xs)))) (sym e)
 
 -- the words of a header
-first_word : (a b c d : ℕ) → take 4 (drop 0 (header a b c d)) ≡ word a
+words_of : (a b c d : ℕ) → (take 4 (drop 0 (header a b c d)) ≡ word a) × (take 4 (drop 4 (header a b c d)) ≡ word b)
+    × (take 4 (drop 8 (header a b c d)) ≡ word c) × (take 4 (drop 12 (header a b c d)) ≡ word d)
 unfolding word
-first_word a b c d = refl
-
-second_word : (a b c d : ℕ) → take 4 (drop 4 (header a b c d)) ≡ word b
-unfolding word
-second_word a b c d = refl
-
-third_word : (a b c d : ℕ) → take 4 (drop 8 (header a b c d)) ≡ word c
-unfolding word
-third_word a b c d = refl
-
-fourth_word : (a b c d : ℕ) → take 4 (drop 12 (header a b c d)) ≡ word d
-unfolding word
-fourth_word a b c d = refl
+words_of a b c d = (refl, refl, refl, refl)
 
 module _ (at : ℕ) (h : Header) (xs : List ℕ) (inside : at + 16 ≤ length xs) where
   abbrev a : ℕ
@@ -73,23 +62,29 @@ module _ (at : ℕ) (h : Header) (xs : List ℕ) (inside : at + 16 ≤ length xs
   stands = piece-written at (header_bytes h) xs 16 (sym (length-header a h.logical h.slot h.flags))
       (omega (arith, inside))
 
+  its : (take 4 (drop 0 (header a h.logical h.slot h.flags)) ≡ word a)
+      × (take 4 (drop 4 (header a h.logical h.slot h.flags)) ≡ word h.logical)
+      × (take 4 (drop 8 (header a h.logical h.slot h.flags)) ≡ word h.slot)
+      × (take 4 (drop 12 (header a h.logical h.slot h.flags)) ≡ word h.flags)
+  its = words_of a h.logical h.slot h.flags
+
+  reads : (k x : ℕ) → k + 4 ≤ 16 → take 4 (drop k (header a h.logical h.slot h.flags)) ≡ word x → x < 2 ^ 32
+      → word_at (at + k) after ≡ x
+  reads k x fits there small =
+      read_back (at + k) x after small (within at k after fits ∙ ap (λ l. take 4 (drop k l)) stands ∙ there)
+
   pub first_reads : a < 2 ^ 32 → word_at at after ≡ a
-  first_reads small =
-      let here : at ≡ at + 0 = omega arith in
-      read_back at a after small (ap (λ k. piece k 4 after) here ∙ within at 0 after (omega arith)
-      ∙ ap (λ l. take 4 (drop 0 l)) stands ∙ first_word a h.logical h.slot h.flags)
+  first_reads small = let here : at ≡ at + 0 = omega arith in
+      ap (λ k. word_at k after) here ∙ reads 0 a (omega arith) its.0 small
 
   pub logical_reads : h.logical < 2 ^ 32 → word_at (at + 4) after ≡ h.logical
-  logical_reads small = read_back (at + 4) h.logical after small (within at 4 after (omega arith)
-      ∙ ap (λ l. take 4 (drop 4 l)) stands ∙ second_word a h.logical h.slot h.flags)
+  logical_reads small = reads 4 h.logical (omega arith) its.1 small
 
   pub slot_reads : h.slot < 2 ^ 32 → word_at (at + 8) after ≡ h.slot
-  slot_reads small = read_back (at + 8) h.slot after small (within at 8 after (omega arith)
-      ∙ ap (λ l. take 4 (drop 8 l)) stands ∙ third_word a h.logical h.slot h.flags)
+  slot_reads small = reads 8 h.slot (omega arith) its.2 small
 
   pub flags_read : h.flags < 2 ^ 32 → word_at (at + 12) after ≡ h.flags
-  flags_read small = read_back (at + 12) h.flags after small (within at 12 after (omega arith)
-      ∙ ap (λ l. take 4 (drop 12 l)) stands ∙ fourth_word a h.logical h.slot h.flags)
+  flags_read small = reads 12 h.flags (omega arith) its.3 small
 
 pub tag_low : (t : Tag) → tag_number t < 4
 tag_low Free = omega arith

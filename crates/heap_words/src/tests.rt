@@ -41,43 +41,48 @@ fn slot_again(part: &mut Part, at: u32, slot: SlotWord) -> SlotWord
     read_slot(part, at)
 }
 
+// The four words from a place on.
+fn four_words(part: &Part, at: u32) -> [[u8; 4]; 4]
+    requires multiple { at % 4 ≡ 0 }
+    requires inside { at + HEADER ≤ length part.now.bytes }
+{
+    let at = at as usize;
+    [
+        part.word(at),
+        part.word(at + 4),
+        part.word(at + 8),
+        part.word(at + 12),
+    ]
+}
+
 #[test]
-fn header_of_masters(rt: HostRuntime) -> Result<(), Fail> {
+fn headers(rt: HostRuntime) -> Result<(), Fail> {
     let mut region = Region::new(rt.alloc(), 512)?;
     let mut part = region.cut(0, 512);
-    let header = Header {
+    let masters = Header {
         size: 272,
         tag: Tag::Masters,
         logical: 256,
         slot: 0,
         flags: 0,
     };
-    assert_eq!(rt; header_again(&mut part, 0, header), header);
-    assert_eq!(rt; part.word(0), [0, 0, 1, 0x12]);
-    assert_eq!(rt; part.word(4), [0, 0, 1, 0]);
-    assert_eq!(rt; part.word(8), [0; 4]);
-    assert_eq!(rt; part.word(12), [0; 4]);
-    region.join(part);
-    region.close();
-    Ok(())
-}
-
-#[test]
-fn header_of_three_bytes(rt: HostRuntime) -> Result<(), Fail> {
-    let mut region = Region::new(rt.alloc(), 512)?;
-    let mut part = region.cut(0, 512);
-    let header = Header {
+    assert_eq!(rt; header_again(&mut part, 0, masters), masters);
+    assert_eq!(rt;
+        four_words(&part, 0),
+        [[0, 0, 1, 0x12], [0, 0, 1, 0], [0; 4], [0; 4]]
+    );
+    let three_bytes = Header {
         size: 32,
         tag: Tag::Relocatable,
         logical: 3,
         slot: 16,
         flags: 0,
     };
-    assert_eq!(rt; header_again(&mut part, 272, header), header);
-    assert_eq!(rt; part.word(272), [0, 0, 0, 0x23]);
-    assert_eq!(rt; part.word(276), [0, 0, 0, 3]);
-    assert_eq!(rt; part.word(280), [0, 0, 0, 16]);
-    assert_eq!(rt; part.word(284), [0; 4]);
+    assert_eq!(rt; header_again(&mut part, 272, three_bytes), three_bytes);
+    assert_eq!(rt;
+        four_words(&part, 272),
+        [[0, 0, 0, 0x23], [0, 0, 0, 3], [0, 0, 0, 16], [0; 4]]
+    );
     region.join(part);
     region.close();
     Ok(())
@@ -87,38 +92,20 @@ fn header_of_three_bytes(rt: HostRuntime) -> Result<(), Fail> {
 fn slots(rt: HostRuntime) -> Result<(), Fail> {
     let mut region = Region::new(rt.alloc(), 48)?;
     let mut part = region.cut(0, 48);
-    assert_eq!(rt;
-        slot_again(&mut part, 16, SlotWord::Block(272)),
-        SlotWord::Block(272)
+    let (block, emptied, resource) = (
+        SlotWord::Block(272),
+        SlotWord::Emptied(false),
+        SlotWord::Emptied(true),
     );
-    assert_eq!(rt; part.word(16), [0, 0, 1, 0x10]);
+    assert_eq!(rt; slot_again(&mut part, 16, block), block);
+    assert_eq!(rt; slot_again(&mut part, 20, emptied), emptied);
+    assert_eq!(rt; slot_again(&mut part, 24, resource), resource);
+    let (unused, end) = (SlotWord::Unused(Some(32)), SlotWord::Unused(None));
+    assert_eq!(rt; slot_again(&mut part, 28, unused), unused);
+    assert_eq!(rt; slot_again(&mut part, 32, end), end);
     assert_eq!(rt;
-        slot_again(&mut part, 20, SlotWord::Emptied(false)),
-        SlotWord::Emptied(false)
-    );
-    assert_eq!(rt; part.word(20), [0, 0, 0, 2]);
-    assert_eq!(rt;
-        slot_again(&mut part, 24, SlotWord::Emptied(true)),
-        SlotWord::Emptied(true)
-    );
-    assert_eq!(rt; part.word(24), [0, 0, 0, 18]);
-    region.join(part);
-    region.close();
-    Ok(())
-}
-
-#[test]
-fn unused_slots(rt: HostRuntime) -> Result<(), Fail> {
-    let mut region = Region::new(rt.alloc(), 48)?;
-    let mut part = region.cut(0, 48);
-    assert_eq!(rt;
-        slot_again(&mut part, 28, SlotWord::Unused(Some(32))),
-        SlotWord::Unused(Some(32))
-    );
-    assert_eq!(rt; part.word(28), [0, 0, 2, 1]);
-    assert_eq!(rt;
-        slot_again(&mut part, 32, SlotWord::Unused(None)),
-        SlotWord::Unused(None)
+        four_words(&part, 16),
+        [[0, 0, 1, 0x10], [0, 0, 0, 2], [0, 0, 0, 18], [0, 0, 2, 1]]
     );
     assert_eq!(rt; part.word(32), [0, 0, 0, 1]);
     region.join(part);

@@ -7,6 +7,8 @@ use crate::name::Label;
 pub enum Call {
     /// A call of the Memory Manager.
     Heap(HeapCall),
+    /// A call by which an application says how it is run.
+    Control(ControlCall),
 }
 
 /// A call of the Memory Manager. Sizes and offsets are in bytes.
@@ -87,4 +89,19 @@ pub enum HeapCall {
     ShowPtr(Label),
     /// Tells the offset of a block's content from the partition's start.
     Where(Label),
+}
+
+/// A call by which an application says how it is run: what is done for want of room, and when its turn or its run
+/// ends.
+///
+/// *Inside Macintosh: Memory*, chapter 2, "Memory Manager Routines"; *Inside Macintosh: Processes*, chapter 2,
+/// "Process Manager Routines"; *Inside Macintosh: Macintosh Toolbox Essentials*, chapter 2, "Event Manager Routines".
+#[derive(Debug, Drop)]
+pub enum ControlCall {
+    /// Sets the grow-zone script; the name `none` sets none.
+    SetGrowZone(Label),
+    /// Ends the application's turn.
+    WaitNextEvent,
+    /// Ends the application.
+    ExitToShell,
 }

@@ -10,7 +10,7 @@ mod reply;
 mod size;
 
 pub use attributes::Attrs;
-pub use call::{Call, HeapCall};
+pub use call::{Call, ControlCall, HeapCall};
 pub use code::OsErr;
 pub use name::{FileName, Label, Name, OsType};
 pub use reply::Reply;

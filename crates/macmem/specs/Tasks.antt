@@ -3,7 +3,7 @@ use Rattle.std.specs.Io.KnownBytes.{append_known}
 use Rattle.mac_words.specs.declared.code.OsErr.{OsErr}
 use Rattle.script_text.specs.declared.fault.FaultKind.{FaultKind}
 use Rattle.script_text.specs.declared.fault.FaultKind.TheVariants as kinds
-use Rattle.script_text.specs.Script.{statements_of}
+use Rattle.script_text.specs.Script.{script_of}
 use Rattle.fork_format.specs.declared.fault.ForkFault.{ForkFault}
 use Rattle.fork_format.specs.declared.fault.ForkFault.TheVariants as fork_fault
 use Rattle.fork_format.specs.Code.{read_code}
@@ -42,7 +42,7 @@ fork_message path fault = code_message path (read_code fault)
 -- the fault of a script's text is its first faulty line; where the host's memory ran out nothing is said of the text
 abbrev pub IsScriptFault : List ℕ → List ℕ → Message → Type 0
 IsScriptFault path text HostMemory = Unit {0}
-IsScriptFault path text (Script named line kind) = (named ≡ path) × (statements_of text ≡ Err (line, kind))
+IsScriptFault path text (Script named line kind) = (named ≡ path) × (script_of text ≡ Err (line, kind))
 IsScriptFault path text (Usage message) = ⊥
 IsScriptFault path text (CannotRead named) = ⊥
 IsScriptFault path text (Fork named code) = ⊥

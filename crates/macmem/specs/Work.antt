@@ -1,6 +1,5 @@
-use Rattle.std.specs.Prelude.{◌≡◌, ℕ, Ok, List, map, IsTrue, codes}
-use Rattle.script_text.specs.declared.script.Line.{Line}
-use Rattle.script_text.specs.Script.{statements_of, statement}
+use Rattle.std.specs.Prelude.{◌≡◌, ℕ, Ok, List, IsTrue, codes}
+use Rattle.script_text.specs.Script.{Parts, script_of, spelled}
 use Rattle.desk.specs.Application.{transcript}
 use Rattle.fork_format.specs.Content.{Content}
 use Rattle.fork_format.specs.Fork.{is_fork, content_of}
@@ -9,10 +8,11 @@ use Rattle.macmem.specs.Listing.{listing}
 use Rattle.macmem.specs.declared.work.Form.{Form}
 use Rattle.macmem.specs.declared.work.Form.TheVariants.{Canonical, Accepted}
 
--- a transcript of a script's text in a fresh partition of n bytes: that of the lines which the text spells
+-- a transcript of a script's text in a fresh partition of n bytes: that of the steps and the grow-zone scripts which
+-- the text spells
 abbrev pub IsTranscriptOf : ℕ → List ℕ → List ℕ → Type 0
 IsTranscriptOf n text out =
-    (lines : List Line) × (statements_of text ≡ Ok (map statement lines)) × (out ≡ transcript n lines)
+    (script : Parts) × (script_of text ≡ Ok (spelled script)) × (out ≡ transcript n script)
 
 -- a listing of a fork: that of the content which the bytes spell
 abbrev pub IsListingOf : List ℕ → List ℕ → Type 0

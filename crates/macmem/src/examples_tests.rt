@@ -1,6 +1,6 @@
 //! The examples of README. Each text and each fork here is a copy of the file of `examples/` that it names.
 
-use crate::tests::printed;
+use crate::tests::{clear_copy, fork, printed};
 use std::alloc::Global;
 use std::test::Fail;
 
@@ -106,6 +106,56 @@ const MOVING_TRANSCRIPT: &str = "launch 0 1024
 end 0
 ";
 
+/// `examples/grow_zone.script`
+const GROW_ZONE: &str =
+    "# In 1024 bytes: a cushion is let go when memory runs low, and the call that found no room is saved.
+grow lowMemory
+DisposeHandle reserve
+end
+NewHandle reserve 256
+SetGrowZone lowMemory
+# A letter is opened, and grows. That much is free beside the cushion.
+NewHandle letter 100
+Put letter 0 \"Dear\"
+SetHandleSize letter 200
+FreeMem
+WaitNextEvent
+# A picture needs more than is free: the cushion goes, and the call is tried again.
+NewHandle picture 300
+MemError
+WaitNextEvent
+# The cushion is gone. A sound finds no room now, and what is open stays as it is.
+NewHandle sound 300
+MemError
+GetHandleSize letter
+# The picture is closed, and there is room for a new cushion.
+DisposeHandle picture
+NewHandle reserve 256
+ExitToShell
+";
+
+const GROW_ZONE_TRANSCRIPT: &str = "launch 0 1024
+5 NewHandle 0
+6 SetGrowZone 0
+8 NewHandle 0
+9 Put 0
+10 SetHandleSize 0
+11 FreeMem 0 256
+12 WaitNextEvent 0
++3 DisposeHandle 0
+14 NewHandle 0
+15 MemError 0 0
+16 WaitNextEvent 0
++3 DisposeHandle -111
+18 NewHandle -108
+19 MemError 0 -108
+20 GetHandleSize 0 200
+22 DisposeHandle 0
+23 NewHandle 0
+24 ExitToShell 0
+end 0
+";
+
 /// `examples/kept_pointer.script`
 const KEPT_POINTER: &str =
     "# In 1024 bytes: a pointer that is kept across NewHandle points into another block.
@@ -169,33 +219,30 @@ end 0
 /// `examples/Document.rsrc`: a header, 240 bytes 0, the data of four resources, the header again, and the rest of the
 /// map.
 fn document(alloc: Global) -> Result<Vec<u8>, Fail> {
-    let mut fork = vec![in alloc; 0u8; 256]?;
-    fork[..16].copy_from_slice(b"\x00\x00\x01\x00\x00\x00\x01P\x00\x00\x00P\x00\x00\x00}");
-    fork.extend_from_slice(b"\x00\x00\x00\x06\x05Hello")?;
-    fork.extend_from_slice(b"\x00\x00\x00\x08\x07Goodbye")?;
-    fork.extend_from_slice(b"\x00\x00\x00(Handles move.\x0dPointers to them go stale.")?;
-    fork.extend_from_slice(b"\x00\x00\x00\x0aX\x80\x00\x06\x00\x00\x00\x04\x00\x00")?;
-    fork.extend_from_slice(b"\x00\x00\x01\x00\x00\x00\x01P\x00\x00\x00P\x00\x00\x00}")?;
-    fork.extend_from_slice(b"\x00\x00\x00\x00\x00\x00\x00\x00\x00\x1c\x00f")?;
-    fork.extend_from_slice(b"\x00\x02")?;
-    fork.extend_from_slice(b"STR \x00\x01\x00\x1a")?;
-    fork.extend_from_slice(b"TEXT\x00\x00\x002")?;
-    fork.extend_from_slice(b"SIZE\x00\x00\x00>")?;
-    fork.extend_from_slice(b"\x00\x80\x00\x00 \x00\x00\x00\x00\x00\x00\x00")?;
-    fork.extend_from_slice(b"\x00\x81\xff\xff\x00\x00\x00\x0a\x00\x00\x00\x00")?;
-    fork.extend_from_slice(b"\x00\x80\x00\x09$\x00\x00\x16\x00\x00\x00\x00")?;
-    fork.extend_from_slice(b"\xff\xff\xff\xff\x00\x00\x00B\x00\x00\x00\x00")?;
-    fork.extend_from_slice(b"\x08Greeting")?;
-    fork.extend_from_slice(b"\x0dRead me first")?;
-    Ok(fork)
+    let header = b"\x00\x00\x01\x00\x00\x00\x01P\x00\x00\x00P\x00\x00\x00}";
+    let rest = b"\x00\x00\x00\x06\x05Hello\
+        \x00\x00\x00\x08\x07Goodbye\
+        \x00\x00\x00(Handles move.\x0dPointers to them go stale.\
+        \x00\x00\x00\x0aX\x80\x00\x06\x00\x00\x00\x04\x00\x00\
+        \x00\x00\x01\x00\x00\x00\x01P\x00\x00\x00P\x00\x00\x00}\
+        \x00\x00\x00\x00\x00\x00\x00\x00\x00\x1c\x00f\
+        \x00\x02\
+        STR \x00\x01\x00\x1a\
+        TEXT\x00\x00\x002\
+        SIZE\x00\x00\x00>\
+        \x00\x80\x00\x00 \x00\x00\x00\x00\x00\x00\x00\
+        \x00\x81\xff\xff\x00\x00\x00\x0a\x00\x00\x00\x00\
+        \x00\x80\x00\x09$\x00\x00\x16\x00\x00\x00\x00\
+        \xff\xff\xff\xff\x00\x00\x00B\x00\x00\x00\x00\
+        \x08Greeting\
+        \x0dRead me first";
+    fork(alloc, header, rest)
 }
 
 /// `examples/OtherForm.rsrc`: the same, but with 16 bytes 0 in place of the map's copy of the header.
 fn other_form(alloc: Global) -> Result<Vec<u8>, Fail> {
     let mut fork = document(alloc)?;
-    for byte in fork.iter_mut().skip(336).take(16) {
-        *byte = 0;
-    }
+    clear_copy(&mut fork, 336);
     Ok(fork)
 }
 
@@ -205,6 +252,7 @@ fn runs_the_scripts(rt: HostRuntime) -> Result<(), Fail> {
         (FIRST, FIRST_TRANSCRIPT),
         (COMPACTION, COMPACTION_TRANSCRIPT),
         (MOVING, MOVING_TRANSCRIPT),
+        (GROW_ZONE, GROW_ZONE_TRANSCRIPT),
         (KEPT_POINTER, KEPT_POINTER_TRANSCRIPT),
         (KEPT_POINTER_LOCKED, KEPT_POINTER_LOCKED_TRANSCRIPT),
     ] {

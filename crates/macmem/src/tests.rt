@@ -159,7 +159,13 @@ fn helps(rt: HostRuntime) -> Result<(), Fail> {
         assert!(rt; all.as_str().contains(word), "at {word}");
     }
     let script = told(alloc, &["macmem", "script", "--help"], b"")?;
-    for word in ["<SIZE>", "<SCRIPT>", "512 to 134217728"] {
+    for word in [
+        "<SIZE>",
+        "<SCRIPT>",
+        "512 to 134217728",
+        "behind a '+'",
+        "grow NAME .. end",
+    ] {
         assert!(rt; script.as_str().contains(word), "at {word}");
     }
     for line in CALLS.lines() {
@@ -213,6 +219,11 @@ fn tells_faults_of_scripts(rt: HostRuntime) -> Result<(), Fail> {
         ("# none\n\nFoo\n", "macmem: file: line 3: fault 1"),
         ("FreeMem 1\n", "macmem: file: line 1: fault 2"),
         ("FreeMem\r\n\tShow\t1\r\n", "macmem: file: line 2: fault 2"),
+        (
+            "grow g\nNewHandle a 1\nend\n",
+            "macmem: file: line 2: fault 3",
+        ),
+        ("FreeMem\nSetGrowZone g\n", "macmem: file: line 2: fault 2"),
     ] {
         let text = told(
             alloc,
@@ -351,16 +362,30 @@ fn makes_more_than_64_handles(rt: HostRuntime) -> Result<(), Fail> {
     Ok(())
 }
 
+/// A fork: its header, 240 bytes 0, and the rest.
+pub fn fork(alloc: Global, header: &[u8], rest: &[u8]) -> Result<Vec<u8>, Fail> {
+    let mut fork = Vec::from_slice(alloc, header)?;
+    fork.extend_from_slice(&[0; 240])?;
+    fork.extend_from_slice(rest)?;
+    Ok(fork)
+}
+
+/// Puts 16 bytes 0 in place of the copy of a fork's header that begins its map.
+pub fn clear_copy(fork: &mut Vec<u8>, map: usize) {
+    for byte in fork.iter_mut().skip(map).take(16) {
+        *byte = 0;
+    }
+}
+
 /// The small fork with one text.
 fn small_fork(alloc: Global) -> Result<Vec<u8>, Fail> {
-    let mut fork = vec![in alloc; 0u8; 256]?;
-    fork[..16].copy_from_slice(b"\x00\x00\x01\x00\x00\x00\x01\x06\x00\x00\x00\x06\x00\x00\x00\x32");
-    fork.extend_from_slice(b"\x00\x00\x00\x02Hi")?;
-    fork.extend_from_slice(b"\x00\x00\x01\x00\x00\x00\x01\x06\x00\x00\x00\x06\x00\x00\x00\x32")?;
-    fork.extend_from_slice(b"\x00\x00\x00\x00\x00\x00\x00\x00\x00\x1c\x00\x32")?;
-    fork.extend_from_slice(b"\x00\x00TEXT\x00\x00\x00\x0a")?;
-    fork.extend_from_slice(b"\x00\x80\xff\xff\x00\x00\x00\x00\x00\x00\x00\x00")?;
-    Ok(fork)
+    let header = b"\x00\x00\x01\x00\x00\x00\x01\x06\x00\x00\x00\x06\x00\x00\x00\x32";
+    let rest = b"\x00\x00\x00\x02Hi\
+        \x00\x00\x01\x00\x00\x00\x01\x06\x00\x00\x00\x06\x00\x00\x00\x32\
+        \x00\x00\x00\x00\x00\x00\x00\x00\x00\x1c\x00\x32\
+        \x00\x00TEXT\x00\x00\x00\x0a\
+        \x00\x80\xff\xff\x00\x00\x00\x00\x00\x00\x00\x00";
+    fork(alloc, header, rest)
 }
 
 #[test]
@@ -440,9 +465,7 @@ fn checks_forks(rt: HostRuntime) -> Result<(), Fail> {
     let words: [&str; 3] = ["macmem", "check", "file"];
     let text = printed(alloc, &words, fork.as_slice())?;
     assert_eq!(rt; text.as_slice(), b"canonical\n".as_slice());
-    for byte in fork.iter_mut().skip(262).take(16) {
-        *byte = 0;
-    }
+    clear_copy(&mut fork, 262);
     let text = printed(alloc, &words, fork.as_slice())?;
     assert_eq!(rt; text.as_slice(), b"accepted\n".as_slice());
     Ok(())

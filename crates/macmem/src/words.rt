@@ -46,6 +46,7 @@ prints, where first.script holds the two lines 'NewHandle a 100' and 'FreeMem':
 Names are letters, digits and '_'; sizes, offsets and bytes of flags are decimal; bytes are written as \"Hi\" or $4869.
 A faulty line is told as 'macmem: SCRIPT: line N: fault K': 1 unknown call, 2 bad argument, 3 call not allowed here,
 4 line over 65535 bytes.
+What a grow-zone script does is told before the line of the call that asked for room, each line behind a '+'.
 
 The calls, with their arguments, stand below the options.";
 

@@ -1,7 +1,7 @@
 //! The work of the commands, from the bytes of a file to what is printed of them.
 
 ghost use Rattle.std.specs.Prelude.{◌≡◌, ◌≢◌, ◌↔◌, [], IfOk, IfErr, IsTrue};
-ghost use Rattle.script_text.specs.Script.{statements_of};
+ghost use Rattle.script_text.specs.Script.{script_of};
 ghost use Rattle.script_text.specs.Reading.{FailsAt};
 ghost use Rattle.fork_format.specs.Canonical.{canon, fits};
 ghost use Rattle.fork_format.specs.Fork.{IsUnspelled};
@@ -45,7 +45,7 @@ pub fn transcript_of(
     ensures transcript { IfOk result (λ out. IsTranscriptOf size.bytes text.now out.items) }
 
     // The first faulty line, or no host memory.
-    ensures fault { IfErr result (λ f. FailsAt f.line f.kind (statements_of text.now)) }
+    ensures fault { IfErr result (λ f. FailsAt f.line f.kind (script_of text.now)) }
 {
     let script = read_script(alloc, text)?;
     match run_script(alloc, size.bytes, &script) {

@@ -105,12 +105,46 @@ module _ (r : Inside) (I : IsRegion r) (at len : ℕ) (some : 16 ≤ len)
     middle_at r.home pre g post at len laid (fits none),
   )
 
+-- with other gaps of as many bytes, in the same room, it is still a region
+pub still_region : (r : Inside) → IsRegion r → (gs : List Gap) → IsLaid r.home 0 gs → IsStart gs
+    → length (bytes_of gs) ≡ r.frame.len → (s : Inside) → s.frame ≡ r.frame → s.home ≡ r.home → s.gaps.items ≡ gs
+    → vec_capacity s.gaps ≡ vec_capacity r.gaps → IsRegion s
+still_region r I gs laid first whole s p q e k = record {
+  start = ap (λ f. f.ptr) p ∙ I.start ∙ sym q;
+  placed = subst InBlock (sym q) I.placed;
+  whole = ap (λ x. length (bytes_of x)) e ∙ whole ∙ sym (ap (λ f. f.len) p);
+  small = (let a = ap (λ f. f.len) p in let b = I.small in omega (arith, a, b));
+  laid = subst (λ x. IsLaid s.home 0 x) (sym e) (subst (λ x. IsLaid x 0 gs) (sym q) laid);
+  first = subst IsStart (sym e) first;
+  room = (let b = I.room in omega (arith, k, b));
+}
+
+-- what a window at i makes of r's gaps
+abbrev pub parted : Inside → ℕ → ℕ → ℕ → List Gap
+parted r at len i =
+    let g = get_or r.gaps.items i none in
+    take i r.gaps.items ++ front at g ∷ back at len g ∷ drop (i + 1) r.gaps.items
+
+-- a window of r, which is seen as w, can be taken from the bytes after the i-th gap, and this is what is then there
+pub record Parts (r : Inside) (w : Whole) (at len i : ℕ) : Type 0 where
+  pub there : i < vec_len r.gaps
+  pub room : vec_len r.gaps < vec_capacity r.gaps
+  pub fits : (d : Gap) → Fits at len (get_or r.gaps.items i d)
+  pub bytes : bytes_of (parted r at len i) ≡ written at (replicate len 0) w.bytes
+  pub long : length (bytes_of (parted r at len i)) ≡ length w.bytes
+  pub out : windows_of (parted r at len i) ≡ with_window at len w.out
+  pub region : (s : Inside) → s.frame ≡ r.frame → s.home ≡ r.home → s.gaps.items ≡ parted r at len i
+      → vec_capacity s.gaps ≡ vec_capacity r.gaps → IsRegion s
+  pub run : (run : Run) → run ≡ middle at len (get_or r.gaps.items i none)
+      → (run.home ≡ w.home) × (run.at ≡ at) × (run.items ≡ take len (drop at w.bytes))
+  pub run_long : length (take len (drop at w.bytes)) ≡ len
+
 -- the same, from what `cut` has at hand
 module _ (r : Inside) (I : IsRegion r) (w : Whole) (v : region_view r ≡ w) (at len : ℕ) (some : 16 ≤ len)
-    (inside : at + len ≤ length w.bytes) (away : IsApart at len w.out) (l : List Gap) (same : l ≡ r.gaps.items) (n : ℕ)
-    (counts : n ≡ 1 + prefix_len (gap_ends_by at) (drop 1 l)) where
-  there : n - 1 ≡ prefix_len (gap_ends_by at) (drop 1 r.gaps.items)
-  there = let f = ap (λ gs. prefix_len (gap_ends_by at) (drop 1 gs)) same in omega (arith, counts, f)
+    (inside : at + len ≤ length w.bytes) (away : IsApart at len w.out) (few : length w.out < 64) (l : List Gap)
+    (same : l ≡ r.gaps.items) (n : ℕ) (counts : n ≡ 1 + prefix_len (gap_ends_by at) (drop 1 l)) where
+  place : n - 1 ≡ prefix_len (gap_ends_by at) (drop 1 r.gaps.items)
+  place = let f = ap (λ gs. prefix_len (gap_ends_by at) (drop 1 gs)) same in omega (arith, counts, f)
 
   fills : at + len ≤ length (bytes_of r.gaps.items)
   fills = let e = ap (λ z. length z.bytes) v in omega (arith, e, inside)
@@ -118,51 +152,28 @@ module _ (r : Inside) (I : IsRegion r) (w : Whole) (v : region_view r ≡ w) (at
   clear : IsApart at len (windows_of r.gaps.items)
   clear = subst (λ z. IsApart at len z.out) (sym v) away
 
-  abbrev h : Gap
-  h = get_or r.gaps.items (n - 1) none
+  space : (n - 1 < vec_len r.gaps) × (vec_len r.gaps < vec_capacity r.gaps)
+  space = let e = ap (λ z. length z.out) v in
+      room_left r I at len some fills clear (n - 1) place (omega (arith, e, few))
 
-  abbrev made : List Gap
-  made = take (n - 1) r.gaps.items ++ front at h ∷ back at len h ∷ drop (n - 1 + 1) r.gaps.items
+  whole : length (bytes_of (parted r at len (n - 1))) ≡ r.frame.len
+  whole = cut_whole r I at len some fills clear (n - 1) place
 
-  pub can_open : length w.out < 64 → (n - 1 < vec_len r.gaps) × (vec_len r.gaps < vec_capacity r.gaps)
-  can_open few = let e = ap (λ z. length z.out) v in
-      room_left r I at len some fills clear (n - 1) there (omega (arith, e, few))
-
-  pub open_fits : (d : Gap) → Fits at len (get_or r.gaps.items (n - 1) d)
-  open_fits d = fits r I at len some fills clear (n - 1) there d
-
-  pub then_bytes : bytes_of made ≡ written at (replicate len 0) w.bytes
-  then_bytes = cut_bytes r I at len some fills clear (n - 1) there ∙ ap (λ z. written at (replicate len 0) z.bytes) v
-
-  pub then_length : length (bytes_of made) ≡ length w.bytes
-  then_length = cut_whole r I at len some fills clear (n - 1) there ∙ sym I.whole ∙ ap (λ z. length z.bytes) v
-
-  pub then_out : windows_of made ≡ with_window at len w.out
-  then_out = cut_windows r I at len some fills clear (n - 1) there ∙ ap (λ z. with_window at len z.out) v
-
-  pub then_region : (s : Inside) → s.frame ≡ r.frame → s.home ≡ r.home → s.gaps.items ≡ made
-      → vec_capacity s.gaps ≡ vec_capacity r.gaps → IsRegion s
-  then_region s p q e k = record {
-    start = ap (λ f. f.ptr) p ∙ I.start ∙ sym q;
-    placed = subst InBlock (sym q) I.placed;
-    whole = ap (λ x. length (bytes_of x)) e ∙ cut_whole r I at len some fills clear (n - 1) there
-        ∙ sym (ap (λ f. f.len) p);
-    small = (let a = ap (λ f. f.len) p in let b = I.small in omega (arith, a, b));
-    laid = subst (λ x. IsLaid s.home 0 x) (sym e)
-        (subst (λ x. IsLaid x 0 made) (sym q) (cut_laid r I at len some fills clear (n - 1) there));
-    first = subst IsStart (sym e) (cut_first r I at len some fills clear (n - 1) there);
-    room = (let b = I.room in omega (arith, k, b));
+  pub parts : Parts r w at len (n - 1)
+  parts = record {
+    there = space.0;
+    room = space.1;
+    fits = fits r I at len some fills clear (n - 1) place;
+    bytes = cut_bytes r I at len some fills clear (n - 1) place ∙ ap (λ z. written at (replicate len 0) z.bytes) v;
+    long = whole ∙ sym I.whole ∙ ap (λ z. length z.bytes) v;
+    out = cut_windows r I at len some fills clear (n - 1) place ∙ ap (λ z. with_window at len z.out) v;
+    region = still_region r I (parted r at len (n - 1)) (cut_laid r I at len some fills clear (n - 1) place)
+        (cut_first r I at len some fills clear (n - 1) place) whole;
+    run = (λ run is. let m = middle_place r I at len some fills clear (n - 1) place in (
+      ap (λ z. z.home) is ∙ m.0 ∙ ap (λ z. z.home) v,
+      ap (λ z. z.at) is ∙ m.1,
+      ap (λ z. z.items) is
+          ∙ middle_is r I at len some fills clear (n - 1) place ∙ ap (λ z. take len (drop at z.bytes)) v,
+    ));
+    run_long = (let d = length-drop at w.bytes in length-take-le len (drop at w.bytes) (omega (arith, d, inside)));
   }
-
-  pub then_run : (run : Run) → run ≡ middle at len h
-      → (run.home ≡ w.home) × (run.at ≡ at) × (run.items ≡ take len (drop at w.bytes))
-  then_run run is =
-      let m = middle_place r I at len some fills clear (n - 1) there in (
-        ap (λ z. z.home) is ∙ m.0 ∙ ap (λ z. z.home) v,
-        ap (λ z. z.at) is ∙ m.1,
-        ap (λ z. z.items) is
-            ∙ middle_is r I at len some fills clear (n - 1) there ∙ ap (λ z. take len (drop at z.bytes)) v,
-      )
-
-  pub taken_long : length (take len (drop at w.bytes)) ≡ len
-  taken_long = let d = length-drop at w.bytes in length-take-le len (drop at w.bytes) (omega (arith, d, inside))

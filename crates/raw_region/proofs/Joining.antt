@@ -3,7 +3,6 @@ use Rattle.std.proofs.Common.{◌≡◌, ℕ, ◌+◌, ◌-◌, ◌<◌, List, [
 use Rattle.std.proofs.Common.{◌∙◌, subst, arith, zero, suc, vec_len, vec_capacity}
 use Rattle.std.proofs.lemmas.List.{length-drop, drop_more, get_or-drop, get_or_default}
 use Rattle.std.specs.List.{position_or_len, remove, Contains}
-use denote.RawPtr.{InBlock}
 use Rattle.raw_region.specs.Memory.{Whole, Bytes}
 use Rattle.windows.specs.Windows.{window, without_window}
 use Rattle.windows.specs.Writes.{written}
@@ -14,7 +13,24 @@ use Rattle.raw_region.specs.declared.raw.Run.{Run}
 use Rattle.raw_region.specs.declared.gaps.Gap.{Gap}
 use Rattle.raw_region.proofs.GapBytes.{round, is_beside, shut_bytes, shut_length, shut_laid}
 use Rattle.raw_region.proofs.GapWindows.{prefix_len-map, shut_windows, found, is_out}
-use Rattle.raw_region.proofs.Cutting.{none}
+use Rattle.raw_region.proofs.Cutting.{none, still_region}
+
+-- what a run put back at n makes of r's gaps
+abbrev pub healed : Inside → Run → ℕ → List Gap
+healed r run n =
+    take (n - 1) r.gaps.items ++ joined (get_or r.gaps.items (n - 1) none) run (get_or r.gaps.items n none)
+    ∷ drop (n + 1) r.gaps.items
+
+-- the run of p can be put back for the n-th gap of r, which is seen as w, and this is what is then there
+pub record Joins (r : Inside) (w : Whole) (p : Bytes) (run : Run) (n : ℕ) : Type 0 where
+  pub not_start : 0 < n
+  pub there : n < vec_len r.gaps
+  pub beside : (d : Gap) → Beside (get_or r.gaps.items (n - 1) d) run (get_or r.gaps.items n d)
+  pub bytes : bytes_of (healed r run n) ≡ written p.at p.bytes w.bytes
+  pub long : length (bytes_of (healed r run n)) ≡ length w.bytes
+  pub out : windows_of (healed r run n) ≡ without_window p.at (length p.bytes) w.out
+  pub region : (s : Inside) → s.frame ≡ r.frame → s.home ≡ r.home → s.gaps.items ≡ healed r run n
+      → vec_capacity s.gaps ≡ vec_capacity r.gaps → IsRegion s
 
 module _ (r : Inside) (I : IsRegion r) (w : Whole) (v : region_view r ≡ w) (p : Bytes) (home : p.home ≡ w.home)
     (out : Contains w.out (window p.at (length p.bytes)))
@@ -39,8 +55,8 @@ module _ (r : Inside) (I : IsRegion r) (w : Whole) (v : region_view r ≡ w) (p 
   inside : n < length gs
   inside = let b = below in let c = count in let d = length-drop 1 gs in omega (arith, b, c, d)
 
-  pub can_shut : (0 < n) × (n < vec_len r.gaps)
-  can_shut = let c = count in let i = inside in let o = r.gaps.ok.0 in (omega (arith, c), omega (arith, i, o))
+  behind_start : 0 < n
+  behind_start = let c = count in omega (arith, c)
 
   abbrev a : Gap
   a = get_or gs (n - 1) none
@@ -53,9 +69,6 @@ module _ (r : Inside) (I : IsRegion r) (w : Whole) (v : region_view r ≡ w) (p 
 
   abbrev post : List Gap
   post = drop (n + 1) gs
-
-  abbrev made : List Gap
-  made = pre ++ joined a run b ∷ post
 
   whole_is : gs ≡ pre ++ a ∷ b ∷ post
   whole_is =
@@ -82,24 +95,24 @@ module _ (r : Inside) (I : IsRegion r) (w : Whole) (v : region_view r ≡ w) (p 
   beside_it : Beside a run b
   beside_it = is_beside r.home pre a run b post laid long here (ra ∙ sym b_is.0)
 
-  pub can_glue : (d : Gap) → Beside (get_or gs (n - 1) d) run (get_or gs n d)
-  can_glue d =
+  glue : (d : Gap) → Beside (get_or gs (n - 1) d) run (get_or gs n d)
+  glue d =
       let i = inside in
       subst (λ g. Beside g run (get_or gs n d)) (get_or_default gs (n - 1) none d (omega (arith, i)))
       (subst (λ g. Beside a run g) (get_or_default gs n none d i) beside_it)
 
-  pub then_bytes : bytes_of made ≡ written p.at p.bytes w.bytes
-  then_bytes =
+  new_bytes : bytes_of (healed r run n) ≡ written p.at p.bytes w.bytes
+  new_bytes =
       let back : pre ++ a ∷ b ∷ post ≡ gs = sym whole_is in
       shut_bytes r.home pre a run b post laid long ∙ (λ j. written (b_is.0 j) (ri j) (bytes_of (back j)))
       ∙ ap (λ z. written p.at p.bytes z.bytes) v
 
-  pub then_length : length (bytes_of made) ≡ length w.bytes
-  then_length = shut_length r.home pre a run b post laid long ∙ ap (λ y. length (bytes_of y)) (sym whole_is)
+  new_length : length (bytes_of (healed r run n)) ≡ length w.bytes
+  new_length = shut_length r.home pre a run b post laid long ∙ ap (λ y. length (bytes_of y)) (sym whole_is)
       ∙ ap (λ z. length z.bytes) v
 
-  pub then_out : windows_of made ≡ without_window p.at len w.out
-  then_out =
+  new_out : windows_of (healed r run n) ≡ without_window p.at len w.out
+  new_out =
       let c = count in let i = inside in
       let e : n ≡ n - 1 + 1 = omega (arith, c) in
       let f : n - 1 ≡ k = omega (arith, c) in
@@ -125,16 +138,15 @@ module _ (r : Inside) (I : IsRegion r) (w : Whole) (v : region_view r ≡ w) (p 
           IsStart (take z (x ∷ gs) ++ joined (get_or (x ∷ gs) z d) run (get_or (x ∷ gs) m d) ∷ drop (m + 1) (x ∷ gs)))
           (sym e) s
 
-  pub then_region : (s : Inside) → s.frame ≡ r.frame → s.home ≡ r.home → s.gaps.items ≡ made
-      → vec_capacity s.gaps ≡ vec_capacity r.gaps → IsRegion s
-  then_region s e q x c = record {
-    start = ap (λ f. f.ptr) e ∙ I.start ∙ sym q;
-    placed = subst InBlock (sym q) I.placed;
-    whole = ap (λ y. length (bytes_of y)) x ∙ shut_length r.home pre a run b post laid long
-        ∙ ap (λ y. length (bytes_of y)) (sym whole_is) ∙ I.whole ∙ sym (ap (λ f. f.len) e);
-    small = (let f = ap (λ f. f.len) e in let g = I.small in omega (arith, f, g));
-    laid = subst (λ y. IsLaid s.home 0 y) (sym x)
-        (subst (λ y. IsLaid y 0 made) (sym q) (shut_laid r.home pre a run b post laid long));
-    first = subst IsStart (sym x) (starts gs n none can_shut.0 I.first);
-    room = (let g = I.room in omega (arith, c, g));
+  pub joins : Joins r w p run n
+  joins = record {
+    not_start = behind_start;
+    there = (let i = inside in let o = r.gaps.ok.0 in omega (arith, i, o));
+    beside = glue;
+    bytes = new_bytes;
+    long = new_length;
+    out = new_out;
+    region = still_region r I (healed r run n) (shut_laid r.home pre a run b post laid long)
+        (starts gs n none behind_start I.first)
+        (shut_length r.home pre a run b post laid long ∙ ap (λ y. length (bytes_of y)) (sym whole_is) ∙ I.whole);
   }

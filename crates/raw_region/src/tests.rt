@@ -1,5 +1,7 @@
 //! Parts that are cut, written, moved and joined.
 ghost use Rattle.std.specs.Prelude.{◌≡◌, ◌%◌, ◌≤◌, [], ◌∷◌, length, IfOk};
+ghost use Rattle.std.specs.List.{Contains};
+ghost use Rattle.windows.specs.Windows.{window, without_window};
 ghost use Rattle.raw_region.specs.Tests.{AreThree};
 
 use super::{MOST_BYTES, Part, Region, UNIT};
@@ -33,63 +35,42 @@ fn ends(mut region: Region) -> [u8; 3]
     ends
 }
 
-#[test]
-fn first_second_third(rt: HostRuntime) -> Result<(), Fail> {
-    let (mut region, a, b, c) = three(rt.alloc())?;
-    region.join(a);
-    region.join(b);
-    region.join(c);
-    assert_eq!(rt; ends(region), [1, 2, 3]);
-    Ok(())
+// The three bytes, once the parts are joined in this order.
+fn joined(mut region: Region, first: Part, second: Part, third: Part) -> [u8; 3]
+    requires size { length region.bytes ≡ 48 }
+    requires homes { (first.home ≡ region.home) × (second.home ≡ region.home) × (third.home ≡ region.home) }
+    requires first { Contains region.out (window first.at (length first.bytes)) }
+    requires second { Contains (without_window first.at (length first.bytes) region.out)
+        (window second.at (length second.bytes)) }
+    requires third { Contains (without_window second.at (length second.bytes)
+        (without_window first.at (length first.bytes) region.out)) (window third.at (length third.bytes)) }
+    requires all { without_window third.at (length third.bytes) (without_window second.at (length second.bytes)
+        (without_window first.at (length first.bytes) region.out)) ≡ [] }
+{
+    region.join(first);
+    region.join(second);
+    region.join(third);
+    ends(region)
+}
+
+// The three bytes, once the parts are joined in the order of these letters.
+fn joined_in(alloc: Global, order: &str) -> Result<[u8; 3], AllocError> {
+    let (region, a, b, c) = three(alloc)?;
+    Ok(match order {
+        "acb" => joined(region, a, c, b),
+        "bac" => joined(region, b, a, c),
+        "bca" => joined(region, b, c, a),
+        "cab" => joined(region, c, a, b),
+        "cba" => joined(region, c, b, a),
+        _ => joined(region, a, b, c),
+    })
 }
 
 #[test]
-fn first_third_second(rt: HostRuntime) -> Result<(), Fail> {
-    let (mut region, a, b, c) = three(rt.alloc())?;
-    region.join(a);
-    region.join(c);
-    region.join(b);
-    assert_eq!(rt; ends(region), [1, 2, 3]);
-    Ok(())
-}
-
-#[test]
-fn second_first_third(rt: HostRuntime) -> Result<(), Fail> {
-    let (mut region, a, b, c) = three(rt.alloc())?;
-    region.join(b);
-    region.join(a);
-    region.join(c);
-    assert_eq!(rt; ends(region), [1, 2, 3]);
-    Ok(())
-}
-
-#[test]
-fn second_third_first(rt: HostRuntime) -> Result<(), Fail> {
-    let (mut region, a, b, c) = three(rt.alloc())?;
-    region.join(b);
-    region.join(c);
-    region.join(a);
-    assert_eq!(rt; ends(region), [1, 2, 3]);
-    Ok(())
-}
-
-#[test]
-fn third_first_second(rt: HostRuntime) -> Result<(), Fail> {
-    let (mut region, a, b, c) = three(rt.alloc())?;
-    region.join(c);
-    region.join(a);
-    region.join(b);
-    assert_eq!(rt; ends(region), [1, 2, 3]);
-    Ok(())
-}
-
-#[test]
-fn third_second_first(rt: HostRuntime) -> Result<(), Fail> {
-    let (mut region, a, b, c) = three(rt.alloc())?;
-    region.join(c);
-    region.join(b);
-    region.join(a);
-    assert_eq!(rt; ends(region), [1, 2, 3]);
+fn parts_come_home_in_any_order(rt: HostRuntime) -> Result<(), Fail> {
+    for order in ["abc", "acb", "bac", "bca", "cab", "cba"] {
+        assert_eq!(rt; joined_in(rt.alloc(), order)?, [1, 2, 3], "in {order}");
+    }
     Ok(())
 }
 
@@ -105,15 +86,20 @@ fn marked(part: &mut Part)
     part.put_word(32, [3; 4]);
 }
 
+// The words at the places that `marked` writes.
+fn marks(part: &Part) -> [[u8; 4]; 3]
+    requires { length part.now.bytes ≡ 48 }
+{
+    [part.word(0), part.word(16), part.word(32)]
+}
+
 #[test]
 fn slides_up(rt: HostRuntime) -> Result<(), Fail> {
     let mut region = Region::new(rt.alloc(), 48)?;
     let mut part = region.cut(0, 48);
     marked(&mut part);
     part.slide(0, 16, 32);
-    assert_eq!(rt; part.word(0), [1; 4]);
-    assert_eq!(rt; part.word(16), [1; 4]);
-    assert_eq!(rt; part.word(32), [2; 4]);
+    assert_eq!(rt; marks(&part), [[1; 4], [1; 4], [2; 4]]);
     region.join(part);
     region.close();
     Ok(())
@@ -125,12 +111,9 @@ fn slides_down(rt: HostRuntime) -> Result<(), Fail> {
     let mut part = region.cut(0, 48);
     marked(&mut part);
     part.slide(16, 0, 32);
-    assert_eq!(rt; part.word(0), [2; 4]);
-    assert_eq!(rt; part.word(16), [3; 4]);
-    assert_eq!(rt; part.word(32), [3; 4]);
+    assert_eq!(rt; marks(&part), [[2; 4], [3; 4], [3; 4]]);
     part.rotate(0, 48, 32);
-    assert_eq!(rt; part.word(0), [3; 4]);
-    assert_eq!(rt; part.word(16), [2; 4]);
+    assert_eq!(rt; marks(&part), [[3; 4], [2; 4], [3; 4]]);
     region.join(part);
     region.close();
     Ok(())

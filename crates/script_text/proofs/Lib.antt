@@ -1,4 +1,6 @@
 mod Digits
 mod Cutting
+pub mod Naming
 mod Shown
 mod Rows
+mod BlockRows

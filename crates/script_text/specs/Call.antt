@@ -1,6 +1,8 @@
-use Rattle.std.specs.Prelude.{ℕ, bytes_eq, Option, Result, Ok, List, [], ◌∷◌, codes, find}
+use Rattle.std.specs.Prelude.{ℕ, Bool, true, false, bytes_eq, Option, Result, Ok, List, [], ◌∷◌, codes, find}
 use Rattle.mac_words.specs.declared.call.Call.{Call}
 use Rattle.mac_words.specs.declared.call.Call.TheVariants as call
+use Rattle.mac_words.specs.declared.call.ControlCall.{ControlCall}
+use Rattle.mac_words.specs.declared.call.ControlCall.TheVariants as control
 use Rattle.mac_words.specs.declared.call.HeapCall.{HeapCall}
 use Rattle.mac_words.specs.declared.call.HeapCall.TheVariants as heap
 use Rattle.script_text.specs.declared.fault.FaultKind.{FaultKind}
@@ -43,11 +45,14 @@ row word.MaxMem = (codes "MaxMem", [])
 row word.ReserveMem = (codes "ReserveMem", Size ∷ [])
 row word.MoreMasters = (codes "MoreMasters", [])
 row word.MemError = (codes "MemError", [])
+row word.SetGrowZone = (codes "SetGrowZone", Label ∷ [])
 row word.Put = (codes "Put", Label ∷ Size ∷ Bytes ∷ [])
 row word.Show = (codes "Show", Label ∷ [])
 row word.PutPtr = (codes "PutPtr", Label ∷ Size ∷ Bytes ∷ [])
 row word.ShowPtr = (codes "ShowPtr", Label ∷ [])
 row word.Where = (codes "Where", Label ∷ [])
+row word.WaitNextEvent = (codes "WaitNextEvent", [])
+row word.ExitToShell = (codes "ExitToShell", [])
 
 -- how a call is spelled
 abbrev pub spelling : Word → List ℕ
@@ -96,13 +101,34 @@ heap_spoken (heap.PutPtr p offset bytes) = (word.PutPtr, Letters p.0.items ∷ N
 heap_spoken (heap.ShowPtr p) = (word.ShowPtr, Letters p.0.items ∷ [])
 heap_spoken (heap.Where name) = (word.Where, Letters name.0.items ∷ [])
 
+-- a call by which an application says how it is run, as its word and what its arguments say
+abbrev pub control_spoken : ControlCall → Word × List Value
+control_spoken (control.SetGrowZone name) = (word.SetGrowZone, Letters name.0.items ∷ [])
+control_spoken control.WaitNextEvent = (word.WaitNextEvent, [])
+control_spoken control.ExitToShell = (word.ExitToShell, [])
+
 -- a call as its word and what its arguments say
 abbrev pub spoken : Call → Word × List Value
 spoken (call.Heap c) = heap_spoken c
+spoken (call.Control c) = control_spoken c
 
 -- the word of a call
 abbrev pub word_of : Call → Word
 word_of c = (spoken c).0
+
+-- the words of the calls that a grow-zone script may hold
+abbrev pub may_stand : Word → Bool
+may_stand word.EmptyHandle = true
+may_stand word.DisposeHandle = true
+may_stand word.DisposePtr = true
+may_stand word.HPurge = true
+may_stand word.HNoPurge = true
+may_stand word.HUnlock = true
+may_stand _ = false
+
+-- the calls that a grow-zone script may hold
+abbrev pub is_allowed : Call → Bool
+is_allowed c = may_stand (word_of c)
 
 -- the word that is spelled so
 unfoldable pub word_spelled : List ℕ → Option Word

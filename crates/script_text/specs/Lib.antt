@@ -4,4 +4,5 @@ pub mod Token
 pub mod Argument
 pub mod Call
 pub mod Script
+pub mod Inner
 pub mod Transcript

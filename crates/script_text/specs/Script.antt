@@ -1,52 +1,135 @@
-use Rattle.std.specs.Prelude.{ℕ, ◌+◌, ◌==◌, nat_lt, Result, Ok, Err, List, [], ◌∷◌, ◌++◌, length, take, drop}
-use Rattle.std.specs.Prelude.{if◌then◌else◌}
-use Rattle.std.specs.Option.{ok_or}
+use Rattle.std.specs.Prelude.{◌≡◌, ℕ, ◌+◌, ◌==◌, nat_lt, Bool, false, ◌&&◌, ◌||◌, not, IsTrue, bytes_eq, codes, Option}
+use Rattle.std.specs.Prelude.{Some, None, is_some, Result, Ok, Err, List, [], ◌∷◌, ◌++◌, map, length, take, drop, find}
+use Rattle.std.specs.Prelude.{unwrap_or, if◌then◌else◌}
+use Rattle.std.specs.List.{list_all}
+use Rattle.std.specs.Map.{lookup}
+use Rattle.std.specs.Option.{ok_or, option_map, option_or}
 use Rattle.std.specs.Str.Lines.{lines}
+use Rattle.mac_words.specs.declared.call.Call.{Call}
 use Rattle.script_text.specs.declared.fault.FaultKind.{FaultKind}
-use Rattle.script_text.specs.declared.fault.FaultKind.TheVariants.{UnknownCall, LongLine}
+use Rattle.script_text.specs.declared.fault.FaultKind.TheVariants.{UnknownCall, BadArgument, NotAllowed, LongLine}
+use Rattle.script_text.specs.declared.script.Begun as declared
 use Rattle.script_text.specs.declared.script.Line.{Line}
-use Rattle.script_text.specs.declared.script.Said as declared
-use Rattle.script_text.specs.declared.script.Said.TheVariants as said
 use Rattle.script_text.specs.declared.word.Word.{Word}
+use Rattle.script_text.specs.declared.word.Word.TheVariants as word
 use Rattle.script_text.specs.Reading.{◌>>=◌}
 use Rattle.script_text.specs.Token.{place, is_blank, after_blanks}
-use Rattle.script_text.specs.Argument.{Value}
-use Rattle.script_text.specs.Call.{spoken, word_spelled, call_read}
+use Rattle.script_text.specs.Argument.{Label, Value, Letters, arguments}
+use Rattle.script_text.specs.Call.{spoken, may_stand, is_allowed, word_spelled, call_read}
+
+-- A script that was read.
+
+-- its steps, and its grow-zone scripts in the order of their `end` lines, each with its name and its lines
+pub record Parts : Type 0 where
+  pub steps : List Line
+  pub blocks : List (List ℕ × List Line)
+
+-- whether there is a grow-zone script of this name
+abbrev pub has_block : {X : Type 0} → List ℕ → List (List ℕ × X) → Bool
+has_block name blocks = is_some (lookup (bytes_eq name) blocks)
+
+-- the lines of the grow-zone script of this name; none where there is no such script
+abbrev pub block_of : List ℕ → List (List ℕ × List Line) → List Line
+block_of name blocks = unwrap_or (lookup (bytes_eq name) blocks) []
+
+-- lines of which each holds a call that is allowed in a grow-zone script
+abbrev pub are_allowed : List Line → Bool
+are_allowed lines = list_all (λ l. is_allowed l.call) lines
+
+-- grow-zone scripts that hold none but the calls that are allowed there
+abbrev pub AllAllowed : List (List ℕ × List Line) → Type 0
+AllAllowed blocks = IsTrue (list_all (λ block. are_allowed block.1) blocks)
+
+-- grow-zone scripts of which none is named `none`
+abbrev pub NoneIsUnused : List (List ℕ × List Line) → Type 0
+NoneIsUnused blocks = has_block (codes "none") blocks ≡ false
+
+-- What a text says.
 
 -- what a line says
 pub data Said : Type 0 where
   Makes : (word : Word) → (values : List Value) → Said
 
--- a line that isn't skipped: its number, from 1, and what it says
+-- a line that holds a call: its number, from 1, and what it says
 pub record Statement : Type 0 where
   pub line : ℕ
   pub said : Said
 
--- what the lines so far said
-pub record Above : Type 0 where
+-- what a whole text says: its steps, and its grow-zone scripts by name
+pub record Spelled : Type 0 where
+  pub steps : List Statement
+  pub blocks : List (List ℕ × List Statement)
+
+-- a grow-zone script whose `end` is still to come: the line of its `grow`, its name, and its lines so far
+pub record Begun : Type 0 where
+  pub line : ℕ
+  pub name : List ℕ
   pub statements : List Statement
 
--- what a known call says, with the text behind it
-abbrev pub word_says : Word → List ℕ → Result Said FaultKind
-word_says word rest = call_read word rest >>= λ call. Ok (Makes call.0 call.1)
+-- what the lines so far said
+pub record Above : Type 0 where
+  pub steps : List Statement
+  pub blocks : List (List ℕ × List Statement)
+  pub begun : Option Begun
 
--- what a token says, with the text behind it
-unfoldable pub token_says : Above → List ℕ → List ℕ → Result Said FaultKind
-token_says above token rest = ok_or (word_spelled token) UnknownCall >>= λ word. word_says word rest
+-- a statement is a step, or stands in the grow-zone script whose `end` is still to come
+abbrev pub with_statement : Statement → Above → Option Begun → Above
+with_statement s above None = record { steps = above.steps ++ s ∷ []; blocks = above.blocks; begun = None }
+with_statement s above (Some b) = record {
+  steps = above.steps;
+  blocks = above.blocks;
+  begun = Some (record { line = b.line; name = b.name; statements = b.statements ++ s ∷ [] });
+}
 
--- the lines with one more
-abbrev pub with_line : ℕ → Above → Said → Above
-with_line n above said = record { statements = above.statements ++ record { line = n; said = said } ∷ [] }
+-- a known call at the n-th line, with the text behind it: a grow-zone script holds only some calls
+abbrev pub call_at : ℕ → Above → Word → List ℕ → Result Above FaultKind
+call_at n above word rest =
+    if is_some above.begun && not (may_stand word) then Err NotAllowed
+    else (call_read word rest >>= λ call.
+    Ok (with_statement (record { line = n; said = Makes call.0 call.1 }) above above.begun))
 
--- the lines with one more, whose first word ends at a place
-abbrev pub with_word : ℕ → Above → ℕ → List ℕ → Result Above FaultKind
-with_word n above end text = token_says above (take end text) (drop end text) >>= λ said. Ok (with_line n above said)
+-- whether a name may be that of a new grow-zone script: it isn't `none`, and isn't used
+abbrev pub is_new : {X : Type 0} → List ℕ → List (List ℕ × X) → Bool
+is_new name blocks = not (bytes_eq name (codes "none")) && not (has_block name blocks)
 
--- the lines with what stands behind the blanks of one more; nothing and a comment are skipped
+-- a grow-zone script of a new name begins at the n-th line
+abbrev pub begin_at : ℕ → Above → List Value → Result Above FaultKind
+begin_at n above (Letters name ∷ []) =
+    if is_new name above.blocks then Ok (record {
+      steps = above.steps;
+      blocks = above.blocks;
+      begun = Some (record { line = n; name = name; statements = [] });
+    })
+    else Err BadArgument
+begin_at n above _ = Err BadArgument
+
+-- `grow` at the n-th line, with the text behind it: not in a grow-zone script
+abbrev pub grow_at : ℕ → Above → List ℕ → Result Above FaultKind
+grow_at n above rest =
+    if is_some above.begun then Err NotAllowed else (arguments (Label ∷ []) rest >>= begin_at n above)
+
+-- `end`, with the text behind it: outside a grow-zone script it is no call
+abbrev pub end_at : Above → Option Begun → List ℕ → Result Above FaultKind
+end_at above None rest = Err UnknownCall
+end_at above (Some b) rest = arguments [] rest >>= λ _. Ok (record {
+  steps = above.steps;
+  blocks = above.blocks ++ (b.name, b.statements) ∷ [];
+  begun = None;
+})
+
+-- the lines with the n-th, that begins with a token and goes on with a text
+unfoldable pub with_token : ℕ → Above → List ℕ → List ℕ → Result Above FaultKind
+with_token n above token rest =
+    if bytes_eq token (codes "grow") then grow_at n above rest
+    else if bytes_eq token (codes "end") then end_at above above.begun rest
+    else (ok_or (word_spelled token) UnknownCall >>= λ word. call_at n above word rest)
+
+-- the lines with what stands behind the blanks of the n-th; nothing and a comment are skipped
 abbrev pub with_text : ℕ → Above → List ℕ → Result Above FaultKind
 with_text n above [] = Ok above
 with_text n above (c ∷ rest) =
-    if c == 35 then Ok above else with_word n above (place is_blank (c ∷ rest)) (c ∷ rest)
+    if c == 35 then Ok above
+    else with_token n above (take (place is_blank (c ∷ rest)) (c ∷ rest)) (drop (place is_blank (c ∷ rest)) (c ∷ rest))
 
 -- the lines with the n-th, or its fault: a long line before all else
 unfoldable pub read_at : ℕ → Above → List ℕ → Result Above FaultKind
@@ -64,22 +147,63 @@ read_from n above (line ∷ more) = at_line n (read_at n above line) (λ next. r
 
 -- no lines yet
 abbrev pub no_lines : Above
-no_lines = record { statements = [] }
+no_lines = record { steps = []; blocks = []; begun = None }
 
--- the lines that were read
-abbrev pub after_all : Result Above (ℕ × FaultKind) → Result (List Statement) (ℕ × FaultKind)
-after_all (Ok above) = Ok above.statements
+-- whether the grow-zone script whose `end` is still to come has this name
+abbrev pub is_begun : List ℕ → Option Begun → Bool
+is_begun name None = false
+is_begun name (Some b) = bytes_eq name b.name
+
+-- whether a grow-zone script of this name is there: it is once its `grow` line is, and `none` always is
+abbrev pub is_there : Above → List ℕ → Bool
+is_there above name = bytes_eq name (codes "none") || has_block name above.blocks || is_begun name above.begun
+
+-- whether a line sets a grow-zone script that isn't there
+abbrev pub sets_missing : Above → Said → Bool
+sets_missing above (Makes word.SetGrowZone (Letters name ∷ [])) = not (is_there above name)
+sets_missing above _ = false
+
+-- the first line that sets a grow-zone script that isn't there
+abbrev pub first_missing : Above → List Statement → Option ℕ
+first_missing above steps = option_map (λ s. s.line) (find (λ s. sets_missing above s.said) steps)
+
+-- where a grow-zone script is missing or has no `end`. Behind a `grow` without `end` no line sets a grow-zone script
+abbrev pub unfinished : Above → Option ℕ
+unfinished above = option_or (first_missing above above.steps) (option_map (λ b. b.line) above.begun)
+
+-- all lines, where no grow-zone script is missing
+abbrev pub unless_unfinished : Option ℕ → Above → Result Spelled (ℕ × FaultKind)
+unless_unfinished None above = Ok (record { steps = above.steps; blocks = above.blocks })
+unless_unfinished (Some n) above = Err (n, BadArgument)
+
+-- what the lines say, where none of them is faulty
+abbrev pub after_all : Result Above (ℕ × FaultKind) → Result Spelled (ℕ × FaultKind)
+after_all (Ok above) = unless_unfinished (unfinished above) above
 after_all (Err fault) = Err fault
 
--- the lines of a script that aren't skipped, in order, or its first faulty line and the fault. A line ends at LF, and
--- a CR right before the LF is dropped; the last LF may be missing
-unfoldable pub statements_of : List ℕ → Result (List Statement) (ℕ × FaultKind)
-statements_of text = after_all (read_from 1 no_lines (lines text))
+-- the steps of a text and its grow-zone scripts, in order, or its first faulty line and the fault. A line ends at LF,
+-- and a CR right before the LF is dropped; the last LF may be missing
+unfoldable pub script_of : List ℕ → Result Spelled (ℕ × FaultKind)
+script_of text = after_all (read_from 1 no_lines (lines text))
 
--- what a line says, seen
-abbrev pub said_as : declared.Said → Said
-said_as (said.Call call) = Makes (spoken call).0 (spoken call).1
+-- The code's values, seen.
+
+-- what a call says
+abbrev pub said_as : Call → Said
+said_as call = Makes (spoken call).0 (spoken call).1
 
 -- a line, seen
 abbrev pub statement : Line → Statement
-statement l = record { line = l.number; said = said_as l.said }
+statement l = record { line = l.number; said = said_as l.call }
+
+-- grow-zone scripts, seen
+abbrev pub blocks_seen : List (List ℕ × List Line) → List (List ℕ × List Statement)
+blocks_seen blocks = map (λ block. (block.0, map statement block.1)) blocks
+
+-- a grow-zone script whose `end` is still to come, seen
+abbrev pub begun_seen : declared.Begun → Begun
+begun_seen b = record { line = b.line; name = b.name.0.items; statements = map statement b.lines.items }
+
+-- a script, seen
+abbrev pub spelled : Parts → Spelled
+spelled parts = record { steps = map statement parts.steps; blocks = blocks_seen parts.blocks }

@@ -71,3 +71,7 @@ outcome code values = codes " " ++ signed_decimal code ++ (if int_eq code (pos 0
 -- the line of a call
 abbrev pub reply_line : ℕ → Word → ℤ → List Shown → List ℕ
 reply_line line word code values = call_at line word ++ outcome code values ++ codes "\n"
+
+-- the line of a call of a grow-zone script: that of the call, behind a +
+abbrev pub grow_line : ℕ → Word → ℤ → List Shown → List ℕ
+grow_line line word code values = codes "+" ++ reply_line line word code values

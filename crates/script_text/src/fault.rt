@@ -9,11 +9,13 @@ use std::alloc::{AllocError, AllocFailed};
 /// What is wrong with a line, or with the host.
 #[derive(Clone, Copy, Debug, PartialEq, Eq)]
 pub enum FaultKind {
-    /// The line's first word is no call.
+    /// The line's first word is no call. Outside a grow-zone script `end` is none.
     UnknownCall,
-    /// An argument is missing, is one too many, or isn't spelled as its kind asks.
+    /// An argument is missing, is one too many, or isn't spelled as its kind asks; the name of a new grow-zone script
+    /// is used already, or is `none`; a `grow` has no `end`, or `SetGrowZone` names a grow-zone script that isn't
+    /// there.
     BadArgument,
-    /// A call that a grow-zone script may not hold.
+    /// A call that a grow-zone script may not hold, or a `grow` in one.
     NotAllowed,
     /// The line has more than 65,535 bytes, its end not counted.
     LongLine,

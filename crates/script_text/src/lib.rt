@@ -3,6 +3,7 @@
 
 mod argument;
 mod arguments;
+mod blocks;
 mod fault;
 mod lines;
 mod script;
@@ -11,8 +12,8 @@ mod transcript;
 mod word;
 
 pub use fault::{FaultKind, ScriptFault};
-pub use script::{Line, Said, Script, read_script};
-pub use transcript::{write_end, write_hex, write_launch, write_reply};
+pub use script::{Line, Script, read_script};
+pub use transcript::{write_end, write_grow_reply, write_hex, write_launch, write_reply};
 pub use word::{CALLS, Word, words_are_apart};
 
 #[cfg(test)]

@@ -1,85 +1,180 @@
 //! Scripts.
 
-ghost use Rattle.std.specs.Prelude.{◌≡◌, List, map, OnOk};
+ghost use Rattle.std.specs.Prelude.{◌≡◌, false, true, List, [], ◌∷◌, ◌++◌, map, IsTrue, IfOk, OnOk, codes, bytes_eq};
+ghost use Rattle.std.specs.Option.{option_map};
 ghost use Rattle.std.specs.Str.Lines.{lines};
-ghost use Rattle.script_text.specs.Script.{Above, token_says, with_line, read_at, read_from, no_lines, statements_of};
-ghost use Rattle.script_text.specs.Script.{said_as, statement};
+ghost use Rattle.script_text.specs.Call.{is_allowed};
+ghost use Rattle.script_text.specs.Script.{Parts, AllAllowed, NoneIsUnused, are_allowed, block_of, Above, call_at};
+ghost use Rattle.script_text.specs.Script.{grow_at, end_at};
+ghost use Rattle.script_text.specs.Script.{is_new, with_token, read_at, read_from, no_lines, is_begun, is_there};
+ghost use Rattle.script_text.specs.Script.{sets_missing, first_missing, unfinished, script_of};
+ghost use Rattle.script_text.specs.Script.{said_as, statement, blocks_seen, begun_seen, spelled};
+ghost use Rattle.script_text.specs.Inner.{IsKept};
 ghost use Rattle.script_text.specs.Reading.{Gives, GivesAt};
-ghost use Rattle.script_text.specs.declared.script.Line as declared;
 
+use crate::arguments::{none, one};
+use crate::blocks::Blocks;
 use crate::fault::{FaultKind, ScriptFault};
 use crate::lines::next_line;
 use crate::token::{first_blank, trim};
 use crate::word::Word;
-use mac_words::Call;
+use mac_words::{Call, ControlCall, Label};
 use std::alloc::{AllocError, Global};
 use std::marker::Model;
 
-/// What a line says.
-#[derive(Debug, Drop)]
-pub enum Said {
-    /// A call, that is a step of the script.
-    Call(Call),
-}
-
-/// A line that isn't skipped.
+/// A line that holds a call.
 #[derive(Debug, Drop)]
 pub struct Line {
     /// The line's number, from 1 on, skipped lines counted.
     pub number: usize,
-    pub said: Said,
+    pub call: Call,
 }
 
-/// A script that was read: its lines that aren't skipped, in order.
+/// A script that was read: its steps in order, and its grow-zone scripts by name.
 #[derive(Debug, Drop)]
 pub struct Script {
-    lines: Vec<Line>,
+    steps: Vec<Line>,
+    blocks: Blocks,
 }
 
 impl Model for Script {
-    ghost Value = { List declared.Line };
+    ghost Value = { Parts };
 
-    ghost view = { λ s. s.lines.items };
+    ghost view = { λ s. record { steps = s.steps.items; blocks = s.blocks } };
+
+    ghost invariant = { λ s. AllAllowed s.blocks × NoneIsUnused s.blocks };
 }
 
 impl Script {
-    /// The lines of the script.
-    pub fn lines(&self) -> &[Line]
-        ensures { result.now ≡ self.now }
+    /// The steps of the script. The lines of its grow-zone scripts are none.
+    pub fn steps(&self) -> &[Line]
+        ensures steps { result.now ≡ self.now.steps }
+
+        // Its grow-zone scripts hold no call that isn't allowed there.
+        ensures allowed { AllAllowed self.now.blocks }
+
+        // No grow-zone script is named `none`.
+        ensures unused { NoneIsUnused self.now.blocks }
     {
-        &self.lines
+        &self.steps
+    }
+
+    /// The lines of the grow-zone script of this name; none where there is no such script.
+    pub fn block(&self, name: &Label) -> &[Line]
+        ensures { result.now ≡ block_of name.now.0.items self.now.blocks }
+    {
+        self.blocks.lines(name)
     }
 }
 
-/// The lines read so far.
+/// A grow-zone script whose `end` is still to come.
+#[derive(Drop)]
+struct Begun {
+    /// The line of its `grow`.
+    line: usize,
+    name: Label,
+    lines: Vec<Line>,
+}
+
+/// What was read so far.
 #[derive(Drop)]
 struct Reader {
     alloc: Global,
-    lines: Vec<Line>,
+    steps: Vec<Line>,
+    blocks: Blocks,
+    begun: Option<Begun>,
 }
 
 impl Model for Reader {
     ghost Value = { Above };
 
-    ghost view = { λ r. record { statements = map statement r.lines.items } };
+    ghost view = { λ r. record {
+      steps = map statement r.steps.items;
+      blocks = blocks_seen r.blocks;
+      begun = option_map begun_seen r.begun;
+    } };
+
+    ghost invariant = { λ r. IsKept r.blocks r.begun };
+}
+
+/// Whether a name stands for no grow-zone script.
+fn names_none(name: &Label) -> bool
+    ensures { result ≡ bytes_eq name.now.0.items (codes "none") }
+{
+    name.0.as_slice() == b"none".as_slice()
+}
+
+fn has_name(begun: &Option<Begun>, name: &Label) -> bool
+    ensures { result ≡ is_begun name.now.0.items (option_map begun_seen begun.now) }
+{
+    match begun {
+        Some(begun) => name.0.as_slice() == begun.name.0.as_slice(),
+        None => false,
+    }
 }
 
 impl Reader {
-    #[tactic(auto, unfolding(crate::specs::Script::token_says))]
-    fn say(&self, token: &[u8], rest: &[u8]) -> Result<Said, FaultKind>
-        ensures { Gives said_as result (token_says self.now token.now rest.now) }
+    /// Takes a call as a step, or as a line of the grow-zone script whose `end` is still to come.
+    fn take(&mut self, number: usize, word: Word, rest: &[u8]) -> Result<(), FaultKind>
+        ensures { Gives (λ _. self.new) result (call_at number self.old word rest.now) }
     {
-        match Word::find(token) {
-            Some(word) => Ok(Said::Call(word.read(self.alloc, rest)?)),
-            None => Err(FaultKind::UnknownCall),
+        if self.begun.is_some() && !word.is_allowed() {
+            return Err(FaultKind::NotAllowed);
         }
+        let call = word.read(self.alloc, rest)?;
+        let line = Line { number, call };
+        match &mut self.begun {
+            Some(begun) => begun.lines.push(line)?,
+            None => self.steps.push(line)?,
+        }
+        Ok(())
     }
 
-    fn put(&mut self, number: usize, said: Said) -> Result<(), AllocError>
-        ensures { OnOk result (self.new ≡ with_line number self.old (said_as said)) }
+    /// Begins a grow-zone script.
+    #[tactic(auto, using(crate::proofs::Naming::has_seen))]
+    fn begin(&mut self, number: usize, rest: &[u8]) -> Result<(), FaultKind>
+        ensures { Gives (λ _. self.new) result (grow_at number self.old rest.now) }
     {
-        self.lines.push(Line { number, said })?;
+        if self.begun.is_some() {
+            return Err(FaultKind::NotAllowed);
+        }
+        let name: Label = one(self.alloc, rest)?;
+        if names_none(&name) || self.blocks.has(&name) {
+            return Err(FaultKind::BadArgument);
+        }
+        self.begun = Some(Begun {
+            line: number,
+            name,
+            lines: Vec::new(self.alloc),
+        });
         Ok(())
+    }
+
+    /// Ends the grow-zone script whose `end` this is.
+    fn finish(&mut self, rest: &[u8]) -> Result<(), FaultKind>
+        ensures { Gives (λ _. self.new) result (end_at self.old self.old.begun rest.now) }
+    {
+        let Some(begun) = self.begun.take() else {
+            return Err(FaultKind::UnknownCall);
+        };
+        none(rest)?;
+        self.blocks.add(begun.name, begun.lines)?;
+        Ok(())
+    }
+
+    /// Reads the words of one more line.
+    #[tactic(auto, unfolding(crate::specs::Script::with_token))]
+    fn read_words(&mut self, number: usize, token: &[u8], rest: &[u8]) -> Result<(), FaultKind>
+        ensures { Gives (λ _. self.new) result (with_token number self.old token.now rest.now) }
+    {
+        match token {
+            b"grow" => self.begin(number, rest),
+            b"end" => self.finish(rest),
+            _ => match Word::find(token) {
+                Some(word) => self.take(number, word, rest),
+                None => Err(FaultKind::UnknownCall),
+            },
+        }
     }
 
     /// Reads one more line.
@@ -95,12 +190,50 @@ impl Reader {
             [] | [b'#', ..] => Ok(()),
             _ => {
                 let (token, rest) = text.split_at(first_blank(text));
-                let said = self.say(token, rest)?;
-                self.put(number, said)?;
-                Ok(())
+                self.read_words(number, token, rest)
             }
         }
     }
+
+    /// Whether a grow-zone script of this name is there, or the name stands for none.
+    #[tactic(auto, using(crate::proofs::Naming::has_seen))]
+    fn is_there(&self, name: &Label) -> bool
+        ensures { result ≡ is_there self.now name.now.0.items }
+    {
+        names_none(name) || self.blocks.has(name) || has_name(&self.begun, name)
+    }
+
+    /// Whether a call sets a grow-zone script that isn't there.
+    fn is_missing_for(&self, call: &Call) -> bool
+        ensures { result ≡ sets_missing self.now (said_as call.now) }
+    {
+        match call {
+            Call::Control(ControlCall::SetGrowZone(name)) => !self.is_there(name),
+            _ => false,
+        }
+    }
+
+    /// The line where a grow-zone script is missing or has no `end`.
+    fn unfinished(&self) -> Option<usize>
+        ensures { result ≡ unfinished self.now }
+    {
+        match first_missing_for(self, &self.steps) {
+            Some(line) => Some(line),
+            None => self.begun.as_ref().map(|begun| begun.line),
+        }
+    }
+}
+
+/// The first of these lines that sets a grow-zone script that isn't there.
+fn first_missing_for(reader: &Reader, lines: &[Line]) -> Option<usize>
+    ensures { result ≡ first_missing reader.now (map statement lines.now) }
+{
+    for line in lines {
+        if reader.is_missing_for(&line.call) {
+            return Some(line.number);
+        }
+    }
+    None
 }
 
 /// The lines of a text in order.
@@ -109,7 +242,9 @@ fn read_lines(alloc: Global, text: &[u8]) -> Result<Reader, ScriptFault>
 {
     let mut reader = Reader {
         alloc,
-        lines: Vec::new(alloc),
+        steps: Vec::new(alloc),
+        blocks: Blocks::new(alloc),
+        begun: None,
     };
     let mut number = 0;
     let mut rest = text;
@@ -127,18 +262,32 @@ fn read_lines(alloc: Global, text: &[u8]) -> Result<Reader, ScriptFault>
 
 /// Reads a script. A line ends with LF; a CR right before it is dropped, and the last LF may be missing.
 /// Tokens stand apart by spaces or tabs. A line without tokens, or whose first token begins with `#`, is
-/// skipped. Every other line is the name of a call and its arguments.
+/// skipped. Every other line is the name of a call and its arguments, or belongs to a grow-zone script: a line
+/// `grow NAME`, lines of calls that are no steps, and a line `end`. Its name is new, and isn't `none`.
 ///
 /// # Errors
 ///
 /// The first faulty line, with its fault: in a line a length over 65,535 bytes comes first, then an unknown
-/// call, then a bad argument. `HostMemory` where the host refused memory.
-#[tactic(auto, unfolding(crate::specs::Script::statements_of))]
+/// call (as `end` outside a grow-zone script), then a call that a grow-zone script may not hold (as `grow`), then a
+/// bad argument. Where no line is faulty, the first `grow` without `end`, or the first `SetGrowZone` whose grow-zone
+/// script is nowhere in the text, is a bad argument; `SetGrowZone none` never is. `HostMemory` where the host refused
+/// memory.
+#[tactic(auto, unfolding(crate::specs::Script::script_of))]
 pub fn read_script(alloc: Global, text: &[u8]) -> Result<Script, ScriptFault>
-    ensures { GivesAt (λ script. map statement script) result (statements_of text.now) }
+    ensures script { GivesAt spelled result (script_of text.now) }
+
+    // Its grow-zone scripts hold no call that isn't allowed there.
+    ensures allowed { IfOk result (λ script. AllAllowed script.blocks) }
+
+    // No grow-zone script is named `none`.
+    ensures unused { IfOk result (λ script. NoneIsUnused script.blocks) }
 {
     let reader = read_lines(alloc, text)?;
-    Ok(Script {
-        lines: reader.lines,
-    })
+    match reader.unfinished() {
+        Some(line) => Err(ScriptFault::at(line, FaultKind::BadArgument)),
+        None => Ok(Script {
+            steps: reader.steps,
+            blocks: reader.blocks,
+        }),
+    }
 }

@@ -1,11 +1,11 @@
 //! Scripts and transcripts from outside.
 
 use crate::fault::{FaultKind, ScriptFault};
-use crate::script::{Said, Script, read_script};
-use crate::transcript::{write_end, write_launch, write_reply};
+use crate::script::{Line, Script, read_script};
+use crate::transcript::{write_end, write_grow_reply, write_launch, write_reply};
 use crate::word::{CALLS, WORDS, Word, words_are_apart};
 use arrayvec::ArrayVec;
-use mac_words::{Call, HeapCall, Name, OsErr, OsType, Reply};
+use mac_words::{Call, HeapCall, Label, Name, OsErr, OsType, Reply};
 use std::alloc::Global;
 use std::process::Abort;
 use std::test::Fail;
@@ -26,7 +26,7 @@ fn script<R: Abort>(rt: &R, alloc: Global, text: &[u8]) -> Script {
 #[test]
 fn tells_the_first_faulty_line(rt: HostRuntime) -> Result<(), Fail> {
     let alloc = rt.alloc();
-    let cases: [(&[u8], (usize, u8)); 14] = [
+    let cases: [(&[u8], (usize, u8)); 12] = [
         (b"", (0, 0)),
         (b"\n\n", (0, 0)),
         (b"Foo", (1, 1)),
@@ -39,11 +39,107 @@ fn tells_the_first_faulty_line(rt: HostRuntime) -> Result<(), Fail> {
         (b"FreeMem x", (1, 2)),
         (b"FreeMem\r", (1, 1)),
         (b"FreeMem\r\r\n", (1, 1)),
-        (b"grow g\n", (1, 1)),
-        (b"end\n", (1, 1)),
     ];
     for (text, want) in cases {
         assert_eq!(rt; fault(alloc, text), want);
+    }
+    Ok(())
+}
+
+#[test]
+fn tells_faults_of_grow_zone_scripts(rt: HostRuntime) -> Result<(), Fail> {
+    let alloc = rt.alloc();
+    let cases: [(&[u8], (usize, u8)); 24] = [
+        (b"grow g\nend\n", (0, 0)),
+        (
+            b"grow g\n\n# EmptyHandle\n EmptyHandle a\nend\nSetGrowZone g",
+            (0, 0),
+        ),
+        (b"SetGrowZone g\nSetGrowZone none\ngrow g\nend", (0, 0)),
+        (b"SetGrowZone none", (0, 0)),
+        // a call that may not stand in a block, before its arguments
+        (b"grow g\nNewHandle a 1\nend", (2, 3)),
+        (b"grow g\nNewHandle\nend", (2, 3)),
+        (b"grow g\nSetGrowZone g\nend", (2, 3)),
+        (b"grow g\nHLock a\nend", (2, 3)),
+        (b"grow g\nEmptyHandle\nend", (2, 2)),
+        (b"grow g\nFoo\nend", (2, 1)),
+        // `grow` and `end` where they may not stand
+        (b"grow g\ngrow h\nend", (2, 3)),
+        (b"grow g\ngrow\nend", (2, 3)),
+        (b"end", (1, 1)),
+        (b"end x", (1, 1)),
+        (b"grow g\nend x\n", (2, 2)),
+        (b"grow g\nend\nend\n", (3, 1)),
+        // names
+        (b"grow", (1, 2)),
+        (b"grow g h\nend", (1, 2)),
+        (b"grow none\nend", (1, 2)),
+        (b"grow g\nend\ngrow g\nend", (3, 2)),
+        // late faults
+        (b"SetGrowZone g", (1, 2)),
+        (b"SetGrowZone g\ngrow g\n", (2, 2)),
+        (b"SetGrowZone g\nSetGrowZone h\ngrow g\n", (2, 2)),
+        (b"SetGrowZone g\nFreeMem\nFoo\n", (3, 1)),
+    ];
+    for (text, want) in cases {
+        assert_eq!(rt; fault(alloc, text), want);
+    }
+    Ok(())
+}
+
+#[test]
+fn refuses_a_long_line_in_a_grow_zone_script(rt: HostRuntime) -> Result<(), Fail> {
+    let alloc = rt.alloc();
+    let mut text = Vec::from_slice(alloc, b"grow g\n")?;
+    text.extend_from_slice(&long_line(alloc, b"grow ", 65536)?)?;
+    assert_eq!(rt; fault(alloc, &text), (2, 4));
+    Ok(())
+}
+
+/// A name of a script.
+fn label<R: Abort>(rt: &R, letters: &[u8]) -> Label {
+    Label(
+        ArrayVec::try_from(letters)
+            .ok()
+            .expect(rt, "63 bytes at most"),
+    )
+}
+
+#[test]
+fn reads_grow_zone_scripts(rt: HostRuntime) -> Result<(), Fail> {
+    let alloc = rt.alloc();
+    let text = b"SetGrowZone g
+grow h
+end
+grow g
+# in g
+
+ EmptyHandle a
+DisposePtr p
+end
+WaitNextEvent
+";
+    let script = script(&rt, alloc, text);
+    let wanted: [(&[Line], &[(usize, Word)]); 5] = [
+        (
+            script.steps(),
+            &[(1, Word::SetGrowZone), (10, Word::WaitNextEvent)],
+        ),
+        (script.block(&label(&rt, b"h")), &[]),
+        (
+            script.block(&label(&rt, b"g")),
+            &[(7, Word::EmptyHandle), (8, Word::DisposePtr)],
+        ),
+        (script.block(&label(&rt, b"none")), &[]),
+        (script.block(&label(&rt, b"a")), &[]),
+    ];
+    for (lines, words) in wanted {
+        assert_eq!(rt; lines.len(), words.len());
+        for (line, word) in lines.iter().zip(words) {
+            assert_eq!(rt; line.number, word.0);
+            assert_eq!(rt; Word::of(&line.call), word.1);
+        }
     }
     Ok(())
 }
@@ -123,7 +219,7 @@ fn reads_lines_in_order(rt: HostRuntime) -> Result<(), Fail> {
     let text =
         b"NewHandle a 100\n\tPut  a\t1 \"H #i\" \r\n# no call\n\n \t#\nPut a 1 $4869Ff\nFreeMem\t\nWhere a";
     let script = script(&rt, alloc, text);
-    let lines = script.lines();
+    let lines = script.steps();
     assert_eq!(rt; lines.len(), 5);
     let numbers = [1, 2, 6, 7, 8];
     let words = [
@@ -135,10 +231,9 @@ fn reads_lines_in_order(rt: HostRuntime) -> Result<(), Fail> {
     ];
     let mut at = 0;
     for line in lines {
-        let Said::Call(call) = &line.said;
         assert!(rt; at < 5);
         assert_eq!(rt; line.number, numbers[at]);
-        assert_eq!(rt; Word::of(call), words[at]);
+        assert_eq!(rt; Word::of(&line.call), words[at]);
         at += 1;
     }
     Ok(())
@@ -153,12 +248,11 @@ fn reads_arguments(rt: HostRuntime) -> Result<(), Fail> {
         b"Put a_1 010 \"H #i\"\nPut B 2 $00fFAb\nNewHandle c 7",
     );
     let mut seen = 0;
-    for line in script.lines() {
-        let Said::Call(Call::Heap(call)) = &line.said;
+    for line in script.steps() {
         assert!(rt; seen < 3);
         seen += 1;
-        match call {
-            HeapCall::Put(label, offset, bytes) => {
+        match &line.call {
+            Call::Heap(HeapCall::Put(label, offset, bytes)) => {
                 let first = line.number == 1;
                 let letters: &[u8] = if first { b"a_1" } else { b"B" };
                 let content: &[u8] = if first { b"H #i" } else { &[0, 255, 171] };
@@ -166,7 +260,7 @@ fn reads_arguments(rt: HostRuntime) -> Result<(), Fail> {
                 assert_eq!(rt; *offset, if first { 10 } else { 2 });
                 assert_eq!(rt; bytes.as_slice(), content);
             }
-            HeapCall::NewHandle(label, size) => {
+            Call::Heap(HeapCall::NewHandle(label, size)) => {
                 assert_eq!(rt; label.0.as_slice(), b"c".as_slice());
                 assert_eq!(rt; *size, 7);
             }
@@ -187,6 +281,14 @@ fn writes_a_transcript(rt: HostRuntime) -> Result<(), Fail> {
     write_reply(&mut text, 5, Word::Where, &Reply::number(288), None)?;
     write_reply(&mut text, 6, Word::Show, &done, Some(b"xyz"))?;
     write_reply(&mut text, 7, Word::Show, &done, Some(b""))?;
+    write_grow_reply(&mut text, 3, Word::EmptyHandle, &done, None)?;
+    write_grow_reply(
+        &mut text,
+        4,
+        Word::HPurge,
+        &Reply::of(OsErr::NIL_HANDLE),
+        None,
+    )?;
     write_reply(
         &mut text,
         9,
@@ -202,6 +304,8 @@ fn writes_a_transcript(rt: HostRuntime) -> Result<(), Fail> {
 5 Where 0 288
 6 Show 0 $78797a
 7 Show 0 $
++3 EmptyHandle 0
++4 HPurge -109
 9 NewHandle -108
 end 0
 "
@@ -266,12 +370,16 @@ fn lists_each_call(rt: HostRuntime) -> Result<(), Fail> {
             assert!(rt; line.ends_with(":"));
         }
     }
-    assert_eq!(rt; listed, 36);
+    assert_eq!(rt; listed, 41);
     for line in [
         "  NewHandle h size\n",
         "  HandToHand b a\n",
         "  Put h offset bytes\n",
         "  FreeMem\n",
+        "  SetGrowZone name\n",
+        "Turns:\n  WaitNextEvent\n  ExitToShell\n",
+        "  grow NAME .. end,",
+        "    EmptyHandle DisposeHandle DisposePtr HPurge HNoPurge HUnlock\n",
     ] {
         assert!(rt; CALLS.contains(line), "at {line}");
     }

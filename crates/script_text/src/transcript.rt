@@ -6,7 +6,7 @@ ghost use Rattle.std.specs.Option.{option_map};
 ghost use Rattle.std.specs.Fmt.{signed_decimal};
 ghost use Rattle.script_text.specs.Transcript.{Number, Bytes, hex, hex_digit, shown_all, bytes_shown, type_shown};
 ghost use Rattle.script_text.specs.Transcript.{name_shown, values_of, launch_line, end_line, call_at, outcome};
-ghost use Rattle.script_text.specs.Transcript.{reply_line};
+ghost use Rattle.script_text.specs.Transcript.{reply_line, grow_line};
 
 use crate::word::Word;
 use itoa::Buffer;
@@ -150,4 +150,20 @@ pub fn write_reply(
     push_call(text, line, word)?;
     push_outcome(text, reply, bytes)?;
     text.extend_from_slice(b"\n")
+}
+
+/// Appends the line of a call of a grow-zone script: the line that `write_reply` appends, behind a `+`.
+pub fn write_grow_reply(
+    text: &mut Vec<u8>,
+    line: usize,
+    word: Word,
+    reply: &Reply,
+    bytes: Option<&[u8]>,
+) -> Result<(), AllocError>
+    ensures { OnOk result (text.new.items ≡ text.old.items
+        ++ grow_line line word reply.now.code.0 (values_of reply.now (option_map (λ b. b.now) bytes.entry))) }
+{
+    text.extend_from_slice(b"+")?;
+    write_reply(text, line, word, reply, bytes)?;
+    Ok(())
 }

@@ -1,13 +1,13 @@
 //! The words of the calls.
 
-ghost use Rattle.std.specs.Prelude.{◌≡◌, Some};
-ghost use Rattle.script_text.specs.Call.{spelling, spoken, word_of, word_spelled, call_read};
+ghost use Rattle.std.specs.Prelude.{◌≡◌, Some, IfOk};
+ghost use Rattle.script_text.specs.Call.{spelling, spoken, word_of, may_stand, word_spelled, call_read};
 ghost use Rattle.script_text.specs.Reading.{Gives};
 ghost use Rattle.script_text.specs.declared.word.Word as declared;
 
 use crate::arguments::{none, one, three, two};
 use crate::fault::FaultKind;
-use mac_words::{Call, HeapCall};
+use mac_words::{Call, ControlCall, HeapCall};
 use std::alloc::Global;
 
 /// The word of a call, spelled as its variant is named.
@@ -44,14 +44,18 @@ pub enum Word {
     ReserveMem,
     MoreMasters,
     MemError,
+    SetGrowZone,
     Put,
     Show,
     PutPtr,
     ShowPtr,
     Where,
+    WaitNextEvent,
+    ExitToShell,
 }
 
-/// The calls by what they belong to: for each its word, the enums that hold it, and what reads its arguments.
+/// The calls by what they belong to: for each its word, the enums that hold it, and what reads its arguments. Behind
+/// them the words of those that a grow-zone script may hold.
 macro_rules! calls {
     ($part:ident $($given:expr),*) => {
         $part! { $($given),* ;
@@ -91,6 +95,7 @@ macro_rules! calls {
                 ReserveMem = Heap HeapCall one(size);
                 MoreMasters = Heap HeapCall none();
                 MemError = Heap HeapCall none();
+                SetGrowZone = Control ControlCall one(name);
             }
             "What an application does by itself" {
                 Put = Heap HeapCall three(h, offset, bytes);
@@ -99,18 +104,31 @@ macro_rules! calls {
                 ShowPtr = Heap HeapCall one(p);
                 Where = Heap HeapCall one(name);
             }
+            "Turns" {
+                WaitNextEvent = Control ControlCall none();
+                ExitToShell = Control ControlCall none();
+            }
+            [EmptyHandle DisposeHandle DisposePtr HPurge HNoPurge HUnlock]
         }
     };
 }
 
 macro_rules! words {
-    (; $($owner:literal { $($word:ident = $group:ident $calls:ident $read:ident $names:tt;)* })*) => {
+    (
+        ;
+        $($owner:literal { $($word:ident = $group:ident $calls:ident $read:ident $names:tt;)* })*
+        [$($held:ident)*]
+    ) => {
         [$($(Word::$word,)*)*]
     };
 }
 
 macro_rules! spelling_of {
-    ($given:expr; $($owner:literal { $($word:ident = $group:ident $calls:ident $read:ident $names:tt;)* })*) => {
+    (
+        $given:expr;
+        $($owner:literal { $($word:ident = $group:ident $calls:ident $read:ident $names:tt;)* })*
+        [$($held:ident)*]
+    ) => {
         match $given { $($(Word::$word => stringify!($word).as_bytes(),)*)* }
     };
 }
@@ -131,28 +149,52 @@ macro_rules! read_of {
     (
         $given:expr, $alloc:expr, $text:expr;
         $($owner:literal { $($word:ident = $group:ident $calls:ident $read:ident $names:tt;)* })*
+        [$($held:ident)*]
     ) => {
         match $given { $($(Word::$word => arm!($alloc, $text; $word $group $calls $read $names),)*)* }
     };
 }
 
 macro_rules! word_of_call {
-    ($given:expr; $($owner:literal { $($word:ident = $group:ident $calls:ident $read:ident $names:tt;)* })*) => {
+    (
+        $given:expr;
+        $($owner:literal { $($word:ident = $group:ident $calls:ident $read:ident $names:tt;)* })*
+        [$($held:ident)*]
+    ) => {
         match $given { $($(Call::$group($calls::$word { .. }) => Word::$word,)*)* }
     };
 }
 
 macro_rules! listed {
-    (; $($owner:literal { $($word:ident = $group:ident $calls:ident $read:ident ($($name:ident),*);)* })*) => {
-        concat!($($owner, ":\n", $("  ", stringify!($word), $(" ", stringify!($name),)* "\n",)*)*)
+    (
+        ;
+        $($owner:literal { $($word:ident = $group:ident $calls:ident $read:ident ($($name:ident),*);)* })*
+        [$($held:ident)*]
+    ) => {
+        concat!(
+            $($owner, ":\n", $("  ", stringify!($word), $(" ", stringify!($name),)* "\n",)*)*
+            "Grow-zone scripts, anywhere in a script; 'SetGrowZone none' sets none:\n",
+            "  grow NAME .. end, each on a line of its own, with lines of these calls between them:\n",
+            "   ", $(" ", stringify!($held),)* "\n",
+        )
+    };
+}
+
+macro_rules! is_held {
+    (
+        $given:expr;
+        $($owner:literal { $($word:ident = $group:ident $calls:ident $read:ident $names:tt;)* })*
+        [$($held:ident)*]
+    ) => {
+        matches!($given, $(Word::$held)|*)
     };
 }
 
 /// The calls as a person reads them: a line for each, with the names of its arguments, below the line of what it
-/// belongs to.
+/// belongs to. Then the lines that make a grow-zone script, and the calls that it may hold.
 pub const CALLS: &str = calls!(listed);
 
-pub(crate) static WORDS: [Word; 36] = calls!(words);
+pub(crate) static WORDS: [Word; 39] = calls!(words);
 
 impl Word {
     /// The word of a call.
@@ -169,6 +211,13 @@ impl Word {
         calls!(spelling_of self)
     }
 
+    /// Whether a grow-zone script may hold the call.
+    pub(crate) fn is_allowed(self) -> bool
+        ensures { result ≡ may_stand self }
+    {
+        calls!(is_held self)
+    }
+
     /// The word that is spelled so.
     #[tactic(auto, unfolding(crate::specs::Call::word_spelled))]
     pub(crate) fn find(token: &[u8]) -> Option<Word>
@@ -179,7 +228,8 @@ impl Word {
 
     /// The call of this word, whose arguments a text spells.
     pub(crate) fn read(self, alloc: Global, text: &[u8]) -> Result<Call, FaultKind>
-        ensures { Gives spoken result (call_read self text.now) }
+        ensures call { Gives spoken result (call_read self text.now) }
+        ensures word { IfOk result (λ call. word_of call ≡ self) }
     {
         calls!(read_of self, alloc, text)
     }

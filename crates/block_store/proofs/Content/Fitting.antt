@@ -8,7 +8,7 @@ use Rattle.block_store.specs.Room.{Spot, spot_at}
 use Rattle.block_store.specs.declared.entries.StoredBlock.{StoredBlock}
 use Rattle.block_store.specs.declared.entries.StoredBlock.TheVariants as entry
 use Rattle.block_store.specs.Inner.ListStore.{block_of, blocks_of, nth_spot}
-use Rattle.block_store.proofs.Zone.Listing.{drop-blocks, size-le}
+use Rattle.block_store.proofs.Zone.Listing.{drop-blocks, entry_fits}
 use Rattle.block_store.proofs.Zone.Spots.{from_entry, room-size, blocks-carved, sizes-carved}
 
 -- The entry at a place, and a block that fits into it.
@@ -28,7 +28,7 @@ fits-at es now place i e new same found is room =
     record {
       within = within;
       room = from_entry es now place i e (λ s. size new ≤ size s.here) same found is room;
-      below = size-le es i e within is;
+      below = entry_fits es i e within is;
       whole = ap (λ l. take i (blocks_of es) ++ l) (sym (drop-blocks es i e within is))
           ∙ take-append-drop i (blocks_of es);
     }

@@ -19,12 +19,12 @@ use Rattle.block_store.specs.Inner.ListStore.{block_of, blocks_of, nth_spot}
 use Rattle.block_store.specs.declared.entries.StoredBlock.{StoredBlock}
 use Rattle.block_store.specs.declared.entries.StoredBlock.TheVariants as entry
 use Rattle.block_store.proofs.Zone.Totals.{total-append}
-use Rattle.block_store.proofs.Zone.Tidy.{spot-passes, total-tidy}
+use Rattle.block_store.proofs.Zone.Tidy.{told-past, spot-passes, total-tidy}
 use Rattle.block_store.proofs.Zone.Apart.{Apart, apart-tidied, tidy-apart, tidy-content, apart-shrunk}
 use Rattle.block_store.proofs.Zone.Leading.{masters-released}
 use Rattle.mac_words.specs.Size.{padded}
-use Rattle.block_store.proofs.Zone.Listing.{drop-blocks, blocks-remove, nth_spot-at, size-freed}
-use Rattle.block_store.proofs.Zone.Spots.{blocks-set, room-size, free-some}
+use Rattle.block_store.proofs.Zone.Listing.{entry_fits, drop-blocks, blocks-remove, nth_spot-at, size-freed}
+use Rattle.block_store.proofs.Zone.Spots.{from_entry, by_entry, blocks-set, room-size, free-some}
 
 -- Blocks at another size.
 
@@ -38,13 +38,7 @@ found-here test b above is = ap (option_map (λ (s : Spot). s.here)) (cond-true 
 
 pub found-above : (test : Block → Bool) (b : Block) (above : List Block) → test b ≡ false
     → found test (b ∷ above) ≡ found test above
-found-above test b above is = ap (option_map (λ (s : Spot). s.here)) (cond-false (test b) _ _ is)
-    ∙ cases (spot test above)
-  where
-    cases : (o : Option Spot) → option_map (λ (s : Spot). s.here) (option_map (raised b) o)
-        ≡ option_map (λ (s : Spot). s.here) o
-    cases None = refl
-    cases (Some s) = refl
+found-above test b above is = told-past (λ s. s.here) test b above (λ s. refl) is
 
 pub if_found : (P : Block → Type 0) (o : Option Spot) (b : Block) → option_map (λ (s : Spot). s.here) o ≡ Some b → P b
     → IfSome o (λ s. P s.here)
@@ -112,7 +106,7 @@ sizes-from es i e within is =
     omega arith
 
 -- what growth asks of the blocks above
-pub grow_up-taken : (new : Block) (s : Spot) → IsSome (grow_up new s) → IsSome (taken (growth new s) s.above)
+grow_up-taken : (new : Block) (s : Spot) → IsSome (grow_up new s) → IsSome (taken (growth new s) s.above)
 grow_up-taken new s is = cases (taken (growth new s) s.above) is
   where
     cases : (o : Option (List Block)) → IsSome (option_map (λ above. s.below ++ new ∷ above) o) → IsSome o
@@ -165,15 +159,10 @@ entry_spot es i e = record { below = take i (blocks_of es); here = block_of e; a
 pub and_entry : (es es' : List StoredBlock) (place i : ℕ) (e : StoredBlock) (P : Spot → Type 0) → es' ≡ es
     → (i < length es') × (spot_at place (blocks_of es') ≡ nth_spot i (blocks_of es')) → e ≡ get_or es i e
     → P (entry_spot es i e) → IsSomeAnd (spot_at place (blocks_of es)) P
-and_entry es es' place i e P same found is holds =
-    let within : i < length es = subst (λ (l : List StoredBlock). i < length l) same found.0 in
-    let spotted : spot_at place (blocks_of es) ≡ nth_spot i (blocks_of es) =
-    subst (λ (l : List StoredBlock). spot_at place (blocks_of l) ≡ nth_spot i (blocks_of l)) same found.1 in
-    subst (λ (o : Option Spot). IsSomeAnd o P) (sym (spotted ∙ nth_spot-at i (blocks_of es) (block_of e)
-    (drop (i + 1) (blocks_of es)) (drop-blocks es i e within is))) holds
+and_entry es es' place i e P = by_entry es es' place i e (λ o. IsSomeAnd o P)
 
 -- a block that has room in place of an entry takes no more than all
-pub sized-fits : (es : List StoredBlock) (i : ℕ) (e : StoredBlock) (new : Block) → i < length es → e ≡ get_or es i e
+sized-fits : (es : List StoredBlock) (i : ℕ) (e : StoredBlock) (new : Block) → i < length es → e ≡ get_or es i e
     → (size new ≤ size (block_of e)) ⊎ IsSome (grow_up new (entry_spot es i e)) → size new ≤ sizes (blocks_of es)
 sized-fits es i e new within is room = cases room
   where
@@ -187,6 +176,48 @@ sized-fits es i e new within is room = cases room
         taken-fits (size new - size (block_of e)) (drop (i + 1) (blocks_of es))
         (grow_up-taken new (entry_spot es i e) some) in
         omega (arith, all)
+
+-- the entry of an index, whose place a block takes: in its bytes, or grown
+pub record SizedAt (es : List StoredBlock) (i : ℕ) (e : StoredBlock) (new : Block) : Type 0 where
+  pub within : i < length es
+  pub room : (size new ≤ size (block_of e)) ⊎ IsSome (grow_up new (entry_spot es i e))
+  pub old : size (block_of e) ≤ sizes (blocks_of es)
+  pub fits : size new ≤ sizes (blocks_of es)
+
+sized-entry : (es : List StoredBlock) (i : ℕ) (e : StoredBlock) (new : Block) → i < length es → e ≡ get_or es i e
+    → (size new ≤ size (block_of e)) ⊎ IsSome (grow_up new (entry_spot es i e)) → SizedAt es i e new
+sized-entry es i e new within is room = record {
+  within = within;
+  room = room;
+  old = let le = entry_fits es i e within is in omega arith;
+  fits = sized-fits es i e new within is room;
+}
+
+pub sized-at : (es now : List StoredBlock) (place i : ℕ) (e : StoredBlock) (new : Block) → now ≡ es
+    → (i < length now) × (spot_at place (blocks_of now) ≡ nth_spot i (blocks_of now)) → e ≡ get_or es i e
+    → IsSomeAnd (spot_at place (blocks_of es)) (λ s. (size new ≤ size s.here) ⊎ IsSome (grow_up new s))
+    → SizedAt es i e new
+sized-at es now place i e new same found is room =
+    sized-entry es i e new (subst (λ (l : List StoredBlock). i < length l) same found.0) is
+    (from_entry es now place i e (λ s. (size new ≤ size s.here) ⊎ IsSome (grow_up new s)) same found is room)
+
+-- and one that grows there
+pub record GrowsAt (es : List StoredBlock) (i : ℕ) (e : StoredBlock) (new : Block) : Type 0 where
+  pub sized : SizedAt es i e new
+  pub more : size (block_of e) < size new
+  pub above : IsSome (taken (growth new (entry_spot es i e)) (drop (i + 1) (blocks_of es)))
+
+pub grows-at : (es now : List StoredBlock) (place i : ℕ) (e : StoredBlock) (new : Block) → now ≡ es
+    → (i < length now) × (spot_at place (blocks_of now) ≡ nth_spot i (blocks_of now)) → e ≡ get_or es i e
+    → IsSomeAnd (spot_at place (blocks_of es)) (λ s. size s.here < size new)
+    → IsSomeAnd (spot_at place (blocks_of es)) (λ s. IsSome (grow_up new s)) → GrowsAt es i e new
+grows-at es now place i e new same found is more room =
+    let here = from_entry es now place i e (λ s. IsSome (grow_up new s)) same found is room in
+    record {
+      sized = sized-entry es i e new (subst (λ (l : List StoredBlock). i < length l) same found.0) is (inr here);
+      more = from_entry es now place i e (λ s. size s.here < size new) same found is more;
+      above = grow_up-taken new (entry_spot es i e) here;
+    }
 
 pub larger : {P : Type 0} (n m : ℕ) → m < n → (n ≤ m) ⊎ P → P
 larger n m more (inl le) = absurd (let z : n ≤ m = le in omega arith)
@@ -228,7 +259,7 @@ moved-carved number (b ∷ bs) (suc i) left new within =
     ++ new ∷ Free left ∷ freed (is_relocatable number) (drop n (b ∷ bs)))
     (let z : suc (i + 1) ≡ suc i + 1 = omega arith in z)
 
-pub blocks-moved : (number : ℕ) (es es' : List StoredBlock) (i left : ℕ) (new : StoredBlock) → i < length es
+blocks-moved : (number : ℕ) (es es' : List StoredBlock) (i left : ℕ) (new : StoredBlock) → i < length es
     → i < length es' → blocks_of es' ≡ freed (is_relocatable number)
     (take (i + 1) (blocks_of es) ++ Free left ∷ drop (i + 1) (blocks_of es))
     → blocks_of (slice_set es' i new) ≡ freed (is_relocatable number) (take i (blocks_of es))
@@ -255,7 +286,7 @@ sizes-moved number es i left e new within is same =
     let f = total-append size below (block_of e ∷ above) in
     omega arith
 
-pub moved-within : (number : ℕ) (es es' : List StoredBlock) (i left : ℕ) → i < length es
+moved-within : (number : ℕ) (es es' : List StoredBlock) (i left : ℕ) → i < length es
     → blocks_of es' ≡ freed (is_relocatable number) (take (i + 1) (blocks_of es)
     ++ Free left ∷ drop (i + 1) (blocks_of es)) → i < length es'
 moved-within number es es' i left within is =
@@ -267,6 +298,16 @@ moved-within number es es' i left within is =
     let d = length-append (take (i + 1) (blocks_of es)) (Free left ∷ drop (i + 1) (blocks_of es)) in
     let f = length-take (i + 1) (blocks_of es) in
     omega arith
+
+-- the block of a slot is freed, after a Free entry was put in, and another is set below that
+pub moved-at : (number : ℕ) (es inserted es' : List StoredBlock) (i left : ℕ) (new : StoredBlock) → i < length es
+    → inserted ≡ take (i + 1) es ++ entry.Free left ∷ drop (i + 1) es
+    → blocks_of es' ≡ freed (is_relocatable number) (blocks_of inserted)
+    → blocks_of (slice_set es' i new) ≡ freed (is_relocatable number) (take i (blocks_of es))
+    ++ block_of new ∷ Free left ∷ freed (is_relocatable number) (drop (i + 1) (blocks_of es))
+moved-at number es inserted es' i left new within put is =
+    let after = is ∙ ap (freed (is_relocatable number)) (ap blocks_of put ∙ blocks-inserted es (i + 1) left) in
+    blocks-moved number es es' i left new within (moved-within number es es' i left within after) after
 
 -- a block in place of what a place's spot makes of it
 pub if_entry : (es es' : List StoredBlock) (place i : ℕ) (e : StoredBlock) (f : Block → Block) (new : Block)

@@ -9,7 +9,7 @@ use Rattle.block_store.specs.Block.{tidy}
 use Rattle.block_store.specs.declared.entries.StoredBlock.{StoredBlock}
 use Rattle.block_store.specs.Inner.ListStore.{block_of, blocks_of}
 use Rattle.block_store.specs.declared.sparing.Sparing.TheVariants as sparing
-use Rattle.block_store.specs.Room.{Spot, spot, raised, may_go, emptied}
+use Rattle.block_store.specs.Room.{Spot, spot, may_go, emptied}
 use Rattle.block_store.specs.Grow.{taken}
 use Rattle.block_store.specs.Sparing.{spared, opened, purged}
 use Rattle.block_store.specs.Inner.Stretch.{is_free, opened_block, is_enough}
@@ -19,6 +19,7 @@ use Rattle.block_store.proofs.Zone.Apart.{Apart, apart-size, apart-tidy}
 use Rattle.block_store.proofs.Zone.Listing.{spot-here, spot-above, drop-blocks}
 use Rattle.block_store.proofs.Emptied.Stretches.{opened-more, size-opened, drop-none}
 use Rattle.block_store.proofs.Emptied.Purges.{emptied-free, emptied-kept, kept-not_free, opened-same}
+use Rattle.block_store.proofs.Zone.Tidy.{add-joined, told-past}
 
 -- Looks at blocks of which the lowest that may go are emptied.
 
@@ -32,13 +33,7 @@ place_from place test bs = option_map (λ (s : Spot). place + sizes s.below) (sp
 
 pub above_spot-past : (test : Block → Bool) (b : Block) (bs : List Block) → test b ≡ false
     → above_spot test (b ∷ bs) ≡ above_spot test bs
-above_spot-past test b bs fails = ap (option_map (λ (s : Spot). s.above)) (cond-false (test b) _ _ fails)
-    ∙ cases (spot test bs)
-  where
-    cases : (o : Option Spot) → option_map (λ (s : Spot). s.above) (option_map (raised b) o)
-        ≡ option_map (λ (s : Spot). s.above) o
-    cases None = refl
-    cases (Some s) = refl
+above_spot-past test b bs fails = told-past (λ s. s.above) test b bs (λ s. refl) fails
 
 pub above_spot-here : (test : Block → Bool) (b : Block) (bs : List Block) → test b ≡ true
     → above_spot test (b ∷ bs) ≡ Some bs
@@ -47,18 +42,9 @@ above_spot-here test b bs passes = ap (option_map (λ (s : Spot). s.above)) (con
 -- Free blocks that are made one leave what is above the block that passes, and its place
 above_spot-add : (test : Block → Bool) → ((n : ℕ) → test (Free n) ≡ false) → (b : Block) (bs : List Block)
     → above_spot test (add b bs) ≡ above_spot test (b ∷ bs)
-above_spot-add test none (Free zero) bs = sym (above_spot-past test (Free zero) bs (none zero))
-above_spot-add test none (Free (suc n)) [] = refl
-above_spot-add test none (Free (suc n)) (Free m ∷ bs) =
-    above_spot-past test (Free (suc n + m)) bs (none (suc n + m))
-    ∙ sym (above_spot-past test (Free (suc n)) (Free m ∷ bs) (none (suc n))
-    ∙ above_spot-past test (Free m) bs (none m))
-above_spot-add test none (Free (suc n)) (Fixed id content ∷ bs) = refl
-above_spot-add test none (Free (suc n)) (Masters ∷ bs) = refl
-above_spot-add test none (Free (suc n)) (Relocatable id flags content ∷ bs) = refl
-above_spot-add test none (Fixed id content) bs = refl
-above_spot-add test none Masters bs = refl
-above_spot-add test none (Relocatable id flags content) bs = refl
+above_spot-add test none = add-joined (above_spot test) (λ bs. above_spot-past test (Free 0) bs (none 0))
+    (λ n m bs. above_spot-past test (Free (n + m)) bs (none (n + m))
+    ∙ sym (above_spot-past test (Free n) (Free m ∷ bs) (none n) ∙ above_spot-past test (Free m) bs (none m)))
 
 pub above_spot-tidy : (test : Block → Bool) → ((n : ℕ) → test (Free n) ≡ false) → (bs : List Block)
     → above_spot test (tidy bs) ≡ option_map tidy (above_spot test bs)

@@ -16,6 +16,7 @@ use Rattle.block_store.proofs.Emptied.Stretches.{size-opened}
 use Rattle.block_store.proofs.Emptied.Looks.{top_free, opened-drop, opened-end}
 use Rattle.block_store.proofs.Emptied.Purges.{emptied-free, emptied-kept, kept-not_free}
 use Rattle.block_store.proofs.Regroup.RunLooks.{emptied-none}
+use Rattle.block_store.proofs.Zone.Tidy.{add-joined}
 
 -- The Free bytes of blocks of which the lowest that may go are emptied.
 
@@ -74,16 +75,9 @@ largest_stretch free (b ∷ above) = if is_free b then largest_stretch (free + s
 -- Free blocks that are made one are the same stretch
 largest_stretch-add : (free : ℕ) (b : Block) (bs : List Block)
     → largest_stretch free (add b bs) ≡ largest_stretch free (b ∷ bs)
-largest_stretch-add free (Free zero) bs = ap (λ n. largest_stretch n bs) (let z : free ≡ free + 0 = omega arith in z)
-largest_stretch-add free (Free (suc n)) [] = refl
-largest_stretch-add free (Free (suc n)) (Free m ∷ bs) = ap (λ k. largest_stretch k bs)
-    (let z : free + (suc n + m) ≡ free + suc n + m = omega arith in z)
-largest_stretch-add free (Free (suc n)) (Fixed id content ∷ bs) = refl
-largest_stretch-add free (Free (suc n)) (Masters ∷ bs) = refl
-largest_stretch-add free (Free (suc n)) (Relocatable id flags content ∷ bs) = refl
-largest_stretch-add free (Fixed id content) bs = refl
-largest_stretch-add free Masters bs = refl
-largest_stretch-add free (Relocatable id flags content) bs = refl
+largest_stretch-add free = add-joined (largest_stretch free)
+    (λ bs. ap (λ n. largest_stretch n bs) (let z : free + 0 ≡ free = omega arith in z))
+    (λ n m bs. ap (λ k. largest_stretch k bs) (let z : free + (n + m) ≡ free + n + m = omega arith in z))
 
 pub largest_stretch-tidy : (free : ℕ) (bs : List Block) → largest_stretch free (tidy bs) ≡ largest_stretch free bs
 largest_stretch-tidy free [] = refl

@@ -9,7 +9,7 @@ use Rattle.block_store.specs.Block.{is_purgeable}
 use Rattle.block_store.specs.Run.{RunSpot, run_spot, with_run, change_run, has_free, settle, low, movers}
 use Rattle.block_store.specs.Room.{Spot, spot, raised, may_go, emptied, purge, count_of, room, place, put_at_base}
 use Rattle.block_store.specs.Room.{put_in_place, filled}
-use Rattle.block_store.proofs.Zone.Tidy.{spot-is}
+use Rattle.block_store.proofs.Zone.Tidy.{spot-is, add-joined}
 use Rattle.block_store.proofs.Regroup.HavingRoom.{place-room}
 use Rattle.block_store.proofs.Regroup.RunLists.{run_spot-parts}
 use Rattle.block_store.proofs.Plain.Trials.{least-some}
@@ -19,15 +19,7 @@ use Rattle.block_store.proofs.Zone.Absence.{NoFree}
 -- Making room keeps the blocks that it spares.
 
 filter-add : (t : Block → Bool) → NoFree t → (b : Block) (bs : List Block) → filter t (add b bs) ≡ filter t (b ∷ bs)
-filter-add t free (Free zero) bs = rw (free 0) refl
-filter-add t free (Free (suc n)) [] = refl
-filter-add t free (Free (suc n)) (Free m ∷ bs) = rw (free (suc n + m), free (suc n), free m) refl
-filter-add t free (Free (suc n)) (Fixed id content ∷ bs) = refl
-filter-add t free (Free (suc n)) (Masters ∷ bs) = refl
-filter-add t free (Free (suc n)) (Relocatable id flags content ∷ bs) = refl
-filter-add t free (Fixed id content) bs = refl
-filter-add t free Masters bs = refl
-filter-add t free (Relocatable id flags content) bs = refl
+filter-add t free = add-joined (filter t) (λ bs. rw (free 0) refl) (λ n m bs. rw (free (n + m), free n, free m) refl)
 
 pub filter-tidy : (t : Block → Bool) → NoFree t → (bs : List Block) → filter t (tidy bs) ≡ filter t bs
 filter-tidy t free [] = refl

@@ -20,6 +20,7 @@ use Rattle.block_store.proofs.Zone.Aligned.{spot_at-is}
 use Rattle.block_store.proofs.Zone.Totals.{total-append}
 use Rattle.block_store.proofs.Zone.Listing.{size-freed}
 use Rattle.block_store.proofs.Zone.Spots.{size-content}
+use Rattle.block_store.proofs.Zone.Passing.{filter-keeps}
 
 -- A Fixed block is named by its place, and stays so.
 
@@ -353,12 +354,7 @@ none_fixed-free zero = tt
 none_fixed-free (suc n) = (refl, tt)
 
 pub none_fixed-filter : (test : Block → Bool) (bs : List Block) → NoneFixed bs → NoneFixed (filter test bs)
-none_fixed-filter test [] l = tt
-none_fixed-filter test (b ∷ bs) l = cases (test b) (none_fixed-filter test bs l.1)
-  where
-    cases : (t : Bool) → NoneFixed (filter test bs) → NoneFixed (cond t (b ∷ filter test bs) (filter test bs))
-    cases true rest = (l.0, rest)
-    cases false rest = rest
+none_fixed-filter = filter-keeps NoneFixed tt (λ b bs l. l.1) (λ b bs cs l rest. (l.0, rest))
 
 -- a run has no Fixed block
 pub none_fixed-run : (run : List Block) → Loose run → NoneFixed run

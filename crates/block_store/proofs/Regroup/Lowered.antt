@@ -1,4 +1,4 @@
-use Rattle.std.proofs.Common.{◌≡◌, ℕ, ◌+◌, ◌≤◌, ◌<◌, zero, suc, Bool, true, false, not, List, [], ◌∷◌, ◌++◌}
+use Rattle.std.proofs.Common.{◌≡◌, ℕ, ◌+◌, ◌≤◌, ◌<◌, Bool, true, false, not, List, [], ◌∷◌, ◌++◌}
 use Rattle.std.proofs.Common.{append_assoc, refl, sym, ◌∙◌, ap, cond, subst, arith, Option, Some, None, nat_lt}
 use Rattle.std.proofs.lemmas.Bool.{cond-true, cond-false, or_parts}
 use Rattle.std.proofs.lemmas.Bool.Decides.{Decides-eqb, nat_tests}
@@ -18,6 +18,7 @@ use Rattle.block_store.proofs.Zone.Leading.{none-count, count-none}
 use Rattle.block_store.proofs.Nonrelocatable.Placing.{sizes-settle}
 use Rattle.block_store.proofs.Regroup.Packed.{settle-total}
 use Rattle.block_store.proofs.Regroup.RunLists.{run_at-parts, run_at-is}
+use Rattle.block_store.proofs.Zone.Tidy.{add-joined}
 
 -- What settling counts: the relocatable blocks that stand lower afterwards.
 
@@ -44,18 +45,10 @@ more-twice n m None = refl
 more-twice n m (Some k) = ap (λ (i : ℕ). Some i) (let z : n + m + k ≡ n + (m + k) = omega arith in z)
 
 distance-add : (k : ℕ) (b : Block) (bs : List Block) → distance k (add b bs) ≡ distance k (b ∷ bs)
-distance-add k (Free zero) bs = nothing-more (distance k bs) ∙ sym (distance-cons k (Free zero) bs)
-distance-add k (Free (suc n)) [] = refl
-distance-add k (Free (suc n)) (Free m ∷ bs) =
-    distance-cons k (Free (suc n + m)) bs ∙ more-twice (suc n) m (distance k bs)
-    ∙ ap (option_map (λ i. suc n + i)) (sym (distance-cons k (Free m) bs))
-    ∙ sym (distance-cons k (Free (suc n)) (Free m ∷ bs))
-distance-add k (Free (suc n)) (Fixed id content ∷ bs) = refl
-distance-add k (Free (suc n)) (Masters ∷ bs) = refl
-distance-add k (Free (suc n)) (Relocatable id flags content ∷ bs) = refl
-distance-add k (Fixed id content) bs = refl
-distance-add k Masters bs = refl
-distance-add k (Relocatable id flags content) bs = refl
+distance-add k = add-joined (distance k)
+    (λ bs. distance-cons k (Free 0) bs ∙ sym (nothing-more (distance k bs)))
+    (λ n m bs. distance-cons k (Free (n + m)) bs ∙ more-twice n m (distance k bs)
+    ∙ ap (option_map (λ i. n + i)) (sym (distance-cons k (Free m) bs)) ∙ sym (distance-cons k (Free n) (Free m ∷ bs)))
 
 -- making Free neighbours one moves no block
 distance-tidy : (k : ℕ) (bs : List Block) → distance k (tidy bs) ≡ distance k bs

@@ -7,13 +7,13 @@ use borrow.Rule.Slice.PartMut.{put_mid, post_of, same_len_mid}
 use Rattle.std.proofs.lemmas.Option.{none-some, same_Some}
 use Rattle.std.specs.List.{remove, insert}
 use Rattle.std.proofs.lemmas.List.Elements.{filter-append}
-use Rattle.std.proofs.lemmas.Bool.{cond-true, or_parts}
+use Rattle.std.proofs.lemmas.Bool.{cond-true, cond-false, or_parts}
 use Rattle.std.specs.Option.{option_map, is_some, IfSome, IsSomeAnd, MatchOption}
 use Rattle.std.proofs.lemmas.Bool.Decides.{nat_tests}
 use Rattle.std.specs.Bool.{IsTrue}
 use Rattle.block_store.specs.Block.{Block, Free, Fixed, Masters, Relocatable, sizes, total, count, free, free_of}
 use Rattle.block_store.specs.Block.{free_sum, is_mover, is_relocatable, size, add, tidy}
-use Rattle.block_store.specs.Run.{in_run, segments, Segments, joined, has, movers, others, settle, high, low, has_free}
+use Rattle.block_store.specs.Run.{in_run, segments, Segments, has, movers, others, settle, high, low, has_free}
 use Rattle.block_store.specs.Run.{RunSpot, with_run, run_at}
 use Rattle.block_store.specs.Compact.{beyond}
 use Rattle.block_store.specs.Rest.{falling}
@@ -47,54 +47,29 @@ nth-passes t es i e within is passes =
     passes
 
 -- the lowest run ends at a barrier
+stopped : (b : Block) (above : List Block) → in_run b ≡ false → segments (b ∷ above)
+    ≡ record { first = []; rest = record { barrier = b; run = (segments above).first } ∷ (segments above).rest }
+stopped b above e = cond-false (in_run b) _ _ e
+
 pub first-stop : (b : Block) (above : List Block) → in_run b ≡ false → (segments (b ∷ above)).first ≡ []
-first-stop b above e = cases (in_run b) e (segments above)
-  where
-    cases : (t : Bool) → t ≡ false → (s : Segments) → (let put : Segments = cond t
-        (record { first = b ∷ s.first; rest = s.rest }) (record {
-          first = [];
-          rest =
-              record { barrier = b; run = s.first } ∷ s.rest;
-        }) in put.first) ≡ []
-    cases true e s = let f : true ≡ false = e in cc
-    cases false e s = refl
+first-stop b above e = ap (λ (s : Segments). s.first) (stopped b above e)
 
 pub beyond-stop : (b : Block) (above : List Block) → in_run b ≡ false → beyond (segments (b ∷ above)).rest ≡ b ∷ above
-beyond-stop b above e = cases (in_run b) e (segments above) (joined-segments above)
-  where
-    cases : (t : Bool) → t ≡ false → (s : Segments) → joined s.first s.rest ≡ above
-        → (let put : Segments = cond t (record { first = b ∷ s.first; rest = s.rest })
-        (record { first = []; rest = record { barrier = b; run = s.first } ∷ s.rest }) in beyond put.rest)
-        ≡ b ∷ above
-    cases true e s whole = let f : true ≡ false = e in cc
-    cases false e s whole = ap (λ l. b ∷ l) whole
+beyond-stop b above e = ap (λ (s : Segments). beyond s.rest) (stopped b above e)
+    ∙ ap (λ l. b ∷ l) (joined-segments above)
 
 -- it goes on with another block
+gone-on : (b : Block) (above : List Block) → in_run b ≡ true → segments (b ∷ above)
+    ≡ record { first = b ∷ (segments above).first; rest = (segments above).rest }
+gone-on b above e = cond-true (in_run b) _ _ e
+
 pub first-more : (b : Block) (above : List Block) → in_run b ≡ true
     → (segments (b ∷ above)).first ≡ b ∷ (segments above).first
-first-more b above e = cases (in_run b) e (segments above)
-  where
-    cases : (t : Bool) → t ≡ true → (s : Segments) → (let put : Segments = cond t
-        (record { first = b ∷ s.first; rest = s.rest }) (record {
-          first = [];
-          rest =
-              record { barrier = b; run = s.first } ∷ s.rest;
-        }) in put.first) ≡ b ∷ s.first
-    cases true e s = refl
-    cases false e s = let f : false ≡ true = e in cc
+first-more b above e = ap (λ (s : Segments). s.first) (gone-on b above e)
 
 pub beyond-more : (b : Block) (above : List Block) → in_run b ≡ true
     → beyond (segments (b ∷ above)).rest ≡ beyond (segments above).rest
-beyond-more b above e = cases (in_run b) e (segments above)
-  where
-    cases : (t : Bool) → t ≡ true → (s : Segments) → (let put : Segments = cond t
-        (record { first = b ∷ s.first; rest = s.rest }) (record {
-          first = [];
-          rest =
-              record { barrier = b; run = s.first } ∷ s.rest;
-        }) in beyond put.rest) ≡ beyond s.rest
-    cases true e s = refl
-    cases false e s = let f : false ≡ true = e in cc
+beyond-more b above e = ap (λ (s : Segments). beyond s.rest) (gone-on b above e)
 
 -- what falls from a block on
 pub falls-free : (below : Bool) (b : Block) (above : List Block) → is_free b ≡ true
@@ -586,14 +561,18 @@ tidy-run below above part change run same =
     ap tidy (append_assoc below part above) ∙ tidy-below below (part ++ above) (change run ++ above) (same above)
     ∙ sym (ap tidy (append_assoc below (change run) above))
 
+-- a vector's entries with others between two indexes
+abbrev pub put_between : ℕ → ℕ → ℕ → List StoredBlock → List StoredBlock → List StoredBlock → List StoredBlock
+put_between start end len now part items = take len (put_mid start (end - start) now part
+    ++ drop (length (put_mid start (end - start) now part)) items)
+
 -- a part of a vector's entries is changed as a run, and all is made tidy
 pub changed-between : (change : List Block → List Block) (items now part : List StoredBlock) (start end len : ℕ)
     → now ≡ items → start ≤ end → end ≤ length items → len ≡ length items
     → length part ≡ length (take (end - start) (drop start now))
     → ((top : List Block) → tidy (blocks_of part ++ top) ≡ tidy
     (change (blocks_of (take (end - start) (drop start now))) ++ top))
-    → tidy (blocks_of (take len (put_mid start (end - start) now part
-    ++ drop (length (put_mid start (end - start) now part)) items)))
+    → tidy (blocks_of (put_between start end len now part items))
     ≡ tidy (with_run change (run_between start end (blocks_of items)))
 changed-between change items now part start end len same order within all long done =
     let zone = blocks_of items in

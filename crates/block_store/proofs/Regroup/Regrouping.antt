@@ -14,16 +14,12 @@ use Rattle.block_store.proofs.Zone.Zones.{joined-segments}
 use Rattle.block_store.proofs.Regroup.Parts.{AreParts, in-parts, segments-part, segments-joined, in-free}
 use Rattle.block_store.proofs.Regroup.Packed.{loose-append}
 use Rattle.block_store.specs.Inner.Packing.{Loose}
+use Rattle.block_store.proofs.Zone.Passing.{filter-keeps}
 
 -- Another order of the blocks of a run, in the zone.
 
 pub all-filter : (p : Block → Bool) (xs : List Block) → Loose xs → Loose (filter p xs)
-all-filter p [] a = tt
-all-filter p (x ∷ xs) a = cases (p x) (all-filter p xs a.1)
-  where
-    cases : (t : Bool) → Loose (filter p xs) → Loose (cond t (x ∷ filter p xs) (filter p xs))
-    cases true more = (a.0, more)
-    cases false more = more
+all-filter = filter-keeps Loose tt (λ b bs a. a.1) (λ b bs cs a rest. (a.0, rest))
 
 -- the same spot with another run
 abbrev pub changed : List Block → RunSpot → RunSpot

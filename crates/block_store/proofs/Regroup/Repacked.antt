@@ -21,6 +21,7 @@ use Rattle.block_store.proofs.Nonrelocatable.Placing.{placed-settled, placed-hoi
 use Rattle.block_store.proofs.Regroup.RunLists.{run_at-parts}
 use Rattle.block_store.proofs.Regroup.Packed.{total-run, settle-total, low-total, high-total, free-enough}
 use Rattle.block_store.proofs.Plain.Options.{the_some, some_there}
+use Rattle.block_store.proofs.Zone.Tidy.{add-joined}
 
 -- What a run's change keeps.
 
@@ -107,15 +108,8 @@ reach-distance k (b ∷ bs) d e = cases (is_relocatable k b) (spot (is_relocatab
     cases false (Some s) rest e = ap (λ n. size b + n) (rest (sizes s.below) refl) ∙ same_Some _ _ e
 
 reach-add : (k : ℕ) (b : Block) (bs : List Block) → reach k (add b bs) ≡ reach k (b ∷ bs)
-reach-add k (Free zero) bs = let z : reach k bs ≡ 0 + reach k bs = omega arith in z
-reach-add k (Free (suc n)) [] = refl
-reach-add k (Free (suc n)) (Free m ∷ bs) = let z : suc n + m + reach k bs ≡ suc n + (m + reach k bs) = omega arith in z
-reach-add k (Free (suc n)) (Fixed id content ∷ bs) = refl
-reach-add k (Free (suc n)) (Masters ∷ bs) = refl
-reach-add k (Free (suc n)) (Relocatable id flags content ∷ bs) = refl
-reach-add k (Fixed id content) bs = refl
-reach-add k Masters bs = refl
-reach-add k (Relocatable id flags content) bs = refl
+reach-add k = add-joined (reach k) (λ bs. let z : 0 + reach k bs ≡ reach k bs = omega arith in z)
+    (λ n m bs. let z : n + m + reach k bs ≡ n + (m + reach k bs) = omega arith in z)
 
 pub reach-tidy : (k : ℕ) (bs : List Block) → reach k (tidy bs) ≡ reach k bs
 reach-tidy k [] = refl

@@ -46,15 +46,17 @@ parts-raised below zone (Some q) r known e =
       loose = k.loose;
     })
 
+-- the only run, if it is taken
+only-parts : (t : Bool) (run : List Block) (r : RunSpot) → Loose run
+    → cond t (Some (record { below = []; run = run; above = [] })) None ≡ Some r → Parts run r
+only-parts false run r loose e = absurd (none-some _ e)
+only-parts true run r loose e =
+    let P : RunSpot → Type 0 = λ s. Parts run s in
+    subst P (same_Some _ _ e) (record { whole = append-nil run; loose = loose })
+
 run_from-parts : (place : ℕ) (run : List Block) (parts : List Stretch) (r : RunSpot) → Loose run → AreLoose parts
     → run_from place run parts ≡ Some r → Parts (joined run parts) r
-run_from-parts place run [] r loose are e = cases (place == 0) e
-  where
-    cases : (t : Bool) → cond t (Some (record { below = []; run = run; above = [] })) None ≡ Some r → Parts run r
-    cases false e = absurd (none-some _ e)
-    cases true e =
-        let P : RunSpot → Type 0 = λ s. Parts run s in
-        subst P (same_Some _ _ e) (record { whole = append-nil run; loose = loose })
+run_from-parts place run [] r loose are e = only-parts (place == 0) run r loose e
 run_from-parts place run (p ∷ parts) r loose are e =
     cases (place == 0) (nat_le (sizes (run ++ p.barrier ∷ [])) place)
     (run_from (place - sizes (run ++ p.barrier ∷ [])) p.run parts)
@@ -87,13 +89,7 @@ run_at-is place zone r e = sym (append_assoc r.below r.run r.above) ∙ (run_at-
 -- and so is the lowest run that passes
 lowest-parts : (passes : List Block → Bool) (run : List Block) (parts : List Stretch) (r : RunSpot) → Loose run
     → AreLoose parts → lowest_run passes run parts ≡ Some r → Parts (joined run parts) r
-lowest-parts passes run [] r loose are e = cases (passes run) e
-  where
-    cases : (t : Bool) → cond t (Some (record { below = []; run = run; above = [] })) None ≡ Some r → Parts run r
-    cases false e = absurd (none-some _ e)
-    cases true e =
-        let P : RunSpot → Type 0 = λ s. Parts run s in
-        subst P (same_Some _ _ e) (record { whole = append-nil run; loose = loose })
+lowest-parts passes run [] r loose are e = only-parts (passes run) run r loose e
 lowest-parts passes run (p ∷ parts) r loose are e = cases (passes run) (lowest_run passes p.run parts)
     (λ q f. lowest-parts passes p.run parts q are.0 are.1 f) e
   where

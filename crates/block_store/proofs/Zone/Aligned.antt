@@ -15,6 +15,7 @@ use Rattle.block_store.specs.declared.flags.Flags.{Flags}
 use Rattle.block_store.specs.declared.sparing.Sparing.{Sparing}
 use Rattle.block_store.specs.declared.sparing.Sparing.TheVariants as sparing
 use Rattle.block_store.proofs.Regroup.RunLists.{run_at-is}
+use Rattle.block_store.proofs.Zone.Passing.{filter-keeps}
 
 -- Each block takes a multiple of 16 bytes, and stays so.
 
@@ -80,12 +81,7 @@ aligned-tidy [] a = tt
 aligned-tidy (b ∷ bs) a = aligned-add b (tidy bs) a.0 (aligned-tidy bs a.1)
 
 pub aligned-filter : (test : Block → Bool) (bs : List Block) → Aligned bs → Aligned (filter test bs)
-aligned-filter test [] a = tt
-aligned-filter test (b ∷ bs) a = cases (test b) (aligned-filter test bs a.1)
-  where
-    cases : (t : Bool) → Aligned (filter test bs) → Aligned (cond t (b ∷ filter test bs) (filter test bs))
-    cases true rest = (a.0, rest)
-    cases false rest = rest
+aligned-filter = filter-keeps Aligned tt (λ b bs a. a.1) (λ b bs cs a rest. (a.0, rest))
 
 pub sixteens-freed : (t : Bool) (b : Block) → Sixteens b → Sixteens (cond t (Free (size b)) b)
 sixteens-freed true b e = size-sixteens b e

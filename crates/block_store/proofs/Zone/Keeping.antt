@@ -5,7 +5,8 @@ use Rattle.std.proofs.lemmas.Option.{same_Some, option_and_then_some}
 use Rattle.std.specs.Option.{option_map, option_or}
 use Rattle.block_store.specs.Block.{Block, Free, size, total, count, free, free_sum, is_mover, is_room, resized, tidy}
 use Rattle.block_store.specs.Run.{Stretch, segments, joined, change_run, has, has_free, movers, others, settle, high}
-use Rattle.block_store.specs.Run.{low}
+use Rattle.block_store.specs.Run.{low, RunSpot}
+use Rattle.block_store.specs.Inner.Packing.{Loose}
 use Rattle.block_store.specs.Room.{Spot, spot, filled, place, put_in_place, put_at_base, emptied, purge, may_go, room}
 use Rattle.block_store.specs.Grow.{growth, taken, taken_low, grow_up, grow_fixed, freed, move_away, grow_last}
 use Rattle.block_store.specs.Grow.{grow_mover, grow}
@@ -51,6 +52,15 @@ unless-none test of (b ∷ bs) few = let r = unless-none test of bs (omega arith
     one : (t : Bool) → cond {A = ℕ} t 1 0 ≤ 0 → cond t 0 (of b) ≡ of b
     one true le = absurd (let f : 1 ≤ 0 = le in omega arith)
     one false le = refl
+
+-- a run above from which bytes are taken, after so many purges in it
+pub record TakenLow (of : Block → ℕ) (sp : Block → Bool) (above z : List Block) : Type 0 where
+  pub run : List Block
+  pub rest : List Block
+  pub k : ℕ
+  pub loose : Loose run
+  pub before : total of above ≡ total of run + total of rest
+  pub after : total of z ≡ total of (movers (purge k sp run)) + total of rest
 
 module _ (of : Block → ℕ) (none : (n : ℕ) → of (Free n) ≡ 0)
   where
@@ -242,18 +252,23 @@ module _ (of : Block → ℕ) (none : (n : ℕ) → of (Free n) ≡ 0)
     reserved-le p sp zone z e = let l = room-more (λ bs. option_map tidy (change_run (has_free p) (low (Free p)) bs))
         (of (Free p)) (based-le (Free p) (has_free p)) sp zone z e in omega (arith, none p)
 
+    -- the lowest run settled, and the others; and as they were
+    pub settled-parts : (k : ℕ) (run : List Block) (p : Stretch) (parts : List Stretch)
+        → total of (settled_runs (suc k) run (p ∷ parts)) ≡ total of (settle run) + (of p.barrier
+        + total of (settled_runs k p.run parts))
+    settled-parts k run p parts = total-append of (settle run) (p.barrier ∷ settled_runs k p.run parts)
+
+    pub joined-parts : (run : List Block) (p : Stretch) (parts : List Stretch)
+        → total of (joined run (p ∷ parts)) ≡ total of run + (of p.barrier + total of (joined p.run parts))
+    joined-parts run p parts = total-append of run (p.barrier ∷ joined p.run parts)
+
     settled-below : (k : ℕ) (run : List Block) (parts : List Stretch)
         → total of (settled_runs k run parts) ≤ total of (joined run parts)
     settled-below zero run parts = omega arith
     settled-below (suc k) run [] = settle-le run
     settled-below (suc k) run (p ∷ parts) =
         let r = settled-below k p.run parts in let l = settle-le run in
-        omega (
-          arith,
-          total-append of (settle run) (p.barrier ∷ settled_runs k p.run parts),
-          total-append of run
-              (p.barrier ∷ joined p.run parts),
-        )
+        omega (arith, settled-parts k run p parts, joined-parts run p parts)
 
     pub settled-le : (k : ℕ) (zone : List Block) → total of (settled k zone) ≤ total of zone
     settled-le k zone = let r = settled-below k (segments zone).first (segments zone).rest in
@@ -271,23 +286,34 @@ module _ (of : Block → ℕ) (none : (n : ℕ) → of (Free n) ≡ 0)
           freely (size next - d),
         ))
 
+    -- what is taken from a run, of which some blocks are emptied: all before and after
+    pub taken_low-is : (d : ℕ) (sp : Block → Bool) (above z : List Block) → taken_low d sp above ≡ Some z
+        → TakenLow of sp above z
+    taken_low-is d sp above z e =
+        taken_low-some d sp above z (TakenLow of sp above z) e
+        (λ run rest k all is fits new.
+        let left : List Block = purge k sp run in
+        record {
+          run = run;
+          rest = rest;
+          k = k;
+          loose = all;
+          before = ap (total of) is ∙ total-append of run rest;
+          after = omega (
+            arith,
+            ap (total of) new,
+            total-append of (movers left ++ free (free_sum left - d)) rest,
+            total-append of (movers left) (free (free_sum left - d)),
+            freely (free_sum left - d),
+          );
+        })
+
     pub taken_low-le : (d : ℕ) (sp : Block → Bool) (above z : List Block) → taken_low d sp above ≡ Some z
         → total of z ≤ total of above
     taken_low-le d sp above z e =
-        taken_low-some d sp above z (total of z ≤ total of above) e
-        (λ run rest k all is fits new.
-        let left : List Block = purge k sp run in
-        let p = purged-le k sp run in let f = filtered is_mover left in
-        omega (
-          arith,
-          ap (total of) is,
-          ap (total of) new,
-          total-append of run rest,
-          total-append of
-              (movers left ++ free (free_sum left - d)) rest,
-          total-append of (movers left) (free (free_sum left - d)),
-          freely (free_sum left - d),
-        ))
+        let t = taken_low-is d sp above z e in
+        let p = purged-le t.k sp t.run in
+        omega (arith, t.before, t.after, p, filtered is_mover (purge t.k sp t.run))
 
 -- a test as a measure
 pub counts-free : (test : Block → Bool) → ((n : ℕ) → test (Free n) ≡ false)
@@ -302,6 +328,61 @@ apart test zone s e once =
     let whole : count test zone ≡ count test (s.below ++ s.here ∷ s.above) = ap (count test) (spot-is test zone s e) in
     let parts = total-append (λ (b : Block). cond {A = ℕ} (test b) 1 0) s.below (s.here ∷ s.above) in
     (omega arith, omega arith)
+
+-- a block went elsewhere: the spot that it got
+pub record Went (of : Block → ℕ) (test : Block → Bool) (new : Block) (zone z : List Block) : Type 0 where
+  pub s : Spot
+  pub found : place (size new) zone ≡ Some s
+  pub after : total of z ≡ of new + (total (unless test of) s.below + total (unless test of) s.above)
+
+-- a block is the last of its run: the run
+pub record Last (of : Block → ℕ) (test : Block → Bool) (new : Block) (d : ℕ) (zone z : List Block) : Type 0 where
+  pub r : RunSpot
+  pub is : zone ≡ r.below ++ (r.run ++ r.above)
+  pub loose : Loose r.run
+  pub passes : (has test r.run && has_free d r.run) ≡ true
+  pub before : total (unless test of) zone
+      ≡ total (unless test of) r.below + (total (unless test of) r.run + total (unless test of) r.above)
+  pub after : total of z ≡ total of r.below + (total of (others test r.run) + of new + total of r.above)
+
+module _ (of : Block → ℕ) (none : (n : ℕ) → of (Free n) ≡ 0) (test : Block → Bool)
+  where
+    pub went-to : (zone z : List Block) (new : Block) → move_away test new zone ≡ Some z → Went of test new zone z
+    went-to zone z new e =
+        map-some (λ (s : Spot). filled new (record s { below = freed test s.below; above = freed test s.above }))
+        (place (size new) zone) z (Went of test new zone z) e
+        (λ s found is. record {
+          s = s;
+          found = found;
+          after = omega (
+            arith,
+            ap (total of) is,
+            filled-is of none new (record s { below = freed test s.below; above = freed test s.above }),
+            freed-is of none test s.below,
+            freed-is of none test s.above,
+          );
+        })
+
+    pub last-of : (zone z : List Block) (new : Block) (d : ℕ) → grow_last test new d zone ≡ Some z
+        → Last of test new d zone z
+    last-of zone z new d e =
+        change_run-some (λ run. has test run && has_free d run) (λ run. others test run
+        ++ new ∷ free (free_sum run - d)) zone z (Last of test new d zone z) e
+        (λ r is all passes new_zone. record {
+          r = r;
+          is = is;
+          loose = all;
+          passes = passes;
+          before = ap (total (unless test of)) is
+              ∙ three (unless test of) (unless-free test of none) r.below r.run r.above;
+          after = omega (
+            arith,
+            ap (total of) new_zone,
+            three of none r.below (others test r.run ++ new ∷ free (free_sum r.run - d)) r.above,
+            total-append of (others test r.run) (new ∷ free (free_sum r.run - d)),
+            freely of none (free_sum r.run - d),
+          );
+        })
 
 -- Where only one block passes, another takes its place: all come to no more than that and the blocks that don't pass.
 module _ (of : Block → ℕ) (none : (n : ℕ) → of (Free n) ≡ 0) (test : Block → Bool)
@@ -337,41 +418,25 @@ module _ (of : Block → ℕ) (none : (n : ℕ) → of (Free n) ≡ 0) (test : B
     went : (zone z : List Block) (new : Block) → move_away test new zone ≡ Some z
         → total of z ≤ of new + total (unless test of) zone
     went zone z new e =
-        map-some (λ (s : Spot). filled new (record s { below = freed test s.below; above = freed test s.above }))
-        (place (size new) zone) z (total of z ≤ of new + total (unless test of) zone) e
-        (λ s found is.
-        let p = placed-le (unless test of) (unless-free test of none) (size new) zone s found in
-        omega (
-          arith,
-          ap (total of) is,
-          filled-is of none new (record s
-              { below = freed test s.below; above = freed test s.above }),
-          freed-is of none test s.below,
-          freed-is of none
-              test s.above,
-        ))
+        let w = went-to of none test zone z new e in
+        omega (arith, w.after, placed-le (unless test of) (unless-free test of none) (size new) zone w.s w.found)
 
     lasts : (zone z : List Block) (new : Block) (d : ℕ) → count test zone ≤ 1 → grow_last test new d zone ≡ Some z
         → total of z ≤ of new + total (unless test of) zone
     lasts zone z new d once e =
-        change_run-some (λ run. has test run && has_free d run) (λ run. others test run
-        ++ new ∷ free (free_sum run - d)) zone z (total of z ≤ of new + total (unless test of) zone) e
-        (λ r is all passes new_zone.
-        let inside = has-count test r.run (and_parts (has test r.run) (has_free d r.run) passes).0 in
+        let l = last-of of none test zone z new d e in
+        let r = l.r in
+        let inside = has-count test r.run (and_parts (has test r.run) (has_free d r.run) l.passes).0 in
         let counted = three (λ (b : Block). cond {A = ℕ} (test b) 1 0) (counts-free test never) r.below r.run r.above in
-        let whole : count test zone ≡ count test (r.below ++ (r.run ++ r.above)) = ap (count test) is in
+        let whole : count test zone ≡ count test (r.below ++ (r.run ++ r.above)) = ap (count test) l.is in
         let o = others-le of none test r.run in
         omega (
           arith,
-          ap (total of) new_zone,
-          ap (total (unless test of)) is,
-          three of none r.below (others test r.run ++ new ∷ free (free_sum r.run - d)) r.above,
-          three (unless test of) (unless-free test of none) r.below r.run r.above,
+          l.before,
+          l.after,
           unless-none test of r.below (omega arith),
           unless-none test of r.above (omega arith),
-          total-append of (others test r.run) (new ∷ free (free_sum r.run - d)),
-          freely of none (free_sum r.run - d),
-        ))
+        )
 
     moved-le : (zone z : List Block) (new : Block) → count test zone ≤ 1 → grow_mover test new zone ≡ Some z
         → total of z ≤ of new + total (unless test of) zone

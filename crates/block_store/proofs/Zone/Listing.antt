@@ -37,10 +37,10 @@ take-blocks es i e within is =
     ∙ ap (λ x. map block_of (take i es) ++ block_of x ∷ []) (sym is)
     ∙ ap (λ l. l ++ block_of e ∷ []) (sym (take-map block_of i es))
 
--- an entry takes no more than all
-pub size-le : (es : List StoredBlock) (i : ℕ) (e : StoredBlock) → i < length es → e ≡ get_or es i e
+-- an entry takes no more than all: it fits where those below it end
+pub entry_fits : (es : List StoredBlock) (i : ℕ) (e : StoredBlock) → i < length es → e ≡ get_or es i e
     → sizes (take i (blocks_of es)) + size (block_of e) ≤ sizes (blocks_of es)
-size-le es i e within is =
+entry_fits es i e within is =
     let parts : sizes (take i (blocks_of es) ++ drop i (blocks_of es))
     ≡ sizes (take i (blocks_of es)) + sizes (drop i (blocks_of es)) =
     total-append size (take i (blocks_of es)) (drop i (blocks_of es)) in
@@ -55,6 +55,24 @@ pub sizes-more : (es : List StoredBlock) (i : ℕ) (e : StoredBlock) → i < len
 sizes-more es i e within is = ap sizes (take-blocks es i e within is)
     ∙ total-append size (take i (blocks_of es)) (block_of e ∷ [])
     ∙ ap (λ n. sizes (take i (blocks_of es)) + n) (let z : size (block_of e) + 0 ≡ size (block_of e) = omega arith in z)
+
+-- what is known of the entry that a walk has come to
+pub record Reached (es : List StoredBlock) (i : ℕ) (e : StoredBlock) : Type 0 where
+  pub blocks : drop i (blocks_of es) ≡ block_of e ∷ drop (i + 1) (blocks_of es)
+  pub room : sizes (take i (blocks_of es)) + size (block_of e) ≤ sizes (blocks_of es)
+  pub more : sizes (take (i + 1) (blocks_of es)) ≡ sizes (take i (blocks_of es)) + size (block_of e)
+
+pub reached : (es : List StoredBlock) (i : ℕ) (e : StoredBlock) → i < length es → e ≡ get_or es i e → Reached es i e
+reached es i e within is = record {
+  blocks = drop-blocks es i e within is;
+  room = entry_fits es i e within is;
+  more = sizes-more es i e within is;
+}
+
+-- what is known of the entries from an index on, told of the entry there and those above
+pub from-reached : {A : Type 0} (f : List Block → A) (whole : A) (es : List StoredBlock) (i : ℕ) (e : StoredBlock)
+    → Reached es i e → f (drop i (blocks_of es)) ≡ whole → f (block_of e ∷ drop (i + 1) (blocks_of es)) ≡ whole
+from-reached f whole es i e at known = ap f (sym at.blocks) ∙ known
 
 -- the place so far where the block passes, and where it doesn't
 pub spot-here : (t : Block → Bool) (place : ℕ) (b : Block) (above : List Block) → t b ≡ true
@@ -148,6 +166,15 @@ joined-empty es i n e within is free none =
     (sym (ap tidy_top (drop-blocks es i e within is) ∙ ap (λ x. add (block_of x) (drop (i + 1) (blocks_of es))) free
     ∙ ap (λ k. add (Free k) (drop (i + 1) (blocks_of es))) none))
 
+-- one of the first entries is set
+pub set-in_front : (es : List StoredBlock) (i : ℕ) (x : StoredBlock) (rest : List StoredBlock) → i < length es
+    → slice_set (take (i + 1) es ++ rest) i x ≡ take i es ++ x ∷ rest
+set-in_front [] i x rest within = absurd (let z : i < 0 = within in omega arith)
+set-in_front (y ∷ es) zero x rest within = refl
+set-in_front (y ∷ es) (suc i) x rest within = (ap (λ n. slice_set (take n (y ∷ es) ++ rest) (suc i) x)
+    (let z : suc i + 1 ≡ suc (i + 1) = omega arith in z)) ∙ ap (λ l. y ∷ l)
+    (set-in_front es i x rest (let z : suc i < suc (length es) = within in omega arith))
+
 -- the next entry is taken out, and this one is both
 pub joined-two : (es : List StoredBlock) (i n m : ℕ) (e f : StoredBlock) → i + 1 < length es → e ≡ get_or es i e
     → e ≡ entry.Free n → f ≡ get_or es (i + 1) f → f ≡ entry.Free m → (n ≡ 0 → ⊥)
@@ -166,14 +193,6 @@ joined-two es i n m e f within is free is' free' some =
     ∙ ap (add (Free n)) (sym (drop-blocks es (i + 1) f within is'))
     ∙ ap (λ x. add (block_of x) (drop (i + 1) (blocks_of es))) (sym free)
     ∙ ap tidy_top (sym (drop-blocks es i e (let z : i < length es = omega arith in z) is)))
-  where
-    set-in_front : (es : List StoredBlock) (i : ℕ) (x : StoredBlock) (rest : List StoredBlock) → i < length es
-        → slice_set (take (i + 1) es ++ rest) i x ≡ take i es ++ x ∷ rest
-    set-in_front [] i x rest within = absurd (let z : i < 0 = within in omega arith)
-    set-in_front (y ∷ es) zero x rest within = refl
-    set-in_front (y ∷ es) (suc i) x rest within = (ap (λ n. slice_set (take n (y ∷ es) ++ rest) (suc i) x)
-        (let z : suc i + 1 ≡ suc (i + 1) = omega arith in z)) ∙ ap (λ l. y ∷ l)
-        (set-in_front es i x rest (let z : suc i < suc (length es) = within in omega arith))
 
 pub spot_at-here : (es : List StoredBlock) (i rest : ℕ) (e : StoredBlock) → i < length es → e ≡ get_or es i e → rest ≡ 0
     → raised_by (take i (blocks_of es)) (spot_at rest (drop i (blocks_of es))) ≡ nth_spot i (blocks_of es)
@@ -202,7 +221,7 @@ pub free-le : (es : List StoredBlock) (i : ℕ) (e : StoredBlock) → i < length
 free-le es i e within is =
     let a : free_sum (take i (blocks_of es)) ≤ sizes (take i (blocks_of es)) =
     total-le free_of size free_of-le (take i (blocks_of es)) in
-    let b = size-le es i e within is in
+    let b = entry_fits es i e within is in
     let c = free_of-le (block_of e) in
     omega arith
 
@@ -216,7 +235,7 @@ pub two-le : (es : List StoredBlock) (i : ℕ) (e f : StoredBlock) → i + 1 < l
     → f ≡ get_or es (i + 1) f → size (block_of e) + size (block_of f) ≤ sizes (blocks_of es)
 two-le es i e f within is is' =
     let a = sizes-more es i e (let z : i < length es = omega arith in z) is in
-    let b = size-le es (i + 1) f within is' in
+    let b = entry_fits es (i + 1) f within is' in
     omega arith
 
 tidy-step_at : (bs : List Block) (j : ℕ) → j < length bs → take j (take (suc j) bs ++ tidy (drop (suc j) bs))

@@ -39,3 +39,14 @@ has-count test (b ∷ bs) e = cases (test b) e (λ e. has-count test bs e)
 pub filter-none : (t : Block → Bool) (bs : List Block) → has t bs ≡ false → filter t bs ≡ []
 filter-none t [] e = refl
 filter-none t (b ∷ bs) e = let p = or_parts (t b) (has t bs) e in cond-false (t b) _ _ p.0 ∙ filter-none t bs p.1
+
+-- what holds of each block of a list holds of each that passes
+pub filter-keeps : (P : List Block → Type 0) → P [] → ((b : Block) (bs : List Block) → P (b ∷ bs) → P bs)
+    → ((b : Block) (bs cs : List Block) → P (b ∷ bs) → P cs → P (b ∷ cs)) → (test : Block → Bool) (bs : List Block)
+    → P bs → P (filter test bs)
+filter-keeps P none rest more test [] a = none
+filter-keeps P none rest more test (b ∷ bs) a = cases (test b) (filter-keeps P none rest more test bs (rest b bs a))
+  where
+    cases : (t : Bool) → P (filter test bs) → P (cond t (b ∷ filter test bs) (filter test bs))
+    cases true kept = more b bs (filter test bs) a kept
+    cases false kept = kept

@@ -7,6 +7,7 @@ use Rattle.std.proofs.lemmas.Bool.Decides.{nat_tests}
 use Rattle.std.specs.Option.{option_map, IfSome, IsSomeAnd}
 use Rattle.std.specs.Bool.{IsTrue}
 use Rattle.std.proofs.lemmas.List.{set_split, map-append, take-map, drop-map, length-append, length-take, length-drop}
+use Rattle.std.proofs.lemmas.List.{set-set}
 use Rattle.mac_words.specs.Size.{padded}
 use Rattle.block_store.specs.Block.{Block, Free, Fixed, Masters, Relocatable, size, sizes, is_room, content_of}
 use Rattle.block_store.specs.Block.{with_content, free}
@@ -20,7 +21,7 @@ use Rattle.block_store.specs.Inner.ListStore.{block_of, blocks_of, nth_spot}
 use Rattle.block_store.proofs.Zone.Totals.{total-append}
 use Rattle.block_store.proofs.Zone.Tidy.{spot-passes}
 use Rattle.block_store.proofs.Zone.Apart.{Apart, apart-size}
-use Rattle.block_store.proofs.Zone.Listing.{nth_spot-at, drop-blocks}
+use Rattle.block_store.proofs.Zone.Listing.{set-in_front, nth_spot-at, drop-blocks}
 use Rattle.block_store.proofs.Plain.Options.{has_place}
 
 -- where blocks take bytes, a spot by a test is the spot of its place
@@ -61,17 +62,23 @@ pub found-passes : (test : Block → Bool) (zone : List Block) (place : ℕ) →
 found-passes test zone place (s, found, at, below) = subst (λ (o : Option Spot). IsSomeAnd o
     (λ s. IsTrue (test s.here))) (sym at) (spot-passes test zone s found)
 
--- the spot of an entry
+-- what holds of the spot of an entry holds of the spot at its place
+pub by_entry : (es es' : List StoredBlock) (place i : ℕ) (e : StoredBlock) (P : Option Spot → Type 0) → es' ≡ es
+    → (i < length es') × (spot_at place (blocks_of es') ≡ nth_spot i (blocks_of es')) → e ≡ get_or es i e
+    → P (Some (record { below = take i (blocks_of es); here = block_of e; above = drop (i + 1) (blocks_of es) }))
+    → P (spot_at place (blocks_of es))
+by_entry es es' place i e P same found is holds =
+    let within : i < length es = subst (λ (l : List StoredBlock). i < length l) same found.0 in
+    let spotted : spot_at place (blocks_of es) ≡ nth_spot i (blocks_of es) =
+    subst (λ (l : List StoredBlock). spot_at place (blocks_of l) ≡ nth_spot i (blocks_of l)) same found.1 in
+    subst P (sym (spotted ∙ nth_spot-at i (blocks_of es) (block_of e)
+    (drop (i + 1) (blocks_of es)) (drop-blocks es i e within is))) holds
+
 pub at_entry : (es es' : List StoredBlock) (place i : ℕ) (e : StoredBlock) (P : Spot → Type 0) → es' ≡ es
     → (i < length es') × (spot_at place (blocks_of es') ≡ nth_spot i (blocks_of es')) → e ≡ get_or es i e
     → P (record { below = take i (blocks_of es); here = block_of e; above = drop (i + 1) (blocks_of es) })
     → IfSome (spot_at place (blocks_of es)) P
-at_entry es es' place i e P same found is holds =
-    let within : i < length es = subst (λ (l : List StoredBlock). i < length l) same found.0 in
-    let spotted : spot_at place (blocks_of es) ≡ nth_spot i (blocks_of es) =
-    subst (λ (l : List StoredBlock). spot_at place (blocks_of l) ≡ nth_spot i (blocks_of l)) same found.1 in
-    subst (λ (o : Option Spot). IfSome o P) (sym (spotted ∙ nth_spot-at i (blocks_of es) (block_of e)
-    (drop (i + 1) (blocks_of es)) (drop-blocks es i e within is))) holds
+at_entry es es' place i e P = by_entry es es' place i e (λ o. IfSome o P)
 
 -- what a condition on the spot of a place says of the entry
 pub from_entry : (es es' : List StoredBlock) (place i : ℕ) (e : StoredBlock) (P : Spot → Type 0) → es' ≡ es
@@ -101,6 +108,20 @@ blocks-set es i w within =
     ∙ ap (λ l. take i (blocks_of es) ++ block_of w ∷ l) (ap (λ n. map block_of (drop n es))
     (let z : suc i ≡ i + 1 = omega arith in z) ∙ sym (drop-map block_of (i + 1) es))
 
+-- an entry is taken out, and what is made of it is put in its place
+pub changed-at : (es now : List StoredBlock) (place i : ℕ) (e seen left w : StoredBlock) (f : Block → Block) → now ≡ es
+    → (i < length now) × (spot_at place (blocks_of now) ≡ nth_spot i (blocks_of now)) → e ≡ seen
+    → seen ≡ get_or es i seen → block_of w ≡ f (block_of e)
+    → IfSome (spot_at place (blocks_of es))
+    (λ s. blocks_of (slice_set (slice_set es i left) i w) ≡ s.below ++ f s.here ∷ s.above)
+changed-at es now place i e seen left w f same found taken is made =
+    let within : i < length es = subst (λ (l : List StoredBlock). i < length l) same found.0 in
+    at_entry es now place i e
+    (λ s. blocks_of (slice_set (slice_set es i left) i w) ≡ s.below ++ f s.here ∷ s.above) same found
+    (taken ∙ is ∙ ap (get_or es i) (sym taken))
+    (ap blocks_of (set-set es i left w) ∙ blocks-set es i w within
+    ∙ ap (λ b. take i (blocks_of es) ++ b ∷ drop (i + 1) (blocks_of es)) made)
+
 pub size-content : (x : List ℕ) (b : Block) → length x ≡ length (content_of b) → size (with_content x b) ≡ size b
 size-content x (Free n) same = refl
 size-content x (Fixed id content) same = ap padded same
@@ -125,14 +146,6 @@ room-size p (Free n) e = grind (arith, nat_tests)
 room-size p (Fixed id content) e = let f : false ≡ true = e in cc
 room-size p Masters e = let f : false ≡ true = e in cc
 room-size p (Relocatable id flags content) e = let f : false ≡ true = e in cc
-
-set-in_front : (es : List StoredBlock) (i : ℕ) (x : StoredBlock) (rest : List StoredBlock) → i < length es
-    → slice_set (take (i + 1) es ++ rest) i x ≡ take i es ++ x ∷ rest
-set-in_front [] i x rest within = absurd (let z : i < 0 = within in omega arith)
-set-in_front (y ∷ es) zero x rest within = refl
-set-in_front (y ∷ es) (suc i) x rest within = (ap (λ n. slice_set (take n (y ∷ es) ++ rest) (suc i) x)
-    (let z : suc i + 1 ≡ suc (i + 1) = omega arith in z)) ∙ ap (λ l. y ∷ l)
-    (set-in_front es i x rest (let z : suc i < suc (length es) = within in omega arith))
 
 -- a block in place of another, and the rest of it Free
 pub blocks-carved : (es : List StoredBlock) (i left : ℕ) (new : StoredBlock) → i < length es

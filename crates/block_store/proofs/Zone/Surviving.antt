@@ -5,10 +5,10 @@ use Rattle.std.proofs.lemmas.Option.{option_and_then_some}
 use Rattle.std.specs.Option.{option_map, option_or}
 use Rattle.block_store.specs.Block.{Block, Free, Fixed, Masters, Relocatable, size, total, count, free, free_sum}
 use Rattle.block_store.specs.Block.{is_mover, is_room, is_purgeable, resized, tidy}
-use Rattle.block_store.specs.Run.{in_run, Stretch, segments, joined, change_run, has, has_free, movers, others, settle}
+use Rattle.block_store.specs.Run.{in_run, Stretch, segments, joined, change_run, has_free, movers, others, settle}
 use Rattle.block_store.specs.Run.{high, low}
 use Rattle.block_store.specs.Room.{Spot, spot, filled, place, put_in_place, put_at_base, emptied, purge, may_go, room}
-use Rattle.block_store.specs.Grow.{growth, taken, taken_low, grow_up, grow_fixed, freed, move_away, grow_last}
+use Rattle.block_store.specs.Grow.{growth, taken, taken_low, grow_up, grow_fixed, move_away, grow_last}
 use Rattle.block_store.specs.Grow.{grow_mover, grow}
 use Rattle.block_store.specs.Compact.{settled_runs, settled}
 use Rattle.block_store.proofs.Zone.Tidy.{spot-is, spot-passes}
@@ -17,9 +17,10 @@ use Rattle.block_store.proofs.Zone.Zones.{joined-segments}
 use Rattle.block_store.proofs.Regroup.RunLists.{AreLoose, segments-loose}
 use Rattle.block_store.specs.Inner.Packing.{Loose}
 use Rattle.block_store.proofs.Zone.Views.{map-some, or-some, room-some, change_run-some, place-some, taken-some}
-use Rattle.block_store.proofs.Zone.Views.{taken_low-some, grow-some}
+use Rattle.block_store.proofs.Zone.Views.{grow-some}
 use Rattle.block_store.proofs.Zone.Keeping.{unless, unless-free, unless-le, unless-none, apart, purged-le, tidied}
-use Rattle.block_store.proofs.Zone.Keeping.{freely, three, filled-is, freed-is}
+use Rattle.block_store.proofs.Zone.Keeping.{freely, three, filled-is, settled-parts, joined-parts, taken_low-is}
+use Rattle.block_store.proofs.Zone.Keeping.{went-to, last-of}
 use Rattle.block_store.proofs.Zone.Alike.{OneRun, one-run}
 
 -- What blocks come to, by a measure that sees neither a Free block nor one that may be emptied, isn't less after a zone
@@ -179,12 +180,7 @@ module _ (of : Block → ℕ) (none : (n : ℕ) → of (Free n) ≡ 0)
     settled-runs (suc k) run [] all rest = sym (settle-all run (one-run run all))
     settled-runs (suc k) run (p ∷ parts) all rest =
         let r = settled-runs k p.run parts rest.0 rest.1 in let l = settle-all run (one-run run all) in
-        omega (
-          arith,
-          total-append of (settle run) (p.barrier ∷ settled_runs k p.run parts),
-          total-append of run
-              (p.barrier ∷ joined p.run parts),
-        )
+        omega (arith, joined-parts of none run p parts, settled-parts of none k run p parts)
 
     pub settled-all : (k : ℕ) (zone : List Block) → total of zone ≤ total of (settled k zone)
     settled-all k zone =
@@ -262,23 +258,11 @@ module _ (of : Block → ℕ) (none : (n : ℕ) → of (Free n) ≡ 0) (goes : (
     taken_low-all : (d : ℕ) (sp : Block → Bool) (above z : List Block) → taken_low d sp above ≡ Some z
         → total of above ≤ total of z
     taken_low-all d sp above z e =
-        taken_low-some d sp above z (total of above ≤ total of z) e
-        (λ run rest k all is fits new.
-        let left : List Block = purge k sp run in
-        let one = one-run run all in
-        let one_left : OneRun left = (let p = purged-le (λ (b : Block). cond {A = ℕ} (in_run b) 0 1) (λ n. refl) k sp
-        run in omega arith) in
-        let p = purged-all k sp run in
-        let f = movers-all of none left one_left in
-        omega (
-          arith,
-          ap (total of) is,
-          ap (total of) new,
-          total-append of run rest,
-          total-append of
-              (movers left ++ free (free_sum left - d)) rest,
-          total-append of (movers left) (free (free_sum left - d)),
-        ))
+        let t = taken_low-is of none d sp above z e in
+        let one = one-run t.run t.loose in
+        let one_left : OneRun (purge t.k sp t.run) =
+        (let p = purged-le (λ (b : Block). cond {A = ℕ} (in_run b) 0 1) (λ n. refl) t.k sp t.run in omega arith) in
+        omega (arith, t.before, t.after, purged-all t.k sp t.run, movers-all of none (purge t.k sp t.run) one_left)
 
     -- a block at a spot that grows in place comes to what it came to
     up-all : (zone z : List Block) (s : Spot) (new : Block) → zone ≡ s.below ++ s.here ∷ s.above → of s.here ≤ of new
@@ -319,37 +303,18 @@ module _ (of : Block → ℕ) (none : (n : ℕ) → of (Free n) ≡ 0) (test : B
     went-all : (zone z : List Block) (new : Block) → move_away test new zone ≡ Some z
         → of new + total (unless test of) zone ≤ total of z
     went-all zone z new e =
-        map-some (λ (s : Spot). filled new (record s { below = freed test s.below; above = freed test s.above }))
-        (place (size new) zone) z (of new + total (unless test of) zone ≤ total of z) e
-        (λ s found is.
-        let p = placed-all (unless test of) (unless-free test of none) (size new) zone s found in
-        omega (
-          arith,
-          ap (total of) is,
-          filled-is of none new (record s
-              { below = freed test s.below; above = freed test s.above }),
-          freed-is of none test s.below,
-          freed-is of none
-              test s.above,
-        ))
+        let w = went-to of none test zone z new e in
+        let p = placed-all (unless test of) (unless-free test of none) (size new) zone w.s w.found in
+        omega (arith, w.after, p)
 
     lasts-all : (zone z : List Block) (new : Block) (d : ℕ) → grow_last test new d zone ≡ Some z
         → of new + total (unless test of) zone ≤ total of z
     lasts-all zone z new d e =
-        change_run-some (λ run. has test run && has_free d run) (λ run. others test run
-        ++ new ∷ free (free_sum run - d)) zone z (of new + total (unless test of) zone ≤ total of z) e
-        (λ r is all passes new_zone.
-        let o = others-all of none test r.run (one-run r.run all) in
-        let below = unless-le test of r.below in
-        let above = unless-le test of r.above in
-        omega (
-          arith,
-          ap (total of) new_zone,
-          ap (total (unless test of)) is,
-          three of none r.below (others test r.run ++ new ∷ free (free_sum r.run - d)) r.above,
-          three (unless test of) (unless-free test of none) r.below r.run r.above,
-          total-append of (others test r.run) (new ∷ free (free_sum r.run - d)),
-        ))
+        let l = last-of of none test zone z new d e in
+        let o = others-all of none test l.r.run (one-run l.r.run l.loose) in
+        let below = unless-le test of l.r.below in
+        let above = unless-le test of l.r.above in
+        omega (arith, l.before, l.after)
 
     upped-all : (zone z : List Block) (s : Spot) (new : Block) → spot test zone ≡ Some s → grow_up new s ≡ Some z
         → of new + total (unless test of) zone ≤ total of z

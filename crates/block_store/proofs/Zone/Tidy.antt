@@ -7,22 +7,30 @@ use Rattle.block_store.specs.Room.{Spot, spot, raised}
 use Rattle.block_store.specs.Grow.{freed}
 use Rattle.std.specs.Option.{option_map}
 use Rattle.std.proofs.lemmas.Option.{none-some, same_Some}
-use Rattle.std.proofs.lemmas.Bool.{or_parts}
+use Rattle.std.proofs.lemmas.Bool.{or_parts, cond-false}
 
 -- a measure of blocks for which two Free blocks are as much as one of their bytes
 abbrev pub Adds : (Block → ℕ) → Type 0
 Adds of = (n m : ℕ) → of (Free (n + m)) ≡ of (Free n) + of (Free m)
 
+-- what sees two Free blocks as one of their bytes, and none of no bytes, sees no joining
+pub add-joined : {A : Type 0} (of : List Block → A) → ((bs : List Block) → of (Free 0 ∷ bs) ≡ of bs)
+    → ((n m : ℕ) (bs : List Block) → of (Free (n + m) ∷ bs) ≡ of (Free n ∷ Free m ∷ bs)) → (b : Block)
+    (bs : List Block) → of (add b bs) ≡ of (b ∷ bs)
+add-joined of none joined (Free zero) bs = sym (none bs)
+add-joined of none joined (Free (suc n)) [] = refl
+add-joined of none joined (Free (suc n)) (Free m ∷ bs) = joined (suc n) m bs
+add-joined of none joined (Free (suc n)) (Fixed id content ∷ bs) = refl
+add-joined of none joined (Free (suc n)) (Masters ∷ bs) = refl
+add-joined of none joined (Free (suc n)) (Relocatable id flags content ∷ bs) = refl
+add-joined of none joined (Fixed id content) bs = refl
+add-joined of none joined Masters bs = refl
+add-joined of none joined (Relocatable id flags content) bs = refl
+
 pub total-add : (of : Block → ℕ) → Adds of → (b : Block) (bs : List Block) → total of (add b bs) ≡ of b + total of bs
-total-add of adds (Free zero) bs = let e : of (Free (0 + 0)) ≡ of (Free 0) + of (Free 0) = adds 0 0 in omega arith
-total-add of adds (Free (suc n)) [] = refl
-total-add of adds (Free (suc n)) (Free m ∷ bs) = omega (arith, adds (suc n) m)
-total-add of adds (Free (suc n)) (Fixed id content ∷ bs) = refl
-total-add of adds (Free (suc n)) (Masters ∷ bs) = refl
-total-add of adds (Free (suc n)) (Relocatable id flags content ∷ bs) = refl
-total-add of adds (Fixed id content) bs = refl
-total-add of adds Masters bs = refl
-total-add of adds (Relocatable id flags content) bs = refl
+total-add of adds = add-joined (total of)
+    (λ bs. let e : of (Free (0 + 0)) ≡ of (Free 0) + of (Free 0) = adds 0 0 in omega arith)
+    (λ n m bs. omega (arith, adds n m))
 
 -- making Free blocks one keeps such a measure
 pub total-tidy : (of : Block → ℕ) → Adds of → (bs : List Block) → total of (tidy bs) ≡ total of bs
@@ -32,15 +40,8 @@ total-tidy of adds (b ∷ bs) = omega (arith, total-add of adds b (tidy bs), tot
 -- a test that no Free block passes
 pub has-add : (test : Block → Bool) → ((n : ℕ) → test (Free n) ≡ false) → (b : Block) (bs : List Block)
     → has test (add b bs) ≡ (test b || has test bs)
-has-add test none (Free zero) bs = rw (none 0) refl
-has-add test none (Free (suc n)) [] = refl
-has-add test none (Free (suc n)) (Free m ∷ bs) = rw (none (suc n), none m, none (suc n + m)) refl
-has-add test none (Free (suc n)) (Fixed id content ∷ bs) = refl
-has-add test none (Free (suc n)) (Masters ∷ bs) = refl
-has-add test none (Free (suc n)) (Relocatable id flags content ∷ bs) = refl
-has-add test none (Fixed id content) bs = refl
-has-add test none Masters bs = refl
-has-add test none (Relocatable id flags content) bs = refl
+has-add test none = add-joined (has test) (λ bs. rw (none 0) refl)
+    (λ n m bs. rw (none (n + m), none n, none m) refl)
 
 pub has-tidy : (test : Block → Bool) → ((n : ℕ) → test (Free n) ≡ false) → (bs : List Block)
     → has test (tidy bs) ≡ has test bs
@@ -102,3 +103,13 @@ spot-passes test (b ∷ bs) s e = cases (test b) refl (spot test bs) (spot-passe
     cases true is o rest e = ap (λ (s : Spot). test s.here) (sym (same_Some _ _ e)) ∙ is
     cases false is None rest e = absurd (none-some _ e)
     cases false is (Some s') rest e = ap (λ (s : Spot). test s.here) (sym (same_Some _ _ e)) ∙ rest s' refl
+
+-- what is told of the spot that passes doesn't hang on a block below it
+pub told-past : {A : Type 0} (of : Spot → A) (test : Block → Bool) (b : Block) (bs : List Block)
+    → ((s : Spot) → of (raised b s) ≡ of s) → test b ≡ false
+    → option_map of (spot test (b ∷ bs)) ≡ option_map of (spot test bs)
+told-past of test b bs same fails = ap (option_map of) (cond-false (test b) _ _ fails) ∙ cases (spot test bs)
+  where
+    cases : (o : Option Spot) → option_map of (option_map (raised b) o) ≡ option_map of o
+    cases None = refl
+    cases (Some s) = ap Some (same s)

@@ -17,7 +17,7 @@ use Rattle.heap_calls.specs.State.{State, Memory}
 use Rattle.heap_calls.specs.declared.log.Log.{Log}
 use Rattle.heap_calls.specs.declared.anchor.Anchor.{Anchor}
 use Rattle.heap_calls.specs.declared.anchor.Anchor.TheVariants.{Handle}
-use Rattle.heap_calls.specs.Answer.{refused, for_found, given, look_up, silent, searching}
+use Rattle.heap_calls.specs.Answer.{refused, for_found, given, look_up, silent, searching, moving}
 use Rattle.heap_calls.specs.State as names
 use Rattle.heap_calls.specs.Slots.{slotted, if_ready, new_block}
 use Rattle.heap_calls.specs.Copying.{hand_to_hand}
@@ -47,6 +47,7 @@ use Rattle.heap_calls.proofs.NewBlocks.Reserving.{IsRefused}
 use Rattle.heap_calls.proofs.NewBlocks.NewHandles.{slotted-is, slot_searches-is, block_searches-seat, no_room-rename}
 use Rattle.heap_calls.proofs.NewBlocks.NewHandles.{agrees-more, state-more, state-kept, with_handle, searched-done}
 use Rattle.heap_calls.proofs.Numbering.MoveNames.{block_moves-seat}
+use Rattle.heap_calls.proofs.Room.MoveCounts.{not-moved}
 
 -- HandToHand.
 
@@ -130,13 +131,26 @@ not_found-still value zone rest es copy log handle e is same found code code_is 
     (ap (slot_of handle) (sym same) ∙ found ∙ ap Err code_is))
 
 -- a handle whose block was emptied
-pub copy-nil : (zone : List Block) (rest : Rest) (es : List Anchor) (handle : Option ℕ) (h source : ℕ) → handle ≡ Some h
+copy-nil : (zone : List Block) (rest : Rest) (es : List Anchor) (handle : Option ℕ) (h source : ℕ) → handle ≡ Some h
     → slice_get es h ≡ Some (Handle source) → Agrees zone rest es → h < no_number
     → spot (is_relocatable source) zone ≡ None → look_up handle (state_of zone rest.slots es) ≡ Err NIL_HANDLE
 copy-nil zone rest es handle h source is at agrees small none =
     look_up-by zone rest.slots es handle h source is at agrees.apart small
     ∙ ap (λ o. ok_or (option_map (held h) (option_map (rename_spot (handle_number es) (pointer_number es)) o))
     NIL_HANDLE) none
+
+-- what is answered for it
+pub copy-emptied : (value : Memory) (zone : List Block) (rest : Rest) (es : List Anchor) (log : Log) (handle : Option ℕ)
+    (h source : ℕ) → memory_of zone rest es log ≡ value → log.searches ≤ 18446744073709551615
+    → rest.moves ≤ 18446744073709551615 → handle ≡ Some h → slice_get es h ≡ Some (Handle source) → Agrees zone rest es
+    → h < no_number → spot (is_relocatable source) zone ≡ None
+    → moving (hand_to_hand_moves handle value.heap) (searching (hand_to_hand_searches handle value.heap)
+    (silent (hand_to_hand handle) value)) ≡ (Err NIL_HANDLE, value)
+copy-emptied value zone rest es log handle h source is fits few bound at agrees small none =
+    let nil = copy-nil zone rest es handle h source bound at agrees small none in
+    not-moved _ _ (Code NIL_HANDLE) value zone rest es log is
+    (copy-refused value zone rest es log handle NIL_HANDLE is fits nil)
+    (λ code e. copy-still value zone rest es log handle NIL_HANDLE is nil) few
 
 -- the handle of a slot that was looked up in a copy of the entries
 pub slot-in : (es copy : List Anchor) (handle : Option ℕ) (f : Found) → copy ≡ es → slot_of handle copy ≡ Ok f

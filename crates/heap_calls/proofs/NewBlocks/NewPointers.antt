@@ -1,11 +1,10 @@
-use Rattle.std.proofs.Common.{◌≡◌, ℕ, ◌+◌, ◌-◌, Bool, true, false, ◌||◌, ◌==◌, List, [], ◌∷◌, ◌++◌, length, refl, sym}
+use Rattle.std.proofs.Common.{◌≡◌, ℕ, ◌+◌, ◌-◌, Bool, true, false, ◌||◌, List, [], ◌∷◌, ◌++◌, length, refl, sym}
 use Rattle.std.proofs.Common.{◌∙◌, ap, cond, map, arith, Option, Some, None, Result, Ok, Err, slice_get, count_by}
 use Rattle.std.proofs.Common.{subst, ◌⊎◌, inl, inr, is_some}
 use Rattle.std.proofs.lemmas.List.{map_push, length-map, length-replicate}
 use Rattle.std.proofs.lemmas.List.Sums.{sum_by_push}
 use Rattle.std.proofs.lemmas.Option.{same_Some}
 use Rattle.std.proofs.lemmas.Bool.{false_from_ne_true}
-use Rattle.std.proofs.lemmas.Bool.Decides.{Decides-eqb}
 use Rattle.std.specs.Option.{option_map, IfSome, IsSomeAnd}
 use Rattle.std.specs.Result.{OnErr}
 use Rattle.std.specs.Bool.{IsTrue}
@@ -32,7 +31,7 @@ use Rattle.heap_calls.specs.declared.anchor.Anchor.{Anchor}
 use Rattle.heap_calls.specs.declared.anchor.Anchor.TheVariants.{Handle, Pointer}
 use Rattle.heap_calls.specs.Inner.Numbered.{state_of, name_of, handle_number, pointer_number, leads_to, points_to}
 use Rattle.heap_calls.specs.Inner.Numbered.{KeepsFixed, Agrees}
-use Rattle.heap_calls.proofs.Numbering.Numbers.{leads_to-same}
+use Rattle.heap_calls.proofs.Numbering.Numbers.{flipped, leads_to-same}
 use Rattle.heap_calls.proofs.Numbering.Changing.{number_from-push, number_from-new, slice_get-push, names-same}
 use Rattle.heap_calls.proofs.Numbering.Changing.{spot_at-is}
 use Rattle.heap_calls.proofs.Room.Staying.{fixed-tidy}
@@ -196,10 +195,6 @@ module _ (zone zone' : List Block) (rest rest' : Rest) (es : List Anchor) (n pla
         (apart-from k place (at ∙ ap Some (points_to-is place x e)) refl)))
         ∙ omega arith
 
-    flip : (k : ℕ) → (k == place) ≡ false → (place == k) ≡ false
-    flip k e = false_from_ne_true (place == k) (λ t. let same : place ≡ k = (Decides-eqb place k).0 t in
-        let z : (k == place) ≡ true = (Decides-eqb k place).1 (sym same) in let f : true ≡ false = sym z ∙ e in cc)
-
     -- the zone as it was has the names that it had
     pub pointers-kept : rename (handle_number with_pointer) (pointer_number with_pointer) zone
         ≡ rename (handle_number es) (pointer_number es) zone
@@ -207,7 +202,7 @@ module _ (zone zone' : List Block) (rest rest' : Rest) (es : List Anchor) (n pla
         rename_slots-same (handle_number es) (handle_number with_pointer) (pointer_number with_pointer)
         (λ k. number_from-push 0 (leads_to k) es (Pointer place) refl) zone
         ∙ rename_pointer-unless (handle_number es) (pointer_number es) (pointer_number with_pointer) place
-        (λ k e. number_from-push 0 (points_to k) es (Pointer place) (flip k e)) zone put.none
+        (λ k e. number_from-push 0 (points_to k) es (Pointer place) (flipped place k e)) zone put.none
 
     pub names-more : map (name_of rest'.slots) with_pointer ≡ map (name_of rest.slots) es ++ names.Pointer ∷ []
     names-more = map_push (name_of rest'.slots) es (Pointer place)

@@ -16,7 +16,7 @@ use Rattle.block_store.specs.Sparing.{spared, purged, most_purges}
 use Rattle.block_store.specs.declared.sparing.Sparing.TheVariants as sparing
 use Rattle.block_store.proofs.Renamed.Renaming.{room-rename, put_in_place-rename, freed-rename}
 use Rattle.block_store.proofs.Zone.Tidy.{has-tidy, has-freed, spot-is}
-use Rattle.block_store.proofs.Plain.Options.{is_some-map}
+use Rattle.mac_words.proofs.Plain.{is_some-map}
 use Rattle.block_store.proofs.Regroup.HavingRoom.{place-room}
 use Rattle.block_store.proofs.Plain.Trials.{least-map, least-some}
 use Rattle.heap_calls.specs.declared.log.Log.{Log}
@@ -24,7 +24,7 @@ use Rattle.heap_calls.specs.declared.search.Room.{Room}
 use Rattle.heap_calls.specs.declared.anchor.Anchor.{Anchor}
 use Rattle.heap_calls.specs.declared.anchor.Anchor.TheVariants.{Handle}
 use Rattle.heap_calls.specs.State.{State, Memory}
-use Rattle.heap_calls.specs.Answer.{Answer, nothing, for_found, rebuilt, silent}
+use Rattle.heap_calls.specs.Answer.{nothing, for_found, rebuilt, silent}
 use Rattle.heap_calls.specs.Inner.NewBlock.{fresh_block}
 use Rattle.heap_calls.specs.Inner.Search.{seat, seat_searches, IsAt}
 use Rattle.heap_calls.specs.Searches.{room_searches, found_searches, reallocate_handle_searches}
@@ -36,11 +36,12 @@ use Rattle.heap_calls.specs.Inner.Numbered.{state_of, memory_of, handle_number, 
 use Rattle.heap_calls.proofs.Numbering.Numbers.{Apart, is_relocatable-number, handle_number-at}
 use Rattle.block_store.proofs.Zone.Absence.{none-emptied, none-settled}
 use Rattle.heap_calls.proofs.Room.Seats.{fresh-size}
-use Rattle.heap_calls.proofs.Numbering.Changing.{names-same, silent-done, spot_at-is, phys-some, unmoved}
+use Rattle.heap_calls.proofs.Numbering.Changing.{silent-kept, spot_at-is, phys-some, unmoved, unmoved-is}
 use Rattle.heap_calls.proofs.Numbering.Loosening.{known, renewed_answer, reallocate_handle-loose}
 use Rattle.heap_calls.proofs.Numbering.Loosening.{reallocate_searches-loose, reallocate_moves-loose}
 use Rattle.heap_calls.proofs.Numbering.Looking.{tries-same, room_searches-rename}
 use Rattle.heap_calls.proofs.Numbering.MoveNames.{put_moves-rename}
+use Rattle.heap_calls.proofs.Numbering.PurgeTrials.{served_answer}
 
 -- A new block for a handle, for which its old one counts as Free.
 
@@ -218,40 +219,42 @@ module _ (value : Memory) (zone zone' : List Block) (rest rest' : Rest) (es : Li
         (λ b. put_moves b nothing (rename f g (freed (is_relocatable slot) zone))) same-block
         ∙ put_moves-rename f g nothing nothing (λ b. refl) block (freed (is_relocatable slot) zone))
 
-    names-kept : (r : Result (Unit {0}) OsErr) (z : List Block) → z ≡ zone'
-        → ◌≡◌ {A = Answer (Unit {0})} (r, record state { zone = rename f g z }) (r, state_of zone' rest'.slots es)
-    names-kept r z same =
-        ap (λ z. (r, record state { zone = rename f g z })) same
-        ∙ ap (λ l. (r, record { zone = rename f g zone'; names = l }))
-        (sym (names-same rest.slots rest'.slots es (λ h s at. done.slots.slots s)))
-
+    -- the zone that it comes to
     row : (r : Result (Unit {0}) OsErr) (o : Option (List Block)) → renewed slot n zone ≡ o
-        → rebuilt (option_map (rename f g) o) state ≡ (r, state_of zone' rest'.slots es)
-        → reallocate_handle handle n state ≡ (r, state_of zone' rest'.slots es)
+        → rebuilt (option_map (rename f g) o) state ≡ (r, record state { zone = rename f g zone' })
+        → silent (reallocate_handle handle n) value ≡ (r, memory_of zone' (unmoved rest rest') es log)
     row r o made now =
-        reallocate_handle-loose handle n state ∙ ap (λ r. for_found r state (renewed_answer n state)) found
-        ∙ ap (λ o. rebuilt o state) (renewed-rename ∙ ap (option_map (rename f g)) made) ∙ now
+        silent-kept (reallocate_handle handle n) value zone zone' rest (unmoved rest rest') es log r is
+        (reallocate_handle-loose handle n state ∙ ap (λ r. for_found r state (renewed_answer n state)) found
+        ∙ ap (λ o. rebuilt o state) (renewed-rename ∙ ap (option_map (rename f g)) made) ∙ now)
+        (unmoved-is rest rest' done.slots)
 
-    pub reallocate-none : is_some made.place ≡ false → silent (reallocate_handle handle n) value
+    reallocate-none : is_some made.place ≡ false → silent (reallocate_handle handle n) value
         ≡ (Err MEM_FULL, memory_of zone' (unmoved rest rest') es log)
     reallocate-none none =
         let left = same made.place none done.none in
-        silent-done (reallocate_handle handle n) value zone zone' rest (unmoved rest rest') es es log (Err MEM_FULL) is
-        (row (Err MEM_FULL) None left.0 (names-kept (Err MEM_FULL) zone (sym left.1))) done.slots.window refl
+        row (Err MEM_FULL) None left.0 (ap (λ z. (Err MEM_FULL, record state { zone = rename f g z })) (sym left.1))
       where
         same : (o : Option ℕ) → is_some o ≡ false → MatchOption o ((renewed slot n zone ≡ None) × (zone' ≡ zone))
             (λ _. renewed slot n zone ≡ Some zone') → (renewed slot n zone ≡ None) × (zone' ≡ zone)
         same None none m = m
         same (Some p) none m = let z : true ≡ false = none in cc
 
-    pub reallocate-some : is_some made.place ≡ true → silent (reallocate_handle handle n) value
+    reallocate-some : is_some made.place ≡ true → silent (reallocate_handle handle n) value
         ≡ (Ok tt, memory_of zone' (unmoved rest rest') es log)
-    reallocate-some some =
-        silent-done (reallocate_handle handle n) value zone zone' rest (unmoved rest rest') es es log (Ok tt) is
-        (row (Ok tt) (Some zone') (put made.place some done.none) (names-kept (Ok tt) zone' refl)) done.slots.window
-        refl
+    reallocate-some some = row (Ok tt) (Some zone') (put made.place some done.none) refl
       where
         put : (o : Option ℕ) → is_some o ≡ true → MatchOption o ((renewed slot n zone ≡ None) × (zone' ≡ zone))
             (λ _. renewed slot n zone ≡ Some zone') → renewed slot n zone ≡ Some zone'
         put None some m = let z : false ≡ true = some in cc
         put (Some p) some m = m
+
+    -- both, by whether there was room
+    pub reallocate-told : silent (reallocate_handle handle n) value
+        ≡ (served_answer (is_some made.place), memory_of zone' (unmoved rest rest') es log)
+    reallocate-told = cases (is_some made.place) refl
+      where
+        cases : (t : Bool) → is_some made.place ≡ t → silent (reallocate_handle handle n) value
+            ≡ (served_answer t, memory_of zone' (unmoved rest rest') es log)
+        cases true some = reallocate-some some
+        cases false none = reallocate-none none

@@ -17,6 +17,7 @@ use Rattle.heap_calls.specs.State.{State, Memory}
 use Rattle.heap_calls.specs.Answer.{Answer, Held, look_up, held_at, handle_at, known_as, for_found, on_block, noting}
 use Rattle.heap_calls.specs.Answer.{silent, code_of}
 use Rattle.heap_calls.specs.Inner.Given.{slot_at, slot_of, found, FindsBlock, IsAnswer, IsShown, last_after}
+use Rattle.heap_calls.specs.Inner.Pointing.{FindsHeld}
 use Rattle.heap_calls.specs.declared.refusal.Refusal.{Refusal}
 use Rattle.heap_calls.specs.declared.refusal.Refusal.TheVariants.{Code, HostMemory}
 use Rattle.heap_calls.specs.declared.anchor.Found.{Found}
@@ -115,16 +116,46 @@ header-fits slot (Fixed id content) e = cc
 header-fits slot Masters e = cc
 header-fits slot (Relocatable id flags content) e = omega arith
 
--- a call that is refused, where it was looked at in the state that the store stands for
+-- what was found for a handle, as it is looked up
+pub finds-block : (zone : List Block) (slots : ℕ → Slot) (es : List Anchor) (handle : Option ℕ) (r : Result ℕ Refusal)
+    → FindsBlock zone slots es handle r → FindsHeld (look_up handle (state_of zone slots es)) zone es r
+finds-block zone slots es handle (Ok place) found = found
+finds-block zone slots es handle (Err (Code code)) found = found
+finds-block zone slots es handle (Err HostMemory) found = found
+
+-- a call that is refused for what was looked up
+pub refused_by : {T : Type 0} (look : State → Result Held OsErr) (e : Refusal) (zone : List Block) (rest : Rest)
+    (es : List Anchor) (log : Log) (value : Memory) → memory_of zone rest es log ≡ value
+    → FindsHeld (look (state_of zone rest.slots es)) zone es (Err e) → (answer : State → Held → Answer T)
+    → IsAnswer (silent (λ s. for_found (look s) s (answer s)) value) (Err e) value
+refused_by {T = T} look (Code code) zone rest es log value is found answer =
+    let P : Memory → Type 0 = λ m. silent {T = T} (λ s. for_found (look s) s (answer s)) m ≡ (Err code, m) in
+    subst P is (ap (λ r. let a : Answer T = for_found r (state_of zone rest.slots es)
+    (answer (state_of zone rest.slots es)) in (a.0, record (memory_of zone rest es log) { heap = a.1 })) found)
+refused_by look HostMemory zone rest es log value is found answer = tt
+
+-- what a call answers at the block that was looked up
+pub on_held : {T : Type 0} (look : State → Result Held OsErr) (zone : List Block) (rest : Rest) (es : List Anchor)
+    (log : Log) (value : Memory) (k : Held) → memory_of zone rest es log ≡ value
+    → look (state_of zone rest.slots es) ≡ Ok k → (answer : State → Held → Answer T)
+    → silent (λ s. for_found (look s) s (answer s)) value ≡ (
+      (answer value.heap k).0,
+      record value
+          { heap = (answer value.heap k).1 },
+    )
+on_held {T = T} look zone rest es log value k is found answer =
+    let P : Memory → Type 0 = λ m. silent {T = T} (λ s. for_found (look s) s (answer s)) m
+    ≡ ((answer m.heap k).0, record m { heap = (answer m.heap k).1 }) in
+    subst P is (ap (λ r. let a : Answer T = for_found r (state_of zone rest.slots es)
+    (answer (state_of zone rest.slots es)) in (a.0, record (memory_of zone rest es log) { heap = a.1 })) found)
+
+-- the same for what was found for a handle
 pub refused_for : {T : Type 0} (e : Refusal) (zone : List Block) (rest : Rest) (es : List Anchor) (log : Log)
     (handle : Option ℕ) (value : Memory) → memory_of zone rest es log ≡ value
     → FindsBlock zone rest.slots es handle (Err e) → (answer : State → Held → Answer T)
     → IsAnswer (silent (λ s. on_block handle s (answer s)) value) (Err e) value
-refused_for {T = T} (Code code) zone rest es log handle value is found answer =
-    let P : Memory → Type 0 = λ m. silent {T = T} (λ s. on_block handle s (answer s)) m ≡ (Err code, m) in
-    subst P is (ap (λ r. let a : Answer T = for_found r (state_of zone rest.slots es)
-    (answer (state_of zone rest.slots es)) in (a.0, record (memory_of zone rest es log) { heap = a.1 })) found)
-refused_for HostMemory zone rest es log handle value is found answer = tt
+refused_for e zone rest es log handle value is found answer =
+    refused_by (look_up handle) e zone rest es log value is (finds-block zone rest.slots es handle (Err e) found) answer
 
 -- the same where bytes are lent
 pub not_shown_for : (e : Refusal) (zone : List Block) (rest : Rest) (es : List Anchor) (log : Log) (handle : Option ℕ)
@@ -135,7 +166,7 @@ not_shown_for (Code code) zone rest es log handle value is found answer =
     refused_for (Code code) zone rest es log handle value is found answer
 not_shown_for HostMemory zone rest es log handle value is found answer = tt
 
--- what a call answers at the block that was found
+-- what a call answers at the block that was found for a handle
 pub on_found : {T : Type 0} (zone : List Block) (rest : Rest) (es : List Anchor) (log : Log) (handle : Option ℕ)
     (value : Memory) (k : Held) → memory_of zone rest es log ≡ value
     → look_up handle (state_of zone rest.slots es) ≡ Ok k → (answer : State → Held → Answer T)
@@ -144,11 +175,8 @@ pub on_found : {T : Type 0} (zone : List Block) (rest : Rest) (es : List Anchor)
       record value
           { heap = (answer value.heap k).1 },
     )
-on_found {T = T} zone rest es log handle value k is found answer =
-    let P : Memory → Type 0 = λ m. silent {T = T} (λ s. on_block handle s (answer s)) m
-    ≡ ((answer m.heap k).0, record m { heap = (answer m.heap k).1 }) in
-    subst P is (ap (λ r. let a : Answer T = for_found r (state_of zone rest.slots es)
-    (answer (state_of zone rest.slots es)) in (a.0, record (memory_of zone rest es log) { heap = a.1 })) found)
+on_found zone rest es log handle value k is found answer =
+    on_held (look_up handle) zone rest es log value k is found answer
 
 -- where the block of a place is known
 pub at_place : (place : ℕ) (zone : List Block) (s : Spot) (P : Spot → Type 0) → spot_at place zone ≡ Some s

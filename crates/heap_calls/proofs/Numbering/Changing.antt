@@ -37,7 +37,7 @@ use Rattle.heap_calls.specs.Inner.Numbered.{leads_to, points_to, no_number, role
 use Rattle.heap_calls.proofs.Numbering.Answering.{content_of-rename, with_content-rename, held}
 use Rattle.heap_calls.proofs.Room.Staying.{fixed-released, fixed-filled}
 use Rattle.heap_calls.specs.Slots.{new_block}
-use Rattle.heap_calls.proofs.Numbering.Numbers.{is_relocatable-number, leads_to-same, leads_to-is}
+use Rattle.heap_calls.proofs.Numbering.Numbers.{is_relocatable-number, leads_to-same, leads_to-is, flipped}
 
 -- an entry that doesn't pass changes no number
 pub number_from-push : (n : ℕ) (test : Anchor → Bool) (es : List Anchor) (e : Anchor) → test e ≡ false
@@ -106,7 +106,7 @@ unused-not_used : {P : Type 0} (state : Slot) → state ≡ Unused → state ≡
 unused-not_used state a b = let fails : Unused ≡ Used false = sym a ∙ b in cc
 
 -- one for a name with a slot
-abbrev used_by : Meaning → ℕ
+abbrev pub used_by : Meaning → ℕ
 used_by x = cond (uses_slot x) 1 0
 
 -- one for a Masters block
@@ -158,10 +158,6 @@ module _ {before : List Block} (zone : List Block) (rest rest' : Rest) (es : Lis
         unused-not_used (rest.slots slot) was (agrees.used k slot (at ∙ ap Some is))))
         ∙ omega arith
 
-    flip : (k : ℕ) → (k == slot) ≡ false → (slot == k) ≡ false
-    flip k e = false_from_ne_true (slot == k) (λ t. let same : slot ≡ k = (Decides-eqb slot k).0 t in
-        let z : (k == slot) ≡ true = (Decides-eqb k slot).1 (sym same) in let f : true ≡ false = sym z ∙ e in cc)
-
     -- the zone as it was has the names that it had
     pub zone-kept : rename (handle_number es') (pointer_number es') zone
         ≡ rename (handle_number es) (pointer_number es) zone
@@ -169,7 +165,7 @@ module _ {before : List Block} (zone : List Block) (rest rest' : Rest) (es : Lis
         rename_fixed-unless (handle_number es') (pointer_number es) (pointer_number es')
         (λ k. number_from-push 0 (points_to k) es (Handle slot) refl) zone
         ∙ rename-unless (handle_number es) (handle_number es') (pointer_number es) slot
-        (λ k e. number_from-push 0 (leads_to k) es (Handle slot) (flip k e)) zone none
+        (λ k e. number_from-push 0 (leads_to k) es (Handle slot) (flipped slot k e)) zone none
 
     pub names-now : map (name_of rest'.slots) es' ≡ map (name_of rest.slots) es ++ names.Handle Plain ∷ []
     names-now =
@@ -264,6 +260,50 @@ module _ {before : List Block} (zone : List Block) (rest rest' : Rest) (es : Lis
             (put_in_place-rename (handle_number es') (pointer_number es') (Relocatable slot no_flags bytes)) zone
             ∙ ap (option_map (rename (handle_number es') (pointer_number es'))) done
 
+-- a name that stays where one is disposed of is another
+pub without-other : (es : List Anchor) (h : ℕ) (old : Anchor) → slice_get es h ≡ Some old → (k : ℕ) (x : Anchor)
+    → (x ≡ Disposed → ⊥) → slice_get (slice_set es h Disposed) k ≡ Some x → (slice_get es k ≡ Some x) × (k ≡ h → ⊥)
+without-other es h old at k x stays found = elim (slice_get-set es h Disposed k x found) [
+  | inl was ↦ (
+    was,
+    λ same. stays (same_Some _ _ (sym found ∙ ap (slice_get (slice_set es h Disposed)) same
+        ∙ slice_get-set_same es h Disposed (slice_get_within es h old at))),
+  )
+  | inr new ↦ absurd (stays new.1)
+]
+
+pub handle-stays : (s : ℕ) → Handle s ≡ Disposed → ⊥
+handle-stays s e = cc
+
+pub pointer-stays : (place : ℕ) → Pointer place ≡ Disposed → ⊥
+pointer-stays place e = cc
+
+-- the slots that are used where one name is disposed of
+pub used-without : (slots : ℕ → Slot) (es : List Anchor) (h : ℕ) (old : Anchor) (left : List Meaning)
+    → slice_get es h ≡ Some old → left ≡ slice_set (map (name_of slots) es) h names.Disposed
+    → count_by uses_slot left + used_by (name_of slots old) ≡ count_by uses_slot (map (name_of slots) es)
+used-without slots es h old left at is =
+    let e : count_by uses_slot left ≡ count_by uses_slot (slice_set (map (name_of slots) es) h names.Disposed) =
+    ap (count_by uses_slot) is in
+    let was : get_or (map (name_of slots) es) h names.Disposed ≡ name_of slots old =
+    get_or_from_slice_get (map (name_of slots) es) h _ names.Disposed
+    (slice_get-map (name_of slots) es h ∙ ap (option_map (name_of slots)) at) in
+    let there : used_by (get_or (map (name_of slots) es) h names.Disposed) ≡ used_by (name_of slots old) =
+    ap used_by was in
+    let c = sum_by-set used_by (map (name_of slots) es) h names.Disposed names.Disposed
+    (let w : h < length es = slice_get_within es h old at in
+    omega (arith, length-map es (name_of slots))) in
+    omega arith
+
+-- the state of a heap whose zone and names are known
+pub state-left : (zone' : List Block) (slots : ℕ → Slot) (left : List Anchor) (zone : List Block) (l : List Meaning)
+    → zone ≡ rename (handle_number left) (pointer_number left) zone' → map (name_of slots) left ≡ l
+    → (let s : State = record { zone = zone; names = l } in s) ≡ state_of zone' slots left
+state-left zone' slots left zone l done named =
+    ap (λ z. let s : State = record { zone = z; names = l } in s) done
+    ∙ ap (λ l. let s : State = record { zone = rename (handle_number left) (pointer_number left) zone'; names = l } in
+    s) (sym named)
+
 -- the names of a heap with a handle disposed of
 module _ (zone : List Block) (rest rest' : Rest) (es : List Anchor) (h slot : ℕ)
     (agrees : Agrees zone rest es) (at : slice_get es h ≡ Some (Handle slot)) (small : h < no_number)
@@ -276,37 +316,22 @@ module _ (zone : List Block) (rest rest' : Rest) (es : List Anchor) (h slot : �
 
     other-left : (k s : ℕ) → slice_get left k ≡ Some (Handle s) → (slice_get es k ≡ Some (Handle s))
         × ((s == slot) ≡ false)
-    other-left k s found = elim (slice_get-set es h Disposed k (Handle s) found) [
-      | inl old ↦ (
-        old,
-        false_from_ne_true (s == slot) (λ e. let same : k
-            ≡ h = agrees.apart k h s old (at ∙ ap (λ n. Some (Handle n)) (sym ((Decides-eqb s slot).0 e))) in
-            changed (sym (slice_get-set_same es h Disposed (slice_get_within es h (Handle slot) at))
-            ∙ ap (slice_get left) (sym same) ∙ found)),
-      )
-      | inr new ↦ absurd (changed (sym (ap Some new.1)))
-    ]
-      where
-        changed : Some Disposed ≡ Some (Handle s) → ⊥
-        changed e = cc
+    other-left k s found =
+        let other = without-other es h (Handle slot) at k (Handle s) (handle-stays s) found in (
+          other.0,
+          false_from_ne_true (s == slot) (λ e. other.1 (agrees.apart k h s other.0
+              (at ∙ ap (λ n. Some (Handle n)) (sym ((Decides-eqb s slot).0 e))))),
+        )
 
     slots-left : (s : ℕ) → (s == slot) ≡ false → rest'.slots s ≡ rest.slots s
     slots-left s e = now s ∙ cond-false (s == slot) Unused (rest.slots s) e
-
-    flipped : (k : ℕ) → (k == slot) ≡ false → (slot == k) ≡ false
-    flipped k e = false_from_ne_true (slot == k) (λ t. let same : slot ≡ k = (Decides-eqb slot k).0 t in
-        let z : (k == slot) ≡ true = (Decides-eqb k slot).1 (sym same) in let f : true ≡ false = sym z ∙ e in cc)
 
     pub names-left : map (name_of rest'.slots) left ≡ slice_set (map (name_of rest.slots) es) h names.Disposed
     names-left = names-same rest.slots rest'.slots left (λ k s found. slots-left s (other-left k s found).1)
         ∙ map-set (name_of rest.slots) es h Disposed
 
     pointer-left : (k p : ℕ) → slice_get left k ≡ Some (Pointer p) → slice_get es k ≡ Some (Pointer p)
-    pointer-left k p found = elim (slice_get-set es h Disposed k (Pointer p) found)
-        [ inl old ↦ old | inr new ↦ absurd (gone new.1) ]
-      where
-        gone : Pointer p ≡ Disposed → ⊥
-        gone e = cc
+    pointer-left k p found = (without-other es h (Handle slot) at k (Pointer p) (pointer-stays p) found).0
 
     pub agrees-left : Agrees (tidy (freed (is_relocatable slot) zone)) rest' left
     agrees-left = record {
@@ -316,16 +341,9 @@ module _ (zone : List Block) (rest rest' : Rest) (es : List Anchor) (h slot : �
       lone = λ j k p a b. agrees.lone j k p (pointer-left j p a) (pointer-left k p b);
       counted =
           let a = agrees.counted in
-          let e : count_by uses_slot (map (name_of rest'.slots) left)
-          ≡ count_by uses_slot (slice_set (map (name_of rest.slots) es) h names.Disposed) =
-          ap (count_by uses_slot) names-left in
-          let was : get_or (map (name_of rest.slots) es) h names.Disposed ≡ names.Handle (role_of (rest.slots slot)) =
-          get_or_from_slice_get (map (name_of rest.slots) es) h _ names.Disposed
-          (slice_get-map (name_of rest.slots) es h ∙ ap (option_map (name_of rest.slots)) at) in
-          let one_there : used_by (get_or (map (name_of rest.slots) es) h names.Disposed) ≡ 1 = ap used_by was in
-          let c = sum_by-set used_by (map (name_of rest.slots) es) h names.Disposed names.Disposed
-          (let w : h < length es = slice_get_within es h (Handle slot) at in
-          omega (arith, length-map es (name_of rest.slots))) in
+          let c : count_by uses_slot (map (name_of rest'.slots) left) + 1
+          ≡ count_by uses_slot (map (name_of rest.slots) es) =
+          used-without rest.slots es h (Handle slot) _ at names-left in
           omega (arith, one, all);
     }
 
@@ -341,16 +359,8 @@ module _ (zone : List Block) (rest rest' : Rest) (es : List Anchor) (h slot : �
         (λ k. disposed_of k.role k.number (state_of zone rest.slots es)))
         (slice_get-map (name_of rest.slots) es h ∙ ap (option_map (name_of rest.slots)) at)
         ∙ ap (λ t. disposed_of (role_of t) h (state_of zone rest.slots es)) (agrees.used h slot at)
-        ∙ ap (λ z. (Ok tt, record { zone = z; names = slice_set (map (name_of rest.slots) es) h names.Disposed }))
-        zone-left
-        ∙ ap (λ l. (
-          Ok tt,
-          record {
-            zone = rename (handle_number left) (pointer_number left)
-                (tidy (freed (is_relocatable slot) zone));
-            names = l;
-          },
-        )) (sym names-left)
+        ∙ ap (λ (s : State). (Ok tt, s)) (state-left (tidy (freed (is_relocatable slot) zone)) rest'.slots left _ _
+        zone-left names-left)
       where
         zone-left : tidy (freed (is_relocatable h) (rename (handle_number es) (pointer_number es) zone))
             ≡ rename (handle_number left) (pointer_number left) (tidy (freed (is_relocatable slot) zone))
@@ -362,7 +372,7 @@ module _ (zone : List Block) (rest rest' : Rest) (es : List Anchor) (h slot : �
             (λ k. number_from-set 0 (points_to k) es h (Handle slot) Disposed at refl refl)
             (tidy (freed (is_relocatable slot) zone))
             ∙ rename-unless (handle_number es) (handle_number left) (pointer_number es) slot
-            (λ k e. number_from-set 0 (leads_to k) es h (Handle slot) Disposed at (flipped k e) refl)
+            (λ k e. number_from-set 0 (leads_to k) es h (Handle slot) Disposed at (flipped slot k e) refl)
             (tidy (freed (is_relocatable slot) zone)) (has-released slot zone))
 
 -- the spot of a place is a way to see the zone
@@ -414,30 +424,27 @@ agrees-kept zone zone' rest rest' es agrees fixed now = record {
       omega (arith, now.unused, now.all);
 }
 
--- where nothing is moved the slots are kept
-pub kept : (rest rest' : Rest) → IsRest rest rest' → KeepsSlots rest rest'
-kept rest rest' now = record {
+-- with the same count of moves, the rest is what it was
+as_many : (rest rest' : Rest) (moves : ℕ) → IsRest rest rest'
+    → IsRest (record rest { moves = moves }) (record rest' { moves = moves })
+as_many rest rest' moves now = record {
   slots = now.slots;
   unused = now.unused;
   all = now.all;
   moves = refl;
-  window =
-      now.window;
+  window = now.window;
 }
+
+-- where nothing is moved the slots are kept
+pub kept : (rest rest' : Rest) → IsRest rest rest' → KeepsSlots rest rest'
+kept rest rest' now = as_many rest rest' rest'.moves now
 
 -- what a store has beside its blocks, as if none had moved
 abbrev pub unmoved : Rest → Rest → Rest
 unmoved rest rest' = record rest' { moves = rest.moves }
 
 pub unmoved-is : (rest rest' : Rest) → KeepsSlots rest rest' → IsRest rest (unmoved rest rest')
-unmoved-is rest rest' now = record {
-  slots = now.slots;
-  unused = now.unused;
-  all = now.all;
-  moves = refl;
-  window =
-      now.window;
-}
+unmoved-is rest rest' now = as_many (record rest { moves = rest'.moves }) rest' rest.moves now
 
 pub agrees-same : (zone zone' : List Block) (rest rest' : Rest) (es : List Anchor) → Agrees zone rest es
     → KeepsFixed zone zone' → IsRest rest rest' → Agrees zone' rest' es
@@ -470,6 +477,19 @@ silent-done {T = T} row value zone zone' rest rest' es es' log r is done window 
     ∙ ap (λ w. (r, record { heap = state_of zone' rest'.slots es'; log = log; moves = rest'.moves; window = w }))
     (sym window))
 
+-- what a call gives that leaves another zone and the names as they were
+pub silent-kept : {T : Type 0} (row : State → Answer T) (value : Memory) (zone zone' : List Block) (rest rest' : Rest)
+    (es : List Anchor) (log : Log) (r : Result T OsErr) → memory_of zone rest es log ≡ value
+    → row (state_of zone rest.slots es) ≡ (
+      r,
+      record (state_of zone rest.slots es) { zone = rename (handle_number es) (pointer_number es) zone' },
+    ) → IsRest rest rest' → silent row value ≡ (r, memory_of zone' rest' es log)
+silent-kept {T = T} row value zone zone' rest rest' es log r is done now =
+    silent-done row value zone zone' rest rest' es es log r is
+    (done ∙ ap (λ l. (r, record { zone = rename (handle_number es) (pointer_number es) zone'; names = l }))
+    (sym (names-same rest.slots rest'.slots es (λ h s at. now.slots s))))
+    now.window now.moves
+
 -- what a refused call gives
 pub silent-refused : {T : Type 0} (row : State → Answer T) (value : Memory) (zone : List Block) (rest : Rest)
     (es : List Anchor) (log : Log) (code : OsErr)
@@ -478,7 +498,29 @@ pub silent-refused : {T : Type 0} (row : State → Answer T) (value : Memory) (z
 silent-refused row value zone rest es log code is done = silent-done row value zone zone rest rest es es log (Err code)
     is done refl refl ∙ ap (λ (m : Memory). (Err code, m)) is
 
--- the answer of a call that writes bytes into the block that it looks up, where they were written
+-- what a call answers that writes bytes into the block that it looks up
+written-row : (s : State) (f g : ℕ → ℕ) (look : State → Result Held OsErr) (h i : ℕ) (x : List ℕ) (at : Spot) (t : Bool)
+    → look s ≡ Ok (held h (rename_spot f g at)) → nat_le (i + length x) (length (content_of at.here)) ≡ t
+    → for_found (look s) s (λ k. written_at i x k.at s) ≡ cond t (
+      Ok tt,
+      record s {
+        zone = rename f g at.below
+            ++ with_content (written i x (content_of (rename_block f g at.here))) (rename_block f g at.here)
+            ∷ rename f g at.above;
+      },
+    ) (refused PROFILE s)
+written-row s f g look h i x at t found test =
+    ap (λ r. for_found r s (λ k. written_at i x k.at s)) found
+    ∙ ap (λ t. cond t (
+      Ok tt,
+      record s {
+        zone = rename f g at.below
+            ++ with_content (written i x (content_of (rename_block f g at.here))) (rename_block f g at.here)
+            ∷ rename f g at.above;
+      },
+    ) (refused PROFILE s)) (ap (λ c. nat_le (i + length x) (length c)) (content_of-rename f g at.here) ∙ test)
+
+-- the answer where they were written
 pub written-done : (value : Memory) (zone zone' : List Block) (rest rest' : Rest) (es : List Anchor) (log : Log)
     (look : State → Result Held OsErr) (h i : ℕ) (x : List ℕ) (s : Spot) → memory_of zone rest es log ≡ value
     → look (state_of zone rest.slots es) ≡ Ok (held h (rename_spot (handle_number es) (pointer_number es) s))
@@ -486,34 +528,20 @@ pub written-done : (value : Memory) (zone zone' : List Block) (rest rest' : Rest
     → zone' ≡ s.below ++ with_content (written i x (content_of s.here)) s.here ∷ s.above
     → silent (λ s. for_found (look s) s (λ k. written_at i x k.at s)) value ≡ (Ok tt, memory_of zone' rest' es log)
 written-done value zone zone' rest rest' es log look h i x s is found now fits done =
-    silent-done (λ s. for_found (look s) s (λ k. written_at i x k.at s)) value zone zone' rest rest' es es log (Ok tt)
-    is
-    (ap (λ r. for_found r state (λ k. written_at i x k.at state)) found
-    ∙ ap (λ t. cond t (
-      Ok tt,
-      record state {
-        zone = rename f g s.below
-            ++ with_content (written i x (content_of (rename_block f g s.here))) (rename_block f g s.here)
-            ∷ rename f g s.above;
-      },
-    ) (refused PROFILE state)) (ap (λ c. nat_le (i + length x) (length c))
-    (content_of-rename f g s.here) ∙ test)
+    let state : State = state_of zone rest.slots es in
+    silent-kept (λ s. for_found (look s) s (λ k. written_at i x k.at s))
+    value zone zone' rest rest' es log (Ok tt) is
+    (written-row state f g look h i x s true found test
     ∙ ap (λ z. (Ok tt, record state { zone = z })) (ap (λ b. rename f g s.below ++ b ∷ rename f g s.above)
     (with_content-rename f g _ s.here ∙ ap (λ c. rename_block f g (with_content (written i x c) s.here))
     (content_of-rename f g s.here)) ∙ sym (map-append (rename_block f g) s.below
-    (with_content (written i x (content_of s.here)) s.here ∷ s.above)) ∙ ap (rename f g) (sym done))
-    ∙ ap (λ l. (Ok tt, record { zone = rename f g zone'; names = l }))
-    (sym (names-same rest.slots rest'.slots es (λ h s at. now.slots s))))
-    now.window now.moves
+    (with_content (written i x (content_of s.here)) s.here ∷ s.above)) ∙ ap (rename f g) (sym done))) now
   where
     f : ℕ → ℕ
     f = handle_number es
 
     g : ℕ → ℕ
     g = pointer_number es
-
-    state : State
-    state = state_of zone rest.slots es
 
     test : nat_le (i + length x) (length (content_of s.here)) ≡ true
     test = grind (arith, nat_tests)
@@ -526,26 +554,8 @@ pub written-outside : (value : Memory) (zone : List Block) (rest : Rest) (es : L
     ≡ (Err PROFILE, value)
 written-outside value zone rest es log look h i x s is found past =
     silent-refused (λ s. for_found (look s) s (λ k. written_at i x k.at s)) value zone rest es log PROFILE is
-    (ap (λ r. for_found r state (λ k. written_at i x k.at state)) found
-    ∙ ap (λ t. cond t (
-      Ok tt,
-      record state {
-        zone = rename f g s.below
-            ++ with_content (written i x (content_of (rename_block f g s.here))) (rename_block f g s.here)
-            ∷ rename f g s.above;
-      },
-    ) (refused PROFILE state)) (ap (λ c. nat_le (i + length x) (length c))
-    (content_of-rename f g s.here) ∙ test))
+    (written-row (state_of zone rest.slots es) (handle_number es) (pointer_number es) look h i x s false found test)
   where
-    f : ℕ → ℕ
-    f = handle_number es
-
-    g : ℕ → ℕ
-    g = pointer_number es
-
-    state : State
-    state = state_of zone rest.slots es
-
     test : nat_le (i + length x) (length (content_of s.here)) ≡ false
     test = grind (arith, nat_tests)
 

@@ -27,7 +27,7 @@ use Rattle.heap_calls.specs.declared.anchor.Anchor.TheVariants.{Handle}
 use Rattle.heap_calls.specs.Inner.Numbered.{state_of, memory_of, handle_number, pointer_number, no_number}
 use Rattle.heap_calls.proofs.Numbering.Answering.{look_up-by, held}
 use Rattle.heap_calls.proofs.Numbering.Numbers.{Apart, is_relocatable-number}
-use Rattle.heap_calls.proofs.Numbering.Changing.{silent-done, silent-refused, names-same}
+use Rattle.heap_calls.proofs.Numbering.Changing.{silent-kept, silent-refused}
 
 -- a block without flags has none to change
 pub flags-none : (change : Flags → Flags) (b : Block) → seen_flags (Some (seen b)) ≡ None → flagged change b ≡ b
@@ -74,7 +74,8 @@ pub change_flags-done : (change : Flags → Flags) (value : Memory) (zone zone' 
     → IsRest rest rest' → zone' ≡ s.below ++ flagged change s.here ∷ s.above
     → silent (change_flags change handle) value ≡ (Ok tt, memory_of zone' rest' es log)
 change_flags-done change value zone zone' rest rest' es log handle h s is found now done =
-    silent-done (change_flags change handle) value zone zone' rest rest' es es log (Ok tt) is
+    let state : State = state_of zone rest.slots es in
+    silent-kept (change_flags change handle) value zone zone' rest rest' es log (Ok tt) is
     (ap (λ r. for_found r state (λ k. (
       Ok tt,
       record state {
@@ -84,19 +85,13 @@ change_flags-done change value zone zone' rest rest' es log handle h s is found 
     ))) found
     ∙ ap (λ z. (Ok tt, record state { zone = z })) (ap (λ b. rename f g s.below ++ b ∷ rename f g s.above)
     (flagged-rename f g change s.here) ∙ sym (map-append (rename_block f g) s.below
-    (flagged change s.here ∷ s.above)) ∙ ap (rename f g) (sym done))
-    ∙ ap (λ l. (Ok tt, record { zone = rename f g zone'; names = l }))
-    (sym (names-same rest.slots rest'.slots es (λ h s at. now.slots s))))
-    now.window now.moves
+    (flagged change s.here ∷ s.above)) ∙ ap (rename f g) (sym done))) now
   where
     f : ℕ → ℕ
     f = handle_number es
 
     g : ℕ → ℕ
     g = pointer_number es
-
-    state : State
-    state = state_of zone rest.slots es
 
 -- moving a block to the top sees no names
 pub high-rename : (f g : ℕ → ℕ) (p q : Block → Bool) → ((b : Block) → p (rename_block f g b) ≡ q b) → (run : List Block)
@@ -133,19 +128,14 @@ module _ (value : Memory) (zone : List Block) (rest : Rest) (es : List Anchor) (
     (is : memory_of zone rest es log ≡ value) (bound : handle ≡ Some h) (at : slice_get es h ≡ Some (Handle slot))
     (apart : Apart es) (small : h < no_number)
   where
-    abbrev f : ℕ → ℕ
-    f = handle_number es
-
-    abbrev g : ℕ → ℕ
-    g = pointer_number es
-
     abbrev state : State
     state = state_of zone rest.slots es
 
-    looked : (o : Option Spot) → spot (is_relocatable slot) zone ≡ o
-        → look_up handle state ≡ ok_or (option_map (held h) (option_map (rename_spot f g) o)) NIL_HANDLE
+    looked : (o : Option Spot) → spot (is_relocatable slot) zone ≡ o → look_up handle state
+        ≡ ok_or (option_map (held h) (option_map (rename_spot (handle_number es) (pointer_number es)) o)) NIL_HANDLE
     looked o e = look_up-by zone rest.slots es handle h slot bound at apart small
-        ∙ ap (λ o. ok_or (option_map (held h) (option_map (rename_spot f g) o)) NIL_HANDLE) e
+        ∙ ap (λ o. ok_or (option_map (held h) (option_map (rename_spot (handle_number es) (pointer_number es)) o))
+        NIL_HANDLE) e
 
     abbrev moved : Held → Answer (Unit {0})
     moved k = cond (is_mover k.at.here) (Ok tt, record state { zone = hoisted k.number state.zone })
@@ -156,27 +146,28 @@ module _ (value : Memory) (zone : List Block) (rest : Rest) (es : List Anchor) (
     move_hhi-emptied none = silent-refused (move_hhi handle) value zone rest es log NIL_HANDLE is
         (ap (λ r. for_found r state moved) (looked None none))
 
+    -- what is answered at a block, by whether it can move
+    row : (s : Spot) (t : Bool) → spot (is_relocatable slot) zone ≡ Some s → is_mover s.here ≡ t
+        → move_hhi handle state ≡ cond t (Ok tt, record state { zone = hoisted h state.zone }) (refused LOCKED state)
+    row s t found can =
+        ap (λ r. for_found r state moved) (looked (Some s) found)
+        ∙ ap (λ t. cond t (Ok tt, record state { zone = hoisted h state.zone }) (refused LOCKED state))
+        (is_mover-rename (handle_number es) (pointer_number es) s.here ∙ can)
+
     pub move_hhi-locked : (s : Spot) → spot (is_relocatable slot) zone ≡ Some s → is_mover s.here ≡ false
         → silent (move_hhi handle) value ≡ (Err LOCKED, value)
-    move_hhi-locked s found locked =
-        silent-refused (move_hhi handle) value zone rest es log LOCKED is
-        (ap (λ r. for_found r state moved) (looked (Some s) found)
-        ∙ ap (λ t. cond t (Ok tt, record state { zone = hoisted h state.zone }) (refused LOCKED state))
-        (is_mover-rename f g s.here ∙ locked))
+    move_hhi-locked s found locked = silent-refused (move_hhi handle) value zone rest es log LOCKED is
+        (row s false found locked)
 
     pub move_hhi-done : (zone' : List Block) (rest' : Rest) (s : Spot) → spot (is_relocatable slot) zone ≡ Some s
         → is_mover s.here ≡ true → IsRest rest rest' → zone' ≡ hoisted slot zone
         → silent (move_hhi handle) value ≡ (Ok tt, memory_of zone' rest' es log)
     move_hhi-done zone' rest' s found free now done =
-        silent-done (move_hhi handle) value zone zone' rest rest' es es log (Ok tt) is
-        (ap (λ r. for_found r state moved) (looked (Some s) found)
-        ∙ ap (λ t. cond t (Ok tt, record state { zone = hoisted h state.zone }) (refused LOCKED state))
-        (is_mover-rename f g s.here ∙ free)
-        ∙ ap (λ z. (Ok tt, record state { zone = z })) (hoisted-rename f g h slot
-        (is_relocatable-number es h slot at apart small) zone ∙ ap (rename f g) (sym done))
-        ∙ ap (λ l. (Ok tt, record { zone = rename f g zone'; names = l }))
-        (sym (names-same rest.slots rest'.slots es (λ h s at. now.slots s))))
-        now.window now.moves
+        let f : ℕ → ℕ = handle_number es in
+        let g : ℕ → ℕ = pointer_number es in
+        silent-kept (move_hhi handle) value zone zone' rest rest' es log (Ok tt) is
+        (row s true found free ∙ ap (λ z. (Ok tt, record state { zone = z })) (hoisted-rename f g h slot
+        (is_relocatable-number es h slot at apart small) zone ∙ ap (rename f g) (sym done))) now
 
 -- the run of a block, found in a tidy zone with no purge and no Free bytes wanted
 and-free : (test : List Block → Bool) (zone : List Block) → run_spot (λ run. test run && has_free 0 run) zone

@@ -1,5 +1,5 @@
 use Rattle.std.proofs.Common.{◌≡◌, ℕ, ◌-◌, zero, suc, Bool, List, [], ◌∷◌, ◌++◌, length, refl, sym, ◌∙◌, ap, map}
-use Rattle.std.proofs.Common.{Option, Some, None, subst, max, Ok}
+use Rattle.std.proofs.Common.{Option, Some, None, max, Result, Ok}
 use Rattle.std.proofs.lemmas.List.{map-append, length-map}
 use Rattle.block_store.specs.Block.{Block, free_of, free_sum, is_room, rename, rename_block}
 use Rattle.block_store.specs.Run.{Stretch, Segments, segments, runs, settle}
@@ -7,17 +7,18 @@ use Rattle.block_store.specs.Compact.{largest, largest_free, largest_run, settle
 use Rattle.block_store.specs.Compact.{has_room, runs_settled, compacted}
 use Rattle.block_store.proofs.Renamed.Renaming.{free_of-rename, total-rename, is_room-rename, has-rename, settle-rename}
 use Rattle.block_store.proofs.Renamed.Renaming.{joined-rename, segments-rename, rename_stretch}
-use Rattle.block_store.specs.Rest.{Rest, Site, IsRest}
+use Rattle.block_store.specs.Rest.{Rest, IsRest}
 use Rattle.mac_words.specs.Size.{phys}
 use Rattle.heap_calls.specs.declared.log.Log.{Log}
+use Rattle.mac_words.specs.declared.code.OsErr.{OsErr}
 use Rattle.mac_words.specs.declared.code.TheConstants.OsErr.{NO_ERR}
-use Rattle.heap_calls.specs.State.{Memory, Meaning}
-use Rattle.heap_calls.specs.Answer.{compact_mem, noting}
+use Rattle.heap_calls.specs.State.{State, Memory}
+use Rattle.heap_calls.specs.Answer.{Answer, compact_mem, noting, code_of}
 use Rattle.heap_calls.specs.declared.anchor.Anchor.{Anchor}
 use Rattle.heap_calls.specs.Searches.{stretches}
-use Rattle.heap_calls.specs.Inner.Numbered.{memory_of, name_of, handle_number, pointer_number}
+use Rattle.heap_calls.specs.Inner.Numbered.{state_of, memory_of, handle_number, pointer_number}
 use Rattle.heap_calls.proofs.Room.Stretches.{stretches-rename}
-use Rattle.heap_calls.proofs.Numbering.Changing.{names-same}
+use Rattle.heap_calls.proofs.Numbering.Changing.{silent-kept}
 
 -- The largest that can be had, and compaction, see no names.
 
@@ -85,6 +86,27 @@ pub compacted-rename : (f g : ℕ → ℕ) (p : Option ℕ) (zone : List Block)
 compacted-rename f g p zone = ap (λ k. settled k (rename f g zone)) (runs_settled-rename f g p zone)
     ∙ settled-rename f g (runs_settled p zone) zone
 
+-- what a call answers that tells the most that can be had of the zone that it leaves
+abbrev pub told_most : State → List Block → Answer ℕ
+told_most s zone = (Ok (largest_free zone - 16), record s { zone = zone })
+
+pub most-told : (row : State → Answer ℕ) (value : Memory) (zone zone' : List Block) (rest rest' : Rest)
+    (es : List Anchor) (log : Log) (bytes most : ℕ) → memory_of zone rest es log ≡ value
+    → row (state_of zone rest.slots es)
+    ≡ told_most (state_of zone rest.slots es) (rename (handle_number es) (pointer_number es) zone')
+    → IsRest rest rest' → bytes ≡ largest_free zone' → most ≡ bytes - 16
+    → noting row value ≡ (Ok most, memory_of zone' rest' es (record log { code = NO_ERR }))
+most-told row value zone zone' rest rest' es log bytes most is done now free less =
+    let left : State = record (state_of zone rest.slots es) {
+      zone = rename (handle_number es) (pointer_number es) zone';
+    } in
+    ap noted (silent-kept row value zone zone' rest rest' es log (Ok most) is
+    (done ∙ ap (λ (k : ℕ). (Ok k, left)) (ap (λ k. k - 16)
+    (largest_free-rename (handle_number es) (pointer_number es) zone' ∙ sym free) ∙ sym less)) now)
+  where
+    noted : Result ℕ OsErr × Memory → Result ℕ OsErr × Memory
+    noted a = (a.0, record a.1 { log = record a.1.log { code = code_of a.0 } })
+
 -- the answer of CompactMem, where so many runs were settled
 pub compact_mem-done : (value : Memory) (n : ℕ) (zone zone' : List Block) (rest rest' : Rest) (es : List Anchor)
     (log : Log) (bytes most : ℕ) → memory_of zone rest es log ≡ value → zone' ≡ compacted (phys n) zone
@@ -92,31 +114,8 @@ pub compact_mem-done : (value : Memory) (n : ℕ) (zone zone' : List Block) (res
     → bytes ≡ largest_free zone' → most ≡ bytes - 16 → noting (compact_mem n) value
     ≡ (Ok most, memory_of zone' rest' es (record log { code = NO_ERR }))
 compact_mem-done value n zone zone' rest rest' es log bytes most is done now free less =
-    let P : Memory → Type 0 = λ m. noting (compact_mem n) m ≡ (
-      Ok most,
-      memory_of zone' rest' es
-          (record log { code = NO_ERR }),
-    ) in
-    subst P is
-    (ap (λ z. (Ok (largest_free z - 16), after z (map (name_of rest.slots) es) rest.moves rest.window))
-    (compacted-rename f g (phys n) zone ∙ ap (rename f g) (sym done))
-    ∙ ap (λ k. (Ok k, after (rename f g zone') (map (name_of rest.slots) es) rest.moves rest.window))
-    (ap (λ k. k - 16) (largest_free-rename f g zone' ∙ sym free) ∙ sym less)
-    ∙ ap (λ l. (Ok most, after (rename f g zone') l rest.moves rest.window))
-    (sym (names-same rest.slots rest'.slots es (λ h s at. now.slots s)))
-    ∙ ap (λ m. (Ok most, after (rename f g zone') (map (name_of rest'.slots) es) m rest.window)) (sym now.moves)
-    ∙ ap (λ w. (Ok most, after (rename f g zone') (map (name_of rest'.slots) es) rest'.moves w)) (sym now.window))
-  where
-    f : ℕ → ℕ
-    f = handle_number es
-
-    g : ℕ → ℕ
-    g = pointer_number es
-
-    after : List Block → List Meaning → ℕ → Site → Memory
-    after z l m w = record {
-      heap = record { zone = z; names = l };
-      log = record log { code = NO_ERR };
-      moves = m;
-      window = w;
-    }
+    let f : ℕ → ℕ = handle_number es in
+    let g : ℕ → ℕ = pointer_number es in
+    most-told (compact_mem n) value zone zone' rest rest' es log bytes most is
+    (ap (told_most (state_of zone rest.slots es)) (compacted-rename f g (phys n) zone ∙ ap (rename f g) (sym done)))
+    now free less

@@ -10,7 +10,7 @@ use Rattle.block_store.proofs.Renamed.Renaming.{size-rename, is_mover-rename, to
 use Rattle.block_store.proofs.Renamed.Renaming.{spot-rename, segments-rename, has_free-rename, purge-rename}
 use Rattle.block_store.proofs.Renamed.Renaming.{grow_up-rename, grow_mover-rename}
 use Rattle.block_store.proofs.Renamed.GrowRenaming.{resized-rename, grow-rename}
-use Rattle.block_store.proofs.Plain.Options.{is_some-map}
+use Rattle.mac_words.proofs.Plain.{is_some-map}
 use Rattle.heap_calls.specs.Inner.Search.{tries}
 use Rattle.heap_calls.specs.Searches.{room_searches, in_place_searches, growth_searches, resized_at, size_searches}
 use Rattle.heap_calls.specs.Inner.Growing.{fitted}

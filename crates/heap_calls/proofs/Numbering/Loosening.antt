@@ -30,7 +30,7 @@ use Rattle.heap_calls.specs.declared.refusal.Refusal.TheVariants.{Code, HostMemo
 use Rattle.heap_calls.specs.declared.anchor.Anchor.{Anchor}
 use Rattle.heap_calls.specs.declared.anchor.Anchor.TheVariants.{Handle, Pointer, Disposed}
 use Rattle.heap_calls.proofs.Numbering.Numbers.{Apart, is_relocatable-number}
-use Rattle.heap_calls.proofs.Numbering.Changing.{names-same, silent-done, silent-refused}
+use Rattle.heap_calls.proofs.Numbering.Changing.{silent-kept, silent-refused}
 
 -- Handles that have no block that is locked, and calls that look for room.
 
@@ -246,6 +246,18 @@ loose_refused row (Code code) zone rest es log handle value answer is found by =
     found)
 loose_refused row HostMemory zone rest es log handle value answer is found by = tt
 
+-- EmptyHandle, at what was found in a copy of the entries
+pub not_emptied : (handle : Option ℕ) (e : Refusal) (zone : List Block) (rest : Rest) (es copy : List Anchor)
+    (log : Log) (value : Memory) → tidy zone ≡ zone → memory_of zone rest es log ≡ value → copy ≡ es
+    → FindsLoose zone rest.slots copy handle (Err e) → IsAnswer (silent (empty_handle handle) value) (Err e) value
+not_emptied handle e zone rest es copy log value tidied is same found =
+    let state : State = state_of zone rest.slots es in
+    let f : ℕ → ℕ = handle_number es in
+    let g : ℕ → ℕ = pointer_number es in
+    loose_refused (empty_handle handle) e zone rest es log handle value (emptied_answer state) is
+    (loose_in zone rest.slots es copy handle (Err e) same found)
+    (empty_handle-loose handle state (tidy-rename f g zone ∙ ap (rename f g) tidied))
+
 -- no look for room
 counted-none : (n : ℕ) → n < 18446744073709551616 → counted n 0 ≡ n
 counted-none n less = omega arith
@@ -278,21 +290,16 @@ pub empty_handle-done : (value : Memory) (zone zone' : List Block) (rest rest' :
     → IsRest rest rest' → zone' ≡ tidy (freed (is_relocatable slot) zone)
     → silent (empty_handle handle) value ≡ (Ok tt, memory_of zone' rest' es log)
 empty_handle-done value zone zone' rest rest' es log handle h slot is found at apart small tidied now done =
-    silent-done (empty_handle handle) value zone zone' rest rest' es es log (Ok tt) is
+    let state : State = state_of zone rest.slots es in
+    silent-kept (empty_handle handle) value zone zone' rest rest' es log (Ok tt) is
     (empty_handle-loose handle state (tidy-rename f g zone ∙ ap (rename f g) tidied)
     ∙ ap (λ r. for_found r state (emptied_answer state)) found
     ∙ ap (λ z. (Ok tt, record state { zone = z }))
     (ap tidy (freed-rename f g (is_relocatable h) (is_relocatable slot) (is_relocatable-number es h slot at apart small)
-    zone) ∙ tidy-rename f g (freed (is_relocatable slot) zone) ∙ ap (rename f g) (sym done))
-    ∙ ap (λ l. (Ok tt, record { zone = rename f g zone'; names = l }))
-    (sym (names-same rest.slots rest'.slots es (λ h s at. now.slots s))))
-    now.window now.moves
+    zone) ∙ tidy-rename f g (freed (is_relocatable slot) zone) ∙ ap (rename f g) (sym done))) now
   where
     f : ℕ → ℕ
     f = handle_number es
 
     g : ℕ → ℕ
     g = pointer_number es
-
-    state : State
-    state = state_of zone rest.slots es

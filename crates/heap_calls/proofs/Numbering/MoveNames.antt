@@ -18,7 +18,7 @@ use Rattle.block_store.proofs.Renamed.Renaming.{run_spot-rename, rename_run_spot
 use Rattle.block_store.proofs.Renamed.Renaming.{place-rename, purge-rename, put_in_place-rename, grow_up-rename}
 use Rattle.block_store.proofs.Renamed.Renaming.{grow_mover-rename}
 use Rattle.block_store.proofs.Renamed.GrowRenaming.{resized-rename}
-use Rattle.block_store.proofs.Plain.Options.{is_some-map}
+use Rattle.mac_words.proofs.Plain.{is_some-map}
 use Rattle.heap_calls.specs.declared.anchor.Anchor.{Anchor}
 use Rattle.heap_calls.specs.State.{State}
 use Rattle.heap_calls.specs.Answer.{nothing}

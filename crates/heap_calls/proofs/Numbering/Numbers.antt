@@ -13,6 +13,10 @@ pub same_test : (a b c d : ℕ) → (a ≡ b → c ≡ d) → (c ≡ d → a ≡
 same_test a b c d there back = same_from_decides (a == b) (c == d) (Decides-eqb a b)
     (Decides-like (c == d) back there (Decides-eqb c d))
 
+-- a number isn't another one
+pub flipped : (h k : ℕ) → (k == h) ≡ false → (h == k) ≡ false
+flipped h k e = same_test h k k h sym sym ∙ e
+
 -- the number of the only entry that passes
 pub number_from-at : (n : ℕ) (test : Anchor → Bool) (es : List Anchor) (h : ℕ) (e : Anchor) → slice_get es h ≡ Some e
     → test e ≡ true

@@ -1,12 +1,11 @@
 use Rattle.std.proofs.Common.{◌≡◌, ℕ, ◌+◌, ◌-◌, ◌≤◌, ◌<◌, Bool, true, false, ◌||◌, ◌==◌, List, [], ◌∷◌, ◌++◌, length}
-use Rattle.std.proofs.Common.{refl, sym, ◌∙◌, ap, cond, map, arith, Option, Some, None, Result, Ok, Err, slice_get}
-use Rattle.std.proofs.Common.{slice_set, get_or, count_by, subst, inl, inr, nat_le}
-use Rattle.std.proofs.lemmas.List.{map-set, length-map}
-use Rattle.std.proofs.lemmas.List.Sums.{sum_by-set}
-use Rattle.std.proofs.lemmas.Option.{same_Some, slice_get_within, slice_get-map, get_or_from_slice_get}
-use Rattle.std.proofs.lemmas.Bool.{cond-true, cond-false, false≢true, false_from_ne_true, or_parts}
+use Rattle.std.proofs.Common.{refl, sym, ◌∙◌, ap, map, arith, Option, Some, None, Result, Ok, Err, slice_get}
+use Rattle.std.proofs.Common.{slice_set, count_by, subst, nat_le}
+use Rattle.std.proofs.lemmas.List.{map-set}
+use Rattle.std.proofs.lemmas.Option.{same_Some, slice_get-map}
+use Rattle.std.proofs.lemmas.Bool.{cond-true, cond-false, false≢true, or_parts}
 use Rattle.std.proofs.lemmas.Bool.Decides.{Decides-eqb, nat_tests}
-use Rattle.std.specs.Option.{option_map, ok_or}
+use Rattle.std.specs.Option.{option_map, ok_or, IsSome, IfSome}
 use Rattle.mac_words.specs.declared.code.OsErr.{OsErr}
 use Rattle.mac_words.specs.declared.code.TheConstants.OsErr.{NIL_HANDLE, WRONG_ZONE}
 use Rattle.block_store.specs.Block.{Block, Free, Fixed, Masters, Relocatable, size, sizes, tidy, rename, rename_block}
@@ -24,21 +23,21 @@ use Rattle.block_store.proofs.Zone.Totals.{total-append}
 use Rattle.block_store.proofs.Nonrelocatable.FixedCounts.{not_fixed-other}
 use Rattle.heap_calls.specs.State.{State, Memory, Meaning, uses_slot}
 use Rattle.heap_calls.specs.State as names
-use Rattle.heap_calls.specs.Answer.{Answer, Held, look_up, for_found, silent}
-use Rattle.heap_calls.specs.Inner.Given.{IsAnswer, FindsBlock}
+use Rattle.heap_calls.specs.Answer.{Held, look_up, for_found, silent}
 use Rattle.heap_calls.specs.Pointers.{pointed, pointed_at, named_block, block_named, dispose_pointer}
 use Rattle.heap_calls.specs.Inner.Pointing.{target, target_at, target_of, FindsHeld}
 use Rattle.heap_calls.specs.declared.refusal.Refusal.{Refusal}
-use Rattle.heap_calls.specs.declared.refusal.Refusal.TheVariants.{Code, HostMemory}
+use Rattle.heap_calls.specs.declared.refusal.Refusal.TheVariants.{Code}
 use Rattle.heap_calls.specs.declared.log.Log.{Log}
 use Rattle.heap_calls.specs.declared.anchor.Target.{Target}
 use Rattle.heap_calls.specs.declared.anchor.Anchor.{Anchor}
 use Rattle.heap_calls.specs.declared.anchor.Anchor.TheVariants.{Handle, Pointer, Disposed}
 use Rattle.heap_calls.specs.Inner.Numbered.{state_of, memory_of, name_of, handle_number, pointer_number, leads_to}
 use Rattle.heap_calls.specs.Inner.Numbered.{points_to, no_number, Agrees}
-use Rattle.heap_calls.proofs.Numbering.Answering.{held}
-use Rattle.heap_calls.proofs.Numbering.Numbers.{same_test, number_from-at, number_from-found, leads_to-same}
-use Rattle.heap_calls.proofs.Numbering.Changing.{number_from-set, slice_get-set, slice_get-set_same, names-same}
+use Rattle.heap_calls.proofs.Numbering.Answering.{held, at_place, content_of-rename, on_held}
+use Rattle.heap_calls.proofs.Numbering.Numbers.{flipped, same_test, number_from-at, number_from-found, leads_to-same}
+use Rattle.heap_calls.proofs.Numbering.Changing.{number_from-set, names-same, state-left, without-other, handle-stays}
+use Rattle.heap_calls.proofs.Numbering.Changing.{pointer-stays, used-without}
 use Rattle.heap_calls.proofs.Room.Staying.{fixed-tidy, fixed-freed_other}
 
 -- Pointers, by the places of their blocks.
@@ -171,6 +170,7 @@ pub record IsHeld (zone : List Block) (slots : ℕ → Slot) (es : List Anchor) 
         (held t.number (rename_spot (handle_number es) (pointer_number es) s))
     pub found : spot (is_fixed t.place) zone ≡ Some s
     pub at : spot_at t.place zone ≡ Some s
+    pub there : IsSome (spot_at t.place zone)
     pub distance : sizes s.below ≡ t.place
     pub fixed : is_fixed t.place s.here ≡ true
     pub few : t.place + 16 + length (content_of s.here) ≤ sizes zone
@@ -181,12 +181,20 @@ header-fits place (Fixed id content) e = omega arith
 header-fits place Masters e = absurd (false≢true e)
 header-fits place (Relocatable id flags content) e = absurd (false≢true e)
 
-pub pointer-held : (zone : List Block) (rest : Rest) (es : List Anchor) (pointer : Option ℕ) (t : Target)
-    → Agrees zone rest es → Placed 0 zone → tidy zone ≡ zone → t.number < no_number → target_of pointer es ≡ Ok t
-    → IsHeld zone rest.slots es pointer t
-pointer-held zone rest es pointer t agrees placed tidied small is =
-    let e = target_of-ok pointer es t is in
+-- a copy of the entries
+pub target_in : (es es' : List Anchor) (pointer : Option ℕ) (r : Result Target Refusal) → es' ≡ es
+    → r ≡ target_of pointer es' → target_of pointer es ≡ r
+target_in es es' pointer r same is = ap (target_of pointer) (sym same) ∙ sym is
+
+-- a pointer that was found in a copy of the entries has its block
+pub pointer-held : (zone : List Block) (rest : Rest) (es copy : List Anchor) (pointer : Option ℕ) (t : Target)
+    → Agrees zone rest es → Placed 0 zone → tidy zone ≡ zone → t.number < no_number → copy ≡ es
+    → Ok t ≡ target_of pointer copy → IsHeld zone rest.slots es pointer t
+pointer-held zone rest es copy pointer t agrees placed tidied small same is =
+    let e = target_of-ok pointer es t (target_in es copy pointer (Ok t) same is) in
     let there = fixed-there t.place 0 zone placed (apart-tidied zone tidied) (agrees.pointed t.number t.place e.1) in
+    let at : spot_at t.place zone ≡ Some there.s = let same : t.place - 0 ≡ t.place = omega arith in
+    ap (λ n. spot_at n zone) (sym same) ∙ there.at in
     let fixed = spot-passes (is_fixed t.place) zone there.s there.found in
     let distance : sizes there.s.below ≡ t.place = let d = there.distance in omega arith in
     let header = header-fits t.place there.s.here fixed in
@@ -208,16 +216,12 @@ pointer-held zone rest es pointer t agrees placed tidied small is =
           (is_fixed-number es t.number t.place e.1 agrees.lone small) zone
           ∙ ap (option_map (rename_spot (handle_number es) (pointer_number es))) there.found);
       found = there.found;
-      at = let same : t.place - 0 ≡ t.place = omega arith in ap (λ n. spot_at n zone) (sym same) ∙ there.at;
+      at = at;
+      there = let P : Option Spot → Type 0 = λ o. IsSome o in subst P (sym at) refl;
       distance = distance;
       fixed = fixed;
       few = omega (arith, header, whole, parts, distance);
     }
-
--- a copy of the entries
-pub target_in : (es es' : List Anchor) (pointer : Option ℕ) (r : Result Target Refusal) → es' ≡ es
-    → r ≡ target_of pointer es' → target_of pointer es ≡ r
-target_in es es' pointer r same is = ap (target_of pointer) (sym same) ∙ sym is
 
 -- the block of a name that is a pointer's, and of another
 pub sparing-pointer : (zone : List Block) (slots : ℕ → Slot) (es : List Anchor) (name : Option ℕ) (t : Target)
@@ -253,12 +257,6 @@ pub finds-same : (looked looked' : Result Held OsErr) (zone : List Block) (es : 
 finds-same looked looked' zone es r same found = let P : Result Held OsErr → Type 0 = λ l. FindsHeld l zone es r in
     subst P (sym same) found
 
-pub finds-block : (zone : List Block) (slots : ℕ → Slot) (es : List Anchor) (handle : Option ℕ) (r : Result ℕ Refusal)
-    → FindsBlock zone slots es handle r → FindsHeld (look_up handle (state_of zone slots es)) zone es r
-finds-block zone slots es handle (Ok place) found = found
-finds-block zone slots es handle (Err (Code code)) found = found
-finds-block zone slots es handle (Err HostMemory) found = found
-
 -- a pointer's block is found by its place
 pub finds-pointer : (zone : List Block) (slots : ℕ → Slot) (es : List Anchor) (pointer : Option ℕ) (t : Target)
     → sizes zone ≤ 134217728 → IsHeld zone slots es pointer t → FindsHeld (pointed_at pointer (state_of zone slots es))
@@ -280,35 +278,17 @@ pub found_by : (look : State → Result Held OsErr) (zone : List Block) (slots :
 found_by look zone slots es es' r same found = let P : List Anchor
     → Type 0 = λ l. FindsHeld (look (state_of zone slots l)) zone l r in subst P same found
 
--- a call that is refused for what was looked up
-pub refused_by : {T : Type 0} (look : State → Result Held OsErr) (e : Refusal) (zone : List Block) (rest : Rest)
-    (es : List Anchor) (log : Log) (value : Memory) → memory_of zone rest es log ≡ value
-    → FindsHeld (look (state_of zone rest.slots es)) zone es (Err e) → (answer : State → Held → Answer T)
-    → IsAnswer (silent (λ s. for_found (look s) s (answer s)) value) (Err e) value
-refused_by {T = T} look (Code code) zone rest es log value is found answer =
-    let P : Memory → Type 0 = λ m. silent {T = T} (λ s. for_found (look s) s (answer s)) m ≡ (Err code, m) in
-    subst P is (ap (λ r. let a : Answer T = for_found r (state_of zone rest.slots es)
-    (answer (state_of zone rest.slots es)) in (a.0, record (memory_of zone rest es log) { heap = a.1 })) found)
-refused_by look HostMemory zone rest es log value is found answer = tt
-
--- what a call answers at the block that was looked up
-pub on_held : {T : Type 0} (look : State → Result Held OsErr) (zone : List Block) (rest : Rest) (es : List Anchor)
-    (log : Log) (value : Memory) (k : Held) → memory_of zone rest es log ≡ value
-    → look (state_of zone rest.slots es) ≡ Ok k → (answer : State → Held → Answer T)
-    → silent (λ s. for_found (look s) s (answer s)) value ≡ (
-      (answer value.heap k).0,
-      record value
-          { heap = (answer value.heap k).1 },
-    )
-on_held {T = T} look zone rest es log value k is found answer =
-    let P : Memory → Type 0 = λ m. silent {T = T} (λ s. for_found (look s) s (answer s)) m
-    ≡ ((answer m.heap k).0, record m { heap = (answer m.heap k).1 }) in
-    subst P is (ap (λ r. let a : Answer T = for_found r (state_of zone rest.slots es)
-    (answer (state_of zone rest.slots es)) in (a.0, record (memory_of zone rest es log) { heap = a.1 })) found)
-
--- one for a name with a slot
-abbrev used_by : Meaning → ℕ
-used_by x = cond (uses_slot x) 1 0
+-- what a call answers that tells of the bytes of a pointer's block
+pub bytes-told : {T : Type 0} (tell : List ℕ → T) (zone : List Block) (rest : Rest) (es : List Anchor) (log : Log)
+    (value : Memory) (pointer : Option ℕ) (t : Target) (bytes : List ℕ) → memory_of zone rest es log ≡ value
+    → IsHeld zone rest.slots es pointer t → IfSome (spot_at t.place zone) (λ s. bytes ≡ content_of s.here)
+    → silent (λ s. for_found (pointed_at pointer s) s (λ k. (Ok (tell (content_of k.at.here)), s))) value
+    ≡ (Ok (tell bytes), value)
+bytes-told tell zone rest es log value pointer t bytes is there lent =
+    on_held (pointed_at pointer) zone rest es log value _ is there.looked
+    (λ s k. (Ok (tell (content_of k.at.here)), s))
+    ∙ ap (λ (x : List ℕ). (Ok (tell x), value)) (content_of-rename _ _ there.s.here
+    ∙ sym (at_place t.place zone there.s (λ s. bytes ≡ content_of s.here) there.at lent))
 
 -- other names of pointers than blocks have
 pub rename_pointer-unless : (f g g' : ℕ → ℕ) (id : ℕ) → ((k : ℕ) → (k == id) ≡ false → g' k ≡ g k) → (bs : List Block)
@@ -328,10 +308,6 @@ rename_pointer-unless f g g' id same (Relocatable k flags content ∷ bs) none =
 pub rename_slots-same : (f f' g : ℕ → ℕ) → ((k : ℕ) → f' k ≡ f k) → (bs : List Block) → rename f' g bs ≡ rename f g bs
 rename_slots-same f f' g same bs = ap (λ h. rename h g bs) (λ i k. same k i)
 
-flip : (k n : ℕ) → (k == n) ≡ false → (n == k) ≡ false
-flip k n e = false_from_ne_true (n == k) (λ t. let same : n ≡ k = (Decides-eqb n k).0 t in
-    let z : (k == n) ≡ true = (Decides-eqb k n).1 (sym same) in let f : true ≡ false = sym z ∙ e in cc)
-
 -- the names of a heap with a pointer disposed of
 module _ (zone : List Block) (rest rest' : Rest) (es : List Anchor) (h place : ℕ)
     (agrees : Agrees zone rest es) (at : slice_get es h ≡ Some (Pointer place)) (small : h < no_number)
@@ -342,26 +318,13 @@ module _ (zone : List Block) (rest rest' : Rest) (es : List Anchor) (h place : �
     left = slice_set es h Disposed
 
     handle-left : (k s : ℕ) → slice_get left k ≡ Some (Handle s) → slice_get es k ≡ Some (Handle s)
-    handle-left k s found = elim (slice_get-set es h Disposed k (Handle s) found)
-        [ inl old ↦ old | inr new ↦ absurd (gone new.1) ]
-      where
-        gone : Handle s ≡ Disposed → ⊥
-        gone e = cc
+    handle-left k s found = (without-other es h (Pointer place) at k (Handle s) (handle-stays s) found).0
 
     pointer-left : (k p : ℕ) → slice_get left k ≡ Some (Pointer p) → (slice_get es k ≡ Some (Pointer p))
         × (p ≡ place → ⊥)
-    pointer-left k p found = elim (slice_get-set es h Disposed k (Pointer p) found) [
-      | inl old ↦ (
-        old,
-        λ e. let same : k ≡ h = agrees.lone k h p old (at ∙ ap (λ n. Some (Pointer n)) (sym e)) in
-            changed (sym (slice_get-set_same es h Disposed (slice_get_within es h (Pointer place) at))
-            ∙ ap (slice_get left) (sym same) ∙ found),
-      )
-      | inr new ↦ absurd (changed (sym (ap Some new.1)))
-    ]
-      where
-        changed : Some Disposed ≡ Some (Pointer p) → ⊥
-        changed e = cc
+    pointer-left k p found =
+        let other = without-other es h (Pointer place) at k (Pointer p) (pointer-stays p) found in
+        (other.0, λ e. other.1 (agrees.lone k h p other.0 (at ∙ ap (λ n. Some (Pointer n)) (sym e))))
 
     pub names-left : map (name_of rest'.slots) left ≡ slice_set (map (name_of rest.slots) es) h names.Disposed
     names-left = names-same rest.slots rest'.slots left (λ k s found. now.slots s)
@@ -377,16 +340,9 @@ module _ (zone : List Block) (rest rest' : Rest) (es : List Anchor) (h place : �
       lone = λ j k p a b. agrees.lone j k p (pointer-left j p a).0 (pointer-left k p b).0;
       counted =
           let a = agrees.counted in
-          let e : count_by uses_slot (map (name_of rest'.slots) left)
-          ≡ count_by uses_slot (slice_set (map (name_of rest.slots) es) h names.Disposed) =
-          ap (count_by uses_slot) names-left in
-          let was : get_or (map (name_of rest.slots) es) h names.Disposed ≡ names.Pointer =
-          get_or_from_slice_get (map (name_of rest.slots) es) h _ names.Disposed
-          (slice_get-map (name_of rest.slots) es h ∙ ap (option_map (name_of rest.slots)) at) in
-          let none_there : used_by (get_or (map (name_of rest.slots) es) h names.Disposed) ≡ 0 = ap used_by was in
-          let c = sum_by-set used_by (map (name_of rest.slots) es) h names.Disposed names.Disposed
-          (let w : h < length es = slice_get_within es h (Pointer place) at in
-          omega (arith, length-map es (name_of rest.slots))) in
+          let c : count_by uses_slot (map (name_of rest'.slots) left) + 0
+          ≡ count_by uses_slot (map (name_of rest.slots) es) = used-without rest.slots es h (Pointer place) _ at
+          names-left in
           omega (arith, now.unused, now.all);
     }
 
@@ -404,16 +360,8 @@ module _ (zone : List Block) (rest rest' : Rest) (es : List Anchor) (h place : �
                 held.number names.Disposed;
           },
         ))) looked
-        ∙ ap (λ z. (Ok tt, record { zone = z; names = slice_set (map (name_of rest.slots) es) h names.Disposed }))
-        zone-left
-        ∙ ap (λ l. (
-          Ok tt,
-          record {
-            zone = rename (handle_number left) (pointer_number left)
-                (tidy (freed (is_fixed place) zone));
-            names = l;
-          },
-        )) (sym names-left)
+        ∙ ap (λ (s : State). (Ok tt, s)) (state-left (tidy (freed (is_fixed place) zone)) rest'.slots left _ _
+        zone-left names-left)
       where
         zone' : List Block
         zone' = tidy (freed (is_fixed place) zone)
@@ -431,5 +379,5 @@ module _ (zone : List Block) (rest rest' : Rest) (es : List Anchor) (h place : �
             ∙ sym (rename_slots-same (handle_number es) (handle_number left) (pointer_number left)
             (λ k. number_from-set 0 (leads_to k) es h (Pointer place) Disposed at refl refl) zone'
             ∙ rename_pointer-unless (handle_number es) (pointer_number es) (pointer_number left) place
-            (λ k e. number_from-set 0 (points_to k) es h (Pointer place) Disposed at (flip k place e) refl) zone'
+            (λ k e. number_from-set 0 (points_to k) es h (Pointer place) Disposed at (flipped place k e) refl) zone'
             none)

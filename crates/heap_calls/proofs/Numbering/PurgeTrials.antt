@@ -1,4 +1,4 @@
-use Rattle.std.proofs.Common.{◌≡◌, ℕ, ◌+◌, ◌-◌, ◌≤◌, Bool, List, length, refl, sym, ◌∙◌, ap, cond, map, arith, Option}
+use Rattle.std.proofs.Common.{◌≡◌, ℕ, ◌+◌, ◌-◌, ◌≤◌, Bool, List, length, refl, sym, ◌∙◌, ap, cond, arith, Option}
 use Rattle.std.proofs.Common.{None, Result, Ok, Err, subst}
 use Rattle.mac_words.specs.Size.{phys}
 use Rattle.mac_words.specs.declared.code.OsErr.{OsErr}
@@ -7,21 +7,22 @@ use Rattle.block_store.specs.Block.{Block, sizes, free_sum, rename}
 use Rattle.block_store.specs.Run.{runs}
 use Rattle.block_store.specs.Room.{purge, may_go}
 use Rattle.block_store.specs.Compact.{least_or_last, runs_settled, has_room, largest_free, settled, compacted}
-use Rattle.block_store.specs.Rest.{Rest, Site, counted, IsRest}
+use Rattle.block_store.specs.Rest.{Rest, counted, IsRest}
 use Rattle.block_store.proofs.Renamed.Renaming.{total-rename, is_purgeable-rename, purge-rename}
 use Rattle.block_store.proofs.Plain.Trials.{least_or_last-le, least_or_last-none}
 use Rattle.heap_calls.specs.declared.log.Log.{Log}
 use Rattle.heap_calls.specs.declared.anchor.Anchor.{Anchor}
-use Rattle.heap_calls.specs.State.{State, Memory, Meaning}
+use Rattle.heap_calls.specs.State.{State, Memory}
 use Rattle.heap_calls.specs.Answer.{nothing, silent, noting, searching}
 use Rattle.heap_calls.specs.Purging.{purgeable, blocks_purged, purged_all, purge_mem, purge_space, max_mem}
 use Rattle.heap_calls.specs.Searches.{purge_mem_searches}
-use Rattle.heap_calls.specs.Inner.Numbered.{state_of, memory_of, name_of, handle_number, pointer_number}
+use Rattle.heap_calls.specs.Inner.Numbered.{state_of, memory_of, handle_number, pointer_number}
 use Rattle.block_store.specs.declared.sparing.Sparing.TheVariants as sparing
 use Rattle.heap_calls.proofs.Room.Searching.{most-le}
 use Rattle.block_store.proofs.Regroup.Settling.{runs-few}
 use Rattle.heap_calls.proofs.Numbering.Largest.{has_room-rename, largest_free-rename, runs-rename, settled-rename}
-use Rattle.heap_calls.proofs.Numbering.Changing.{names-same, silent-done, free_sum-rename}
+use Rattle.heap_calls.proofs.Numbering.Changing.{silent-kept, free_sum-rename}
+use Rattle.heap_calls.proofs.Numbering.Largest.{told_most, most-told}
 use Rattle.std.proofs.lemmas.List.{length-map}
 
 -- Purging sees no names.
@@ -91,23 +92,18 @@ pub purge_mem-done : (value : Memory) (n : ℕ) (zone zone' : List Block) (rest 
     → IsRest rest rest' → served ≡ has_room (phys n) zone' → silent (purge_mem n) value
     ≡ (served_answer served, memory_of zone' rest' es log)
 purge_mem-done value n zone zone' rest rest' es log served is done now room =
-    silent-done (purge_mem n) value zone zone' rest rest' es es log (served_answer served) is
+    let state : State = state_of zone rest.slots es in
+    silent-kept (purge_mem n) value zone zone' rest rest' es log (served_answer served) is
     (ap (λ z. (served_answer (has_room (phys n) z), record state { zone = z }))
     (purged_for-rename f g (phys n) zone ∙ ap (rename f g) (sym done))
     ∙ ap (λ t. (served_answer t, record state { zone = rename f g zone' }))
-    (has_room-rename f g (phys n) zone' ∙ sym room)
-    ∙ ap (λ l. (served_answer served, record { zone = rename f g zone'; names = l }))
-    (sym (names-same rest.slots rest'.slots es (λ h s at. now.slots s))))
-    now.window now.moves
+    (has_room-rename f g (phys n) zone' ∙ sym room)) now
   where
     f : ℕ → ℕ
     f = handle_number es
 
     g : ℕ → ℕ
     g = pointer_number es
-
-    state : State
-    state = state_of zone rest.slots es
 
 pub purge_mem_searches-is : (value : Memory) (n : ℕ) (zone : List Block) (rest : Rest) (es : List Anchor) (log : Log)
     → memory_of zone rest es log ≡ value → purge_mem_searches n value.heap ≡ blocks_purged (phys n) zone + 1
@@ -151,31 +147,11 @@ pub max_mem-done : (value : Memory) (zone all zone' : List Block) (rest rest' : 
     → IsRest rest rest' → bytes ≡ largest_free zone' → most ≡ bytes - 16
     → noting max_mem value ≡ (Ok most, memory_of zone' rest' es (record log { code = NO_ERR }))
 max_mem-done value zone all zone' rest rest' es log bytes most is done packed now free less =
-    let P : Memory → Type 0 = λ m. noting max_mem m ≡ (Ok most, memory_of zone' rest' es (record log { code = NO_ERR }))
-    in
+    let f : ℕ → ℕ = handle_number es in
+    let g : ℕ → ℕ = pointer_number es in
     let end : settled_all all ≡ zone' = ap (λ k. settled k all) (sym (least_or_last-none (length (runs all))))
     ∙ sym packed in
-    subst P is
-    (ap (λ z. (Ok (largest_free z - 16), after z (map (name_of rest.slots) es) rest.moves rest.window))
+    most-told max_mem value zone zone' rest rest' es log bytes most is
+    (ap (told_most (state_of zone rest.slots es))
     (ap settled_all (purged_all-rename f g zone ∙ ap (rename f g) (sym done)) ∙ settled_all-rename f g all
-    ∙ ap (rename f g) end)
-    ∙ ap (λ k. (Ok k, after (rename f g zone') (map (name_of rest.slots) es) rest.moves rest.window))
-    (ap (λ k. k - 16) (largest_free-rename f g zone' ∙ sym free) ∙ sym less)
-    ∙ ap (λ l. (Ok most, after (rename f g zone') l rest.moves rest.window))
-    (sym (names-same rest.slots rest'.slots es (λ h s at. now.slots s)))
-    ∙ ap (λ m. (Ok most, after (rename f g zone') (map (name_of rest'.slots) es) m rest.window)) (sym now.moves)
-    ∙ ap (λ w. (Ok most, after (rename f g zone') (map (name_of rest'.slots) es) rest'.moves w)) (sym now.window))
-  where
-    f : ℕ → ℕ
-    f = handle_number es
-
-    g : ℕ → ℕ
-    g = pointer_number es
-
-    after : List Block → List Meaning → ℕ → Site → Memory
-    after z l m w = record {
-      heap = record { zone = z; names = l };
-      log = record log { code = NO_ERR };
-      moves = m;
-      window = w;
-    }
+    ∙ ap (rename f g) end)) now free less

@@ -24,7 +24,7 @@ use Rattle.heap_calls.specs.Inner.Given.{IsAnswer}
 use Rattle.heap_calls.specs.Inner.Reaching.{Reaches, sized_reply}
 use Rattle.heap_calls.specs.Inner.GrowingInPlace.{made_zone}
 use Rattle.heap_calls.specs.Inner.Numbered.{state_of, memory_of, handle_number, pointer_number}
-use Rattle.heap_calls.proofs.Numbering.Changing.{names-same}
+use Rattle.heap_calls.proofs.Numbering.Changing.{memory-same}
 
 -- A call that leaves another zone, or finds no room for it, and looks for room.
 
@@ -33,6 +33,13 @@ pub reached_in : (zone : List Block) (slots : ℕ → Slot) (es es' : List Ancho
     (r : Result Reached Refusal) → es' ≡ es → Reaches zone slots es' handle r → Reaches zone slots es handle r
 reached_in zone slots es es' handle r same found = let P : List Anchor → Type 0 = λ l. Reaches zone slots l handle r in
     subst P same found
+
+-- what a call that may look for room answers where its handle has no block
+pub record TellsNone (s : State) (row : State → Answer (Unit {0})) (looks moves : State → ℕ) (code : OsErr) : Type 0
+  where
+    pub row_is : row s ≡ (Err code, s)
+    pub looks_is : looks s ≡ 0
+    pub moves_is : moves s ≡ 0
 
 -- what SetHandleSize answers
 pub resize-row : (handle : Option ℕ) (n : ℕ) (s : State) (k : Held) → look_up handle s ≡ Ok k
@@ -49,18 +56,15 @@ resize-row handle n s k found =
     cases false = refl
 
 pub not-resized : (handle : Option ℕ) (n : ℕ) (s : State) (code : OsErr) → look_up handle s ≡ Err code
-    → (set_handle_size handle n s ≡ (Err code, s)) × (set_handle_size_searches handle n s ≡ 0)
-not-resized handle n s code none = (
-  ap (λ r. for_found r s (λ held. cond (is_some (phys n)) (rebuilt
-      (grow (is_relocatable held.number) (is_relocatable held.number) n s.zone) s) (refused MEM_FULL s))) none,
-  ap (λ r. found_searches r (λ (k : Held). size_searches (is_relocatable k.number) (is_relocatable k.number) n s.zone))
-      none,
-)
-
-pub none-resized : (handle : Option ℕ) (n : ℕ) (s : State) (code : OsErr) → look_up handle s ≡ Err code
-    → set_handle_size_moves handle n s ≡ 0
-none-resized handle n s code none = ap (λ r. found_searches r
-    (λ (k : Held). size_moves (is_relocatable k.number) (is_relocatable k.number) n s.zone)) none
+    → TellsNone s (set_handle_size handle n) (set_handle_size_searches handle n) (set_handle_size_moves handle n) code
+not-resized handle n s code none = record {
+  row_is = ap (λ r. for_found r s (λ held. cond (is_some (phys n)) (rebuilt
+      (grow (is_relocatable held.number) (is_relocatable held.number) n s.zone) s) (refused MEM_FULL s))) none;
+  looks_is = ap (λ r. found_searches r (λ (k : Held). size_searches (is_relocatable k.number)
+      (is_relocatable k.number) n s.zone)) none;
+  moves_is = ap (λ r. found_searches r (λ (k : Held). size_moves (is_relocatable k.number) (is_relocatable k.number) n
+      s.zone)) none;
+}
 
 module _ (value : Memory) (zone : List Block) (rest : Rest) (es : List Anchor) (log : Log)
     (is : memory_of zone rest es log ≡ value) (row : State → Answer (Unit {0})) (looks : State → ℕ)
@@ -68,22 +72,32 @@ module _ (value : Memory) (zone : List Block) (rest : Rest) (es : List Anchor) (
     abbrev state : State
     state = state_of zone rest.slots es
 
+    -- what a call tells of a heap that looked so many times
+    looked-so : (r : Result (Unit {0}) OsErr) (left : State) (k : ℕ) → row state ≡ (r, left) → looks state ≡ k
+        → searching (looks value.heap) (silent row value) ≡ (
+          r,
+          record (memory_of zone rest es log) { heap = left; log = record log { searches = counted log.searches k } },
+        )
+    looked-so r left k e looked =
+        let P : Memory → Type 0 = λ m. searching (looks m.heap) (silent row m) ≡ (
+          r,
+          record (memory_of zone rest es log) { heap = left; log = record log { searches = counted log.searches k } },
+        ) in
+        subst P is (λ i. (
+          (e i).0,
+          record (memory_of zone rest es log) {
+            heap = (e i).1;
+            log = record log { searches = counted log.searches (looked i) };
+          },
+        ))
+
     -- a call that is refused without a look
     pub not-looked : (code : OsErr) → row state ≡ (Err code, state) → looks state ≡ 0
         → log.searches ≤ 18446744073709551615 → searching (looks value.heap) (silent row value) ≡ (Err code, value)
     not-looked code e none small =
-        let P : Memory → Type 0 = λ m. searching (looks m.heap) (silent row m) ≡ (Err code, m) in
-        subst P is (
-        (λ i. (
-          (e i).0,
-          record (memory_of zone rest es log) {
-            heap = (e i).1;
-            log = record log
-                { searches = counted log.searches (none i) };
-          },
-        ))
+        looked-so (Err code) state 0 e none
         ∙ ap (λ (n : ℕ). (Err code, record (memory_of zone rest es log) { log = record log { searches = n } }))
-        (counted-none log.searches small))
+        (counted-none log.searches small) ∙ ap (λ (m : Memory). (Err code, m)) is
 
     -- a call whose handle has no block
     pub not-reached : (e : Refusal) (handle : Option ℕ) → Reaches zone rest.slots es handle (Err e)
@@ -101,51 +115,8 @@ module _ (value : Memory) (zone : List Block) (rest : Rest) (es : List Anchor) (
         ended : (r : Result (Unit {0}) OsErr) → row state ≡ (r, state_of zone' rest.slots es)
             → searching (looks value.heap) (silent row value) ≡ (r, memory_of zone' rest' es log')
         ended r e =
-            let P : Memory → Type 0 = λ m. searching (looks m.heap) (silent row m)
-            ≡ (r, memory_of zone' rest' es log') in
-            subst P is (
-            (λ i. (
-              (e i).0,
-              record (memory_of zone rest es log) {
-                heap = (e i).1;
-                log = record log
-                    { searches = counted log.searches (looked i) };
-              },
-            ))
-            ∙ ap (λ l. (
-              r,
-              record {
-                heap = record {
-                  zone = rename (handle_number es) (pointer_number es) zone';
-                  names =
-                      l;
-                };
-                log = log';
-                moves = rest.moves;
-                window = rest.window;
-              },
-            ))
-            (sym (names-same rest.slots rest'.slots es (λ h s at. now.slots s)))
-            ∙ ap (λ m. (
-              r,
-              record {
-                heap = state_of zone' rest'.slots es;
-                log = log';
-                moves = m;
-                window =
-                    rest.window;
-              },
-            )) (sym now.moves)
-            ∙ ap (λ w. (
-              r,
-              record {
-                heap = state_of zone' rest'.slots es;
-                log = log';
-                moves = rest'.moves;
-                window =
-                    w;
-              },
-            )) (sym now.window))
+            looked-so r (state_of zone' rest.slots es) k e looked
+            ∙ ap (λ (m : Memory). (r, m)) (sym (memory-same zone' rest rest' es log' now))
 
         pub rebuilt-reply : (done : Bool) (o : Option (List Block))
             → row state ≡ rebuilt (option_map (rename (handle_number es) (pointer_number es)) o) state

@@ -628,22 +628,22 @@ only-purgeable-go (asked.ShowPtr pointer) m once h keeps = spared-stays h (asked
 only-purgeable-go (asked.Where name) m once h keeps = spared-stays h (asked.Where name) m once tt
 
 -- 1 for a Masters block
-abbrev masters : Block → ℕ
+abbrev pub masters : Block → ℕ
 masters b = cond (is_masters b) 1 0
 
-masters-goes : (b : Block) → is_purgeable b ≡ true → masters b ≡ 0
+pub masters-goes : (b : Block) → is_purgeable b ≡ true → masters b ≡ 0
 masters-goes (Free n) e = refl
 masters-goes (Fixed id content) e = refl
 masters-goes Masters e = let f : false ≡ true = e in cc
 masters-goes (Relocatable id flags content) e = refl
 
-masters-sized : (n : ℕ) (b : Block) → masters b ≡ masters (resized n b)
+pub masters-sized : (n : ℕ) (b : Block) → masters b ≡ masters (resized n b)
 masters-sized n (Free m) = refl
 masters-sized n (Fixed id content) = refl
 masters-sized n Masters = refl
 masters-sized n (Relocatable id flags content) = refl
 
-masters-filled : (x : List ℕ) (b : Block) → masters b ≡ masters (with_content x b)
+pub masters-filled : (x : List ℕ) (b : Block) → masters b ≡ masters (with_content x b)
 masters-filled x (Free m) = refl
 masters-filled x (Fixed id content) = refl
 masters-filled x Masters = refl
@@ -667,7 +667,7 @@ masters-rises change (Fixed id content) = omega arith
 masters-rises change Masters = omega arith
 masters-rises change (Relocatable id flags content) = omega arith
 
-masters-spared : (a : Asked) → Spares masters a
+pub masters-spared : (a : Asked) → Spares masters a
 masters-spared (asked.DisposeHandle None) = tt
 masters-spared (asked.DisposeHandle (Some k)) = masters-handle k
 masters-spared (asked.EmptyHandle None) = tt

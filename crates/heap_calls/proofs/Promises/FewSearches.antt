@@ -29,7 +29,6 @@ use Rattle.heap_calls.specs.Searches.{set_pointer_size_searches, reallocate_hand
 use Rattle.heap_calls.specs.Searches.{hand_and_hand_searches, pointer_and_hand_searches, purge_mem_searches}
 use Rattle.heap_calls.specs.Asked.{Asked, answered}
 use Rattle.heap_calls.specs.Asked as asked
-use Rattle.heap_calls.specs.Looks.{LooksFew}
 use Rattle.block_store.proofs.Zone.Zones.{joined-is}
 use Rattle.block_store.proofs.Plain.Counters.{counted-none}
 use Rattle.block_store.proofs.Zone.Keeping.{tidied, freed-is, unless-le, based-le}
@@ -226,11 +225,17 @@ compact-few n s =
     omega arith
 
 -- a call that doesn't look
-unlooked : (zone : List Block) (n : ℕ) → n < 2 ^ 64 → (k : ℕ) × (k ≤ length zone + 1) × (n ≡ counted n k)
+pub unlooked : (zone : List Block) (n : ℕ) → n < 2 ^ 64 → (k : ℕ) × (k ≤ length zone + 1) × (n ≡ counted n k)
 unlooked zone n fits = (0, omega arith, sym (counted-none n (omega arith)))
 
+-- the row of a call looks so often
+abbrev pub RowLooksFew : Asked → Memory → Type 0
+RowLooksFew a m =
+    0 < count is_masters m.heap.zone → m.log.searches < 2 ^ 64
+    → (n : ℕ) × (n ≤ length m.heap.zone + 1) × ((answered a m).1.log.searches ≡ counted m.log.searches n)
+
 -- no call looks more often
-pub looks_few : (a : Asked) (m : Memory) → LooksFew a m
+pub looks_few : (a : Asked) (m : Memory) → RowLooksFew a m
 looks_few (asked.NewHandle n) m masters fits =
     let s = m.heap in
     let few =

@@ -21,6 +21,7 @@ use Rattle.heap_calls.specs.Answer.{Held, look_up, held_at}
 use Rattle.heap_calls.specs.Answer as calls
 use Rattle.heap_calls.specs.Pointers.{pointed, pointed_at, named_block}
 use Rattle.heap_calls.specs.LastPut.{Holds}
+use Rattle.heap_calls.proofs.Numbering.Numbers.{flipped}
 use Rattle.block_store.proofs.Zone.Keeping.{SeesNoFree, unless, unless-le}
 
 -- What is known of each block's bytes, and the changes that keep it.
@@ -194,11 +195,6 @@ holds-known s bytes known h k is = by_name (slice_get s.names h) is
 -- 1 for a block that passes
 abbrev one : (Block → Bool) → Block → ℕ
 one test b = cond (test b) 1 0
-
--- a number isn't another one
-pub flipped : (h k : ℕ) → (k == h) ≡ false → (h == k) ≡ false
-flipped h k e = false_from_ne_true (h == k) (λ t. let eq : h ≡ k = (Decides-eqb h k).0 t in
-    let z : (k == h) ≡ true = (Decides-eqb k h).1 (sym eq) in let f : true ≡ false = sym z ∙ e in cc)
 
 -- the blocks of one number gave way to one: each number has one at most, as before
 own-once : (is : ℕ → Block → Bool) (h : ℕ) (new : Block) (zone z : List Block)

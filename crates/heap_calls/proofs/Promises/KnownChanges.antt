@@ -31,7 +31,8 @@ use Rattle.block_store.proofs.Zone.Keeping.{high-le, room-le, base-le, swapped-l
 use Rattle.heap_calls.proofs.Promises.Knowing.{Known, for_handle, for_pointer, handle-only, pointer-only, look_up-spot}
 use Rattle.heap_calls.proofs.Promises.Knowing.{known-at, known-pointed, handle-changed, pointer-changed, known-more}
 use Rattle.heap_calls.proofs.Promises.Knowing.{known-less, none-handle, none-pointer, push-stands, pushed, set-stands}
-use Rattle.heap_calls.proofs.Promises.Knowing.{next-none, flipped, with_bytes, with-same, with-other, handle-plain}
+use Rattle.heap_calls.proofs.Promises.Knowing.{next-none, with_bytes, with-same, with-other, handle-plain}
+use Rattle.heap_calls.proofs.Numbering.Numbers.{flipped}
 use Rattle.heap_calls.proofs.Promises.Knowing.{pointer-plain}
 
 -- What each change of a heap leaves known of its blocks' bytes.

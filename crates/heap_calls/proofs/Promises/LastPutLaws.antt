@@ -23,7 +23,7 @@ use Rattle.heap_calls.specs.Pointers.{pointed_at, block_named, reserved, reserve
 use Rattle.heap_calls.specs.Purging.{is_resource, block_bits, emptied_at, is_loose, reallocated, blocks_purged}
 use Rattle.heap_calls.specs.Purging.{purgeable, purged_all}
 use Rattle.heap_calls.specs.Copying.{append}
-use Rattle.heap_calls.specs.Asked.{Asked, Told, Done, Given, answered, told_as}
+use Rattle.heap_calls.specs.Asked.{Asked, Told, Done, Given, Refused, answered, told_as}
 use Rattle.heap_calls.specs.Asked as asked
 use Rattle.heap_calls.specs.LastPut.{put_by}
 use Rattle.block_store.proofs.Zone.Keeping.{SeesNoFree, purged-le, settled-le, reserved-le}
@@ -65,6 +65,48 @@ known-rebuilt : (s : State) (bytes : ℕ → List ℕ) → Known s bytes → (o 
     → Known (rebuilt o s).1 bytes
 known-rebuilt s bytes known None less = known
 known-rebuilt s bytes known (Some zone) less = known-less s zone bytes (less zone refl) known
+
+-- bytes that were written into the block that was looked up
+known-written_at : (s : State) (bytes : ℕ → List ℕ) → Known s bytes → (it : Block → Bool) (i : ℕ) (x : List ℕ)
+    (tells : Told → ℕ → List ℕ) → ((code : OsErr) → bytes ≡ tells (Refused code))
+    → ((at : Spot) → spot it s.zone ≡ Some at → Known (record s {
+      zone = at.below ++ with_content (written i x (content_of at.here)) at.here ∷ at.above;
+    }) (tells Done))
+    → (r : Result Held OsErr) → ((k : Held) → r ≡ Ok k → spot it s.zone ≡ Some k.at)
+    → Known (for_found r s (λ k. written_at i x k.at s)).1 (tells (done (for_found r s (λ k. written_at i x k.at s)).0))
+known-written_at s bytes known it i x tells refused_told put (Err code) found =
+    subst (Known s) (refused_told code) known
+known-written_at s bytes known it i x tells refused_told put (Ok k) found =
+    by_test (nat_le (i + length x) (length (content_of k.at.here)))
+  where
+    put_at : Bool → Answer (Unit {0})
+    put_at t = cond t (
+      Ok tt,
+      record s {
+        zone = k.at.below ++ with_content (written i x (content_of k.at.here)) k.at.here
+            ∷ k.at.above;
+      },
+    ) (refused PROFILE s)
+
+    by_test : (t : Bool) → Known (put_at t).1 (tells (done (put_at t).0))
+    by_test true = put k.at (found k refl)
+    by_test false = subst (Known s) (refused_told PROFILE) known
+
+-- a zone that was made anew, or no room for it, by what a call then tells
+known-told : (s : State) (bytes : ℕ → List ℕ) → Known s bytes → (tells : Told → ℕ → List ℕ)
+    → ((code : OsErr) → bytes ≡ tells (Refused code)) → (o : Option (List Block))
+    → ((zone : List Block) → o ≡ Some zone → Known (record s { zone = zone }) (tells Done))
+    → Known (rebuilt o s).1 (tells (done (rebuilt o s).0))
+known-told s bytes known tells refused_told None made = subst (Known s) (refused_told MEM_FULL) known
+known-told s bytes known tells refused_told (Some zone) made = made zone refl
+
+-- the same for a size that no block may have
+known-sized : (s : State) (bytes : ℕ → List ℕ) → Known s bytes → (tells : Told → ℕ → List ℕ)
+    → ((code : OsErr) → bytes ≡ tells (Refused code)) → (o : Option (List Block))
+    → ((zone : List Block) → o ≡ Some zone → Known (record s { zone = zone }) (tells Done)) → (t : Bool)
+    → Known (cond t (rebuilt o s) (refused MEM_FULL s)).1 (tells (done (cond t (rebuilt o s) (refused MEM_FULL s)).0))
+known-sized s bytes known tells refused_told o made true = known-told s bytes known tells refused_told o made
+known-sized s bytes known tells refused_told o made false = subst (Known s) (refused_told MEM_FULL) known
 
 -- MoreMasters
 known-masters : (s : State) (bytes : ℕ → List ℕ) → Known s bytes
@@ -133,29 +175,21 @@ step-known (asked.SetHandleSize (Some h) n) m bytes known = by_spot (look_up (So
     tells : Told → ℕ → List ℕ
     tells t = put_by (asked.SetHandleSize (Some h) n) t bytes
 
-    by_zone : (k : Held) → (spot (is_relocatable h) s.zone ≡ Some k.at) × (k.number ≡ h) → (o : Option (List Block))
-        → grow (is_relocatable k.number) (is_relocatable k.number) n s.zone ≡ o
-        → Known (rebuilt o s).1 (tells (done (rebuilt o s).0))
-    by_zone k found None e = known
-    by_zone k found (Some zone) e = known-grown s bytes known h n (is_relocatable h) k.at zone found.0
-        (subst (λ (j : ℕ). grow (is_relocatable j) (is_relocatable j) n s.zone ≡ Some zone) found.1 e)
+    grew : ℕ → Option (List Block)
+    grew j = grow (is_relocatable j) (is_relocatable j) n s.zone
 
-    by_size : (k : Held) → (spot (is_relocatable h) s.zone ≡ Some k.at) × (k.number ≡ h) → (t : Bool)
-        → Known (cond t (rebuilt (grow (is_relocatable k.number) (is_relocatable k.number) n s.zone) s)
-        (refused MEM_FULL s)).1
-        (tells (done (cond t (rebuilt (grow (is_relocatable k.number) (is_relocatable k.number) n s.zone) s)
-        (refused MEM_FULL s)).0))
-    by_size k found true = by_zone k found (grow (is_relocatable k.number) (is_relocatable k.number) n s.zone) refl
-    by_size k found false = known
+    answer : ℕ → Answer (Unit {0})
+    answer j = if is_some (phys n) then rebuilt (grew j) s else refused MEM_FULL s
 
     by_spot : (r : Result Held OsErr) → ((k : Held) → r ≡ Ok k → (spot (is_relocatable h) s.zone ≡ Some k.at)
-        × (k.number ≡ h))
-        → Known (for_found r s (λ k. if is_some (phys n) then rebuilt
-        (grow (is_relocatable k.number) (is_relocatable k.number) n s.zone) s else refused MEM_FULL s)).1
-        (tells (done (for_found r s (λ k. if is_some (phys n) then rebuilt
-        (grow (is_relocatable k.number) (is_relocatable k.number) n s.zone) s else refused MEM_FULL s)).0))
+        × (k.number ≡ h)) → Known (for_found r s (λ k. answer k.number)).1
+        (tells (done (for_found r s (λ k. answer k.number)).0))
     by_spot (Err code) found = known
-    by_spot (Ok k) found = by_size k (found k refl) (is_some (phys n))
+    by_spot (Ok k) found =
+        let f = found k refl in
+        known-sized s bytes known tells (λ code. refl) (grew k.number)
+        (λ zone e. known-grown s bytes known h n (is_relocatable h) k.at zone f.0
+        (subst (λ (j : ℕ). grew j ≡ Some zone) f.1 e)) (is_some (phys n))
 step-known (asked.ReallocateHandle None n) m bytes known = known
 step-known (asked.ReallocateHandle (Some h) n) m bytes known =
     by_name (handle_at (Some h) m.heap) (handle_at-name h m.heap)
@@ -166,17 +200,12 @@ step-known (asked.ReallocateHandle (Some h) n) m bytes known =
     tells : Told → ℕ → List ℕ
     tells t = put_by (asked.ReallocateHandle (Some h) n) t bytes
 
-    by_zone : for_handle (slice_get s.names h) ≡ true → (o : Option (List Block)) → reallocated h n s.zone ≡ o
-        → Known (rebuilt o s).1 (tells (done (rebuilt o s).0))
-    by_zone is None e = known
-    by_zone is (Some zone) e = known-reallocated s bytes known h n is zone e
-
     by_tests : for_handle (slice_get s.names h) ≡ true → (t u : Bool)
         → Known (cond t (cond u (rebuilt (reallocated h n s.zone) s) (refused MEM_FULL s)) (refused PURGED s)).1
         (tells (done (cond t (cond u (rebuilt (reallocated h n s.zone) s) (refused MEM_FULL s))
         (refused PURGED s)).0))
-    by_tests is true true = by_zone is (reallocated h n s.zone) refl
-    by_tests is true false = known
+    by_tests is true u = known-sized s bytes known tells (λ code. refl) (reallocated h n s.zone)
+        (known-reallocated s bytes known h n is) u
     by_tests is false u = known
 
     answer : ℕ → Answer (Unit {0})
@@ -376,19 +405,11 @@ step-known (asked.SetPtrSize (Some p) n) m bytes known = by_spot (pointed_at (So
     tells : Told → ℕ → List ℕ
     tells t = put_by (asked.SetPtrSize (Some p) n) t bytes
 
+    grew : ℕ → Option (List Block)
+    grew j = grow (is_fixed j) nothing n s.zone
+
     answer : ℕ → Answer (Unit {0})
-    answer j = if is_some (phys n) then rebuilt (grow (is_fixed j) nothing n s.zone) s else refused MEM_FULL s
-
-    by_zone : (at : Spot) → spot (is_fixed p) s.zone ≡ Some at → (o : Option (List Block))
-        → grow (is_fixed p) nothing n s.zone ≡ o → Known (rebuilt o s).1 (tells (done (rebuilt o s).0))
-    by_zone at found None e = known
-    by_zone at found (Some zone) e = known-grown_pointer s bytes known p n at zone found e
-
-    by_size : (at : Spot) → spot (is_fixed p) s.zone ≡ Some at → (t : Bool)
-        → Known (cond t (rebuilt (grow (is_fixed p) nothing n s.zone) s) (refused MEM_FULL s)).1
-        (tells (done (cond t (rebuilt (grow (is_fixed p) nothing n s.zone) s) (refused MEM_FULL s)).0))
-    by_size at found true = by_zone at found (grow (is_fixed p) nothing n s.zone) refl
-    by_size at found false = known
+    answer j = if is_some (phys n) then rebuilt (grew j) s else refused MEM_FULL s
 
     by_spot : (r : Result Held OsErr) → ((k : Held) → r ≡ Ok k → (spot (is_fixed p) s.zone ≡ Some k.at)
         × (k.number ≡ p)) → Known (for_found r s (λ k. answer k.number)).1
@@ -396,8 +417,9 @@ step-known (asked.SetPtrSize (Some p) n) m bytes known = by_spot (pointed_at (So
     by_spot (Err code) found = known
     by_spot (Ok k) found =
         let f = found k refl in
-        subst (λ (j : ℕ). Known (answer j).1 (tells (done (answer j).0))) (sym f.1)
-        (by_size k.at f.0 (is_some (phys n)))
+        known-sized s bytes known tells (λ code. refl) (grew k.number)
+        (λ zone e. known-grown_pointer s bytes known p n k.at zone f.0 (subst (λ (j : ℕ). grew j ≡ Some zone) f.1 e))
+        (is_some (phys n))
 step-known asked.FreeMem m bytes known = known
 step-known asked.MaxBlock m bytes known = known
 step-known asked.PurgeSpace m bytes known = known
@@ -420,67 +442,20 @@ step-known (asked.ReserveMem n) m bytes known = by_size (phys n) refl
 step-known asked.MoreMasters m bytes known = known-masters m.heap bytes known
 step-known asked.MemError m bytes known = known
 step-known (asked.Put None i x) m bytes known = known
-step-known (asked.Put (Some h) i x) m bytes known = by_spot (look_up (Some h) m.heap)
-    (λ k is. (look_up-spot h m.heap k is).0)
-  where
-    s : State
-    s = m.heap
-
-    tells : Told → ℕ → List ℕ
-    tells t = put_by (asked.Put (Some h) i x) t bytes
-
-    put_at : Spot → Bool → Answer (Unit {0})
-    put_at at t = cond t (
-      Ok tt,
-      record s {
-        zone = at.below ++ with_content (written i x (content_of at.here)) at.here
-            ∷ at.above;
-      },
-    ) (refused PROFILE s)
-
-    by_test : (at : Spot) → spot (is_relocatable h) s.zone ≡ Some at → (t : Bool)
-        → Known (put_at at t).1 (tells (done (put_at at t).0))
-    by_test at found true = known-put s bytes known h i x at found (with_bytes h (written i x (bytes h)) bytes)
-        (with-other h (written i x (bytes h)) bytes) (sym (with-same h (written i x (bytes h)) bytes))
-    by_test at found false = known
-
-    by_spot : (r : Result Held OsErr) → ((k : Held) → r ≡ Ok k → spot (is_relocatable h) s.zone ≡ Some k.at)
-        → Known (for_found r s (λ k. written_at i x k.at s)).1 (tells
-        (done (for_found r s (λ k. written_at i x k.at s)).0))
-    by_spot (Err code) found = known
-    by_spot (Ok k) found = by_test k.at (found k refl) (nat_le (i + length x) (length (content_of k.at.here)))
+step-known (asked.Put (Some h) i x) m bytes known =
+    known-written_at m.heap bytes known (is_relocatable h) i x (λ t. put_by (asked.Put (Some h) i x) t bytes)
+    (λ code. refl)
+    (λ at found. known-put m.heap bytes known h i x at found (with_bytes h (written i x (bytes h)) bytes)
+    (with-other h (written i x (bytes h)) bytes) (sym (with-same h (written i x (bytes h)) bytes)))
+    (look_up (Some h) m.heap) (λ k is. (look_up-spot h m.heap k is).0)
 step-known (asked.Show handle) m bytes known =
     subst (λ (s : State). Known s bytes) (sym (found-same (look_up handle m.heap) m.heap
     (λ held. (Ok (content_of held.at.here), m.heap)) (λ held. refl))) known
 step-known (asked.PutPtr None i x) m bytes known = known
-step-known (asked.PutPtr (Some p) i x) m bytes known = by_spot (pointed_at (Some p) m.heap)
+step-known (asked.PutPtr (Some p) i x) m bytes known =
+    known-written_at m.heap bytes known (is_fixed p) i x (λ t. put_by (asked.PutPtr (Some p) i x) t bytes)
+    (λ code. refl) (λ at found. known-put_pointer m.heap bytes known p i x at found) (pointed_at (Some p) m.heap)
     (λ k is. (pointed_at-spot p m.heap k is).0)
-  where
-    s : State
-    s = m.heap
-
-    tells : Told → ℕ → List ℕ
-    tells t = put_by (asked.PutPtr (Some p) i x) t bytes
-
-    put_at : Spot → Bool → Answer (Unit {0})
-    put_at at t = cond t (
-      Ok tt,
-      record s {
-        zone = at.below ++ with_content (written i x (content_of at.here)) at.here
-            ∷ at.above;
-      },
-    ) (refused PROFILE s)
-
-    by_test : (at : Spot) → spot (is_fixed p) s.zone ≡ Some at → (t : Bool)
-        → Known (put_at at t).1 (tells (done (put_at at t).0))
-    by_test at found true = known-put_pointer s bytes known p i x at found
-    by_test at found false = known
-
-    by_spot : (r : Result Held OsErr) → ((k : Held) → r ≡ Ok k → spot (is_fixed p) s.zone ≡ Some k.at)
-        → Known (for_found r s (λ k. written_at i x k.at s)).1 (tells
-        (done (for_found r s (λ k. written_at i x k.at s)).0))
-    by_spot (Err code) found = known
-    by_spot (Ok k) found = by_test k.at (found k refl) (nat_le (i + length x) (length (content_of k.at.here)))
 step-known (asked.ShowPtr pointer) m bytes known =
     subst (λ (s : State). Known s bytes) (sym (found-same (pointed_at pointer m.heap) m.heap
     (λ held. (Ok (content_of held.at.here), m.heap)) (λ held. refl))) known

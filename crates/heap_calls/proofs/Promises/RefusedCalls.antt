@@ -30,7 +30,7 @@ use Rattle.heap_calls.specs.Purging.{h_no_purge, h_get_state, h_set_state, empty
 use Rattle.heap_calls.specs.Copying.{append, appended, hand_to_hand, hand_and_hand, pointer_and_hand}
 use Rattle.heap_calls.specs.Asked.{Asked, Told, Done, Given, Number, Numbers, Bytes, Refused, told_as, answered}
 use Rattle.heap_calls.specs.Asked as asked
-use Rattle.heap_calls.specs.Refused.{slotted_zone, copying_zone, zone_left, RefusedLeaves}
+use Rattle.heap_calls.specs.Refused.{slotted_zone, copying_zone, zone_left, code_left}
 use Rattle.block_store.proofs.Zone.Keeping.{tidied}
 use Rattle.heap_calls.proofs.Promises.KnownChanges.{none-spot}
 use Rattle.heap_calls.proofs.Promises.Knowing.{look_up-spot}
@@ -320,8 +320,16 @@ reserved-leaves n s = by_size (phys n) refl
     by_size None e = rw e (refused-leaves MEM_FULL s)
     by_size (Some p) e = rw e (rebuilt-leaves (room (reserved p) nothing s.zone) s)
 
+-- a call that its row refuses leaves this zone, its names as they were, this code, and the heap where it lay
+abbrev pub RowLeaves : Asked → Memory → Type 0
+RowLeaves a m =
+    (code : OsErr) → (answered a m).0 ≡ Refused code
+    → ((answered a m).1.heap ≡ record m.heap { zone = zone_left a m.heap })
+    × ((answered a m).1.log.code ≡ code_left a code m.log.code)
+    × ((answered a m).1.window ≡ m.window)
+
 -- each call, refused, leaves its heap so
-pub refused_leaves : (a : Asked) (m : Memory) → RefusedLeaves a m
+pub refused_leaves : (a : Asked) (m : Memory) → RowLeaves a m
 refused_leaves (asked.NewHandle n) m =
     noted Given given-tells (new_handle n m.heap) m (answered (asked.NewHandle n) m).1 (slotted_zone nothing m.heap)
     (handle-leaves n m.heap) refl refl refl

@@ -30,7 +30,8 @@ use Rattle.block_store.proofs.Zone.Apart.{Apart, apart-tidied, apart-tidy, tidy-
 use Rattle.block_store.proofs.Zone.Apart.{barrier-alone, apart-above}
 use Rattle.block_store.proofs.Zone.Zones.{joined-segments, joined-is}
 use Rattle.block_store.proofs.Content.Resizing.{length-resized}
-use Rattle.block_store.proofs.Plain.Options.{is_some-map, not_some, some_and}
+use Rattle.block_store.proofs.Plain.Options.{some_and}
+use Rattle.mac_words.proofs.Plain.{is_some-map, not_some}
 use Rattle.block_store.proofs.Nonrelocatable.Placing.{spot_at-below}
 use Rattle.block_store.proofs.Regroup.RunSpots.{barrier-size}
 use Rattle.block_store.proofs.Zone.Absence.{none-emptied}
@@ -507,6 +508,47 @@ module _ (place : ℕ) (zone : List Block) (tidied : tidy zone ≡ zone) (s : Sp
       })) = subst
       Q run-at h in
       is ∙ after-raise s.below s.here s.above ends (barrier-size s.here ends) apart-at d k sp
+
+-- a block above which k blocks were emptied, so that the run there has d Free bytes
+pub record EmptiedAbove (place taken d k : ℕ) (sp : Block → Bool) (zone zone' : List Block) : Type 0 where
+  pub s : Spot
+  pub at : spot_at place zone ≡ Some s
+  pub size_is : taken ≡ size s.here
+  pub left : zone' ≡ tidy (s.below ++ s.here ∷ emptied k sp s.above)
+  pub allowed : IsSomeAnd (run_at (place + taken) zone') (λ r. IsTrue (has_free d r.run))
+  pub raised : (after : List Block)
+      → IfSome (run_at (place + taken) zone') (λ r. after ≡ tidy (with_run (low (Free d)) r))
+      → IfSome (spot_at place zone) (λ s. after ≡ s.below ++ s.here ∷ pushed_up d k sp s.above)
+
+pub emptied_above : (place taken d k : ℕ) (sp : Block → Bool) (zone zone' : List Block) → tidy zone ≡ zone
+    → IsSomeAnd (spot_at place zone) (λ s. (in_run s.here ≡ false) × (taken ≡ size s.here))
+    → IsSomeAnd (spot_at place zone) (λ s. (k ≤ count_of sp (segments s.above).first)
+    × (has_free d (purge k sp (segments s.above).first) ≡ true))
+    → IfSome (spot_at place zone) (λ s. zone' ≡ tidy (s.below ++ s.here ∷ emptied k sp s.above))
+    → EmptiedAbove place taken d k sp zone zone'
+emptied_above place taken d k sp zone zone' tidied still room done =
+    let stays = some_and (spot_at place zone) _ still in
+    let s : Spot = stays.0 in
+    let Has : Spot → Type 0 = λ s. (k ≤ count_of sp (segments s.above).first)
+    × (has_free d (purge k sp (segments s.above).first) ≡ true) in
+    let has : Has s = same_spot (spot_at place zone) s Has stays.1 room in
+    let left = spot_if (spot_at place zone) s (λ s. zone' ≡ tidy (s.below ++ s.here ∷ emptied k sp s.above)) stays.1
+    done in
+    let Allowed : ℕ → Type 0 = λ n. IsSomeAnd (run_at (place + n) zone') (λ r. IsTrue (has_free d r.run)) in
+    record {
+      s = s;
+      at = stays.1;
+      size_is = stays.2.1;
+      left = left;
+      allowed = subst Allowed (sym stays.2.1)
+          (raise-allowed place zone tidied s stays.1 stays.2.0 k sp has.0 zone' left d has.1);
+      raised = λ after raised.
+          let Raised : ℕ → Type 0 = λ n. IfSome (run_at (place + n) zone')
+          (λ r. after ≡ tidy (with_run (low (Free d)) r)) in
+          some_if (spot_at place zone) s (λ s. after ≡ s.below ++ s.here ∷ pushed_up d k sp s.above) stays.1
+          (raised-is place zone tidied s stays.1 stays.2.0 k sp has.0 zone' left d after
+          (subst Raised stays.2.1 raised));
+    }
 
 -- a run has d Free bytes, or doesn't
 pub has_free-purged : (d k : ℕ) (sp : Block → Bool) (run : List Block)

@@ -3,7 +3,7 @@ use Rattle.std.proofs.Common.{sym, ◌∙◌, ap, subst, cond, Option, Some, Non
 use Rattle.std.proofs.lemmas.Option.{none-some, same_Some}
 use Rattle.std.specs.List.{find}
 use Rattle.std.specs.Option.{option_map, option_or, IfSome, IsSomeAnd}
-use Rattle.block_store.specs.Block.{Block, is_purgeable, Free, Fixed, Masters, Relocatable, size, add, tidy}
+use Rattle.block_store.specs.Block.{Block, is_purgeable, Free, size, add, tidy}
 use Rattle.block_store.specs.Run.{has, has_free, run_spot}
 use Rattle.block_store.specs.Room.{Spot, raised, spot, place, may_go, emptied}
 use Rattle.block_store.specs.Grow.{growth, taken, grow_up, grow_mover, move_away}
@@ -13,11 +13,13 @@ use Rattle.heap_calls.specs.Inner.Search.{FindsSeat}
 use Rattle.heap_calls.specs.Inner.Growing.{FindsGrowth, Spares, Stays}
 use Rattle.block_store.specs.declared.sparing.Sparing.{Sparing}
 use Rattle.block_store.specs.declared.sparing.Sparing.TheVariants as sparing
-use Rattle.block_store.proofs.Plain.Options.{is_some-map, not_some, the_some}
+use Rattle.block_store.proofs.Plain.Options.{the_some}
+use Rattle.mac_words.proofs.Plain.{is_some-map, not_some}
 use Rattle.heap_calls.specs.declared.search.Seat.{Seat}
 use Rattle.heap_calls.specs.declared.growing.Growth.{Growth}
 use Rattle.heap_calls.specs.declared.growing.Growth.TheVariants as grows
 use Rattle.heap_calls.proofs.Room.Searching.{seat-some}
+use Rattle.block_store.proofs.Zone.Tidy.{add-joined}
 
 module _ (test : Block → Bool) (new : Block) (zone : List Block) (d : ℕ) (r : Bool)
     (more : IsSomeAnd (spot test zone) (λ s. growth new s ≡ d))
@@ -90,15 +92,7 @@ spot-find test (b ∷ bs) = cases (test b) (spot test bs) (spot-find test bs)
 
 find-add : (test : Block → Bool) → ((n : ℕ) → test (Free n) ≡ false) → (b : Block) (bs : List Block)
     → find test (add b bs) ≡ cond (test b) (Some b) (find test bs)
-find-add test none (Free zero) bs = rw (none 0) refl
-find-add test none (Free (suc n)) [] = refl
-find-add test none (Free (suc n)) (Free m ∷ bs) = rw (none (suc n), none m, none (suc n + m)) refl
-find-add test none (Free (suc n)) (Fixed id content ∷ bs) = refl
-find-add test none (Free (suc n)) (Masters ∷ bs) = refl
-find-add test none (Free (suc n)) (Relocatable id flags content ∷ bs) = refl
-find-add test none (Fixed id content) bs = refl
-find-add test none Masters bs = refl
-find-add test none (Relocatable id flags content) bs = refl
+find-add test none = add-joined (find test) (λ bs. rw (none 0) refl) (λ n m bs. rw (none (n + m), none n, none m) refl)
 
 pub find-tidy : (test : Block → Bool) → ((n : ℕ) → test (Free n) ≡ false) → (bs : List Block)
     → find test (tidy bs) ≡ find test bs

@@ -1,15 +1,16 @@
-use Rattle.std.proofs.Common.{◌≡◌, ℕ, ◌-◌, ◌≤◌, Bool, true, false, List, length, take, replicate, refl, sym, ◌∙◌, ap}
-use Rattle.std.proofs.Common.{cond, arith, Option, Some, None, Result, Ok, Err, is_some}
+use Rattle.std.proofs.Common.{◌≡◌, ℕ, ◌-◌, ◌≤◌, ◌<◌, Bool, true, false, List, length, take, replicate, refl, sym, ◌∙◌}
+use Rattle.std.proofs.Common.{ap, cond, arith, Option, Some, None, Result, Ok, Err, is_some}
 use Rattle.std.proofs.lemmas.List.{length-append, length-take, length-replicate}
 use Rattle.std.specs.Option.{IfSome}
 use Rattle.std.specs.Result.{IfOk}
 use Rattle.mac_words.specs.Size.{phys, padded}
 use Rattle.mac_words.specs.declared.code.TheConstants.OsErr.{MEM_FULL}
 use Rattle.block_store.specs.Block.{Block, Free, Fixed, Masters, Relocatable, size, is_fixed, is_mover, resized}
+use Rattle.block_store.specs.Block.{rename, rename_block}
 use Rattle.block_store.specs.Run.{in_run}
 use Rattle.block_store.specs.Room.{Spot, spot_at}
 use Rattle.block_store.specs.Grow.{grow}
-use Rattle.block_store.specs.Rest.{Rest}
+use Rattle.block_store.specs.Rest.{Rest, IsRest, counted}
 use Rattle.heap_calls.specs.State.{State, Memory}
 use Rattle.heap_calls.specs.Answer.{Held, nothing, rebuilt, refused, for_found, silent, searching}
 use Rattle.heap_calls.specs.Inner.Given.{IsAnswer}
@@ -23,11 +24,14 @@ use Rattle.heap_calls.specs.declared.log.Log.{Log}
 use Rattle.heap_calls.specs.declared.anchor.Anchor.{Anchor}
 use Rattle.heap_calls.specs.declared.refusal.Refusal.{Refusal}
 use Rattle.heap_calls.specs.declared.refusal.Refusal.TheVariants.{Code, HostMemory}
-use Rattle.heap_calls.specs.Inner.Numbered.{state_of, memory_of}
+use Rattle.heap_calls.specs.Inner.Numbered.{state_of, memory_of, handle_number, pointer_number, no_number}
+use Rattle.heap_calls.specs.Inner.Reaching.{sized_reply}
+use Rattle.heap_calls.specs.declared.anchor.Target.{Target}
 use Rattle.heap_calls.proofs.Numbering.Answering.{at_place}
 use Rattle.heap_calls.proofs.Numbering.Changing.{phys-some}
-use Rattle.heap_calls.proofs.Numbering.Pointing.{pointed_at-refused}
-use Rattle.heap_calls.proofs.Numbering.Rebuilding.{not-looked}
+use Rattle.heap_calls.proofs.Numbering.Pointing.{Lone, IsHeld, is_fixed-number, pointed_at-refused}
+use Rattle.heap_calls.proofs.Numbering.Rebuilding.{not-looked, rebuilt-reply}
+use Rattle.heap_calls.proofs.Numbering.Looking.{size_searches-rename, fitted-rename}
 
 -- The size of a pointer's block.
 
@@ -75,6 +79,36 @@ set_pointer_size-row pointer n s k found =
         ≡ rebuilt (cond t (grow (is_fixed k.number) nothing n s.zone) None) s
     cases true = refl
     cases false = refl
+
+-- what it answers where the block's growth came to a zone
+pub set_pointer_size-done : (value : Memory) (zone zone' : List Block) (rest rest' : Rest) (es : List Anchor)
+    (log : Log) (pointer : Option ℕ) (t : Target) (n searches : ℕ) (done : Bool) → memory_of zone rest es log ≡ value
+    → IsHeld zone rest.slots es pointer t → Lone es → t.number < no_number → IsRest rest rest'
+    → searches ≡ size_searches (is_fixed t.place) nothing n zone
+    → fitted (is_fixed t.place) nothing n zone ≡ made_zone done zone' → (done ≡ false → zone' ≡ zone)
+    → IsAnswer (searching (set_pointer_size_searches pointer n value.heap) (silent (set_pointer_size pointer n) value))
+    (sized_reply done) (memory_of zone' rest' es (record log { searches = counted log.searches searches }))
+set_pointer_size-done value zone zone' rest rest' es log pointer t n searches done is there lone small now looks made
+    full =
+    rebuilt-reply value zone rest es log is (set_pointer_size pointer n) (set_pointer_size_searches pointer n) zone'
+    rest' now searches
+    (ap (λ r. found_searches r (λ (k : Held). size_searches (is_fixed k.number) nothing n (rename f g zone)))
+    there.looked ∙ size_searches-rename f g nothing nothing (λ b. refl) (is_fixed t.number) (is_fixed t.place) same n
+    zone ∙ sym looks)
+    done (fitted (is_fixed t.place) nothing n zone)
+    (set_pointer_size-row pointer n (state_of zone rest.slots es) _ there.looked
+    ∙ ap (λ o. rebuilt o (state_of zone rest.slots es))
+    (fitted-rename f g nothing nothing (λ b. refl) (is_fixed t.number) (is_fixed t.place) same n zone))
+    made full
+  where
+    f : ℕ → ℕ
+    f = handle_number es
+
+    g : ℕ → ℕ
+    g = pointer_number es
+
+    same : (b : Block) → is_fixed t.number (rename_block f g b) ≡ is_fixed t.place b
+    same = is_fixed-number es t.number t.place there.entry lone small
 
 -- what it answers for a name that is no pointer's
 pub no_pointer : (value : Memory) (zone : List Block) (rest : Rest) (es : List Anchor) (log : Log) (e : Refusal)

@@ -98,29 +98,32 @@ looks-still t sp n at zone (Ok g) s found stands still fits more is =
     at_place at zone s (λ s. g.searches ≡ in_place_searches sp (resized n s.here) s) stands is
     ∙ sym (looks-is t sp n zone s found fits more ∙ cond-false _ _ _ still)
 
+-- what the block takes, and what it is to take
+as-sized : (number n bytes taken : ℕ) (zone : List Block) (s : Spot) → spot (is_relocatable number) zone ≡ Some s
+    → phys n ≡ Some bytes → IfSome (spot (is_relocatable number) zone) (λ s. taken ≡ size s.here)
+    → (taken ≡ size s.here) × (bytes ≡ size (resized n s.here))
+as-sized number n bytes taken zone s found fits takes =
+    let P : Option Spot → Type 0 = λ o. IfSome o (λ s. taken ≡ size s.here) in
+    let new : size (resized n s.here) ≡ padded n = size-resized number n s.here
+    (spot-passes (is_relocatable number) zone s found) in
+    let e : bytes ≡ padded n = (phys-some n bytes fits).1 in (
+      subst P found takes,
+      omega (arith, new, e),
+    )
+
 -- the block is to grow
 pub is-to-grow : (number n bytes taken : ℕ) (zone : List Block) (s : Spot) → spot (is_relocatable number) zone ≡ Some s
     → phys n ≡ Some bytes → IfSome (spot (is_relocatable number) zone) (λ s. taken ≡ size s.here) → taken < bytes
     → size s.here < size (resized n s.here)
 is-to-grow number n bytes taken zone s found fits takes more =
-    let P : Option Spot → Type 0 = λ o. IfSome o (λ s. taken ≡ size s.here) in
-    let now : taken ≡ size s.here = subst P found takes in
-    let new : size (resized n s.here) ≡ padded n = size-resized number n s.here
-    (spot-passes (is_relocatable number) zone s found) in
-    let e : bytes ≡ padded n = (phys-some n bytes fits).1 in
-    omega (arith, now, new, e, more)
+    let k = as-sized number n bytes taken zone s found fits takes in omega (arith, k.0, k.1, more)
 
 -- the block is to be cut
 pub is-to-fit : (number n bytes taken : ℕ) (zone : List Block) (s : Spot) → spot (is_relocatable number) zone ≡ Some s
     → phys n ≡ Some bytes → IfSome (spot (is_relocatable number) zone) (λ s. taken ≡ size s.here) → bytes ≤ taken
     → size (resized n s.here) ≤ size s.here
 is-to-fit number n bytes taken zone s found fits takes less =
-    let P : Option Spot → Type 0 = λ o. IfSome o (λ s. taken ≡ size s.here) in
-    let now : taken ≡ size s.here = subst P found takes in
-    let new : size (resized n s.here) ≡ padded n = size-resized number n s.here
-    (spot-passes (is_relocatable number) zone s found) in
-    let e : bytes ≡ padded n = (phys-some n bytes fits).1 in
-    omega (arith, now, new, e, less)
+    let k = as-sized number n bytes taken zone s found fits takes in omega (arith, k.0, k.1, less)
 
 -- what growth where it stands came to
 pub grown-done : {E : Type 0} (t sp : Block → Bool) (n at : ℕ) (zone zone' : List Block) (r : Result Grown E) (s : Spot)

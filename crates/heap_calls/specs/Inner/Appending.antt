@@ -25,3 +25,7 @@ lengthened spared slot len x zone = option_map (behind slot len x)
 abbrev pub bytes_of : Option Spot → List ℕ
 bytes_of None = []
 bytes_of (Some s) = content_of s.here
+
+-- how many bytes the block of a slot has
+abbrev pub length_of : ℕ → List Block → ℕ
+length_of slot zone = length (bytes_of (spot (is_relocatable slot) zone))

@@ -66,7 +66,8 @@ abbrev pub FindsBlock : List Block → (ℕ → Slot) → List Anchor → Option
 FindsBlock zone slots es handle (Ok place) =
     (h : ℕ) × (s : Spot) × (look_up handle (state_of zone slots es)
     ≡ Ok (record { number = h; at = rename_spot (handle_number es) (pointer_number es) s }))
-    × (spot_at place zone ≡ Some s) × (sizes s.below ≡ place) × (place + HEADER_SIZE + length (content_of s.here) ≤ GREATEST_ZONE)
+    × (spot_at place zone ≡ Some s) × (sizes s.below ≡ place)
+    × (place + HEADER_SIZE + length (content_of s.here) ≤ GREATEST_ZONE)
 FindsBlock zone slots es handle (Err (Code code)) = look_up handle (state_of zone slots es) ≡ Err code
 FindsBlock zone slots es handle (Err HostMemory) = ⊥
 

@@ -38,6 +38,7 @@ FindsHeld looked zone es (Ok place) =
       at = rename_spot (handle_number es) (pointer_number es)
           s;
     }))
-    × (spot_at place zone ≡ Some s) × (sizes s.below ≡ place) × (place + HEADER_SIZE + length (content_of s.here) ≤ GREATEST_ZONE)
+    × (spot_at place zone ≡ Some s) × (sizes s.below ≡ place)
+    × (place + HEADER_SIZE + length (content_of s.here) ≤ GREATEST_ZONE)
 FindsHeld looked zone es (Err (Code code)) = looked ≡ Err code
 FindsHeld looked zone es (Err HostMemory) = ⊥

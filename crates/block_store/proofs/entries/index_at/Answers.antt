@@ -2,7 +2,7 @@ use Rattle.std.proofs.Common.{◌+◌, ◌-◌, take, drop, sym, ◌∙◌, ap, 
 use Rattle.block_store.specs.Block.{size}
 use Rattle.block_store.specs.Room.{spot_at}
 use Rattle.block_store.specs.Inner.ListStore.{blocks_of, block_of}
-use Rattle.block_store.proofs.Zone.Listing.{drop-blocks, take-blocks, size-le, spot_at-here, spot_at-more, spot_at-past, raised_by}
+use Rattle.block_store.proofs.Zone.Listing.{drop-blocks, take-blocks, entry_fits, spot_at-here, spot_at-more, spot_at-past, raised_by}
 use Rattle.block_store.proofs.entries.index_at.Goals as goal
 
 pub returns-then-rest-eq0 : goal.returns-then-rest-eq0
@@ -11,7 +11,7 @@ returns-then-rest-eq0 c =
     (omega arith, sym c.loop-i.invariant ∙ spot_at-here es c.loop-i.i c.loop-i.rest c.index-entries-i.result (omega arith) c.index-entries-i.is c.if-rest-eq0.true)
 
 pub entry_size-bytes-requires : goal.entry_size-bytes-requires
-entry_size-bytes-requires c = omega (arith, size-le c.args.entries.now c.loop-i.i c.index-entries-i.result (omega arith) c.index-entries-i.is)
+entry_size-bytes-requires c = omega (arith, entry_fits c.args.entries.now c.loop-i.i c.index-entries-i.result (omega arith) c.index-entries-i.is)
 
 pub returns-then-bytes-rest : goal.returns-then-bytes-rest
 returns-then-bytes-rest c =

@@ -1,10 +1,10 @@
 use Rattle.std.proofs.Common.{◌∙◌, sym, arith}
 use Rattle.block_store.specs.Block.{is_fixed}
-use Rattle.block_store.proofs.Zone.Listing.{size-le, freed_first-set, freed_first-same}
+use Rattle.block_store.proofs.Zone.Listing.{entry_fits, freed_first-set, freed_first-same}
 use Rattle.block_store.proofs.fixed.free_if.Goals as goal
 
 pub entry_size-bytes-requires : goal.entry_size-bytes-requires
-entry_size-bytes-requires c = omega (arith, size-le c.args.entries.now.items c.args.i c.index-entry.result.now (omega arith) c.index-entry.ensures)
+entry_size-bytes-requires c = omega (arith, entry_fits c.args.entries.now.items c.args.i c.index-entry.result.now (omega arith) c.index-entry.ensures)
 
 pub returns-then-is_fixed_at : goal.returns-then-is_fixed_at
 returns-then-is_fixed_at c = freed_first-set (is_fixed c.args.place) c.args.entries.now.items c.args.i c.entry_size-bytes.result c.index-entry.result.now (omega arith) c.index-entry.ensures (sym c.is_fixed_at.ensures ∙ c.if-is_fixed_at.true) c.entry_size-bytes.ensures

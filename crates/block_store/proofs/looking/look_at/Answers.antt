@@ -3,11 +3,11 @@ use Rattle.std.specs.Option.{option_map}
 use Rattle.block_store.specs.Room.{Spot}
 use Rattle.block_store.specs.Seen.{seen}
 use Rattle.block_store.specs.Inner.ListStore.{blocks_of, block_of}
-use Rattle.block_store.proofs.Zone.Listing.{drop-blocks, size-le, nth_spot-at}
+use Rattle.block_store.proofs.Zone.Listing.{drop-blocks, entry_fits, nth_spot-at}
 use Rattle.block_store.proofs.looking.look_at.Goals as goal
 
 pub look-requires : goal.look-requires
-look-requires c = omega (arith, size-le c.args.entries.now c.in_ok-i.i c.index-entries-i.result c.in_ok-i.ensures.0 c.index-entries-i.is)
+look-requires c = omega (arith, entry_fits c.args.entries.now c.in_ok-i.i c.index-entries-i.result c.in_ok-i.ensures.0 c.index-entries-i.is)
 
 pub returns : goal.returns
 returns c =

@@ -1,10 +1,17 @@
-use Rattle.std.proofs.Common.{◌-◌, ◌∙◌, ap, arith, refl, cond}
-use Rattle.block_store.specs.Block.{Block, size, is_relocatable, count}
-use Rattle.block_store.specs.Run.{has, high}
+use Rattle.std.proofs.Common.{◌≡◌, ◌-◌, ◌∙◌, ap, arith, refl, cond}
+use Rattle.block_store.specs.Block.{Block, size, tidy, is_relocatable, count}
+use Rattle.block_store.specs.Run.{has, high, with_run}
 use Rattle.block_store.specs.Inner.ListStore.{blocks_of}
 use Rattle.block_store.specs.Inner.Packing.{run_between}
-use Rattle.block_store.proofs.Regroup.Packed.{blocks-part, total-between, part-loose, part-fits, changed-between, changed-fits, high-total}
+use Rattle.block_store.proofs.Regroup.Packed.{blocks-part, total-between, part-loose, part-fits, put_between, changed-between, changed-fits, high-total}
+use Rattle.block_store.proofs.packing.hoist_between.Goals.{After-pack_below}
 use Rattle.block_store.proofs.packing.hoist_between.Goals as goal
+
+-- the run is changed, and all is tidy
+done : (c : After-pack_below) → tidy (blocks_of (put_between c.args.start c.args.end c.args.entries.now.len c.deref_mut.result.now c.pack_below.new.run c.args.entries.now.items))
+    ≡ tidy (with_run (high (is_relocatable c.args.number)) (run_between c.args.start c.args.end (blocks_of c.args.entries.now.items)))
+done c =
+    changed-between (high (is_relocatable c.args.number)) c.args.entries.now.items c.deref_mut.result.now c.pack_below.new.run c.args.start c.args.end c.args.entries.now.len c.deref_mut.ensures.value c.requires.order (omega (arith, c.deref_mut.ensures.len, c.requires.within)) (omega (arith, c.deref_mut.ensures.len)) (omega arith) c.pack_below.ensures
 
 pub pack_below-requires-clause-loose : goal.pack_below-requires-clause-loose
 pack_below-requires-clause-loose c = part-loose c.args.entries.now.items c.deref_mut.result.now c.args.start c.args.end c.deref_mut.ensures.value c.requires.loose
@@ -27,17 +34,8 @@ pack_below-requires-clause-once c =
 pub tidy_entries-requires : goal.tidy_entries-requires
 tidy_entries-requires c =
     let a = c.args in
-    let change = high (is_relocatable a.number) in
-    let many = c.deref_mut.ensures.len in
-    let within = c.requires.within in
-    let is = changed-between change a.entries.now.items c.deref_mut.result.now c.pack_below.new.run a.start a.end a.entries.now.len c.deref_mut.ensures.value c.requires.order (omega arith) (omega arith) (omega arith) c.pack_below.ensures in
     let run = high-total size (λ n m. refl) a.number (run_between a.start a.end (blocks_of a.entries.now.items)).run c.requires.loose in
-    changed-fits change _ (blocks_of a.entries.now.items) a.start a.end _ c.requires.order is (omega arith) c.requires.fits
+    changed-fits (high (is_relocatable c.args.number)) _ (blocks_of a.entries.now.items) a.start a.end _ c.requires.order (done (goal.at.tidy_entries-requires c).After-pack_below) (omega (arith, run)) c.requires.fits
 
 pub returns : goal.returns
-returns c =
-    let a = c.args in
-    let many = c.deref_mut.ensures.len in
-    let within = c.requires.within in
-    c.tidy_entries.ensures
-    ∙ changed-between (high (is_relocatable a.number)) a.entries.now.items c.deref_mut.result.now c.pack_below.new.run a.start a.end a.entries.now.len c.deref_mut.ensures.value c.requires.order (omega arith) (omega arith) (omega arith) c.pack_below.ensures
+returns c = c.tidy_entries.ensures ∙ done (goal.at.returns c).After-pack_below

@@ -2,13 +2,13 @@ use Rattle.std.proofs.Common.{◌≡◌, ◌+◌, ◌-◌, ◌∷◌, [], true, 
 use Rattle.std.specs.Option.{option_map}
 use Rattle.block_store.specs.Run.{in_run, run_raised}
 use Rattle.block_store.specs.Inner.ListStore.{blocks_of, block_of}
-use Rattle.block_store.proofs.Zone.Listing.{drop-blocks, take-blocks, size-le}
+use Rattle.block_store.proofs.Zone.Listing.{drop-blocks, take-blocks, entry_fits}
 use Rattle.block_store.proofs.Regroup.RunLists.{walked, walked-later, walked-step, walked-past, raised-twice}
 use Rattle.block_store.proofs.packing.run_start.Goals as goal
 use Rattle.block_store.proofs.packing.run_start.Goals.{else-bottom-via-then-bottom+else-rest-eq0, else-bottom-via-else-bottom}
 
 pub entry_size-bytes-requires : goal.entry_size-bytes-requires
-entry_size-bytes-requires c = omega (arith, size-le c.args.entries.now c.loop-i.i c.index-entries-i.result c.loop-i-test.true c.index-entries-i.is)
+entry_size-bytes-requires c = omega (arith, entry_fits c.args.entries.now c.loop-i.i c.index-entries-i.result c.loop-i-test.true c.index-entries-i.is)
 
 pub returns-then-bytes-rest : goal.returns-then-bytes-rest
 returns-then-bytes-rest c =

@@ -1,43 +1,35 @@
 use Rattle.std.proofs.Common.{◌∙◌, ◌+◌, max, sym, ap, arith}
 use Rattle.std.proofs.lemmas.List.{length-map}
 use Rattle.block_store.specs.Inner.ListStore.{blocks_of, block_of}
-use Rattle.block_store.proofs.Zone.Listing.{size-le, sizes-more}
+use Rattle.block_store.proofs.Zone.Listing.{reached}
 use Rattle.block_store.proofs.Regroup.RunLooks.{max-max}
 use Rattle.block_store.proofs.Emptied.PurgedSums.{largest_from, largest-more_free, largest-more_kept, largest-end, largest-purged}
 use Rattle.block_store.proofs.purged_sums.purged_largest.Goals as goal
 use Rattle.block_store.proofs.purged_sums.purged_largest.Goals.{in-Some, in_default}
 
-pub entry_size-stretch-requires : goal.entry_size-stretch-requires
-entry_size-stretch-requires c = omega (arith, c.requires, size-le c.args.entries.now c.loop-entry.entry-index c.entry-item.result (omega arith) c.entry-item.is)
-
-pub overflow_add-stretch : goal.overflow_add-stretch
-overflow_add-stretch c = omega (arith, c.requires, c.loop-entry.invariant.bytes, c.entry_size-stretch.ensures, size-le c.args.entries.now c.loop-entry.entry-index c.entry-item.result (omega arith) c.entry-item.is)
-
 pub loop-entry-preserved : goal.loop-entry-preserved
 loop-entry-preserved c =
-    let es = c.args.entries.now in
-    let i = c.loop-entry.entry-index in
+    let k = reached c.args.entries.now c.loop-entry.entry-index c.entry-item.result (omega arith) c.entry-item.is in
     let sparing = c.args.sparing in
     let left = c.loop-entry.left in
     let most = c.loop-entry.most in
     let stretch = c.loop-entry.stretch in
     let b = block_of c.entry-item.result in
     let after = c.match-left_after in
-    let more = sizes-more es i c.entry-item.result (omega arith) c.entry-item.is in
     elim c.match-left_after.branch [
       | in-Some w ↦ record {
-        above = ap (λ k. max k (largest_from after.stretch after.left sparing (blocks_of es) (i + 1))) w.most-is
-            ∙ ap (λ k. max most (largest_from after.stretch k sparing (blocks_of es) (i + 1))) w.left-is
-            ∙ ap (λ k. max most (largest_from k w.in-Some.next sparing (blocks_of es) (i + 1))) (w.stretch-is ∙ ap (λ k. stretch + k) w.entry_size-stretch.ensures)
-            ∙ ap (max most) (sym (largest-more_free sparing es i c.entry-item.result stretch left w.in-Some.next (omega arith) c.entry-item.is w.in-Some.ensures)) ∙ c.loop-entry.invariant.above;
-        bytes = omega (arith, w.stretch-is, w.entry_size-stretch.ensures, c.loop-entry.invariant.bytes, more);
+        above = ap (λ k. max k (largest_from after.stretch after.left sparing (blocks_of c.args.entries.now) (c.loop-entry.entry-index + 1))) w.most-is
+            ∙ ap (λ k. max most (largest_from after.stretch k sparing (blocks_of c.args.entries.now) (c.loop-entry.entry-index + 1))) w.left-is
+            ∙ ap (λ k. max most (largest_from k w.in-Some.next sparing (blocks_of c.args.entries.now) (c.loop-entry.entry-index + 1))) (w.stretch-is ∙ ap (λ k. stretch + k) w.entry_size-stretch.ensures)
+            ∙ ap (max most) (sym (largest-more_free sparing c.args.entries.now c.loop-entry.entry-index c.entry-item.result stretch left w.in-Some.next (omega arith) c.entry-item.is w.in-Some.ensures)) ∙ c.loop-entry.invariant.above;
+        bytes = omega (arith, w.stretch-is, w.entry_size-stretch.ensures, c.loop-entry.invariant.bytes);
       }
       | in_default w ↦ record {
-        above = ap (λ k. max k (largest_from after.stretch after.left sparing (blocks_of es) (i + 1))) (w.most-is ∙ w.larger-most.ensures)
-            ∙ ap (λ k. max (max most stretch) (largest_from after.stretch k sparing (blocks_of es) (i + 1))) w.left-is
-            ∙ ap (λ k. max (max most stretch) (largest_from k left sparing (blocks_of es) (i + 1))) w.stretch-is
-            ∙ max-max most stretch (largest_from 0 left sparing (blocks_of es) (i + 1))
-            ∙ ap (max most) (sym (largest-more_kept sparing es i c.entry-item.result stretch left (omega arith) c.entry-item.is w.in_default.ensures)) ∙ c.loop-entry.invariant.above;
+        above = ap (λ k. max k (largest_from after.stretch after.left sparing (blocks_of c.args.entries.now) (c.loop-entry.entry-index + 1))) (w.most-is ∙ w.larger-most.ensures)
+            ∙ ap (λ k. max (max most stretch) (largest_from after.stretch k sparing (blocks_of c.args.entries.now) (c.loop-entry.entry-index + 1))) w.left-is
+            ∙ ap (λ k. max (max most stretch) (largest_from k left sparing (blocks_of c.args.entries.now) (c.loop-entry.entry-index + 1))) w.stretch-is
+            ∙ max-max most stretch (largest_from 0 left sparing (blocks_of c.args.entries.now) (c.loop-entry.entry-index + 1))
+            ∙ ap (max most) (sym (largest-more_kept sparing c.args.entries.now c.loop-entry.entry-index c.entry-item.result stretch left (omega arith) c.entry-item.is w.in_default.ensures)) ∙ c.loop-entry.invariant.above;
         bytes = omega (arith, w.stretch-is);
       }
     ]

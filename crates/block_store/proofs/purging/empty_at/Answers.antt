@@ -5,14 +5,14 @@ use Rattle.block_store.specs.Room.{may_go}
 use Rattle.block_store.specs.Sparing.{spared}
 use Rattle.block_store.specs.Inner.ListStore.{blocks_of, block_of}
 use Rattle.block_store.specs.declared.entries.StoredBlock.TheVariants as entry
-use Rattle.block_store.proofs.Zone.Listing.{size-le, drop-blocks}
+use Rattle.block_store.proofs.Zone.Listing.{entry_fits, drop-blocks}
 use Rattle.block_store.proofs.Zone.Spots.{blocks-set, sizes-same}
 use Rattle.block_store.proofs.Emptied.Purges.{emptied-goes, emptied-stays, and-false}
 use Rattle.block_store.proofs.purging.empty_at.Goals as goal
 use Rattle.block_store.proofs.purging.empty_at.Goals.{else-left-gt0-via-then-left-gt0+else-may_go_now, else-left-gt0-via-else-left-gt0}
 
 pub entry_size-bytes-requires : goal.entry_size-bytes-requires
-entry_size-bytes-requires c = omega (arith, c.requires.fits, size-le c.args.entries.now.items c.args.i c.index-entry.result.now (omega arith) c.index-entry.ensures)
+entry_size-bytes-requires c = omega (arith, c.requires.fits, entry_fits c.args.entries.now.items c.args.i c.index-entry.result.now (omega arith) c.index-entry.ensures)
 
 pub returns-then-may_go_now-clause-blocks : goal.returns-then-may_go_now-clause-blocks
 returns-then-may_go_now-clause-blocks c =

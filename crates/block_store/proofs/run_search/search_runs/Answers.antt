@@ -1,44 +1,46 @@
-use Rattle.std.proofs.Common.{◌∙◌, ◌+◌, ◌&&◌, drop, nat_le, sym, ap, arith}
+use Rattle.std.proofs.Common.{◌≡◌, ◌∙◌, ◌+◌, ◌∷◌, ◌&&◌, drop, nat_le, sym, ap, arith}
 use Rattle.std.proofs.lemmas.List.{length-map}
 use Rattle.std.specs.Bool.{then_some}
 use Rattle.block_store.specs.Inner.ListStore.{blocks_of, block_of}
 use Rattle.block_store.specs.Sparing.{spared, opened}
-use Rattle.block_store.specs.Inner.RunScan.{scan_runs}
-use Rattle.block_store.proofs.Zone.Listing.{drop-blocks, size-le, sizes-more}
+use Rattle.block_store.specs.Inner.RunScan.{scan_runs, any_run}
+use Rattle.block_store.proofs.Zone.Listing.{Reached, reached, from-reached}
 use Rattle.block_store.proofs.Emptied.Stretches.{drop-none, then_some-cond}
 use Rattle.block_store.proofs.Regroup.RunScans.{scan-is, scan-end}
+use Rattle.block_store.proofs.run_search.search_runs.Goals.{After-entry-item}
 use Rattle.block_store.proofs.run_search.search_runs.Goals as goal
 
-pub scan_run-requires-clause-room : goal.scan_run-requires-clause-room
-scan_run-requires-clause-room c = omega (arith, c.requires, c.loop-entry.invariant.bytes, size-le c.args.entries.now c.loop-entry.entry-index c.entry-item.result (omega arith) c.entry-item.is)
+entry : (c : After-entry-item) → Reached c.args.entries.now c.loop-entry.entry-index c.entry-item.result
+entry c = reached c.args.entries.now c.loop-entry.entry-index c.entry-item.result (omega arith) c.entry-item.is
 
-pub returns-in_default : goal.returns-in_default
-returns-in_default c =
-    let es = c.args.entries.now in
+-- the search from the entry that was reached on
+runs_from : (c : After-entry-item) → scan_runs c.args.number c.args.bytes (spared c.args.sparing) c.loop-entry.scan.left c.loop-entry.scan.start c.loop-entry.scan.free c.loop-entry.scan.met c.loop-entry.scan.place
+    (opened c.args.sparing (block_of c.entry-item.result ∷ drop (c.loop-entry.entry-index + 1) (blocks_of c.args.entries.now)))
+    ≡ scan_runs c.args.number c.args.bytes (spared c.args.sparing) c.args.purges 0 0 (any_run c.args.number) 0 (opened c.args.sparing (blocks_of c.args.entries.now))
+runs_from c =
     let scan = c.loop-entry.scan in
-    let sparing = c.args.sparing in
-    sym (c.in_default.ensures.scan (drop (c.loop-entry.entry-index + 1) (blocks_of es)))
-    ∙ ap (λ l. scan_runs c.args.number c.args.bytes (spared sparing) scan.left scan.start scan.free scan.met scan.place (opened sparing l)) (sym (drop-blocks es c.loop-entry.entry-index c.entry-item.result (omega arith) c.entry-item.is))
-    ∙ c.loop-entry.invariant.above ∙ scan-is c.args.number c.args.bytes sparing c.args.purges (blocks_of es)
-
-pub loop-entry-preserved : goal.loop-entry-preserved
-loop-entry-preserved c =
-    let es = c.args.entries.now in
-    let scan = c.loop-entry.scan in
-    let sparing = c.args.sparing in
-    record {
-      above = sym (c.in-Some.ensures.scan (drop (c.loop-entry.entry-index + 1) (blocks_of es)))
-          ∙ ap (λ l. scan_runs c.args.number c.args.bytes (spared sparing) scan.left scan.start scan.free scan.met scan.place (opened sparing l)) (sym (drop-blocks es c.loop-entry.entry-index c.entry-item.result (omega arith) c.entry-item.is))
-          ∙ c.loop-entry.invariant.above;
-      bytes = omega (arith, c.in-Some.ensures.place, c.loop-entry.invariant.bytes, sizes-more es c.loop-entry.entry-index c.entry-item.result (omega arith) c.entry-item.is);
-      free = c.in-Some.ensures.free;
-    }
+    from-reached (λ l. scan_runs c.args.number c.args.bytes (spared c.args.sparing) scan.left scan.start scan.free scan.met scan.place (opened c.args.sparing l)) _ c.args.entries.now c.loop-entry.entry-index c.entry-item.result (entry c) c.loop-entry.invariant.above
 
 pub returns : goal.returns
 returns c =
-    let es = c.args.entries.now in
     let scan = c.loop-entry.scan in
-    let sparing = c.args.sparing in
+    let bs = blocks_of c.args.entries.now in
+    let none = drop-none c.loop-entry.entry-index bs (omega (arith, length-map c.args.entries.now block_of)) in
     c.then_some.ensures ∙ ap (λ t. then_some t scan.start) c.is_enough.ensures ∙ then_some-cond (scan.met && nat_le c.args.bytes scan.free) scan.start
-    ∙ sym (scan-end c.args.number c.args.bytes sparing scan.left scan.start scan.free scan.met scan.place (drop c.loop-entry.entry-index (blocks_of es)) (drop-none c.loop-entry.entry-index (blocks_of es) (omega (arith, length-map es block_of))))
-    ∙ c.loop-entry.invariant.above ∙ scan-is c.args.number c.args.bytes sparing c.args.purges (blocks_of es)
+    ∙ sym (scan-end c.args.number c.args.bytes c.args.sparing scan.left scan.start scan.free scan.met scan.place (drop c.loop-entry.entry-index bs) none)
+    ∙ c.loop-entry.invariant.above ∙ scan-is c.args.number c.args.bytes c.args.sparing c.args.purges bs
+
+pub returns-in_default : goal.returns-in_default
+returns-in_default c =
+    sym (c.in_default.ensures.scan (drop (c.loop-entry.entry-index + 1) (blocks_of c.args.entries.now)))
+    ∙ runs_from (goal.at.returns-in_default c).After-entry-item ∙ scan-is c.args.number c.args.bytes c.args.sparing c.args.purges (blocks_of c.args.entries.now)
+
+pub loop-entry-preserved : goal.loop-entry-preserved
+loop-entry-preserved c =
+    let at = (goal.at.loop-entry-preserved c).After-entry-item in
+    record {
+      above = sym (c.in-Some.ensures.scan (drop (c.loop-entry.entry-index + 1) (blocks_of c.args.entries.now)))
+          ∙ runs_from at;
+      bytes = omega (arith, (entry at).more, c.in-Some.ensures.place, c.loop-entry.invariant.bytes);
+      free = c.in-Some.ensures.free;
+    }

@@ -1,14 +1,14 @@
 use Rattle.std.proofs.Common.{◌≡◌, ◌≤◌, ◌-◌, sym, ap, arith}
 use Rattle.block_store.specs.Block.{size}
 use Rattle.block_store.specs.Inner.ListStore.{block_of}
-use Rattle.block_store.proofs.Zone.Listing.{size-le}
+use Rattle.block_store.proofs.Zone.Listing.{entry_fits}
 use Rattle.block_store.proofs.Content.Resizing.{within-taken, taken-at, taken-none, taken-some}
 use Rattle.block_store.proofs.sizing.take_bytes.Goals as goal
 
 pub entry_size-requires : goal.entry_size-requires
 entry_size-requires c =
     let es = c.args.entries.now.items in
-    let le = size-le es c.args.i c.index.result.now (within-taken c.args.bytes c.args.i es c.requires.room) c.index.ensures in
+    let le = entry_fits es c.args.i c.index.result.now (within-taken c.args.bytes c.args.i es c.requires.room) c.index.ensures in
     let fits = c.requires.fits in
     omega arith
 

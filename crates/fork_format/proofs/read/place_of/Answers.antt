@@ -6,44 +6,43 @@ use Rattle.fork_format.specs.Content.{Group}
 use Rattle.fork_format.specs.Place.{place, empty}
 use Rattle.fork_format.specs.View.{view_group}
 use Rattle.fork_format.proofs.Placing.{opened-known, opened-new, place-new, view_new, place-own}
+use Rattle.fork_format.proofs.read.place_of.Goals.{In_ok-insert}
 use Rattle.fork_format.proofs.read.place_of.Goals as goal
 
 pub returns-in-Some-clause-groups : goal.returns-in-Some-clause-groups
 returns-in-Some-clause-groups c = sym (opened-known c.args.kind (map view_group c.args.groups.now.items)
     c.in-Some.place.now (sym (c.requires c.args.kind) ∙ sym c.in-Some.ensures.value))
 
+none : (c : In_ok-insert) → place c.args.kind (map view_group c.args.groups.now.items) ≡ None
+none c = sym (c.requires c.args.kind) ∙ sym c.in_default.ensures.value
+
+pushed : (c : In_ok-insert)
+    → map view_group c.push.new.self.items ≡ map view_group c.args.groups.now.items ++ empty c.args.kind ∷ []
+pushed c = view_new c.args.groups.now.items _ _ c.args.kind c.in_ok-push.ensures.items c.type_of.ensures
+    c.new.ensures.items
+
+size : (c : In_ok-insert) → length (map view_group c.args.groups.now.items) ≡ c.len-place.result
+size c = length-map c.args.groups.now.items view_group ∙ sym c.args.groups.now.ok.0 ∙ sym c.len-place.ensures
+
 pub returns-clause-places : goal.returns-clause-places
 returns-clause-places c =
+    let at = (goal.at.returns-clause-places c).In_ok-insert in
     let gs : List Group = map view_group c.args.groups.now.items in
-    let none : place c.args.kind gs ≡ None = sym (c.requires c.args.kind) ∙ sym c.in_default.ensures.value in
-    let pushed : map view_group c.push.new.self.items ≡ gs ++ empty c.args.kind ∷ [] =
-    view_new c.args.groups.now.items _ _ c.args.kind c.in_ok-push.ensures.items c.type_of.ensures
-    c.new.ensures.items in
-    let size : length gs ≡ c.len-place.result = length-map c.args.groups.now.items view_group
-    ∙ sym c.args.groups.now.ok.0 ∙ sym c.len-place.ensures in
+    let long : length gs ≡ c.len-place.result = size at in
     λ q.
     let known : place q gs ≡ get nat_cmp c.args.places.now q = sym (c.requires q) in
     let new : place q (map view_group c.push.new.self.items)
     ≡ cond (is_eq (nat_cmp c.args.kind q)) (Some (length gs)) (place q gs) =
-    ap (place q) pushed ∙ place-new q c.args.kind gs none in
+    ap (place q) (pushed at) ∙ place-new q c.args.kind gs (none at) in
     c.in_ok-insert.ensures.updates.0 q ∙ cc
 
 pub returns-clause-groups : goal.returns-clause-groups
 returns-clause-groups c =
-    let gs : List Group = map view_group c.args.groups.now.items in
-    let none : place c.args.kind gs ≡ None = sym (c.requires c.args.kind) ∙ sym c.in_default.ensures.value in
-    let pushed : map view_group c.push.new.self.items ≡ gs ++ empty c.args.kind ∷ [] =
-    view_new c.args.groups.now.items _ _ c.args.kind c.in_ok-push.ensures.items c.type_of.ensures
-    c.new.ensures.items in
-    pushed ∙ sym (opened-new c.args.kind gs none)
+    let at = (goal.at.returns-clause-groups c).In_ok-insert in
+    pushed at ∙ sym (opened-new c.args.kind (map view_group c.args.groups.now.items) (none at))
 
 pub returns-clause-at : goal.returns-clause-at
 returns-clause-at c =
-    let gs : List Group = map view_group c.args.groups.now.items in
-    let none : place c.args.kind gs ≡ None = sym (c.requires c.args.kind) ∙ sym c.in_default.ensures.value in
-    let pushed : map view_group c.push.new.self.items ≡ gs ++ empty c.args.kind ∷ [] =
-    view_new c.args.groups.now.items _ _ c.args.kind c.in_ok-push.ensures.items c.type_of.ensures
-    c.new.ensures.items in
-    let size : length gs ≡ c.len-place.result = length-map c.args.groups.now.items view_group
-    ∙ sym c.args.groups.now.ok.0 ∙ sym c.len-place.ensures in
-    ap (place c.args.kind) pushed ∙ place-own c.args.kind gs none ∙ ap Some size
+    let at = (goal.at.returns-clause-at c).In_ok-insert in
+    ap (place c.args.kind) (pushed at)
+    ∙ place-own c.args.kind (map view_group c.args.groups.now.items) (none at) ∙ ap Some (size at)

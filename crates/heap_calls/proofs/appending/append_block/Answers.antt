@@ -1,114 +1,46 @@
-use Rattle.std.proofs.Common.{◌≡◌, ◌+◌, Bool, ◌∙◌, ap, ◌≤◌, IsSomeAnd, length, subst, refl, ℕ, Some, None, arith}
-use Rattle.block_store.specs.Block.{Block, is_relocatable, content_of}
+use Rattle.std.proofs.Common.{◌≡◌, ◌+◌, ◌∙◌, ap, true, refl, arith, take}
+use Rattle.block_store.specs.Block.{is_relocatable}
 use Rattle.block_store.specs.Sparing.{spared}
 use Rattle.block_store.specs.Room.{spot}
 use Rattle.block_store.specs.declared.sparing.Sparing.TheVariants as sparing
-use Rattle.heap_calls.specs.Inner.Appending.{size_for, behind, bytes_of}
-use Rattle.heap_calls.proofs.Sizes.Behind.{longer-zone, no-longer, longer-looks, longer-fits, longer-moves, no-longer_moves, front-there, front-is, joined-known, joined-size}
+use Rattle.heap_calls.specs.Inner.Appending.{behind, bytes_of, length_of}
+use Rattle.heap_calls.specs.Inner.GrowingInPlace.{made_zone}
+use Rattle.heap_calls.proofs.Sizes.Behind.{HasRoom, room-made, lengthened-is}
 use Rattle.heap_calls.proofs.Sizes.Steady.{fixed-longer}
+use Rattle.heap_calls.proofs.appending.append_block.Given.{Over}
+use Rattle.heap_calls.proofs.appending.append_block.Goals.{In_ok-grown}
 use Rattle.heap_calls.proofs.appending.append_block.Goals as goal
+
+room : (g : Over) (c : In_ok-grown g) → c.in_ok-grown.grown.done ≡ true
+    → HasRoom c.args.slot (length_of c.args.slot (g.S.BlockStore.zone c.args.store.now) + c.args.more) c.args.source c.args.more (g.S.BlockStore.zone c.args.store.now) (g.S.BlockStore.zone c.lengthen.new.store)
+room g c done =
+    let store = c.args.store.now in
+    room-made c.args.slot (spared (sparing.Two c.args.source c.args.slot)) (g.S.BlockStore.zone store) _ c.in_ok-grown.grown.done (g.S.BlockStore.zone c.lengthen.new.store) done c.in_ok-grown.ensures.zone c.requires.found.0 c.requires.found.1 (g.met.S.BlockStore.once store c.args.slot)
+    (omega arith) c.args.source c.requires.source (λ b e. rw e refl) c.args.more c.requires.more
 
 pub copy_behind-requires-clause-source : goal.copy_behind-requires-clause-source
 copy_behind-requires-clause-source g c =
-    let store = c.args.store.now in
-    let zone = g.S.BlockStore.zone store in
-    let sp : Block → Bool = spared (sparing.Two c.args.source c.args.slot) in
-    let len = c.length_at-len.result in
-    let x = bytes_of (spot (is_relocatable c.args.source) zone) in
-    let k = joined-known c.args.source c.args.slot c.in-Some.from c.args.place len c.length_at-more.result zone c.in-Some.ensures c.requires.found c.length_at-more.ensures.is c.length_at-len.ensures.is in
-    let m_is : size_for (len + length x) ≡ Some c.in-Some-joined_size.size = joined-size c.args.source c.args.slot len c.length_at-more.result zone k c.joined_size.result _ c.joined_size.ensures c.in-Some-joined_size.is in
-    front-there c.args.slot sp zone k.s k.found x len c.in-Some-joined_size.size k.len_is m_is c.in_ok-grown.grown.done (g.S.BlockStore.zone c.resize_block.new.store) c.if-grown.true c.in_ok-grown.ensures.zone (g.met.S.BlockStore.once store c.args.slot) c.args.source c.length_at-more.result k.a k.source_found (λ b e. rw e refl) k.more_is
+    (room g (goal.at.copy_behind-requires-clause-source g c).In_ok-grown c.if-grown.true).there
 
 pub copy_behind-requires-clause-within : goal.copy_behind-requires-clause-within
 copy_behind-requires-clause-within g c =
-    let store = c.args.store.now in
-    let zone = g.S.BlockStore.zone store in
-    let sp : Block → Bool = spared (sparing.Two c.args.source c.args.slot) in
-    let len = c.length_at-len.result in
-    let x = bytes_of (spot (is_relocatable c.args.source) zone) in
-    let k = joined-known c.args.source c.args.slot c.in-Some.from c.args.place len c.length_at-more.result zone c.in-Some.ensures c.requires.found c.length_at-more.ensures.is c.length_at-len.ensures.is in
-    let m_is : size_for (len + length x) ≡ Some c.in-Some-joined_size.size = joined-size c.args.source c.args.slot len c.length_at-more.result zone k c.joined_size.result _ c.joined_size.ensures c.in-Some-joined_size.is in
-    let P : ℕ → Type 0 = λ n. IsSomeAnd (spot (is_relocatable c.args.slot) (g.S.BlockStore.zone c.resize_block.new.store)) (λ t. len + n ≤ length (content_of t.here)) in
-    subst P k.x_is (longer-fits c.args.slot sp zone k.s k.found x len c.in-Some-joined_size.size k.len_is m_is c.in_ok-grown.grown.done (g.S.BlockStore.zone c.resize_block.new.store) c.if-grown.true c.in_ok-grown.ensures.zone (g.met.S.BlockStore.once store c.args.slot))
+    rw c.length_at-len.ensures.is (room g (goal.at.copy_behind-requires-clause-within g c).In_ok-grown c.if-grown.true).fits
 
 pub returns-then-grown-clause-zone : goal.returns-then-grown-clause-zone
 returns-then-grown-clause-zone g c =
-    let store = c.args.store.now in
-    let zone = g.S.BlockStore.zone store in
-    let sp : Block → Bool = spared (sparing.Two c.args.source c.args.slot) in
-    let len = c.length_at-len.result in
-    let x = bytes_of (spot (is_relocatable c.args.source) zone) in
-    let k = joined-known c.args.source c.args.slot c.in-Some.from c.args.place len c.length_at-more.result zone c.in-Some.ensures c.requires.found c.length_at-more.ensures.is c.length_at-len.ensures.is in
-    let m_is : size_for (len + length x) ≡ Some c.in-Some-joined_size.size = joined-size c.args.source c.args.slot len c.length_at-more.result zone k c.joined_size.result _ c.joined_size.ensures c.in-Some-joined_size.is in
-    let copied = front-is c.args.slot sp zone k.s k.found x len c.in-Some-joined_size.size k.len_is m_is c.in_ok-grown.grown.done (g.S.BlockStore.zone c.resize_block.new.store) c.if-grown.true c.in_ok-grown.ensures.zone (g.met.S.BlockStore.once store c.args.slot) c.args.source c.length_at-more.result k.a k.source_found (λ b e. rw e refl) k.more_is in
-    longer-zone c.args.slot sp zone k.s k.found x len c.in-Some-joined_size.size k.len_is m_is c.in_ok-grown.grown.done (g.S.BlockStore.zone c.resize_block.new.store) (g.S.BlockStore.zone c.copy_behind.new.store) c.if-grown.true c.in_ok-grown.ensures.zone (c.copy_behind.ensures.zone ∙ ap (λ l. behind c.args.slot len l (g.S.BlockStore.zone c.resize_block.new.store)) copied)
-
-pub returns-then-grown-clause-searches : goal.returns-then-grown-clause-searches
-returns-then-grown-clause-searches g c =
-    let store = c.args.store.now in
-    let zone = g.S.BlockStore.zone store in
-    let sp : Block → Bool = spared (sparing.Two c.args.source c.args.slot) in
-    let len = c.length_at-len.result in
-    let x = bytes_of (spot (is_relocatable c.args.source) zone) in
-    let k = joined-known c.args.source c.args.slot c.in-Some.from c.args.place len c.length_at-more.result zone c.in-Some.ensures c.requires.found c.length_at-more.ensures.is c.length_at-len.ensures.is in
-    let m_is : size_for (len + length x) ≡ Some c.in-Some-joined_size.size = joined-size c.args.source c.args.slot len c.length_at-more.result zone k c.joined_size.result _ c.joined_size.ensures c.in-Some-joined_size.is in
-    longer-looks c.args.slot sp zone k.s k.found x len c.in-Some-joined_size.size k.len_is m_is c.in_ok-grown.grown.searches c.in_ok-grown.ensures.searches
+    let zone = g.S.BlockStore.zone c.args.store.now in
+    let zone1 = g.S.BlockStore.zone c.lengthen.new.store in
+    let kept = (room g (goal.at.returns-then-grown-clause-zone g c).In_ok-grown c.if-grown.true).kept in
+    lengthened-is c.args.slot (spared (sparing.Two c.args.source c.args.slot)) zone (bytes_of (spot (is_relocatable c.args.source) zone)) c.args.more c.in_ok-grown.grown.done zone1 (g.S.BlockStore.zone c.copy_behind.new.store) c.requires.more c.in_ok-grown.ensures.zone
+    (ap (made_zone c.in_ok-grown.grown.done) (c.copy_behind.ensures.zone ∙ ap (λ n. behind c.args.slot n (take c.args.more (bytes_of (spot (is_relocatable c.args.source) zone1))) zone1) c.length_at-len.ensures.is
+    ∙ ap (λ l. behind c.args.slot (length_of c.args.slot zone) l zone1) kept))
 
 pub returns-else-grown-clause-zone : goal.returns-else-grown-clause-zone
 returns-else-grown-clause-zone g c =
-    let store = c.args.store.now in
-    let zone = g.S.BlockStore.zone store in
-    let sp : Block → Bool = spared (sparing.Two c.args.source c.args.slot) in
-    let len = c.length_at-len.result in
-    let x = bytes_of (spot (is_relocatable c.args.source) zone) in
-    let k = joined-known c.args.source c.args.slot c.in-Some.from c.args.place len c.length_at-more.result zone c.in-Some.ensures c.requires.found c.length_at-more.ensures.is c.length_at-len.ensures.is in
-    let m_is : size_for (len + length x) ≡ Some c.in-Some-joined_size.size = joined-size c.args.source c.args.slot len c.length_at-more.result zone k c.joined_size.result _ c.joined_size.ensures c.in-Some-joined_size.is in
-    no-longer c.args.slot sp zone k.s k.found x len c.in-Some-joined_size.size k.len_is m_is c.in_ok-grown.grown.done (g.S.BlockStore.zone c.resize_block.new.store) (g.S.BlockStore.zone c.resize_block.new.store) c.if-grown.false c.in_ok-grown.ensures.zone
-
-pub returns-else-grown-clause-searches : goal.returns-else-grown-clause-searches
-returns-else-grown-clause-searches g c =
-    let store = c.args.store.now in
-    let zone = g.S.BlockStore.zone store in
-    let sp : Block → Bool = spared (sparing.Two c.args.source c.args.slot) in
-    let len = c.length_at-len.result in
-    let x = bytes_of (spot (is_relocatable c.args.source) zone) in
-    let k = joined-known c.args.source c.args.slot c.in-Some.from c.args.place len c.length_at-more.result zone c.in-Some.ensures c.requires.found c.length_at-more.ensures.is c.length_at-len.ensures.is in
-    let m_is : size_for (len + length x) ≡ Some c.in-Some-joined_size.size = joined-size c.args.source c.args.slot len c.length_at-more.result zone k c.joined_size.result _ c.joined_size.ensures c.in-Some-joined_size.is in
-    longer-looks c.args.slot sp zone k.s k.found x len c.in-Some-joined_size.size k.len_is m_is c.in_ok-grown.grown.searches c.in_ok-grown.ensures.searches
+    let zone = g.S.BlockStore.zone c.args.store.now in
+    lengthened-is c.args.slot (spared (sparing.Two c.args.source c.args.slot)) zone (bytes_of (spot (is_relocatable c.args.source) zone)) c.args.more c.in_ok-grown.grown.done (g.S.BlockStore.zone c.lengthen.new.store) (g.S.BlockStore.zone c.lengthen.new.store) c.requires.more c.in_ok-grown.ensures.zone
+    (rw c.if-grown.false refl)
 
 pub returns-then-grown-clause-fixed : goal.returns-then-grown-clause-fixed
 returns-then-grown-clause-fixed g c =
-    fixed-longer c.args.slot c.length_at-len.result _ (g.S.BlockStore.zone c.args.store.now) (g.S.BlockStore.zone c.resize_block.new.store) (g.S.BlockStore.zone c.copy_behind.new.store) c.resize_block.ensures.fixed c.copy_behind.ensures.zone
-
-pub returns-in_default-joined_size-clause-moves : goal.returns-in_default-joined_size-clause-moves
-returns-in_default-joined_size-clause-moves g c =
-    let store = c.args.store.now in
-    let zone = g.S.BlockStore.zone store in
-    let sp : Block → Bool = spared (sparing.Two c.args.source c.args.slot) in
-    let len = c.length_at-len.result in
-    let x = bytes_of (spot (is_relocatable c.args.source) zone) in
-    let k = joined-known c.args.source c.args.slot c.in-Some.from c.args.place len c.length_at-more.result zone c.in-Some.ensures c.requires.found c.length_at-more.ensures.is c.length_at-len.ensures.is in
-    let none : size_for (len + length x) ≡ None = joined-size c.args.source c.args.slot len c.length_at-more.result zone k c.joined_size.result _ c.joined_size.ensures c.in_default-joined_size.is in
-    no-longer_moves c.args.slot sp zone k.s k.found x len k.len_is none (g.S.BlockStore.rest store) (omega arith)
-
-pub returns-then-grown-clause-moves : goal.returns-then-grown-clause-moves
-returns-then-grown-clause-moves g c =
-    let store = c.args.store.now in
-    let zone = g.S.BlockStore.zone store in
-    let sp : Block → Bool = spared (sparing.Two c.args.source c.args.slot) in
-    let len = c.length_at-len.result in
-    let x = bytes_of (spot (is_relocatable c.args.source) zone) in
-    let k = joined-known c.args.source c.args.slot c.in-Some.from c.args.place len c.length_at-more.result zone c.in-Some.ensures c.requires.found c.length_at-more.ensures.is c.length_at-len.ensures.is in
-    let m_is : size_for (len + length x) ≡ Some c.in-Some-joined_size.size = joined-size c.args.source c.args.slot len c.length_at-more.result zone k c.joined_size.result _ c.joined_size.ensures c.in-Some-joined_size.is in
-    longer-moves c.args.slot sp zone k.s k.found x len c.in-Some-joined_size.size k.len_is m_is (g.S.BlockStore.rest store) (g.S.BlockStore.rest c.copy_behind.new.store) (c.copy_behind.ensures.rest.moves ∙ c.resize_block.ensures.moves)
-
-pub returns-else-grown-clause-moves : goal.returns-else-grown-clause-moves
-returns-else-grown-clause-moves g c =
-    let store = c.args.store.now in
-    let zone = g.S.BlockStore.zone store in
-    let sp : Block → Bool = spared (sparing.Two c.args.source c.args.slot) in
-    let len = c.length_at-len.result in
-    let x = bytes_of (spot (is_relocatable c.args.source) zone) in
-    let k = joined-known c.args.source c.args.slot c.in-Some.from c.args.place len c.length_at-more.result zone c.in-Some.ensures c.requires.found c.length_at-more.ensures.is c.length_at-len.ensures.is in
-    let m_is : size_for (len + length x) ≡ Some c.in-Some-joined_size.size = joined-size c.args.source c.args.slot len c.length_at-more.result zone k c.joined_size.result _ c.joined_size.ensures c.in-Some-joined_size.is in
-    longer-moves c.args.slot sp zone k.s k.found x len c.in-Some-joined_size.size k.len_is m_is (g.S.BlockStore.rest store) (g.S.BlockStore.rest c.resize_block.new.store) c.resize_block.ensures.moves
+    fixed-longer c.args.slot c.length_at-len.result _ (g.S.BlockStore.zone c.args.store.now) (g.S.BlockStore.zone c.lengthen.new.store) (g.S.BlockStore.zone c.copy_behind.new.store) c.lengthen.ensures.fixed c.copy_behind.ensures.zone

@@ -1,18 +1,12 @@
 use Rattle.block_store.specs.Run.{run_spot, has_free}
-use Rattle.block_store.specs.Sparing.{purged, most_purges}
+use Rattle.block_store.specs.Sparing.{purged}
 use Rattle.heap_calls.proofs.Room.LeastLooks.{least-of, tries-of}
 use Rattle.heap_calls.proofs.base.find_base.Goals as goal
 
 pub returns-clause-least : goal.returns-clause-least
 returns-clause-least g c =
-    let zone = g.S.BlockStore.zone c.args.store.now in
-    let sparing = c.args.sparing in
-    let looked = c.least_look-looked in
-    least-of (λ k. run_spot (has_free c.args.bytes) (purged k sparing zone)) (most_purges sparing zone) looked.result.purges looked.ensures.least
+    least-of (λ k. run_spot (has_free c.args.bytes) (purged k c.args.sparing (g.S.BlockStore.zone c.args.store.now))) _ _ c.least_look-looked.ensures.least
 
 pub returns-clause-searches : goal.returns-clause-searches
 returns-clause-searches g c =
-    let zone = g.S.BlockStore.zone c.args.store.now in
-    let sparing = c.args.sparing in
-    let looked = c.least_look-looked in
-    tries-of (λ k. run_spot (has_free c.args.bytes) (purged k sparing zone)) (most_purges sparing zone) looked.result.purges looked.ensures.least
+    tries-of (λ k. run_spot (has_free c.args.bytes) (purged k c.args.sparing (g.S.BlockStore.zone c.args.store.now))) _ _ c.least_look-looked.ensures.least

@@ -1,3 +1,8 @@
+use Rattle.block_store.specs.Sparing.{spared}
+use Rattle.std.specs.Option.{IfSome}
+use Rattle.heap_calls.specs.Moves.{room_moves}
+use Rattle.block_store.specs.Grow.{grow_mover}
+use Rattle.block_store.specs.Block.{resized}
 use Rattle.std.proofs.Common.{◌≡◌, ◌+◌, Some, None, sym, ◌∙◌, ap, subst, Option, List, refl, arith}
 use Rattle.block_store.specs.Block.{Block, is_relocatable, is_fixed, size as size_of}
 use Rattle.block_store.specs.Run.{has}
@@ -11,6 +16,9 @@ use Rattle.heap_calls.proofs.Room.Staying.{fixed-purged}
 use Rattle.block_store.specs.Rest.{counted}
 use Rattle.heap_calls.specs.Moves.{grow_moves}
 use Rattle.heap_calls.proofs.Room.MoveCounts.{packs-none, packs-after, no-growth, grown-moves}
+use Rattle.heap_calls.specs.Inner.Packed.{Packs}
+use Rattle.heap_calls.proofs.growing.grow_movable.Given.{Over}
+use Rattle.heap_calls.proofs.growing.grow_movable.Goals.{After-carry_out}
 use Rattle.heap_calls.proofs.growing.grow_movable.Goals as goal
 
 pub returns-in_default-growth-clause-zone : goal.returns-in_default-growth-clause-zone
@@ -76,8 +84,9 @@ returns-in_default-growth-clause-moves g c =
     grown-moves c.args.sparing c.args.slot c.args.bytes zone c.requires.stays k c.find_growth-found.ensures.searches rest rest
     (packs-none rest rest (grow_moves t (grown c.args.bytes (spot t zone)) (purged k c.args.sparing zone)) (omega arith) refl (no-growth t (grown c.args.bytes (spot t zone)) (purged k c.args.sparing zone) none))
 
-pub returns-in_err-carry_out-clause-moves : goal.returns-in_err-carry_out-clause-moves
-returns-in_err-carry_out-clause-moves g c =
+-- the blocks that packing moved
+packed : (g : Over) (c : After-carry_out g) → IfSome (spot (is_relocatable c.args.slot) (g.S.BlockStore.zone c.args.store.now)) (λ s. Packs (room_moves (grow_mover (is_relocatable c.args.slot) (resized c.args.bytes s.here)) (grow_moves (is_relocatable c.args.slot) (resized c.args.bytes s.here)) (spared c.args.sparing) (g.S.BlockStore.zone c.args.store.now)) (g.S.BlockStore.rest c.args.store.now) (g.S.BlockStore.rest c.carry_out.new.store))
+packed g c =
     let zone = g.S.BlockStore.zone c.args.store.now in
     let zone1 = g.S.BlockStore.zone c.purge.new.self in
     let rest = g.S.BlockStore.rest c.args.store.now in
@@ -90,16 +99,8 @@ returns-in_err-carry_out-clause-moves g c =
     (packs-after rest rest1 rest2 _ c.purge.ensures.rest.moves
     (c.carry_out.ensures.moves ∙ ap (λ b. counted rest1.moves (grow_moves t b zone1)) same ∙ ap (λ z. counted rest1.moves (grow_moves t (grown c.args.bytes (spot t zone)) z)) c.purge.ensures.zone))
 
+pub returns-in_err-carry_out-clause-moves : goal.returns-in_err-carry_out-clause-moves
+returns-in_err-carry_out-clause-moves g c = packed g (goal.at.returns-in_err-carry_out-clause-moves g c).After-carry_out
+
 pub returns-clause-moves : goal.returns-clause-moves
-returns-clause-moves g c =
-    let zone = g.S.BlockStore.zone c.args.store.now in
-    let zone1 = g.S.BlockStore.zone c.purge.new.self in
-    let rest = g.S.BlockStore.rest c.args.store.now in
-    let rest1 = g.S.BlockStore.rest c.purge.new.self in
-    let rest2 = g.S.BlockStore.rest c.carry_out.new.store in
-    let t = is_relocatable c.args.slot in
-    let k = c.find_growth-found.result.purges in
-    let same = purged-grown c.args.sparing c.args.slot c.args.bytes k zone c.requires.spared c.requires.stays zone1 c.purge.ensures.zone in
-    grown-moves c.args.sparing c.args.slot c.args.bytes zone c.requires.stays k c.find_growth-found.ensures.searches rest rest2
-    (packs-after rest rest1 rest2 _ c.purge.ensures.rest.moves
-    (c.carry_out.ensures.moves ∙ ap (λ b. counted rest1.moves (grow_moves t b zone1)) same ∙ ap (λ z. counted rest1.moves (grow_moves t (grown c.args.bytes (spot t zone)) z)) c.purge.ensures.zone))
+returns-clause-moves g c = packed g (goal.at.returns-clause-moves g c).After-carry_out

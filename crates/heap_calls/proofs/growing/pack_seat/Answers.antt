@@ -12,38 +12,41 @@ use Rattle.heap_calls.proofs.Room.Staying.{fixed-run_at, none-settle}
 use Rattle.block_store.specs.Rest.{IsRest, with_moves, falling}
 use Rattle.heap_calls.specs.Moves.{place_moves}
 use Rattle.heap_calls.proofs.Room.MoveCounts.{packs-none, packs-run, at-free, at-packed}
+use Rattle.heap_calls.proofs.growing.pack_seat.Given.{Over}
+use Rattle.heap_calls.proofs.growing.pack_seat.Goals.{After-settle}
 use Rattle.heap_calls.proofs.growing.pack_seat.Goals as goal
+
+-- the run that is packed
+found : (g : Over) (c : After-settle g) → FindsSeat c.args.bytes (g.S.BlockStore.zone c.args.store.now) (Some (see.Run c.in-Run.run'))
+found g c =
+    let P : Seat → Type 0 = λ s. FindsSeat c.args.bytes (g.S.BlockStore.zone c.args.store.now) (Some s) in
+    subst P c.in-Run.is c.requires.found
+
+-- the zone with that run packed
+packed : (g : Over) (c : After-settle g) → g.S.BlockStore.zone c.settle.new.self ≡ tidy (with_run settle (found g c).1.0)
+packed g c =
+    let zone = g.S.BlockStore.zone c.args.store.now in
+    at_run c.in-Run.run' zone zone (found g c).1.0 (λ r. g.S.BlockStore.zone c.settle.new.self ≡ tidy (with_run settle r)) refl (found g c).1.2 c.settle.ensures.zone
 
 pub unreachable-requires : goal.unreachable-requires
 unreachable-requires g c =
-    let zone = g.S.BlockStore.zone c.args.store.now in
+    let at = (goal.at.unreachable-requires g c).After-settle in
+    let r = (found g at).1 in
     let store' = c.settle.new.self in
-    let P : Seat → Type 0 = λ s. FindsSeat c.args.bytes zone (Some s) in
-    let found : P (see.Run c.in-Run.run') = subst P c.in-Run.is c.requires.found in
-    let r = found.1.0 in
-    let after = at_run c.in-Run.run' zone zone r (λ r. g.S.BlockStore.zone store' ≡ tidy (with_run settle r)) refl found.1.2 c.settle.ensures.zone in
-    room-found c.args.bytes c.requires.positive zone r found.1.1 (g.S.BlockStore.zone store') after
+    room-found c.args.bytes c.requires.positive (g.S.BlockStore.zone c.args.store.now) r.0 r.1 (g.S.BlockStore.zone store') (packed g at)
     (ap (spot (is_room c.args.bytes)) (sym (g.met.S.BlockStore.tidied store')) ∙ c.in_default.ensures)
 
 pub returns-clause-blocks : goal.returns-clause-blocks
 returns-clause-blocks g c =
-    let zone = g.S.BlockStore.zone c.args.store.now in
-    let zone' = g.S.BlockStore.zone c.settle.new.self in
-    let P : Seat → Type 0 = λ s. FindsSeat c.args.bytes zone (Some s) in
-    let found : P (see.Run c.in-Run.run') = subst P c.in-Run.is c.requires.found in
-    let r = found.1.0 in
-    let after = at_run c.in-Run.run' zone zone r (λ r. zone' ≡ tidy (with_run settle r)) refl found.1.2 c.settle.ensures.zone in
-    λ number. ap (block_of number) after ∙ settle-blocks c.in-Run.run' zone r found.1.2 number
+    let at = (goal.at.returns-clause-blocks g c).After-settle in
+    let r = (found g at).1 in
+    λ number. ap (block_of number) (packed g at) ∙ settle-blocks c.in-Run.run' (g.S.BlockStore.zone c.args.store.now) r.0 r.2 number
 
 pub returns-clause-fixed : goal.returns-clause-fixed
 returns-clause-fixed g c place =
-    let zone = g.S.BlockStore.zone c.args.store.now in
-    let zone' = g.S.BlockStore.zone c.settle.new.self in
-    let P : Seat → Type 0 = λ s. FindsSeat c.args.bytes zone (Some s) in
-    let found : P (see.Run c.in-Run.run') = subst P c.in-Run.is c.requires.found in
-    let r = found.1.0 in
-    let after = at_run c.in-Run.run' zone zone r (λ r. zone' ≡ tidy (with_run settle r)) refl found.1.2 c.settle.ensures.zone in
-    ap (has (is_fixed place)) after ∙ fixed-run_at settle none-settle c.in-Run.run' zone r found.1.2 place
+    let at = (goal.at.returns-clause-fixed g c).After-settle in
+    let r = (found g at).1 in
+    ap (has (is_fixed place)) (packed g at) ∙ fixed-run_at settle none-settle c.in-Run.run' (g.S.BlockStore.zone c.args.store.now) r.0 r.2 place
 
 pub returns-in-Free-clause-moves : goal.returns-in-Free-clause-moves
 returns-in-Free-clause-moves g c =
@@ -58,8 +61,7 @@ returns-clause-moves g c =
     let zone = g.S.BlockStore.zone c.args.store.now in
     let rest = g.S.BlockStore.rest c.args.store.now in
     let rest' = g.S.BlockStore.rest c.settle.new.self in
-    let P : Seat → Type 0 = λ s. FindsSeat c.args.bytes zone (Some s) in
-    let found : P (see.Run c.in-Run.run') = subst P c.in-Run.is c.requires.found in
-    let r = found.1.0 in
-    let packed = at_run c.in-Run.run' zone zone r (λ r. IsRest (with_moves (falling r.run) rest) rest') refl found.1.2 c.settle.ensures.rest in
-    packs-run rest rest rest' (falling r.run) (place_moves c.args.bytes zone) refl packed (at-packed c.args.bytes c.in-Run.run' zone found)
+    let seat = found g (goal.at.returns-clause-moves g c).After-settle in
+    let r = seat.1.0 in
+    let packed = at_run c.in-Run.run' zone zone r (λ r. IsRest (with_moves (falling r.run) rest) rest') refl seat.1.2 c.settle.ensures.rest in
+    packs-run rest rest rest' (falling r.run) (place_moves c.args.bytes zone) refl packed (at-packed c.args.bytes c.in-Run.run' zone seat)

@@ -1,67 +1,44 @@
-use Rattle.std.proofs.Common.{ap, ◌∙◌, ◌≡◌, ℕ, ◌+◌, ◌≤◌, true, sym, subst, arith, ◌++◌, ◌∷◌}
+use Rattle.std.proofs.Common.{ap, ◌∙◌, ◌≡◌, ◌+◌, sym, arith, ◌++◌, ◌∷◌}
 use Rattle.std.proofs.lemmas.Result.{on_ok_weaker}
-use Rattle.std.specs.Option.{IsSomeAnd, IfSome}
-use Rattle.std.specs.Bool.{IsTrue}
+use Rattle.std.specs.Option.{IfSome}
 use Rattle.block_store.specs.Block.{Free, is_fixed, tidy}
-use Rattle.block_store.specs.Run.{has, has_free, segments, run_at, with_run, low}
-use Rattle.block_store.specs.Room.{Spot, spot_at, emptied, purge, count_of}
+use Rattle.block_store.specs.Run.{has, run_at, with_run, low}
+use Rattle.block_store.specs.Room.{spot_at}
 use Rattle.block_store.specs.Sparing.{spared}
-use Rattle.block_store.proofs.Plain.Options.{some_and}
 use Rattle.heap_calls.specs.Inner.GrowingInPlace.{pushed_up}
-use Rattle.heap_calls.proofs.Sizes.GrowingInPlace.{spot_if, some_if, spot-small, raise-allowed, raised-is, same_spot}
+use Rattle.heap_calls.proofs.Sizes.GrowingInPlace.{EmptiedAbove, emptied_above, spot-small}
 use Rattle.heap_calls.proofs.Numbering.Changing.{spot_at-is}
 use Rattle.heap_calls.proofs.Room.Staying.{fixed-raised, fixed-above_emptied}
+use Rattle.heap_calls.proofs.growing_in_place.push_up.Given.{Over}
+use Rattle.heap_calls.proofs.growing_in_place.push_up.Goals.{After-purge_after}
 use Rattle.heap_calls.proofs.growing_in_place.push_up.Goals as goal
+
+-- the block, with the run above it emptied
+above : (g : Over) (c : After-purge_after g) → EmptiedAbove c.args.place c.args.taken c.args.bytes c.args.purges (spared c.args.sparing) (g.S.BlockStore.zone c.args.store.now) (g.S.BlockStore.zone c.purge_after.new.self)
+above g c =
+    let store = c.args.store.now in
+    emptied_above c.args.place c.args.taken c.args.bytes c.args.purges (spared c.args.sparing) (g.S.BlockStore.zone store) (g.S.BlockStore.zone c.purge_after.new.self)
+    (g.met.S.BlockStore.tidied store) c.requires.still c.requires.room c.purge_after.ensures.zone
 
 pub overflow_add-place : goal.overflow_add-place
 overflow_add-place g c =
-    let zone = g.S.BlockStore.zone c.args.store.now in
-    let still = some_and (spot_at c.args.place zone) _ c.requires.still in
-    omega (arith, still.2.1, spot-small c.args.place zone still.0 still.1, g.met.S.BlockStore.small c.args.store.now)
+    let above = above g (goal.at.overflow_add-place g c).After-purge_after in
+    omega (arith, above.size_is, spot-small c.args.place (g.S.BlockStore.zone c.args.store.now) above.s above.at, g.met.S.BlockStore.small c.args.store.now)
 
 pub raise-requires-clause-run : goal.raise-requires-clause-run
-raise-requires-clause-run g c =
-    let zone = g.S.BlockStore.zone c.args.store.now in
-    let zone' = g.S.BlockStore.zone c.purge_after.new.self in
-    let sp = spared c.args.sparing in
-    let still = some_and (spot_at c.args.place zone) _ c.requires.still in
-    let s = still.0 in
-    let P : Spot → Type 0 = λ s. (c.args.purges ≤ count_of sp (segments s.above).first) × (has_free c.args.bytes (purge c.args.purges sp (segments s.above).first) ≡ true) in
-    let room : P s = same_spot (spot_at c.args.place zone) s P still.1 c.requires.room in
-    let done = spot_if (spot_at c.args.place zone) s (λ s. zone' ≡ tidy (s.below ++ s.here ∷ emptied c.args.purges sp s.above)) still.1 c.purge_after.ensures.zone in
-    let Q : ℕ → Type 0 = λ n. IsSomeAnd (run_at (c.args.place + n) zone') (λ r. IsTrue (has_free c.args.bytes r.run)) in
-    subst Q (sym still.2.1) (raise-allowed c.args.place zone (g.met.S.BlockStore.tidied c.args.store.now) s still.1 still.2.0 c.args.purges sp room.0 zone' done c.args.bytes room.1)
+raise-requires-clause-run g c = (above g (goal.at.raise-requires-clause-run g c).After-purge_after).allowed
 
 pub returns-clause-zone : goal.returns-clause-zone
 returns-clause-zone g c =
-    let zone = g.S.BlockStore.zone c.args.store.now in
-    let zone' = g.S.BlockStore.zone c.purge_after.new.self in
     let after = g.S.BlockStore.zone c.raise.new.self in
-    let sp = spared c.args.sparing in
-    let still = some_and (spot_at c.args.place zone) _ c.requires.still in
-    let s = still.0 in
-    let P : Spot → Type 0 = λ s. (c.args.purges ≤ count_of sp (segments s.above).first) × (has_free c.args.bytes (purge c.args.purges sp (segments s.above).first) ≡ true) in
-    let room : P s = same_spot (spot_at c.args.place zone) s P still.1 c.requires.room in
-    let done = spot_if (spot_at c.args.place zone) s (λ s. zone' ≡ tidy (s.below ++ s.here ∷ emptied c.args.purges sp s.above)) still.1 c.purge_after.ensures.zone in
-    let Q : ℕ → Type 0 = λ n. IfSome (run_at (c.args.place + n) zone') (λ r. after ≡ tidy (with_run (low (Free c.args.bytes)) r)) in
-    let R : Spot → Type 0 = λ s. after ≡ s.below ++ s.here ∷ pushed_up c.args.bytes c.args.purges sp s.above in
-    on_ok_weaker {P = Q c.args.taken} {Q = IfSome (spot_at c.args.place zone) R} c.raise.result
-    (λ raised. some_if (spot_at c.args.place zone) s R still.1
-    (raised-is c.args.place zone (g.met.S.BlockStore.tidied c.args.store.now) s still.1 still.2.0 c.args.purges sp room.0 zone' done c.args.bytes after (subst Q still.2.1 raised)))
-    c.raise.ensures.ok
+    on_ok_weaker {P = IfSome (run_at (c.args.place + c.args.taken) (g.S.BlockStore.zone c.purge_after.new.self)) (λ r. after ≡ tidy (with_run (low (Free c.args.bytes)) r))}
+    {Q = IfSome (spot_at c.args.place (g.S.BlockStore.zone c.args.store.now)) (λ s. after ≡ s.below ++ s.here ∷ pushed_up c.args.bytes c.args.purges (spared c.args.sparing) s.above)} c.raise.result
+    ((above g (goal.at.returns-clause-zone g c).After-purge_after).raised after) c.raise.ensures.ok
 
 pub returns-clause-fixed : goal.returns-clause-fixed
 returns-clause-fixed g c place =
-    let zone = g.S.BlockStore.zone c.args.store.now in
-    let zone' = g.S.BlockStore.zone c.purge_after.new.self in
-    let after = g.S.BlockStore.zone c.raise.new.self in
-    let sp = spared c.args.sparing in
-    let still = some_and (spot_at c.args.place zone) _ c.requires.still in
-    let s = still.0 in
-    let P : Spot → Type 0 = λ s. (c.args.purges ≤ count_of sp (segments s.above).first) × (has_free c.args.bytes (purge c.args.purges sp (segments s.above).first) ≡ true) in
-    let room : P s = same_spot (spot_at c.args.place zone) s P still.1 c.requires.room in
-    let done = spot_if (spot_at c.args.place zone) s (λ s. zone' ≡ tidy (s.below ++ s.here ∷ emptied c.args.purges sp s.above)) still.1 c.purge_after.ensures.zone in
-    let Q : ℕ → Type 0 = λ n. IsSomeAnd (run_at (c.args.place + n) zone') (λ r. IsTrue (has_free c.args.bytes r.run)) in
-    let allowed : Q c.args.taken = subst Q (sym still.2.1) (raise-allowed c.args.place zone (g.met.S.BlockStore.tidied c.args.store.now) s still.1 still.2.0 c.args.purges sp room.0 zone' done c.args.bytes room.1) in
-    fixed-raised c.raise.result (c.args.place + c.args.taken) c.args.bytes zone' after allowed c.raise.ensures.ok c.raise.ensures.err place
-    ∙ ap (has (is_fixed place)) done ∙ fixed-above_emptied s.below s.here s.above c.args.purges sp place ∙ ap (has (is_fixed place)) (sym (spot_at-is c.args.place zone s still.1))
+    let above = above g (goal.at.returns-clause-fixed g c).After-purge_after in
+    let s = above.s in
+    fixed-raised c.raise.result (c.args.place + c.args.taken) c.args.bytes (g.S.BlockStore.zone c.purge_after.new.self) (g.S.BlockStore.zone c.raise.new.self) above.allowed c.raise.ensures.ok c.raise.ensures.err place
+    ∙ ap (has (is_fixed place)) above.left ∙ fixed-above_emptied s.below s.here s.above c.args.purges (spared c.args.sparing) place
+    ∙ ap (has (is_fixed place)) (sym (spot_at-is c.args.place (g.S.BlockStore.zone c.args.store.now) s above.at))

@@ -1,39 +1,27 @@
-use Rattle.std.proofs.Common.{sym, ◌∙◌, ap, arith}
-use Rattle.std.specs.Option.{option_map, ok_or}
-use Rattle.mac_words.specs.declared.code.TheConstants.OsErr.{NIL_HANDLE}
-use Rattle.block_store.specs.Room.{rename_spot}
+use Rattle.std.proofs.Common.{sym, ◌∙◌, ap, arith, Ok}
+use Rattle.std.proofs.lemmas.Option.{same_Some}
 use Rattle.block_store.proofs.Zone.Tidy.{spot-passes}
 use Rattle.block_store.specs.Block.{is_relocatable}
+use Rattle.block_store.specs.Room.{Spot, rename_spot}
 use Rattle.heap_calls.specs.Inner.Numbered.{handle_number, pointer_number}
-use Rattle.heap_calls.proofs.Numbering.Answering.{slot_of-ok, look_up-by, place-small, header-fits, held}
+use Rattle.heap_calls.proofs.Numbering.Answering.{place-small, header-fits, held}
 use Rattle.heap_calls.proofs.heap.find_block.Goals as goal
-
-pub returns-in_default : goal.returns-in_default
-returns-in_default g c =
-    let zone = g.S.BlockStore.zone c.args.store.now in
-    let slots = (g.S.BlockStore.rest c.args.store.now).slots in
-    let es = c.args.names.now in
-    let f = c.in_ok-found.found in
-    let is = slot_of-ok c.args.handle es f (sym c.slot_of.ensures ∙ c.in_ok-found.was) in
-    look_up-by zone slots es c.args.handle f.number f.slot is.0 is.1 c.requires.apart (omega arith)
-    ∙ ap (λ o. ok_or (option_map (held f.number) (option_map (rename_spot (handle_number es) (pointer_number es)) o)) NIL_HANDLE) c.in_default.ensures
 
 pub returns : goal.returns
 returns g c =
     let zone = g.S.BlockStore.zone c.args.store.now in
-    let slots = (g.S.BlockStore.rest c.args.store.now).slots in
     let es = c.args.names.now in
-    let f = c.in_ok-found.found in
-    let is = slot_of-ok c.args.handle es f (sym c.slot_of.ensures ∙ c.in_ok-found.was) in
-    let there = c.in-Some.ensures in
-    let high = place-small zone f.slot there.0 there.1 in
-    let header = header-fits f.slot there.0.here (spot-passes (is_relocatable f.slot) zone there.0 there.1) in
+    let k = c.in_ok-held.held in
+    let reached = c.in_ok-held.ensures in
+    let lowest = reached.3 in
+    let same = same_Some _ _ (sym reached.2 ∙ lowest.1) in
+    let high = place-small zone k.slot lowest.0 lowest.1 in
+    let header = header-fits k.slot lowest.0.here (spot-passes (is_relocatable k.slot) zone lowest.0 lowest.1) in
     let small = g.met.S.BlockStore.small c.args.store.now in (
-      f.number,
-      there.0,
-      look_up-by zone slots es c.args.handle f.number f.slot is.0 is.1 c.requires.apart (omega arith)
-          ∙ ap (λ o. ok_or (option_map (held f.number) (option_map (rename_spot (handle_number es) (pointer_number es)) o)) NIL_HANDLE) there.1,
-      there.2,
-      there.3,
-      omega (arith, there.3, high, small, header),
+      k.number,
+      lowest.0,
+      reached.1 ∙ ap (λ (s : Spot). Ok (held k.number (rename_spot (handle_number es) (pointer_number es) s))) same,
+      lowest.2,
+      lowest.3,
+      omega (arith, lowest.3, high, small, header),
     )

@@ -5,6 +5,9 @@ use Rattle.heap_calls.specs.Inner.NewBlock.{ready_count}
 use Rattle.heap_calls.specs.Inner.NewSlot.{IsSlot}
 use Rattle.heap_calls.specs.Inner.Packed.{content_moves, new_moves}
 use Rattle.heap_calls.proofs.Room.MoveCounts.{packs-none, packs-after}
+use Rattle.heap_calls.specs.Inner.Packed.{Packs}
+use Rattle.heap_calls.proofs.new_block.new_block.Given.{Over}
+use Rattle.heap_calls.proofs.new_block.new_block.Goals.{After-add_block}
 use Rattle.heap_calls.proofs.new_block.new_block.Goals as goal
 
 pub returns-in_default-place-clause-answer : goal.returns-in_default-place-clause-answer
@@ -32,24 +35,19 @@ returns-in_default-clause-moves g c =
     let none : P None = subst P c.in_default.is c.in_ok-taken.ensures.slot in
     packs-none rest rest' (new_moves c.args.sparing c.args.size rest.unused zone) (omega arith) c.make_slot.ensures.moves (ap (λ o. ready_count o (content_moves c.args.sparing c.args.size)) none.0)
 
-pub returns-in_default-place-clause-moves : goal.returns-in_default-place-clause-moves
-returns-in_default-place-clause-moves g c =
-    let zone = g.S.BlockStore.zone c.args.store.now in
+-- the moves of a new block, where a slot was taken
+packed : (g : Over) (c : After-add_block g) → Packs (new_moves c.args.sparing c.args.size (g.S.BlockStore.rest c.args.store.now).unused (g.S.BlockStore.zone c.args.store.now)) (g.S.BlockStore.rest c.args.store.now) (g.S.BlockStore.rest c.add_block.new.store)
+packed g c =
     let rest = g.S.BlockStore.rest c.args.store.now in
     let zone1 = g.S.BlockStore.zone c.make_slot.new.store in
     let rest1 = g.S.BlockStore.rest c.make_slot.new.store in
-    let P : Option ℕ → Type 0 = λ o. IsSlot c.args.sparing zone rest o zone1 rest1 in
+    let P : Option ℕ → Type 0 = λ o. IsSlot c.args.sparing (g.S.BlockStore.zone c.args.store.now) rest o zone1 rest1 in
     let taken : P (Some c.in-Some.slot) = subst P c.in-Some.is c.in_ok-taken.ensures.slot in
     packs-after rest rest1 (g.S.BlockStore.rest c.add_block.new.store) (content_moves c.args.sparing c.args.size zone1) c.make_slot.ensures.moves c.add_block.ensures.moves
     ∙ ap (λ o. counted rest.moves (ready_count o (content_moves c.args.sparing c.args.size))) (sym taken.ready)
 
+pub returns-in_default-place-clause-moves : goal.returns-in_default-place-clause-moves
+returns-in_default-place-clause-moves g c = packed g (goal.at.returns-in_default-place-clause-moves g c).After-add_block
+
 pub returns-clause-moves : goal.returns-clause-moves
-returns-clause-moves g c =
-    let zone = g.S.BlockStore.zone c.args.store.now in
-    let rest = g.S.BlockStore.rest c.args.store.now in
-    let zone1 = g.S.BlockStore.zone c.make_slot.new.store in
-    let rest1 = g.S.BlockStore.rest c.make_slot.new.store in
-    let P : Option ℕ → Type 0 = λ o. IsSlot c.args.sparing zone rest o zone1 rest1 in
-    let taken : P (Some c.in-Some.slot) = subst P c.in-Some.is c.in_ok-taken.ensures.slot in
-    packs-after rest rest1 (g.S.BlockStore.rest c.add_block.new.store) (content_moves c.args.sparing c.args.size zone1) c.make_slot.ensures.moves c.add_block.ensures.moves
-    ∙ ap (λ o. counted rest.moves (ready_count o (content_moves c.args.sparing c.args.size))) (sym taken.ready)
+returns-clause-moves g c = packed g (goal.at.returns-clause-moves g c).After-add_block

@@ -1,8 +1,9 @@
-use Rattle.std.proofs.Common.{sym, arith, Ok}
+use Rattle.std.proofs.Common.{refl, sym, arith, Ok}
 use Rattle.heap_calls.specs.Answer.{look_up}
 use Rattle.heap_calls.specs.Inner.Numbered.{state_of}
 use Rattle.heap_calls.specs.Pointers.{pointed_at, block_named}
-use Rattle.heap_calls.proofs.Numbering.Pointing.{pointer-held, sparing-pointer, sparing-other, finds-same, finds-block, finds-pointer}
+use Rattle.heap_calls.proofs.Numbering.Pointing.{pointer-held, sparing-pointer, sparing-other, finds-same, finds-pointer}
+use Rattle.heap_calls.proofs.Numbering.Answering.{finds-block}
 use Rattle.heap_calls.proofs.pointers.find_named.Goals as goal
 
 pub returns-in-Ok : goal.returns-in-Ok
@@ -12,7 +13,7 @@ returns-in-Ok g c =
     let es = c.args.names.now in
     let t = c.in-Ok.target in
     let state = state_of zone rest.slots es in
-    let there = pointer-held zone rest es c.args.name t c.requires (g.met.S.BlockStore.placed c.args.store.now) (g.met.S.BlockStore.tidied c.args.store.now) (omega arith) (sym c.in-Ok.ensures) in
+    let there = pointer-held zone rest es es c.args.name t c.requires (g.met.S.BlockStore.placed c.args.store.now) (g.met.S.BlockStore.tidied c.args.store.now) (omega arith) refl c.in-Ok.ensures in
     finds-same (pointed_at c.args.name state) (block_named c.args.name state) zone es (Ok t.place) (sparing-pointer zone rest.slots es c.args.name t (sym c.in-Ok.ensures))
     (finds-pointer zone rest.slots es c.args.name t (g.met.S.BlockStore.small c.args.store.now) there)
 

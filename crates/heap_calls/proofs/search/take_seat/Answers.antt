@@ -12,18 +12,29 @@ use Rattle.heap_calls.proofs.Room.Searching.{room-found, at_run}
 use Rattle.block_store.specs.Rest.{IsRest, with_moves, falling}
 use Rattle.heap_calls.specs.Moves.{place_moves}
 use Rattle.heap_calls.proofs.Room.MoveCounts.{packs-none, packs-run, at-free, at-packed}
+use Rattle.block_store.specs.Run.{RunSpot, run_spot}
+use Rattle.heap_calls.proofs.search.take_seat.Given.{Over}
+use Rattle.heap_calls.proofs.search.take_seat.Goals.{After-settle}
 use Rattle.heap_calls.proofs.search.take_seat.Goals as goal
+
+-- the run that was settled
+settled : (g : Over) (c : After-settle g) → (r : RunSpot) × (run_spot (has_free c.args.bytes) (purged c.args.purges c.args.sparing (g.S.BlockStore.zone c.args.store.now)) ≡ Some r)
+    × (g.S.BlockStore.zone c.settle.new.self ≡ tidy (with_run settle r))
+settled g c =
+    let zone = purged c.args.purges c.args.sparing (g.S.BlockStore.zone c.args.store.now) in
+    let P : Seat → Type 0 = λ s. FindsSeat c.args.bytes zone (Some s) in
+    let found : P (see.Run c.in-Run.run') = subst P c.in-Run.is c.requires.found in (
+      found.1.0,
+      found.1.1,
+      at_run c.in-Run.run' zone (g.S.BlockStore.zone c.purge.new.self) found.1.0 (λ r. g.S.BlockStore.zone c.settle.new.self ≡ tidy (with_run settle r)) c.purge.ensures.zone found.1.2 c.settle.ensures.zone,
+    )
 
 pub unreachable-requires : goal.unreachable-requires
 unreachable-requires g c =
     let zone = purged c.args.purges c.args.sparing (g.S.BlockStore.zone c.args.store.now) in
-    let store' = c.settle.new.self in
-    let P : Seat → Type 0 = λ s. FindsSeat c.args.bytes zone (Some s) in
-    let found : P (see.Run c.in-Run.run') = subst P c.in-Run.is c.requires.found in
-    let r = found.1.0 in
-    let after = at_run c.in-Run.run' zone (g.S.BlockStore.zone c.purge.new.self) r (λ r. g.S.BlockStore.zone store' ≡ tidy (with_run settle r)) c.purge.ensures.zone found.1.2 c.settle.ensures.zone in
-    room-found c.args.bytes c.requires.positive zone r found.1.1 (g.S.BlockStore.zone store') after
-    (ap (spot (is_room c.args.bytes)) (sym (g.met.S.BlockStore.tidied store')) ∙ c.in_default.ensures)
+    let k = settled g (goal.at.unreachable-requires g c).After-settle in
+    room-found c.args.bytes c.requires.positive zone k.0 k.1 (g.S.BlockStore.zone c.settle.new.self) k.2
+    (ap (spot (is_room c.args.bytes)) (sym (g.met.S.BlockStore.tidied c.settle.new.self)) ∙ c.in_default.ensures)
 
 pub returns-in-Free-clause-kept : goal.returns-in-Free-clause-kept
 returns-in-Free-clause-kept g c number none =
@@ -32,13 +43,9 @@ returns-in-Free-clause-kept g c number none =
 pub returns-in-Some-clause-kept : goal.returns-in-Some-clause-kept
 returns-in-Some-clause-kept g c number none =
     let zone = purged c.args.purges c.args.sparing (g.S.BlockStore.zone c.args.store.now) in
-    let store' = c.settle.new.self in
-    let P : Seat → Type 0 = λ s. FindsSeat c.args.bytes zone (Some s) in
-    let found : P (see.Run c.in-Run.run') = subst P c.in-Run.is c.requires.found in
-    let r = found.1.0 in
-    let after = at_run c.in-Run.run' zone (g.S.BlockStore.zone c.purge.new.self) r (λ r. g.S.BlockStore.zone store' ≡ tidy (with_run settle r)) c.purge.ensures.zone found.1.2 c.settle.ensures.zone in
-    ap (has (is_relocatable number)) after
-    ∙ none-settled (is_relocatable number) (λ n. refl) (has_free c.args.bytes) zone r found.1.1
+    let k = settled g (goal.at.returns-in-Some-clause-kept g c).After-settle in
+    ap (has (is_relocatable number)) k.2
+    ∙ none-settled (is_relocatable number) (λ n. refl) (has_free c.args.bytes) zone k.0 k.1
     (none-purged (is_relocatable number) (λ n. refl) c.args.purges c.args.sparing (g.S.BlockStore.zone c.args.store.now) none)
 
 pub returns-in-Free-clause-fixed : goal.returns-in-Free-clause-fixed
@@ -48,12 +55,8 @@ returns-in-Free-clause-fixed g c place =
 pub returns-in-Some-clause-fixed : goal.returns-in-Some-clause-fixed
 returns-in-Some-clause-fixed g c place =
     let zone = purged c.args.purges c.args.sparing (g.S.BlockStore.zone c.args.store.now) in
-    let store' = c.settle.new.self in
-    let P : Seat → Type 0 = λ s. FindsSeat c.args.bytes zone (Some s) in
-    let found : P (see.Run c.in-Run.run') = subst P c.in-Run.is c.requires.found in
-    let r = found.1.0 in
-    let after = at_run c.in-Run.run' zone (g.S.BlockStore.zone c.purge.new.self) r (λ r. g.S.BlockStore.zone store' ≡ tidy (with_run settle r)) c.purge.ensures.zone found.1.2 c.settle.ensures.zone in
-    ap (has (is_fixed place)) after ∙ fixed-run settle none-settle (has_free c.args.bytes) zone r found.1.1 place
+    let k = settled g (goal.at.returns-in-Some-clause-fixed g c).After-settle in
+    ap (has (is_fixed place)) k.2 ∙ fixed-run settle none-settle (has_free c.args.bytes) zone k.0 k.1 place
     ∙ fixed-purged c.args.purges c.args.sparing (g.S.BlockStore.zone c.args.store.now) place
 
 pub returns-in-Free-clause-moves : goal.returns-in-Free-clause-moves

@@ -6,15 +6,21 @@ use Rattle.block_store.specs.Slot.{Unused, Used, is_used}
 use Rattle.block_store.specs.Inner.ListStore.{blocks_of, slots_of}
 use Rattle.block_store.proofs.SlotLists.{slots_of-set, unused-taken}
 use Rattle.block_store.proofs.Zone.Leading.{none-set, masters-few}
+use Rattle.block_store.proofs.list_store.ListStoreBlockStore.take_slot.Goals.{In_ok-i}
 use Rattle.block_store.proofs.list_store.ListStoreBlockStore.take_slot.Goals as goal
+
+-- the slot that was found
+found : (c : In_ok-i) → (c.in_ok-i.i < length c.args.self.now.slots.items) × (slots_of c.args.self.now.slots.items c.in_ok-i.i ≡ Unused)
+found c =
+    let P : List SlotEntry → Type 0 = λ l. (c.in_ok-i.i < length l) × (slots_of l c.in_ok-i.i ≡ Unused) in
+    subst P c.deref.ensures.value c.in_ok-i.ensures
 
 pub invariant_of-self : goal.invariant_of-self
 invariant_of-self c =
     let slots = c.args.self.now.slots.items in
     let bs = blocks_of c.args.self.now.blocks.items in
     let i = c.in_ok-i.i in
-    let P : List SlotEntry → Type 0 = λ l. (i < length l) × (slots_of l i ≡ Unused) in
-    let found : P slots = subst P c.deref.ensures.value c.in_ok-i.ensures in
+    let found = found (goal.at.invariant_of-self c).In_ok-i in
     record {
       covered = c.args.self.now.covered;
       small = c.args.self.now.small;
@@ -28,11 +34,8 @@ invariant_of-self c =
 
 pub overflow_cast-result : goal.overflow_cast-result
 overflow_cast-result c =
-    let slots = c.args.self.now.slots.items in
-    let i = c.in_ok-i.i in
-    let P : List SlotEntry → Type 0 = λ l. (i < length l) × (slots_of l i ≡ Unused) in
-    let found : P slots = subst P c.deref.ensures.value c.in_ok-i.ensures in
-    let within : i < length slots = found.0 in
+    let found = found (goal.at.overflow_cast-result c).In_ok-i in
+    let within : c.in_ok-i.i < length c.args.self.now.slots.items = found.0 in
     let few = masters-few (blocks_of c.args.self.now.blocks.items) in
     let masters = c.args.self.now.masters in
     let covered = c.args.self.now.covered in
@@ -41,22 +44,16 @@ overflow_cast-result c =
 
 pub returns-clause-one : goal.returns-clause-one
 returns-clause-one c =
-    let slots = c.args.self.now.slots.items in
-    let i = c.in_ok-i.i in
-    let P : List SlotEntry → Type 0 = λ l. (i < length l) × (slots_of l i ≡ Unused) in
-    let found : P slots = subst P c.deref.ensures.value c.in_ok-i.ensures in
-    unused-taken slots i found.1
+    let found = found (goal.at.returns-clause-one c).In_ok-i in
+    unused-taken c.args.self.now.slots.items c.in_ok-i.i found.1
 
 pub returns-clause-rest : goal.returns-clause-rest
 returns-clause-rest c =
-    let slots = c.args.self.now.slots.items in
-    let i = c.in_ok-i.i in
-    let P : List SlotEntry → Type 0 = λ l. (i < length l) × (slots_of l i ≡ Unused) in
-    let found : P slots = subst P c.deref.ensures.value c.in_ok-i.ensures in
+    let found = found (goal.at.returns-clause-rest c).In_ok-i in
     record {
-      slots = slots_of-set slots i (slot_entry.Used false) found.0;
+      slots = slots_of-set c.args.self.now.slots.items c.in_ok-i.i (slot_entry.Used false) found.0;
       unused = refl;
-      all = length-set slots i (slot_entry.Used false);
+      all = length-set c.args.self.now.slots.items c.in_ok-i.i (slot_entry.Used false);
       moves = refl;
       window = refl;
     }

@@ -1,33 +1,30 @@
-use Rattle.std.proofs.Common.{◌≡◌, refl, length, sym, ◌∙◌, ap, subst, arith, Option, Ok}
-use Rattle.std.specs.Option.{IsSome}
+use Rattle.std.proofs.Common.{◌≡◌, length, ap, arith}
 use Rattle.block_store.specs.Block.{content_of}
-use Rattle.block_store.specs.Room.{Spot}
-use Rattle.heap_calls.specs.Pointers.{pointed_at}
-use Rattle.heap_calls.proofs.Numbering.Answering.{at_place, content_of-rename}
-use Rattle.heap_calls.proofs.Numbering.Pointing.{pointer-held, target_in, on_held}
+use Rattle.heap_calls.proofs.Numbering.Answering.{at_place}
+use Rattle.heap_calls.proofs.Numbering.Pointing.{IsHeld, pointer-held, bytes-told}
+use Rattle.heap_calls.proofs.heap.Heap.bytes_of.Given.{Over}
+use Rattle.heap_calls.proofs.heap.Heap.bytes_of.Goals.{In_ok-target}
 use Rattle.heap_calls.proofs.heap.Heap.bytes_of.Goals as goal
 
-pub bytes-requires : goal.bytes-requires
-bytes-requires g c =
+-- the pointer's block
+target : (g : Over) (c : In_ok-target g) → IsHeld (g.S.BlockStore.zone c.self.inside.store) (g.S.BlockStore.rest c.self.inside.store).slots c.self.inside.names.items c.args.pointer c.in_ok-target.target
+target g c =
     let a = c.self.inside in
-    let there = pointer-held (g.S.BlockStore.zone a.store) (g.S.BlockStore.rest a.store) a.names.items c.args.pointer c.in_ok-target.target c.self.invariant (g.met.S.BlockStore.placed a.store) (g.met.S.BlockStore.tidied a.store) (omega arith)
-    (target_in a.names.items _ c.args.pointer (Ok c.in_ok-target.target) c.deref.ensures.value c.in_ok-target.ensures) in
-    let P : Option Spot → Type 0 = λ o. IsSome o in subst P (sym there.at) refl
+    pointer-held (g.S.BlockStore.zone a.store) (g.S.BlockStore.rest a.store) a.names.items _ c.args.pointer c.in_ok-target.target c.self.invariant (g.met.S.BlockStore.placed a.store) (g.met.S.BlockStore.tidied a.store) (omega arith) c.deref.ensures.value c.in_ok-target.ensures
+
+pub bytes-requires : goal.bytes-requires
+bytes-requires g c = (target g (goal.at.bytes-requires g c).In_ok-target).there
 
 pub overflow_cast-result : goal.overflow_cast-result
 overflow_cast-result g c =
-    let a = c.self.inside in
-    let there = pointer-held (g.S.BlockStore.zone a.store) (g.S.BlockStore.rest a.store) a.names.items c.args.pointer c.in_ok-target.target c.self.invariant (g.met.S.BlockStore.placed a.store) (g.met.S.BlockStore.tidied a.store) (omega arith)
-    (target_in a.names.items _ c.args.pointer (Ok c.in_ok-target.target) c.deref.ensures.value c.in_ok-target.ensures) in
-    let bytes = at_place c.in_ok-target.target.place (g.S.BlockStore.zone a.store) there.s (λ s. c.bytes.result.now ≡ content_of s.here) there.at c.bytes.ensures in
+    let there = target g (goal.at.overflow_cast-result g c).In_ok-target in
+    let store = c.self.inside.store in
+    let bytes = at_place c.in_ok-target.target.place (g.S.BlockStore.zone store) there.s (λ s. c.bytes.result.now ≡ content_of s.here) there.at c.bytes.ensures in
     let n : length c.bytes.result.now ≡ length (content_of there.s.here) = ap length bytes in
-    omega (arith, there.few, g.met.S.BlockStore.small a.store)
+    omega (arith, there.few, g.met.S.BlockStore.small store)
 
 pub returns-clause-answer : goal.returns-clause-answer
 returns-clause-answer g c =
     let a = c.self.inside in
-    let there = pointer-held (g.S.BlockStore.zone a.store) (g.S.BlockStore.rest a.store) a.names.items c.args.pointer c.in_ok-target.target c.self.invariant (g.met.S.BlockStore.placed a.store) (g.met.S.BlockStore.tidied a.store) (omega arith)
-    (target_in a.names.items _ c.args.pointer (Ok c.in_ok-target.target) c.deref.ensures.value c.in_ok-target.ensures) in
-    let bytes = at_place c.in_ok-target.target.place (g.S.BlockStore.zone a.store) there.s (λ s. c.bytes.result.now ≡ content_of s.here) there.at c.bytes.ensures in
-    on_held (pointed_at c.args.pointer) (g.S.BlockStore.zone a.store) (g.S.BlockStore.rest a.store) a.names.items a.log c.args.self.now _ c.self.view_is there.looked (λ s k. (Ok (length (content_of k.at.here)), s))
-    ∙ ap (λ l. (Ok (length l), c.args.self.now)) (content_of-rename _ _ there.s.here ∙ sym bytes)
+    bytes-told length (g.S.BlockStore.zone a.store) (g.S.BlockStore.rest a.store) a.names.items a.log c.args.self.now c.args.pointer c.in_ok-target.target c.bytes.result.now c.self.view_is
+    (target g (goal.at.returns-clause-answer g c).In_ok-target) c.bytes.ensures

@@ -7,30 +7,33 @@ use Rattle.heap_calls.specs.Inner.Numbered.{state_of, Agrees}
 use Rattle.heap_calls.specs.Pointers.{dispose_pointer}
 use Rattle.heap_calls.specs.declared.anchor.Anchor.TheVariants.{Disposed}
 use Rattle.heap_calls.proofs.Numbering.Changing.{kept, silent-done}
-use Rattle.heap_calls.proofs.Numbering.Pointing.{pointer-held, target_in, agrees-left, dispose_pointer-done}
+use Rattle.heap_calls.proofs.Numbering.Pointing.{IsHeld, pointer-held, agrees-left, dispose_pointer-done}
+use Rattle.heap_calls.proofs.heap.Heap.free_block.Given.{Over}
+use Rattle.heap_calls.proofs.heap.Heap.free_block.Goals.{In_ok-target}
 use Rattle.heap_calls.proofs.heap.Heap.free_block.Goals as goal
+
+-- the pointer's block
+target : (g : Over) (c : In_ok-target g) → IsHeld (g.S.BlockStore.zone c.self.inside.store) (g.S.BlockStore.rest c.self.inside.store).slots c.self.inside.names.items c.args.pointer c.in_ok-target.target
+target g c =
+    let a = c.self.inside in
+    pointer-held (g.S.BlockStore.zone a.store) (g.S.BlockStore.rest a.store) a.names.items _ c.args.pointer c.in_ok-target.target c.self.invariant (g.met.S.BlockStore.placed a.store) (g.met.S.BlockStore.tidied a.store) (omega arith) c.deref.ensures.value c.in_ok-target.ensures
 
 pub free_at-requires : goal.free_at-requires
 free_at-requires g c =
-    let a = c.self.inside in
-    let there = pointer-held (g.S.BlockStore.zone a.store) (g.S.BlockStore.rest a.store) a.names.items c.args.pointer c.in_ok-target.target c.self.invariant (g.met.S.BlockStore.placed a.store) (g.met.S.BlockStore.tidied a.store) (omega arith)
-    (target_in a.names.items _ c.args.pointer (Ok c.in_ok-target.target) c.deref.ensures.value c.in_ok-target.ensures) in
+    let there = target g (goal.at.free_at-requires g c).In_ok-target in
     let P : Option Spot → Type 0 = λ o. IsSomeAnd o (λ s. is_fixed c.in_ok-target.target.place s.here ≡ true) in
     subst P (sym there.at) there.fixed
 
 pub index_mut-requires : goal.index_mut-requires
 index_mut-requires g c =
-    let a = c.self.inside in
-    let there = pointer-held (g.S.BlockStore.zone a.store) (g.S.BlockStore.rest a.store) a.names.items c.args.pointer c.in_ok-target.target c.self.invariant (g.met.S.BlockStore.placed a.store) (g.met.S.BlockStore.tidied a.store) (omega arith)
-    (target_in a.names.items _ c.args.pointer (Ok c.in_ok-target.target) c.deref.ensures.value c.in_ok-target.ensures) in
+    let there = target g (goal.at.index_mut-requires g c).In_ok-target in
     let within = slice_get_within _ c.in_ok-target.target.number _ there.entry in
     omega (arith, within)
 
 pub invariant_of-self : goal.invariant_of-self
 invariant_of-self g c =
+    let there = target g (goal.at.invariant_of-self g c).In_ok-target in
     let a = c.self.inside in
-    let there = pointer-held (g.S.BlockStore.zone a.store) (g.S.BlockStore.rest a.store) a.names.items c.args.pointer c.in_ok-target.target c.self.invariant (g.met.S.BlockStore.placed a.store) (g.met.S.BlockStore.tidied a.store) (omega arith)
-    (target_in a.names.items _ c.args.pointer (Ok c.in_ok-target.target) c.deref.ensures.value c.in_ok-target.ensures) in
     let zone = g.S.BlockStore.zone a.store in
     let rest = g.S.BlockStore.rest a.store in
     let rest' = g.S.BlockStore.rest c.free_at.new.self in
@@ -40,9 +43,8 @@ invariant_of-self g c =
 
 pub returns-clause-answer : goal.returns-clause-answer
 returns-clause-answer g c =
+    let there = target g (goal.at.returns-clause-answer g c).In_ok-target in
     let a = c.self.inside in
-    let there = pointer-held (g.S.BlockStore.zone a.store) (g.S.BlockStore.rest a.store) a.names.items c.args.pointer c.in_ok-target.target c.self.invariant (g.met.S.BlockStore.placed a.store) (g.met.S.BlockStore.tidied a.store) (omega arith)
-    (target_in a.names.items _ c.args.pointer (Ok c.in_ok-target.target) c.deref.ensures.value c.in_ok-target.ensures) in
     let zone = g.S.BlockStore.zone a.store in
     let rest = g.S.BlockStore.rest a.store in
     let zone' = g.S.BlockStore.zone c.free_at.new.self in

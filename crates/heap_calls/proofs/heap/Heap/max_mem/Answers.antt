@@ -14,7 +14,24 @@ use Rattle.heap_calls.proofs.Numbering.Changing.{agrees-kept, unmoved}
 use Rattle.heap_calls.proofs.Room.MoveCounts.{moving-done}
 use Rattle.heap_calls.proofs.Numbering.MoveNames.{purged_moves-rename}
 use Rattle.heap_calls.proofs.Room.Staying.{fixed-purged, fixed-settled, fixed-same, fixed-then}
+use Rattle.block_store.specs.Rest.{KeepsSlots}
+use Rattle.heap_calls.proofs.Numbering.Changing.{unmoved-is}
+use Rattle.heap_calls.proofs.heap.Heap.max_mem.Given.{Over}
+use Rattle.heap_calls.proofs.heap.Heap.max_mem.Goals.{After-compact}
 use Rattle.heap_calls.proofs.heap.Heap.max_mem.Goals as goal
+
+-- the slots stay
+kept : (g : Over) (c : After-compact g) → KeepsSlots (g.S.BlockStore.rest c.self.inside.store) (g.S.BlockStore.rest c.compact.new.store)
+kept g c =
+    let emptied = c.purge.ensures.rest in
+    let packed = c.compact.ensures.rest in
+    record {
+      slots = λ k. packed.slots k ∙ emptied.slots k;
+      unused = packed.unused ∙ emptied.unused;
+      all = packed.all ∙ emptied.all;
+      moves = refl;
+      window = packed.window ∙ emptied.window;
+    }
 
 pub returns : goal.returns
 returns g c =
@@ -26,20 +43,13 @@ returns g c =
     let rest' = g.S.BlockStore.rest c.compact.new.store in
     let es = a.names.items in
     let emptied = c.purge.ensures.rest in
-    let packed = c.compact.ensures.rest in
     let is = purged_all-is zone all c.purges_for-purges.result c.purges_for-purges.ensures c.purge.ensures.zone in
     let moves : max_mem_moves c.args.self.now.heap ≡ falls (runs_settled None all) (runs all) =
     ap (λ (m : Memory). max_mem_moves m.heap) (sym c.self.view_is) ∙ purged_moves-rename (handle_number es) (pointer_number es) zone ∙ ap all_moves (sym is)
     ∙ ap (λ k. falls k (runs all)) (sym (least_or_last-none (length (runs all)))) in
     moving-done _ _ _ (Ok c.saturating_sub.result) zone' rest rest' es (record a.log { code = NO_ERR })
     (max_mem-done c.args.self.now zone all zone' rest (unmoved rest rest') es a.log c.largest_free.result c.saturating_sub.result c.self.view_is is c.compact.ensures.zone
-    (record {
-      slots = λ k. packed.slots k ∙ emptied.slots k;
-      unused = packed.unused ∙ emptied.unused;
-      all = packed.all ∙ emptied.all;
-      moves = refl;
-      window = packed.window ∙ emptied.window;
-    })
+    (unmoved-is rest rest' (kept g (goal.at.returns g c).After-compact))
     c.largest_free.ensures c.saturating_sub.ensures)
     moves (c.compact.ensures.moves ∙ ap (λ k. counted k (falls (runs_settled None all) (runs all))) emptied.moves)
 
@@ -50,15 +60,7 @@ invariant_of-self g c =
     let all = g.S.BlockStore.zone c.purge.new.self in
     let zone' = g.S.BlockStore.zone c.compact.new.store in
     let purges = c.purges_for-purges.result in
-    let emptied = c.purge.ensures.rest in
-    let packed = c.compact.ensures.rest in
     agrees-kept zone zone' (g.S.BlockStore.rest a.store) (g.S.BlockStore.rest c.compact.new.store) a.names.items c.self.invariant
     (fixed-then zone all zone' (fixed-then zone (purged purges sparing.Nothing zone) all (fixed-purged purges sparing.Nothing zone) (fixed-same (purged purges sparing.Nothing zone) all c.purge.ensures.zone))
     (fixed-then all (compacted None all) zone' (fixed-settled (runs_settled None all) all) (fixed-same (compacted None all) zone' c.compact.ensures.zone)))
-    (record {
-      slots = λ k. packed.slots k ∙ emptied.slots k;
-      unused = packed.unused ∙ emptied.unused;
-      all = packed.all ∙ emptied.all;
-      moves = refl;
-      window = packed.window ∙ emptied.window;
-    })
+    (kept g (goal.at.invariant_of-self g c).After-compact)

@@ -1,15 +1,25 @@
-use Rattle.std.proofs.Common.{◌≡◌, refl, true, false, Ok, Some, None, sym, ◌∙◌, ap, arith, slice_get, List}
+use Rattle.std.proofs.Common.{◌≡◌, refl, true, false, Ok, Some, None, sym, ◌∙◌, ap, arith, slice_get}
 use Rattle.block_store.specs.Block.{is_relocatable, is_mover, tidy}
 use Rattle.block_store.specs.Run.{has, high, with_run}
 use Rattle.heap_calls.specs.Inner.Given.{seen_mover}
-use Rattle.heap_calls.specs.declared.anchor.Anchor.{Anchor}
 use Rattle.heap_calls.specs.declared.anchor.Anchor.TheVariants.{Handle}
-use Rattle.heap_calls.proofs.Numbering.Answering.{slot_of-ok}
 use Rattle.heap_calls.proofs.Numbering.Changing.{agrees-same}
 use Rattle.heap_calls.proofs.Room.Searching.{at_run}
 use Rattle.heap_calls.proofs.Room.Staying.{fixed-run, fixed-same, fixed-then, none-high}
 use Rattle.heap_calls.proofs.Numbering.Hoisting.{seen-at, seen_mover-is, rest-same, run-found, hoist-allowed, hoisted-done, hoisted-none, move_hhi-emptied, move_hhi-locked, move_hhi-done}
+use Rattle.heap_calls.proofs.NewBlocks.CopiedHandles.{slot-in}
+use Rattle.heap_calls.proofs.heap.Heap.move_high.Given.{Over}
+use Rattle.heap_calls.proofs.heap.Heap.move_high.Goals.{In_ok-found, After-can_move}
 use Rattle.heap_calls.proofs.heap.Heap.move_high.Goals as goal
+
+entry : (g : Over) (c : In_ok-found g) → (c.args.handle ≡ Some c.in_ok-found.found.number) × (slice_get c.self.inside.names.items c.in_ok-found.found.number ≡ Some (Handle c.in_ok-found.found.slot))
+entry g c = slot-in c.self.inside.names.items c.deref.result.now c.args.handle c.in_ok-found.found c.deref.ensures.value (sym c.slot_of.ensures ∙ c.in_ok-found.was)
+
+-- whether its block can move
+mover : (g : Over) (c : After-can_move g) → is_mover c.in-Some.ensures.0.here ≡ c.can_move.result
+mover g c =
+    let there = c.in-Some.ensures in
+    sym (seen_mover-is there.0.here) ∙ sym (seen-at seen_mover c.in-Some.place (g.S.BlockStore.zone c.self.inside.store) there.0 c.block_at.result there.2 c.block_at.ensures) ∙ sym c.can_move.ensures
 
 pub returns-in_default-clause-answer : goal.returns-in_default-clause-answer
 returns-in_default-clause-answer g c =
@@ -18,9 +28,8 @@ returns-in_default-clause-answer g c =
     let rest = g.S.BlockStore.rest a.store in
     let es = a.names.items in
     let f = c.in_ok-found.found in
-    let is = slot_of-ok c.args.handle _ f (sym c.slot_of.ensures ∙ c.in_ok-found.was) in
-    let at : slice_get es f.number ≡ Some (Handle f.slot) = ap (λ (l : List Anchor). slice_get l f.number) (sym c.deref.ensures.value) ∙ is.1 in
-    move_hhi-emptied c.args.self.now zone rest es a.log c.args.handle f.number f.slot c.self.view_is is.0 at c.self.invariant.apart (omega arith) c.in_default.ensures
+    let is = entry g (goal.at.returns-in_default-clause-answer g c).In_ok-found in
+    move_hhi-emptied c.args.self.now zone rest es a.log c.args.handle f.number f.slot c.self.view_is is.0 is.1 c.self.invariant.apart (omega arith) c.in_default.ensures
 
 pub returns-then-not-can_move-clause-answer : goal.returns-then-not-can_move-clause-answer
 returns-then-not-can_move-clause-answer g c =
@@ -29,12 +38,10 @@ returns-then-not-can_move-clause-answer g c =
     let rest = g.S.BlockStore.rest a.store in
     let es = a.names.items in
     let f = c.in_ok-found.found in
-    let is = slot_of-ok c.args.handle _ f (sym c.slot_of.ensures ∙ c.in_ok-found.was) in
-    let at : slice_get es f.number ≡ Some (Handle f.slot) = ap (λ (l : List Anchor). slice_get l f.number) (sym c.deref.ensures.value) ∙ is.1 in
+    let is = entry g (goal.at.returns-then-not-can_move-clause-answer g c).In_ok-found in
     let there = c.in-Some.ensures in
-    let locked : is_mover there.0.here ≡ false =
-    sym (seen_mover-is there.0.here) ∙ sym (seen-at seen_mover c.in-Some.place zone there.0 c.block_at.result there.2 c.block_at.ensures) ∙ sym c.can_move.ensures ∙ c.if-not-can_move.true in
-    move_hhi-locked c.args.self.now zone rest es a.log c.args.handle f.number f.slot c.self.view_is is.0 at c.self.invariant.apart (omega arith) there.0 there.1 locked
+    let locked : is_mover there.0.here ≡ false = mover g (goal.at.returns-then-not-can_move-clause-answer g c).After-can_move ∙ c.if-not-can_move.true in
+    move_hhi-locked c.args.self.now zone rest es a.log c.args.handle f.number f.slot c.self.view_is is.0 is.1 c.self.invariant.apart (omega arith) there.0 there.1 locked
 
 pub returns-in_default-run_of-clause-answer : goal.returns-in_default-run_of-clause-answer
 returns-in_default-run_of-clause-answer g c =
@@ -43,13 +50,11 @@ returns-in_default-run_of-clause-answer g c =
     let rest = g.S.BlockStore.rest a.store in
     let es = a.names.items in
     let f = c.in_ok-found.found in
-    let is = slot_of-ok c.args.handle _ f (sym c.slot_of.ensures ∙ c.in_ok-found.was) in
-    let at : slice_get es f.number ≡ Some (Handle f.slot) = ap (λ (l : List Anchor). slice_get l f.number) (sym c.deref.ensures.value) ∙ is.1 in
+    let is = entry g (goal.at.returns-in_default-run_of-clause-answer g c).In_ok-found in
     let there = c.in-Some.ensures in
-    let free : is_mover there.0.here ≡ true =
-    sym (seen_mover-is there.0.here) ∙ sym (seen-at seen_mover c.in-Some.place zone there.0 c.block_at.result there.2 c.block_at.ensures) ∙ sym c.can_move.ensures ∙ c.if-not-can_move.false in
+    let free : is_mover there.0.here ≡ true = mover g (goal.at.returns-in_default-run_of-clause-answer g c).After-can_move ∙ c.if-not-can_move.false in
     let none = run-found (has (is_relocatable f.slot)) zone _ None (g.met.S.BlockStore.tidied a.store) c.in_default-run_of.ensures in
-    move_hhi-done c.args.self.now zone rest es a.log c.args.handle f.number f.slot c.self.view_is is.0 at c.self.invariant.apart (omega arith) zone rest there.0 there.1 free (rest-same rest) (hoisted-none f.slot zone none)
+    move_hhi-done c.args.self.now zone rest es a.log c.args.handle f.number f.slot c.self.view_is is.0 is.1 c.self.invariant.apart (omega arith) zone rest there.0 there.1 free (rest-same rest) (hoisted-none f.slot zone none)
     ∙ ap (λ m. (Ok tt, m)) c.self.view_is
 
 pub hoist-requires : goal.hoist-requires
@@ -79,11 +84,9 @@ returns-clause-answer g c =
     let rest = g.S.BlockStore.rest a.store in
     let es = a.names.items in
     let f = c.in_ok-found.found in
-    let is = slot_of-ok c.args.handle _ f (sym c.slot_of.ensures ∙ c.in_ok-found.was) in
-    let at : slice_get es f.number ≡ Some (Handle f.slot) = ap (λ (l : List Anchor). slice_get l f.number) (sym c.deref.ensures.value) ∙ is.1 in
+    let is = entry g (goal.at.returns-clause-answer g c).In_ok-found in
     let there = c.in-Some.ensures in
-    let free : is_mover there.0.here ≡ true =
-    sym (seen_mover-is there.0.here) ∙ sym (seen-at seen_mover c.in-Some.place zone there.0 c.block_at.result there.2 c.block_at.ensures) ∙ sym c.can_move.ensures ∙ c.if-not-can_move.false in
+    let free : is_mover there.0.here ≡ true = mover g (goal.at.returns-clause-answer g c).After-can_move ∙ c.if-not-can_move.false in
     let found = run-found (has (is_relocatable f.slot)) zone _ (Some c.in-Some-run_of.run') (g.met.S.BlockStore.tidied a.store) c.in-Some-run_of.ensures in
-    move_hhi-done c.args.self.now zone rest es a.log c.args.handle f.number f.slot c.self.view_is is.0 at c.self.invariant.apart (omega arith) zone' (g.S.BlockStore.rest c.hoist.new.self) there.0 there.1 free c.hoist.ensures.rest
+    move_hhi-done c.args.self.now zone rest es a.log c.args.handle f.number f.slot c.self.view_is is.0 is.1 c.self.invariant.apart (omega arith) zone' (g.S.BlockStore.rest c.hoist.new.self) there.0 there.1 free c.hoist.ensures.rest
     (hoisted-done f.slot c.in-Some-run_of.run' zone zone' found c.hoist.ensures.zone)

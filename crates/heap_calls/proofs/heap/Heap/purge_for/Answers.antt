@@ -1,5 +1,4 @@
-use Rattle.std.proofs.Common.{◌≡◌, ◌+◌, ℕ, sym, ◌∙◌, ap, refl, Ok, Err, Bool, Option, arith}
-use Rattle.mac_words.specs.declared.code.TheConstants.OsErr.{MEM_FULL}
+use Rattle.std.proofs.Common.{◌≡◌, ◌+◌, ℕ, sym, ◌∙◌, ap, refl, Option, arith}
 use Rattle.block_store.specs.Compact.{has_room}
 use Rattle.block_store.specs.Room.{purge}
 use Rattle.heap_calls.specs.Answer.{nothing, silent}
@@ -10,29 +9,14 @@ use Rattle.block_store.specs.Sparing.{purged}
 use Rattle.block_store.specs.declared.sparing.Sparing.TheVariants as sparing
 use Rattle.heap_calls.proofs.Numbering.Changing.{agrees-same}
 use Rattle.heap_calls.proofs.Room.Staying.{fixed-purged, fixed-same, fixed-then}
+use Rattle.block_store.specs.Rest.{counted}
+use Rattle.heap_calls.proofs.NewBlocks.Naming.{is-served}
 use Rattle.heap_calls.proofs.heap.Heap.purge_for.Goals as goal
 
 pub overflow_add-purges : goal.overflow_add-purges
 overflow_add-purges g c =
     let zone = g.S.BlockStore.zone c.self.inside.store in
     omega (arith, c.purges_for-purges.ensures, blocks_purged-few c.phys-bytes.result zone, g.met.S.BlockStore.small c.self.inside.store)
-
-pub returns-then-not-served-clause-answer : goal.returns-then-not-served-clause-answer
-returns-then-not-served-clause-answer g c =
-    let a = c.self.inside in
-    let zone = g.S.BlockStore.zone a.store in
-    let rest = g.S.BlockStore.rest a.store in
-    let zone' = g.S.BlockStore.zone c.purge.new.self in
-    let rest' = g.S.BlockStore.rest c.purge.new.self in
-    let es = a.names.items in
-    let n = c.args.size in
-    let served = c.has_room-served.result in
-    let many : c.purges_for-purges.result ≡ blocks_purged _ zone = c.purges_for-purges.ensures ∙ ap (λ (p : Option ℕ). blocks_purged p zone) c.phys-bytes.ensures in
-    searching-done _ _ (silent (purge_mem n) c.args.self.now) (Err MEM_FULL) (memory_of zone' rest' es a.log) (memory_of zone' rest' es c.count.new.self)
-    (purge_mem-done c.args.self.now n zone zone' rest rest' es a.log served c.self.view_is (c.purge.ensures.zone ∙ ap (λ k. purge k nothing zone) many) c.purge.ensures.rest
-    (c.has_room-served.ensures.now refl ∙ ap (λ (p : Option ℕ). has_room p zone') c.phys-bytes.ensures)
-    ∙ ap (λ (t : Bool). (served_answer t, memory_of zone' rest' es a.log)) c.if-not-served.true)
-    (purge_mem_searches-is c.args.self.now n zone rest es a.log c.self.view_is ∙ ap (λ k. k + 1) (sym many)) (ap (memory_of zone' rest' es) c.count.ensures)
 
 pub returns-clause-answer : goal.returns-clause-answer
 returns-clause-answer g c =
@@ -45,23 +29,14 @@ returns-clause-answer g c =
     let n = c.args.size in
     let served = c.has_room-served.result in
     let many : c.purges_for-purges.result ≡ blocks_purged _ zone = c.purges_for-purges.ensures ∙ ap (λ (p : Option ℕ). blocks_purged p zone) c.phys-bytes.ensures in
-    searching-done _ _ (silent (purge_mem n) c.args.self.now) (Ok tt) (memory_of zone' rest' es a.log) (memory_of zone' rest' es c.count.new.self)
+    rw (c.account.ensures.reply, c.account.ensures.counted) (is-served _ served _
+    (searching-done _ _ (silent (purge_mem n) c.args.self.now) (served_answer served) (memory_of zone' rest' es a.log) (memory_of zone' rest' es (record a.log { searches = counted a.log.searches (c.purges_for-purges.result + 1) }))
     (purge_mem-done c.args.self.now n zone zone' rest rest' es a.log served c.self.view_is (c.purge.ensures.zone ∙ ap (λ k. purge k nothing zone) many) c.purge.ensures.rest
-    (c.has_room-served.ensures.now refl ∙ ap (λ (p : Option ℕ). has_room p zone') c.phys-bytes.ensures)
-    ∙ ap (λ (t : Bool). (served_answer t, memory_of zone' rest' es a.log)) c.if-not-served.false)
-    (purge_mem_searches-is c.args.self.now n zone rest es a.log c.self.view_is ∙ ap (λ k. k + 1) (sym many)) (ap (memory_of zone' rest' es) c.count.ensures)
+    (c.has_room-served.ensures.now refl ∙ ap (λ (p : Option ℕ). has_room p zone') c.phys-bytes.ensures))
+    (purge_mem_searches-is c.args.self.now n zone rest es a.log c.self.view_is ∙ ap (λ k. k + 1) (sym many)) refl))
 
 pub invariant_of-self : goal.invariant_of-self
 invariant_of-self g c =
-    let a = c.self.inside in
-    let zone = g.S.BlockStore.zone a.store in
-    let zone' = g.S.BlockStore.zone c.purge.new.self in
-    let purges = c.purges_for-purges.result in
-    agrees-same zone zone' (g.S.BlockStore.rest a.store) (g.S.BlockStore.rest c.purge.new.self) a.names.items c.self.invariant
-    (fixed-then zone (purged purges sparing.Nothing zone) zone' (fixed-purged purges sparing.Nothing zone) (fixed-same (purged purges sparing.Nothing zone) zone' c.purge.ensures.zone)) c.purge.ensures.rest
-
-pub invariant_of-self-2 : goal.invariant_of-self-2
-invariant_of-self-2 g c =
     let a = c.self.inside in
     let zone = g.S.BlockStore.zone a.store in
     let zone' = g.S.BlockStore.zone c.purge.new.self in

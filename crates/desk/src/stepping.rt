@@ -1,0 +1,185 @@
+//! A step: a call is tried, and tried again as long as the grow-zone script makes room.
+
+ghost use Rattle.std.specs.Prelude.{◌≡◌, ◌++◌, [], IfOk, OnOk};
+ghost use Rattle.script_text.specs.Call.{word_of};
+ghost use Rattle.script_text.specs.Transcript.{reply_line, values_of};
+ghost use Rattle.desk.specs.Trying.{once};
+ghost use Rattle.desk.specs.Step.{marked, marked_for, grown, grown_for, kept_anew, names_given, round, step, run};
+ghost use Rattle.desk.specs.Application.{bytes_told, lines_told};
+ghost use Rattle.desk.specs.Replies.{Came, CameRound};
+
+use crate::application::Application;
+use crate::naming::named;
+use crate::tried::Tried;
+use block_store::BlockStore;
+use mac_words::{Call, HeapCall};
+use script_text::{Line, Script, Word, write_grow_reply, write_reply};
+use std::alloc::AllocError;
+
+/// What is done after a round of a step.
+#[derive(Clone, Copy, Debug, PartialEq, Eq)]
+pub(crate) enum Next {
+    /// The call is tried again.
+    Again,
+    /// The call has ended, and the application with it where so.
+    Ended(bool),
+}
+
+impl<'s, S: BlockStore> Application<'s, S> {
+    /// Makes the handle or the pointer of a number busy, or idle again.
+    fn mark_number(&mut self, busy: bool, number: Option<usize>)
+        ensures { self.new ≡ record self.old { memory = marked busy number self.old.memory } }
+    {
+        if let Some(number) = number {
+            self.heap.set_busy(number, busy);
+        }
+    }
+
+    /// Makes what a call names busy, or idle again, and the emptied handle that it would have read again.
+    fn mark(&mut self, busy: bool, call: &Call, reading: Option<usize>)
+        ensures { self.new ≡ marked_for busy call.now reading self.old }
+    {
+        let Call::Heap(call) = call else { return };
+        let (first, second) = named(call, &self.names);
+        self.mark_number(busy, first);
+        self.mark_number(busy, second);
+        self.mark_number(busy, reading);
+    }
+
+    /// Takes the lines of a grow-zone script in order, and appends their lines to a text.
+    fn take_lines(
+        &mut self,
+        script: &'s Script,
+        lines: &[Line],
+        text: &mut Vec<u8>,
+    ) -> Result<(), AllocError>
+        ensures { OnOk result (Came (grown script.now.blocks lines.now self.old) text.old.items text.new.items
+            self.new) }
+    {
+        for line in lines {
+            let tried = self.once(script, &line.call)?;
+            let shown = self.shown(&line.call);
+            write_grow_reply(text, line.number, Word::of(&line.call), &tried.reply, shown)?;
+        }
+        Ok(())
+    }
+
+    /// Runs the grow-zone script for a call that found no room, while what the call names is busy.
+    fn ask_script(
+        &mut self,
+        script: &'s Script,
+        line: &Line,
+        reading: Option<usize>,
+        text: &mut Vec<u8>,
+    ) -> Result<(), AllocError>
+        ensures { OnOk result (Came (grown_for script.now.blocks line.now reading self.old) text.old.items
+            text.new.items self.new) }
+    {
+        let lines = self.grow;
+        self.mark(true, &line.call, reading);
+        self.take_lines(script, lines, text)?;
+        self.mark(false, &line.call, reading);
+        Ok(())
+    }
+
+    /// Keeps the code of a call whose answer stands, behind those of the grow-zone script's calls.
+    fn keep_anew(&mut self, call: &Call, tried: &Tried)
+        ensures { self.new ≡ record self.old { memory = kept_anew call.now tried.now.reply.code self.old.memory } }
+    {
+        if let Call::Heap(_) = call {
+            self.heap.keep_code(tried.reply.code);
+        }
+    }
+
+    /// Binds the name of a call that binds one to the number that it gave.
+    fn bind(&mut self, call: &Call, given: Option<usize>) -> Result<(), AllocError>
+        ensures { OnOk result (self.new ≡ record self.old { names = names_given call.now given self.old.names }) }
+    {
+        let Some(number) = given else { return Ok(()) };
+        match call {
+            Call::Heap(HeapCall::NewHandle(name, _)) => self.names.bind(name, number),
+            Call::Heap(HeapCall::NewEmptyHandle(name)) => self.names.bind(name, number),
+            Call::Heap(HeapCall::HandToHand(name, _)) => self.names.bind(name, number),
+            Call::Heap(HeapCall::NewPtr(name, _)) => self.names.bind(name, number),
+            _ => Ok(()),
+        }
+    }
+
+    /// Ends a call with a try: its line is appended to a text, and its name is bound.
+    fn end(&mut self, line: &Line, tried: &Tried, text: &mut Vec<u8>) -> Result<(), AllocError>
+        ensures text { OnOk result (text.new.items ≡ text.old.items ++ reply_line line.now.number
+            (word_of line.now.call) tried.now.reply.code.0
+            (values_of tried.now.reply (bytes_told (once [] line.now.call self.old).told))) }
+        ensures after { OnOk result (self.new ≡ record self.old {
+          names = names_given line.now.call tried.now.given
+              self.old.names;
+        }) }
+    {
+        let shown = self.shown(&line.call);
+        write_reply(text, line.number, Word::of(&line.call), &tried.reply, shown)?;
+        self.bind(&line.call, tried.given)
+    }
+
+    /// Tries a call, and runs the grow-zone script where there was no room for it.
+    fn round(
+        &mut self,
+        script: &'s Script,
+        line: &Line,
+        text: &mut Vec<u8>,
+    ) -> Result<Next, AllocError>
+        ensures { IfOk result (λ next. CameRound (round script.now.blocks line.now self.old) next text.old.items
+            text.new.items self.new) }
+    {
+        let tried = self.once(script, &line.call)?;
+        if tried.wants_room() {
+            let before = self.heap.to_be_had();
+            self.ask_script(script, line, tried.reading, text)?;
+            if self.heap.to_be_had() > before {
+                return Ok(Next::Again);
+            }
+            self.keep_anew(&line.call, &tried);
+            write_reply(text, line.number, Word::of(&line.call), &tried.reply, None)?;
+        } else {
+            self.end(line, &tried, text)?;
+        }
+        Ok(Next::Ended(tried.over))
+    }
+
+    /// Takes a step, the call of a line: it is tried, and where there is no room for it the grow-zone script is
+    /// run; where that makes room the call is tried again, else its answer stands. The transcript's lines are
+    /// appended to a text. Tells whether the application ends with it.
+    ///
+    /// *Inside Macintosh: Memory*, chapter 1, "Grow-Zone Functions".
+    pub fn step(
+        &mut self,
+        script: &'s Script,
+        line: &Line,
+        text: &mut Vec<u8>,
+    ) -> Result<bool, AllocError>
+        ensures over { IfOk result (λ over. over ≡ (step script.now.blocks line.now self.old).over) }
+        ensures came { OnOk result (Came (step script.now.blocks line.now self.old) text.old.items text.new.items
+            self.new) }
+    {
+        let most = u64::from(self.heap.len()) + 1;
+        for _round in 0..most {
+            match self.round(script, line, text)? {
+                Next::Again => {}
+                Next::Ended(over) => return Ok(over),
+            }
+        }
+        Ok(false)
+    }
+
+    /// Takes the steps of a script, to its last line or to the end of the application.
+    pub fn run(&mut self, script: &'s Script, text: &mut Vec<u8>) -> Result<(), AllocError>
+        ensures { OnOk result (Came (run script.now.blocks script.now.steps self.old) text.old.items text.new.items
+            self.new) }
+    {
+        for line in script.steps() {
+            if self.step(script, line, text)? {
+                return Ok(());
+            }
+        }
+        Ok(())
+    }
+}

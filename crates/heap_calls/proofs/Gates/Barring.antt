@@ -1,0 +1,20 @@
+use Rattle.std.proofs.Common.{◌≡◌, ℕ, List, Option, Result, Ok, Err, ap, sym}
+use Rattle.std.specs.Prelude.{is_ok}
+use Rattle.mac_words.specs.declared.code.OsErr.{OsErr}
+use Rattle.block_store.specs.Block.{Block}
+use Rattle.block_store.specs.Slot.{Slot}
+use Rattle.heap_calls.specs.Answer.{Held, look_up}
+use Rattle.heap_calls.specs.Inner.Given.{FindsBlock}
+use Rattle.heap_calls.specs.Inner.Numbered.{state_of}
+use Rattle.heap_calls.specs.declared.anchor.Anchor.{Anchor}
+use Rattle.heap_calls.specs.declared.refusal.Refusal.{Refusal}
+use Rattle.heap_calls.specs.declared.refusal.Refusal.TheVariants.{Code, HostMemory}
+
+-- What bars a call, as a store's names and slots say it.
+
+-- a handle has a block where its block was found
+pub found-held : (zone : List Block) (slots : ℕ → Slot) (es : List Anchor) (handle : Option ℕ) (r : Result ℕ Refusal)
+    → FindsBlock zone slots es handle r → is_ok r ≡ is_ok (look_up handle (state_of zone slots es))
+found-held zone slots es handle (Ok place) found = sym (ap (λ (o : Result Held OsErr). is_ok o) found.2)
+found-held zone slots es handle (Err (Code code)) found = sym (ap (λ (o : Result Held OsErr). is_ok o) found)
+found-held zone slots es handle (Err HostMemory) found = absurd found

@@ -1,0 +1,198 @@
+use Rattle.std.proofs.Common.{Bool, true, false, is_some}
+use Rattle.std.proofs.Common.{◌≡◌, ℕ, ◌*◌, ◌≤◌, ◌<◌, slice_get, List, length, Option, Some, None, Result, Ok, Err}
+use Rattle.std.proofs.Common.{refl, sym, ◌∙◌, ap}
+use Rattle.mac_words.specs.declared.code.OsErr.{OsErr}
+use Rattle.mac_words.specs.declared.code.TheConstants.OsErr.{MEM_FULL}
+use Rattle.block_store.specs.Block.{Block, is_masters, count, is_relocatable, content_of}
+use Rattle.block_store.specs.Rest.{Rest, IsRest, counted}
+use Rattle.block_store.specs.Room.{Spot, spot}
+use Rattle.block_store.specs.declared.sparing.Sparing.TheVariants as sparing
+use Rattle.heap_calls.specs.declared.anchor.Anchor.{Anchor}
+use Rattle.heap_calls.specs.declared.log.Log.{Log}
+use Rattle.heap_calls.specs.State.{State, Memory}
+use Rattle.heap_calls.specs.Answer.{Answer, silent, searching, moving}
+use Rattle.heap_calls.specs.Pointers.{add_masters, reserve_mem}
+use Rattle.heap_calls.specs.Slots.{new_handle, new_empty_handle}
+use Rattle.heap_calls.specs.Copying.{hand_to_hand}
+use Rattle.heap_calls.specs.Moves.{hand_to_hand_moves}
+use Rattle.heap_calls.specs.Searches.{hand_to_hand_searches}
+use Rattle.heap_calls.specs.Inner.Copied.{IsCopy}
+use Rattle.heap_calls.specs.Inner.Given.{IsAnswer}
+use Rattle.heap_calls.specs.declared.anchor.Found.{Found}
+use Rattle.heap_calls.specs.declared.anchor.Anchor.TheVariants.{Handle}
+use Rattle.heap_calls.specs.Inner.Naming.{entered, number_of}
+use Rattle.heap_calls.specs.Inner.NewBlock.{IsNewBlock, new_searches}
+use Rattle.heap_calls.specs.Inner.NewSlot.{IsSlot, IsMade}
+use Rattle.heap_calls.specs.Inner.Reaching.{sized_reply}
+use Rattle.heap_calls.specs.Inner.Base.{IsBaseAt, base}
+use Rattle.mac_words.specs.Size.{phys}
+use Rattle.heap_calls.specs.Inner.Numbered.{Agrees, KeepsFixed, no_number, state_of, memory_of}
+use Rattle.heap_calls.specs.Inner.Packed.{Packs, new_moves}
+use Rattle.heap_calls.proofs.NewBlocks.NewHandles.{searched-done, new_handle-done, new_handle-refused, handle-agrees}
+use Rattle.heap_calls.proofs.NewBlocks.NewHandles.{handle-window}
+use Rattle.heap_calls.proofs.NewBlocks.Reserving.{empty-refused, empty-done, empty-agrees, empty-window}
+use Rattle.heap_calls.proofs.NewBlocks.Reserving.{masters-refused, masters-done}
+use Rattle.heap_calls.proofs.NewBlocks.Reserving.{reserve-none, reserve-done}
+use Rattle.heap_calls.proofs.NewBlocks.CopiedHandles.{copy-none, copy-agrees, copy-window, copied-done}
+use Rattle.heap_calls.proofs.NewBlocks.CopiedHandles.{copy_searches-is, copy_moves-is}
+use Rattle.heap_calls.proofs.Numbering.Changing.{unmoved}
+use Rattle.heap_calls.proofs.Numbering.PurgeTrials.{served_answer}
+use Rattle.heap_calls.proofs.Room.MoveCounts.{moving-done}
+
+-- Calls that give a handle a new number.
+
+-- what is told of a slot, if one was had
+abbrev pub told : Option ℕ → List Anchor → Result ℕ OsErr
+told None es = Err MEM_FULL
+told (Some slot) es = Ok (length es)
+
+-- the heap that a call leaves which looks for room
+pub record Ends {T : Type 0} (row : State → Answer T) (zone : List Block) (rest : Rest) (es : List Anchor)
+    (r : Result T OsErr) (zone' : List Block) (rest' : Rest) (es' : List Anchor) : Type 0 where
+  pub answer : row (state_of zone rest.slots es) ≡ (r, state_of zone' rest'.slots es')
+  pub agrees : Agrees zone' rest' es'
+  pub window : rest'.window ≡ rest.window
+
+-- of one that gives a handle a number, if a slot was had
+abbrev pub Names : (State → Answer ℕ) → List Block → Rest → List Anchor → Option ℕ → List Block → Rest → Type 0
+Names row zone rest es slot zone' rest' = Ends row zone rest es (told slot es) zone' rest' (entered slot es)
+
+is-told : (a : Result ℕ OsErr × Memory) (slot : Option ℕ) (es : List Anchor) (after : Memory)
+    → a ≡ (told slot es, after) → IsAnswer a (number_of slot es) after
+is-told a None es after e = e
+is-told a (Some slot) es after e = e
+
+pub is-served : (a : Result (Unit {0}) OsErr × Memory) (done : Bool) (after : Memory) → a ≡ (served_answer done, after)
+    → IsAnswer a (sized_reply done) after
+is-served a true after e = e
+is-served a false after e = e
+
+module _ {T : Type 0} (row : State → Answer T) (looks moves : State → ℕ) (value : Memory) (zone zone' : List Block)
+    (rest rest' : Rest) (es es' : List Anchor) (log log' : Log) (r : Result T OsErr)
+    (is : memory_of zone rest es log ≡ value) (ends : Ends row zone rest es r zone' rest' es') (n : ℕ)
+    (looked : n ≡ looks (state_of zone rest.slots es)) (now : log' ≡ record log { searches = counted log.searches n })
+  where
+    -- it looked for room
+    ended-looking : rest'.moves ≡ rest.moves
+        → searching (looks value.heap) (silent row value) ≡ (r, memory_of zone' rest' es' log')
+    ended-looking same = searched-done row looks value zone zone' rest rest' es es' log log' r n is ends.answer
+        ends.window same looked now
+
+    -- and packed
+    ended-packing : (m : ℕ) → moves (state_of zone rest.slots es) ≡ m → Packs m rest rest'
+        → moving (moves value.heap) (searching (looks value.heap) (silent row value))
+        ≡ (r, memory_of zone' rest' es' log')
+    ended-packing m moved packed =
+        moving-done (moves value.heap) m (searching (looks value.heap) (silent row value)) r zone' rest rest' es' log'
+        (searched-done row looks value zone zone' rest (unmoved rest rest') es es' log log' r n is ends.answer
+        ends.window refl looked now)
+        (ap (λ (m : Memory). moves m.heap) (sym is) ∙ moved) packed
+
+module _ (row : State → Answer ℕ) (looks moves : State → ℕ) (value : Memory) (zone zone' : List Block)
+    (rest rest' : Rest) (es : List Anchor) (log log' : Log) (slot : Option ℕ) (is : memory_of zone rest es log ≡ value)
+    (names : Names row zone rest es slot zone' rest') (n : ℕ) (looked : n ≡ looks (state_of zone rest.slots es))
+    (now : log' ≡ record log { searches = counted log.searches n })
+  where
+    pub named-looking : rest'.moves ≡ rest.moves
+        → IsAnswer (searching (looks value.heap) (silent row value)) (number_of slot es)
+        (memory_of zone' rest' (entered slot es) log')
+    named-looking same = is-told _ slot es _ (ended-looking row looks moves value zone zone' rest rest' es
+        (entered slot es) log log' (told slot es) is names n looked now same)
+
+    pub named-packing : (m : ℕ) → moves (state_of zone rest.slots es) ≡ m → Packs m rest rest'
+        → IsAnswer (moving (moves value.heap) (searching (looks value.heap) (silent row value))) (number_of slot es)
+        (memory_of zone' rest' (entered slot es) log')
+    named-packing m moved packed = is-told _ slot es _ (ended-packing row looks moves value zone zone' rest rest' es
+        (entered slot es) log log' (told slot es) is names n looked now m moved packed)
+
+-- a call that only wants room, and leaves the names
+pub served-looking : (row : State → Answer (Unit {0})) (looks : State → ℕ) (value : Memory) (zone zone' : List Block)
+    (rest rest' : Rest) (es : List Anchor) (log : Log) (done : Bool) → memory_of zone rest es log ≡ value
+    → Ends row zone rest es (served_answer done) zone' rest' es → (n : ℕ) → n ≡ looks (state_of zone rest.slots es)
+    → rest'.moves ≡ rest.moves → IsAnswer (searching (looks value.heap) (silent row value)) (sized_reply done)
+    (memory_of zone' rest' es (record log { searches = counted log.searches n }))
+served-looking row looks value zone zone' rest rest' es log done is ends n looked same = is-served _ done _
+    (ended-looking row looks looks value zone zone' rest rest' es es log _
+    (served_answer done) is ends n looked refl same)
+
+module _ (zone : List Block) (rest : Rest) (es : List Anchor) (masters : rest.all ≡ 64 * count is_masters zone)
+    (agrees : Agrees zone rest es) (zone' : List Block) (rest' : Rest) (fixed : KeepsFixed zone zone')
+  where
+    pub new-names : (n : ℕ) (slot : Option ℕ) → IsNewBlock sparing.Nothing n zone rest slot zone' rest'
+        → Names (new_handle n) zone rest es slot zone' rest'
+    new-names n None h = let r = new_handle-refused zone rest es n masters agrees zone' rest' fixed h in
+        record { answer = r.0; agrees = r.1; window = r.2 }
+    new-names n (Some slot) p = record {
+      answer = new_handle-done zone rest es n masters agrees zone' rest' fixed slot p;
+      agrees = handle-agrees zone rest es n masters agrees zone' rest' fixed slot p;
+      window = handle-window zone rest es n masters agrees zone' rest' fixed slot p;
+    }
+
+    pub empty-names : (slot : Option ℕ) → IsSlot sparing.Nothing zone rest slot zone' rest'
+        → Names new_empty_handle zone rest es slot zone' rest'
+    empty-names None h = let r = empty-refused zone rest es masters agrees zone' rest' fixed h in
+        record { answer = r.0; agrees = r.1; window = r.2 }
+    empty-names (Some slot) p = record {
+      answer = empty-done zone rest es masters agrees zone' rest' fixed slot p;
+      agrees = empty-agrees zone rest es masters agrees zone' rest' fixed slot p;
+      window = empty-window zone rest es masters agrees zone' rest' fixed slot p;
+    }
+
+-- the handle that is copied: its entry, and its block of n bytes
+pub record Copied (zone : List Block) (es : List Anchor) (handle : Option ℕ) (f : Found) (n : ℕ) : Type 0 where
+  pub is : handle ≡ Some f.number
+  pub at : slice_get es f.number ≡ Some (Handle f.slot)
+  pub small : f.number < no_number
+  pub a : Spot
+  pub block : spot (is_relocatable f.slot) zone ≡ Some a
+  pub long : length (content_of a.here) ≡ n
+  pub few : n ≤ 134217728
+
+module _ (zone : List Block) (rest : Rest) (es : List Anchor) (masters : rest.all ≡ 64 * count is_masters zone)
+    (agrees : Agrees zone rest es) (handle : Option ℕ) (f : Found) (n : ℕ) (k : Copied zone es handle f n)
+  where
+    pub copied_searches-is : hand_to_hand_searches handle (state_of zone rest.slots es)
+        ≡ new_searches (sparing.One f.slot) n rest.unused zone
+    copied_searches-is = copy_searches-is zone rest es masters agrees handle f.number f.slot n k.is k.at k.small k.a
+        k.block k.long k.few
+
+    pub copied_moves-is : hand_to_hand_moves handle (state_of zone rest.slots es)
+        ≡ new_moves (sparing.One f.slot) n rest.unused zone
+    copied_moves-is = copy_moves-is zone rest es masters agrees handle f.number f.slot n k.is k.at k.small k.a k.block
+        k.long k.few
+
+    pub copy-names : (zone' : List Block) (rest' : Rest) → KeepsFixed zone zone' → (slot : Option ℕ)
+        → IsCopy f.slot n zone rest slot zone' rest' → Names (hand_to_hand handle) zone rest es slot zone' rest'
+    copy-names zone' rest' fixed None h =
+        let r = copy-none zone rest es masters agrees handle f.number f.slot n k.is k.at k.small k.a k.block k.long
+        k.few zone' rest' fixed h in
+        record { answer = r.0; agrees = r.1; window = r.2 }
+    copy-names zone' rest' fixed (Some slot) p = record {
+      answer = copied-done zone rest es masters agrees handle f.number f.slot n k.is k.at k.small k.a k.block k.long
+          k.few zone' rest' fixed slot p;
+      agrees = copy-agrees zone rest es masters agrees handle f.number f.slot n k.is k.at k.small k.a k.block k.long
+          k.few zone' rest' fixed slot p;
+      window = copy-window zone rest es masters agrees handle f.number f.slot n k.is k.at k.small k.a k.block k.long
+          k.few zone' rest' fixed slot p;
+    }
+
+-- MoreMasters and ReserveMem
+module _ (zone : List Block) (rest : Rest) (es : List Anchor) (masters : rest.all ≡ 64 * count is_masters zone)
+    (agrees : Agrees zone rest es) (zone' : List Block) (rest' : Rest) (fixed : KeepsFixed zone zone')
+  where
+    pub masters-ends : (place : Option ℕ) → IsMade sparing.Nothing zone rest place zone' rest'
+        → Ends add_masters zone rest es (served_answer (is_some place)) zone' rest' es
+    masters-ends None h = let r = masters-refused zone rest es masters agrees zone' rest' fixed h in
+        record { answer = r.0; agrees = r.1; window = r.2 }
+    masters-ends (Some place) h = let r = masters-done zone rest es masters agrees zone' rest' fixed place h in
+        record { answer = r.0; agrees = r.1; window = r.2 }
+
+    pub reserve-ends : (n p : ℕ) → phys n ≡ Some p → IsRest rest rest' → (place : Option ℕ)
+        → IsBaseAt p (base p sparing.Nothing zone) zone' place → (place ≡ None → zone' ≡ zone)
+        → Ends (reserve_mem n) zone rest es (served_answer (is_some place)) zone' rest' es
+    reserve-ends n p fits now None h same =
+        let r = reserve-none zone rest es masters agrees zone' rest' fixed n p fits now (same refl) h in
+        record { answer = r.0; agrees = r.1; window = r.2 }
+    reserve-ends n p fits now (Some place) h same =
+        let r = reserve-done zone rest es masters agrees zone' rest' fixed n p place fits now h in
+        record { answer = r.0; agrees = r.1; window = r.2 }

@@ -1,0 +1,34 @@
+use Rattle.std.proofs.Common.{◌≡◌, ℕ, refl, sym, ◌∙◌, ap, List, Some, Result, Ok, Err, inl, inr}
+use Rattle.mac_words.specs.declared.code.OsErr.{OsErr}
+use Rattle.block_store.specs.Block.{is_relocatable, is_fixed, content_of}
+use Rattle.block_store.specs.Room.{spot}
+use Rattle.heap_calls.specs.State.{Memory}
+use Rattle.heap_calls.specs.Answer.{Held, look_up, for_found}
+use Rattle.heap_calls.specs.Pointers.{pointed_at}
+use Rattle.heap_calls.specs.Asked.{Asked, Bytes, answered, told_as}
+use Rattle.heap_calls.specs.Shown.{Shows}
+use Rattle.heap_calls.proofs.Promises.Knowing.{Known, look_up-spot, pointed_at-spot, known-at, known-pointed}
+
+-- A call that shows bytes shows those that are known of its handle or pointer.
+
+pub shows-known : (a : Asked) (m : Memory) (bytes : ℕ → List ℕ) → Known m.heap bytes → Shows a (answered a m).0 bytes
+shows-known a m bytes known h shown (inl is) tells = cases (look_up (Some h) m.heap) (look_up-spot h m.heap)
+    (ap (λ (x : Asked). (answered x m).0) (sym is) ∙ tells)
+  where
+    cases : (r : Result Held OsErr) → ((k : Held) → r ≡ Ok k → (spot (is_relocatable h) m.heap.zone ≡ Some k.at)
+        × (k.number ≡ h))
+        → told_as {T = List ℕ} Bytes (for_found {T = List ℕ} r m.heap
+        (λ (k : Held). (Ok (content_of k.at.here), m.heap))).0 ≡ Bytes shown → shown ≡ bytes h
+    cases (Err code) found t = cc
+    cases (Ok k) found t = let same : content_of k.at.here ≡ shown = cc in
+        sym same ∙ ap content_of (known-at m.heap bytes known h k.at (found k refl).0).1
+shows-known a m bytes known h shown (inr is) tells = cases (pointed_at (Some h) m.heap) (pointed_at-spot h m.heap)
+    (ap (λ (x : Asked). (answered x m).0) (sym is) ∙ tells)
+  where
+    cases : (r : Result Held OsErr) → ((k : Held) → r ≡ Ok k → (spot (is_fixed h) m.heap.zone ≡ Some k.at)
+        × (k.number ≡ h))
+        → told_as {T = List ℕ} Bytes (for_found {T = List ℕ} r m.heap
+        (λ (k : Held). (Ok (content_of k.at.here), m.heap))).0 ≡ Bytes shown → shown ≡ bytes h
+    cases (Err code) found t = cc
+    cases (Ok k) found t = let same : content_of k.at.here ≡ shown = cc in
+        sym same ∙ ap content_of (known-pointed m.heap bytes known h k.at (found k refl).0).0

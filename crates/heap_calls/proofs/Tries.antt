@@ -1,0 +1,6 @@
+pub mod Gating
+pub mod Barring
+pub mod Parting
+pub mod Keeping
+pub mod Elsewhere
+mod Rows

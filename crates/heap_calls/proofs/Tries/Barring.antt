@@ -1,0 +1,125 @@
+use Rattle.std.proofs.Common.{◌≡◌, ℕ, Bool, true, false, refl, sym, ◌∙◌, ap, cond, Option, Some, None}
+use Rattle.std.proofs.Common.{Result, Ok, Err, slice_get}
+use Rattle.std.proofs.lemmas.Option.{same_Some}
+use Rattle.std.specs.Option.{option_or}
+use Rattle.mac_words.specs.declared.code.OsErr.{OsErr}
+use Rattle.mac_words.specs.declared.code.TheConstants.OsErr.{LOCKED}
+use Rattle.heap_calls.specs.State.{Memory, Meaning, Handle, Pointer, Disposed}
+use Rattle.heap_calls.specs.Answer.{Known, Held, handle_at, look_up}
+use Rattle.heap_calls.specs.Asked.{Asked, answered}
+use Rattle.heap_calls.specs.Asked as asked
+use Rattle.heap_calls.specs.Busy.{Places, idle, is_busy, bar, known_bars, pointer_bars, either_bars, barred}
+use Rattle.heap_calls.specs.Busy.{pointer_barred, either_barred, next_barred, both_barred, gate, notes, keep_code}
+use Rattle.heap_calls.specs.Busy.{gated, served}
+use Rattle.heap_calls.specs.Refused.{BarredLeaves}
+use Rattle.heap_calls.proofs.Gates.Served.{served-gated}
+use Rattle.heap_calls.specs.Asked.{Told}
+
+-- What bars a call: a number that is busy, and nothing else.
+
+-- what holds where nothing bars a call, and where a number may, holds of each gate
+module _ (P : Option OsErr → Type 0) (m : Memory) (none : P None) (one : (n : ℕ) → P (bar (is_busy n m.log.busy)))
+  where
+    by-handle : (handle : Option ℕ) → P (barred handle m)
+    by-handle handle = by_known (handle_at handle m.heap)
+      where
+        by_known : (r : Result Known OsErr) → P (known_bars m.log.busy r)
+        by_known (Err code) = none
+        by_known (Ok known) = one known.number
+
+    by-pointer : (pointer : Option ℕ) → P (pointer_barred pointer m)
+    by-pointer None = none
+    by-pointer (Some p) = by_meaning (slice_get m.heap.names p)
+      where
+        by_meaning : (o : Option Meaning) → P (pointer_bars m.log.busy p o)
+        by_meaning None = none
+        by_meaning (Some (Handle role)) = none
+        by_meaning (Some Pointer) = one p
+        by_meaning (Some Disposed) = none
+
+    by-either : (name : Option ℕ) → P (either_barred name m)
+    by-either None = none
+    by-either (Some n) = by_meaning (slice_get m.heap.names n)
+      where
+        by_meaning : (o : Option Meaning) → P (either_bars m.log.busy n o)
+        by_meaning None = none
+        by_meaning (Some (Handle role)) = one n
+        by_meaning (Some Pointer) = one n
+        by_meaning (Some Disposed) = none
+
+    by-both : (from to : Option ℕ) → P (both_barred from to m)
+    by-both from to = by_first (handle_at from m.heap)
+      where
+        other : Option OsErr
+        other = next_barred (look_up from m.heap) (barred to m)
+
+        by_held : (r : Result Held OsErr) → P (next_barred r (barred to m))
+        by_held (Err code) = none
+        by_held (Ok held) = by-handle to
+
+        by_bar : (t : Bool) → P (bar t) → P (option_or (bar t) other)
+        by_bar true bars = bars
+        by_bar false free = by_held (look_up from m.heap)
+
+        by_first : (r : Result Known OsErr) → P (option_or (known_bars m.log.busy r) other)
+        by_first (Err code) = by_held (look_up from m.heap)
+        by_first (Ok known) = by_bar (is_busy known.number m.log.busy) (one known.number)
+
+    pub by-gate : (a : Asked) → P (gate a m)
+    by-gate (asked.DisposeHandle handle) = by-handle handle
+    by-gate (asked.GetHandleSize handle) = by-handle handle
+    by-gate (asked.SetHandleSize handle n) = by-handle handle
+    by-gate (asked.ReallocateHandle handle n) = by-handle handle
+    by-gate (asked.EmptyHandle handle) = by-handle handle
+    by-gate (asked.HLock handle) = by-handle handle
+    by-gate (asked.HUnlock handle) = by-handle handle
+    by-gate (asked.HPurge handle) = by-handle handle
+    by-gate (asked.HNoPurge handle) = by-handle handle
+    by-gate (asked.HGetState handle) = by-handle handle
+    by-gate (asked.HSetState handle byte) = by-handle handle
+    by-gate (asked.MoveHHi handle) = by-handle handle
+    by-gate (asked.HLockHi handle) = by-handle handle
+    by-gate (asked.HandToHand handle) = by-handle handle
+    by-gate (asked.HandAndHand from to) = by-both from to
+    by-gate (asked.PtrAndHand handle x) = by-handle handle
+    by-gate (asked.DisposePtr pointer) = by-pointer pointer
+    by-gate (asked.GetPtrSize pointer) = by-pointer pointer
+    by-gate (asked.SetPtrSize pointer n) = by-pointer pointer
+    by-gate (asked.Put handle from x) = by-handle handle
+    by-gate (asked.Show handle) = by-handle handle
+    by-gate (asked.PutPtr pointer from x) = by-pointer pointer
+    by-gate (asked.ShowPtr pointer) = by-pointer pointer
+    by-gate (asked.Where name) = by-either name
+    by-gate a = none
+
+-- each gate has one code
+bar-locked : (t : Bool) (code : OsErr) → bar t ≡ Some code → code ≡ LOCKED
+bar-locked true code e = sym (same_Some LOCKED code e)
+bar-locked false code e = cc
+
+pub gate-locked : (a : Asked) (m : Memory) (code : OsErr) → gate a m ≡ Some code → code ≡ LOCKED
+gate-locked a m =
+    by-gate (λ o. (code : OsErr) → o ≡ Some code → code ≡ LOCKED) m (λ code e. cc)
+    (λ n. bar-locked (is_busy n m.log.busy)) a
+
+-- a call that a busy name bars changes nothing but the code
+pub served-barred : (a : Asked) (m : Memory) → BarredLeaves a m
+served-barred a m code bars =
+    let is : gate a m ≡ Some LOCKED = bars ∙ ap (λ (c : OsErr). Some c) (gate-locked a m code bars) in (
+      ap (λ (x : Told × Memory). x.0) (served-gated a m) ∙ ap (λ (o : Option OsErr). (gated o a m).0) is,
+      ap (λ (x : Told × Memory). x.1) (served-gated a m) ∙ ap (λ (o : Option OsErr). (gated o a m).1) is
+          ∙ by_notes (notes a),
+    )
+  where
+    by_notes : (t : Bool) → cond t (keep_code LOCKED m) m ≡ keep_code (cond t LOCKED m.log.code) m
+    by_notes true = refl
+    by_notes false = refl
+
+-- where no name is busy, nothing bars a call
+pub gate-idle : (a : Asked) (m : Memory) → m.log.busy ≡ idle → gate a m ≡ None
+gate-idle a m free =
+    by-gate (λ o. o ≡ None) m refl (λ n. ap (λ (busy : Places). bar (is_busy n busy)) free) a
+
+-- then a try is the call's row
+pub served_idle : (a : Asked) (m : Memory) → m.log.busy ≡ idle → served a m ≡ answered a m
+served_idle a m free = served-gated a m ∙ ap (λ (o : Option OsErr). gated o a m) (gate-idle a m free)

@@ -1,0 +1,55 @@
+use Rattle.std.proofs.Common.{◌≡◌, sym, ℕ, Bool, true, false, refl, ◌∙◌, ap, cond, Option, Some, None}
+use Rattle.mac_words.specs.declared.code.OsErr.{OsErr}
+use Rattle.block_store.specs.Rest.{Site}
+use Rattle.heap_calls.specs.State.{Memory}
+use Rattle.heap_calls.specs.Asked.{Asked, Told, answered}
+use Rattle.heap_calls.specs.Asked as asked
+use Rattle.heap_calls.specs.Busy.{gate, gated, notes, keep_code, served, pointer_barred, either_barred}
+use Rattle.heap_calls.proofs.Gates.Served.{served-gated}
+
+-- What a call tells, and what it makes of the heap, doesn't hang on where the heap lies.
+
+abbrev pub elsewhere : Site → Memory → Memory
+elsewhere window m = record m { window = window }
+
+pub answered-elsewhere : (window : Site) (a : Asked) (m : Memory)
+    → answered a (elsewhere window m) ≡ ((answered a m).0, elsewhere window (answered a m).1)
+answered-elsewhere window asked.MemError m = refl
+answered-elsewhere window a m = refl
+
+pointer-elsewhere : (window : Site) (pointer : Option ℕ) (m : Memory)
+    → pointer_barred pointer (elsewhere window m) ≡ pointer_barred pointer m
+pointer-elsewhere window None m = refl
+pointer-elsewhere window (Some p) m = refl
+
+either-elsewhere : (window : Site) (name : Option ℕ) (m : Memory)
+    → either_barred name (elsewhere window m) ≡ either_barred name m
+either-elsewhere window None m = refl
+either-elsewhere window (Some n) m = refl
+
+pub gate-elsewhere : (window : Site) (a : Asked) (m : Memory) → gate a (elsewhere window m) ≡ gate a m
+gate-elsewhere window (asked.DisposePtr pointer) m = pointer-elsewhere window pointer m
+gate-elsewhere window (asked.GetPtrSize pointer) m = pointer-elsewhere window pointer m
+gate-elsewhere window (asked.SetPtrSize pointer n) m = pointer-elsewhere window pointer m
+gate-elsewhere window (asked.PutPtr pointer from x) m = pointer-elsewhere window pointer m
+gate-elsewhere window (asked.ShowPtr pointer) m = pointer-elsewhere window pointer m
+gate-elsewhere window (asked.Where name) m = either-elsewhere window name m
+gate-elsewhere window a m = refl
+
+gated-elsewhere : (window : Site) (o : Option OsErr) (a : Asked) (m : Memory)
+    → gated o a (elsewhere window m) ≡ ((gated o a m).0, elsewhere window (gated o a m).1)
+gated-elsewhere window None a m = answered-elsewhere window a m
+gated-elsewhere window (Some code) a m = ap (λ (n : Memory). (asked.Refused code, n)) (by_notes (notes a))
+  where
+    by_notes : (t : Bool) → cond t (keep_code code (elsewhere window m)) (elsewhere window m)
+        ≡ elsewhere window (cond t (keep_code code m) m)
+    by_notes true = refl
+    by_notes false = refl
+
+pub served-elsewhere : (window : Site) (a : Asked) (m : Memory)
+    → served a (elsewhere window m) ≡ ((served a m).0, elsewhere window (served a m).1)
+served-elsewhere window a m =
+    served-gated a (elsewhere window m)
+    ∙ ap (λ (o : Option OsErr). gated o a (elsewhere window m)) (gate-elsewhere window a m)
+    ∙ gated-elsewhere window (gate a m) a m
+    ∙ ap (λ (x : Told × Memory). (x.0, elsewhere window x.1)) (sym (served-gated a m))

@@ -1,0 +1,147 @@
+use Rattle.std.proofs.Common.{◌≡◌, ℕ, ◌+◌, ◌≤◌, Bool, true, false, List, length, refl, sym, ◌∙◌, subst}
+use Rattle.std.proofs.Common.{cond, Option, Some, None}
+use Rattle.std.specs.Prelude.{IsTrue}
+use Rattle.mac_words.specs.declared.code.OsErr.{OsErr}
+use Rattle.block_store.specs.Block.{is_relocatable, is_masters}
+use Rattle.block_store.specs.Run.{has}
+use Rattle.block_store.specs.Rest.{counted}
+use Rattle.heap_calls.specs.State.{Memory}
+use Rattle.heap_calls.specs.Asked.{Asked, Told, Refused, answered}
+use Rattle.heap_calls.specs.Asked as asked
+use Rattle.heap_calls.specs.Busy.{gate, gated, notes, keep_code, served}
+use Rattle.heap_calls.specs.LastPut.{put_by}
+use Rattle.heap_calls.specs.Locked.{OneBlockEach, locked_place, releases}
+use Rattle.heap_calls.specs.Standing.{NextIsNew, pointer_place, disposes}
+use Rattle.heap_calls.specs.Emptying.{lets_go, may_be_emptied}
+use Rattle.heap_calls.specs.Looks.{LooksFew}
+use Rattle.heap_calls.specs.Refused.{RefusedLeaves, code_left, zone_behind}
+use Rattle.heap_calls.specs.Shown.{Shows}
+use Rattle.heap_calls.proofs.Promises.Knowing.{Known}
+use Rattle.heap_calls.proofs.Promises.LastPutLaws.{step-known}
+use Rattle.heap_calls.proofs.Promises.ShowingLaws.{shows-known}
+use Rattle.heap_calls.proofs.Promises.LockedLaws.{stays-locked}
+use Rattle.heap_calls.proofs.Promises.StandingLaws.{stays-fixed}
+use Rattle.heap_calls.proofs.Promises.EmptyingLaws.{only-purgeable-go, masters-kept}
+use Rattle.heap_calls.proofs.Promises.FewSearches.{looks_few, unlooked}
+use Rattle.heap_calls.proofs.Promises.RefusedCalls.{refused_leaves}
+use Rattle.heap_calls.proofs.Gates.Served.{served-gated}
+
+-- What holds of each call's row holds of each try behind the gate of busy names.
+
+-- what holds of a call's row, and of a refusal that changes nothing but the code, holds of a try
+pub served-holds : (P : Told → Memory → Type 0) (a : Asked) (m : Memory) → P (answered a m).0 (answered a m).1
+    → ((why kept : OsErr) → P (Refused why) (keep_code kept m)) → P (served a m).0 (served a m).1
+served-holds P a m row refusal =
+    let Q : Told × Memory → Type 0 = λ answer. P answer.0 answer.1 in
+    subst Q (sym (served-gated a m)) (by_gate (gate a m))
+  where
+    by_notes : (why : OsErr) (t : Bool) → P (Refused why) (cond t (keep_code why m) m)
+    by_notes why true = refusal why why
+    by_notes why false = refusal why m.log.code
+
+    by_gate : (o : Option OsErr) → P (gated o a m).0 (gated o a m).1
+    by_gate None = row
+    by_gate (Some why) = by_notes why (notes a)
+
+-- a refused call puts no bytes
+pub put-refused : (a : Asked) (why : OsErr) (bytes : ℕ → List ℕ) → put_by a (Refused why) bytes ≡ bytes
+put-refused (asked.SetHandleSize None n) why bytes = refl
+put-refused (asked.SetHandleSize (Some h) n) why bytes = refl
+put-refused (asked.ReallocateHandle None n) why bytes = refl
+put-refused (asked.ReallocateHandle (Some h) n) why bytes = refl
+put-refused (asked.HandToHand None) why bytes = refl
+put-refused (asked.HandToHand (Some h)) why bytes = refl
+put-refused (asked.HandAndHand None to) why bytes = refl
+put-refused (asked.HandAndHand (Some h) None) why bytes = refl
+put-refused (asked.HandAndHand (Some h) (Some k)) why bytes = refl
+put-refused (asked.PtrAndHand None x) why bytes = refl
+put-refused (asked.PtrAndHand (Some h) x) why bytes = refl
+put-refused (asked.SetPtrSize None n) why bytes = refl
+put-refused (asked.SetPtrSize (Some p) n) why bytes = refl
+put-refused (asked.Put None from x) why bytes = refl
+put-refused (asked.Put (Some h) from x) why bytes = refl
+put-refused (asked.PutPtr None from x) why bytes = refl
+put-refused (asked.PutPtr (Some p) from x) why bytes = refl
+put-refused a why bytes = refl
+
+-- what is known of each block's bytes stays known, with the bytes that the try put
+pub served-known : (a : Asked) (m : Memory) (bytes : ℕ → List ℕ) → Known m.heap bytes
+    → Known (served a m).1.heap (put_by a (served a m).0 bytes)
+served-known a m bytes known =
+    served-holds (λ t n. Known n.heap (put_by a t bytes)) a m (step-known a m bytes known)
+    (λ why kept. subst (λ (b : ℕ → List ℕ). Known m.heap b) (sym (put-refused a why bytes)) known)
+
+-- bytes that a try shows are those
+pub served-shows : (a : Asked) (m : Memory) (bytes : ℕ → List ℕ) → Known m.heap bytes → Shows a (served a m).0 bytes
+served-shows a m bytes known =
+    served-holds (λ t n. Shows a t bytes) a m (shows-known a m bytes known) (λ why kept h shown is tells. cc)
+
+-- a locked block stays where it is, unless the call releases it
+pub served-locked : (a : Asked) (m : Memory) → OneBlockEach m.heap.zone → (h place : ℕ) → releases h a ≡ false
+    → locked_place h m.heap.zone ≡ Some place → locked_place h (served a m).1.heap.zone ≡ Some place
+served-locked a m once h place keeps is =
+    served-holds (λ t n. locked_place h n.heap.zone ≡ Some place) a m (stays-locked a m once h place keeps is)
+    (λ why kept. is)
+
+-- a pointer's block stays where it is, unless the call disposes of it
+pub served-fixed : (a : Asked) (m : Memory) → OneBlockEach m.heap.zone → NextIsNew m.heap → (p place : ℕ)
+    → disposes p a ≡ false → pointer_place p m.heap.zone ≡ Some place
+    → pointer_place p (served a m).1.heap.zone ≡ Some place
+served-fixed a m once new p place keeps is =
+    served-holds (λ t n. pointer_place p n.heap.zone ≡ Some place) a m (stays-fixed a m once new p place keeps is)
+    (λ why kept. is)
+
+-- a handle's block that goes might be emptied, unless the call let it go
+pub served-purgeable : (a : Asked) (m : Memory) → OneBlockEach m.heap.zone → (h : ℕ) → lets_go h a ≡ false
+    → has (is_relocatable h) m.heap.zone ≡ true → has (is_relocatable h) (served a m).1.heap.zone ≡ false
+    → may_be_emptied h m.heap.zone ≡ true
+served-purgeable a m once h keeps before =
+    served-holds (λ t n. has (is_relocatable h) n.heap.zone ≡ false → may_be_emptied h m.heap.zone ≡ true) a m
+    (only-purgeable-go a m once h keeps before)
+    (λ why kept after. let f : true ≡ false = sym before ∙ after in cc)
+
+-- a zone with a Masters block has one after a try
+pub served-masters : (a : Asked) (m : Memory) → OneBlockEach m.heap.zone → IsTrue (has is_masters m.heap.zone)
+    → IsTrue (has is_masters (served a m).1.heap.zone)
+served-masters a m once before =
+    served-holds (λ t n. IsTrue (has is_masters n.heap.zone)) a m (masters-kept a m once before) (λ why kept. before)
+
+-- a try looks for room at most once more than there are blocks
+pub served_looks : (a : Asked) (m : Memory) → LooksFew a m
+served_looks a m masters fits =
+    served-holds
+    (λ t n. (k : ℕ) × (k ≤ length m.heap.zone + 1) × (n.log.searches ≡ counted m.log.searches k)) a m
+    (looks_few a m masters fits) (λ why kept. unlooked m.heap.zone m.log.searches fits)
+
+-- a refused try leaves the heap, but for the zone that the call's row leaves
+pub served-refused : (a : Asked) (m : Memory) → RefusedLeaves a m
+served-refused a m =
+    let Q : Told × Memory → Type 0 = λ answer. (code : OsErr) → answer.0 ≡ Refused code
+    → (answer.1.heap ≡ record m.heap { zone = zone_behind (gate a m) a m.heap })
+    × (answer.1.log.code ≡ code_left a code m.log.code) × (answer.1.window ≡ m.window) in
+    subst Q (sym (served-gated a m)) (by_gate (gate a m))
+  where
+    by_notes : (code : OsErr) (t : Bool)
+        → ((cond t (keep_code code m) m).heap ≡ m.heap)
+        × ((cond t (keep_code code m) m).log.code ≡ cond t code m.log.code)
+        × ((cond t (keep_code code m) m).window ≡ m.window)
+    by_notes code true = (refl, refl, refl)
+    by_notes code false = (refl, refl, refl)
+
+    by_gate : (o : Option OsErr) → (code : OsErr) → (gated o a m).0 ≡ Refused code
+        → ((gated o a m).1.heap ≡ record m.heap { zone = zone_behind o a m.heap })
+        × ((gated o a m).1.log.code ≡ code_left a code m.log.code)
+        × ((gated o a m).1.window ≡ m.window)
+    by_gate None code tells = refused_leaves a m code tells
+    by_gate (Some why) code tells = let same : why ≡ code = cc in
+        let n : Memory = cond (notes a) (keep_code why m) m in
+        subst (λ (c : OsErr). (n.heap ≡ m.heap) × (n.log.code ≡ cond (notes a) c m.log.code) × (n.window ≡ m.window))
+        same (by_notes why (notes a))
+
+-- a try leaves which names are busy
+pub served-busy : (a : Asked) (m : Memory) → (served a m).1.log.busy ≡ m.log.busy
+served-busy a m = served-holds (λ t n. n.log.busy ≡ m.log.busy) a m (row a) (λ why kept. refl)
+  where
+    row : (a : Asked) → (answered a m).1.log.busy ≡ m.log.busy
+    row asked.MemError = refl
+    row a = refl

@@ -1,0 +1,119 @@
+use Rattle.std.proofs.Common.{◌≡◌, ◌≤◌, Bool, true, false, List, refl, sym, ap, arith, Option, Some, None, cond}
+use Rattle.std.proofs.Common.{Result, Ok, Err, nat_lt}
+use Rattle.std.specs.Option.{option_map}
+use Rattle.std.specs.Prelude.{unwrap_or}
+use Rattle.mac_words.specs.Size.{phys}
+use Rattle.mac_words.specs.declared.code.OsErr.{OsErr}
+use Rattle.block_store.specs.Block.{Block, Masters, sizes, count, is_relocatable, is_masters}
+use Rattle.block_store.specs.Room.{room, put_at_base}
+use Rattle.block_store.proofs.Zone.Keeping.{purged-le, base-le}
+use Rattle.heap_calls.specs.State.{State, Memory, used_slots, all_slots}
+use Rattle.heap_calls.specs.Answer.{Held, nothing, look_up}
+use Rattle.heap_calls.specs.Slots.{more_masters}
+use Rattle.heap_calls.specs.Purging.{blocks_purged}
+use Rattle.heap_calls.specs.Asked.{Asked, Refused, answered}
+use Rattle.heap_calls.specs.Asked as asked
+use Rattle.heap_calls.specs.Busy.{gate, served}
+use Rattle.heap_calls.specs.Locked.{OneBlockEach}
+use Rattle.heap_calls.specs.Refused.{slotted_zone, copying_zone, zone_left, zone_behind}
+use Rattle.heap_calls.specs.Staying.{staying_of, staying, LessStaysLater, RefusedKeepsNoMore, KeepsBytes, KeepsMasters}
+use Rattle.heap_calls.proofs.Promises.AlikeCalls.{Steady, Leaves, alike-answered}
+use Rattle.heap_calls.proofs.Promises.EmptyingLaws.{masters, of-answered, masters-goes, masters-sized, masters-filled}
+use Rattle.heap_calls.proofs.Promises.EmptyingLaws.{masters-spared}
+use Rattle.heap_calls.proofs.Tries.Gating.{served-holds, served-refused}
+use Rattle.heap_calls.proofs.Tries.Parting.{no-free, less_stays}
+
+-- What no try of a call changes: a zone's bytes, its master pointers, and, where it is refused, what stays.
+
+-- a slot that is made leaves what stays
+slotted-le : (spared : Block → Bool) (s : State) → staying (slotted_zone spared s) ≤ staying s.zone
+slotted-le spared s = by_slots (nat_lt (used_slots s) (all_slots s))
+  where
+    zone_of : Option State → List Block
+    zone_of o = unwrap_or (option_map (λ (ready : State). ready.zone) o) s.zone
+
+    by_room : (o : Option (List Block)) → ((zone : List Block) → o ≡ Some zone → staying zone ≤ staying s.zone)
+        → staying (zone_of (option_map (λ zone. record s { zone = zone }) o)) ≤ staying s.zone
+    by_room None less = omega arith
+    by_room (Some zone) less = less zone refl
+
+    by_slots : (t : Bool) → staying (zone_of (cond t (Some s) (more_masters spared s))) ≤ staying s.zone
+    by_slots true = omega arith
+    by_slots false =
+        by_room (room (put_at_base Masters) spared s.zone)
+        (λ zone made. let l = base-le staying_of no-free Masters spared s.zone zone made in omega arith)
+
+copying-le : (r : Result Held OsErr) (s : State) → staying (copying_zone r s) ≤ staying s.zone
+copying-le (Err code) s = omega arith
+copying-le (Ok held) s = slotted-le (is_relocatable held.number) s
+
+left-le : (a : Asked) (s : State) → staying (zone_left a s) ≤ staying s.zone
+left-le (asked.NewHandle n) s = slotted-le nothing s
+left-le (asked.HandToHand handle) s = copying-le (look_up handle s) s
+left-le (asked.PurgeMem n) s = purged-le staying_of no-free (blocks_purged (phys n) s.zone) nothing s.zone
+left-le a s = omega arith
+
+behind-le : (o : Option OsErr) (a : Asked) (s : State) → staying (zone_behind o a s) ≤ staying s.zone
+behind-le None a s = left-le a s
+behind-le (Some code) a s = omega arith
+
+-- a try that is refused leaves no more that stays
+pub served_no_more : (a : Asked) (m : Memory) → RefusedKeepsNoMore a m
+served_no_more a m code tells =
+    let left = behind-le (gate a m) a m.heap in
+    let z : staying (served a m).1.heap.zone ≡ staying (zone_behind (gate a m) a m.heap) =
+    ap (λ (s : State). staying s.zone) (served-refused a m code tells).0 in
+    omega arith
+
+-- and where more can be had later, less stays than before
+pub served_less_later : (a : Asked) (m : Memory) → LessStaysLater a m
+served_less_later a m code tells later same few rose =
+    let kept = served_no_more a m code tells in
+    let less = less_stays (served a m).1.heap.zone later same few rose in
+    omega arith
+
+-- a test that no block passes
+abbrev never : Block → Bool
+never b = false
+
+steady-never : Steady never
+steady-never = record { rigid = λ b e. refl; sized = λ n b. refl; filled = λ x b. refl; masters = refl }
+
+leaves-never : (zone : List Block) (a : Asked) → Leaves never zone a
+leaves-never zone (asked.DisposeHandle None) = tt
+leaves-never zone (asked.DisposeHandle (Some k)) = λ b e. refl
+leaves-never zone (asked.DisposePtr None) = tt
+leaves-never zone (asked.DisposePtr (Some p)) = λ b e. refl
+leaves-never zone (asked.HLock None) = tt
+leaves-never zone (asked.HLock (Some k)) = λ at e. refl
+leaves-never zone (asked.HUnlock None) = tt
+leaves-never zone (asked.HUnlock (Some k)) = λ at e. refl
+leaves-never zone (asked.HPurge None) = tt
+leaves-never zone (asked.HPurge (Some k)) = λ at e. refl
+leaves-never zone (asked.HNoPurge None) = tt
+leaves-never zone (asked.HNoPurge (Some k)) = λ at e. refl
+leaves-never zone (asked.HSetState None byte) = tt
+leaves-never zone (asked.HSetState (Some k) byte) = λ at e. refl
+leaves-never zone a = tt
+
+-- no call changes how many bytes a zone has
+pub sizes-answered : (a : Asked) (m : Memory) → OneBlockEach m.heap.zone
+    → sizes (answered a m).1.heap.zone ≡ sizes m.heap.zone
+sizes-answered a m once =
+    sym (alike-answered never steady-never a m once (λ k loose b is. refl) (λ x. refl) (leaves-never m.heap.zone a)).0
+
+-- or lets a block of master pointers go
+pub masters-answered : (a : Asked) (m : Memory) → OneBlockEach m.heap.zone
+    → count is_masters m.heap.zone ≤ count is_masters (answered a m).1.heap.zone
+masters-answered a m once =
+    of-answered masters (λ n. refl) masters-goes masters-sized masters-filled a m once (masters-spared a)
+
+-- and so through each try
+pub served_bytes : (a : Asked) (m : Memory) → KeepsBytes a m
+served_bytes a m once =
+    served-holds (λ t n. sizes n.heap.zone ≡ sizes m.heap.zone) a m (sizes-answered a m once) (λ why kept. refl)
+
+pub served_masters_no_fewer : (a : Asked) (m : Memory) → KeepsMasters a m
+served_masters_no_fewer a m once =
+    served-holds (λ t n. count is_masters m.heap.zone ≤ count is_masters n.heap.zone) a m (masters-answered a m once)
+    (λ why kept. omega arith)

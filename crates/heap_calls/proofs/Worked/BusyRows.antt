@@ -1,0 +1,70 @@
+use Rattle.std.proofs.Common.{◌≡◌, ℕ, List, [], ◌∷◌, refl, Some, None, true, false}
+use Rattle.mac_words.specs.declared.code.TheConstants.OsErr.{NO_ERR, LOCKED, NIL_HANDLE, WRONG_ZONE, PURGED}
+use Rattle.heap_calls.specs.State.{Memory, fresh_memory}
+use Rattle.heap_calls.specs.Asked.{Asked, Told, Done, Given, Number, Bytes, Code, Refused}
+use Rattle.heap_calls.specs.Asked as asks
+use Rattle.heap_calls.specs.Busy.{idle, busied, eased, is_busy, with_busy, served}
+use Rattle.block_store.specs.Rest.{Site}
+
+-- Calls while names are busy, by the definitions alone.
+
+-- a line: a call, or a number that becomes busy or idle
+data Line : Type 0 where
+  Ask : (call : Asked) → Line
+  Busy : (number : ℕ) → Line
+  Idle : (number : ℕ) → Line
+
+abbrev told : List Line → Memory → List Told
+told [] m = []
+told (Ask call ∷ lines) m = (served call m).0 ∷ told lines (served call m).1
+told (Busy n ∷ lines) m = told lines (with_busy (busied n m.log.busy) m)
+told (Idle n ∷ lines) m = told lines (with_busy (eased n m.log.busy) m)
+
+-- a busy handle bars its calls, keeps its bytes, and is had again
+a_busy_handle : (window : Site) → told (Ask (asks.NewHandle 2) ∷ Ask (asks.Put (Some 0) 0 (72 ∷ 105 ∷ [])) ∷ Busy 0
+    ∷ Ask (asks.GetHandleSize (Some 0)) ∷ Ask asks.MemError ∷ Ask asks.FreeMem ∷ Ask (asks.Show (Some 0))
+    ∷ Ask (asks.Put (Some 0) 0 (78 ∷ 111 ∷ [])) ∷ Ask asks.MemError ∷ Ask (asks.HLock (Some 0))
+    ∷ Ask (asks.DisposeHandle (Some 0)) ∷ Ask asks.MemError ∷ Idle 0 ∷ Ask (asks.Show (Some 0))
+    ∷ Ask (asks.HGetState (Some 0)) ∷ []) (fresh_memory 1024 window)
+    ≡ Given 0 ∷ Done ∷ Refused LOCKED ∷ Code LOCKED ∷ Number 720 ∷ Refused LOCKED ∷ Refused LOCKED ∷ Code NO_ERR
+    ∷ Refused LOCKED ∷ Refused LOCKED ∷ Code LOCKED ∷ Bytes (72 ∷ 105 ∷ []) ∷ Number 0 ∷ []
+a_busy_handle window = refl
+
+-- what isn't there goes first, then what is busy, then what is emptied or locked
+the_order_of_refusals : (window : Site) → told (Ask (asks.NewHandle 10) ∷ Ask asks.NewEmptyHandle ∷ Ask (asks.NewPtr 10)
+    ∷ Ask (asks.HLock (Some 0)) ∷ Busy 0 ∷ Busy 1 ∷ Busy 2 ∷ Ask (asks.GetHandleSize None)
+    ∷ Ask (asks.GetHandleSize (Some 2)) ∷ Ask (asks.GetHandleSize (Some 1)) ∷ Ask (asks.EmptyHandle (Some 0)) ∷ Idle 0
+    ∷ Idle 1 ∷ Ask (asks.GetHandleSize (Some 1)) ∷ Ask (asks.EmptyHandle (Some 0)) ∷ Ask (asks.DisposeHandle (Some 0))
+    ∷ Busy 0 ∷ Ask (asks.GetHandleSize (Some 0)) ∷ []) (fresh_memory 1024 window)
+    ≡ Given 0 ∷ Given 1 ∷ Given 2 ∷ Done ∷ Refused NIL_HANDLE ∷ Refused WRONG_ZONE ∷ Refused LOCKED ∷ Refused LOCKED
+    ∷ Refused NIL_HANDLE ∷ Refused PURGED ∷ Done ∷ Refused WRONG_ZONE ∷ []
+the_order_of_refusals window = refl
+
+-- the second handle of HandAndHand is asked for where the first has a block
+two_handles : (window : Site) → told (Ask (asks.NewHandle 10) ∷ Ask (asks.NewHandle 10) ∷ Busy 1
+    ∷ Ask (asks.HandAndHand (Some 0) (Some 1)) ∷ Busy 0 ∷ Ask (asks.HandAndHand (Some 0) (Some 1)) ∷ Idle 0
+    ∷ Ask (asks.EmptyHandle (Some 0)) ∷ Ask (asks.HandAndHand (Some 0) (Some 1))
+    ∷ Ask (asks.ReallocateHandle (Some 0) 10) ∷ Idle 1 ∷ Ask (asks.GetHandleSize (Some 1))
+    ∷ Ask (asks.HandAndHand (Some 0) (Some 1)) ∷ Ask (asks.GetHandleSize (Some 1)) ∷ []) (fresh_memory 1024 window)
+    ≡ Given 0 ∷ Given 1 ∷ Refused LOCKED ∷ Refused LOCKED ∷ Done ∷ Refused NIL_HANDLE ∷ Done ∷ Number 10 ∷ Done
+    ∷ Number 20 ∷ []
+two_handles window = refl
+
+-- a busy pointer bars its calls
+a_busy_pointer : (window : Site) → told (Ask (asks.NewPtr 20) ∷ Busy 0 ∷ Ask (asks.PutPtr (Some 0) 0 (120 ∷ []))
+    ∷ Ask (asks.Where (Some 0)) ∷ Ask asks.MemError ∷ Ask (asks.GetPtrSize (Some 0)) ∷ Ask (asks.DisposePtr (Some 0))
+    ∷ Ask asks.MemError ∷ Idle 0 ∷ Ask (asks.GetPtrSize (Some 0)) ∷ Ask (asks.DisposePtr (Some 0)) ∷ [])
+    (fresh_memory 1024 window)
+    ≡ Given 0 ∷ Refused LOCKED ∷ Refused LOCKED ∷ Code NO_ERR ∷ Refused LOCKED ∷ Refused LOCKED ∷ Code LOCKED
+    ∷ Number 20 ∷ Done ∷ []
+a_busy_pointer window = refl
+
+-- a number that became busy twice is idle at once, and a fourth isn't kept
+twice_busy : is_busy 7 (eased 7 (busied 7 (busied 7 idle))) ≡ false
+twice_busy = refl
+
+a_fourth_is_not_kept : is_busy 4 (busied 4 (busied 3 (busied 2 (busied 1 idle)))) ≡ false
+a_fourth_is_not_kept = refl
+
+three_are_kept : is_busy 3 (busied 4 (busied 3 (busied 2 (busied 1 idle)))) ≡ true
+three_are_kept = refl

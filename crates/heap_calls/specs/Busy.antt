@@ -1,0 +1,205 @@
+use Rattle.std.specs.Prelude.{ℕ, ◌==◌, ◌||◌, Bool, true, false, Option, Some, None, Result, Ok, Err, List, [], ◌∷◌, map}
+use Rattle.std.specs.Prelude.{slice_get, if◌then◌else◌}
+use Rattle.std.specs.Option.{option_or}
+use Rattle.mac_words.specs.declared.code.OsErr.{OsErr}
+use Rattle.mac_words.specs.declared.code.TheConstants.OsErr.{LOCKED}
+use Rattle.heap_calls.specs.State.{Meaning, Handle, Pointer, Disposed, Memory}
+use Rattle.heap_calls.specs.Answer.{Known, Held, handle_at, look_up}
+use Rattle.heap_calls.specs.Asked.{Asked, DisposeHandle, GetHandleSize, SetHandleSize}
+use Rattle.heap_calls.specs.Asked.{ReallocateHandle, EmptyHandle, HLock, HUnlock, HPurge, HNoPurge, HGetState}
+use Rattle.heap_calls.specs.Asked.{HSetState, MoveHHi, HLockHi, HandToHand, HandAndHand, PtrAndHand}
+use Rattle.heap_calls.specs.Asked.{DisposePtr, GetPtrSize, SetPtrSize, MemError, Put, Show, PutPtr, ShowPtr, Where}
+use Rattle.heap_calls.specs.Asked.{Told, Done, Given, Number, Bytes, Refused, telling, seeking, packing, answered}
+use Rattle.heap_calls.specs.Answer.{dispose_handle, get_handle_size, set_handle_size, h_lock, h_unlock, move_hhi}
+use Rattle.heap_calls.specs.Answer.{hlock_hi, put, show, noting, silent}
+use Rattle.heap_calls.specs.Pointers.{dispose_pointer, get_pointer_size, set_pointer_size, put_pointer, show_pointer}
+use Rattle.heap_calls.specs.Pointers.{place_of}
+use Rattle.heap_calls.specs.Purging.{h_purge, h_no_purge, h_get_state, h_set_state, empty_handle, reallocate_handle}
+use Rattle.heap_calls.specs.Copying.{hand_to_hand, hand_and_hand, pointer_and_hand}
+use Rattle.heap_calls.specs.Searches.{set_handle_size_searches, set_pointer_size_searches, reallocate_handle_searches}
+use Rattle.heap_calls.specs.Searches.{hand_to_hand_searches, hand_and_hand_searches, pointer_and_hand_searches}
+use Rattle.heap_calls.specs.Moves.{set_handle_size_moves, reallocate_handle_moves, hand_to_hand_moves}
+use Rattle.heap_calls.specs.Moves.{hand_and_hand_moves, pointer_and_hand_moves}
+
+-- Names that are busy: while a grow-zone script runs, the handles and pointers that the waiting call names.
+-- Inside Macintosh: Memory, chapter 1, "Low-Memory Conditions" and "Grow-Zone Functions".
+
+-- places for three numbers: a call names two at most, and reads one
+abbrev pub Places : Type 0
+Places = List (Option ℕ)
+
+-- nothing is busy
+abbrev pub idle : Places
+idle = None ∷ None ∷ None ∷ []
+
+-- a place holds this number
+abbrev pub holds : ℕ → Option ℕ → Bool
+holds n None = false
+holds n (Some k) = k == n
+
+-- a number is busy
+abbrev pub is_busy : ℕ → Places → Bool
+is_busy n [] = false
+is_busy n (place ∷ places) = holds n place || is_busy n places
+
+-- one number more is busy, in the first empty place; where there is none, nothing changes
+abbrev pub busied : ℕ → Places → Places
+busied n [] = []
+busied n (None ∷ places) = Some n ∷ places
+busied n (Some k ∷ places) = Some k ∷ busied n places
+
+-- a number is busy no more: no place holds it
+abbrev pub eased_place : ℕ → Option ℕ → Option ℕ
+eased_place n place = if holds n place then None else place
+
+abbrev pub eased : ℕ → Places → Places
+eased n places = map (eased_place n) places
+
+-- a heap where other numbers are busy
+abbrev pub with_busy : Places → Memory → Memory
+with_busy places m = record m { log = record m.log { busy = places } }
+
+-- the code of a busy name
+abbrev pub bar : Bool → Option OsErr
+bar true = Some LOCKED
+bar false = None
+
+-- why a handle that was looked up bars a call; what is no handle is for the call's row to refuse
+abbrev pub known_bars : Places → Result Known OsErr → Option OsErr
+known_bars busy (Err code) = None
+known_bars busy (Ok known) = bar (is_busy known.number busy)
+
+-- the same of what a number stands for, where a pointer is wanted
+abbrev pub pointer_bars : Places → ℕ → Option Meaning → Option OsErr
+pointer_bars busy p None = None
+pointer_bars busy p (Some (Handle role)) = None
+pointer_bars busy p (Some Pointer) = bar (is_busy p busy)
+pointer_bars busy p (Some Disposed) = None
+
+-- and where either is
+abbrev pub either_bars : Places → ℕ → Option Meaning → Option OsErr
+either_bars busy n None = None
+either_bars busy n (Some (Handle role)) = bar (is_busy n busy)
+either_bars busy n (Some Pointer) = bar (is_busy n busy)
+either_bars busy n (Some Disposed) = None
+
+-- why the handle that a name is bound to bars a call
+abbrev pub barred : Option ℕ → Memory → Option OsErr
+barred handle m = known_bars m.log.busy (handle_at handle m.heap)
+
+-- why the pointer does
+abbrev pub pointer_barred : Option ℕ → Memory → Option OsErr
+pointer_barred None m = None
+pointer_barred (Some p) m = pointer_bars m.log.busy p (slice_get m.heap.names p)
+
+-- why the handle or the pointer does
+abbrev pub either_barred : Option ℕ → Memory → Option OsErr
+either_barred None m = None
+either_barred (Some n) m = either_bars m.log.busy n (slice_get m.heap.names n)
+
+-- a second handle is asked for only where the first one has a block
+abbrev pub next_barred : Result Held OsErr → Option OsErr → Option OsErr
+next_barred (Err code) other = None
+next_barred (Ok held) other = other
+
+-- why the first or the second of two handles bars a call
+abbrev pub both_barred : Option ℕ → Option ℕ → Memory → Option OsErr
+both_barred from to m = option_or (barred from m) (next_barred (look_up from m.heap) (barred to m))
+
+-- why a busy name bars a call; for a name that the call binds, and for a call without one, there is no reason
+abbrev pub gate : Asked → Memory → Option OsErr
+gate (DisposeHandle handle) m = barred handle m
+gate (GetHandleSize handle) m = barred handle m
+gate (SetHandleSize handle size) m = barred handle m
+gate (ReallocateHandle handle size) m = barred handle m
+gate (EmptyHandle handle) m = barred handle m
+gate (HLock handle) m = barred handle m
+gate (HUnlock handle) m = barred handle m
+gate (HPurge handle) m = barred handle m
+gate (HNoPurge handle) m = barred handle m
+gate (HGetState handle) m = barred handle m
+gate (HSetState handle state) m = barred handle m
+gate (MoveHHi handle) m = barred handle m
+gate (HLockHi handle) m = barred handle m
+gate (HandToHand handle) m = barred handle m
+gate (HandAndHand from to) m = both_barred from to m
+gate (PtrAndHand handle bytes) m = barred handle m
+gate (DisposePtr pointer) m = pointer_barred pointer m
+gate (GetPtrSize pointer) m = pointer_barred pointer m
+gate (SetPtrSize pointer size) m = pointer_barred pointer m
+gate (Put handle from bytes) m = barred handle m
+gate (Show handle) m = barred handle m
+gate (PutPtr pointer from bytes) m = pointer_barred pointer m
+gate (ShowPtr pointer) m = pointer_barred pointer m
+gate (Where name) m = either_barred name m
+gate asked m = None
+
+-- a call whose code MemError tells afterwards
+abbrev pub notes : Asked → Bool
+notes MemError = false
+notes (Put handle from bytes) = false
+notes (Show handle) = false
+notes (PutPtr pointer from bytes) = false
+notes (ShowPtr pointer) = false
+notes (Where name) = false
+notes asked = true
+
+-- a heap whose last call gave this code
+abbrev pub keep_code : OsErr → Memory → Memory
+keep_code code m = record m { log = record m.log { code = code } }
+
+-- a call behind a gate: where it is barred nothing changes but the code that MemError tells
+abbrev pub gated : Option OsErr → Asked → Memory → Told × Memory
+gated None asked m = answered asked m
+gated (Some code) asked m = (Refused code, if notes asked then keep_code code m else m)
+
+-- a method's answer, unless the call is barred
+abbrev pub unless : {T : Type 0} → Option OsErr → (Memory → Result T OsErr × Memory) → Memory → Result T OsErr × Memory
+unless None call m = call m
+unless (Some code) call m = (Err code, keep_code code m)
+
+-- the same for a call whose code MemError doesn't tell
+abbrev pub unless_silent : {T : Type 0} → Option OsErr → (Memory → Result T OsErr × Memory) → Memory
+    → Result T OsErr × Memory
+unless_silent None call m = call m
+unless_silent (Some code) call m = (Err code, m)
+
+-- one try of a call: what it tells, and the heap after it; the same as `gated (gate asked m) asked m`, by the calls
+abbrev pub served : Asked → Memory → Told × Memory
+served (DisposeHandle handle) m = telling (λ _. Done) (unless (barred handle m) (noting (dispose_handle handle)) m)
+served (GetHandleSize handle) m = telling Number (unless (barred handle m) (noting (get_handle_size handle)) m)
+served (SetHandleSize handle size) m = telling (λ _. Done) (unless (barred handle m)
+    (packing (set_handle_size_moves handle size) (set_handle_size_searches handle size) (set_handle_size handle size))
+    m)
+served (ReallocateHandle handle size) m = telling (λ _. Done) (unless (barred handle m)
+    (packing (reallocate_handle_moves handle size) (reallocate_handle_searches handle size)
+    (reallocate_handle handle size)) m)
+served (EmptyHandle handle) m = telling (λ _. Done) (unless (barred handle m) (noting (empty_handle handle)) m)
+served (HLock handle) m = telling (λ _. Done) (unless (barred handle m) (noting (h_lock handle)) m)
+served (HUnlock handle) m = telling (λ _. Done) (unless (barred handle m) (noting (h_unlock handle)) m)
+served (HPurge handle) m = telling (λ _. Done) (unless (barred handle m) (noting (h_purge handle)) m)
+served (HNoPurge handle) m = telling (λ _. Done) (unless (barred handle m) (noting (h_no_purge handle)) m)
+served (HGetState handle) m = telling Number (unless (barred handle m) (noting (h_get_state handle)) m)
+served (HSetState handle state) m = telling (λ _. Done) (unless (barred handle m) (noting (h_set_state handle state)) m)
+served (MoveHHi handle) m = telling (λ _. Done) (unless (barred handle m) (noting (move_hhi handle)) m)
+served (HLockHi handle) m = telling (λ _. Done) (unless (barred handle m) (noting (hlock_hi handle)) m)
+served (HandToHand handle) m = telling Given (unless (barred handle m) (packing (hand_to_hand_moves handle)
+    (hand_to_hand_searches handle) (hand_to_hand handle)) m)
+served (HandAndHand from to) m = telling (λ _. Done) (unless (both_barred from to m)
+    (packing (hand_and_hand_moves from to) (hand_and_hand_searches from to) (hand_and_hand from to)) m)
+served (PtrAndHand handle bytes) m = telling (λ _. Done) (unless (barred handle m)
+    (packing (pointer_and_hand_moves handle bytes) (pointer_and_hand_searches handle bytes)
+    (pointer_and_hand handle bytes)) m)
+served (DisposePtr pointer) m = telling (λ _. Done) (unless (pointer_barred pointer m)
+    (noting (dispose_pointer pointer)) m)
+served (GetPtrSize pointer) m = telling Number (unless (pointer_barred pointer m) (noting (get_pointer_size pointer)) m)
+served (SetPtrSize pointer size) m = telling (λ _. Done) (unless (pointer_barred pointer m)
+    (seeking (set_pointer_size_searches pointer size) (set_pointer_size pointer size)) m)
+served (Put handle from bytes) m = telling (λ _. Done) (unless_silent (barred handle m)
+    (silent (put handle from bytes)) m)
+served (Show handle) m = telling Bytes (unless_silent (barred handle m) (silent (show handle)) m)
+served (PutPtr pointer from bytes) m = telling (λ _. Done) (unless_silent (pointer_barred pointer m)
+    (silent (put_pointer pointer from bytes)) m)
+served (ShowPtr pointer) m = telling Bytes (unless_silent (pointer_barred pointer m) (silent (show_pointer pointer)) m)
+served (Where name) m = telling Number (unless_silent (either_barred name m) (silent (place_of name)) m)
+served asked m = answered asked m

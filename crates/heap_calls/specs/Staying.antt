@@ -1,0 +1,59 @@
+use Rattle.std.specs.Prelude.{◌≡◌, ◌≤◌, ◌<◌, ℕ, ◌+◌, ◌*◌, not, ◌&&◌, List, length, if◌then◌else◌}
+use Rattle.mac_words.specs.Size.{padded}
+use Rattle.block_store.specs.declared.measures.TheConstants.{MASTERS_SIZE}
+use Rattle.block_store.specs.Block.{Block, Free, Fixed, Masters, Relocatable, count, total, sizes, free_sum, is_masters}
+use Rattle.heap_calls.specs.State.{Memory}
+use Rattle.heap_calls.specs.Purging.{purged_all}
+use Rattle.heap_calls.specs.Asked.{Asked, Refused}
+use Rattle.heap_calls.specs.Busy.{served}
+use Rattle.heap_calls.specs.Locked.{OneBlockEach}
+use Rattle.mac_words.specs.declared.code.OsErr.{OsErr}
+
+-- What can be had of a zone, and what stays. Inside Macintosh: Memory, chapter 1, "Low-Memory Conditions".
+
+-- the bytes that are Free or may be emptied: the first of PurgeSpace's two numbers
+abbrev pub ease : List Block → ℕ
+ease zone = free_sum (purged_all zone)
+
+-- the bytes of a block that is neither Free, nor may be emptied, nor has master pointers
+abbrev pub staying_of : Block → ℕ
+staying_of (Free n) = 0
+staying_of (Fixed id content) = padded (length content)
+staying_of Masters = 0
+staying_of (Relocatable id flags content) = if not flags.locked && flags.purgeable then 0 else padded (length content)
+
+-- the bytes of the blocks that stay
+abbrev pub staying : List Block → ℕ
+staying zone = total staying_of zone
+
+-- the bytes of the blocks of master pointers
+abbrev pub of_masters : List Block → ℕ
+of_masters zone = MASTERS_SIZE * count is_masters zone
+
+-- a zone is what can be had of it, what stays, and its master pointers
+abbrev pub Parted : List Block → Type 0
+Parted zone = ease zone + (staying zone + of_masters zone) ≡ sizes zone
+
+-- a try that is refused leaves no more that stays
+abbrev pub RefusedKeepsNoMore : Asked → Memory → Type 0
+RefusedKeepsNoMore asked m =
+    (code : OsErr) → (served asked m).0 ≡ Refused code → staying (served asked m).1.heap.zone ≤ staying m.heap.zone
+
+-- where more can be had of the zone some time after a refused try, of as many bytes and with no fewer blocks of master
+-- pointers, less stays than before the try
+abbrev pub LessStaysLater : Asked → Memory → Type 0
+LessStaysLater asked m =
+    (code : OsErr) → (served asked m).0 ≡ Refused code → (later : List Block)
+    → sizes later ≡ sizes (served asked m).1.heap.zone
+    → count is_masters (served asked m).1.heap.zone ≤ count is_masters later
+    → ease (served asked m).1.heap.zone < ease later
+    → staying later < staying m.heap.zone
+
+-- where no handle has two blocks, a try leaves a zone of as many bytes
+abbrev pub KeepsBytes : Asked → Memory → Type 0
+KeepsBytes asked m = OneBlockEach m.heap.zone → sizes (served asked m).1.heap.zone ≡ sizes m.heap.zone
+
+-- and no fewer blocks of master pointers
+abbrev pub KeepsMasters : Asked → Memory → Type 0
+KeepsMasters asked m =
+    OneBlockEach m.heap.zone → count is_masters m.heap.zone ≤ count is_masters (served asked m).1.heap.zone

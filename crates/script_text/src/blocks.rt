@@ -1,0 +1,61 @@
+//! The grow-zone scripts of a script, by name.
+
+ghost use Rattle.std.specs.Prelude.{◌≡◌, ℕ, false, List, [], ◌∷◌, ◌++◌, map, OnOk, OnErr};
+ghost use Rattle.script_text.specs.declared.script.Line as declared;
+ghost use Rattle.script_text.specs.Script.{has_block, block_of};
+
+use crate::script::Line;
+use indexmap::IndexMap;
+use mac_words::Label;
+use std::alloc::{AllocError, Global};
+use std::marker::Model;
+
+/// Grow-zone scripts in the order in which they were added, each with its lines.
+#[derive(Debug, Drop)]
+pub struct Blocks {
+    lines: IndexMap<Label, Vec<Line>>,
+}
+
+impl Model for Blocks {
+    ghost Value = { List (List ℕ × List declared.Line) };
+
+    ghost view = { λ b. map (λ e. (e.0.0.items, e.1.items)) b.lines.entries };
+}
+
+impl Blocks {
+    /// No grow-zone scripts.
+    pub fn new(alloc: Global) -> Blocks
+        ensures { result ≡ [] }
+    {
+        Blocks {
+            lines: IndexMap::new(alloc),
+        }
+    }
+
+    /// Whether there is a grow-zone script of this name.
+    pub fn has(&self, name: &Label) -> bool
+        ensures { result ≡ has_block name.now.0.items self.now }
+    {
+        self.lines.contains_key(name)
+    }
+
+    /// The lines of the grow-zone script of this name; none where there is no such script.
+    pub fn lines(&self, name: &Label) -> &[Line]
+        ensures { result.now ≡ block_of name.now.0.items self.now }
+    {
+        match self.lines.get(name) {
+            Some(lines) => lines,
+            None => &[],
+        }
+    }
+
+    /// Adds a grow-zone script of a new name behind the others.
+    pub fn add(&mut self, name: Label, lines: Vec<Line>) -> Result<(), AllocError>
+        requires { has_block name.0.items self.old ≡ false }
+        ensures added { OnOk result (self.new ≡ self.old ++ (name.0.items, lines.items) ∷ []) }
+        ensures unchanged { OnErr result (self.new ≡ self.old) }
+    {
+        self.lines.insert(name, lines)?;
+        Ok(())
+    }
+}
