@@ -1,5 +1,5 @@
 use Rattle.std.proofs.Common.{◌≡◌, ℕ, ◌+◌, ◌<◌, zero, suc, true, false, ◌==◌, List, [], ◌∷◌, length, refl, sym, ◌∙◌, ap}
-use Rattle.std.proofs.Common.{cond, arith, Some, count_by, slice_get, slice_set, replicate, ◌⊎◌, inl, inr}
+use Rattle.std.proofs.Common.{Bool, cond, arith, Some, count_by, slice_get, slice_set, replicate, ◌⊎◌, inl, inr}
 use Rattle.std.proofs.lemmas.List.Sums.{sum_by-cons}
 use Rattle.std.proofs.lemmas.Bool.{cond-true, cond-false, cases_eq, false_from_ne_true}
 use Rattle.std.proofs.lemmas.Bool.Decides.{Decides-eqb}
@@ -80,6 +80,39 @@ unused-taken (x ∷ slots) (suc i) e = let r = unused-taken slots i e in
     omega (
       arith,
       sum_by-cons (λ (s : SlotEntry). cond (is_unused s) 1 0) x (slice_set slots i (slot_entry.Used false)),
+      sum_by-cons (λ (s : SlotEntry). cond (is_unused s) 1 0) x slots,
+    )
+
+-- a used slot with another flag: the same slots are used
+pub used-flagged : (slots : List SlotEntry) (i : ℕ) (r : Bool) → is_used (slots_of slots i) ≡ true → (k : ℕ)
+    → is_used (slots_of (slice_set slots i (slot_entry.Used r)) k) ≡ is_used (slots_of slots k)
+used-flagged [] i r e k = refl
+used-flagged (x ∷ slots) zero r e zero = sym e
+used-flagged (x ∷ slots) zero r e (suc k) = refl
+used-flagged (x ∷ slots) (suc i) r e zero = refl
+used-flagged (x ∷ slots) (suc i) r e (suc k) = used-flagged slots i r e k
+
+-- and as many are unused
+pub unused-flagged : (slots : List SlotEntry) (i : ℕ) (r : Bool) → is_used (slots_of slots i) ≡ true
+    → count_by is_unused (slice_set slots i (slot_entry.Used r)) ≡ count_by is_unused slots
+unused-flagged [] i r e = refl
+unused-flagged (x ∷ slots) zero r e = omega (
+  arith,
+  sum_by-cons one (slot_entry.Used r) slots,
+  sum_by-cons one x slots,
+  was x e,
+)
+  where
+    one : SlotEntry → ℕ
+    one s = cond (is_unused s) 1 0
+
+    was : (x : SlotEntry) → is_used (slot_of x) ≡ true → one x ≡ 0
+    was slot_entry.Unused e = let f : false ≡ true = e in cc
+    was (slot_entry.Used s) e = refl
+unused-flagged (x ∷ slots) (suc i) r e = let same = unused-flagged slots i r e in
+    omega (
+      arith,
+      sum_by-cons (λ (s : SlotEntry). cond (is_unused s) 1 0) x (slice_set slots i (slot_entry.Used r)),
       sum_by-cons (λ (s : SlotEntry). cond (is_unused s) 1 0) x slots,
     )
 

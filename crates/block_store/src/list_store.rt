@@ -26,7 +26,7 @@ use crate::purging::{flag_at, purge_above, purge_entries};
 use crate::run_search::search_runs;
 use crate::runs::{has_free_above, most_free, most_free_of_runs, place_of_run, purgeable_above};
 use crate::sizing::{move_slot, resize_at};
-use crate::slots::{SlotEntry, first_unused};
+use crate::slots::{SlotEntry, first_unused, has_flag};
 use crate::sparing::{Seen, Sparing};
 use crate::store::BlockStore;
 use crate::stretch::find_room;
@@ -260,6 +260,14 @@ impl BlockStore for ListStore {
 
     fn give_slot(&mut self, number: u32) {
         self.slots[number as usize] = SlotEntry::Unused;
+    }
+
+    fn is_resource(&self, number: u32) -> bool {
+        has_flag(&self.slots, number)
+    }
+
+    fn set_resource(&mut self, number: u32, resource: bool) {
+        self.slots[number as usize] = SlotEntry::Used(resource);
     }
 
     fn bytes(&self, place: u32) -> &[u8] {

@@ -1,7 +1,7 @@
 //! The list of a store's slots.
 
 ghost use Rattle.std.specs.Prelude.{◌≡◌, ◌<◌, length, count_by, MatchOption};
-ghost use Rattle.block_store.specs.Slot.{Unused};
+ghost use Rattle.block_store.specs.Slot.{Unused, is_resource};
 ghost use Rattle.block_store.specs.Inner.ListStore.{is_unused, slots_of};
 
 /// A slot: of no handle, or of one, with its resource flag.
@@ -22,4 +22,14 @@ pub fn first_unused(slots: &[SlotEntry]) -> Option<usize>
         }
     }
     None
+}
+
+/// Whether a number is the slot of a handle whose resource flag is set.
+pub fn has_flag(slots: &[SlotEntry], number: u32) -> bool
+    ensures { result ≡ is_resource (slots_of slots.now number) }
+{
+    match slots.get(number as usize) {
+        Some(SlotEntry::Used(resource)) => *resource,
+        _ => false,
+    }
 }

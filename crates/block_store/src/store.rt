@@ -14,7 +14,7 @@ ghost use Rattle.block_store.specs.Room.{spot, spot_at, filled, may_go, emptied,
 ghost use Rattle.block_store.specs.Grow.{freed, grow_up, taken};
 ghost use Rattle.block_store.specs.Find.{FindsLowest, FindsLowestRun};
 ghost use Rattle.block_store.specs.Compact.{largest_free, largest_run, FindsRun, NoneRises, lowered, Aligned, Placed};
-ghost use Rattle.block_store.specs.Slot.{Unused, Used, is_used};
+ghost use Rattle.block_store.specs.Slot.{Unused, Used, is_used, is_resource};
 ghost use Rattle.block_store.specs.Sparing.{purged, spared};
 ghost use Rattle.block_store.specs.Rest.{Rest, IsRest, with_slot, with_moves, falling};
 ghost use Rattle.block_store.specs.declared.measures.TheConstants.{GREATEST_ZONE, SLOTS_A_BLOCK};
@@ -254,6 +254,19 @@ pub trait BlockStore {
         requires used { IsTrue (is_used ((rest self.old).slots number)) }
         requires no_block { has (is_relocatable number) (zone self.old) ≡ false }
         ensures rest { IsRest (with_slot number Unused ((rest self.old).unused + 1) (rest self.old)) (rest self.new) }
+        ensures zone { zone self.new ≡ zone self.old };
+
+    /// Whether a number is the slot of a resource's handle: its resource flag is set.
+    fn is_resource(&self, number: u32) -> bool
+        ensures { result ≡ is_resource ((rest self.now).slots number) };
+
+    /// Sets or clears the resource flag of a handle's slot, whether the handle has a block or is emptied.
+    ///
+    /// *Inside Macintosh: Memory*, chapter 2, "Setting the Properties of Relocatable Blocks".
+    fn set_resource(&mut self, number: u32, resource: bool)
+        requires { IsTrue (is_used ((rest self.old).slots number)) }
+        ensures rest { IsRest (with_slot number (Used resource) (rest self.old).unused (rest self.old))
+            (rest self.new) }
         ensures zone { zone self.new ≡ zone self.old };
 
     /// The bytes of the block at a place.

@@ -65,6 +65,19 @@ fn take_and_give(store: &mut ListStore) -> Option<u32> {
     Some(number)
 }
 
+// The resource flag of a new slot, once it is set, once it is cleared, and once it is set and the slot given back.
+fn resource_flags(store: &mut ListStore) -> Option<[bool; 4]> {
+    let number = store.take_slot()?;
+    let new = store.is_resource(number);
+    store.set_resource(number, true);
+    let set = store.is_resource(number);
+    store.set_resource(number, false);
+    let cleared = store.is_resource(number);
+    store.set_resource(number, true);
+    store.give_slot(number);
+    Some([new, set, cleared, store.is_resource(number)])
+}
+
 // Sets the flags of a slot's block.
 fn flag(store: &mut ListStore, number: u32, locked: bool, purgeable: bool) {
     if let Some(place) = store.place_of(number) {
@@ -77,6 +90,16 @@ fn purge_above(store: &mut ListStore, number: u32, purges: u32, sparing: Sparing
     if let Some(place) = store.place_of(number) {
         store.purge_after(place, purges, sparing);
     }
+}
+
+#[test]
+fn resource_flag_is_set_and_cleared(rt: HostRuntime) -> Result<(), Fail> {
+    let mut store = ListStore::new(rt.alloc(), 1024)?;
+    let flags = resource_flags(&mut store);
+    assert_eq!(rt; flags, Some([false, true, false, false]));
+    assert!(rt; !store.is_resource(64));
+    assert_eq!(rt; store.free_bytes(), 752);
+    Ok(())
 }
 
 #[test]

@@ -7,7 +7,8 @@ use Rattle.mac_words.specs.declared.call.Call.TheVariants as call
 use Rattle.heap_calls.specs.State.{State, Memory}
 use Rattle.heap_calls.specs.Naming.{first_named, second_named}
 use Rattle.script_text.specs.declared.script.Line.{Line}
-use Rattle.desk.specs.Trying.{Running, Blocks, Tried, once, asked, code_told}
+use Rattle.res_calls.specs.Asked.{named}
+use Rattle.desk.specs.Trying.{Running, Blocks, Tried, once, asked, resource_asked, code_told}
 use Rattle.desk.specs.Step.{Event, Course, nothing_yet, joined, event_of, marked, marked_for, grown_line, grown}
 use Rattle.desk.specs.Step.{grown_for, asked_for, kept_anew, ended, stands, Round, Ends, Again, made_room, after_asking}
 use Rattle.desk.specs.Step.{round, continued, step_in, step, most_rounds, run}
@@ -43,6 +44,9 @@ marked-heap false (Some n) m = refl
 pub marked_for-heap : (busy : Bool) (c : Call) (reading : Option ℕ) (r : Running)
     → (marked_for busy c reading r).memory.heap ≡ r.memory.heap
 marked_for-heap busy (call.Control c) reading r = refl
+marked_for-heap busy (call.Resource c) reading r =
+    let first : Memory = marked busy (named (resource_asked c r.names)) r.memory in
+    marked-heap busy reading first ∙ marked-heap busy (named (resource_asked c r.names)) r.memory
 marked_for-heap busy (call.Heap c) reading r =
     let first : Memory = marked busy (first_named (asked c r.names)) r.memory in
     let second : Memory = marked busy (second_named (asked c r.names)) first in
@@ -60,6 +64,10 @@ marked-sound false (Some n) m bytes sound =
 pub marked_for-sound : (busy : Bool) (c : Call) (reading : Option ℕ) (r : Running) (bytes : ℕ → List ℕ)
     → Sound r.memory bytes → Sound (marked_for busy c reading r).memory bytes
 marked_for-sound busy (call.Control c) reading r bytes sound = sound
+marked_for-sound busy (call.Resource c) reading r bytes sound =
+    let first : Memory = marked busy (named (resource_asked c r.names)) r.memory in
+    marked-sound busy reading first bytes
+    (marked-sound busy (named (resource_asked c r.names)) r.memory bytes sound)
 marked_for-sound busy (call.Heap c) reading r bytes sound =
     let first : Memory = marked busy (first_named (asked c r.names)) r.memory in
     let second : Memory = marked busy (second_named (asked c r.names)) first in
@@ -68,15 +76,17 @@ marked_for-sound busy (call.Heap c) reading r bytes sound =
     (marked-sound busy (first_named (asked c r.names)) r.memory bytes sound))
 
 -- nor is a code that is kept anew
-kept-heap : (c : Call) (code : OsErr) (m : Memory) → (kept_anew c code m).heap ≡ m.heap
-kept-heap (call.Heap c) code m = refl
-kept-heap (call.Control c) code m = refl
+kept-heap : (c : Call) (code : OsErr) (r : Running) → (kept_anew c code r).memory.heap ≡ r.memory.heap
+kept-heap (call.Heap c) code r = refl
+kept-heap (call.Resource c) code r = refl
+kept-heap (call.Control c) code r = refl
 
-kept-sound : (c : Call) (code : OsErr) (m : Memory) (bytes : ℕ → List ℕ) → Sound m bytes
-    → Sound (kept_anew c code m) bytes
-kept-sound (call.Heap c) code m bytes sound =
+kept-sound : (c : Call) (code : OsErr) (r : Running) (bytes : ℕ → List ℕ) → Sound r.memory bytes
+    → Sound (kept_anew c code r).memory bytes
+kept-sound (call.Heap c) code r bytes sound =
     record { known = sound.known; masters = sound.masters; fits = sound.fits }
-kept-sound (call.Control c) code m bytes sound = sound
+kept-sound (call.Resource c) code r bytes sound = sound
+kept-sound (call.Control c) code r bytes sound = sound
 
 module _ (P : (ℕ → List ℕ) → Event → Type 0)
     (holds : (blocks : Blocks) (l : Line) (r : Running) (bytes : ℕ → List ℕ) → Sound r.memory bytes
@@ -177,8 +187,8 @@ module _ (P : (ℕ → List ℕ) → Event → Type 0)
     stands-goes l t r bytes sound = record {
       each = tt;
       linked = tt;
-      ends = sym (kept-heap l.call (code_told t.told) r.memory);
-      sound = kept-sound l.call (code_told t.told) r.memory bytes sound;
+      ends = sym (kept-heap l.call (code_told t.told) r);
+      sound = kept-sound l.call (code_told t.told) r bytes sound;
     }
 
     -- a round goes so, whether the call ends with it or not

@@ -9,11 +9,15 @@ use Rattle.mac_words.specs.declared.call.ControlCall.TheVariants as control
 use Rattle.block_store.specs.Rest.{Site}
 use Rattle.block_store.specs.Block.{Block, sizes, free, fresh}
 use Rattle.heap_calls.specs.State.{Memory}
-use Rattle.heap_calls.specs.Asked.{Asked, Told}
+use Rattle.mac_words.specs.Told.{Told}
+use Rattle.heap_calls.specs.Asked.{Asked}
 use Rattle.heap_calls.specs.Naming.{first_named, second_named}
 use Rattle.heap_calls.proofs.Tries.Elsewhere.{elsewhere, served-elsewhere}
 use Rattle.script_text.specs.declared.script.Line.{Line}
-use Rattle.desk.specs.Trying.{Running, Blocks, Tried, once, asked, launched, nowhere, heap_tried, code_told}
+use Rattle.res_calls.specs.Asked.{Served, named}
+use Rattle.desk.specs.Trying.{Running, Blocks, Tried, once, asked, resource_asked, managers_of, launched, nowhere}
+use Rattle.desk.specs.Trying.{heap_tried, resource_tried, code_told}
+use Rattle.res_calls.proofs.Walks.Place.{served-elsewhere as found-elsewhere}
 use Rattle.desk.specs.Step.{Event, Course, joined, event_of, marked, marked_for, grown_line, grown}
 use Rattle.desk.specs.Step.{grown_for, asked_for, kept_anew, ended, stands, Round, Ends, Again, made_room, after_asking}
 use Rattle.desk.specs.Step.{after_try, round, continued, step_in, step, most_rounds, unless_over, run}
@@ -34,6 +38,9 @@ once-elsewhere : (site : Site) (blocks : Blocks) (c : Call) (r : Running)
     → once blocks c (moved site r) ≡ tried_elsewhere site (once blocks c r)
 once-elsewhere site blocks (call.Heap c) r =
     ap (λ (x : Told × Memory). heap_tried x (moved site r)) (served-elsewhere site (asked c r.names) r.memory)
+once-elsewhere site blocks (call.Resource c) r =
+    ap (λ (x : Served). resource_tried x (moved site r))
+    (found-elsewhere site (resource_asked c r.names) (managers_of r))
 once-elsewhere site blocks (call.Control (control.SetGrowZone name)) r = refl
 once-elsewhere site blocks (call.Control control.WaitNextEvent) r = refl
 once-elsewhere site blocks (call.Control control.ExitToShell) r = refl
@@ -70,6 +77,11 @@ marked-elsewhere site false (Some n) m = refl
 marked_for-elsewhere : (site : Site) (busy : Bool) (c : Call) (reading : Option ℕ) (r : Running)
     → marked_for busy c reading (moved site r) ≡ moved site (marked_for busy c reading r)
 marked_for-elsewhere site busy (call.Control c) reading r = refl
+marked_for-elsewhere site busy (call.Resource c) reading r =
+    let handle : Option ℕ = named (resource_asked c r.names) in
+    ap (λ (m : Memory). record r { memory = m })
+    (ap (marked busy reading) (marked-elsewhere site busy handle r.memory)
+    ∙ marked-elsewhere site busy reading (marked busy handle r.memory))
 marked_for-elsewhere site busy (call.Heap c) reading r =
     let a : Asked = asked c r.names in
     let first : Memory = marked busy (first_named a) r.memory in
@@ -115,16 +127,16 @@ asked-elsewhere site blocks l r t =
     ap (joined (course_elsewhere site tried)) (for-elsewhere site blocks l t.reading t.after)
     ∙ joined-elsewhere site tried (grown_for blocks l t.reading t.after)
 
-kept-elsewhere : (site : Site) (c : Call) (code : OsErr) (m : Memory)
-    → kept_anew c code (elsewhere site m) ≡ elsewhere site (kept_anew c code m)
-kept-elsewhere site (call.Heap c) code m = refl
-kept-elsewhere site (call.Control c) code m = refl
+kept-elsewhere : (site : Site) (c : Call) (code : OsErr) (r : Running)
+    → kept_anew c code (moved site r) ≡ moved site (kept_anew c code r)
+kept-elsewhere site (call.Heap c) code r = refl
+kept-elsewhere site (call.Resource c) code r = refl
+kept-elsewhere site (call.Control c) code r = refl
 
 stands-elsewhere : (site : Site) (l : Line) (t : Tried) (r : Running)
     → stands l (tried_elsewhere site t) (moved site r) ≡ course_elsewhere site (stands l t r)
-stands-elsewhere site l t r = ap (λ (m : Memory). let stood : Course = record (stands l t r) {
-  after = record r { memory = m };
-} in stood) (kept-elsewhere site l.call (code_told t.told) r.memory)
+stands-elsewhere site l t r = ap (λ (x : Running). let stood : Course = record (stands l t r) { after = x } in stood)
+    (kept-elsewhere site l.call (code_told t.told) r)
 
 try-elsewhere : (site : Site) (blocks : Blocks) (l : Line) (r : Running) (t : Tried)
     → after_try blocks l (moved site r) (tried_elsewhere site t) ≡ round_elsewhere site (after_try blocks l r t)

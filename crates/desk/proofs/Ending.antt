@@ -7,16 +7,17 @@ use Rattle.mac_words.specs.declared.call.Call.TheVariants as call
 use Rattle.mac_words.specs.declared.call.ControlCall.TheVariants as control
 use Rattle.block_store.specs.Block.{Block, sizes, count, is_masters}
 use Rattle.heap_calls.specs.State.{State, Memory}
-use Rattle.heap_calls.specs.Asked.{Told, Done, Given, Number, Numbers, Code, Bytes, Refused}
+use Rattle.mac_words.specs.Told.{Told, Done, Given, Fetched, Number, Numbers, Code, Bytes, Kind, Info, Refused}
 use Rattle.heap_calls.specs.Staying.{ease, staying}
 use Rattle.heap_calls.proofs.Tries.Parting.{parted, less_stays}
 use Rattle.heap_calls.proofs.Tries.Keeping.{served_bytes, served_masters_no_fewer, served_no_more}
 use Rattle.script_text.specs.declared.script.Line.{Line}
-use Rattle.desk.specs.Trying.{Running, Blocks, Tried, once, code_told, is_full}
+use Rattle.desk.specs.Trying.{Running, Blocks, Tried, once, managers_of, code_told, is_full}
 use Rattle.desk.specs.Step.{Course, event_of, marked_for, grown, grown_for, asked_for, Round, Ends}
 use Rattle.desk.specs.Step.{Again, made_room, after_asking, joined, ended, stands, round, continued, step_in, step}
 use Rattle.desk.specs.Step.{step_by_rule, most_rounds, Event}
 use Rattle.desk.specs.Laws.{put_event, put_events, GoesByRule}
+use Rattle.res_calls.proofs.Walks.Laws.{served-bytes, served-masters, served-no_more}
 use Rattle.desk.proofs.TryLaws.{Sound, of-try, once-sound}
 use Rattle.desk.proofs.Carrying.{asked-goes, step-goes, marked_for-heap, marked_for-sound}
 use Rattle.desk.proofs.StepLaws.{each-step}
@@ -32,6 +33,9 @@ full-refused : (t : Told) → is_full (code_told t) ≡ true → (code : OsErr) 
 full-refused (Refused code) e = (code, refl)
 full-refused Done e = cc
 full-refused (Given n) e = cc
+full-refused (Fetched handle read) e = cc
+full-refused (Kind kind) e = cc
+full-refused (Info id kind name) e = cc
 full-refused (Number n) e = cc
 full-refused (Numbers n m) e = cc
 full-refused (Code code) e = cc
@@ -41,8 +45,9 @@ full-refused (Bytes x) e = cc
 once-stays : (blocks : Blocks) (c : Call) (r : Running) (code : OsErr) → (once blocks c r).told ≡ Refused code
     → stays (once blocks c r).after ≤ stays r
 once-stays blocks c r code tells = of-try
-    (λ d told m. told ≡ Refused code → staying m.heap.zone ≤ stays r) blocks c r
-    (λ a is. served_no_more a r.memory code is) (λ k is. omega arith) tells
+    (λ d told reads after. told ≡ Refused code → stays after ≤ stays r) blocks c r
+    (λ a is. served_no_more a r.memory code is) (λ a is. served-no_more a (managers_of r) code is)
+    (λ k grow is. omega arith) tells
 
 -- no try changes how many bytes a zone has, or lets a block of master pointers go
 abbrev Frame : List Block → List Block → Type 0
@@ -59,9 +64,13 @@ frame-then a b c first second =
 
 once-frame : (blocks : Blocks) (c : Call) (r : Running) (bytes : ℕ → List ℕ) → Sound r.memory bytes
     → Frame r.memory.heap.zone (once blocks c r).after.memory.heap.zone
-once-frame blocks c r bytes sound = of-try (λ d told m. Frame r.memory.heap.zone m.heap.zone) blocks c r
+once-frame blocks c r bytes sound = of-try
+    (λ d told reads after. Frame r.memory.heap.zone after.memory.heap.zone) blocks c r
     (λ a. (served_bytes a r.memory sound.known.once, served_masters_no_fewer a r.memory sound.known.once))
-    (λ k. frame-same r.memory.heap.zone)
+    (λ a. (
+      served-bytes a (managers_of r) bytes sound.known,
+      served-masters a (managers_of r) bytes sound.known,
+    )) (λ k grow. frame-same r.memory.heap.zone)
 
 grown-frame : (blocks : Blocks) (script : List Line) (r : Running) (bytes : ℕ → List ℕ) → Sound r.memory bytes
     → Frame r.memory.heap.zone (grown blocks script r).after.memory.heap.zone
@@ -103,6 +112,7 @@ falls blocks l r bytes sound wants rose =
     wants-full : (blocks : Blocks) (c : Call) (r : Running) → (once blocks c r).wants ≡ true
         → is_full (code_told (once blocks c r).told) ≡ true
     wants-full blocks (call.Heap c) r wants = wants
+    wants-full blocks (call.Resource c) r wants = wants
     wants-full blocks (call.Control (control.SetGrowZone name)) r wants = cc
     wants-full blocks (call.Control control.WaitNextEvent) r wants = cc
     wants-full blocks (call.Control control.ExitToShell) r wants = cc

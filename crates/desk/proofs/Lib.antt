@@ -1,6 +1,9 @@
 mod Binding
 mod Rounds
 mod Saying
+mod Arms
+mod FoundCalls
+mod OwnFork
 mod TryLaws
 mod Carrying
 mod StepLaws
@@ -8,4 +11,5 @@ mod Marking
 mod Ending
 mod Elsewhere
 mod Rows
+mod AnyRuns
 mod Runs

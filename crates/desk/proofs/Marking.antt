@@ -5,13 +5,15 @@ use Rattle.mac_words.specs.declared.code.OsErr.{OsErr}
 use Rattle.mac_words.specs.declared.call.Call.{Call}
 use Rattle.mac_words.specs.declared.call.Call.TheVariants as call
 use Rattle.mac_words.specs.declared.call.HeapCall.{HeapCall}
+use Rattle.mac_words.specs.declared.resource_call.ResourceCall.{ResourceCall}
+use Rattle.res_calls.specs.Asked.{named}
 use Rattle.heap_calls.specs.State.{Memory}
 use Rattle.heap_calls.specs.Asked.{Asked}
 use Rattle.heap_calls.specs.Busy.{Places, idle, holds, busied, eased}
 use Rattle.heap_calls.specs.Naming.{first_named, second_named}
 use Rattle.script_text.specs.declared.script.Line.{Line}
 use Rattle.desk.specs.Names.{Bindings}
-use Rattle.desk.specs.Trying.{Running, Blocks, Tried, once, asked, code_told}
+use Rattle.desk.specs.Trying.{Running, Blocks, Tried, once, asked, resource_asked, code_told}
 use Rattle.desk.specs.Step.{Course, marked, marked_for, grown, asked_for, kept_anew, ended}
 use Rattle.desk.specs.Step.{stands, Round, Ends, Again, made_room, after_asking, round, continued, step_in, step}
 use Rattle.desk.specs.Step.{joined, most_rounds}
@@ -102,6 +104,14 @@ marked_for-marks busy c reading r =
     ∙ ap (marks busy reading) (marked-marks busy (second_named a) first
     ∙ ap (marks busy (second_named a)) (marked-marks busy (first_named a) r.memory))
 
+marked_for-resource : (busy : Bool) (c : ResourceCall) (reading : Option ℕ) (r : Running)
+    → (marked_for busy (call.Resource c) reading r).memory.log.busy
+    ≡ all_marks busy (named (resource_asked c r.names)) None reading r.memory.log.busy
+marked_for-resource busy c reading r =
+    let first : Memory = marked busy (named (resource_asked c r.names)) r.memory in
+    marked-marks busy reading first
+    ∙ ap (marks busy reading) (marked-marks busy (named (resource_asked c r.names)) r.memory)
+
 -- lines of a grow-zone script leave which numbers are busy
 grown-busy : (blocks : Blocks) (script : List Line) (r : Running)
     → (grown blocks script r).after.memory.log.busy ≡ r.memory.log.busy
@@ -114,6 +124,23 @@ cleared-behind : (blocks : Blocks) (c : Call) (script : List Line) (reading : Op
     → r.memory.log.busy ≡ idle
     → (marked_for false c reading (grown blocks script (marked_for true c reading r)).after).memory.log.busy ≡ idle
 cleared-behind blocks (call.Control c) script reading r none = grown-busy blocks script r ∙ none
+cleared-behind blocks (call.Resource c) script reading r none =
+    marked_for-resource false c reading after
+    ∙ ap (λ (names : Bindings). all_marks false (named (resource_asked c names)) None reading after.memory.log.busy)
+    (grown-names blocks script busy)
+    ∙ ap (all_marks false first None reading)
+    (grown-busy blocks script busy ∙ marked_for-resource true c reading r
+    ∙ ap (all_marks true first None reading) none)
+    ∙ marked-and-cleared first None reading
+  where
+    first : Option ℕ
+    first = named (resource_asked c r.names)
+
+    busy : Running
+    busy = marked_for true (call.Resource c) reading r
+
+    after : Running
+    after = (grown blocks script busy).after
 cleared-behind blocks (call.Heap c) script reading r none =
     marked_for-marks false c reading after
     ∙ ap (λ (names : Bindings). all_marks false (first_named (asked c names)) (second_named (asked c names)) reading
@@ -141,9 +168,10 @@ asked-idle blocks l r none =
     let t : Tried = once blocks l.call r in
     cleared-behind blocks l.call t.after.grow t.reading t.after (once-busy blocks l.call r ∙ none)
 
-kept-busy : (c : Call) (code : OsErr) (m : Memory) → (kept_anew c code m).log.busy ≡ m.log.busy
-kept-busy (call.Heap c) code m = refl
-kept-busy (call.Control c) code m = refl
+kept-busy : (c : Call) (code : OsErr) (r : Running) → (kept_anew c code r).memory.log.busy ≡ r.memory.log.busy
+kept-busy (call.Heap c) code r = refl
+kept-busy (call.Resource c) code r = refl
+kept-busy (call.Control c) code r = refl
 
 -- nothing is busy after a course
 abbrev Idle : Course → Type 0
@@ -164,7 +192,7 @@ round-idle blocks l r none = by_want t.wants
 
     by_room : (rose : Bool) → RoundIdle (cond rose (Again came) (Ends (joined came (stands l t came.after))))
     by_room true = asked-idle blocks l r none
-    by_room false = kept-busy l.call (code_told t.told) came.after.memory ∙ asked-idle blocks l r none
+    by_room false = kept-busy l.call (code_told t.told) came.after ∙ asked-idle blocks l r none
 
     by_want : (wants : Bool) → RoundIdle (cond wants (after_asking l t came) (Ends (ended l r t)))
     by_want true = by_room (made_room t came)

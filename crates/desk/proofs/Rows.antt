@@ -6,7 +6,7 @@ use Rattle.mac_words.specs.declared.call.ControlCall.{ControlCall}
 use Rattle.mac_words.specs.declared.call.ControlCall.TheVariants as control
 use Rattle.mac_words.specs.declared.call.HeapCall.{HeapCall}
 use Rattle.mac_words.specs.declared.call.HeapCall.TheVariants as heap
-use Rattle.heap_calls.specs.Asked.{Told, Done, Given, Number, Code, Refused}
+use Rattle.mac_words.specs.Told.{Told, Done, Given, Number, Code, Refused}
 use Rattle.script_text.specs.declared.script.Line.{Line}
 use Rattle.script_text.specs.Script.{Parts}
 use Rattle.desk.specs.Step.{Shown}

@@ -1,55 +1,53 @@
-use Rattle.std.proofs.Common.{ℕ, List, [], refl}
+use Rattle.std.proofs.Common.{ℕ, List, []}
 use Rattle.script_text.specs.Script.{Parts}
-use Rattle.desk.specs.Trying.{launched, nowhere}
+use Rattle.desk.specs.Trying.{launched, own_resources, nowhere}
 use Rattle.desk.specs.Application.{run_alone}
 use Rattle.desk.specs.Step.{Event}
 use Rattle.desk.specs.Laws.{EachTry, Linked, ShowsPut, HoldsPut, KeepsLocked, KeepsFixed, EmptiesPurgeable, LooksFew}
-use Rattle.desk.specs.Laws.{RefusedLeaves, RefusedBinds, NothingBusy, GoesByRule}
-use Rattle.desk.proofs.TryLaws.{sound-fresh, once-shows, once-holds, once-locked, once-fixed, once-purgeable}
-use Rattle.desk.proofs.TryLaws.{once-looks, once-refused}
+use Rattle.desk.specs.Laws.{RefusedLeaves, RefusedBinds, NothingBusy, GoesByRule, KeepsResources, KeepsForks}
+use Rattle.desk.proofs.TryLaws.{sound-fresh}
 use Rattle.desk.proofs.Carrying.{run-goes}
-use Rattle.desk.proofs.StepLaws.{binds-no-name}
-use Rattle.desk.proofs.Marking.{nothing-busy}
-use Rattle.desk.proofs.Ending.{goes-by-rule}
+use Rattle.desk.proofs.AnyRuns.{any_shows_put, any_holds_put, any_locked_stays, any_fixed_stays}
+use Rattle.desk.proofs.AnyRuns.{any_only_purgeable_go, any_looks_few, any_refused_leave, any_resources_stay}
+use Rattle.desk.proofs.AnyRuns.{any_forks_stay, any_goes_by_rule, any_refused_bind, any_nothing_stays_busy}
 
 -- The laws of a script's run, from its beginning in a fresh partition.
 
 -- bytes that are shown are those last put
 pub shows_put : (n : ℕ) (script : Parts) → EachTry ShowsPut (λ h. []) (run_alone n script).events
-shows_put n script =
-    (run-goes ShowsPut once-shows script.blocks script.steps (launched n nowhere) (λ h. []) (sound-fresh n)).each
+shows_put n script = any_shows_put own_resources n script
 
 -- each block holds the bytes last put into it
 pub holds_put : (n : ℕ) (script : Parts) → EachTry HoldsPut (λ h. []) (run_alone n script).events
-holds_put n script =
-    (run-goes HoldsPut once-holds script.blocks script.steps (launched n nowhere) (λ h. []) (sound-fresh n)).each
+holds_put n script = any_holds_put own_resources n script
 
 -- locked blocks stay where they are
 pub locked_stays : (n : ℕ) (script : Parts) → EachTry KeepsLocked (λ h. []) (run_alone n script).events
-locked_stays n script =
-    (run-goes KeepsLocked once-locked script.blocks script.steps (launched n nowhere) (λ h. []) (sound-fresh n)).each
+locked_stays n script = any_locked_stays own_resources n script
 
 -- and so do pointers' blocks
 pub fixed_stays : (n : ℕ) (script : Parts) → EachTry KeepsFixed (λ h. []) (run_alone n script).events
-fixed_stays n script =
-    (run-goes KeepsFixed once-fixed script.blocks script.steps (launched n nowhere) (λ h. []) (sound-fresh n)).each
+fixed_stays n script = any_fixed_stays own_resources n script
 
 -- only blocks that may be emptied are
 pub only_purgeable_go : (n : ℕ) (script : Parts) → EachTry EmptiesPurgeable (λ h. []) (run_alone n script).events
-only_purgeable_go n script =
-    (run-goes EmptiesPurgeable once-purgeable script.blocks script.steps (launched n nowhere) (λ h. [])
-    (sound-fresh n)).each
+only_purgeable_go n script = any_only_purgeable_go own_resources n script
 
 -- no try looks for room more often than it may
 pub looks_few : (n : ℕ) (script : Parts) → EachTry LooksFew (λ h. []) (run_alone n script).events
-looks_few n script =
-    (run-goes LooksFew once-looks script.blocks script.steps (launched n nowhere) (λ h. []) (sound-fresh n)).each
+looks_few n script = any_looks_few own_resources n script
 
 -- a try that is refused leaves the heap
 pub refused_leave : (n : ℕ) (script : Parts) → EachTry RefusedLeaves (λ h. []) (run_alone n script).events
-refused_leave n script =
-    (run-goes RefusedLeaves once-refused script.blocks script.steps (launched n nowhere) (λ h. [])
-    (sound-fresh n)).each
+refused_leave n script = any_refused_leave own_resources n script
+
+-- calls of the heap's table leave the resources
+pub resources_stay : (n : ℕ) (script : Parts) → EachTry KeepsResources (λ h. []) (run_alone n script).events
+resources_stay n script = any_resources_stay own_resources n script
+
+-- and all calls the forks
+pub forks_stay : (n : ℕ) (script : Parts) → EachTry KeepsForks (λ h. []) (run_alone n script).events
+forks_stay n script = any_forks_stay own_resources n script
 
 -- of each try nothing more is said
 abbrev Any : (ℕ → List ℕ) → Event → Type 0
@@ -63,13 +61,12 @@ linked n script =
 
 -- a step whose call is refused binds no name
 pub refused_bind : (n : ℕ) (script : Parts) → RefusedBinds script.blocks script.steps (launched n nowhere)
-refused_bind n script = binds-no-name script.blocks script.steps (launched n nowhere)
+refused_bind n script = any_refused_bind own_resources n script
 
 -- after each step nothing is busy
 pub nothing_stays_busy : (n : ℕ) (script : Parts) → NothingBusy script.blocks script.steps (launched n nowhere)
-nothing_stays_busy n script = nothing-busy script.blocks script.steps (launched n nowhere) refl
+nothing_stays_busy n script = any_nothing_stays_busy own_resources n script
 
 -- each step goes by the rule, which has no bound
 pub goes_by_rule : (n : ℕ) (script : Parts) → GoesByRule script.blocks script.steps (launched n nowhere)
-goes_by_rule n script =
-    goes-by-rule script.blocks script.steps (launched n nowhere) (λ h. []) (sound-fresh n)
+goes_by_rule n script = any_goes_by_rule own_resources n script

@@ -1,6 +1,5 @@
 use Rattle.std.proofs.Common.{◌≡◌, ◌∙◌, ◌++◌, ℕ, ℤ, true, false, refl, sym, ap, map, List, [], Option, Some, None}
-use Rattle.std.proofs.Common.{Result, Ok, Err, codes}
-use Rattle.std.proofs.lemmas.List.{append-nil}
+use Rattle.std.proofs.Common.{Result, Ok, Err, codes, option_map}
 use Rattle.mac_words.specs.declared.code.OsErr.{OsErr}
 use Rattle.mac_words.specs.declared.name.Name.{Name}
 use Rattle.mac_words.specs.declared.name.OsType.{OsType}
@@ -18,15 +17,28 @@ use Rattle.block_store.specs.Block.{content_of}
 use Rattle.script_text.specs.declared.word.Word.{Word}
 use Rattle.script_text.specs.Call.{word_of}
 use Rattle.script_text.specs.declared.script.Line.{Line}
-use Rattle.script_text.specs.Transcript.{Number, values_of, type_shown, name_shown, bytes_shown, reply_line, grow_line}
-use Rattle.heap_calls.specs.Asked.{Told, Done, Given, Number as Count, Numbers, Code, Bytes, Refused, told_as}
+use Rattle.script_text.specs.Transcript.{Shown, Number, values_of, type_shown}
+use Rattle.script_text.specs.Transcript.{name_shown, bytes_shown, reply_line, grow_line}
+use Rattle.mac_words.specs.Told.{Told, Done, Given, Fetched, Number as Count, Numbers, Code, Bytes, Kind, Info}
+use Rattle.mac_words.specs.Told.{Refused}
+use Rattle.heap_calls.specs.Asked.{told_as}
 use Rattle.heap_calls.specs.Asked as asks
 use Rattle.desk.specs.Names.{bound_to}
-use Rattle.desk.specs.Trying.{Running, Blocks, asked, once, code_told, is_full}
-use Rattle.desk.specs.Application.{numbers_told, bytes_told, values_told, line_told}
+use Rattle.desk.specs.Trying.{Running, Blocks, asked, resource_asked, managers_of, once, code_told, is_full}
+use Rattle.desk.specs.Application.{numbers_told, type_told, name_told, bytes_told, values_told, line_told}
+use Rattle.desk.proofs.FoundCalls.{told-none, found-shows-none}
 use Rattle.desk.specs.Replies.{Says}
 
 -- What a reply says, and what a call shows again.
+
+-- a type and a name are shown as bytes
+type-bytes : (ty : Option OsType) → type_shown ty ≡ bytes_shown (option_map (λ (t : OsType). t.0) ty)
+type-bytes None = refl
+type-bytes (Some ty) = refl
+
+name-bytes : (name : Option Name) → name_shown name ≡ bytes_shown (option_map (λ (n : Name). n.0.items) name)
+name-bytes None = refl
+name-bytes (Some name) = refl
 
 -- a reply makes the line of what it says, with the bytes that are told
 pub line-said : (line : ℕ) (word : Word) (reply : Reply) (bytes : Option (List ℕ)) (told : Told) → Says reply told
@@ -37,30 +49,28 @@ line-said line word reply bytes told says shown =
     ap (λ (code : OsErr). reply_line line word code.0 (values_of reply bytes)) says.code
     ∙ ap (λ (numbers : List ℤ). reply_line line word (code_told told).0
     (map Number numbers ++ type_shown reply.ty ++ name_shown reply.name ++ bytes_shown bytes)) says.numbers
-    ∙ ap (λ (ty : Option OsType). reply_line line word (code_told told).0
-    (map Number (numbers_told told) ++ type_shown ty ++ name_shown reply.name ++ bytes_shown bytes)) says.ty
-    ∙ ap (λ (name : Option Name). reply_line line word (code_told told).0
-    (map Number (numbers_told told) ++ [] ++ name_shown name ++ bytes_shown bytes)) says.name
-    ∙ ap (λ (front : List _). reply_line line word (code_told told).0 (front ++ bytes_shown bytes))
-    (append-nil (map Number (numbers_told told) ++ []) ∙ append-nil (map Number (numbers_told told)))
+    ∙ ap (λ (ty : List Shown). reply_line line word (code_told told).0
+    (map Number (numbers_told told) ++ ty ++ name_shown reply.name ++ bytes_shown bytes))
+    (type-bytes reply.ty ∙ ap bytes_shown says.ty)
+    ∙ ap (λ (name : List Shown). reply_line line word (code_told told).0
+    (map Number (numbers_told told) ++ bytes_shown (type_told told) ++ name ++ bytes_shown bytes))
+    (name-bytes reply.name ∙ ap bytes_shown says.name)
     ∙ ap (λ (b : Option (List ℕ)). reply_line line word (code_told told).0
-    (map Number (numbers_told told) ++ bytes_shown b)) shown
+    (map Number (numbers_told told) ++ bytes_shown (type_told told) ++ bytes_shown (name_told told)
+    ++ bytes_shown b)) shown
 
 -- what is for want of room shows no bytes
 pub full-shows-none : (told : Told) → is_full (code_told told) ≡ true → bytes_told told ≡ None
 full-shows-none Done full = refl
 full-shows-none (Given n) full = refl
+full-shows-none (Fetched handle read) full = refl
+full-shows-none (Kind kind) full = refl
+full-shows-none (Info id kind name) full = refl
 full-shows-none (Count n) full = refl
 full-shows-none (Numbers one other) full = refl
 full-shows-none (Code code) full = refl
 full-shows-none (Bytes bytes) full = let f : false ≡ true = full in cc
 full-shows-none (Refused code) full = refl
-
--- what tells no bytes
-told-none : {T : Type 0} (tell : T → Told) → ((x : T) → bytes_told (tell x) ≡ None) → (r : Result T OsErr)
-    → bytes_told (told_as tell r) ≡ None
-told-none tell none (Ok x) = none x
-told-none tell none (Err code) = refl
 
 -- what tells no bytes tells none again
 none-again : {T : Type 0} (tell : T → Told) → ((x : T) → bytes_told (tell x) ≡ None)
@@ -139,6 +149,10 @@ heap-again (heap.Where name) r = none-again {T = ℕ} Count (λ x. refl) _ _
 pub shown-again : (blocks : Blocks) (c : Call) (r : Running)
     → bytes_told (once [] c (once blocks c r).after).told ≡ bytes_told (once blocks c r).told
 shown-again blocks (call.Heap c) r = heap-again c r
+shown-again blocks (call.Resource c) r =
+    found-shows-none (resource_asked c (once blocks (call.Resource c) r).after.names)
+    (managers_of (once blocks (call.Resource c) r).after)
+    ∙ sym (found-shows-none (resource_asked c r.names) (managers_of r))
 shown-again blocks (call.Control (control.SetGrowZone name)) r = refl
 shown-again blocks (call.Control control.WaitNextEvent) r = refl
 shown-again blocks (call.Control control.ExitToShell) r = refl

@@ -4,14 +4,15 @@ use Rattle.mac_words.specs.declared.code.OsErr.{OsErr}
 use Rattle.mac_words.specs.declared.call.Call.{Call}
 use Rattle.mac_words.specs.declared.call.Call.TheVariants as call
 use Rattle.mac_words.specs.declared.call.HeapCall.TheVariants as heap
-use Rattle.heap_calls.specs.Asked.{Told, Refused}
+use Rattle.mac_words.specs.declared.resource_call.ResourceCall.TheVariants as resource
+use Rattle.mac_words.specs.Told.{Told, Refused}
 use Rattle.heap_calls.specs.Busy.{holds}
 use Rattle.script_text.specs.declared.script.Line.{Line}
 use Rattle.desk.specs.Names.{Bindings}
-use Rattle.desk.specs.Trying.{Running, Blocks, Tried, once}
+use Rattle.desk.specs.Trying.{Running, Blocks, Tried, once, code_told}
 use Rattle.desk.specs.Step.{Course, marked_for, grown, grown_for, asked_for, names_given, number_given, ended}
 use Rattle.desk.specs.Step.{stands, Round, Ends, Again, made_room, after_asking, round, continued, step_in, step}
-use Rattle.desk.specs.Step.{joined, most_rounds}
+use Rattle.desk.specs.Step.{joined, kept_anew, most_rounds}
 use Rattle.desk.specs.Laws.{EachStep, RefusedBinds}
 use Rattle.desk.proofs.TryLaws.{once-names}
 
@@ -35,6 +36,7 @@ grown-names blocks (l ∷ script) r =
 marked_for-names : (busy : Bool) (c : Call) (reading : Option ℕ) (r : Running)
     → (marked_for busy c reading r).names ≡ r.names
 marked_for-names busy (call.Control c) reading r = refl
+marked_for-names busy (call.Resource c) reading r = refl
 marked_for-names busy (call.Heap c) reading r = refl
 
 for-names : (blocks : Blocks) (l : Line) (reading : Option ℕ) (r : Running)
@@ -54,7 +56,20 @@ names-kept (call.Heap (heap.NewHandle name size)) names = refl
 names-kept (call.Heap (heap.NewEmptyHandle name)) names = refl
 names-kept (call.Heap (heap.HandToHand name from)) names = refl
 names-kept (call.Heap (heap.NewPtr name size)) names = refl
-names-kept c names = refl
+names-kept (call.Heap c) names = refl
+names-kept (call.Resource (resource.GetResource name ty id)) names = refl
+names-kept (call.Resource (resource.Get1Resource name ty id)) names = refl
+names-kept (call.Resource (resource.GetNamedResource name ty text)) names = refl
+names-kept (call.Resource (resource.Get1NamedResource name ty text)) names = refl
+names-kept (call.Resource (resource.Get1IndResource name ty index)) names = refl
+names-kept (call.Resource c) names = refl
+names-kept (call.Control c) names = refl
+
+-- nor where a code is kept anew
+kept-names : (c : Call) (code : OsErr) (r : Running) → (kept_anew c code r).names ≡ r.names
+kept-names (call.Heap c) code r = refl
+kept-names (call.Resource c) code r = refl
+kept-names (call.Control c) code r = refl
 
 -- a call that is refused binds nothing
 abbrev Binds : Bindings → Course → Type 0
@@ -76,7 +91,7 @@ round-binds blocks l r = by_want t.wants
     by_room : (rose : Bool)
         → RoundBinds r.names (cond rose (Again came) (Ends (joined came (stands l t came.after))))
     by_room true = asked-names blocks l r
-    by_room false = λ code tells. asked-names blocks l r
+    by_room false = λ code tells. kept-names l.call (code_told t.told) came.after ∙ asked-names blocks l r
 
     by_want : (wants : Bool) → RoundBinds r.names (cond wants (after_asking l t came) (Ends (ended l r t)))
     by_want true = by_room (made_room t came)

@@ -1,8 +1,9 @@
 use Rattle.std.proofs.Common.{◌≡◌, ◌≤◌, ◌<◌, ◌^◌, ◌+◌, ◌⊎◌, ℕ, length, Bool, true, false, List, [], Some, inl, inr}
-use Rattle.std.proofs.Common.{refl, sym}
+use Rattle.std.proofs.Common.{refl, sym, ap, subst}
 use Rattle.std.proofs.Common.{◌∙◌, arith}
 use Rattle.mac_words.specs.declared.call.Call.{Call}
 use Rattle.mac_words.specs.declared.call.Call.TheVariants as call
+use Rattle.mac_words.specs.declared.code.OsErr.{OsErr}
 use Rattle.mac_words.specs.declared.call.ControlCall.{ControlCall}
 use Rattle.mac_words.specs.declared.call.ControlCall.TheVariants as control
 use Rattle.block_store.specs.Block.{count, is_masters, is_relocatable}
@@ -12,7 +13,8 @@ use Rattle.heap_calls.specs.Locked.{locked_place}
 use Rattle.heap_calls.specs.Standing.{pointer_place}
 use Rattle.heap_calls.specs.Emptying.{may_be_emptied}
 use Rattle.heap_calls.specs.State.{Memory, fresh_memory}
-use Rattle.heap_calls.specs.Asked.{Asked, Told, Done, Refused}
+use Rattle.mac_words.specs.Told.{Told, Done, Given, Fetched, Number, Numbers, Code, Bytes, Kind, Info, Refused}
+use Rattle.heap_calls.specs.Asked.{Asked}
 use Rattle.heap_calls.specs.Asked as asks
 use Rattle.heap_calls.specs.Busy.{served}
 use Rattle.heap_calls.proofs.Promises.Knowing.{Known, holds-known, known-fresh}
@@ -21,11 +23,18 @@ use Rattle.heap_calls.proofs.Promises.FewSearches.{unlooked}
 use Rattle.heap_calls.proofs.Tries.Gating.{served-known, served-shows, served-locked, served-fixed, served-purgeable}
 use Rattle.heap_calls.proofs.Tries.Gating.{served_looks, served-refused, served-busy}
 use Rattle.heap_calls.proofs.Tries.Keeping.{served_masters_no_fewer}
+use Rattle.res_calls.specs.Fetch.{Managers, Reads}
+use Rattle.res_calls.specs.Asked.{ResourceAsked}
+use Rattle.res_calls.specs.Asked as finds
+use Rattle.script_text.specs.Script.{block_of}
 use Rattle.script_text.specs.declared.script.Line.{Line}
-use Rattle.desk.specs.Trying.{Running, Blocks, once, asked, nowhere}
-use Rattle.desk.specs.Step.{Deed, Ask, Steer, deed_of, event_of}
-use Rattle.desk.specs.Laws.{put_deed, put_event, ShowsPut, HoldsPut, frees, drops, lets, KeepsLocked, KeepsFixed}
-use Rattle.desk.specs.Laws.{EmptiesPurgeable, LooksFew, heap_kept, RefusedLeaves}
+use Rattle.heap_calls.specs.Path.{put_reads}
+use Rattle.desk.specs.Trying.{Running, Blocks, once, asked, resource_asked, managers_of, nowhere}
+use Rattle.desk.specs.Step.{Deed, Ask, Find, Steer, deed_of, event_of}
+use Rattle.desk.specs.Laws.{put_found, put_deed, put_event, ShowsPut, HoldsPut, frees, drops, lets, opens, Kept}
+use Rattle.desk.specs.Laws.{KeepsLocked, KeepsFixed, EmptiesPurgeable, LooksFew, RefusedLeaves, keeps_resources}
+use Rattle.desk.specs.Laws.{KeepsResources, KeepsForks}
+use Rattle.res_calls.proofs.Walks.Laws as laws
 
 -- The laws of one try, by any application that a run reaches.
 
@@ -39,32 +48,45 @@ pub record Sound (m : Memory) (bytes : ℕ → List ℕ) : Type 0 where
 pub sound-fresh : (n : ℕ) → Sound (fresh_memory n nowhere) (λ h. [])
 sound-fresh n = record { known = known-fresh n; masters = omega arith; fits = omega arith }
 
--- what holds of each call of the heap's table, and of one that leaves the heap, holds of each try
-pub of-try : (Q : Deed → Told → Memory → Type 0) (blocks : Blocks) (c : Call) (r : Running)
-    → ((a : Asked) → Q (Ask a) (served a r.memory).0 (served a r.memory).1)
-    → ((k : ControlCall) → Q (Steer k) Done r.memory)
-    → Q (deed_of c r.names) (once blocks c r).told (once blocks c r).after.memory
-of-try Q blocks (call.Heap c) r asks steers = asks (asked c r.names)
-of-try Q blocks (call.Control (control.SetGrowZone name)) r asks steers = steers (control.SetGrowZone name)
-of-try Q blocks (call.Control control.WaitNextEvent) r asks steers = steers control.WaitNextEvent
-of-try Q blocks (call.Control control.ExitToShell) r asks steers = steers control.ExitToShell
+-- an application after a call of the heap's table, or of the Resource Manager's
+abbrev pub asked_after : Asked → Running → Running
+asked_after a r = record r { memory = (served a r.memory).1 }
+
+abbrev pub found_after : ResourceAsked → Running → Running
+found_after a r = record r {
+  memory = (finds.served a (managers_of r)).after.memory;
+  resources = (finds.served a (managers_of r)).after.resources;
+}
+
+-- what holds of each call of the heap's table, of each of the Resource Manager's, and of one that leaves both, holds of
+-- each try
+pub of-try : (Q : Deed → Told → Reads → Running → Type 0) (blocks : Blocks) (c : Call) (r : Running)
+    → ((a : Asked) → Q (Ask a) (served a r.memory).0 [] (asked_after a r))
+    → ((a : ResourceAsked) → Q (Find a) (finds.served a (managers_of r)).told (finds.served a (managers_of r)).reads
+    (found_after a r))
+    → ((k : ControlCall) (grow : List Line) → Q (Steer k) Done [] (record r { grow = grow }))
+    → Q (deed_of c r.names) (once blocks c r).told (once blocks c r).reads (once blocks c r).after
+of-try Q blocks (call.Heap c) r asks finds steers = asks (asked c r.names)
+of-try Q blocks (call.Resource c) r asks finds steers = finds (resource_asked c r.names)
+of-try Q blocks (call.Control (control.SetGrowZone name)) r asks finds steers =
+    steers (control.SetGrowZone name) (block_of name.0.items blocks)
+of-try Q blocks (call.Control control.WaitNextEvent) r asks finds steers = steers control.WaitNextEvent r.grow
+of-try Q blocks (call.Control control.ExitToShell) r asks finds steers = steers control.ExitToShell r.grow
 
 -- a try binds no name
 pub once-names : (blocks : Blocks) (c : Call) (r : Running) → (once blocks c r).after.names ≡ r.names
-once-names blocks (call.Heap c) r = refl
-once-names blocks (call.Control (control.SetGrowZone name)) r = refl
-once-names blocks (call.Control control.WaitNextEvent) r = refl
-once-names blocks (call.Control control.ExitToShell) r = refl
+once-names blocks c r = of-try (λ d told reads after. after.names ≡ r.names) blocks c r
+    (λ a. refl) (λ a. refl) (λ k grow. refl)
 
 -- and leaves which numbers are busy
 pub once-busy : (blocks : Blocks) (c : Call) (r : Running)
     → (once blocks c r).after.memory.log.busy ≡ r.memory.log.busy
-once-busy blocks c r = of-try (λ d told m. m.log.busy ≡ r.memory.log.busy) blocks c r
-    (λ a. served-busy a r.memory) (λ k. refl)
+once-busy blocks c r = of-try (λ d told reads after. after.memory.log.busy ≡ r.memory.log.busy) blocks c r
+    (λ a. served-busy a r.memory) (λ a. laws.served-busy a (managers_of r)) (λ k grow. refl)
 
 -- what is known is kept by each call of the heap's table
 served-sound : (a : Asked) (m : Memory) (bytes : ℕ → List ℕ) → Sound m bytes
-    → Sound (served a m).1 (put_deed (Ask a) (served a m).0 bytes)
+    → Sound (served a m).1 (put_deed (Ask a) (served a m).0 [] bytes)
 served-sound a m bytes sound =
     let few = served_looks a m sound.masters sound.fits in
     let count = few.2 in
@@ -72,34 +94,70 @@ served-sound a m bytes sound =
     let some = sound.masters in
     record { known = served-known a m bytes sound.known; masters = omega arith; fits = omega arith }
 
+-- where a call that was refused read nothing, what was read counts
+found-put : (told : Told) (reads : Reads) (bytes : ℕ → List ℕ)
+    → ((code : OsErr) → told ≡ Refused code → reads ≡ []) → put_found told reads bytes ≡ put_reads reads bytes
+found-put (Refused code) reads bytes none = ap (λ (x : Reads). put_reads x bytes) (sym (none code refl))
+found-put Done reads bytes none = refl
+found-put (Given n) reads bytes none = refl
+found-put (Fetched handle read) reads bytes none = refl
+found-put (Number n) reads bytes none = refl
+found-put (Numbers one other) reads bytes none = refl
+found-put (Code code) reads bytes none = refl
+found-put (Bytes x) reads bytes none = refl
+found-put (Kind kind) reads bytes none = refl
+found-put (Info id kind name) reads bytes none = refl
+
+-- and by each of the Resource Manager's
+found-sound : (a : ResourceAsked) (s : Managers) (bytes : ℕ → List ℕ) → Sound s.memory bytes
+    → Sound (finds.served a s).after.memory (put_found (finds.served a s).told (finds.served a s).reads bytes)
+found-sound a s bytes sound =
+    let kept = laws.served-masters a s bytes sound.known in
+    let some = sound.masters in record {
+      known = subst (Known (finds.served a s).after.memory.heap)
+          (sym (found-put (finds.served a s).told (finds.served a s).reads bytes (laws.served-unread a s)))
+          (laws.served-known a s bytes sound.known);
+      masters = omega arith;
+      fits = laws.served-fits a s sound.masters sound.fits;
+    }
+
 -- and so by each try, with the bytes that it put
 pub once-sound : (blocks : Blocks) (c : Call) (r : Running) (bytes : ℕ → List ℕ) → Sound r.memory bytes
-    → Sound (once blocks c r).after.memory (put_deed (deed_of c r.names) (once blocks c r).told bytes)
-once-sound blocks c r bytes sound = of-try (λ d told m. Sound m (put_deed d told bytes)) blocks c r
-    (λ a. served-sound a r.memory bytes sound) (λ k. sound)
+    → Sound (once blocks c r).after.memory
+    (put_deed (deed_of c r.names) (once blocks c r).told (once blocks c r).reads bytes)
+once-sound blocks c r bytes sound = of-try
+    (λ d told reads after. Sound after.memory (put_deed d told reads bytes)) blocks c r
+    (λ a. served-sound a r.memory bytes sound) (λ a. found-sound a (managers_of r) bytes sound) (λ k grow. sound)
 
 -- bytes that a try shows are those last put
 pub once-shows : (blocks : Blocks) (l : Line) (r : Running) (bytes : ℕ → List ℕ) → Sound r.memory bytes
     → ShowsPut bytes (event_of l r (once blocks l.call r))
 once-shows blocks l r bytes sound = of-try
-    (λ d told m. (h : ℕ) (shown : List ℕ) → (d ≡ Ask (asks.Show (Some h))) ⊎ (d ≡ Ask (asks.ShowPtr (Some h)))
-    → told ≡ asks.Bytes shown → shown ≡ bytes h) blocks l.call r shows none
+    (λ d told reads after. (h : ℕ) (shown : List ℕ)
+    → (d ≡ Ask (asks.Show (Some h))) ⊎ (d ≡ Ask (asks.ShowPtr (Some h)))
+    → told ≡ Bytes shown → shown ≡ bytes h) blocks l.call r shows found none
   where
     same : (a b : Asked) → Ask a ≡ Ask b → a ≡ b
     same a b e = cc
 
     shows : (a : Asked) (h : ℕ) (shown : List ℕ)
         → (Ask a ≡ Ask (asks.Show (Some h))) ⊎ (Ask a ≡ Ask (asks.ShowPtr (Some h)))
-        → (served a r.memory).0 ≡ asks.Bytes shown → shown ≡ bytes h
+        → (served a r.memory).0 ≡ Bytes shown → shown ≡ bytes h
     shows a h shown (inl is) tells = served-shows a r.memory bytes sound.known h shown
         (inl (same a (asks.Show (Some h)) is)) tells
     shows a h shown (inr is) tells = served-shows a r.memory bytes sound.known h shown
         (inr (same a (asks.ShowPtr (Some h)) is)) tells
 
-    none : (k : ControlCall) (h : ℕ) (shown : List ℕ)
+    found : (a : ResourceAsked) (h : ℕ) (shown : List ℕ)
+        → (Find a ≡ Ask (asks.Show (Some h))) ⊎ (Find a ≡ Ask (asks.ShowPtr (Some h)))
+        → (finds.served a (managers_of r)).told ≡ Bytes shown → shown ≡ bytes h
+    found a h shown (inl is) tells = cc
+    found a h shown (inr is) tells = cc
+
+    none : (k : ControlCall) (grow : List Line) (h : ℕ) (shown : List ℕ)
         → (Steer k ≡ Ask (asks.Show (Some h))) ⊎ (Steer k ≡ Ask (asks.ShowPtr (Some h)))
-        → Done ≡ asks.Bytes shown → shown ≡ bytes h
-    none k h shown is tells = cc
+        → Done ≡ Bytes shown → shown ≡ bytes h
+    none k grow h shown is tells = cc
 
 -- after a try each block holds the bytes last put into it
 pub once-holds : (blocks : Blocks) (l : Line) (r : Running) (bytes : ℕ → List ℕ) → Sound r.memory bytes
@@ -111,26 +169,30 @@ once-holds blocks l r bytes sound = holds-known (once blocks l.call r).after.mem
 pub once-locked : (blocks : Blocks) (l : Line) (r : Running) (bytes : ℕ → List ℕ) → Sound r.memory bytes
     → KeepsLocked bytes (event_of l r (once blocks l.call r))
 once-locked blocks l r bytes sound h place = of-try
-    (λ d told m. frees h d ≡ false → locked_place h r.memory.heap.zone ≡ Some place
-    → locked_place h m.heap.zone ≡ Some place) blocks l.call r
-    (λ a. served-locked a r.memory sound.known.once h place) (λ k keeps is. is)
+    (λ d told reads after. frees h d r ≡ false → locked_place h r.memory.heap.zone ≡ Some place
+    → locked_place h after.memory.heap.zone ≡ Some place) blocks l.call r
+    (λ a. served-locked a r.memory sound.known.once h place)
+    (λ a. laws.served-locked a (managers_of r) bytes sound.known h place) (λ k grow keeps is. is)
 
 -- and pointers' blocks
 pub once-fixed : (blocks : Blocks) (l : Line) (r : Running) (bytes : ℕ → List ℕ) → Sound r.memory bytes
     → KeepsFixed bytes (event_of l r (once blocks l.call r))
 once-fixed blocks l r bytes sound p place = of-try
-    (λ d told m. drops p d ≡ false → pointer_place p r.memory.heap.zone ≡ Some place
-    → pointer_place p m.heap.zone ≡ Some place) blocks l.call r
+    (λ d told reads after. drops p d ≡ false → pointer_place p r.memory.heap.zone ≡ Some place
+    → pointer_place p after.memory.heap.zone ≡ Some place) blocks l.call r
     (λ a. served-fixed a r.memory sound.known.once (next-new r.memory.heap bytes sound.known) p place)
-    (λ k keeps is. is)
+    (λ a keeps. laws.served-fixed a (managers_of r) bytes sound.known p place) (λ k grow keeps is. is)
 
 -- and empties only blocks that may be emptied
 pub once-purgeable : (blocks : Blocks) (l : Line) (r : Running) (bytes : ℕ → List ℕ) → Sound r.memory bytes
     → EmptiesPurgeable bytes (event_of l r (once blocks l.call r))
 once-purgeable blocks l r bytes sound h = of-try
-    (λ d told m. lets h d ≡ false → has (is_relocatable h) r.memory.heap.zone ≡ true
-    → has (is_relocatable h) m.heap.zone ≡ false → may_be_emptied h r.memory.heap.zone ≡ true) blocks l.call r
-    (λ a. served-purgeable a r.memory sound.known.once h) (λ k keeps before after. absurd-same before after)
+    (λ d told reads after. lets h d r ≡ false → has (is_relocatable h) r.memory.heap.zone ≡ true
+    → has (is_relocatable h) after.memory.heap.zone ≡ false
+    → may_be_emptied h r.memory.heap.zone ≡ true) blocks l.call r
+    (λ a. served-purgeable a r.memory sound.known.once h)
+    (λ a. laws.served-purgeable a (managers_of r) bytes sound.known h)
+    (λ k grow keeps before after. absurd-same before after)
   where
     absurd-same : {t : Bool} → t ≡ true → t ≡ false → may_be_emptied h r.memory.heap.zone ≡ true
     absurd-same before after = let f : true ≡ false = sym before ∙ after in cc
@@ -139,16 +201,32 @@ once-purgeable blocks l r bytes sound h = of-try
 pub once-looks : (blocks : Blocks) (l : Line) (r : Running) (bytes : ℕ → List ℕ) → Sound r.memory bytes
     → LooksFew bytes (event_of l r (once blocks l.call r))
 once-looks blocks l r bytes sound = of-try
-    (λ d told m. (n : ℕ) × (n ≤ length r.memory.heap.zone + 1)
-    × (m.log.searches ≡ counted r.memory.log.searches n)) blocks l.call r
-    (λ a. served_looks a r.memory sound.masters sound.fits)
-    (λ k. unlooked r.memory.heap.zone r.memory.log.searches sound.fits)
+    (λ d told reads after. opens d ≡ false → (n : ℕ) × (n ≤ length r.memory.heap.zone + 1)
+    × (after.memory.log.searches ≡ counted r.memory.log.searches n)) blocks l.call r
+    (λ a opens. served_looks a r.memory sound.masters sound.fits)
+    (λ a opens. laws.served-looks a (managers_of r) opens sound.masters sound.fits)
+    (λ k grow opens. unlooked r.memory.heap.zone r.memory.log.searches sound.fits)
 
 -- where it is refused it leaves the heap
 pub once-refused : (blocks : Blocks) (l : Line) (r : Running) (bytes : ℕ → List ℕ) → Sound r.memory bytes
     → RefusedLeaves bytes (event_of l r (once blocks l.call r))
 once-refused blocks l r bytes sound code tells = (
-  of-try (λ d told m. told ≡ Refused code → m.heap ≡ heap_kept d r.memory) blocks l.call r
-      (λ a is. (served-refused a r.memory code is).0) (λ k is. refl) tells,
+  of-try (λ d told reads after. told ≡ Refused code → Kept d code r after) blocks l.call r
+      (λ a is. ((served-refused a r.memory code is).0, refl))
+      (λ a. laws.served-refused a (managers_of r) code) (λ k grow is. (refl, refl)) tells,
   once-names blocks l.call r,
 )
+
+-- a call of the heap's table leaves the resources
+pub once-keeps-resources : (blocks : Blocks) (l : Line) (r : Running) (bytes : ℕ → List ℕ) → Sound r.memory bytes
+    → KeepsResources bytes (event_of l r (once blocks l.call r))
+once-keeps-resources blocks l r bytes sound = of-try
+    (λ d told reads after. keeps_resources d ≡ true → after.resources ≡ r.resources) blocks l.call r
+    (λ a is. refl) (λ a is. cc) (λ k grow is. refl)
+
+-- and each try the forks
+pub once-keeps-forks : (blocks : Blocks) (l : Line) (r : Running) (bytes : ℕ → List ℕ) → Sound r.memory bytes
+    → KeepsForks bytes (event_of l r (once blocks l.call r))
+once-keeps-forks blocks l r bytes sound = of-try
+    (λ d told reads after. after.resources.files ≡ r.resources.files) blocks l.call r
+    (λ a. refl) (λ a. laws.served-files a (managers_of r)) (λ k grow. refl)

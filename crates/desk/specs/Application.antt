@@ -1,6 +1,7 @@
 use Rattle.std.specs.Prelude.{ℕ, ℤ, pos, Option, Some, None, List, [], ◌∷◌, ◌++◌, map, if◌then◌else◌}
 use Rattle.std.specs.List.{flat_map}
-use Rattle.heap_calls.specs.Asked.{Told, Number, Numbers, Code, Bytes}
+use Rattle.byteorder.specs.Endian.{big_bytes}
+use Rattle.mac_words.specs.Told.{Told, Fetched, Number, Numbers, Code, Bytes, Kind, Info}
 use Rattle.script_text.specs.Call.{word_of}
 use Rattle.script_text.specs.Script.{Parts}
 use Rattle.script_text.specs.Transcript.{Shown as Value, bytes_shown, launch_line, reply_line, grow_line, end_line}
@@ -11,12 +12,25 @@ use Rattle.desk.specs.Step.{Shown, Course, run}
 
 -- The transcript of an application.
 
--- the numbers that are told; that of a new handle or pointer is the name's alone
+-- the numbers that are told; that of a handle or pointer is the name's alone
 abbrev pub numbers_told : Told → List ℤ
+numbers_told (Fetched handle read) = pos read ∷ []
 numbers_told (Number n) = pos n ∷ []
 numbers_told (Numbers one other) = pos one ∷ pos other ∷ []
 numbers_told (Code code) = code.0 ∷ []
+numbers_told (Info id kind name) = id ∷ []
 numbers_told told = []
+
+-- the bytes of the type that is told
+abbrev pub type_told : Told → Option (List ℕ)
+type_told (Kind kind) = Some (big_bytes 4 kind)
+type_told (Info id kind name) = Some (big_bytes 4 kind)
+type_told told = None
+
+-- the bytes of the name that is told
+abbrev pub name_told : Told → Option (List ℕ)
+name_told (Info id kind name) = Some name
+name_told told = None
 
 -- the bytes that are told
 abbrev pub bytes_told : Told → Option (List ℕ)
@@ -25,7 +39,8 @@ bytes_told told = None
 
 -- the values of a transcript line
 abbrev pub values_told : Told → List Value
-values_told told = map shows.Number (numbers_told told) ++ bytes_shown (bytes_told told)
+values_told told = map shows.Number (numbers_told told) ++ bytes_shown (type_told told) ++ bytes_shown (name_told told)
+    ++ bytes_shown (bytes_told told)
 
 -- the transcript line of what a call of the script told, or one of its grow-zone script
 abbrev pub told_line : ℕ → Word → Told → List ℕ

@@ -3,8 +3,9 @@ use Rattle.mac_words.specs.declared.code.OsErr.{OsErr}
 use Rattle.block_store.specs.Block.{is_relocatable}
 use Rattle.block_store.specs.Run.{has}
 use Rattle.block_store.specs.Rest.{counted}
-use Rattle.heap_calls.specs.State.{State, Memory}
-use Rattle.heap_calls.specs.Asked.{Told, Show, ShowPtr, Bytes, Refused}
+use Rattle.heap_calls.specs.State.{State}
+use Rattle.mac_words.specs.Told.{Told, Bytes, Refused}
+use Rattle.heap_calls.specs.Asked.{Show, ShowPtr}
 use Rattle.heap_calls.specs.LastPut.{Holds, put_by}
 use Rattle.heap_calls.specs.Locked.{locked_place, releases}
 use Rattle.heap_calls.specs.Standing.{pointer_place, disposes}
@@ -12,18 +13,29 @@ use Rattle.heap_calls.specs.Emptying.{may_be_emptied, lets_go}
 use Rattle.heap_calls.specs.Refused.{refused_zone}
 use Rattle.heap_calls.specs.Busy.{idle}
 use Rattle.script_text.specs.declared.script.Line.{Line}
-use Rattle.desk.specs.Trying.{Running, Blocks}
-use Rattle.desk.specs.Step.{Deed, Ask, Steer, Event, step, step_by_rule}
+use Rattle.heap_calls.specs.Path.{put_reads}
+use Rattle.heap_calls.specs.Answer.{nothing}
+use Rattle.heap_calls.specs.Refused.{slotted_zone}
+use Rattle.res_calls.specs.Fetch.{Reads}
+use Rattle.res_calls.specs.Disposing.{disposes_of, opens_file}
+use Rattle.desk.specs.Trying.{Running, Blocks, managers_of}
+use Rattle.desk.specs.Step.{Deed, Ask, Find, Steer, Event, step, step_by_rule}
 
 -- What holds of each try of a run, the refused ones and those of a grow-zone script's lines too.
 
+-- what was read counts where the call wasn't refused
+abbrev pub put_found : Told → Reads → (ℕ → List ℕ) → ℕ → List ℕ
+put_found (Refused code) reads bytes = bytes
+put_found told reads bytes = put_reads reads bytes
+
 -- the bytes last put into each handle and pointer, after one try more
-abbrev pub put_deed : Deed → Told → (ℕ → List ℕ) → ℕ → List ℕ
-put_deed (Ask asked) told bytes = put_by asked told bytes
-put_deed (Steer control) told bytes = bytes
+abbrev pub put_deed : Deed → Told → Reads → (ℕ → List ℕ) → ℕ → List ℕ
+put_deed (Ask asked) told reads bytes = put_by asked told bytes
+put_deed (Find asked) told reads bytes = put_found told reads bytes
+put_deed (Steer control) told reads bytes = bytes
 
 abbrev pub put_event : Event → (ℕ → List ℕ) → ℕ → List ℕ
-put_event e bytes = put_deed e.deed e.told bytes
+put_event e bytes = put_deed e.deed e.told e.reads bytes
 
 -- the bytes last put by the tries of a history, from those before it
 abbrev pub put_events : List Event → (ℕ → List ℕ) → ℕ → List ℕ
@@ -51,25 +63,28 @@ abbrev pub HoldsPut : (ℕ → List ℕ) → Event → Type 0
 HoldsPut bytes e = Holds e.after.memory.heap (put_event e bytes)
 
 -- a call that disposes of a handle or unlocks it
-abbrev pub frees : ℕ → Deed → Bool
-frees h (Ask asked) = releases h asked
-frees h (Steer control) = false
+abbrev pub frees : ℕ → Deed → Running → Bool
+frees h (Ask asked) r = releases h asked
+frees h (Find asked) r = disposes_of h asked (managers_of r)
+frees h (Steer control) r = false
 
 -- a call that disposes of a pointer
 abbrev pub drops : ℕ → Deed → Bool
 drops p (Ask asked) = disposes p asked
+drops p (Find asked) = false
 drops p (Steer control) = false
 
 -- a call that empties a handle or disposes of it
-abbrev pub lets : ℕ → Deed → Bool
-lets h (Ask asked) = lets_go h asked
-lets h (Steer control) = false
+abbrev pub lets : ℕ → Deed → Running → Bool
+lets h (Ask asked) r = lets_go h asked
+lets h (Find asked) r = disposes_of h asked (managers_of r)
+lets h (Steer control) r = false
 
 -- a block that is locked before a try is locked after it, at the same distance from the zone's bottom, unless the call
 -- disposes of its handle or unlocks it
 abbrev pub KeepsLocked : (ℕ → List ℕ) → Event → Type 0
 KeepsLocked bytes e =
-    (h place : ℕ) → frees h e.deed ≡ false → locked_place h e.before.memory.heap.zone ≡ Some place
+    (h place : ℕ) → frees h e.deed e.before ≡ false → locked_place h e.before.memory.heap.zone ≡ Some place
     → locked_place h e.after.memory.heap.zone ≡ Some place
 
 -- a pointer's block is after a try where it was, unless the call disposes of it
@@ -81,25 +96,51 @@ KeepsFixed bytes e =
 -- a handle that has a block before a try and none after it had one that might be emptied, unless the call let it go
 abbrev pub EmptiesPurgeable : (ℕ → List ℕ) → Event → Type 0
 EmptiesPurgeable bytes e =
-    (h : ℕ) → lets h e.deed ≡ false → has (is_relocatable h) e.before.memory.heap.zone ≡ true
+    (h : ℕ) → lets h e.deed e.before ≡ false → has (is_relocatable h) e.before.memory.heap.zone ≡ true
     → has (is_relocatable h) e.after.memory.heap.zone ≡ false → may_be_emptied h e.before.memory.heap.zone ≡ true
 
--- a try looks for room at most once more than there are blocks at its start, by the heap's own count
+-- an opening may make as many blocks as its file has resources to be read at once
+abbrev pub opens : Deed → Bool
+opens (Ask asked) = false
+opens (Find asked) = opens_file asked
+opens (Steer control) = false
+
+-- a try, but for an opening, looks for room at most once more than there are blocks at its start, by the heap's own
+-- count
 abbrev pub LooksFew : (ℕ → List ℕ) → Event → Type 0
 LooksFew bytes e =
-    (n : ℕ) × (n ≤ length e.before.memory.heap.zone + 1)
+    opens e.deed ≡ false → (n : ℕ) × (n ≤ length e.before.memory.heap.zone + 1)
     × (e.after.memory.log.searches ≡ counted e.before.memory.log.searches n)
 
--- the heap after a try that was refused: as it was, but for the zone that a refused call of the heap's table leaves
-abbrev pub heap_kept : Deed → Memory → State
-heap_kept (Ask asked) m = record m.heap { zone = refused_zone asked m }
-heap_kept (Steer control) m = m.heap
+-- what a try that was refused leaves: the heap as it was, but for the zone that a refused call of the heap's table
+-- leaves; a call of the Resource Manager leaves its code, and a block of slots that was made for a new handle
+abbrev pub Kept : Deed → OsErr → Running → Running → Type 0
+Kept (Ask asked) code r after =
+    (after.memory.heap ≡ record r.memory.heap { zone = refused_zone asked r.memory })
+    × (after.resources ≡ r.resources)
+Kept (Find asked) code r after =
+    ((after.memory.heap ≡ r.memory.heap)
+    ⊎ (after.memory.heap ≡ record r.memory.heap { zone = slotted_zone nothing r.memory.heap }))
+    × (after.resources ≡ record r.resources { error = code })
+Kept (Steer control) code r after = (after.memory.heap ≡ r.memory.heap) × (after.resources ≡ r.resources)
 
--- a try that is refused leaves the heap so, and each name bound as it was
+-- a try that is refused leaves that, and each name bound as it was
 abbrev pub RefusedLeaves : (ℕ → List ℕ) → Event → Type 0
 RefusedLeaves bytes e =
-    (code : OsErr) → e.told ≡ Refused code
-    → (e.after.memory.heap ≡ heap_kept e.deed e.before.memory) × (e.after.names ≡ e.before.names)
+    (code : OsErr) → e.told ≡ Refused code → Kept e.deed code e.before e.after × (e.after.names ≡ e.before.names)
+
+-- a call of the heap's table, whatever it empties, changes nothing of the resources
+abbrev pub keeps_resources : Deed → Bool
+keeps_resources (Ask asked) = true
+keeps_resources (Find asked) = false
+keeps_resources (Steer control) = true
+
+abbrev pub KeepsResources : (ℕ → List ℕ) → Event → Type 0
+KeepsResources bytes e = keeps_resources e.deed ≡ true → e.after.resources ≡ e.before.resources
+
+-- no try changes a file's fork
+abbrev pub KeepsForks : (ℕ → List ℕ) → Event → Type 0
+KeepsForks bytes e = e.after.resources.files ≡ e.before.resources.files
 
 -- this holds of each step of a run, to the last line or to the end of the application
 abbrev pub EachStep : (Line → Running → Type 0) → Blocks → List Line → Running → Type 0

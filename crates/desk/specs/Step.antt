@@ -6,15 +6,19 @@ use Rattle.mac_words.specs.declared.call.Call.{Call}
 use Rattle.mac_words.specs.declared.call.Call.TheVariants as call
 use Rattle.mac_words.specs.declared.call.ControlCall.{ControlCall}
 use Rattle.mac_words.specs.declared.call.HeapCall.TheVariants as heap
+use Rattle.mac_words.specs.declared.resource_call.ResourceCall.TheVariants as resource
 use Rattle.block_store.specs.Block.{sizes}
 use Rattle.heap_calls.specs.State.{Memory}
-use Rattle.heap_calls.specs.Asked.{Asked, Told, Given, Refused}
+use Rattle.mac_words.specs.Told.{Told, Given, Fetched, Refused}
+use Rattle.heap_calls.specs.Asked.{Asked}
 use Rattle.heap_calls.specs.Busy.{busied, eased, with_busy, keep_code}
 use Rattle.heap_calls.specs.Naming.{first_named, second_named}
 use Rattle.heap_calls.specs.Staying.{ease}
+use Rattle.res_calls.specs.Fetch.{Reads}
+use Rattle.res_calls.specs.Asked.{ResourceAsked, named}
 use Rattle.script_text.specs.declared.script.Line.{Line}
 use Rattle.desk.specs.Names.{Bindings, bind}
-use Rattle.desk.specs.Trying.{Running, Blocks, Tried, once, asked, code_told}
+use Rattle.desk.specs.Trying.{Running, Blocks, Tried, once, asked, resource_asked, code_told}
 
 -- A step of an application: its next call is tried. Where that finds no room, the lines of its grow-zone script are
 -- run, while what the call names is busy; where they made room, the whole call is tried again, else its answer stands.
@@ -23,16 +27,19 @@ use Rattle.desk.specs.Trying.{Running, Blocks, Tried, once, asked, code_told}
 -- a call with the numbers that its names are bound to
 pub data Deed : Type 0 where
   Ask : (asked : Asked) → Deed
+  Find : (asked : ResourceAsked) → Deed
   Steer : (control : ControlCall) → Deed
 
 abbrev pub deed_of : Call → Bindings → Deed
 deed_of (call.Heap c) names = Ask (asked c names)
+deed_of (call.Resource c) names = Find (resource_asked c names)
 deed_of (call.Control c) names = Steer c
 
--- a try, as the history has it: what was called, what it told, and the application before and after it
+-- a try, as the history has it: what was called, what it told, what it read, and the application before and after it
 pub record Event : Type 0 where
   pub deed : Deed
   pub told : Told
+  pub reads : Reads
   pub before : Running
   pub after : Running
 
@@ -67,7 +74,13 @@ joined c d = record {
 
 -- a try as it is kept in the history
 abbrev pub event_of : Line → Running → Tried → Event
-event_of l r t = record { deed = deed_of l.call r.names; told = t.told; before = r; after = t.after }
+event_of l r t = record {
+  deed = deed_of l.call r.names;
+  told = t.told;
+  reads = t.reads;
+  before = r;
+  after = t.after;
+}
 
 -- a number is busy from now on, or no more; an unbound name has none
 abbrev pub marked : Bool → Option ℕ → Memory → Memory
@@ -78,6 +91,9 @@ marked false (Some n) m = with_busy (eased n m.log.busy) m
 -- the same for all that a try names, and for the emptied handle that it would have read again
 abbrev pub marked_for : Bool → Call → Option ℕ → Running → Running
 marked_for busy (call.Control c) reading r = r
+marked_for busy (call.Resource c) reading r = record r {
+  memory = marked busy reading (marked busy (named (resource_asked c r.names)) r.memory);
+}
 marked_for busy (call.Heap c) reading r = record r {
   memory = marked busy reading
       (marked busy (second_named (asked c r.names)) (marked busy (first_named (asked c r.names)) r.memory));
@@ -113,12 +129,13 @@ asked_for blocks l r t = joined tried (grown_for blocks l t.reading t.after)
     tried : Course
     tried = record { events = event_of l r t ∷ []; lines = []; told = t.told; over = t.over; after = t.after }
 
--- the new number that is told
+-- the number that is told for a name to be bound to
 abbrev pub number_given : Told → Option ℕ
 number_given (Given n) = Some n
+number_given (Fetched handle read) = Some handle
 number_given told = None
 
--- the names where a call that binds one ends: the name is bound if a new number was given
+-- the names where a call that binds one ends: the name is bound if a number was given
 abbrev pub bound_anew : List ℕ → Option ℕ → Bindings → Bindings
 bound_anew name None names = names
 bound_anew name (Some n) names = bind name n names
@@ -129,12 +146,21 @@ names_given (call.Heap (heap.NewHandle name size)) given names = bound_anew name
 names_given (call.Heap (heap.NewEmptyHandle name)) given names = bound_anew name.0.items given names
 names_given (call.Heap (heap.HandToHand name from)) given names = bound_anew name.0.items given names
 names_given (call.Heap (heap.NewPtr name size)) given names = bound_anew name.0.items given names
+names_given (call.Resource (resource.GetResource name ty id)) given names = bound_anew name.0.items given names
+names_given (call.Resource (resource.Get1Resource name ty id)) given names = bound_anew name.0.items given names
+names_given (call.Resource (resource.GetNamedResource name ty text)) given names =
+    bound_anew name.0.items given names
+names_given (call.Resource (resource.Get1NamedResource name ty text)) given names =
+    bound_anew name.0.items given names
+names_given (call.Resource (resource.Get1IndResource name ty index)) given names =
+    bound_anew name.0.items given names
 names_given c given names = names
 
 -- the code of a call whose answer stands is kept anew, behind those of the grow-zone script's calls
-abbrev pub kept_anew : Call → OsErr → Memory → Memory
-kept_anew (call.Heap c) code m = keep_code code m
-kept_anew (call.Control c) code m = m
+abbrev pub kept_anew : Call → OsErr → Running → Running
+kept_anew (call.Heap c) code r = record r { memory = keep_code code r.memory }
+kept_anew (call.Resource c) code r = record r { resources = record r.resources { error = code } }
+kept_anew (call.Control c) code r = r
 
 -- a call that ends with a try: its line, and its name bound
 abbrev pub ended : Line → Running → Tried → Course
@@ -153,7 +179,7 @@ stands l t r = record {
   lines = record { grown = false; line = l; told = t.told } ∷ [];
   told = t.told;
   over = t.over;
-  after = record r { memory = kept_anew l.call (code_told t.told) r.memory };
+  after = kept_anew l.call (code_told t.told) r;
 }
 
 -- a try with what followed from it: the call ends with it, or is tried again

@@ -1,4 +1,4 @@
-use Rattle.std.specs.Prelude.{ℕ, Bool, true, false, Option, None, List, []}
+use Rattle.std.specs.Prelude.{ℕ, Bool, true, false, Option, None, List, [], ◌∷◌, codes, replicate}
 use Rattle.std.specs.Ordering.{int_eq}
 use Rattle.mac_words.specs.declared.code.OsErr.{OsErr}
 use Rattle.mac_words.specs.declared.code.TheConstants.OsErr.{NO_ERR, MEM_FULL}
@@ -8,22 +8,35 @@ use Rattle.mac_words.specs.declared.call.ControlCall.{ControlCall}
 use Rattle.mac_words.specs.declared.call.ControlCall.TheVariants as control
 use Rattle.mac_words.specs.declared.call.HeapCall.{HeapCall}
 use Rattle.mac_words.specs.declared.call.HeapCall.TheVariants as heap
+use Rattle.mac_words.specs.declared.resource_call.ResourceCall.{ResourceCall}
+use Rattle.mac_words.specs.declared.resource_call.ResourceCall.TheVariants as resource
+use Rattle.byteorder.specs.Endian.{big_number}
+use Rattle.mac_words.specs.declared.name.OsType.{OsType}
 use denote.RawPtr.{null_ptr}
 use Rattle.block_store.specs.Rest.{Site}
 use Rattle.heap_calls.specs.State.{Memory, fresh_memory}
-use Rattle.heap_calls.specs.Asked.{Asked, Told, Done, Given, Number, Numbers, Code, Bytes, Refused}
+use Rattle.mac_words.specs.Told.{Told, Done, Given, Fetched, Number, Numbers, Code, Bytes, Kind, Info, Refused}
+use Rattle.heap_calls.specs.Asked.{Asked}
 use Rattle.heap_calls.specs.Asked as asks
 use Rattle.heap_calls.specs.Busy.{served}
+use Rattle.fork_format.specs.Content.{Content}
+use Rattle.fork_format.specs.Canonical.{canon}
+use Rattle.res_map.specs.Map.{map_of}
+use Rattle.res_calls.specs.Files.{File, Resources, fresh_resources}
+use Rattle.res_calls.specs.Fetch.{Managers, Reads}
+use Rattle.res_calls.specs.Asked.{ResourceAsked, Served}
+use Rattle.res_calls.specs.Asked as finds
 use Rattle.script_text.specs.Script.{block_of}
 use Rattle.script_text.specs.declared.script.Line.{Line}
 use Rattle.desk.specs.Names.{Bindings, bound_to}
 
 -- One try of one call, by the application that makes it. Nothing is bound or written yet, and nothing is tried again.
 
--- a running application: its memory, what the names of its script are bound to, and the lines of its grow-zone script,
--- none where none is set
+-- a running application: its memory, its resources, what the names of its script are bound to, and the lines of its
+-- grow-zone script, none where none is set
 pub record Running : Type 0 where
   pub memory : Memory
+  pub resources : Resources
   pub names : Bindings
   pub grow : List Line
 
@@ -31,9 +44,30 @@ pub record Running : Type 0 where
 abbrev pub nowhere : Site
 nowhere = record { home = null_ptr; window = record { at = 0; len = 0 } }
 
--- an application in a fresh partition of n bytes, before its first step
+-- a fork with no resources
+abbrev pub no_content : Content
+no_content = record { area = replicate 240 0; attrs = 0; groups = [] }
+
+-- the files of an application that is a script alone: its fork, which has no resources
+abbrev pub own_files : List File
+own_files = record { name = codes "script"; fork = canon no_content; written = false } ∷ []
+
+-- its resources as it is launched: none, and none of the System's
+abbrev pub own_resources : Resources
+own_resources = fresh_resources own_files (map_of no_content) (map_of no_content)
+
+-- an application with such resources in a fresh partition of n bytes, before its first step
+abbrev pub launched_with : Resources → ℕ → Site → Running
+launched_with resources n site =
+    record { memory = fresh_memory n site; resources = resources; names = []; grow = [] }
+
+-- one that is a script alone
 abbrev pub launched : ℕ → Site → Running
-launched n site = record { memory = fresh_memory n site; names = []; grow = [] }
+launched n site = launched_with own_resources n site
+
+-- its heap, and the resources that have handles in it
+abbrev pub managers_of : Running → Managers
+managers_of r = record { memory = r.memory; resources = r.resources }
 
 -- the grow-zone scripts of a text, each with its name
 abbrev pub Blocks : Type 0
@@ -78,10 +112,40 @@ asked (heap.PutPtr name from bytes) names = asks.PutPtr (bound_to name.0.items n
 asked (heap.ShowPtr name) names = asks.ShowPtr (bound_to name.0.items names)
 asked (heap.Where name) names = asks.Where (bound_to name.0.items names)
 
--- what one try of a call came to: what it tells; the emptied handle that it would have read again; whether it is for
--- want of room; whether the application ends with it; and the application after it
+-- a call of the Resource Manager's table, with the number that its name is bound to
+abbrev pub type_number : OsType → ℕ
+type_number ty = big_number 4 ty.0
+
+abbrev pub resource_asked : ResourceCall → Bindings → ResourceAsked
+resource_asked (resource.OpenResFile name) names = finds.OpenResFile name.0.items
+resource_asked (resource.CloseResFile number) names = finds.CloseResFile number
+resource_asked (resource.UseResFile number) names = finds.UseResFile number
+resource_asked resource.CurResFile names = finds.CurResFile
+resource_asked (resource.HomeResFile name) names = finds.HomeResFile (bound_to name.0.items names)
+resource_asked (resource.GetResource name ty id) names = finds.GetResource (type_number ty) id
+resource_asked (resource.Get1Resource name ty id) names = finds.GetOneResource (type_number ty) id
+resource_asked (resource.GetNamedResource name ty text) names = finds.GetNamedResource (type_number ty) text.0.items
+resource_asked (resource.Get1NamedResource name ty text) names =
+    finds.GetOneNamedResource (type_number ty) text.0.items
+resource_asked resource.Count1Types names = finds.CountOneTypes
+resource_asked (resource.Get1IndType index) names = finds.GetOneIndType index
+resource_asked (resource.Count1Resources ty) names = finds.CountOneResources (type_number ty)
+resource_asked (resource.Get1IndResource name ty index) names = finds.GetOneIndResource (type_number ty) index
+resource_asked (resource.LoadResource name) names = finds.LoadResource (bound_to name.0.items names)
+resource_asked (resource.ReleaseResource name) names = finds.ReleaseResource (bound_to name.0.items names)
+resource_asked (resource.DetachResource name) names = finds.DetachResource (bound_to name.0.items names)
+resource_asked (resource.GetResInfo name) names = finds.GetResInfo (bound_to name.0.items names)
+resource_asked (resource.GetResAttrs name) names = finds.GetResAttrs (bound_to name.0.items names)
+resource_asked (resource.GetResourceSizeOnDisk name) names =
+    finds.GetResourceSizeOnDisk (bound_to name.0.items names)
+resource_asked (resource.SetResLoad on) names = finds.SetResLoad on
+resource_asked resource.ResError names = finds.ResError
+
+-- what one try of a call came to: what it tells; what it read; the emptied handle that it reads again, if there is room
+-- for that or not; whether it is for want of room; whether the application ends with it; and the application after it
 pub record Tried : Type 0 where
   pub told : Told
+  pub reads : Reads
   pub reading : Option ℕ
   pub wants : Bool
   pub over : Bool
@@ -91,10 +155,13 @@ pub record Tried : Type 0 where
 abbrev pub code_told : Told → OsErr
 code_told Done = NO_ERR
 code_told (Given n) = NO_ERR
+code_told (Fetched handle read) = NO_ERR
 code_told (Number n) = NO_ERR
 code_told (Numbers one other) = NO_ERR
 code_told (Code code) = NO_ERR
 code_told (Bytes bytes) = NO_ERR
+code_told (Kind kind) = NO_ERR
+code_told (Info id kind name) = NO_ERR
 code_told (Refused code) = code
 
 -- the code of a want of room
@@ -105,15 +172,27 @@ is_full code = int_eq code.0 MEM_FULL.0
 abbrev pub heap_tried : Told × Memory → Running → Tried
 heap_tried answer r = record {
   told = answer.0;
+  reads = [];
   reading = None;
   wants = is_full (code_told answer.0);
   over = false;
   after = record r { memory = answer.1 };
 }
 
+-- a try of a call of the Resource Manager's table
+abbrev pub resource_tried : Served → Running → Tried
+resource_tried s r = record {
+  told = s.told;
+  reads = s.reads;
+  reading = s.reading;
+  wants = is_full (code_told s.told);
+  over = false;
+  after = record r { memory = s.after.memory; resources = s.after.resources };
+}
+
 -- a call that is done without the heap
 abbrev pub steered : Bool → Running → Tried
-steered over r = record { told = Done; reading = None; wants = false; over = over; after = r }
+steered over r = record { told = Done; reads = []; reading = None; wants = false; over = over; after = r }
 
 -- a try of a call that says how the application is run
 abbrev pub control_tried : Blocks → ControlCall → Running → Tried
@@ -124,4 +203,5 @@ control_tried blocks control.ExitToShell r = steered true r
 -- one try of a call
 abbrev pub once : Blocks → Call → Running → Tried
 once blocks (call.Heap c) r = heap_tried (served (asked c r.names) r.memory) r
+once blocks (call.Resource c) r = resource_tried (finds.served (resource_asked c r.names) (managers_of r)) r
 once blocks (call.Control c) r = control_tried blocks c r

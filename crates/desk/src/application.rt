@@ -1,21 +1,25 @@
 //! A running application.
 
-ghost use Rattle.std.specs.Prelude.{◌≡◌};
+ghost use Rattle.std.specs.Prelude.{◌≡◌, IfOk};
 ghost use Rattle.block_store.specs.Block.{fresh, sizes};
-ghost use Rattle.desk.specs.Trying.{Running, launched};
+ghost use Rattle.desk.specs.Trying.{Running, launched, launched_with};
 
 use crate::names::Names;
+use crate::own::own_resources;
 use block_store::BlockStore;
 use heap_calls::Heap;
+use res_calls::Resources;
 use script_text::Line;
-use std::alloc::Global;
+use std::alloc::{AllocError, Global};
 use std::marker::Model;
 
-/// A running application: its heap, what the names of its script are bound to, and the lines of its grow-zone script,
-/// none where none is set.
+/// A running application: its heap, its resources, what the names of its script are bound to, and the lines of its
+/// grow-zone script, none where none is set.
 #[derive(Drop)]
 pub struct Application<'s, S: BlockStore> {
+    pub(crate) alloc: Global,
     pub(crate) heap: Heap<S>,
+    pub(crate) resources: Resources,
     pub(crate) names: Names,
     pub(crate) grow: &'s [Line],
 }
@@ -23,22 +27,42 @@ pub struct Application<'s, S: BlockStore> {
 impl<'s, S: BlockStore> Model for Application<'s, S> {
     ghost Value = { Running };
 
-    ghost view = { λ a. record { memory = a.heap; names = a.names; grow = a.grow.now } };
+    ghost view = { λ a. record { memory = a.heap; resources = a.resources; names = a.names; grow = a.grow.now } };
 }
 
 impl<'s, S: BlockStore> Application<'s, S> {
-    /// An application in the store of a fresh zone, its partition.
-    pub fn launch(alloc: Global, store: S) -> Self
+    /// An application with such resources in the store of a fresh zone, its partition.
+    pub fn launch_with(alloc: Global, store: S, resources: Resources) -> Self
         requires zone { S.zone store ≡ fresh (sizes (S.zone store)) }
         requires unused { (S.rest store).unused ≡ 64 }
         requires all { (S.rest store).all ≡ 64 }
         requires moves { (S.rest store).moves ≡ 0 }
-        ensures { result ≡ launched (sizes (S.zone store)) (S.rest store).window }
+        ensures { result ≡ launched_with resources (sizes (S.zone store)) (S.rest store).window }
     {
         Application {
+            alloc,
             heap: Heap::new(alloc, store),
+            resources,
             names: Names::new(alloc),
             grow: &[],
         }
+    }
+}
+
+impl<'s, S: BlockStore + Drop> Application<'s, S> {
+    /// An application that is a script alone, with no resources, in the store of a fresh zone, its partition.
+    ///
+    /// # Errors
+    ///
+    /// The host has no memory for its resource fork; the store is let go.
+    pub fn launch(alloc: Global, store: S) -> Result<Self, AllocError>
+        requires zone { S.zone store ≡ fresh (sizes (S.zone store)) }
+        requires unused { (S.rest store).unused ≡ 64 }
+        requires all { (S.rest store).all ≡ 64 }
+        requires moves { (S.rest store).moves ≡ 0 }
+        ensures { IfOk result (λ a. a ≡ launched (sizes (S.zone store)) (S.rest store).window) }
+    {
+        let resources = own_resources(alloc)?;
+        Ok(Application::launch_with(alloc, store, resources))
     }
 }

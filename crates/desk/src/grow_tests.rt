@@ -9,7 +9,7 @@ use std::process::Abort;
 use std::test::Fail;
 
 /// A text of these lines.
-fn text_of(alloc: Global, lines: &[&str]) -> Result<String, Fail> {
+pub fn text_of(alloc: Global, lines: &[&str]) -> Result<String, Fail> {
     let mut text = String::new(alloc);
     for line in lines {
         writeln!(text, "{line}")?;
@@ -18,7 +18,7 @@ fn text_of(alloc: Global, lines: &[&str]) -> Result<String, Fail> {
 }
 
 /// Runs a script of these lines in a partition of so many bytes: its transcript has those lines.
-fn leaves(
+pub fn leaves(
     rt: &impl Abort,
     alloc: Global,
     size: u32,

@@ -2,10 +2,11 @@
 
 ghost use Rattle.std.specs.Prelude.{◌≡◌};
 ghost use Rattle.heap_calls.specs.Naming.{first_named, second_named};
-ghost use Rattle.desk.specs.Trying.{asked};
+ghost use Rattle.res_calls.specs.Asked as finds;
+ghost use Rattle.desk.specs.Trying.{asked, resource_asked};
 
 use crate::names::Names;
-use mac_words::HeapCall;
+use mac_words::{HeapCall, ResourceCall};
 
 /// The handles and pointers that a call names, two at most; a name that it binds is none of them.
 pub fn named(call: &HeapCall, names: &Names) -> (Option<usize>, Option<usize>)
@@ -49,5 +50,34 @@ pub fn named(call: &HeapCall, names: &Names) -> (Option<usize>, Option<usize>)
         | HeapCall::ReserveMem(_)
         | HeapCall::MoreMasters
         | HeapCall::MemError => (None, None),
+    }
+}
+
+/// The resource's handle that a call names; a name that it binds is none.
+pub fn named_resource(call: &ResourceCall, names: &Names) -> Option<usize>
+    ensures { result ≡ finds.named (resource_asked call.now names.now) }
+{
+    match call {
+        ResourceCall::HomeResFile(name) => names.number(name),
+        ResourceCall::LoadResource(name) => names.number(name),
+        ResourceCall::ReleaseResource(name) => names.number(name),
+        ResourceCall::DetachResource(name) => names.number(name),
+        ResourceCall::GetResInfo(name) => names.number(name),
+        ResourceCall::GetResAttrs(name) => names.number(name),
+        ResourceCall::GetResourceSizeOnDisk(name) => names.number(name),
+        ResourceCall::OpenResFile(_)
+        | ResourceCall::CloseResFile(_)
+        | ResourceCall::UseResFile(_)
+        | ResourceCall::CurResFile
+        | ResourceCall::GetResource(..)
+        | ResourceCall::Get1Resource(..)
+        | ResourceCall::GetNamedResource(..)
+        | ResourceCall::Get1NamedResource(..)
+        | ResourceCall::Count1Types
+        | ResourceCall::Get1IndType(_)
+        | ResourceCall::Count1Resources(_)
+        | ResourceCall::Get1IndResource(..)
+        | ResourceCall::SetResLoad(_)
+        | ResourceCall::ResError => None,
     }
 }

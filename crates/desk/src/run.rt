@@ -4,7 +4,8 @@ ghost use Rattle.std.specs.Prelude.{◌≡◌, ◌%◌, ◌≤◌, [], IfOk};
 ghost use Rattle.desk.specs.Trying.{launched, nowhere};
 ghost use Rattle.desk.specs.Application.{transcript, run_alone};
 ghost use Rattle.desk.specs.Laws.{EachTry, ShowsPut, HoldsPut, KeepsLocked, KeepsFixed, EmptiesPurgeable, LooksFew};
-ghost use Rattle.desk.specs.Laws.{RefusedLeaves, RefusedBinds, GoesByRule, Linked, NothingBusy};
+ghost use Rattle.desk.specs.Laws.{RefusedLeaves, KeepsResources, KeepsForks, RefusedBinds, GoesByRule, Linked};
+ghost use Rattle.desk.specs.Laws.{NothingBusy};
 
 use crate::application::Application;
 use block_store::ListStore;
@@ -19,7 +20,7 @@ use std::alloc::{AllocError, Global};
 /// # Errors
 ///
 /// Where the host refuses memory there is no transcript.
-#[tactic(auto, using(crate::proofs::Runs::shows_put, crate::proofs::Runs::holds_put, crate::proofs::Runs::locked_stays, crate::proofs::Runs::fixed_stays, crate::proofs::Runs::only_purgeable_go, crate::proofs::Runs::looks_few, crate::proofs::Runs::refused_leave, crate::proofs::Runs::refused_bind, crate::proofs::Runs::goes_by_rule, crate::proofs::Runs::linked, crate::proofs::Runs::nothing_stays_busy))]
+#[tactic(auto, using(crate::proofs::Runs::shows_put, crate::proofs::Runs::holds_put, crate::proofs::Runs::locked_stays, crate::proofs::Runs::fixed_stays, crate::proofs::Runs::only_purgeable_go, crate::proofs::Runs::looks_few, crate::proofs::Runs::refused_leave, crate::proofs::Runs::resources_stay, crate::proofs::Runs::forks_stay, crate::proofs::Runs::refused_bind, crate::proofs::Runs::goes_by_rule, crate::proofs::Runs::linked, crate::proofs::Runs::nothing_stays_busy))]
 pub fn run_script(alloc: Global, size: u32, script: &Script) -> Result<Vec<u8>, AllocError>
     requires even { size % 16 ≡ 0 }
     requires low { 512 ≤ size }
@@ -50,11 +51,18 @@ pub fn run_script(alloc: Global, size: u32, script: &Script) -> Result<Vec<u8>, 
     // What a try empties was unlocked and purgeable, unless the call lets go of that handle.
     ensures purged { EachTry EmptiesPurgeable (λ _. []) (run_alone size script.now).events }
 
-    // A try looks for room at most once more than there are blocks at its start.
+    // A try, but for one of OpenResFile, looks for room at most once more than there are blocks at its start.
     ensures looks { EachTry LooksFew (λ _. []) (run_alone size script.now).events }
 
-    // A refused try leaves the heap as it was, but for the zone where the table says so, and each name bound as it was.
+    // A refused try leaves the heap and the resources as they were, but for the zone where the tables say so and for
+    // ResError's code, and each name bound as it was.
     ensures refused { EachTry RefusedLeaves (λ _. []) (run_alone size script.now).events }
+
+    // A call of the Memory Manager changes nothing of the resources, whatever it empties.
+    ensures resources { EachTry KeepsResources (λ _. []) (run_alone size script.now).events }
+
+    // No try changes a file's resource fork.
+    ensures forks { EachTry KeepsForks (λ _. []) (run_alone size script.now).events }
 
     // After each step no name is busy.
     ensures idle { NothingBusy script.now.blocks script.now.steps (launched size nowhere) }
@@ -63,7 +71,7 @@ pub fn run_script(alloc: Global, size: u32, script: &Script) -> Result<Vec<u8>, 
     ensures bound { RefusedBinds script.now.blocks script.now.steps (launched size nowhere) }
 {
     let store = ListStore::new(alloc, size)?;
-    let mut application = Application::launch(alloc, store);
+    let mut application = Application::launch(alloc, store)?;
     let mut text = Vec::new(alloc);
     write_launch(&mut text, size)?;
     application.run(script, &mut text)?;

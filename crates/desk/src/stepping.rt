@@ -9,10 +9,10 @@ ghost use Rattle.desk.specs.Application.{bytes_told, lines_told};
 ghost use Rattle.desk.specs.Replies.{Came, CameRound};
 
 use crate::application::Application;
-use crate::naming::named;
+use crate::naming::{named, named_resource};
 use crate::tried::Tried;
 use block_store::BlockStore;
-use mac_words::{Call, HeapCall};
+use mac_words::{Call, HeapCall, ResourceCall};
 use script_text::{Line, Script, Word, write_grow_reply, write_reply};
 use std::alloc::AllocError;
 
@@ -39,11 +39,20 @@ impl<'s, S: BlockStore> Application<'s, S> {
     fn mark(&mut self, busy: bool, call: &Call, reading: Option<usize>)
         ensures { self.new ≡ marked_for busy call.now reading self.old }
     {
-        let Call::Heap(call) = call else { return };
-        let (first, second) = named(call, &self.names);
-        self.mark_number(busy, first);
-        self.mark_number(busy, second);
-        self.mark_number(busy, reading);
+        match call {
+            Call::Heap(call) => {
+                let (first, second) = named(call, &self.names);
+                self.mark_number(busy, first);
+                self.mark_number(busy, second);
+                self.mark_number(busy, reading);
+            }
+            Call::Resource(call) => {
+                let handle = named_resource(call, &self.names);
+                self.mark_number(busy, handle);
+                self.mark_number(busy, reading);
+            }
+            Call::Control(_) => {}
+        }
     }
 
     /// Takes the lines of a grow-zone script in order, and appends their lines to a text.
@@ -84,10 +93,12 @@ impl<'s, S: BlockStore> Application<'s, S> {
 
     /// Keeps the code of a call whose answer stands, behind those of the grow-zone script's calls.
     fn keep_anew(&mut self, call: &Call, tried: &Tried)
-        ensures { self.new ≡ record self.old { memory = kept_anew call.now tried.now.reply.code self.old.memory } }
+        ensures { self.new ≡ kept_anew call.now tried.now.reply.code self.old }
     {
-        if let Call::Heap(_) = call {
-            self.heap.keep_code(tried.reply.code);
+        match call {
+            Call::Heap(_) => self.heap.keep_code(tried.reply.code),
+            Call::Resource(_) => self.resources.keep_error(tried.reply.code),
+            Call::Control(_) => {}
         }
     }
 
@@ -101,6 +112,17 @@ impl<'s, S: BlockStore> Application<'s, S> {
             Call::Heap(HeapCall::NewEmptyHandle(name)) => self.names.bind(name, number),
             Call::Heap(HeapCall::HandToHand(name, _)) => self.names.bind(name, number),
             Call::Heap(HeapCall::NewPtr(name, _)) => self.names.bind(name, number),
+            Call::Resource(ResourceCall::GetResource(name, _, _)) => self.names.bind(name, number),
+            Call::Resource(ResourceCall::Get1Resource(name, _, _)) => self.names.bind(name, number),
+            Call::Resource(ResourceCall::GetNamedResource(name, _, _)) => {
+                self.names.bind(name, number)
+            }
+            Call::Resource(ResourceCall::Get1NamedResource(name, _, _)) => {
+                self.names.bind(name, number)
+            }
+            Call::Resource(ResourceCall::Get1IndResource(name, _, _)) => {
+                self.names.bind(name, number)
+            }
             _ => Ok(()),
         }
     }

@@ -22,6 +22,7 @@ impl<'s, S: BlockStore> Application<'s, S> {
     {
         match call {
             Call::Heap(call) => self.answer(call),
+            Call::Resource(call) => self.find(call),
             Call::Control(call) => Ok(self.steer(script, call)),
         }
     }
@@ -41,6 +42,7 @@ impl<'s, S: BlockStore> Application<'s, S> {
     }
 
     /// The bytes that a call shows in the state that it leaves.
+    #[tactic(auto, using(crate::proofs::FoundCalls::shows_nothing))]
     pub(crate) fn shown(&self, call: &Call) -> Option<&[u8]>
         ensures { option_map (λ bytes. bytes.now) result ≡ bytes_told (once [] call.now self.now).told }
     {
@@ -49,6 +51,7 @@ impl<'s, S: BlockStore> Application<'s, S> {
             Call::Heap(HeapCall::ShowPtr(name)) => {
                 self.heap.show_pointer(self.names.number(name)).ok()
             }
+            Call::Resource(_) => None,
             _ => None,
         }
     }

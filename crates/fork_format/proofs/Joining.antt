@@ -164,7 +164,7 @@ put-map groups g (m ∷ ms) different either =
         less false h o = o
 
 -- a test that each number passes, each that is left passes too
-all_others : (p : ℕ → Bool) (n : ℕ) (ms : List ℕ) → list_all p ms ≡ true → list_all p (others n ms) ≡ true
+pub all_others : (p : ℕ → Bool) (n : ℕ) (ms : List ℕ) → list_all p ms ≡ true → list_all p (others n ms) ≡ true
 all_others p n [] h = refl
 all_others p n (m ∷ ms) h = let both : (p m ≡ true) × (list_all p ms ≡ true) = and_parts (p m) (list_all p ms) h in
     cases (not (m == n)) both.0 (all_others p n ms both.1)
@@ -175,7 +175,7 @@ all_others p n (m ∷ ms) h = let both : (p m ≡ true) × (list_all p ms ≡ tr
     cases false here rest = rest
 
 -- those that are left are others
-left_apart : (n : ℕ) (ms : List ℕ) → list_all (λ m. not (m == n)) (others n ms) ≡ true
+pub left_apart : (n : ℕ) (ms : List ℕ) → list_all (λ m. not (m == n)) (others n ms) ≡ true
 left_apart n [] = refl
 left_apart n (m ∷ ms) = cases (not (m == n)) refl (left_apart n ms)
   where
@@ -196,7 +196,7 @@ distinct_others n (m ∷ ms) h =
     cases true here rest = rw here rest
     cases false here rest = rest
 
-distinct-distinct : (ns : List ℕ) → are_distinct (distinct ns) ≡ true
+pub distinct-distinct : (ns : List ℕ) → are_distinct (distinct ns) ≡ true
 distinct-distinct [] = refl
 distinct-distinct (n ∷ ns) = rw (left_apart n (distinct ns)) (distinct_others n (distinct ns) (distinct-distinct ns))
 

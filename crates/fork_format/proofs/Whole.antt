@@ -15,7 +15,7 @@ use Rattle.fork_format.proofs.Standing.{part-stands, stands_inside}
 use Rattle.fork_format.proofs.Groups.{AreLowGroups, groups_again, length-references}
 use Rattle.fork_format.proofs.Bools.{same_self, not_same}
 
-filter-all : {A : Type 0} (p : A → Bool) (xs : List A) → list_all p xs ≡ true → filter p xs ≡ xs
+pub filter-all : {A : Type 0} (p : A → Bool) (xs : List A) → list_all p xs ≡ true → filter p xs ≡ xs
 filter-all p [] h = refl
 filter-all p (x ∷ xs) h = let both : (p x ≡ true) × (list_all p xs ≡ true) = and_parts (p x) (list_all p xs) h in
     rw both.0 (ap (λ l. x ∷ l) (filter-all p xs both.1))

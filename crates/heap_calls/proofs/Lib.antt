@@ -1,8 +1,10 @@
 pub mod Numbering
+pub mod Filled
 pub mod Gates
 pub mod Room
 pub mod NewBlocks
 pub mod Sizes
 pub mod Promises
 pub mod Tries
+pub mod Steps
 mod Worked

@@ -9,3 +9,4 @@ pub mod PurgeTrials
 pub mod Looking
 pub mod Rebuilding
 pub mod MoveNames
+pub mod Roles

@@ -5,3 +5,4 @@ mod StandingRows
 mod EmptyingRows
 mod RefusedRows
 mod BusyRows
+mod StepRows

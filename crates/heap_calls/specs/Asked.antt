@@ -1,6 +1,7 @@
 use Rattle.std.specs.Prelude.{ℕ, Option, Result, Ok, Err, List}
 use Rattle.mac_words.specs.Size.{phys}
 use Rattle.mac_words.specs.declared.code.OsErr.{OsErr}
+use Rattle.mac_words.specs.Told.{Told, Done, Given, Number, Numbers, Code, Bytes, Refused}
 use Rattle.heap_calls.specs.State.{State, Memory}
 use Rattle.heap_calls.specs.Answer.{Answer, dispose_handle, get_handle_size, free_mem, set_handle_size, h_lock}
 use Rattle.heap_calls.specs.Answer.{h_unlock, move_hhi, hlock_hi, max_block, compact_mem, put, show, noting, silent}
@@ -57,16 +58,6 @@ pub data Asked : Type 0 where
   PutPtr : (pointer : Option ℕ) (from : ℕ) (bytes : List ℕ) → Asked
   ShowPtr : (pointer : Option ℕ) → Asked
   Where : (name : Option ℕ) → Asked
-
--- what a call tells: it was done, or gave a new number, or tells a number or two, a code or bytes, or was refused
-pub data Told : Type 0 where
-  Done : Told
-  Given : (number : ℕ) → Told
-  Number : (number : ℕ) → Told
-  Numbers : (one : ℕ) (other : ℕ) → Told
-  Code : (code : OsErr) → Told
-  Bytes : (bytes : List ℕ) → Told
-  Refused : (code : OsErr) → Told
 
 -- a reply as it is told
 abbrev pub told_as : {T : Type 0} → (T → Told) → Result T OsErr → Told

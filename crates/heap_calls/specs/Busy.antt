@@ -1,15 +1,17 @@
-use Rattle.std.specs.Prelude.{ℕ, ◌==◌, ◌||◌, Bool, true, false, Option, Some, None, Result, Ok, Err, List, [], ◌∷◌, map}
-use Rattle.std.specs.Prelude.{slice_get, if◌then◌else◌}
+use Rattle.std.specs.Prelude.{◌≢◌, ℕ, ◌==◌, ◌||◌, Bool, true, false, Option, Some, None, Result, Ok, Err, List, []}
+use Rattle.std.specs.Prelude.{◌∷◌, map, slice_get, if◌then◌else◌}
 use Rattle.std.specs.Option.{option_or}
 use Rattle.mac_words.specs.declared.code.OsErr.{OsErr}
-use Rattle.mac_words.specs.declared.code.TheConstants.OsErr.{LOCKED}
-use Rattle.heap_calls.specs.State.{Meaning, Handle, Pointer, Disposed, Memory}
+use Rattle.mac_words.specs.declared.code.TheConstants.OsErr.{LOCKED, PROFILE}
+use Rattle.heap_calls.specs.State.{Role, Plain, Resource, SystemResource, Meaning, Handle, Pointer, Disposed}
+use Rattle.heap_calls.specs.State.{State, Memory}
 use Rattle.heap_calls.specs.Answer.{Known, Held, handle_at, look_up}
 use Rattle.heap_calls.specs.Asked.{Asked, DisposeHandle, GetHandleSize, SetHandleSize}
 use Rattle.heap_calls.specs.Asked.{ReallocateHandle, EmptyHandle, HLock, HUnlock, HPurge, HNoPurge, HGetState}
 use Rattle.heap_calls.specs.Asked.{HSetState, MoveHHi, HLockHi, HandToHand, HandAndHand, PtrAndHand}
 use Rattle.heap_calls.specs.Asked.{DisposePtr, GetPtrSize, SetPtrSize, MemError, Put, Show, PutPtr, ShowPtr, Where}
-use Rattle.heap_calls.specs.Asked.{Told, Done, Given, Number, Bytes, Refused, telling, seeking, packing, answered}
+use Rattle.mac_words.specs.Told.{Told, Done, Given, Number, Bytes, Refused}
+use Rattle.heap_calls.specs.Asked.{telling, seeking, packing, answered}
 use Rattle.heap_calls.specs.Answer.{dispose_handle, get_handle_size, set_handle_size, h_lock, h_unlock, move_hhi}
 use Rattle.heap_calls.specs.Answer.{hlock_hi, put, show, noting, silent}
 use Rattle.heap_calls.specs.Pointers.{dispose_pointer, get_pointer_size, set_pointer_size, put_pointer, show_pointer}
@@ -87,6 +89,25 @@ either_bars busy n (Some Disposed) = None
 abbrev pub barred : Option ℕ → Memory → Option OsErr
 barred handle m = known_bars m.log.busy (handle_at handle m.heap)
 
+-- the code of a System resource, whose bytes and size can't be changed
+abbrev pub guard : Role → Option OsErr
+guard Plain = None
+guard Resource = None
+guard SystemResource = Some PROFILE
+
+-- why a handle that was looked up bars a call that changes its bytes or size
+abbrev pub known_guards : Places → Result Known OsErr → Option OsErr
+known_guards busy (Err code) = None
+known_guards busy (Ok known) = option_or (bar (is_busy known.number busy)) (guard known.role)
+
+-- why the handle that a name is bound to bars such a call
+abbrev pub change_barred : Option ℕ → Memory → Option OsErr
+change_barred handle m = known_guards m.log.busy (handle_at handle m.heap)
+
+-- no handle is a System resource's
+abbrev pub NoneGuarded : State → Type 0
+NoneGuarded s = (h : ℕ) → slice_get s.names h ≢ Some (Handle SystemResource)
+
 -- why the pointer does
 abbrev pub pointer_barred : Option ℕ → Memory → Option OsErr
 pointer_barred None m = None
@@ -104,14 +125,14 @@ next_barred (Ok held) other = other
 
 -- why the first or the second of two handles bars a call
 abbrev pub both_barred : Option ℕ → Option ℕ → Memory → Option OsErr
-both_barred from to m = option_or (barred from m) (next_barred (look_up from m.heap) (barred to m))
+both_barred from to m = option_or (barred from m) (next_barred (look_up from m.heap) (change_barred to m))
 
 -- why a busy name bars a call; for a name that the call binds, and for a call without one, there is no reason
 abbrev pub gate : Asked → Memory → Option OsErr
 gate (DisposeHandle handle) m = barred handle m
 gate (GetHandleSize handle) m = barred handle m
-gate (SetHandleSize handle size) m = barred handle m
-gate (ReallocateHandle handle size) m = barred handle m
+gate (SetHandleSize handle size) m = change_barred handle m
+gate (ReallocateHandle handle size) m = change_barred handle m
 gate (EmptyHandle handle) m = barred handle m
 gate (HLock handle) m = barred handle m
 gate (HUnlock handle) m = barred handle m
@@ -123,11 +144,11 @@ gate (MoveHHi handle) m = barred handle m
 gate (HLockHi handle) m = barred handle m
 gate (HandToHand handle) m = barred handle m
 gate (HandAndHand from to) m = both_barred from to m
-gate (PtrAndHand handle bytes) m = barred handle m
+gate (PtrAndHand handle bytes) m = change_barred handle m
 gate (DisposePtr pointer) m = pointer_barred pointer m
 gate (GetPtrSize pointer) m = pointer_barred pointer m
 gate (SetPtrSize pointer size) m = pointer_barred pointer m
-gate (Put handle from bytes) m = barred handle m
+gate (Put handle from bytes) m = change_barred handle m
 gate (Show handle) m = barred handle m
 gate (PutPtr pointer from bytes) m = pointer_barred pointer m
 gate (ShowPtr pointer) m = pointer_barred pointer m
@@ -168,10 +189,10 @@ unless_silent (Some code) call m = (Err code, m)
 abbrev pub served : Asked → Memory → Told × Memory
 served (DisposeHandle handle) m = telling (λ _. Done) (unless (barred handle m) (noting (dispose_handle handle)) m)
 served (GetHandleSize handle) m = telling Number (unless (barred handle m) (noting (get_handle_size handle)) m)
-served (SetHandleSize handle size) m = telling (λ _. Done) (unless (barred handle m)
+served (SetHandleSize handle size) m = telling (λ _. Done) (unless (change_barred handle m)
     (packing (set_handle_size_moves handle size) (set_handle_size_searches handle size) (set_handle_size handle size))
     m)
-served (ReallocateHandle handle size) m = telling (λ _. Done) (unless (barred handle m)
+served (ReallocateHandle handle size) m = telling (λ _. Done) (unless (change_barred handle m)
     (packing (reallocate_handle_moves handle size) (reallocate_handle_searches handle size)
     (reallocate_handle handle size)) m)
 served (EmptyHandle handle) m = telling (λ _. Done) (unless (barred handle m) (noting (empty_handle handle)) m)
@@ -187,7 +208,7 @@ served (HandToHand handle) m = telling Given (unless (barred handle m) (packing 
     (hand_to_hand_searches handle) (hand_to_hand handle)) m)
 served (HandAndHand from to) m = telling (λ _. Done) (unless (both_barred from to m)
     (packing (hand_and_hand_moves from to) (hand_and_hand_searches from to) (hand_and_hand from to)) m)
-served (PtrAndHand handle bytes) m = telling (λ _. Done) (unless (barred handle m)
+served (PtrAndHand handle bytes) m = telling (λ _. Done) (unless (change_barred handle m)
     (packing (pointer_and_hand_moves handle bytes) (pointer_and_hand_searches handle bytes)
     (pointer_and_hand handle bytes)) m)
 served (DisposePtr pointer) m = telling (λ _. Done) (unless (pointer_barred pointer m)
@@ -195,7 +216,7 @@ served (DisposePtr pointer) m = telling (λ _. Done) (unless (pointer_barred poi
 served (GetPtrSize pointer) m = telling Number (unless (pointer_barred pointer m) (noting (get_pointer_size pointer)) m)
 served (SetPtrSize pointer size) m = telling (λ _. Done) (unless (pointer_barred pointer m)
     (seeking (set_pointer_size_searches pointer size) (set_pointer_size pointer size)) m)
-served (Put handle from bytes) m = telling (λ _. Done) (unless_silent (barred handle m)
+served (Put handle from bytes) m = telling (λ _. Done) (unless_silent (change_barred handle m)
     (silent (put handle from bytes)) m)
 served (Show handle) m = telling Bytes (unless_silent (barred handle m) (silent (show handle)) m)
 served (PutPtr pointer from bytes) m = telling (λ _. Done) (unless_silent (pointer_barred pointer m)

@@ -15,3 +15,5 @@ pub mod Reaching
 pub mod Loose
 pub mod Appending
 pub mod Naming
+pub mod Filling
+pub mod Roles

@@ -5,7 +5,8 @@ use Rattle.heap_calls.specs.State.{State}
 use Rattle.heap_calls.specs.Answer.{Held}
 use Rattle.heap_calls.specs.Pointers.{block_named}
 use Rattle.heap_calls.specs.Asked.{Asked, NewHandle, SetHandleSize, ReallocateHandle, HandToHand, HandAndHand}
-use Rattle.heap_calls.specs.Asked.{PtrAndHand, NewPtr, SetPtrSize, Put, PutPtr, Told, Done, Given}
+use Rattle.mac_words.specs.Told.{Told, Done, Given}
+use Rattle.heap_calls.specs.Asked.{PtrAndHand, NewPtr, SetPtrSize, Put, PutPtr}
 
 -- The bytes last put into each handle and pointer, told from the history of calls alone: no block is in it.
 

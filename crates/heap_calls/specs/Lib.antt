@@ -18,3 +18,6 @@ pub mod Busy
 pub mod Naming
 pub mod Shown
 pub mod Staying
+pub mod Inside
+pub mod Path
+pub mod Owned

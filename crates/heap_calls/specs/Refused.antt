@@ -2,14 +2,14 @@ use Rattle.std.specs.Prelude.{◌≡◌, Bool, Option, Some, None, Result, Ok, E
 use Rattle.std.specs.Option.{option_map}
 use Rattle.mac_words.specs.Size.{phys}
 use Rattle.mac_words.specs.declared.code.OsErr.{OsErr}
-use Rattle.mac_words.specs.declared.code.TheConstants.OsErr.{LOCKED}
 use Rattle.block_store.specs.Block.{Block, is_relocatable}
 use Rattle.block_store.specs.Room.{purge}
 use Rattle.heap_calls.specs.State.{State, Memory}
 use Rattle.heap_calls.specs.Answer.{Held, look_up, nothing}
 use Rattle.heap_calls.specs.Slots.{slotted}
 use Rattle.heap_calls.specs.Purging.{blocks_purged}
-use Rattle.heap_calls.specs.Asked.{Asked, NewHandle, HandToHand, PurgeMem, Refused}
+use Rattle.mac_words.specs.Told.{Refused}
+use Rattle.heap_calls.specs.Asked.{Asked, NewHandle, HandToHand, PurgeMem}
 use Rattle.heap_calls.specs.Busy.{gate, notes, keep_code, served}
 
 -- What a refused call leaves, whether its row or a busy name refuses it.
@@ -54,9 +54,9 @@ RefusedLeaves asked m =
     × ((served asked m).1.log.code ≡ code_left asked code m.log.code)
     × ((served asked m).1.window ≡ m.window)
 
--- a call that a busy name bars is refused with -117, and changes nothing but the code that MemError tells
+-- a call that is barred is refused with that code, and changes nothing but the code that MemError tells
 abbrev pub BarredLeaves : Asked → Memory → Type 0
 BarredLeaves asked m =
     (code : OsErr) → gate asked m ≡ Some code
-    → ((served asked m).0 ≡ Refused LOCKED)
-    × ((served asked m).1 ≡ keep_code (code_left asked LOCKED m.log.code) m)
+    → ((served asked m).0 ≡ Refused code)
+    × ((served asked m).1 ≡ keep_code (code_left asked code m.log.code) m)

@@ -1,5 +1,6 @@
 use Rattle.std.specs.Prelude.{◌≡◌, ◌⊎◌, ℕ, Some, List}
-use Rattle.heap_calls.specs.Asked.{Asked, Told, Show, ShowPtr, Bytes}
+use Rattle.mac_words.specs.Told.{Told, Bytes}
+use Rattle.heap_calls.specs.Asked.{Asked, Show, ShowPtr}
 
 -- What a call shows.
 

@@ -4,7 +4,8 @@ use Rattle.mac_words.specs.Size.{phys}
 use Rattle.mac_words.specs.declared.code.TheConstants.OsErr.{MEM_FULL}
 use Rattle.block_store.specs.Block.{Block, Masters, Relocatable, no_flags}
 use Rattle.block_store.specs.Room.{put_at_base, put_in_place, room}
-use Rattle.heap_calls.specs.State.{Plain, Handle, State, used_slots, all_slots}
+use Rattle.block_store.specs.declared.flags.Flags.{Flags}
+use Rattle.heap_calls.specs.State.{Role, Plain, Handle, State, used_slots, all_slots}
 use Rattle.heap_calls.specs.Answer.{Answer, refused, given, nothing}
 
 -- Slots for new handles. Inside Macintosh: Memory, chapter 2, "Allocating Master Pointers".
@@ -22,10 +23,14 @@ abbrev pub if_ready : {T : Type 0} → Option State → State → (State → Ans
 if_ready None s answer = refused MEM_FULL s
 if_ready (Some ready) s answer = answer ready
 
+-- a new handle in this role, with a block of these flags and bytes
+abbrev pub made : Role → Flags → (Block → Bool) → List ℕ → State → Answer ℕ
+made role flags spared bytes s = given (Handle role) (room (put_in_place (Relocatable (length s.names) flags bytes))
+    spared s.zone) s
+
 -- a new handle with these bytes
 abbrev pub new_block : (Block → Bool) → List ℕ → State → Answer ℕ
-new_block spared bytes s = given (Handle Plain) (room (put_in_place (Relocatable (length s.names) no_flags bytes))
-    spared s.zone) s
+new_block spared bytes s = made Plain no_flags spared bytes s
 
 -- NewHandle: a new handle with n bytes 0
 abbrev pub new_handle : ℕ → State → Answer ℕ

@@ -4,7 +4,8 @@ use Rattle.block_store.specs.declared.measures.TheConstants.{MASTERS_SIZE}
 use Rattle.block_store.specs.Block.{Block, Free, Fixed, Masters, Relocatable, count, total, sizes, free_sum, is_masters}
 use Rattle.heap_calls.specs.State.{Memory}
 use Rattle.heap_calls.specs.Purging.{purged_all}
-use Rattle.heap_calls.specs.Asked.{Asked, Refused}
+use Rattle.mac_words.specs.Told.{Refused}
+use Rattle.heap_calls.specs.Asked.{Asked}
 use Rattle.heap_calls.specs.Busy.{served}
 use Rattle.heap_calls.specs.Locked.{OneBlockEach}
 use Rattle.mac_words.specs.declared.code.OsErr.{OsErr}

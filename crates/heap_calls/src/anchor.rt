@@ -11,19 +11,20 @@ use mac_words::OsErr;
 /// What a number stands for in a store.
 #[derive(Clone, Copy, Debug, PartialEq, Eq)]
 pub enum Anchor {
-    /// A handle, by its slot.
-    Handle(u32),
+    /// A handle, by its slot; one of a resource may be guarded.
+    Handle { slot: u32, guarded: bool },
     /// A pointer, by the place of its block.
     Pointer(u32),
     /// Nothing any more.
     Disposed,
 }
 
-/// A handle that was looked up, and its slot.
+/// A handle that was looked up, its slot, and whether it is guarded.
 #[derive(Clone, Copy, Debug, PartialEq, Eq)]
 pub struct Found {
     pub number: usize,
     pub slot: u32,
+    pub guarded: bool,
 }
 
 /// A pointer that was looked up, and the place of its block.
@@ -42,9 +43,10 @@ pub fn slot_of(names: &[Anchor], handle: Option<usize>) -> Result<Found, Refusal
     };
     match names.get(number) {
         None => Err(Refusal::Code(OsErr::NIL_HANDLE)),
-        Some(Anchor::Handle(slot)) => Ok(Found {
+        Some(Anchor::Handle { slot, guarded }) => Ok(Found {
             number,
             slot: *slot,
+            guarded: *guarded,
         }),
         Some(_) => Err(Refusal::Code(OsErr::WRONG_ZONE)),
     }
@@ -63,7 +65,7 @@ pub fn target_of(names: &[Anchor], pointer: Option<usize>) -> Result<Target, Ref
             number,
             place: *place,
         }),
-        Some(Anchor::Handle(_) | Anchor::Disposed) => Err(Refusal::Code(OsErr::WRONG_ZONE)),
+        Some(Anchor::Handle { .. } | Anchor::Disposed) => Err(Refusal::Code(OsErr::WRONG_ZONE)),
     }
 }
 
@@ -77,6 +79,9 @@ pub fn name_handle(names: &mut Vec<Anchor>, slot: Option<u32>) -> Result<usize, 
         return Err(Refusal::Code(OsErr::MEM_FULL));
     };
     let number = names.len();
-    names.push_reserved(Anchor::Handle(slot));
+    names.push_reserved(Anchor::Handle {
+        slot,
+        guarded: false,
+    });
     Ok(number)
 }

@@ -7,7 +7,7 @@ ghost use Rattle.block_store.specs.Find.{FindsLowest};
 ghost use Rattle.block_store.specs.Sparing.{spared};
 ghost use Rattle.block_store.specs.Rest.{IsRest, KeepsSlots};
 ghost use Rattle.block_store.specs.Room.{spot};
-ghost use Rattle.heap_calls.specs.Busy.{barred, both_barred, unless};
+ghost use Rattle.heap_calls.specs.Busy.{change_barred, both_barred, unless};
 ghost use Rattle.heap_calls.specs.Asked.{packing};
 ghost use Rattle.heap_calls.specs.Answer.{silent, searching, moving};
 ghost use Rattle.heap_calls.specs.Inner.Appending.{size_for, behind, lengthened, bytes_of, length_of};
@@ -52,13 +52,13 @@ impl<S: BlockStore> Heap<S> {
     ///
     /// *Inside Macintosh: Memory*, chapter 2, "Manipulating Blocks of Memory".
     pub fn pointer_and_hand(&mut self, handle: Option<usize>, bytes: &[u8]) -> Result<(), Refusal>
-        ensures answer { IsAnswer (unless (barred handle self.old)
+        ensures answer { IsAnswer (unless (change_barred handle self.old)
             (packing (pointer_and_hand_moves handle bytes.now) (pointer_and_hand_searches handle bytes.now)
             (pointer_and_hand handle bytes.now)) self.old) result self.new }
         ensures host { result ≡ Err Refusal.HostMemory → IsTrue S.TAKES_HOST }
         ensures kept { result ≡ Err Refusal.HostMemory → KeepsNames self.old self.new }
     {
-        if let Some(code) = self.barred(handle) {
+        if let Some(code) = self.change_barred(handle) {
             return self.refuse(code);
         }
         let answer = self.append_slice(handle, bytes);

@@ -3,7 +3,7 @@
 ghost use Rattle.std.specs.Prelude.{◌≡◌, Err, is_ok, if◌then◌else◌};
 ghost use Rattle.heap_calls.specs.Answer.{look_up};
 ghost use Rattle.heap_calls.specs.Busy.{is_busy, busied, eased, with_busy, keep_code};
-ghost use Rattle.heap_calls.specs.Busy.{barred, pointer_barred, either_barred, both_barred};
+ghost use Rattle.heap_calls.specs.Busy.{barred, change_barred, pointer_barred, either_barred, both_barred};
 
 use crate::anchor::{slot_of, target_of};
 use crate::heap::{Heap, find_block};
@@ -48,6 +48,17 @@ impl<S: BlockStore> Heap<S> {
         }
     }
 
+    /// Why the handle that a name is bound to bars a call that changes its bytes or size.
+    pub(crate) fn change_barred(&self, handle: Option<usize>) -> Option<OsErr>
+        ensures { result ≡ change_barred handle self.now }
+    {
+        match self.barred(handle) {
+            Some(code) => Some(code),
+            None if self.is_guarded(handle) => Some(OsErr::PROFILE),
+            None => None,
+        }
+    }
+
     /// Why the pointer that a name is bound to bars a call.
     pub(crate) fn pointer_barred(&self, pointer: Option<usize>) -> Option<OsErr>
         ensures { result ≡ pointer_barred pointer self.now }
@@ -68,20 +79,20 @@ impl<S: BlockStore> Heap<S> {
         }
     }
 
-    /// Why the first of two handles bars a call, or the second, which is asked for only where the first one has
-    /// a block.
+    /// Why the first of two handles bars a call, or the second, which is changed, and is asked for only where the
+    /// first one has a block.
     pub(crate) fn both_barred(&self, from: Option<usize>, to: Option<usize>) -> Option<OsErr>
         ensures { result ≡ both_barred from to self.now }
     {
         match self.barred(from) {
             Some(code) => Some(code),
-            None if self.has_block(from) => self.barred(to),
+            None if self.finds_block(from) => self.change_barred(to),
             None => None,
         }
     }
 
     /// Whether the handle that a name is bound to has a block.
-    fn has_block(&self, handle: Option<usize>) -> bool
+    fn finds_block(&self, handle: Option<usize>) -> bool
         ensures { result ≡ is_ok (look_up handle self.now.heap) }
     {
         find_block(&self.store, &self.names, handle).is_ok()

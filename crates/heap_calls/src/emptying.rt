@@ -1,7 +1,7 @@
 //! Emptied handles.
 
 ghost use Rattle.std.specs.Prelude.{◌≡◌, ◌≢◌, IsTrue, IsErr};
-ghost use Rattle.heap_calls.specs.Busy.{barred, unless};
+ghost use Rattle.heap_calls.specs.Busy.{barred, change_barred, unless};
 ghost use Rattle.heap_calls.specs.Inner.Given.{IsAnswer, KeepsNames};
 ghost use Rattle.heap_calls.specs.Asked.{packing};
 ghost use Rattle.heap_calls.specs.Inner.Numbered.{Agrees, KeepsFixed};
@@ -40,12 +40,12 @@ impl<S: BlockStore> Heap<S> {
     /// `ReallocateHandle`: a handle gets a new block of `size` bytes 0, and its old one is Free; -112 where
     /// that is locked. A want of host memory leaves all but the zone as it was.
     pub fn reallocate_handle(&mut self, handle: Option<usize>, size: u32) -> Result<(), Refusal>
-        ensures answer { IsAnswer (unless (barred handle self.old) (packing (reallocate_handle_moves handle size)
+        ensures answer { IsAnswer (unless (change_barred handle self.old) (packing (reallocate_handle_moves handle size)
             (reallocate_handle_searches handle size) (reallocate_handle handle size)) self.old) result self.new }
         ensures host { result ≡ Err Refusal.HostMemory → IsTrue S.TAKES_HOST }
         ensures kept { result ≡ Err Refusal.HostMemory → KeepsNames self.old self.new }
     {
-        if let Some(code) = self.barred(handle) {
+        if let Some(code) = self.change_barred(handle) {
             return self.refuse(code);
         }
         let answer = self.reallocate(handle, size);
@@ -102,7 +102,7 @@ fn loose_slot<S: BlockStore>(
 
 /// Puts a new block of `size` bytes 0 where there is room once the block of a slot is Free. Nothing changes
 /// where there is none.
-fn renew_block<S: BlockStore>(store: &mut S, slot: u32, size: u32) -> Result<Room, AllocError>
+pub fn renew_block<S: BlockStore>(store: &mut S, slot: u32, size: u32) -> Result<Room, AllocError>
     requires { IsTrue (is_used ((S.rest store.old).slots slot)) }
     ensures answer { IsRenewed slot size (S.zone store.old) (S.rest store.old) result (S.zone store.new)
         (S.rest store.new) }

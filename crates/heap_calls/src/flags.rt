@@ -37,7 +37,7 @@ impl<S: BlockStore> Heap<S> {
         self.note(answer)
     }
 
-    /// `HGetState`: a handle's flags as bits of a byte: locked 128, purgeable 64.
+    /// `HGetState`: a handle's flags as bits of a byte: locked 128, purgeable 64, a resource's 32.
     pub fn h_get_state(&mut self, handle: Option<usize>) -> Result<u8, Refusal>
         ensures answer { IsAnswer (unless (barred handle self.old) (noting (h_get_state handle)) self.old)
             result self.new }
@@ -50,7 +50,8 @@ impl<S: BlockStore> Heap<S> {
         self.note(answer)
     }
 
-    /// `HSetState`: a handle's flags become those of a byte as `HGetState` tells it.
+    /// `HSetState`: a handle's flags become those of a byte as `HGetState` tells it; whether it is a resource's
+    /// stays.
     pub fn h_set_state(&mut self, handle: Option<usize>, byte: u8) -> Result<(), Refusal>
         ensures answer { IsAnswer (unless (barred handle self.old) (noting (h_set_state handle byte)) self.old)
             result self.new }
@@ -94,7 +95,9 @@ impl<S: BlockStore> Heap<S> {
         ensures host { result ≢ Err Refusal.HostMemory }
     {
         let place = find_block(&self.store, &self.names, handle)?;
-        Ok(bits_of(flags_of(self.store.block_at(place))))
+        let bits = bits_of(flags_of(self.store.block_at(place)));
+        let resource = if self.is_resource(handle) { 32 } else { 0 };
+        Ok(bits + resource)
     }
 }
 

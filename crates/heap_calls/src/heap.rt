@@ -2,7 +2,7 @@
 
 ghost use Rattle.std.specs.Prelude.{◌≡◌, ◌≢◌, ◌⊎◌, IsTrue};
 ghost use Rattle.block_store.specs.Block.{fresh, sizes};
-ghost use Rattle.heap_calls.specs.Busy.{barred, either_barred, unless, unless_silent};
+ghost use Rattle.heap_calls.specs.Busy.{barred, change_barred, either_barred, unless, unless_silent};
 ghost use Rattle.heap_calls.specs.Asked.{packing};
 ghost use Rattle.heap_calls.specs.Inner.Given.{IsAnswer, IsShown, KeepsNames, FindsBlock, last_after};
 ghost use Rattle.heap_calls.specs.Inner.Numbered.{Agrees};
@@ -83,7 +83,8 @@ impl<S: BlockStore> Heap<S> {
         self.note(answer)
     }
 
-    /// `DisposeHandle`: disposes of a handle; its block, locked or not, is Free, and its slot unused.
+    /// `DisposeHandle`: disposes of a handle; its block, locked or not, is Free, and its slot unused. -30001 where
+    /// the handle is a resource's.
     pub fn dispose_handle(&mut self, handle: Option<usize>) -> Result<(), Refusal>
         ensures answer { IsAnswer (unless (barred handle self.old) (noting (dispose_handle handle)) self.old)
             result self.new }
@@ -148,13 +149,14 @@ impl<S: BlockStore> Heap<S> {
         last.code
     }
 
-    /// Writes bytes into a handle's block from an offset on; -30001 where they end past its content.
+    /// Writes bytes into a handle's block from an offset on; -30001 where they end past its content, or the handle is
+    /// a System resource's.
     pub fn put(&mut self, handle: Option<usize>, from: u32, bytes: &[u8]) -> Result<(), Refusal>
-        ensures answer { IsAnswer (unless_silent (barred handle self.old) (silent (put handle from bytes.now)) self.old)
-            result self.new }
+        ensures answer { IsAnswer (unless_silent (change_barred handle self.old) (silent (put handle from bytes.now))
+            self.old) result self.new }
         ensures host { result ≢ Err Refusal.HostMemory }
     {
-        if let Some(code) = self.barred(handle) {
+        if let Some(code) = self.change_barred(handle) {
             return Err(Refusal::Code(code));
         }
         self.write_block(handle, from, bytes)
@@ -197,15 +199,16 @@ impl<S: BlockStore> Heap<S> {
         name_handle(&mut self.names, made.slot)
     }
 
-    /// Lets a handle and its block go.
+    /// Lets a handle and its block go; -30001 where it is a resource's.
     fn let_go(&mut self, handle: Option<usize>) -> Result<(), Refusal>
         ensures answer { IsAnswer (silent (dispose_handle handle) self.old) result self.new }
         ensures host { result ≢ Err Refusal.HostMemory }
     {
         let found = slot_of(&self.names, handle)?;
-        self.store.release(found.slot);
-        self.store.give_slot(found.slot);
-        self.names[found.number] = Anchor::Disposed;
+        if self.store.is_resource(found.slot) {
+            return Err(Refusal::Code(OsErr::PROFILE));
+        }
+        self.release(found.number);
         Ok(())
     }
 

@@ -6,7 +6,7 @@ ghost use Rattle.block_store.specs.Block.{Block, count, sizes, is_masters, is_mo
 ghost use Rattle.block_store.specs.Compact.{largest_run};
 ghost use Rattle.heap_calls.specs.State.{State, Memory, used_slots, all_slots};
 ghost use Rattle.heap_calls.specs.Asked.{Asked, answered};
-ghost use Rattle.heap_calls.specs.Busy.{idle, served};
+ghost use Rattle.heap_calls.specs.Busy.{idle, served, NoneGuarded};
 ghost use Rattle.heap_calls.specs.Looks.{LooksFew};
 ghost use Rattle.heap_calls.specs.Refused.{RefusedLeaves, BarredLeaves};
 ghost use Rattle.heap_calls.specs.Staying.{ease, Parted, RefusedKeepsNoMore, LessStaysLater, KeepsBytes, KeepsMasters};
@@ -33,7 +33,8 @@ pub fn a_call_looks_few_times()
 {}
 
 /// A refused try leaves the heap as it was, but for the zone where a block of master pointers was made for it, and
-/// where it is `PurgeMem`. A call that a busy name bars is refused with -117, and leaves the zone too.
+/// where it is `PurgeMem`. A call that is barred is refused with the gate's code, -117 for a busy name and -30001 for
+/// a System resource's handle, and leaves the zone too.
 pub fn a_refused_call_leaves_the_heap()
     ensures refused { (asked : Asked) (m : Memory) → RefusedLeaves asked m }
     ensures barred { (asked : Asked) (m : Memory) → BarredLeaves asked m }
@@ -50,7 +51,6 @@ pub fn a_refused_call_keeps_no_more()
 
 /// In a zone where no handle has two blocks, no try changes how many bytes the zone has, or lets a block of master
 /// pointers go.
-#[tactic(auto, using(crate::proofs::Tries::Keeping::served_bytes, crate::proofs::Tries::Keeping::served_masters_no_fewer))]
 pub fn a_call_keeps_the_zones_bytes()
     ensures bytes { (asked : Asked) (m : Memory) → KeepsBytes asked m }
     ensures masters { (asked : Asked) (m : Memory) → KeepsMasters asked m }
@@ -70,15 +70,16 @@ pub fn what_can_be_had_rises_by_sixteens()
         → ease before < ease after → ease before + 16 ≤ ease after }
 {}
 
-/// Where no name is busy, a try of a call is answered by the call's row of the table.
+/// Where no name is busy and no handle a System resource's, a try of a call is answered by the call's row of the
+/// table.
 #[tactic(auto, using(crate::proofs::Tries::Barring::served_idle))]
-pub fn a_call_is_its_row_where_no_name_is_busy()
-    ensures { (asked : Asked) (m : Memory) → m.log.busy ≡ idle → served asked m ≡ answered asked m }
+pub fn a_call_is_its_row_where_nothing_bars_it()
+    ensures { (asked : Asked) (m : Memory) → m.log.busy ≡ idle → NoneGuarded m.heap
+        → served asked m ≡ answered asked m }
 {}
 
 /// Compaction moves each block at most once: `CompactMem` and `MaxMem` move no more blocks down than there
 /// are unlocked relocatable ones.
-#[tactic(auto, using(crate::proofs::Promises::AtMostOnce::compact_mem_once, crate::proofs::Promises::AtMostOnce::max_mem_once))]
 pub fn compaction_moves_each_block_at_most_once()
     ensures compact_mem { (size : ℕ) (heap : State) → compact_mem_moves size heap ≤ count is_mover heap.zone }
     ensures max_mem { (heap : State) → max_mem_moves heap ≤ count is_mover heap.zone }

@@ -9,6 +9,7 @@ mod busy;
 mod compaction;
 mod copying;
 mod emptying;
+mod filling;
 mod flags;
 mod growing;
 mod growing_in_place;
@@ -24,10 +25,12 @@ mod pointers;
 mod purging;
 mod reaching;
 mod refusal;
+mod roles;
 mod search;
 mod sizing;
 
 pub use anchor::Anchor;
+pub use filling::Filling;
 pub use heap::Heap;
 pub use laws::{
     a_call_looks_few_times, a_refused_call_leaves_the_heap,
@@ -37,5 +40,9 @@ pub use log::Log;
 pub use purging::Space;
 pub use refusal::Refusal;
 
+#[cfg(test)]
+mod filling_tests;
+#[cfg(test)]
+mod role_tests;
 #[cfg(test)]
 mod tests;

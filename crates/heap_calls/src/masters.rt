@@ -52,7 +52,7 @@ impl<S: BlockStore> Heap<S> {
     }
 
     /// A new handle with no block.
-    fn make_empty_handle(&mut self) -> Result<usize, Refusal>
+    pub(crate) fn make_empty_handle(&mut self) -> Result<usize, Refusal>
         ensures answer { IsAnswer (searching (new_empty_handle_searches self.old.heap)
             (silent new_empty_handle self.old)) result self.new }
         ensures host { result ≡ Err Refusal.HostMemory → IsTrue S.TAKES_HOST ⊎ (self.new ≡ self.old) }

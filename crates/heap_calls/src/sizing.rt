@@ -6,7 +6,7 @@ ghost use Rattle.block_store.specs.Block.{is_relocatable};
 ghost use Rattle.block_store.specs.Find.{FindsLowest};
 ghost use Rattle.block_store.specs.Grow.{grow};
 ghost use Rattle.block_store.specs.Rest.{KeepsSlots, counted};
-ghost use Rattle.heap_calls.specs.Busy.{barred, unless};
+ghost use Rattle.heap_calls.specs.Busy.{change_barred, unless};
 ghost use Rattle.heap_calls.specs.Asked.{packing};
 ghost use Rattle.heap_calls.specs.Inner.Reaching.{sized_reply};
 ghost use Rattle.heap_calls.specs.Inner.GrowingInPlace.{made_zone};
@@ -35,12 +35,12 @@ impl<S: BlockStore> Heap<S> {
     ///
     /// *Inside Macintosh: Memory*, chapter 2, "Changing the Sizes of Relocatable and Nonrelocatable Blocks".
     pub fn set_handle_size(&mut self, handle: Option<usize>, size: u32) -> Result<(), Refusal>
-        ensures answer { IsAnswer (unless (barred handle self.old) (packing (set_handle_size_moves handle size)
+        ensures answer { IsAnswer (unless (change_barred handle self.old) (packing (set_handle_size_moves handle size)
             (set_handle_size_searches handle size) (set_handle_size handle size)) self.old) result self.new }
         ensures host { result ≡ Err Refusal.HostMemory → IsTrue S.TAKES_HOST }
         ensures kept { result ≡ Err Refusal.HostMemory → KeepsNames self.old self.new }
     {
-        if let Some(code) = self.barred(handle) {
+        if let Some(code) = self.change_barred(handle) {
             return self.refuse(code);
         }
         let answer = self.give_size(handle, size);

@@ -1,12 +1,15 @@
 //! The calls of a script.
 
 use crate::name::Label;
+use crate::resource_call::ResourceCall;
 
 /// A call of a script. Each table of calls is an enum of its own.
 #[derive(Debug, Drop)]
 pub enum Call {
     /// A call of the Memory Manager.
     Heap(HeapCall),
+    /// A call of the Resource Manager.
+    Resource(ResourceCall),
     /// A call by which an application says how it is run.
     Control(ControlCall),
 }

@@ -7,6 +7,7 @@ mod call;
 mod code;
 mod name;
 mod reply;
+mod resource_call;
 mod size;
 
 pub use attributes::Attrs;
@@ -14,4 +15,5 @@ pub use call::{Call, ControlCall, HeapCall};
 pub use code::OsErr;
 pub use name::{FileName, Label, Name, OsType};
 pub use reply::Reply;
+pub use resource_call::ResourceCall;
 pub use size::phys;

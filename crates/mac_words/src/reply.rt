@@ -1,6 +1,6 @@
 //! Replies.
 
-ghost use Rattle.std.specs.Prelude.{◌≡◌, pos, [], ◌∷◌, None};
+ghost use Rattle.std.specs.Prelude.{◌≡◌, ◌<◌, ◌^◌, pos, [], ◌∷◌, Some, None};
 
 use crate::code::OsErr;
 use crate::name::{Name, OsType};
@@ -74,6 +74,17 @@ impl Reply {
         ensures ty { result.ty ≡ None }
         ensures name { result.name ≡ None }
     {
+        Reply::count(number as usize)
+    }
+
+    /// Code 0 and how many there are of something.
+    pub fn count(number: usize) -> Reply
+        requires { number < 2 ^ 63 }
+        ensures code { result.code ≡ OsErr.NO_ERR }
+        ensures numbers { result.numbers.items ≡ pos number ∷ [] }
+        ensures ty { result.ty ≡ None }
+        ensures name { result.name ≡ None }
+    {
         let mut numbers = ArrayVec::new();
         numbers.push(number as i64);
         Reply {
@@ -81,6 +92,38 @@ impl Reply {
             numbers,
             ty: None,
             name: None,
+        }
+    }
+
+    /// Code 0 and the type of a resource.
+    pub fn kind(ty: OsType) -> Reply
+        ensures code { result.code ≡ OsErr.NO_ERR }
+        ensures numbers { result.numbers.items ≡ [] }
+        ensures ty { result.ty ≡ Some ty }
+        ensures name { result.name ≡ None }
+    {
+        Reply {
+            code: OsErr::NO_ERR,
+            numbers: ArrayVec::new(),
+            ty: Some(ty),
+            name: None,
+        }
+    }
+
+    /// Code 0 and a resource's ID, type and name. A resource without a name is told as one whose name is empty.
+    pub fn info(id: i16, ty: OsType, name: Name) -> Reply
+        ensures code { result.code ≡ OsErr.NO_ERR }
+        ensures numbers { result.numbers.items ≡ id ∷ [] }
+        ensures ty { result.ty ≡ Some ty }
+        ensures name { result.name ≡ Some name }
+    {
+        let mut numbers = ArrayVec::new();
+        numbers.push(id as i64);
+        Reply {
+            code: OsErr::NO_ERR,
+            numbers,
+            ty: Some(ty),
+            name: Some(name),
         }
     }
 }

@@ -156,6 +156,50 @@ const GROW_ZONE_TRANSCRIPT: &str = "launch 0 1024
 end 0
 ";
 
+/// `examples/resources.script`
+const RESOURCES: &str = "# The application's fork has no resources: what it asks for isn't there.
+CurResFile
+Count1Types
+GetResource icon 'ICON' 128
+ResError
+# The name is unbound still.
+GetHandleSize icon
+OpenResFile \"Letters\"
+# The System's file is current now, and has no resources either.
+UseResFile 0
+CurResFile
+GetNamedResource text 'TEXT' \"Read me\"
+# A handle of the application's own is no resource.
+NewHandle own 16
+HomeResFile own
+ReleaseResource own
+# The application's fork can be closed, the System's file can't.
+CloseResFile 2
+UseResFile 2
+CloseResFile 0
+ResError
+";
+
+const RESOURCES_TRANSCRIPT: &str = "launch 0 1024
+2 CurResFile 0 2
+3 Count1Types 0 0
+4 GetResource -192
+5 ResError 0 -192
+7 GetHandleSize -109
+8 OpenResFile -43
+10 UseResFile 0
+11 CurResFile 0 0
+12 GetNamedResource -192
+14 NewHandle 0
+15 HomeResFile -192
+16 ReleaseResource -192
+18 CloseResFile 0
+19 UseResFile -193
+20 CloseResFile -30001
+21 ResError 0 -30001
+end 0
+";
+
 /// `examples/kept_pointer.script`
 const KEPT_POINTER: &str =
     "# In 1024 bytes: a pointer that is kept across NewHandle points into another block.
@@ -253,6 +297,7 @@ fn runs_the_scripts(rt: HostRuntime) -> Result<(), Fail> {
         (COMPACTION, COMPACTION_TRANSCRIPT),
         (MOVING, MOVING_TRANSCRIPT),
         (GROW_ZONE, GROW_ZONE_TRANSCRIPT),
+        (RESOURCES, RESOURCES_TRANSCRIPT),
         (KEPT_POINTER, KEPT_POINTER_TRANSCRIPT),
         (KEPT_POINTER_LOCKED, KEPT_POINTER_LOCKED_TRANSCRIPT),
     ] {

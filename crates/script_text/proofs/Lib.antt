@@ -4,3 +4,4 @@ pub mod Naming
 mod Shown
 mod Rows
 mod BlockRows
+mod ResourceRows

@@ -1,5 +1,6 @@
-use Rattle.std.specs.Prelude.{ℕ, ◌+◌, ◌-◌, ◌*◌, Bool, false, ◌==◌, ◌||◌, ◌&&◌, nat_le, Option, Some, None, Result, Ok}
-use Rattle.std.specs.Prelude.{Err, List, [], ◌∷◌, length, take, option_and_then, if◌then◌else◌}
+use Rattle.std.specs.Prelude.{ℕ, ℤ, pos, neg_ℤ, ◌+◌, ◌-◌, ◌*◌, Bool, true, false, ◌==◌, ◌||◌, ◌&&◌, nat_le, Option}
+use Rattle.std.specs.Prelude.{Some, None, Result, Ok, Err, List, [], ◌∷◌, length, take, slice_index, bytes_eq, codes}
+use Rattle.std.specs.Prelude.{option_and_then, if◌then◌else◌}
 use Rattle.std.specs.List.{list_all}
 use Rattle.std.specs.Option.{option_map, ok_or}
 use Rattle.std.specs.Char.{is_ascii_digit, is_ascii_alphabetic, is_ascii_alphanumeric}
@@ -12,14 +13,21 @@ use Rattle.script_text.specs.Token.{after_blanks, token_at}
 pub data Kind : Type 0 where
   Label : Kind
   Size : Kind
+  Id : Kind
   Byte : Kind
+  ResType : Kind
   Bytes : Kind
+  File : Kind
+  Text : Kind
+  Switch : Kind
 
 -- what an argument says
 pub data Value : Type 0 where
   Letters : (letters : List ℕ) → Value
   Number : (number : ℕ) → Value
+  Signed : (number : ℤ) → Value
   Raw : (bytes : List ℕ) → Value
+  Flag : (on : Bool) → Value
 
 -- a letter, a digit or _
 abbrev pub is_label_byte : ℕ → Bool
@@ -50,6 +58,13 @@ abbrev pub number : ℕ → ℕ → List ℕ → Option ℕ
 number most limit token =
     if nat_le 1 (length token) && nat_le (length token) most then number_within limit 0 token else None
 
+-- an ID: a number of 16 bits, perhaps with a minus, of one to five digits
+abbrev pub id : List ℕ → Option ℤ
+id [] = None
+id (c ∷ rest) =
+    if c == 45 then option_map (λ n. neg_ℤ (pos n)) (number 5 32768 rest)
+    else option_map pos (number 5 32767 (c ∷ rest))
+
 -- the value of a hexadecimal digit, in upper or lower case
 abbrev pub digit : ℕ → Option ℕ
 digit c =
@@ -78,12 +93,35 @@ abbrev pub bytes : List ℕ → Option (List ℕ)
 bytes [] = None
 bytes (c ∷ rest) = if c == 34 then unquoted rest else if c == 36 then hex_bytes rest else None
 
+-- bytes of certain numbers alone
+abbrev pub of_length : (ℕ → Bool) → Option (List ℕ) → Option (List ℕ)
+of_length fits None = None
+of_length fits (Some bytes) = if fits (length bytes) then Some bytes else None
+
+-- a type: four bytes in single quotes, whatever they are, or $ and eight hexadecimal digits
+abbrev pub res_type : List ℕ → Option (List ℕ)
+res_type [] = None
+res_type (c ∷ rest) =
+    if c == 39 then (if length rest == 5 && slice_index rest 4 == 39 then Some (take 4 rest) else None)
+    else if c == 36 then of_length (λ n. n == 4) (hex_bytes rest)
+    else None
+
+-- TRUE or FALSE
+abbrev pub switch : List ℕ → Option Bool
+switch token =
+    if bytes_eq token (codes "TRUE") then Some true else if bytes_eq token (codes "FALSE") then Some false else None
+
 -- what a token says as an argument of this kind
 abbrev pub value : Kind → List ℕ → Option Value
 value Label token = option_map Letters (label token)
 value Size token = option_map Number (number 10 2147483647 token)
+value Id token = option_map Signed (id token)
 value Byte token = option_map Number (number 3 255 token)
+value ResType token = option_map Raw (res_type token)
 value Bytes token = option_map Raw (bytes token)
+value File token = option_map Raw (of_length (λ n. nat_le 1 n && nat_le n 63) (bytes token))
+value Text token = option_map Raw (of_length (λ n. nat_le n 255) (bytes token))
+value Switch token = option_map Flag (switch token)
 
 -- the argument of this kind at the front, and the text behind it
 unfoldable pub argument : Kind → List ℕ → Result (Value × List ℕ) FaultKind

@@ -5,12 +5,15 @@ use Rattle.mac_words.specs.declared.call.ControlCall.{ControlCall}
 use Rattle.mac_words.specs.declared.call.ControlCall.TheVariants as control
 use Rattle.mac_words.specs.declared.call.HeapCall.{HeapCall}
 use Rattle.mac_words.specs.declared.call.HeapCall.TheVariants as heap
+use Rattle.mac_words.specs.declared.resource_call.ResourceCall.{ResourceCall}
+use Rattle.mac_words.specs.declared.resource_call.ResourceCall.TheVariants as resource
 use Rattle.script_text.specs.declared.fault.FaultKind.{FaultKind}
 use Rattle.script_text.specs.declared.word.Word.{Word}
 use Rattle.script_text.specs.declared.word.Word.TheVariants as word
 use Rattle.script_text.specs.declared.word.TheConstants.{WORDS}
 use Rattle.script_text.specs.Reading.{◌>>=◌}
-use Rattle.script_text.specs.Argument.{Kind, Label, Size, Byte, Bytes, Value, Letters, Number, Raw, arguments}
+use Rattle.script_text.specs.Argument.{Kind, Label, Size, Id, Byte, ResType, Bytes, File, Text, Switch, Value, Letters}
+use Rattle.script_text.specs.Argument.{Number, Signed, Raw, Flag, arguments}
 
 -- how a call is spelled, and what it takes
 abbrev pub row : Word → List ℕ × List Kind
@@ -46,6 +49,27 @@ row word.ReserveMem = (codes "ReserveMem", Size ∷ [])
 row word.MoreMasters = (codes "MoreMasters", [])
 row word.MemError = (codes "MemError", [])
 row word.SetGrowZone = (codes "SetGrowZone", Label ∷ [])
+row word.OpenResFile = (codes "OpenResFile", File ∷ [])
+row word.CloseResFile = (codes "CloseResFile", Size ∷ [])
+row word.UseResFile = (codes "UseResFile", Size ∷ [])
+row word.CurResFile = (codes "CurResFile", [])
+row word.HomeResFile = (codes "HomeResFile", Label ∷ [])
+row word.GetResource = (codes "GetResource", Label ∷ ResType ∷ Id ∷ [])
+row word.Get1Resource = (codes "Get1Resource", Label ∷ ResType ∷ Id ∷ [])
+row word.GetNamedResource = (codes "GetNamedResource", Label ∷ ResType ∷ Text ∷ [])
+row word.Get1NamedResource = (codes "Get1NamedResource", Label ∷ ResType ∷ Text ∷ [])
+row word.Count1Types = (codes "Count1Types", [])
+row word.Get1IndType = (codes "Get1IndType", Size ∷ [])
+row word.Count1Resources = (codes "Count1Resources", ResType ∷ [])
+row word.Get1IndResource = (codes "Get1IndResource", Label ∷ ResType ∷ Size ∷ [])
+row word.LoadResource = (codes "LoadResource", Label ∷ [])
+row word.ReleaseResource = (codes "ReleaseResource", Label ∷ [])
+row word.DetachResource = (codes "DetachResource", Label ∷ [])
+row word.GetResInfo = (codes "GetResInfo", Label ∷ [])
+row word.GetResAttrs = (codes "GetResAttrs", Label ∷ [])
+row word.GetResourceSizeOnDisk = (codes "GetResourceSizeOnDisk", Label ∷ [])
+row word.SetResLoad = (codes "SetResLoad", Switch ∷ [])
+row word.ResError = (codes "ResError", [])
 row word.Put = (codes "Put", Label ∷ Size ∷ Bytes ∷ [])
 row word.Show = (codes "Show", Label ∷ [])
 row word.PutPtr = (codes "PutPtr", Label ∷ Size ∷ Bytes ∷ [])
@@ -101,6 +125,32 @@ heap_spoken (heap.PutPtr p offset bytes) = (word.PutPtr, Letters p.0.items ∷ N
 heap_spoken (heap.ShowPtr p) = (word.ShowPtr, Letters p.0.items ∷ [])
 heap_spoken (heap.Where name) = (word.Where, Letters name.0.items ∷ [])
 
+-- a call of the Resource Manager as its word and what its arguments say
+abbrev pub resource_spoken : ResourceCall → Word × List Value
+resource_spoken (resource.OpenResFile file) = (word.OpenResFile, Raw file.0.items ∷ [])
+resource_spoken (resource.CloseResFile n) = (word.CloseResFile, Number n ∷ [])
+resource_spoken (resource.UseResFile n) = (word.UseResFile, Number n ∷ [])
+resource_spoken resource.CurResFile = (word.CurResFile, [])
+resource_spoken (resource.HomeResFile h) = (word.HomeResFile, Letters h.0.items ∷ [])
+resource_spoken (resource.GetResource h ty id) = (word.GetResource, Letters h.0.items ∷ Raw ty.0 ∷ Signed id ∷ [])
+resource_spoken (resource.Get1Resource h ty id) = (word.Get1Resource, Letters h.0.items ∷ Raw ty.0 ∷ Signed id ∷ [])
+resource_spoken (resource.GetNamedResource h ty text) =
+    (word.GetNamedResource, Letters h.0.items ∷ Raw ty.0 ∷ Raw text.0.items ∷ [])
+resource_spoken (resource.Get1NamedResource h ty text) =
+    (word.Get1NamedResource, Letters h.0.items ∷ Raw ty.0 ∷ Raw text.0.items ∷ [])
+resource_spoken resource.Count1Types = (word.Count1Types, [])
+resource_spoken (resource.Get1IndType n) = (word.Get1IndType, Number n ∷ [])
+resource_spoken (resource.Count1Resources ty) = (word.Count1Resources, Raw ty.0 ∷ [])
+resource_spoken (resource.Get1IndResource h ty n) = (word.Get1IndResource, Letters h.0.items ∷ Raw ty.0 ∷ Number n ∷ [])
+resource_spoken (resource.LoadResource h) = (word.LoadResource, Letters h.0.items ∷ [])
+resource_spoken (resource.ReleaseResource h) = (word.ReleaseResource, Letters h.0.items ∷ [])
+resource_spoken (resource.DetachResource h) = (word.DetachResource, Letters h.0.items ∷ [])
+resource_spoken (resource.GetResInfo h) = (word.GetResInfo, Letters h.0.items ∷ [])
+resource_spoken (resource.GetResAttrs h) = (word.GetResAttrs, Letters h.0.items ∷ [])
+resource_spoken (resource.GetResourceSizeOnDisk h) = (word.GetResourceSizeOnDisk, Letters h.0.items ∷ [])
+resource_spoken (resource.SetResLoad on) = (word.SetResLoad, Flag on ∷ [])
+resource_spoken resource.ResError = (word.ResError, [])
+
 -- a call by which an application says how it is run, as its word and what its arguments say
 abbrev pub control_spoken : ControlCall → Word × List Value
 control_spoken (control.SetGrowZone name) = (word.SetGrowZone, Letters name.0.items ∷ [])
@@ -110,6 +160,7 @@ control_spoken control.ExitToShell = (word.ExitToShell, [])
 -- a call as its word and what its arguments say
 abbrev pub spoken : Call → Word × List Value
 spoken (call.Heap c) = heap_spoken c
+spoken (call.Resource c) = resource_spoken c
 spoken (call.Control c) = control_spoken c
 
 -- the word of a call
@@ -124,6 +175,7 @@ may_stand word.DisposePtr = true
 may_stand word.HPurge = true
 may_stand word.HNoPurge = true
 may_stand word.HUnlock = true
+may_stand word.ReleaseResource = true
 may_stand _ = false
 
 -- the calls that a grow-zone script may hold

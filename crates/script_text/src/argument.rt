@@ -2,14 +2,15 @@
 
 ghost use Rattle.std.specs.Prelude.{◌≡◌, is_some, IfOk};
 ghost use Rattle.std.specs.List.{list_all};
-ghost use Rattle.script_text.specs.Argument.{Kind, Label as LabelKind, Size, Byte, Bytes, Value, Letters, Number, Raw};
+ghost use Rattle.script_text.specs.Argument.{Kind, Label as LabelKind, Size, Id, Byte, ResType, Bytes, File, Text};
+ghost use Rattle.script_text.specs.Argument.{Switch, Value, Letters, Number, Signed, Raw, Flag};
 ghost use Rattle.script_text.specs.Argument.{is_label_byte as is_label_byte_of, begins_label as begins_label_of, label};
-ghost use Rattle.script_text.specs.Argument.{number, number_within, digit, byte_at, hex_bytes, bytes as bytes_of};
+ghost use Rattle.script_text.specs.Argument.{number, number_within, id, digit, byte_at, hex_bytes, bytes as bytes_of};
 ghost use Rattle.script_text.specs.Argument.{value};
 ghost use Rattle.script_text.specs.Reading.{Finds};
 
 use arrayvec::ArrayVec;
-use mac_words::Label;
+use mac_words::{FileName, Label, Name, OsType};
 use std::alloc::{AllocError, Global};
 
 fn is_label_byte(byte: u8) -> bool
@@ -67,6 +68,17 @@ fn number_up_to(digits: &[u8], limit: u32) -> Option<u32>
         rest = more;
     }
     Some(found)
+}
+
+/// The ID that a token writes.
+fn id_in(token: &[u8]) -> Option<i16>
+    ensures { result ≡ id token.now }
+{
+    match token {
+        [] => None,
+        [b'-', digits @ ..] => number_in(digits, 5, 32768).map(|n| (-(n as i32)) as i16),
+        _ => number_in(token, 5, 32767).map(|n| n as i16),
+    }
 }
 
 fn digit_value(byte: u8) -> Option<u8>
@@ -150,6 +162,16 @@ impl Argument for u32 {
     }
 }
 
+impl Argument for i16 {
+    ghost kind = { Id };
+
+    ghost seen = { Signed };
+
+    fn find(_alloc: Global, token: &[u8]) -> Result<Option<Self>, AllocError> {
+        Ok(id_in(token))
+    }
+}
+
 impl Argument for u8 {
     ghost kind = { Byte };
 
@@ -168,5 +190,64 @@ impl Argument for Vec<u8> {
 
     fn find(alloc: Global, token: &[u8]) -> Result<Option<Self>, AllocError> {
         bytes_in(alloc, token)
+    }
+}
+
+impl Argument for OsType {
+    ghost kind = { ResType };
+
+    ghost seen = { λ ty. Raw ty.0 };
+
+    fn find(alloc: Global, token: &[u8]) -> Result<Option<Self>, AllocError> {
+        match token {
+            [b'\'', a, b, c, d, b'\''] => Ok(Some(OsType([*a, *b, *c, *d]))),
+            [b'$', digits @ ..] => match hex_in(alloc, digits)?.as_deref() {
+                Some([a, b, c, d]) => Ok(Some(OsType([*a, *b, *c, *d]))),
+                _ => Ok(None),
+            },
+            _ => Ok(None),
+        }
+    }
+}
+
+impl Argument for FileName {
+    ghost kind = { File };
+
+    ghost seen = { λ file. Raw file.0.items };
+
+    fn find(alloc: Global, token: &[u8]) -> Result<Option<Self>, AllocError> {
+        match bytes_in(alloc, token)? {
+            Some(bytes) if !bytes.is_empty() => Ok(
+                ArrayVec::try_from(bytes.as_slice()).ok().map(FileName),
+            ),
+            _ => Ok(None),
+        }
+    }
+}
+
+impl Argument for Name {
+    ghost kind = { Text };
+
+    ghost seen = { λ text. Raw text.0.items };
+
+    fn find(alloc: Global, token: &[u8]) -> Result<Option<Self>, AllocError> {
+        match bytes_in(alloc, token)? {
+            Some(bytes) => Ok(ArrayVec::try_from(bytes.as_slice()).ok().map(Name)),
+            None => Ok(None),
+        }
+    }
+}
+
+impl Argument for bool {
+    ghost kind = { Switch };
+
+    ghost seen = { Flag };
+
+    fn find(_alloc: Global, token: &[u8]) -> Result<Option<Self>, AllocError> {
+        match token {
+            b"TRUE" => Ok(Some(true)),
+            b"FALSE" => Ok(Some(false)),
+            _ => Ok(None),
+        }
     }
 }

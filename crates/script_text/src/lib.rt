@@ -17,4 +17,6 @@ pub use transcript::{write_end, write_grow_reply, write_hex, write_launch, write
 pub use word::{CALLS, Word, words_are_apart};
 
 #[cfg(test)]
+mod resource_tests;
+#[cfg(test)]
 mod tests;

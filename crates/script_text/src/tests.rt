@@ -370,16 +370,20 @@ fn lists_each_call(rt: HostRuntime) -> Result<(), Fail> {
             assert!(rt; line.ends_with(":"));
         }
     }
-    assert_eq!(rt; listed, 41);
+    assert_eq!(rt; listed, 62);
     for line in [
         "  NewHandle h size\n",
         "  HandToHand b a\n",
         "  Put h offset bytes\n",
         "  FreeMem\n",
-        "  SetGrowZone name\n",
+        "  SetGrowZone name\nThe Resource Manager:\n  OpenResFile file\n",
+        "  GetResource h type id\n",
+        "  GetNamedResource h type text\n",
+        "  Get1IndResource h type n\n",
+        "  SetResLoad switch\n  ResError\nWhat an application does by itself:\n",
         "Turns:\n  WaitNextEvent\n  ExitToShell\n",
         "  grow NAME .. end,",
-        "    EmptyHandle DisposeHandle DisposePtr HPurge HNoPurge HUnlock\n",
+        "    EmptyHandle DisposeHandle DisposePtr HPurge HNoPurge HUnlock ReleaseResource\n",
     ] {
         assert!(rt; CALLS.contains(line), "at {line}");
     }

@@ -7,7 +7,7 @@ ghost use Rattle.script_text.specs.declared.word.Word as declared;
 
 use crate::arguments::{none, one, three, two};
 use crate::fault::FaultKind;
-use mac_words::{Call, ControlCall, HeapCall};
+use mac_words::{Call, ControlCall, HeapCall, ResourceCall};
 use std::alloc::Global;
 
 /// The word of a call, spelled as its variant is named.
@@ -45,6 +45,27 @@ pub enum Word {
     MoreMasters,
     MemError,
     SetGrowZone,
+    OpenResFile,
+    CloseResFile,
+    UseResFile,
+    CurResFile,
+    HomeResFile,
+    GetResource,
+    Get1Resource,
+    GetNamedResource,
+    Get1NamedResource,
+    Count1Types,
+    Get1IndType,
+    Count1Resources,
+    Get1IndResource,
+    LoadResource,
+    ReleaseResource,
+    DetachResource,
+    GetResInfo,
+    GetResAttrs,
+    GetResourceSizeOnDisk,
+    SetResLoad,
+    ResError,
     Put,
     Show,
     PutPtr,
@@ -97,6 +118,29 @@ macro_rules! calls {
                 MemError = Heap HeapCall none();
                 SetGrowZone = Control ControlCall one(name);
             }
+            "The Resource Manager" {
+                OpenResFile = Resource ResourceCall one(file);
+                CloseResFile = Resource ResourceCall one(n);
+                UseResFile = Resource ResourceCall one(n);
+                CurResFile = Resource ResourceCall none();
+                HomeResFile = Resource ResourceCall one(h);
+                GetResource = Resource ResourceCall three(h, type, id);
+                Get1Resource = Resource ResourceCall three(h, type, id);
+                GetNamedResource = Resource ResourceCall three(h, type, text);
+                Get1NamedResource = Resource ResourceCall three(h, type, text);
+                Count1Types = Resource ResourceCall none();
+                Get1IndType = Resource ResourceCall one(n);
+                Count1Resources = Resource ResourceCall one(type);
+                Get1IndResource = Resource ResourceCall three(h, type, n);
+                LoadResource = Resource ResourceCall one(h);
+                ReleaseResource = Resource ResourceCall one(h);
+                DetachResource = Resource ResourceCall one(h);
+                GetResInfo = Resource ResourceCall one(h);
+                GetResAttrs = Resource ResourceCall one(h);
+                GetResourceSizeOnDisk = Resource ResourceCall one(h);
+                SetResLoad = Resource ResourceCall one(switch);
+                ResError = Resource ResourceCall none();
+            }
             "What an application does by itself" {
                 Put = Heap HeapCall three(h, offset, bytes);
                 Show = Heap HeapCall one(h);
@@ -108,7 +152,7 @@ macro_rules! calls {
                 WaitNextEvent = Control ControlCall none();
                 ExitToShell = Control ControlCall none();
             }
-            [EmptyHandle DisposeHandle DisposePtr HPurge HNoPurge HUnlock]
+            [EmptyHandle DisposeHandle DisposePtr HPurge HNoPurge HUnlock ReleaseResource]
         }
     };
 }
@@ -137,11 +181,14 @@ macro_rules! arm {
     ($alloc:expr, $text:expr; $word:ident $group:ident $calls:ident none()) => {
         { none($text)?; Ok(Call::$group($calls::$word)) }
     };
-    ($alloc:expr, $text:expr; $word:ident $group:ident $calls:ident one($name:ident)) => {
-        { let $name = one($alloc, $text)?; Ok(Call::$group($calls::$word($name))) }
+    ($alloc:expr, $text:expr; $word:ident $group:ident $calls:ident one($a:ident)) => {
+        { let a = one($alloc, $text)?; Ok(Call::$group($calls::$word(a))) }
     };
-    ($alloc:expr, $text:expr; $word:ident $group:ident $calls:ident $read:ident ($($name:ident),*)) => {
-        { let ($($name),*) = $read($alloc, $text)?; Ok(Call::$group($calls::$word($($name),*))) }
+    ($alloc:expr, $text:expr; $word:ident $group:ident $calls:ident two($a:ident, $b:ident)) => {
+        { let (a, b) = two($alloc, $text)?; Ok(Call::$group($calls::$word(a, b))) }
+    };
+    ($alloc:expr, $text:expr; $word:ident $group:ident $calls:ident three($a:ident, $b:ident, $c:ident)) => {
+        { let (a, b, c) = three($alloc, $text)?; Ok(Call::$group($calls::$word(a, b, c))) }
     };
 }
 
@@ -194,7 +241,7 @@ macro_rules! is_held {
 /// belongs to. Then the lines that make a grow-zone script, and the calls that it may hold.
 pub const CALLS: &str = calls!(listed);
 
-pub(crate) static WORDS: [Word; 39] = calls!(words);
+pub(crate) static WORDS: [Word; 60] = calls!(words);
 
 impl Word {
     /// The word of a call.

@@ -1,7 +1,8 @@
 use Rattle.std.proofs.Common.{◌≡◌, ℕ, Option, Some, None, Result, List, true, false, refl, sym}
 use Rattle.mac_words.specs.declared.code.OsErr.{OsErr}
 use Rattle.heap_calls.specs.State.{Memory}
-use Rattle.heap_calls.specs.Asked.{Asked, Told, Done, Given, Number, Bytes, telling, seeking, packing, answered}
+use Rattle.mac_words.specs.Told.{Told, Done, Given, Number, Bytes}
+use Rattle.heap_calls.specs.Asked.{Asked, telling, seeking, packing, answered}
 use Rattle.heap_calls.specs.Asked as asked
 use Rattle.heap_calls.specs.Answer.{dispose_handle, get_handle_size, set_handle_size, h_lock, h_unlock, move_hhi}
 use Rattle.heap_calls.specs.Answer.{hlock_hi, put, show, noting, silent}
@@ -13,8 +14,8 @@ use Rattle.heap_calls.specs.Searches.{set_handle_size_searches, set_pointer_size
 use Rattle.heap_calls.specs.Searches.{hand_to_hand_searches, hand_and_hand_searches, pointer_and_hand_searches}
 use Rattle.heap_calls.specs.Moves.{set_handle_size_moves, reallocate_handle_moves, hand_to_hand_moves}
 use Rattle.heap_calls.specs.Moves.{hand_and_hand_moves, pointer_and_hand_moves}
-use Rattle.heap_calls.specs.Busy.{gate, gated, notes, served, unless, unless_silent, barred, pointer_barred}
-use Rattle.heap_calls.specs.Busy.{either_barred, both_barred}
+use Rattle.heap_calls.specs.Busy.{gate, gated, notes, served, unless, unless_silent, barred, change_barred}
+use Rattle.heap_calls.specs.Busy.{pointer_barred, either_barred, both_barred}
 
 -- A call as its method answers it is the call of the table behind its gate.
 
@@ -41,12 +42,12 @@ served-gated (asked.GetHandleSize handle) m = by_unless {T = ℕ} Number (asked.
 served-gated (asked.SetHandleSize handle size) m = by_unless {T = Unit {0}} (λ _. Done)
     (asked.SetHandleSize handle size)
     (packing (set_handle_size_moves handle size) (set_handle_size_searches handle size) (set_handle_size handle size))
-    m (barred handle m) refl refl
+    m (change_barred handle m) refl refl
 served-gated (asked.ReallocateHandle handle size) m = by_unless {T = Unit {0}} (λ _. Done)
     (asked.ReallocateHandle handle size)
     (packing (reallocate_handle_moves handle size) (reallocate_handle_searches handle size)
     (reallocate_handle handle size))
-    m (barred handle m) refl refl
+    m (change_barred handle m) refl refl
 served-gated (asked.EmptyHandle handle) m = by_unless {T = Unit {0}} (λ _. Done) (asked.EmptyHandle handle)
     (noting (empty_handle handle)) m (barred handle m) refl refl
 served-gated (asked.HLock handle) m = by_unless {T = Unit {0}} (λ _. Done) (asked.HLock handle)
@@ -74,7 +75,7 @@ served-gated (asked.HandAndHand from to) m = by_unless {T = Unit {0}} (λ _. Don
 served-gated (asked.PtrAndHand handle bytes) m = by_unless {T = Unit {0}} (λ _. Done) (asked.PtrAndHand handle bytes)
     (packing (pointer_and_hand_moves handle bytes) (pointer_and_hand_searches handle bytes)
     (pointer_and_hand handle bytes))
-    m (barred handle m) refl refl
+    m (change_barred handle m) refl refl
 served-gated (asked.DisposePtr pointer) m = by_unless {T = Unit {0}} (λ _. Done) (asked.DisposePtr pointer)
     (noting (dispose_pointer pointer)) m (pointer_barred pointer m) refl refl
 served-gated (asked.GetPtrSize pointer) m = by_unless {T = ℕ} Number (asked.GetPtrSize pointer)
@@ -83,7 +84,7 @@ served-gated (asked.SetPtrSize pointer size) m = by_unless {T = Unit {0}} (λ _.
     (seeking (set_pointer_size_searches pointer size) (set_pointer_size pointer size)) m (pointer_barred pointer m)
     refl refl
 served-gated (asked.Put handle from bytes) m = by_silent {T = Unit {0}} (λ _. Done) (asked.Put handle from bytes)
-    (silent (put handle from bytes)) m (barred handle m) refl refl
+    (silent (put handle from bytes)) m (change_barred handle m) refl refl
 served-gated (asked.Show handle) m = by_silent {T = List ℕ} Bytes (asked.Show handle) (silent (show handle)) m
     (barred handle m) refl refl
 served-gated (asked.PutPtr pointer from bytes) m = by_silent {T = Unit {0}} (λ _. Done)

@@ -131,8 +131,8 @@ not_found-still value zone rest es copy log handle e is same found code code_is 
     (ap (slot_of handle) (sym same) ∙ found ∙ ap Err code_is))
 
 -- a handle whose block was emptied
-copy-nil : (zone : List Block) (rest : Rest) (es : List Anchor) (handle : Option ℕ) (h source : ℕ) → handle ≡ Some h
-    → slice_get es h ≡ Some (Handle source) → Agrees zone rest es → h < no_number
+copy-nil : (zone : List Block) (rest : Rest) (es : List Anchor) (handle : Option ℕ) (h source : ℕ) {guarded : Bool}
+    → handle ≡ Some h → slice_get es h ≡ Some (Handle source guarded) → Agrees zone rest es → h < no_number
     → spot (is_relocatable source) zone ≡ None → look_up handle (state_of zone rest.slots es) ≡ Err NIL_HANDLE
 copy-nil zone rest es handle h source is at agrees small none =
     look_up-by zone rest.slots es handle h source is at agrees.apart small
@@ -141,9 +141,9 @@ copy-nil zone rest es handle h source is at agrees small none =
 
 -- what is answered for it
 pub copy-emptied : (value : Memory) (zone : List Block) (rest : Rest) (es : List Anchor) (log : Log) (handle : Option ℕ)
-    (h source : ℕ) → memory_of zone rest es log ≡ value → log.searches ≤ 18446744073709551615
-    → rest.moves ≤ 18446744073709551615 → handle ≡ Some h → slice_get es h ≡ Some (Handle source) → Agrees zone rest es
-    → h < no_number → spot (is_relocatable source) zone ≡ None
+    (h source : ℕ) {guarded : Bool} → memory_of zone rest es log ≡ value → log.searches ≤ 18446744073709551615
+    → rest.moves ≤ 18446744073709551615 → handle ≡ Some h → slice_get es h ≡ Some (Handle source guarded)
+    → Agrees zone rest es → h < no_number → spot (is_relocatable source) zone ≡ None
     → moving (hand_to_hand_moves handle value.heap) (searching (hand_to_hand_searches handle value.heap)
     (silent (hand_to_hand handle) value)) ≡ (Err NIL_HANDLE, value)
 copy-emptied value zone rest es log handle h source is fits few bound at agrees small none =
@@ -154,7 +154,7 @@ copy-emptied value zone rest es log handle h source is fits few bound at agrees 
 
 -- the handle of a slot that was looked up in a copy of the entries
 pub slot-in : (es copy : List Anchor) (handle : Option ℕ) (f : Found) → copy ≡ es → slot_of handle copy ≡ Ok f
-    → (handle ≡ Some f.number) × (slice_get es f.number ≡ Some (Handle f.slot))
+    → (handle ≡ Some f.number) × (slice_get es f.number ≡ Some (Handle f.slot f.guarded))
 slot-in es copy handle f same e =
     let is = slot_of-ok handle copy f e in
     (is.0, ap (λ l. slice_get l f.number) (sym same) ∙ is.1)
@@ -162,7 +162,8 @@ slot-in es copy handle f same e =
 -- a handle with a block
 module _ (zone : List Block) (rest : Rest) (es : List Anchor) (masters : rest.all ≡ 64 * count is_masters zone)
     (agrees : Agrees zone rest es)
-    (handle : Option ℕ) (h source n : ℕ) (is : handle ≡ Some h) (at : slice_get es h ≡ Some (Handle source))
+    (handle : Option ℕ) (h source n : ℕ) {guarded : Bool} (is : handle ≡ Some h)
+    (at : slice_get es h ≡ Some (Handle source guarded))
     (small : h < no_number)
     (a : Spot) (block : spot (is_relocatable source) zone ≡ Some a) (long : length (content_of a.here) ≡ n)
     (few : n ≤ 134217728)
@@ -292,7 +293,8 @@ module _ (zone : List Block) (rest : Rest) (es : List Anchor) (masters : rest.al
             ∙ ap (new_block (is_relocatable h) bytes) (sym (state-more q.ready rest q.more es agrees q.has_more))
             ∙ block-given q.ready q.more p.mid es slot (agrees-more zone rest q.more es agrees (λ k. refl) q.has_more)
             q.was q.slots.slots q.one q.slots.all q.none (is_relocatable h) (is_relocatable source)
-            (λ b. is_relocatable-number (with_handle es slot) h source (get-push es (Handle slot) h (Handle source) at)
+            (λ b. is_relocatable-number (with_handle es slot) h source
+            (get-push es (Handle slot false) h (Handle source guarded) at)
             then_agrees.apart small b) bytes zone' there
             ∙ ap (λ (t : State). (Ok (length es), t)) (sym (state-kept zone' p.mid rest' (with_handle es slot)
             (kept p.mid rest' p.kept)))

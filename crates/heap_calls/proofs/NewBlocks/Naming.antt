@@ -141,7 +141,7 @@ module _ (zone : List Block) (rest : Rest) (es : List Anchor) (masters : rest.al
 -- the handle that is copied: its entry, and its block of n bytes
 pub record Copied (zone : List Block) (es : List Anchor) (handle : Option ℕ) (f : Found) (n : ℕ) : Type 0 where
   pub is : handle ≡ Some f.number
-  pub at : slice_get es f.number ≡ Some (Handle f.slot)
+  pub at : slice_get es f.number ≡ Some (Handle f.slot f.guarded)
   pub small : f.number < no_number
   pub a : Spot
   pub block : spot (is_relocatable f.slot) zone ≡ Some a

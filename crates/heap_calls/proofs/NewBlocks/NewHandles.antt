@@ -1,3 +1,4 @@
+use Rattle.block_store.specs.Slot.{is_used}
 use Rattle.std.proofs.Common.{◌≡◌, ℕ, ◌+◌, ◌-◌, ◌*◌, ◌<◌, zero, suc, Bool, true, false, List, [], ◌∷◌, ◌++◌, length}
 use Rattle.std.proofs.Common.{refl, sym, ◌∙◌, ap, subst, cond, map, arith, Option, Some, None, Result, Ok, Err, is_some}
 use Rattle.std.proofs.Common.{nat_lt, replicate, count_by, inl, inr}
@@ -124,12 +125,12 @@ no_room-rename f g p q same slot number bytes zone none =
 pub names-more : {zone : List Block} (rest more : Rest) (es : List Anchor) → Agrees zone rest es → HasMore rest more
     → map (name_of more.slots) es ≡ map (name_of rest.slots) es
 names-more rest more es agrees has = names-same rest.slots more.slots es
-    (λ h s at. has.slots s (let used = agrees.used h s at in rw used refl))
+    (λ h s g at. has.slots s (agrees.used h s g at))
 
 pub agrees-more : {zone : List Block} (zone' : List Block) (rest more : Rest) (es : List Anchor) → Agrees zone rest es
     → KeepsFixed zone zone' → HasMore rest more → Agrees zone' more es
 agrees-more zone' rest more es agrees fixed has = record {
-  used = λ h s at. has.slots s (let used = agrees.used h s at in rw used refl) ∙ agrees.used h s at;
+  used = λ h s g at. ap is_used (has.slots s (agrees.used h s g at)) ∙ agrees.used h s g at;
   apart = agrees.apart;
   pointed = λ h p at. fixed p ∙ agrees.pointed h p at;
   lone = agrees.lone;
@@ -150,7 +151,7 @@ pub state-kept : (zone : List Block) (rest rest' : Rest) (es : List Anchor) → 
     → state_of zone rest'.slots es ≡ state_of zone rest.slots es
 state-kept zone rest rest' es now =
     ap (λ l. let s : State = record { zone = rename (handle_number es) (pointer_number es) zone; names = l } in
-    s) (names-same rest.slots rest'.slots es (λ h s at. now.slots s))
+    s) (names-same rest.slots rest'.slots es (λ h s g at. now.slots s))
 
 -- a slot of the heap is one of its store
 module _ (zone : List Block) (rest : Rest) (es : List Anchor) (masters : rest.all ≡ 64 * count is_masters zone)
@@ -266,12 +267,12 @@ searched-done {T = T} row looks value zone zone' rest rest' es es' log log' r n 
 
 -- the entries with a new handle
 abbrev pub with_handle : List Anchor → ℕ → List Anchor
-with_handle es slot = es ++ Handle slot ∷ []
+with_handle es slot = es ++ Handle slot false ∷ []
 
 -- a list that was copied and got a handle more
-pub one-more : (es copy more : List Anchor) (slot : ℕ) → copy ≡ es → more ≡ copy ++ Handle slot ∷ []
+pub one-more : (es copy more : List Anchor) (slot : ℕ) → copy ≡ es → more ≡ copy ++ Handle slot false ∷ []
     → more ≡ with_handle es slot
-one-more es copy more slot same new = new ∙ ap (λ l. l ++ Handle slot ∷ []) same
+one-more es copy more slot same new = new ∙ ap (λ l. l ++ Handle slot false ∷ []) same
 
 -- NewHandle, where its block was put in its place
 module _ (zone : List Block) (rest : Rest) (es : List Anchor) (n : ℕ) (masters : rest.all ≡ 64 * count is_masters zone)

@@ -1,3 +1,4 @@
+use Rattle.block_store.specs.Slot.{is_used}
 use Rattle.std.proofs.Common.{◌≡◌, ℕ, ◌+◌, ◌-◌, Bool, true, false, ◌||◌, List, [], ◌∷◌, ◌++◌, length, refl, sym}
 use Rattle.std.proofs.Common.{◌∙◌, ap, cond, map, arith, Option, Some, None, Result, Ok, Err, slice_get, count_by}
 use Rattle.std.proofs.Common.{subst, ◌⊎◌, inl, inr, is_some}
@@ -206,12 +207,12 @@ module _ (zone zone' : List Block) (rest rest' : Rest) (es : List Anchor) (n pla
 
     pub names-more : map (name_of rest'.slots) with_pointer ≡ map (name_of rest.slots) es ++ names.Pointer ∷ []
     names-more = map_push (name_of rest'.slots) es (Pointer place)
-        ∙ ap (λ l. l ++ names.Pointer ∷ []) (names-same rest.slots rest'.slots es (λ h s at. now.slots s))
+        ∙ ap (λ l. l ++ names.Pointer ∷ []) (names-same rest.slots rest'.slots es (λ h s g at. now.slots s))
 
     pub agrees-more : Agrees zone' rest' with_pointer
     agrees-more = record {
-      used = λ h s at. now.slots s ∙ agrees.used h s (old h s at);
-      apart = λ h k s at at'. agrees.apart h k s (old h s at) (old k s at');
+      used = λ h s g at. ap is_used (now.slots s) ∙ agrees.used h s g (old h s g at);
+      apart = λ h k s g o at at'. agrees.apart h k s g o (old h s g at) (old k s o at');
       pointed = λ h p at. elim (slice_get-push es (Pointer place) h (Pointer p) at) [
         | inl found ↦ put.others p (agrees.pointed h p found)
         | inr new ↦ ap (λ k. has (is_fixed k) zone')
@@ -240,12 +241,12 @@ module _ (zone zone' : List Block) (rest rest' : Rest) (es : List Anchor) (n pla
         place-same : (s t : ℕ) → Pointer s ≡ Pointer t → s ≡ t
         place-same s t e = cc
 
-        not_pointer : (s p : ℕ) → Handle s ≡ Pointer p → ⊥
-        not_pointer s p e = cc
+        not_pointer : (s p : ℕ) (g : Bool) → Handle s g ≡ Pointer p → ⊥
+        not_pointer s p g e = cc
 
-        old : (h s : ℕ) → slice_get with_pointer h ≡ Some (Handle s) → slice_get es h ≡ Some (Handle s)
-        old h s at = elim (slice_get-push es (Pointer place) h (Handle s) at)
-            [ inl found ↦ found | inr new ↦ absurd (not_pointer s place new.1) ]
+        old : (h s : ℕ) (g : Bool) → slice_get with_pointer h ≡ Some (Handle s g) → slice_get es h ≡ Some (Handle s g)
+        old h s g at = elim (slice_get-push es (Pointer place) h (Handle s g) at)
+            [ inl found ↦ found | inr new ↦ absurd (not_pointer s place g new.1) ]
 
     -- the answer of NewPtr, where its block was put at the base of a run
     pub new_pointer-done : new_pointer n (state_of zone rest.slots es)

@@ -156,9 +156,9 @@ module _ (slot : ℕ) (zone : List Block)
 
 -- what was made of the block of a slot, told of the handle's number
 module _ (value : Memory) (zone zone' : List Block) (rest rest' : Rest) (es : List Anchor) (log : Log)
-    (handle : Option ℕ) (h slot n : ℕ) (made : Room)
+    (handle : Option ℕ) (h slot n : ℕ) {guarded : Bool} (made : Room)
     (is : memory_of zone rest es log ≡ value) (found : loose_at handle (state_of zone rest.slots es)
-    ≡ Ok (known rest.slots h slot)) (at : slice_get es h ≡ Some (Handle slot)) (apart : Apart es)
+    ≡ Ok (known rest.slots h slot guarded)) (at : slice_get es h ≡ Some (Handle slot guarded)) (apart : Apart es)
     (small : h < no_number)
     (done : IsRenewal slot n zone rest made zone' rest')
   where

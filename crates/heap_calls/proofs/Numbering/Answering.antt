@@ -1,3 +1,4 @@
+use Rattle.std.proofs.Common.{Bool}
 use Rattle.std.proofs.Common.{◌≡◌, ℕ, ◌+◌, ◌≤◌, ◌<◌, true, List, ◌∷◌, ◌++◌, length, refl, sym, ◌∙◌, ap, arith, Option}
 use Rattle.std.proofs.Common.{Some, None, Result, Ok, Err, slice_get, subst}
 use Rattle.std.proofs.lemmas.Option.{slice_get-map}
@@ -39,15 +40,16 @@ noted {T = T} call old mid new (Err (Code code)) is e =
 noted call old mid new (Err HostMemory) is e = tt
 
 -- a slot was found where the entry is its handle's
-slot_at-ok : (h : ℕ) (o : Option Anchor) (f : Found) → slot_at h o ≡ Ok f → (o ≡ Some (Handle f.slot)) × (f.number ≡ h)
+slot_at-ok : (h : ℕ) (o : Option Anchor) (f : Found) → slot_at h o ≡ Ok f
+    → (o ≡ Some (Handle f.slot f.guarded)) × (f.number ≡ h)
 slot_at-ok h None f e = cc
-slot_at-ok h (Some (Handle s)) f e = let same : found h s ≡ f = cc in
-    (ap (λ (x : Found). Some (Handle x.slot)) same, ap (λ (x : Found). x.number) (sym same))
+slot_at-ok h (Some (Handle s g)) f e = let same : found h s g ≡ f = cc in
+    (ap (λ (x : Found). Some (Handle x.slot x.guarded)) same, ap (λ (x : Found). x.number) (sym same))
 slot_at-ok h (Some (Pointer p)) f e = cc
 slot_at-ok h (Some Disposed) f e = cc
 
 pub slot_of-ok : (handle : Option ℕ) (es : List Anchor) (f : Found) → slot_of handle es ≡ Ok f
-    → (handle ≡ Some f.number) × (slice_get es f.number ≡ Some (Handle f.slot))
+    → (handle ≡ Some f.number) × (slice_get es f.number ≡ Some (Handle f.slot f.guarded))
 slot_of-ok None es f e = cc
 slot_of-ok (Some h) es f e = let p = slot_at-ok h (slice_get es h) f e in
     (ap Some (sym p.1), ap (slice_get es) p.1 ∙ p.0)
@@ -57,7 +59,7 @@ abbrev pub held : ℕ → Spot → Held
 held h s = record { number = h; at = s }
 
 pub look_up-by : (zone : List Block) (slots : ℕ → Slot) (es : List Anchor) (handle : Option ℕ) (h slot : ℕ)
-    → handle ≡ Some h → slice_get es h ≡ Some (Handle slot) → Apart es → h < no_number
+    {guarded : Bool} → handle ≡ Some h → slice_get es h ≡ Some (Handle slot guarded) → Apart es → h < no_number
     → look_up handle (state_of zone slots es) ≡ ok_or (option_map (held h)
     (option_map (rename_spot (handle_number es) (pointer_number es)) (spot (is_relocatable slot) zone))) NIL_HANDLE
 look_up-by zone slots es handle h slot is at apart small =
@@ -76,7 +78,7 @@ handle_at-refused zone slots es (Some h) code e = ap (known_as h) (slice_get-map
   where
     cases : (o : Option Anchor) → slot_at h o ≡ Err (Code code) → known_as h (option_map (name_of slots) o) ≡ Err code
     cases None e = let same : NIL_HANDLE ≡ code = cc in ap Err same
-    cases (Some (Handle slot)) e = cc
+    cases (Some (Handle slot guarded)) e = cc
     cases (Some (Pointer p)) e = let same : WRONG_ZONE ≡ code = cc in ap Err same
     cases (Some Disposed) e = let same : WRONG_ZONE ≡ code = cc in ap Err same
 

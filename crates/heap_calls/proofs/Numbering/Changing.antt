@@ -18,7 +18,7 @@ use Rattle.block_store.specs.Block.{rename_block, is_fixed, is_relocatable, is_r
 use Rattle.block_store.specs.Block.{is_masters, tidy, no_flags}
 use Rattle.windows.specs.Writes.{written}
 use Rattle.block_store.specs.Run.{has}
-use Rattle.block_store.specs.Slot.{Slot, Unused, Used, set_slot, AreSlots}
+use Rattle.block_store.specs.Slot.{Slot, Unused, Used, set_slot, AreSlots, is_used}
 use Rattle.block_store.specs.Rest.{Rest, IsRest, KeepsSlots}
 use Rattle.block_store.specs.Room.{Spot, spot_at, raised, rename_spot, filled, room, put_in_place}
 use Rattle.block_store.specs.Grow.{freed}
@@ -28,8 +28,8 @@ use Rattle.block_store.proofs.Zone.Tidy.{rename-unless, rename_fixed-unless, has
 use Rattle.block_store.proofs.Nonrelocatable.FixedCounts.{not_fixed-room}
 use Rattle.heap_calls.specs.State.{State, Memory, Meaning, Role, Plain, Resource, used_slots, all_slots, uses_slot}
 use Rattle.heap_calls.specs.State as names
-use Rattle.heap_calls.specs.Answer.{Answer, Held, given, refused, dispose_handle, disposed_of, written_at, for_found}
-use Rattle.heap_calls.specs.Answer.{known_as, silent}
+use Rattle.heap_calls.specs.Answer.{Answer, Held, given, refused, without, written_at, for_found}
+use Rattle.heap_calls.specs.Answer.{silent}
 use Rattle.heap_calls.specs.declared.anchor.Anchor.{Anchor}
 use Rattle.heap_calls.specs.declared.anchor.Anchor.TheVariants.{Handle, Pointer, Disposed}
 use Rattle.heap_calls.specs.Inner.Numbered.{state_of, memory_of, name_of, handle_number, pointer_number, number_from}
@@ -92,18 +92,18 @@ slice_get-set_same (y ∷ es) (suc i) e within = slice_get-set_same es i e (let 
 
 -- entries stand for the same names where their slots are in the same state
 pub names-same : (slots slots' : ℕ → Slot) (es : List Anchor)
-    → ((h s : ℕ) → slice_get es h ≡ Some (Handle s) → slots' s ≡ slots s)
+    → ((h s : ℕ) (g : Bool) → slice_get es h ≡ Some (Handle s g) → slots' s ≡ slots s)
     → map (name_of slots') es ≡ map (name_of slots) es
 names-same slots slots' [] same = refl
-names-same slots slots' (Handle s ∷ es) same = rw (same 0 s refl)
-    (ap (λ l. names.Handle (role_of (slots s)) ∷ l) (names-same slots slots' es (λ h s at. same (suc h) s at)))
+names-same slots slots' (Handle s g ∷ es) same = rw (same 0 s g refl)
+    (ap (λ l. names.Handle (role_of (slots s) g) ∷ l) (names-same slots slots' es (λ h s g at. same (suc h) s g at)))
 names-same slots slots' (Pointer p ∷ es) same = ap (λ l. names.Pointer ∷ l)
-    (names-same slots slots' es (λ h s at. same (suc h) s at))
+    (names-same slots slots' es (λ h s g at. same (suc h) s g at))
 names-same slots slots' (Disposed ∷ es) same = ap (λ l. names.Disposed ∷ l)
-    (names-same slots slots' es (λ h s at. same (suc h) s at))
+    (names-same slots slots' es (λ h s g at. same (suc h) s g at))
 
-unused-not_used : {P : Type 0} (state : Slot) → state ≡ Unused → state ≡ Used false → P
-unused-not_used state a b = let fails : Unused ≡ Used false = sym a ∙ b in cc
+unused-not_used : {P : Type 0} (state : Slot) → state ≡ Unused → is_used state ≡ true → P
+unused-not_used state a b = let fails : false ≡ true = sym (ap is_used a) ∙ b in cc
 
 -- one for a name with a slot
 abbrev pub used_by : Meaning → ℕ
@@ -139,7 +139,7 @@ module _ {before : List Block} (zone : List Block) (rest rest' : Rest) (es : Lis
   where
     -- the entries with the new one
     abbrev pub es' : List Anchor
-    es' = es ++ Handle slot ∷ []
+    es' = es ++ Handle slot false ∷ []
 
     other-slot : (k : ℕ) → (k == slot) ≡ false → rest'.slots k ≡ rest.slots k
     other-slot k apart = now k ∙ cond-false (k == slot) (Used false) (rest.slots k) apart
@@ -147,15 +147,15 @@ module _ {before : List Block} (zone : List Block) (rest rest' : Rest) (es : Lis
     pub slot-now : rest'.slots slot ≡ Used false
     slot-now = now slot ∙ cond-true (slot == slot) (Used false) (rest.slots slot) (leads_to-same slot)
 
-    apart-from : (h s : ℕ) → slice_get es h ≡ Some (Handle s) → (s == slot) ≡ false
-    apart-from h s at = false_from_ne_true (s == slot) (λ e. unused-not_used (rest.slots s)
-        (ap rest.slots ((Decides-eqb s slot).0 e) ∙ was) (agrees.used h s at))
+    apart-from : (h s : ℕ) (g : Bool) → slice_get es h ≡ Some (Handle s g) → (s == slot) ≡ false
+    apart-from h s g at = false_from_ne_true (s == slot) (λ e. unused-not_used (rest.slots s)
+        (ap rest.slots ((Decides-eqb s slot).0 e) ∙ was) (agrees.used h s g at))
 
     pub number-now : handle_number es' slot ≡ length es
     number-now =
-        number_from-new 0 (leads_to slot) es (Handle slot) (leads_to-same slot)
+        number_from-new 0 (leads_to slot) es (Handle slot false) (leads_to-same slot)
         (λ k x at. false_from_ne_true (leads_to slot x) (λ e. let is = leads_to-is slot x e in
-        unused-not_used (rest.slots slot) was (agrees.used k slot (at ∙ ap Some is))))
+        unused-not_used (rest.slots slot) was (agrees.used k slot is.0 (at ∙ ap Some is.1))))
         ∙ omega arith
 
     -- the zone as it was has the names that it had
@@ -163,32 +163,32 @@ module _ {before : List Block} (zone : List Block) (rest rest' : Rest) (es : Lis
         ≡ rename (handle_number es) (pointer_number es) zone
     zone-kept =
         rename_fixed-unless (handle_number es') (pointer_number es) (pointer_number es')
-        (λ k. number_from-push 0 (points_to k) es (Handle slot) refl) zone
+        (λ k. number_from-push 0 (points_to k) es (Handle slot false) refl) zone
         ∙ rename-unless (handle_number es) (handle_number es') (pointer_number es) slot
-        (λ k e. number_from-push 0 (leads_to k) es (Handle slot) (flipped slot k e)) zone none
+        (λ k e. number_from-push 0 (leads_to k) es (Handle slot false) (flipped slot k e)) zone none
 
     pub names-now : map (name_of rest'.slots) es' ≡ map (name_of rest.slots) es ++ names.Handle Plain ∷ []
     names-now =
-        map_push (name_of rest'.slots) es (Handle slot)
-        ∙ ap (λ l. l ++ names.Handle (role_of (rest'.slots slot)) ∷ [])
-        (names-same rest.slots rest'.slots es (λ h s at. other-slot s (apart-from h s at)))
-        ∙ ap (λ t. map (name_of rest.slots) es ++ names.Handle (role_of t) ∷ []) slot-now
+        map_push (name_of rest'.slots) es (Handle slot false)
+        ∙ ap (λ l. l ++ names.Handle (role_of (rest'.slots slot) false) ∷ [])
+        (names-same rest.slots rest'.slots es (λ h s g at. other-slot s (apart-from h s g at)))
+        ∙ ap (λ t. map (name_of rest.slots) es ++ names.Handle (role_of t false) ∷ []) slot-now
 
     pub agrees-now : (zone' : List Block) → KeepsFixed before zone' → Agrees zone' rest' es'
     agrees-now zone' fixed = record {
-      used = λ h s at. elim (slice_get-push es (Handle slot) h (Handle s) at) [
-        | inl found ↦ other-slot s (apart-from h s found) ∙ agrees.used h s found
+      used = λ h s g at. elim (slice_get-push es (Handle slot false) h (Handle s g) at) [
+        | inl found ↦ ap is_used (other-slot s (apart-from h s g found)) ∙ agrees.used h s g found
         | inr new ↦
-            (let is : s ≡ slot = handle-same s slot new.1 in ap rest'.slots is ∙ slot-now)
+            (let is : s ≡ slot = handle-same s slot g new.1 in ap is_used (ap rest'.slots is ∙ slot-now))
       ];
-      apart = λ h k s at at'. elim (slice_get-push es (Handle slot) h (Handle s) at) [
-        | inl found ↦ elim (slice_get-push es (Handle slot) k (Handle s) at') [
-          | inl found' ↦ agrees.apart h k s found found'
+      apart = λ h k s g o at at'. elim (slice_get-push es (Handle slot false) h (Handle s g) at) [
+        | inl found ↦ elim (slice_get-push es (Handle slot false) k (Handle s o) at') [
+          | inl found' ↦ agrees.apart h k s g o found found'
           | inr new' ↦ absurd
-              (clash h s found (handle-same s slot new'.1))
+              (clash h s g found (handle-same s slot o new'.1))
         ]
-        | inr new ↦ elim (slice_get-push es (Handle slot) k (Handle s) at')
-            [ inl found' ↦ absurd (clash k s found' (handle-same s slot new.1)) | inr new' ↦ new.0 ∙ sym new'.0 ]
+        | inr new ↦ elim (slice_get-push es (Handle slot false) k (Handle s o) at')
+            [ inl found' ↦ absurd (clash k s o found' (handle-same s slot g new.1)) | inr new' ↦ new.0 ∙ sym new'.0 ]
       ];
       pointed = λ h p at. fixed p ∙ agrees.pointed h p (old h p at);
       lone = λ h k p at at'. agrees.lone h k p (old h p at) (old k p at');
@@ -203,18 +203,18 @@ module _ {before : List Block} (zone : List Block) (rest rest' : Rest) (es : Lis
           omega (arith, one, all);
     }
       where
-        handle-same : (s t : ℕ) → Handle s ≡ Handle t → s ≡ t
-        handle-same s t e = cc
+        handle-same : (s t : ℕ) (g : Bool) → Handle s g ≡ Handle t false → s ≡ t
+        handle-same s t g e = cc
 
-        not_handle : (p s : ℕ) → Pointer p ≡ Handle s → ⊥
+        not_handle : (p s : ℕ) → Pointer p ≡ Handle s false → ⊥
         not_handle p s e = cc
 
         old : (h p : ℕ) → slice_get es' h ≡ Some (Pointer p) → slice_get es h ≡ Some (Pointer p)
-        old h p at = elim (slice_get-push es (Handle slot) h (Pointer p) at)
+        old h p at = elim (slice_get-push es (Handle slot false) h (Pointer p) at)
             [ inl found ↦ found | inr new ↦ absurd (not_handle p slot new.1) ]
 
-        clash : (h s : ℕ) → slice_get es h ≡ Some (Handle s) → s ≡ slot → ⊥
-        clash h s found is = unused-not_used (rest.slots s) (ap rest.slots is ∙ was) (agrees.used h s found)
+        clash : (h s : ℕ) (g : Bool) → slice_get es h ≡ Some (Handle s g) → s ≡ slot → ⊥
+        clash h s g found is = unused-not_used (rest.slots s) (ap rest.slots is ∙ was) (agrees.used h s g found)
 
     -- a new handle over another zone
     pub handle-given : (zone' : List Block) → given (names.Handle Plain)
@@ -272,8 +272,8 @@ without-other es h old at k x stays found = elim (slice_get-set es h Disposed k 
   | inr new ↦ absurd (stays new.1)
 ]
 
-pub handle-stays : (s : ℕ) → Handle s ≡ Disposed → ⊥
-handle-stays s e = cc
+pub handle-stays : (s : ℕ) (g : Bool) → Handle s g ≡ Disposed → ⊥
+handle-stays s g e = cc
 
 pub pointer-stays : (place : ℕ) → Pointer place ≡ Disposed → ⊥
 pointer-stays place e = cc
@@ -305,8 +305,8 @@ state-left zone' slots left zone l done named =
     s) (sym named)
 
 -- the names of a heap with a handle disposed of
-module _ (zone : List Block) (rest rest' : Rest) (es : List Anchor) (h slot : ℕ)
-    (agrees : Agrees zone rest es) (at : slice_get es h ≡ Some (Handle slot)) (small : h < no_number)
+module _ (zone : List Block) (rest rest' : Rest) (es : List Anchor) (h slot : ℕ) {guarded : Bool}
+    (agrees : Agrees zone rest es) (at : slice_get es h ≡ Some (Handle slot guarded)) (small : h < no_number)
     (now : AreSlots (set_slot rest.slots slot Unused) rest'.slots) (one : rest'.unused ≡ rest.unused + 1)
     (all : rest'.all ≡ rest.all)
   where
@@ -314,53 +314,45 @@ module _ (zone : List Block) (rest rest' : Rest) (es : List Anchor) (h slot : �
     abbrev pub left : List Anchor
     left = slice_set es h Disposed
 
-    other-left : (k s : ℕ) → slice_get left k ≡ Some (Handle s) → (slice_get es k ≡ Some (Handle s))
+    other-left : (k s : ℕ) (g : Bool) → slice_get left k ≡ Some (Handle s g) → (slice_get es k ≡ Some (Handle s g))
         × ((s == slot) ≡ false)
-    other-left k s found =
-        let other = without-other es h (Handle slot) at k (Handle s) (handle-stays s) found in (
+    other-left k s g found =
+        let other = without-other es h (Handle slot guarded) at k (Handle s g) (handle-stays s g) found in (
           other.0,
-          false_from_ne_true (s == slot) (λ e. other.1 (agrees.apart k h s other.0
-              (at ∙ ap (λ n. Some (Handle n)) (sym ((Decides-eqb s slot).0 e))))),
+          false_from_ne_true (s == slot) (λ e. other.1 (agrees.apart k h s g guarded other.0
+              (at ∙ ap (λ n. Some (Handle n guarded)) (sym ((Decides-eqb s slot).0 e))))),
         )
 
     slots-left : (s : ℕ) → (s == slot) ≡ false → rest'.slots s ≡ rest.slots s
     slots-left s e = now s ∙ cond-false (s == slot) Unused (rest.slots s) e
 
     pub names-left : map (name_of rest'.slots) left ≡ slice_set (map (name_of rest.slots) es) h names.Disposed
-    names-left = names-same rest.slots rest'.slots left (λ k s found. slots-left s (other-left k s found).1)
+    names-left = names-same rest.slots rest'.slots left (λ k s g found. slots-left s (other-left k s g found).1)
         ∙ map-set (name_of rest.slots) es h Disposed
 
     pointer-left : (k p : ℕ) → slice_get left k ≡ Some (Pointer p) → slice_get es k ≡ Some (Pointer p)
-    pointer-left k p found = (without-other es h (Handle slot) at k (Pointer p) (pointer-stays p) found).0
+    pointer-left k p found = (without-other es h (Handle slot guarded) at k (Pointer p) (pointer-stays p) found).0
 
     pub agrees-left : Agrees (tidy (freed (is_relocatable slot) zone)) rest' left
     agrees-left = record {
-      used = λ k s found. slots-left s (other-left k s found).1 ∙ agrees.used k s (other-left k s found).0;
-      apart = λ j k s a b. agrees.apart j k s (other-left j s a).0 (other-left k s b).0;
+      used = λ k s g found. ap is_used (slots-left s (other-left k s g found).1)
+          ∙ agrees.used k s g (other-left k s g found).0;
+      apart = λ j k s g o a b. agrees.apart j k s g o (other-left j s g a).0 (other-left k s o b).0;
       pointed = λ k p found. fixed-released slot zone p ∙ agrees.pointed k p (pointer-left k p found);
       lone = λ j k p a b. agrees.lone j k p (pointer-left j p a) (pointer-left k p b);
       counted =
           let a = agrees.counted in
           let c : count_by uses_slot (map (name_of rest'.slots) left) + 1
           ≡ count_by uses_slot (map (name_of rest.slots) es) =
-          used-without rest.slots es h (Handle slot) _ at names-left in
+          used-without rest.slots es h (Handle slot guarded) _ at names-left in
           omega (arith, one, all);
     }
 
-    pub dispose_handle-done : (handle : Option ℕ) → handle ≡ Some h
-        → dispose_handle handle (state_of zone rest.slots es) ≡ (
-          Ok tt,
-          state_of
-              (tidy (freed (is_relocatable slot) zone)) rest'.slots left,
-        )
-    dispose_handle-done handle is =
-        ap (λ o. dispose_handle o (state_of zone rest.slots es)) is
-        ∙ ap (λ o. for_found (known_as h o) (state_of zone rest.slots es)
-        (λ k. disposed_of k.role k.number (state_of zone rest.slots es)))
-        (slice_get-map (name_of rest.slots) es h ∙ ap (option_map (name_of rest.slots)) at)
-        ∙ ap (λ t. disposed_of (role_of t) h (state_of zone rest.slots es)) (agrees.used h slot at)
-        ∙ ap (λ (s : State). (Ok tt, s)) (state-left (tidy (freed (is_relocatable slot) zone)) rest'.slots left _ _
-        zone-left names-left)
+    -- the heap without it
+    pub without-done : without h (state_of zone rest.slots es)
+        ≡ state_of (tidy (freed (is_relocatable slot) zone)) rest'.slots left
+    without-done =
+        state-left (tidy (freed (is_relocatable slot) zone)) rest'.slots left _ _ zone-left names-left
       where
         zone-left : tidy (freed (is_relocatable h) (rename (handle_number es) (pointer_number es) zone))
             ≡ rename (handle_number left) (pointer_number left) (tidy (freed (is_relocatable slot) zone))
@@ -369,10 +361,10 @@ module _ (zone : List Block) (rest rest' : Rest) (es : List Anchor) (h slot : �
             (is_relocatable-number es h slot at agrees.apart small) zone)
             ∙ tidy-rename (handle_number es) (pointer_number es) (freed (is_relocatable slot) zone)
             ∙ sym (rename_fixed-unless (handle_number left) (pointer_number es) (pointer_number left)
-            (λ k. number_from-set 0 (points_to k) es h (Handle slot) Disposed at refl refl)
+            (λ k. number_from-set 0 (points_to k) es h (Handle slot guarded) Disposed at refl refl)
             (tidy (freed (is_relocatable slot) zone))
             ∙ rename-unless (handle_number es) (handle_number left) (pointer_number es) slot
-            (λ k e. number_from-set 0 (leads_to k) es h (Handle slot) Disposed at (flipped slot k e) refl)
+            (λ k e. number_from-set 0 (leads_to k) es h (Handle slot guarded) Disposed at (flipped slot k e) refl)
             (tidy (freed (is_relocatable slot) zone)) (has-released slot zone))
 
 -- the spot of a place is a way to see the zone
@@ -413,14 +405,14 @@ fixed-carved place n zone after new none wide done = cases (spot_at place zone) 
 pub agrees-kept : (zone zone' : List Block) (rest rest' : Rest) (es : List Anchor) → Agrees zone rest es
     → KeepsFixed zone zone' → KeepsSlots rest rest' → Agrees zone' rest' es
 agrees-kept zone zone' rest rest' es agrees fixed now = record {
-  used = λ h s at. now.slots s ∙ agrees.used h s at;
+  used = λ h s g at. ap is_used (now.slots s) ∙ agrees.used h s g at;
   apart = agrees.apart;
   pointed = λ h p at. fixed p ∙ agrees.pointed h p at;
   lone = agrees.lone;
   counted =
       let a = agrees.counted in
       let e : count_by uses_slot (map (name_of rest'.slots) es) ≡ count_by uses_slot (map (name_of rest.slots) es) =
-      ap (count_by uses_slot) (names-same rest.slots rest'.slots es (λ h s at. now.slots s)) in
+      ap (count_by uses_slot) (names-same rest.slots rest'.slots es (λ h s g at. now.slots s)) in
       omega (arith, now.unused, now.all);
 }
 
@@ -460,7 +452,7 @@ memory-same zone rest rest' es log now =
       log = log;
       moves = rest'.moves;
       window = rest'.window;
-    }) (names-same rest.slots rest'.slots es (λ h s at. now.slots s))
+    }) (names-same rest.slots rest'.slots es (λ h s g at. now.slots s))
     ∙ ap (λ m. record { heap = state_of zone rest.slots es; log = log; moves = m; window = rest'.window }) now.moves
     ∙ ap (λ w. record { heap = state_of zone rest.slots es; log = log; moves = rest.moves; window = w }) now.window
 
@@ -487,7 +479,7 @@ pub silent-kept : {T : Type 0} (row : State → Answer T) (value : Memory) (zone
 silent-kept {T = T} row value zone zone' rest rest' es log r is done now =
     silent-done row value zone zone' rest rest' es es log r is
     (done ∙ ap (λ l. (r, record { zone = rename (handle_number es) (pointer_number es) zone'; names = l }))
-    (sym (names-same rest.slots rest'.slots es (λ h s at. now.slots s))))
+    (sym (names-same rest.slots rest'.slots es (λ h s g at. now.slots s))))
     now.window now.moves
 
 -- what a refused call gives

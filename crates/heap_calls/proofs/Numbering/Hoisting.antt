@@ -124,8 +124,9 @@ hoisted-rename f g h slot same zone =
 
 -- the block of a slot, looked up by its handle
 module _ (value : Memory) (zone : List Block) (rest : Rest) (es : List Anchor) (log : Log) (handle : Option ℕ)
-    (h slot : ℕ)
-    (is : memory_of zone rest es log ≡ value) (bound : handle ≡ Some h) (at : slice_get es h ≡ Some (Handle slot))
+    (h slot : ℕ) {guarded : Bool}
+    (is : memory_of zone rest es log ≡ value) (bound : handle ≡ Some h)
+    (at : slice_get es h ≡ Some (Handle slot guarded))
     (apart : Apart es) (small : h < no_number)
   where
     abbrev state : State

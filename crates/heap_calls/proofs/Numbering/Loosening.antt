@@ -1,4 +1,4 @@
-use Rattle.std.proofs.Common.{◌≡◌, ℕ, ◌+◌, ◌<◌, Bool, true, false, List, [], ◌∷◌, refl, sym, ◌∙◌, ap, map, cond, Option}
+use Rattle.std.proofs.Common.{◌≡◌, ℕ, ◌+◌, ◌<◌, Bool, true, false, List, [], ◌∷◌, refl, sym, ◌∙◌, ap, cond, Option}
 use Rattle.std.proofs.Common.{Some, None, Result, Ok, Err, slice_get, subst, is_some, arith}
 use Rattle.std.proofs.lemmas.Option.{slice_get-map, none-some}
 use Rattle.std.specs.Option.{option_map}
@@ -7,7 +7,7 @@ use Rattle.mac_words.specs.declared.code.OsErr.{OsErr}
 use Rattle.mac_words.specs.declared.code.TheConstants.OsErr.{PURGED, MEM_FULL}
 use Rattle.block_store.specs.Block.{Block, Free, Fixed, Masters, Relocatable, size, rename, rename_block}
 use Rattle.block_store.specs.Block.{is_relocatable, is_mover, tidy}
-use Rattle.block_store.specs.Slot.{Slot, Used}
+use Rattle.block_store.specs.Slot.{Slot}
 use Rattle.block_store.specs.Room.{Spot, spot, raised, rename_spot}
 use Rattle.block_store.specs.Rest.{Rest, IsRest, counted}
 use Rattle.block_store.specs.Seen.{seen}
@@ -20,6 +20,7 @@ use Rattle.heap_calls.specs.Answer.{rebuilt, noting, silent, searching, code_of}
 use Rattle.heap_calls.specs.Inner.Given.{IsAnswer, last_after, seen_flags}
 use Rattle.heap_calls.specs.Purging.{bit, is_resource, block_bits, h_get_state, is_loose, emptied_at, empty_handle}
 use Rattle.heap_calls.specs.Purging.{reallocated, reallocate_handle}
+use Rattle.heap_calls.specs.Inside.{is_owned}
 use Rattle.heap_calls.specs.Searches.{found_searches, reallocate_handle_searches}
 use Rattle.heap_calls.specs.Moves.{reallocate_handle_moves}
 use Rattle.heap_calls.specs.Inner.Loose.{FindsLoose, bits_of, loose, loose_at, renewed, renewed_searches, renewed_moves}
@@ -28,7 +29,7 @@ use Rattle.heap_calls.specs.Inner.Numbered.{no_number}
 use Rattle.heap_calls.specs.declared.refusal.Refusal.{Refusal}
 use Rattle.heap_calls.specs.declared.refusal.Refusal.TheVariants.{Code, HostMemory}
 use Rattle.heap_calls.specs.declared.anchor.Anchor.{Anchor}
-use Rattle.heap_calls.specs.declared.anchor.Anchor.TheVariants.{Handle, Pointer, Disposed}
+use Rattle.heap_calls.specs.declared.anchor.Anchor.TheVariants.{Handle}
 use Rattle.heap_calls.proofs.Numbering.Numbers.{Apart, is_relocatable-number}
 use Rattle.heap_calls.proofs.Numbering.Changing.{silent-kept, silent-refused}
 
@@ -48,12 +49,12 @@ noted-searching {T = T} n call old mid new (Err (Code code)) is e =
 noted-searching n call old mid new (Err HostMemory) is e = tt
 
 -- a handle as it is known
-abbrev pub known : (ℕ → Slot) → ℕ → ℕ → Known
-known slots h slot = record { number = h; role = role_of (slots slot) }
+abbrev pub known : (ℕ → Slot) → ℕ → ℕ → Bool → Known
+known slots h slot guarded = record { number = h; role = role_of (slots slot) guarded }
 
 pub handle_at-by : (zone : List Block) (slots : ℕ → Slot) (es : List Anchor) (handle : Option ℕ) (h slot : ℕ)
-    → handle ≡ Some h → slice_get es h ≡ Some (Handle slot) → handle_at handle (state_of zone slots es)
-    ≡ Ok (known slots h slot)
+    {guarded : Bool} → handle ≡ Some h → slice_get es h ≡ Some (Handle slot guarded)
+    → handle_at handle (state_of zone slots es) ≡ Ok (known slots h slot guarded)
 handle_at-by zone slots es handle h slot bound at =
     ap (λ o. handle_at o (state_of zone slots es)) bound ∙ ap (known_as h)
     (slice_get-map (name_of slots) es h ∙ ap (option_map (name_of slots)) at)
@@ -64,12 +65,12 @@ is_loose-rename f g (Some s) = is_mover-rename f g s.here
 
 -- a handle is loose where its slot is
 pub loose_at-by : (zone : List Block) (slots : ℕ → Slot) (es : List Anchor) (handle : Option ℕ) (h slot : ℕ) (t : Bool)
-    → handle ≡ Some h → slice_get es h ≡ Some (Handle slot) → Apart es → h < no_number
+    {guarded : Bool} → handle ≡ Some h → slice_get es h ≡ Some (Handle slot guarded) → Apart es → h < no_number
     → is_loose (spot (is_relocatable slot) zone) ≡ t → loose_at handle (state_of zone slots es)
-    ≡ cond t (Ok (known slots h slot)) (Err PURGED)
-loose_at-by zone slots es handle h slot t bound at apart small is =
+    ≡ cond t (Ok (known slots h slot guarded)) (Err PURGED)
+loose_at-by zone slots es handle h slot t {guarded} bound at apart small is =
     ap (λ r. loose r (rename f g zone)) (handle_at-by zone slots es handle h slot bound at)
-    ∙ ap (λ u. cond u (Ok (known slots h slot)) (Err PURGED))
+    ∙ ap (λ u. cond u (Ok (known slots h slot guarded)) (Err PURGED))
     (ap is_loose (spot-rename f g (is_relocatable h) (is_relocatable slot)
     (is_relocatable-number es h slot at apart small) zone) ∙ is_loose-rename f g (spot (is_relocatable slot) zone)
     ∙ is)
@@ -174,42 +175,23 @@ no_moves-loose handle n e value zone rest es log is found code code_is =
     ∙ reallocate_moves-loose handle n (state_of zone rest.slots es)
     ∙ ap (λ r. found_searches r (λ k. renewed_moves k.number n (state_of zone rest.slots es).zone)) none
 
--- each handle of a store is an application's own
-own : (slots : ℕ → Slot) (es : List Anchor) (h : ℕ) (k : Known)
-    → ((h slot : ℕ) → slice_get es h ≡ Some (Handle slot) → slots slot ≡ Used false)
-    → known_as h (slice_get (map (name_of slots) es) h) ≡ Ok k → is_resource k.role ≡ false
-own slots es h k used e = cases (slice_get es h) refl (ap (known_as h) (sym (slice_get-map (name_of slots) es h)) ∙ e)
+-- the bits of a handle's block, and the one of a resource's
+abbrev pub bits_answer : ℕ → State → Held → Answer ℕ
+bits_answer more s held = (Ok (block_bits held.at.here + more), s)
+
+-- the bit of a handle that was looked up
+abbrev pub role_bit : Result Known OsErr → ℕ
+role_bit r = bit 32 (is_owned r)
+
+pub h_get_state-by : (handle : Option ℕ) (s : State) → h_get_state handle s
+    ≡ on_block handle s (bits_answer (role_bit (handle_at handle s)) s)
+h_get_state-by handle s = found (handle_at handle s)
   where
-    cases : (o : Option Anchor) → slice_get es h ≡ o → known_as h (option_map (name_of slots) o) ≡ Ok k
-        → is_resource k.role ≡ false
-    cases None at e = cc
-    cases (Some (Handle slot)) at e =
-        let same : known slots h slot ≡ k = cc in
-        ap (λ (k : Known). is_resource k.role) (sym same) ∙ ap (λ t. is_resource (role_of t)) (used h slot at)
-    cases (Some (Pointer p)) at e = cc
-    cases (Some Disposed) at e = cc
-
--- the bits of a handle's block, where no handle is a resource's
-abbrev pub bits_answer : State → Held → Answer ℕ
-bits_answer s held = (Ok (block_bits held.at.here + 0), s)
-
-pub h_get_state-own : (handle : Option ℕ) (zone : List Block) (slots : ℕ → Slot) (es : List Anchor)
-    → ((h slot : ℕ) → slice_get es h ≡ Some (Handle slot) → slots slot ≡ Used false)
-    → h_get_state handle (state_of zone slots es) ≡ on_block handle (state_of zone slots es)
-    (bits_answer (state_of zone slots es))
-h_get_state-own None zone slots es used = refl
-h_get_state-own (Some h) zone slots es used = found (known_as h (slice_get s.names h)) (λ k e. own slots es h k used e)
-  where
-    s : State
-    s = state_of zone slots es
-
-    found : (r : Result Known OsErr) → ((k : Known) → r ≡ Ok k → is_resource k.role ≡ false)
-        → for_found r s (λ k. for_found (held_at r s) s (λ held.
+    found : (r : Result Known OsErr) → for_found r s (λ k. for_found (held_at r s) s (λ held.
         (Ok (block_bits held.at.here + bit 32 (is_resource k.role)), s)))
-        ≡ for_found (held_at r s) s (bits_answer s)
-    found (Err code) plain = refl
-    found (Ok k) plain = ap (λ t. for_found (held_at (Ok k) s) s (λ held. (Ok (block_bits held.at.here + bit 32 t), s)))
-        (plain k refl)
+        ≡ for_found (held_at r s) s (bits_answer (role_bit r) s)
+    found (Err code) = refl
+    found (Ok k) = refl
 
 pub block_bits-rename : (f g : ℕ → ℕ) (b : Block) → block_bits (rename_block f g b)
     ≡ bits_of (seen_flags (Some (seen b)))
@@ -220,13 +202,14 @@ block_bits-rename f g (Relocatable id flags content) = refl
 
 -- the row of HGetState over a store is that of its bits
 pub h_get_state-bits : (handle : Option ℕ) (value : Memory) (zone : List Block) (rest : Rest) (es : List Anchor)
-    (log : Log) → ((h slot : ℕ) → slice_get es h ≡ Some (Handle slot) → rest.slots slot ≡ Used false)
-    → memory_of zone rest es log ≡ value → silent (h_get_state handle) value
-    ≡ silent (λ s. on_block handle s (bits_answer s)) value
-h_get_state-bits handle value zone rest es log used is =
-    let P : Memory → Type 0 = λ m. silent (h_get_state handle) m ≡ silent (λ s. on_block handle s (bits_answer s)) m in
+    (log : Log) → memory_of zone rest es log ≡ value → silent (h_get_state handle) value
+    ≡ silent (λ s. on_block handle s (bits_answer (role_bit (handle_at handle (state_of zone rest.slots es))) s)) value
+h_get_state-bits handle value zone rest es log is =
+    let more = role_bit (handle_at handle (state_of zone rest.slots es)) in
+    let P : Memory → Type 0 = λ m. silent (h_get_state handle) m
+    ≡ silent (λ s. on_block handle s (bits_answer more s)) m in
     subst P is (ap (λ (a : Answer ℕ). (a.0, record (memory_of zone rest es log) { heap = a.1 }))
-    (h_get_state-own handle zone rest.slots es used))
+    (h_get_state-by handle (state_of zone rest.slots es)))
 
 -- the same for a copy of the entries
 pub loose_in : (zone : List Block) (slots : ℕ → Slot) (es es' : List Anchor) (handle : Option ℕ) (r : Result ℕ Refusal)
@@ -284,8 +267,9 @@ loose_not_searched n HostMemory zone rest es log handle value few is found = tt
 
 -- the answer of EmptyHandle, where the block of its slot was released
 pub empty_handle-done : (value : Memory) (zone zone' : List Block) (rest rest' : Rest) (es : List Anchor) (log : Log)
-    (handle : Option ℕ) (h slot : ℕ) → memory_of zone rest es log ≡ value
-    → loose_at handle (state_of zone rest.slots es) ≡ Ok (known rest.slots h slot) → slice_get es h ≡ Some (Handle slot)
+    (handle : Option ℕ) (h slot : ℕ) {guarded : Bool} → memory_of zone rest es log ≡ value
+    → loose_at handle (state_of zone rest.slots es) ≡ Ok (known rest.slots h slot guarded)
+    → slice_get es h ≡ Some (Handle slot guarded)
     → Apart es → h < no_number → tidy zone ≡ zone
     → IsRest rest rest' → zone' ≡ tidy (freed (is_relocatable slot) zone)
     → silent (empty_handle handle) value ≡ (Ok tt, memory_of zone' rest' es log)

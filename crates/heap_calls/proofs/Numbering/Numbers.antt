@@ -48,8 +48,8 @@ number_from-found n test (x ∷ es) m is small = cases (test x) refl is (λ e. n
     cases true passes is rest = (0, x, omega arith, refl, passes)
     cases false fails is rest = let found = rest is in (suc found.0, found.1, omega (arith, found.2), found.3, found.4)
 
-pub leads_to-is : (slot : ℕ) (e : Anchor) → leads_to slot e ≡ true → e ≡ Handle slot
-leads_to-is slot (Handle s) is = ap Handle ((Decides-eqb s slot).0 is)
+pub leads_to-is : (slot : ℕ) (e : Anchor) → leads_to slot e ≡ true → (guarded : Bool) × (e ≡ Handle slot guarded)
+leads_to-is slot (Handle s guarded) is = (guarded, ap (λ n. Handle n guarded) ((Decides-eqb s slot).0 is))
 leads_to-is slot (Pointer p) is = absurd (false≢true is)
 leads_to-is slot Disposed is = absurd (false≢true is)
 
@@ -58,31 +58,34 @@ leads_to-same slot = (Decides-eqb slot slot).1 refl
 
 -- no two handles have one slot
 abbrev pub Apart : List Anchor → Type 0
-Apart es = (h k slot : ℕ) → slice_get es h ≡ Some (Handle slot) → slice_get es k ≡ Some (Handle slot) → h ≡ k
+Apart es = (h k slot : ℕ) (guarded other : Bool) → slice_get es h ≡ Some (Handle slot guarded)
+    → slice_get es k ≡ Some (Handle slot other) → h ≡ k
 
 -- the number of a slot is that of its handle
-pub handle_number-at : (es : List Anchor) (h slot : ℕ) → slice_get es h ≡ Some (Handle slot) → Apart es
-    → handle_number es slot ≡ h
-handle_number-at es h slot at apart =
-    number_from-at 0 (leads_to slot) es h (Handle slot) at (leads_to-same slot)
-    (λ k e found is. apart k h slot (found ∙ ap Some (leads_to-is slot e is)) at) ∙ omega arith
+pub handle_number-at : (es : List Anchor) (h slot : ℕ) {guarded : Bool} → slice_get es h ≡ Some (Handle slot guarded)
+    → Apart es → handle_number es slot ≡ h
+handle_number-at es h slot {guarded} at apart =
+    number_from-at 0 (leads_to slot) es h (Handle slot guarded) at (leads_to-same slot)
+    (λ k e found is. let led = leads_to-is slot e is in apart k h slot led.0 guarded (found ∙ ap Some led.1) at)
+    ∙ omega arith
 
 -- and no other slot has it
-pub handle_number-only : (es : List Anchor) (h slot id : ℕ) → slice_get es h ≡ Some (Handle slot) → h < no_number
-    → handle_number es id ≡ h → id ≡ slot
-handle_number-only es h slot id at small is =
+pub handle_number-only : (es : List Anchor) (h slot id : ℕ) {guarded : Bool}
+    → slice_get es h ≡ Some (Handle slot guarded) → h < no_number → handle_number es id ≡ h → id ≡ slot
+handle_number-only es h slot id {guarded} at small is =
     let found = number_from-found 0 (leads_to id) es h is small in
     let place : h ≡ 0 + found.0 = found.2 in
     let same : h ≡ found.0 = omega arith in
-    let both : Some found.1 ≡ Some (Handle slot) = sym found.3 ∙ ap (slice_get es) (sym same) ∙ at in
-    slot_from (sym (leads_to-is id found.1 found.4) ∙ same_Some _ _ both)
+    let both : Some found.1 ≡ Some (Handle slot guarded) = sym found.3 ∙ ap (slice_get es) (sym same) ∙ at in
+    let led = leads_to-is id found.1 found.4 in
+    slot_from led.0 (sym led.1 ∙ same_Some _ _ both)
   where
-    slot_from : Handle id ≡ Handle slot → id ≡ slot
-    slot_from e = cc
+    slot_from : (g : Bool) → Handle id g ≡ Handle slot guarded → id ≡ slot
+    slot_from g e = cc
 
 -- a block has a handle's number where it has its slot
-pub is_relocatable-number : (es : List Anchor) (h slot : ℕ) → slice_get es h ≡ Some (Handle slot) → Apart es
-    → h < no_number
+pub is_relocatable-number : (es : List Anchor) (h slot : ℕ) {guarded : Bool}
+    → slice_get es h ≡ Some (Handle slot guarded) → Apart es → h < no_number
     → (b : Block) → is_relocatable h (rename_block (handle_number es) (pointer_number es) b) ≡ is_relocatable slot b
 is_relocatable-number es h slot at apart small (Free n) = refl
 is_relocatable-number es h slot at apart small (Fixed id content) = refl

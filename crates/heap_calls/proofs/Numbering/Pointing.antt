@@ -1,3 +1,4 @@
+use Rattle.block_store.specs.Slot.{is_used}
 use Rattle.std.proofs.Common.{◌≡◌, ℕ, ◌+◌, ◌-◌, ◌≤◌, ◌<◌, Bool, true, false, ◌||◌, ◌==◌, List, [], ◌∷◌, ◌++◌, length}
 use Rattle.std.proofs.Common.{refl, sym, ◌∙◌, ap, map, arith, Option, Some, None, Result, Ok, Err, slice_get}
 use Rattle.std.proofs.Common.{slice_set, count_by, subst, nat_le}
@@ -98,7 +99,7 @@ abbrev pub Lone : List Anchor → Type 0
 Lone es = (h k place : ℕ) → slice_get es h ≡ Some (Pointer place) → slice_get es k ≡ Some (Pointer place) → h ≡ k
 
 pub points_to-is : (place : ℕ) (e : Anchor) → points_to place e ≡ true → e ≡ Pointer place
-points_to-is place (Handle s) is = absurd (false≢true is)
+points_to-is place (Handle s g) is = absurd (false≢true is)
 points_to-is place (Pointer p) is = ap Pointer ((Decides-eqb p place).0 is)
 points_to-is place Disposed is = absurd (false≢true is)
 
@@ -135,7 +136,7 @@ is_fixed-number es h place at lone small (Relocatable id flags content) = refl
 target_at-ok : (p : ℕ) (o : Option Anchor) (t : Target) → target_at p o ≡ Ok t → (o ≡ Some (Pointer t.place))
     × (t.number ≡ p)
 target_at-ok p None t e = cc
-target_at-ok p (Some (Handle s)) t e = cc
+target_at-ok p (Some (Handle s g)) t e = cc
 target_at-ok p (Some (Pointer q)) t e = let same : target p q ≡ t = cc in
     (ap (λ (x : Target). Some (Pointer x.place)) same, ap (λ (x : Target). x.number) (sym same))
 target_at-ok p (Some Disposed) t e = cc
@@ -156,7 +157,7 @@ pointed_at-refused zone slots es (Some p) code e = ap (λ o. pointed p o (state_
     cases : (o : Option Anchor) → target_at p o ≡ Err (Code code)
         → pointed p (option_map (name_of slots) o) (state_of zone slots es) ≡ Err code
     cases None e = let same : NIL_HANDLE ≡ code = cc in ap Err same
-    cases (Some (Handle slot)) e = let same : WRONG_ZONE ≡ code = cc in ap Err same
+    cases (Some (Handle slot guarded)) e = let same : WRONG_ZONE ≡ code = cc in ap Err same
     cases (Some (Pointer q)) e = cc
     cases (Some Disposed) e = let same : WRONG_ZONE ≡ code = cc in ap Err same
 
@@ -247,7 +248,7 @@ sparing-other zone slots es (Some n) e is = ap (λ o. named_block n o state) (sl
     cases : (o : Option Anchor) → target_at n o ≡ Err e → named_block n (option_map (name_of slots) o) state
         ≡ look_up (Some n) state
     cases None is = refl
-    cases (Some (Handle slot)) is = refl
+    cases (Some (Handle slot guarded)) is = refl
     cases (Some (Pointer p)) is = cc
     cases (Some Disposed) is = refl
 
@@ -317,8 +318,8 @@ module _ (zone : List Block) (rest rest' : Rest) (es : List Anchor) (h place : �
     abbrev pub left : List Anchor
     left = slice_set es h Disposed
 
-    handle-left : (k s : ℕ) → slice_get left k ≡ Some (Handle s) → slice_get es k ≡ Some (Handle s)
-    handle-left k s found = (without-other es h (Pointer place) at k (Handle s) (handle-stays s) found).0
+    handle-left : (k s : ℕ) (g : Bool) → slice_get left k ≡ Some (Handle s g) → slice_get es k ≡ Some (Handle s g)
+    handle-left k s g found = (without-other es h (Pointer place) at k (Handle s g) (handle-stays s g) found).0
 
     pointer-left : (k p : ℕ) → slice_get left k ≡ Some (Pointer p) → (slice_get es k ≡ Some (Pointer p))
         × (p ≡ place → ⊥)
@@ -327,13 +328,13 @@ module _ (zone : List Block) (rest rest' : Rest) (es : List Anchor) (h place : �
         (other.0, λ e. other.1 (agrees.lone k h p other.0 (at ∙ ap (λ n. Some (Pointer n)) (sym e))))
 
     pub names-left : map (name_of rest'.slots) left ≡ slice_set (map (name_of rest.slots) es) h names.Disposed
-    names-left = names-same rest.slots rest'.slots left (λ k s found. now.slots s)
+    names-left = names-same rest.slots rest'.slots left (λ k s g found. now.slots s)
         ∙ map-set (name_of rest.slots) es h Disposed
 
     pub agrees-left : Agrees (tidy (freed (is_fixed place) zone)) rest' left
     agrees-left = record {
-      used = λ k s found. now.slots s ∙ agrees.used k s (handle-left k s found);
-      apart = λ j k s a b. agrees.apart j k s (handle-left j s a) (handle-left k s b);
+      used = λ k s g found. ap is_used (now.slots s) ∙ agrees.used k s g (handle-left k s g found);
+      apart = λ j k s g o a b. agrees.apart j k s g o (handle-left j s g a) (handle-left k s o b);
       pointed = λ k p found. fixed-tidy (freed (is_fixed place) zone) p
           ∙ fixed-freed_other p (is_fixed place) (not_fixed-other p place (λ e. (pointer-left k p found).1 (sym e)))
           zone ∙ agrees.pointed k p (pointer-left k p found).0;

@@ -52,6 +52,13 @@ pub record Steady (seen : Block → Bool) : Type 0 where
   pub filled : (x : List ℕ) (b : Block) → seen b ≡ seen (with_content x b)
   pub masters : seen Masters ≡ false
 
+-- a test that no block passes
+abbrev pub never : Block → Bool
+never b = false
+
+pub steady-never : Steady never
+steady-never = record { rigid = λ b e. refl; sized = λ n b. refl; filled = λ x b. refl; masters = refl }
+
 -- other flags of the block of a handle leave whether it is seen
 abbrev pub LeavesFlags : (Block → Bool) → List Block → ℕ → (Flags → Flags) → Type 0
 LeavesFlags seen zone k change = (at : Spot) → spot (is_relocatable k) zone ≡ Some at
@@ -170,7 +177,7 @@ module _ (seen : Block → Bool) (steady : Steady seen)
         → room (put_at_base new) sp zone ≡ Some z → Alike seen zone z
     alike-base sp new open_new = alike-room seen rigid (put_at_base new) (alike-based seen rigid new open_new) sp
 
-    alike-slotted : (sp : Block → Bool) (s r : State) → slotted sp s ≡ Some r → Alike seen s.zone r.zone
+    pub alike-slotted : (sp : Block → Bool) (s r : State) → slotted sp s ≡ Some r → Alike seen s.zone r.zone
     alike-slotted sp s r e = by_slots (nat_lt (used_slots s) (all_slots s)) e
       where
         by_slots : (t : Bool) → cond t (Some s) (more_masters sp s) ≡ Some r → Alike seen s.zone r.zone
@@ -354,7 +361,7 @@ module _ (seen : Block → Bool) (steady : Steady seen)
         by_size false = same s.zone
 
     -- blocks that aren't seen are gone
-    alike-gone : (test : Block → Bool) → ((b : Block) → test b ≡ true → seen b ≡ false) → (zone : List Block)
+    pub alike-gone : (test : Block → Bool) → ((b : Block) → test b ≡ true → seen b ≡ false) → (zone : List Block)
         → Alike seen zone (tidy (freed test zone))
     alike-gone test apart zone = alike-then seen rigid zone (freed test zone) (tidy (freed test zone))
         (alike-freed seen rigid test apart zone) (alike-tidy seen rigid (freed test zone))

@@ -117,7 +117,7 @@ module _ (of : Block → ℕ) (none : (n : ℕ) → of (Free n) ≡ 0) (goes : (
     of-rebuilt s None made = omega arith
     of-rebuilt s (Some zone) made = made zone refl
 
-    of-slotted : (sp : Block → Bool) (s r : State) → slotted sp s ≡ Some r → total of s.zone ≤ total of r.zone
+    pub of-slotted : (sp : Block → Bool) (s r : State) → slotted sp s ≡ Some r → total of s.zone ≤ total of r.zone
     of-slotted sp s r e = by_slots (nat_lt (used_slots s) (all_slots s)) e
       where
         by_slots : (t : Bool) → cond t (Some s) (more_masters sp s) ≡ Some r → total of s.zone ≤ total of r.zone
@@ -223,7 +223,7 @@ module _ (of : Block → ℕ) (none : (n : ℕ) → of (Free n) ≡ 0) (goes : (
             cases true e r = omega (arith, unseen b e)
             cases false e r = omega arith
 
-    of-gone : (test : Block → Bool) → Unseen of test → (zone : List Block)
+    pub of-gone : (test : Block → Bool) → Unseen of test → (zone : List Block)
         → total of zone ≤ total of (tidy (freed test zone))
     of-gone test unseen zone = omega (arith, of-freed test unseen zone, tidied of none (freed test zone))
 
@@ -451,34 +451,34 @@ module _ (of : Block → ℕ) (none : (n : ℕ) → of (Free n) ≡ 0) (goes : (
         (λ held. (Ok (sizes held.at.below + 16), m.heap)) (λ held. refl))
 
 -- 1 for a block of a handle that may not be emptied
-abbrev stays : ℕ → Block → ℕ
+abbrev pub stays : ℕ → Block → ℕ
 stays h b = cond (is_relocatable h b && not (is_purgeable b)) 1 0
 
 -- 1 for a block of a handle
 abbrev is_of : ℕ → Block → ℕ
 is_of h b = cond (is_relocatable h b) 1 0
 
-stays-goes : (h : ℕ) (b : Block) → is_purgeable b ≡ true → stays h b ≡ 0
+pub stays-goes : (h : ℕ) (b : Block) → is_purgeable b ≡ true → stays h b ≡ 0
 stays-goes h b e = ap {B = ℕ} (λ (t : Bool). cond (is_relocatable h b && not t) 1 0) e ∙ cases (is_relocatable h b)
   where
     cases : (t : Bool) → cond {A = ℕ} (t && false) 1 0 ≡ 0
     cases true = refl
     cases false = refl
 
-stays-sized : (h n : ℕ) (b : Block) → stays h b ≡ stays h (resized n b)
+pub stays-sized : (h n : ℕ) (b : Block) → stays h b ≡ stays h (resized n b)
 stays-sized h n (Free m) = refl
 stays-sized h n (Fixed id content) = refl
 stays-sized h n Masters = refl
 stays-sized h n (Relocatable id flags content) = refl
 
-stays-filled : (h : ℕ) (x : List ℕ) (b : Block) → stays h b ≡ stays h (with_content x b)
+pub stays-filled : (h : ℕ) (x : List ℕ) (b : Block) → stays h b ≡ stays h (with_content x b)
 stays-filled h x (Free m) = refl
 stays-filled h x (Fixed id content) = refl
 stays-filled h x Masters = refl
 stays-filled h x (Relocatable id flags content) = refl
 
 -- a block that may not be emptied is one
-stays-le : (h : ℕ) (bs : List Block) → total (stays h) bs ≤ count (is_relocatable h) bs
+pub stays-le : (h : ℕ) (bs : List Block) → total (stays h) bs ≤ count (is_relocatable h) bs
 stays-le h bs = total-le (stays h) (is_of h) (λ b. cases (is_relocatable h b) (is_purgeable b)) bs
   where
     cases : (t u : Bool) → cond {A = ℕ} (t && not u) 1 0 ≤ cond {A = ℕ} t 1 0
@@ -487,7 +487,8 @@ stays-le h bs = total-le (stays h) (is_of h) (λ b. cases (is_relocatable h b) (
     cases false u = omega arith
 
 -- and each block where none may be emptied
-stays-all : (h : ℕ) (bs : List Block) → may_be_emptied h bs ≡ false → count (is_relocatable h) bs ≤ total (stays h) bs
+pub stays-all : (h : ℕ) (bs : List Block) → may_be_emptied h bs ≡ false
+    → count (is_relocatable h) bs ≤ total (stays h) bs
 stays-all h [] e = omega arith
 stays-all h (b ∷ bs) e = cases (is_relocatable h b) (is_purgeable b) e (λ e. stays-all h bs e)
   where
@@ -499,7 +500,7 @@ stays-all h (b ∷ bs) e = cases (is_relocatable h b) (is_purgeable b) e (λ e. 
     cases false u e rest = let r = rest e in omega arith
 
 -- a block of another handle, or of a pointer
-stays-other : (h k : ℕ) → (k == h) ≡ false → Unseen (stays h) (is_relocatable k)
+pub stays-other : (h k : ℕ) → (k == h) ≡ false → Unseen (stays h) (is_relocatable k)
 stays-other h k other (Free n) e = refl
 stays-other h k other (Fixed id content) e = refl
 stays-other h k other Masters e = refl
@@ -536,7 +537,7 @@ is_of-rises h change b = let z : is_of h (flagged change b) ≡ is_of h b =
     ap {B = ℕ} (λ (t : Bool). cond t 1 0) (flagged-number change h b) in omega arith
 
 -- where there are no fewer blocks of a handle, none is gone
-still-there : (h : ℕ) (zone z : List Block) (R : Type 0) → has (is_relocatable h) zone ≡ true
+pub still-there : (h : ℕ) (zone z : List Block) (R : Type 0) → has (is_relocatable h) zone ≡ true
     → has (is_relocatable h) z ≡ false → count (is_relocatable h) zone ≤ count (is_relocatable h) z → R
 still-there h zone z R before after le = absurd (let b = has-count (is_relocatable h) zone before in
     let a = count-none (is_relocatable h) z after in omega arith)
@@ -649,7 +650,7 @@ masters-filled x (Fixed id content) = refl
 masters-filled x Masters = refl
 masters-filled x (Relocatable id flags content) = refl
 
-masters-handle : (k : ℕ) → Unseen masters (is_relocatable k)
+pub masters-handle : (k : ℕ) → Unseen masters (is_relocatable k)
 masters-handle k (Free n) e = refl
 masters-handle k (Fixed id content) e = refl
 masters-handle k Masters e = let f : false ≡ true = e in cc

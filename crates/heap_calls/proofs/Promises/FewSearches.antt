@@ -86,11 +86,11 @@ goes-le : (sp : Block → Bool) (zone : List Block) → 0 < count is_masters zon
 goes-le sp zone masters = let g = goes-stays sp zone in omega arith
 
 -- looks for what is tried
-room-few : (try : List Block → Option (List Block)) (sp : Block → Bool) (zone : List Block)
+pub room-few : (try : List Block → Option (List Block)) (sp : Block → Bool) (zone : List Block)
     → room_searches try sp zone ≤ count_of sp zone + 1
 room-few try sp zone = tries-le (λ k. try (purge k sp zone)) (count_of sp zone)
 
-room-blocks : (try : List Block → Option (List Block)) (sp : Block → Bool) (zone : List Block)
+pub room-blocks : (try : List Block → Option (List Block)) (sp : Block → Bool) (zone : List Block)
     → 0 < count is_masters zone → room_searches try sp zone ≤ length zone
 room-blocks try sp zone masters = let r = room-few try sp zone in let g = goes-le sp zone masters in omega arith
 
@@ -193,7 +193,7 @@ found-few (Err code) count most few = omega arith
 found-few (Ok k) count most few = few k
 
 -- looks that are made only in one case
-only-if : (t : Bool) (n most : ℕ) → n ≤ most → cond t n 0 ≤ most
+pub only-if : (t : Bool) (n most : ℕ) → n ≤ most → cond t n 0 ≤ most
 only-if true n most le = le
 only-if false n most le = omega arith
 

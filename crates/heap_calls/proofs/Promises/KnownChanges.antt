@@ -16,7 +16,7 @@ use Rattle.windows.specs.Writes.{written}
 use Rattle.block_store.specs.Run.{change_run, has, high}
 use Rattle.block_store.specs.Room.{Spot, spot, raised, put_at_base, put_in_place, room}
 use Rattle.block_store.specs.Grow.{freed, grow}
-use Rattle.heap_calls.specs.State.{State, Meaning, used_slots, all_slots}
+use Rattle.heap_calls.specs.State.{State, Meaning, Role, used_slots, all_slots}
 use Rattle.heap_calls.specs.State as names
 use Rattle.heap_calls.specs.Answer.{Answer, Held, nothing, given, refused, rebuilt, flagged, change_flags, hoisted}
 use Rattle.heap_calls.specs.Answer.{move_hhi, look_up, for_found, written_at}
@@ -24,7 +24,8 @@ use Rattle.heap_calls.specs.Answer as calls
 use Rattle.heap_calls.specs.Slots.{slotted, more_masters, new_block}
 use Rattle.heap_calls.specs.Purging.{reallocated}
 use Rattle.heap_calls.specs.Copying.{append, appended, written_in}
-use Rattle.heap_calls.specs.Asked.{Told, Done, Given, Refused, told_as}
+use Rattle.mac_words.specs.Told.{Told, Done, Given, Refused}
+use Rattle.heap_calls.specs.Asked.{told_as}
 use Rattle.block_store.proofs.Zone.Views.{map-some}
 use Rattle.block_store.proofs.Zone.Keeping.{SeesNoFree, unless, unless-le, unless-none, tidied, freed-is, changed-le}
 use Rattle.block_store.proofs.Zone.Keeping.{high-le, room-le, base-le, swapped-le, grown-le}
@@ -55,18 +56,17 @@ known-slotted sp s bytes known r e = by_slots (nat_lt (used_slots s) (all_slots 
         (λ zone made is. subst (λ (x : State). Known x bytes) is (known-based s bytes known sp zone made))
 
 -- a new block of the next number
-known-new : (s : State) (bytes : ℕ → List ℕ) → Known s bytes → (sp : Block → Bool) (x : List ℕ) (zone : List Block)
-    → room (put_in_place (Relocatable (length s.names) no_flags x)) sp s.zone ≡ Some zone
-    → Known (record { zone = zone; names = s.names ++ names.Handle names.Plain ∷ [] })
-    (with_bytes (length s.names) x bytes)
-known-new s bytes known sp x zone is =
+pub known-new : (s : State) (bytes : ℕ → List ℕ) → Known s bytes → (role : Role) (flags : Flags) (sp : Block → Bool)
+    (x : List ℕ) (zone : List Block) → room (put_in_place (Relocatable (length s.names) flags x)) sp s.zone ≡ Some zone
+    → Known (record { zone = zone; names = s.names ++ names.Handle role ∷ [] }) (with_bytes (length s.names) x bytes)
+known-new s bytes known role flags sp x zone is =
     handle-changed s (record { zone = zone; names = s.names ++ name ∷ [] }) bytes (with_bytes h x bytes) h
-    (Relocatable h no_flags x)
-    (handle-plain (with_bytes h x bytes) (s.names ++ name ∷ []) h no_flags x (ap for_handle (pushed s.names name))
+    (Relocatable h flags x)
+    (handle-plain (with_bytes h x bytes) (s.names ++ name ∷ []) h flags x (ap for_handle (pushed s.names name))
     (sym (with-same h x bytes))) (flipped h) (λ k. refl)
     (ap for_pointer (next-none s.names)) (with-other h x bytes) (λ k other n e. push-stands s.names name k n e)
     (λ of none.
-    let l = room-le of none (Relocatable h no_flags x) sp s.zone zone is in
+    let l = room-le of none (Relocatable h flags x) sp s.zone zone is in
     omega (
       arith,
       unless-none (is_relocatable h) of s.zone (none-handle s bytes known h
@@ -77,7 +77,7 @@ known-new s bytes known sp x zone is =
     h = length s.names
 
     name : Meaning
-    name = names.Handle names.Plain
+    name = names.Handle role
 
 pub known-made : (s : State) (bytes : ℕ → List ℕ) → Known s bytes
     → (sp : Block → Bool) (x : List ℕ) (tells : Told → ℕ → List ℕ) → ((k : ℕ) → with_bytes k x bytes ≡ tells (Given k))
@@ -91,7 +91,7 @@ known-made s bytes known sp x tells given_told refused_told =
         (given (names.Handle names.Plain) o s).0))
     by_room None e = subst (Known s) (refused_told MEM_FULL) known
     by_room (Some zone) e = subst (Known (record { zone = zone; names = s.names ++ names.Handle names.Plain ∷ [] }))
-        (given_told (length s.names)) (known-new s bytes known sp x zone e)
+        (given_told (length s.names)) (known-new s bytes known names.Plain no_flags sp x zone e)
 
 -- a new handle without a block
 pub known-sparing : (s : State) (bytes : ℕ → List ℕ) → Known s bytes → (name : Meaning)

@@ -25,7 +25,7 @@ use Rattle.heap_calls.proofs.Promises.AlikeCalls.{alike-answered}
 -- No call moves or empties a locked block, unless it releases it.
 
 -- no block of a run is locked, and a lock hangs on neither size nor bytes
-steady-locked : (h : ℕ) → Steady (is_locked h)
+pub steady-locked : (h : ℕ) → Steady (is_locked h)
 steady-locked h = record { rigid = rigid; sized = sized; filled = filled; masters = refl }
   where
     rigid : (b : Block) → in_run b ≡ true → is_locked h b ≡ false
@@ -52,7 +52,7 @@ steady-locked h = record { rigid = rigid; sized = sized; filled = filled; master
     filled x (Relocatable id flags content) = refl
 
 -- a locked block of a handle is one of its blocks
-fewer : (h : ℕ) (bs : List Block) → total (locks (is_locked h)) bs ≤ count (is_relocatable h) bs
+pub fewer : (h : ℕ) (bs : List Block) → total (locks (is_locked h)) bs ≤ count (is_relocatable h) bs
 fewer h bs = total-le (locks (is_locked h)) (λ b. cond (is_relocatable h b) 1 0) each bs
   where
     each : (b : Block) → locks (is_locked h) b ≤ cond {A = ℕ} (is_relocatable h b) 1 0
@@ -67,7 +67,7 @@ fewer h bs = total-le (locks (is_locked h)) (λ b. cond (is_relocatable h b) 1 0
         cases false l = omega arith
 
 -- there is a locked block where it has a place
-some-locked : (h place : ℕ) (zone : List Block) → locked_place h zone ≡ Some place → (R : Type 0)
+pub some-locked : (h place : ℕ) (zone : List Block) → locked_place h zone ≡ Some place → (R : Type 0)
     → total (locks (is_locked h)) zone ≤ 0 → R
 some-locked h place zone is R none = absurd (none-some place
     (sym (stands-none (is_locked h) zone none) ∙ sym (stands-is (is_locked h) zone) ∙ is))
@@ -98,7 +98,7 @@ locked-stands h Masters e = refl
 locked-stands h (Relocatable id flags content) e = ap not (and_parts (id == h) flags.locked e).1
 
 -- a block of another handle
-other-unlocked : (h k : ℕ) → (k == h) ≡ false → (b : Block) → is_relocatable k b ≡ true → is_locked h b ≡ false
+pub other-unlocked : (h k : ℕ) → (k == h) ≡ false → (b : Block) → is_relocatable k b ≡ true → is_locked h b ≡ false
 other-unlocked h k other (Free n) e = refl
 other-unlocked h k other (Fixed id content) e = refl
 other-unlocked h k other Masters e = refl

@@ -28,7 +28,8 @@ use Rattle.heap_calls.specs.Pointers.{add_masters}
 use Rattle.heap_calls.specs.Purging.{is_resource, block_bits, bit, emptied_at, is_loose, reallocated, h_purge}
 use Rattle.heap_calls.specs.Purging.{h_no_purge, h_get_state, h_set_state, empty_handle, reallocate_handle, purge_mem}
 use Rattle.heap_calls.specs.Copying.{append, appended, hand_to_hand, hand_and_hand, pointer_and_hand}
-use Rattle.heap_calls.specs.Asked.{Asked, Told, Done, Given, Number, Numbers, Bytes, Refused, told_as, answered}
+use Rattle.mac_words.specs.Told.{Told, Done, Given, Number, Bytes, Refused}
+use Rattle.heap_calls.specs.Asked.{Asked, told_as, answered}
 use Rattle.heap_calls.specs.Asked as asked
 use Rattle.heap_calls.specs.Refused.{slotted_zone, copying_zone, zone_left, code_left}
 use Rattle.block_store.proofs.Zone.Keeping.{tidied}
@@ -39,7 +40,7 @@ use Rattle.block_store.proofs.Zone.Surviving.{changed-all, high-all}
 -- A refused call leaves all as it was, but for the zone where the table says so.
 
 -- what an answer leaves of a heap where it is a refusal
-abbrev Leaves : {T : Type 0} → List Block → State → Answer T → Type 0
+abbrev pub Leaves : {T : Type 0} → List Block → State → Answer T → Type 0
 Leaves zone s answer = (code : OsErr) → answer.0 ≡ Err code → answer.1 ≡ record s { zone = zone }
 
 -- what is told of a value isn't a refusal
@@ -83,7 +84,7 @@ silent tell tells answer m after leaves heap same window code e =
     (heap ∙ leaves code (refused-told tell tells answer.0 code e), same, window)
 
 -- the answers that a call is made of
-done : {T : Type 0} (value : T) (zone : List Block) (s after : State) → Leaves zone s (Ok value, after)
+pub done : {T : Type 0} (value : T) (zone : List Block) (s after : State) → Leaves zone s (Ok value, after)
 done value zone s after code e = cc
 
 refused-leaves : {T : Type 0} (why : OsErr) (s : State) → Leaves {T = T} s.zone s (refused why s)

@@ -5,7 +5,8 @@ use Rattle.block_store.specs.Room.{spot}
 use Rattle.heap_calls.specs.State.{Memory}
 use Rattle.heap_calls.specs.Answer.{Held, look_up, for_found}
 use Rattle.heap_calls.specs.Pointers.{pointed_at}
-use Rattle.heap_calls.specs.Asked.{Asked, Bytes, answered, told_as}
+use Rattle.mac_words.specs.Told.{Bytes}
+use Rattle.heap_calls.specs.Asked.{Asked, answered, told_as}
 use Rattle.heap_calls.specs.Shown.{Shows}
 use Rattle.heap_calls.proofs.Promises.Knowing.{Known, look_up-spot, pointed_at-spot, known-at, known-pointed}
 

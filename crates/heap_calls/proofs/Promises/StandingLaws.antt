@@ -18,7 +18,7 @@ use Rattle.heap_calls.proofs.Promises.AlikeCalls.{Steady, Leaves, alike-answered
 
 -- No call moves a pointer's block, unless it disposes of it.
 
-steady-fixed : (p : ℕ) → Steady (is_fixed p)
+pub steady-fixed : (p : ℕ) → Steady (is_fixed p)
 steady-fixed p = record { rigid = rigid; sized = sized; filled = filled; masters = refl }
   where
     rigid : (b : Block) → in_run b ≡ true → is_fixed p b ≡ false

@@ -85,7 +85,7 @@ module _ (zone : List Block) (rest : Rest) (es : List Anchor) (agrees : Agrees z
 
     same-named : (handle : Option ℕ) (r : Reached) → Reaches zone rest.slots es handle (Ok r) → (b : Block)
         → is_relocatable r.number (rename_block f h b) ≡ is_relocatable r.slot b
-    same-named handle r there = is_relocatable-number es r.number r.slot there.4 agrees.apart there.5
+    same-named handle r there = is_relocatable-number es r.number r.slot there.5 agrees.apart there.6
 
     module _ (handle : Option ℕ) (r : Reached) (there : Reaches zone rest.slots es handle (Ok r))
       where

@@ -1,24 +1,25 @@
-use Rattle.std.proofs.Common.{◌≡◌, ℕ, Bool, true, false, refl, sym, ◌∙◌, ap, cond, Option, Some, None}
+use Rattle.std.proofs.Common.{◌≡◌, ℕ, Bool, true, false, refl, ◌∙◌, ap, cond, Option, Some, None}
 use Rattle.std.proofs.Common.{Result, Ok, Err, slice_get}
-use Rattle.std.proofs.lemmas.Option.{same_Some}
 use Rattle.std.specs.Option.{option_or}
 use Rattle.mac_words.specs.declared.code.OsErr.{OsErr}
-use Rattle.mac_words.specs.declared.code.TheConstants.OsErr.{LOCKED}
-use Rattle.heap_calls.specs.State.{Memory, Meaning, Handle, Pointer, Disposed}
-use Rattle.heap_calls.specs.Answer.{Known, Held, handle_at, look_up}
+use Rattle.heap_calls.specs.State.{Role, Plain, Resource, SystemResource, Memory, Meaning, Handle, Pointer, Disposed}
+use Rattle.heap_calls.specs.Answer.{Known, Held, handle_at, known_as, look_up}
 use Rattle.heap_calls.specs.Asked.{Asked, answered}
 use Rattle.heap_calls.specs.Asked as asked
 use Rattle.heap_calls.specs.Busy.{Places, idle, is_busy, bar, known_bars, pointer_bars, either_bars, barred}
+use Rattle.heap_calls.specs.Busy.{guard, known_guards, change_barred, NoneGuarded}
 use Rattle.heap_calls.specs.Busy.{pointer_barred, either_barred, next_barred, both_barred, gate, notes, keep_code}
 use Rattle.heap_calls.specs.Busy.{gated, served}
 use Rattle.heap_calls.specs.Refused.{BarredLeaves}
 use Rattle.heap_calls.proofs.Gates.Served.{served-gated}
-use Rattle.heap_calls.specs.Asked.{Told}
+use Rattle.mac_words.specs.Told.{Told}
 
--- What bars a call: a number that is busy, and nothing else.
+-- What bars a call: a number that is busy, and a handle of a System resource.
 
--- what holds where nothing bars a call, and where a number may, holds of each gate
+-- what holds where nothing bars a call, where a number may, and where a handle that is bound may, holds of each gate
 module _ (P : Option OsErr → Type 0) (m : Memory) (none : P None) (one : (n : ℕ) → P (bar (is_busy n m.log.busy)))
+    (of : (n : ℕ) (role : Role) → slice_get m.heap.names n ≡ Some (Handle role)
+    → P (option_or (bar (is_busy n m.log.busy)) (guard role)))
   where
     by-handle : (handle : Option ℕ) → P (barred handle m)
     by-handle handle = by_known (handle_at handle m.heap)
@@ -26,6 +27,17 @@ module _ (P : Option OsErr → Type 0) (m : Memory) (none : P None) (one : (n : 
         by_known : (r : Result Known OsErr) → P (known_bars m.log.busy r)
         by_known (Err code) = none
         by_known (Ok known) = one known.number
+
+    by-change : (handle : Option ℕ) → P (change_barred handle m)
+    by-change None = none
+    by-change (Some h) = by_meaning (slice_get m.heap.names h) refl
+      where
+        by_meaning : (o : Option Meaning) → slice_get m.heap.names h ≡ o
+            → P (known_guards m.log.busy (known_as h o))
+        by_meaning None is = none
+        by_meaning (Some (Handle role)) is = of h role is
+        by_meaning (Some Pointer) is = none
+        by_meaning (Some Disposed) is = none
 
     by-pointer : (pointer : Option ℕ) → P (pointer_barred pointer m)
     by-pointer None = none
@@ -51,11 +63,11 @@ module _ (P : Option OsErr → Type 0) (m : Memory) (none : P None) (one : (n : 
     by-both from to = by_first (handle_at from m.heap)
       where
         other : Option OsErr
-        other = next_barred (look_up from m.heap) (barred to m)
+        other = next_barred (look_up from m.heap) (change_barred to m)
 
-        by_held : (r : Result Held OsErr) → P (next_barred r (barred to m))
+        by_held : (r : Result Held OsErr) → P (next_barred r (change_barred to m))
         by_held (Err code) = none
-        by_held (Ok held) = by-handle to
+        by_held (Ok held) = by-change to
 
         by_bar : (t : Bool) → P (bar t) → P (option_or (bar t) other)
         by_bar true bars = bars
@@ -68,8 +80,8 @@ module _ (P : Option OsErr → Type 0) (m : Memory) (none : P None) (one : (n : 
     pub by-gate : (a : Asked) → P (gate a m)
     by-gate (asked.DisposeHandle handle) = by-handle handle
     by-gate (asked.GetHandleSize handle) = by-handle handle
-    by-gate (asked.SetHandleSize handle n) = by-handle handle
-    by-gate (asked.ReallocateHandle handle n) = by-handle handle
+    by-gate (asked.SetHandleSize handle n) = by-change handle
+    by-gate (asked.ReallocateHandle handle n) = by-change handle
     by-gate (asked.EmptyHandle handle) = by-handle handle
     by-gate (asked.HLock handle) = by-handle handle
     by-gate (asked.HUnlock handle) = by-handle handle
@@ -81,45 +93,40 @@ module _ (P : Option OsErr → Type 0) (m : Memory) (none : P None) (one : (n : 
     by-gate (asked.HLockHi handle) = by-handle handle
     by-gate (asked.HandToHand handle) = by-handle handle
     by-gate (asked.HandAndHand from to) = by-both from to
-    by-gate (asked.PtrAndHand handle x) = by-handle handle
+    by-gate (asked.PtrAndHand handle x) = by-change handle
     by-gate (asked.DisposePtr pointer) = by-pointer pointer
     by-gate (asked.GetPtrSize pointer) = by-pointer pointer
     by-gate (asked.SetPtrSize pointer n) = by-pointer pointer
-    by-gate (asked.Put handle from x) = by-handle handle
+    by-gate (asked.Put handle from x) = by-change handle
     by-gate (asked.Show handle) = by-handle handle
     by-gate (asked.PutPtr pointer from x) = by-pointer pointer
     by-gate (asked.ShowPtr pointer) = by-pointer pointer
     by-gate (asked.Where name) = by-either name
     by-gate a = none
 
--- each gate has one code
-bar-locked : (t : Bool) (code : OsErr) → bar t ≡ Some code → code ≡ LOCKED
-bar-locked true code e = sym (same_Some LOCKED code e)
-bar-locked false code e = cc
-
-pub gate-locked : (a : Asked) (m : Memory) (code : OsErr) → gate a m ≡ Some code → code ≡ LOCKED
-gate-locked a m =
-    by-gate (λ o. (code : OsErr) → o ≡ Some code → code ≡ LOCKED) m (λ code e. cc)
-    (λ n. bar-locked (is_busy n m.log.busy)) a
-
--- a call that a busy name bars changes nothing but the code
+-- a call that is barred changes nothing but the code
 pub served-barred : (a : Asked) (m : Memory) → BarredLeaves a m
-served-barred a m code bars =
-    let is : gate a m ≡ Some LOCKED = bars ∙ ap (λ (c : OsErr). Some c) (gate-locked a m code bars) in (
-      ap (λ (x : Told × Memory). x.0) (served-gated a m) ∙ ap (λ (o : Option OsErr). (gated o a m).0) is,
-      ap (λ (x : Told × Memory). x.1) (served-gated a m) ∙ ap (λ (o : Option OsErr). (gated o a m).1) is
-          ∙ by_notes (notes a),
-    )
+served-barred a m code bars = (
+  ap (λ (x : Told × Memory). x.0) (served-gated a m) ∙ ap (λ (o : Option OsErr). (gated o a m).0) bars,
+  ap (λ (x : Told × Memory). x.1) (served-gated a m) ∙ ap (λ (o : Option OsErr). (gated o a m).1) bars
+      ∙ by_notes (notes a),
+)
   where
-    by_notes : (t : Bool) → cond t (keep_code LOCKED m) m ≡ keep_code (cond t LOCKED m.log.code) m
+    by_notes : (t : Bool) → cond t (keep_code code m) m ≡ keep_code (cond t code m.log.code) m
     by_notes true = refl
     by_notes false = refl
 
--- where no name is busy, nothing bars a call
-pub gate-idle : (a : Asked) (m : Memory) → m.log.busy ≡ idle → gate a m ≡ None
-gate-idle a m free =
-    by-gate (λ o. o ≡ None) m refl (λ n. ap (λ (busy : Places). bar (is_busy n busy)) free) a
+-- where no name is busy and no handle a System resource's, nothing bars a call
+pub gate-idle : (a : Asked) (m : Memory) → m.log.busy ≡ idle → NoneGuarded m.heap → gate a m ≡ None
+gate-idle a m free own =
+    by-gate (λ o. o ≡ None) m refl (λ n. ap (λ (busy : Places). bar (is_busy n busy)) free)
+    (λ n role is. ap (λ (busy : Places). option_or (bar (is_busy n busy)) (guard role)) free ∙ unguarded n role is) a
+  where
+    unguarded : (n : ℕ) (role : Role) → slice_get m.heap.names n ≡ Some (Handle role) → guard role ≡ None
+    unguarded n Plain is = refl
+    unguarded n Resource is = refl
+    unguarded n SystemResource is = absurd (own n is)
 
 -- then a try is the call's row
-pub served_idle : (a : Asked) (m : Memory) → m.log.busy ≡ idle → served a m ≡ answered a m
-served_idle a m free = served-gated a m ∙ ap (λ (o : Option OsErr). gated o a m) (gate-idle a m free)
+pub served_idle : (a : Asked) (m : Memory) → m.log.busy ≡ idle → NoneGuarded m.heap → served a m ≡ answered a m
+served_idle a m free own = served-gated a m ∙ ap (λ (o : Option OsErr). gated o a m) (gate-idle a m free own)

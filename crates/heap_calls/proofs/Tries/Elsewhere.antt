@@ -2,7 +2,8 @@ use Rattle.std.proofs.Common.{◌≡◌, sym, ℕ, Bool, true, false, refl, ◌�
 use Rattle.mac_words.specs.declared.code.OsErr.{OsErr}
 use Rattle.block_store.specs.Rest.{Site}
 use Rattle.heap_calls.specs.State.{Memory}
-use Rattle.heap_calls.specs.Asked.{Asked, Told, answered}
+use Rattle.mac_words.specs.Told.{Told, Refused}
+use Rattle.heap_calls.specs.Asked.{Asked, answered}
 use Rattle.heap_calls.specs.Asked as asked
 use Rattle.heap_calls.specs.Busy.{gate, gated, notes, keep_code, served, pointer_barred, either_barred}
 use Rattle.heap_calls.proofs.Gates.Served.{served-gated}
@@ -39,7 +40,7 @@ gate-elsewhere window a m = refl
 gated-elsewhere : (window : Site) (o : Option OsErr) (a : Asked) (m : Memory)
     → gated o a (elsewhere window m) ≡ ((gated o a m).0, elsewhere window (gated o a m).1)
 gated-elsewhere window None a m = answered-elsewhere window a m
-gated-elsewhere window (Some code) a m = ap (λ (n : Memory). (asked.Refused code, n)) (by_notes (notes a))
+gated-elsewhere window (Some code) a m = ap (λ (n : Memory). (Refused code, n)) (by_notes (notes a))
   where
     by_notes : (t : Bool) → cond t (keep_code code (elsewhere window m)) (elsewhere window m)
         ≡ elsewhere window (cond t (keep_code code m) m)

@@ -6,7 +6,8 @@ use Rattle.block_store.specs.Block.{is_relocatable, is_masters}
 use Rattle.block_store.specs.Run.{has}
 use Rattle.block_store.specs.Rest.{counted}
 use Rattle.heap_calls.specs.State.{Memory}
-use Rattle.heap_calls.specs.Asked.{Asked, Told, Refused, answered}
+use Rattle.mac_words.specs.Told.{Told, Refused}
+use Rattle.heap_calls.specs.Asked.{Asked, answered}
 use Rattle.heap_calls.specs.Asked as asked
 use Rattle.heap_calls.specs.Busy.{gate, gated, notes, keep_code, served}
 use Rattle.heap_calls.specs.LastPut.{put_by}

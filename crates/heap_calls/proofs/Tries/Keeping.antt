@@ -11,13 +11,13 @@ use Rattle.heap_calls.specs.State.{State, Memory, used_slots, all_slots}
 use Rattle.heap_calls.specs.Answer.{Held, nothing, look_up}
 use Rattle.heap_calls.specs.Slots.{more_masters}
 use Rattle.heap_calls.specs.Purging.{blocks_purged}
-use Rattle.heap_calls.specs.Asked.{Asked, Refused, answered}
+use Rattle.heap_calls.specs.Asked.{Asked, answered}
 use Rattle.heap_calls.specs.Asked as asked
 use Rattle.heap_calls.specs.Busy.{gate, served}
 use Rattle.heap_calls.specs.Locked.{OneBlockEach}
 use Rattle.heap_calls.specs.Refused.{slotted_zone, copying_zone, zone_left, zone_behind}
 use Rattle.heap_calls.specs.Staying.{staying_of, staying, LessStaysLater, RefusedKeepsNoMore, KeepsBytes, KeepsMasters}
-use Rattle.heap_calls.proofs.Promises.AlikeCalls.{Steady, Leaves, alike-answered}
+use Rattle.heap_calls.proofs.Promises.AlikeCalls.{Leaves, never, steady-never, alike-answered}
 use Rattle.heap_calls.proofs.Promises.EmptyingLaws.{masters, of-answered, masters-goes, masters-sized, masters-filled}
 use Rattle.heap_calls.proofs.Promises.EmptyingLaws.{masters-spared}
 use Rattle.heap_calls.proofs.Tries.Gating.{served-holds, served-refused}
@@ -26,7 +26,7 @@ use Rattle.heap_calls.proofs.Tries.Parting.{no-free, less_stays}
 -- What no try of a call changes: a zone's bytes, its master pointers, and, where it is refused, what stays.
 
 -- a slot that is made leaves what stays
-slotted-le : (spared : Block → Bool) (s : State) → staying (slotted_zone spared s) ≤ staying s.zone
+pub slotted-le : (spared : Block → Bool) (s : State) → staying (slotted_zone spared s) ≤ staying s.zone
 slotted-le spared s = by_slots (nat_lt (used_slots s) (all_slots s))
   where
     zone_of : Option State → List Block
@@ -71,13 +71,6 @@ served_less_later a m code tells later same few rose =
     let kept = served_no_more a m code tells in
     let less = less_stays (served a m).1.heap.zone later same few rose in
     omega arith
-
--- a test that no block passes
-abbrev never : Block → Bool
-never b = false
-
-steady-never : Steady never
-steady-never = record { rigid = λ b e. refl; sized = λ n b. refl; filled = λ x b. refl; masters = refl }
 
 leaves-never : (zone : List Block) (a : Asked) → Leaves never zone a
 leaves-never zone (asked.DisposeHandle None) = tt

@@ -4,7 +4,8 @@ use Rattle.block_store.specs.Block.{fresh, sizes}
 use Rattle.block_store.specs.Rest.{Site}
 use Rattle.heap_calls.specs.State.{Memory, fresh_memory}
 use Rattle.heap_calls.specs.Asked.{Asked, NewHandle, DisposeHandle, EmptyHandle, HPurge, HLock, HandAndHand, MemError}
-use Rattle.heap_calls.specs.Asked.{Show, NewPtr, Done, Bytes, Code, Refused}
+use Rattle.mac_words.specs.Told.{Done, Bytes, Code, Refused}
+use Rattle.heap_calls.specs.Asked.{Show, NewPtr}
 use Rattle.heap_calls.specs.Busy.{idle, busied, eased, is_busy, with_busy, served}
 use Rattle.heap_calls.specs.Refused.{refused_zone}
 use Rattle.heap_calls.specs.Staying.{ease, staying, of_masters}

@@ -1,7 +1,8 @@
 use Rattle.std.proofs.Common.{◌≡◌, ℕ, List, [], ◌∷◌, refl, Some, None, true, false}
 use Rattle.mac_words.specs.declared.code.TheConstants.OsErr.{NO_ERR, LOCKED, NIL_HANDLE, WRONG_ZONE, PURGED}
 use Rattle.heap_calls.specs.State.{Memory, fresh_memory}
-use Rattle.heap_calls.specs.Asked.{Asked, Told, Done, Given, Number, Bytes, Code, Refused}
+use Rattle.mac_words.specs.Told.{Told, Done, Given, Number, Bytes, Code, Refused}
+use Rattle.heap_calls.specs.Asked.{Asked}
 use Rattle.heap_calls.specs.Asked as asks
 use Rattle.heap_calls.specs.Busy.{idle, busied, eased, is_busy, with_busy, served}
 use Rattle.block_store.specs.Rest.{Site}

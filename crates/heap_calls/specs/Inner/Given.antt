@@ -45,14 +45,14 @@ last_after (Ok value) last = NO_ERR
 last_after (Err (Code code)) last = code
 last_after (Err HostMemory) last = last
 
--- a handle and its slot
-abbrev pub found : ℕ → ℕ → Found
-found number slot = record { number = number; slot = slot }
+-- a handle, its slot, and whether it is guarded
+abbrev pub found : ℕ → ℕ → Bool → Found
+found number slot guarded = record { number = number; slot = slot; guarded = guarded }
 
 -- the slot of a handle's entry; or why it has none: never given, a pointer, or disposed of
 abbrev pub slot_at : ℕ → Option Anchor → Result Found Refusal
 slot_at h None = Err (Code NIL_HANDLE)
-slot_at h (Some (entry.Handle slot)) = Ok (found h slot)
+slot_at h (Some (entry.Handle slot guarded)) = Ok (found h slot guarded)
 slot_at h (Some (entry.Pointer place)) = Err (Code WRONG_ZONE)
 slot_at h (Some entry.Disposed) = Err (Code WRONG_ZONE)
 

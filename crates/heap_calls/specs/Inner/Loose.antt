@@ -46,8 +46,9 @@ loose_at handle s = loose (handle_at handle s) s.zone
 -- its slot; or why there is none
 abbrev pub FindsLoose : List Block → (ℕ → Slot) → List Anchor → Option ℕ → Result ℕ Refusal → Type 0
 FindsLoose zone slots es handle (Ok slot) =
-    (h : ℕ) × (loose_at handle (state_of zone slots es) ≡ Ok (record { number = h; role = role_of (slots slot) }))
-    × (slice_get es h ≡ Some (entry.Handle slot)) × (h < no_number)
+    (h : ℕ) × (guarded : Bool)
+    × (loose_at handle (state_of zone slots es) ≡ Ok (record { number = h; role = role_of (slots slot) guarded }))
+    × (slice_get es h ≡ Some (entry.Handle slot guarded)) × (h < no_number)
 FindsLoose zone slots es handle (Err (Code code)) = loose_at handle (state_of zone slots es) ≡ Err code
 FindsLoose zone slots es handle (Err HostMemory) = ⊥
 

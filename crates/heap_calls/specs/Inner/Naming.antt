@@ -1,4 +1,4 @@
-use Rattle.std.specs.Prelude.{ℕ, Option, Some, None, Result, Ok, Err, List, [], ◌∷◌, ◌++◌, length}
+use Rattle.std.specs.Prelude.{ℕ, false, Option, Some, None, Result, Ok, Err, List, [], ◌∷◌, ◌++◌, length}
 use Rattle.mac_words.specs.declared.code.TheConstants.OsErr.{MEM_FULL}
 use Rattle.heap_calls.specs.declared.anchor.Anchor.{Anchor}
 use Rattle.heap_calls.specs.declared.anchor.Anchor.TheVariants.{Handle}
@@ -10,7 +10,7 @@ use Rattle.heap_calls.specs.declared.refusal.Refusal.TheVariants.{Code}
 -- the entries with one more for the handle of a slot, if there is one
 abbrev pub entered : Option ℕ → List Anchor → List Anchor
 entered None es = es
-entered (Some slot) es = es ++ Handle slot ∷ []
+entered (Some slot) es = es ++ Handle slot false ∷ []
 
 -- its number; or that there was no room
 abbrev pub number_of : Option ℕ → List Anchor → Result ℕ Refusal

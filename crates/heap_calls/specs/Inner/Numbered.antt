@@ -2,38 +2,39 @@ use Rattle.std.specs.Prelude.{◌≡◌, ℕ, ◌+◌, ◌^◌, ◌==◌, Bool, 
 use Rattle.std.specs.Prelude.{if◌then◌else◌}
 use Rattle.block_store.specs.Block.{Block, is_fixed, rename}
 use Rattle.block_store.specs.Run.{has}
-use Rattle.block_store.specs.Slot.{Slot, NoSlot, Unused, Used}
+use Rattle.block_store.specs.Slot.{Slot, NoSlot, Unused, Used, is_used}
 use Rattle.block_store.specs.Rest.{Rest}
 use Rattle.heap_calls.specs.declared.log.Log.{Log}
-use Rattle.heap_calls.specs.State.{Role, Plain, Resource, Meaning, State, Memory, uses_slot}
+use Rattle.heap_calls.specs.State.{Role, Plain, Resource, SystemResource, Meaning, State, Memory, uses_slot}
 use Rattle.heap_calls.specs.State as names
 use Rattle.heap_calls.specs.declared.anchor.Anchor.{Anchor}
 use Rattle.heap_calls.specs.declared.anchor.Anchor.TheVariants as entry
 
 -- How a heap is seen in a store: blocks that the store names by slot or place are named by number.
 
--- whose the handle of a slot is
-abbrev pub role_of : Slot → Role
-role_of NoSlot = Plain
-role_of Unused = Plain
-role_of (Used false) = Plain
-role_of (Used true) = Resource
+-- whose the handle of a slot is, guarded or not; only a resource's is guarded
+abbrev pub role_of : Slot → Bool → Role
+role_of NoSlot guarded = Plain
+role_of Unused guarded = Plain
+role_of (Used false) guarded = Plain
+role_of (Used true) false = Resource
+role_of (Used true) true = SystemResource
 
 -- what an entry stands for, by the table of slots
 abbrev pub name_of : (ℕ → Slot) → Anchor → Meaning
-name_of slots (entry.Handle slot) = names.Handle (role_of (slots slot))
+name_of slots (entry.Handle slot guarded) = names.Handle (role_of (slots slot) guarded)
 name_of slots (entry.Pointer place) = names.Pointer
 name_of slots entry.Disposed = names.Disposed
 
 -- an entry of a slot
 abbrev pub leads_to : ℕ → Anchor → Bool
-leads_to slot (entry.Handle s) = s == slot
+leads_to slot (entry.Handle s guarded) = s == slot
 leads_to slot (entry.Pointer place) = false
 leads_to slot entry.Disposed = false
 
 -- an entry of a place
 abbrev pub points_to : ℕ → Anchor → Bool
-points_to place (entry.Handle slot) = false
+points_to place (entry.Handle slot guarded) = false
 points_to place (entry.Pointer p) = p == place
 points_to place entry.Disposed = false
 
@@ -77,9 +78,10 @@ KeepsFixed old new = (place : ℕ) → has (is_fixed place) new ≡ has (is_fixe
 -- the names and the store agree
 pub record Agrees (zone : List Block) (rest : Rest) (entries : List Anchor) : Type 0 where
   -- a handle's slot is used, and by no other handle
-  pub used : (h slot : ℕ) → slice_get entries h ≡ Some (entry.Handle slot) → rest.slots slot ≡ Used false
-  pub apart : (h k slot : ℕ) → slice_get entries h ≡ Some (entry.Handle slot)
-      → slice_get entries k ≡ Some (entry.Handle slot) → h ≡ k
+  pub used : (h slot : ℕ) (guarded : Bool) → slice_get entries h ≡ Some (entry.Handle slot guarded)
+      → is_used (rest.slots slot) ≡ true
+  pub apart : (h k slot : ℕ) (guarded other : Bool) → slice_get entries h ≡ Some (entry.Handle slot guarded)
+      → slice_get entries k ≡ Some (entry.Handle slot other) → h ≡ k
   -- a pointer's block is there, and is no other pointer's
   pub pointed : (h place : ℕ) → slice_get entries h ≡ Some (entry.Pointer place) → has (is_fixed place) zone ≡ true
   pub lone : (h k place : ℕ) → slice_get entries h ≡ Some (entry.Pointer place)

@@ -21,7 +21,7 @@ target number place = record { number = number; place = place }
 -- the place of a pointer's entry; or why it has none: never given, a handle, or disposed of
 abbrev pub target_at : ℕ → Option Anchor → Result Target Refusal
 target_at p None = Err (Code NIL_HANDLE)
-target_at p (Some (entry.Handle slot)) = Err (Code WRONG_ZONE)
+target_at p (Some (entry.Handle slot guarded)) = Err (Code WRONG_ZONE)
 target_at p (Some (entry.Pointer place)) = Ok (target p place)
 target_at p (Some entry.Disposed) = Err (Code WRONG_ZONE)
 

@@ -18,7 +18,7 @@ Reaches zone slots es handle (Ok r) =
     (s : Spot) × (look_up handle (state_of zone slots es) ≡ Ok
     (record { number = r.number; at = rename_spot (handle_number es) (pointer_number es) s }))
     × (spot (is_relocatable r.slot) zone ≡ Some s) × FindsLowest (is_relocatable r.slot) zone (Some r.place)
-    × (slice_get es r.number ≡ Some (entry.Handle r.slot)) × (r.number < no_number)
+    × (guarded : Bool) × (slice_get es r.number ≡ Some (entry.Handle r.slot guarded)) × (r.number < no_number)
 Reaches zone slots es handle (Err (Code code)) = look_up handle (state_of zone slots es) ≡ Err code
 Reaches zone slots es handle (Err HostMemory) = ⊥
 

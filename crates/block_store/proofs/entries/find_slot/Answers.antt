@@ -9,8 +9,11 @@ use Rattle.block_store.proofs.entries.find_slot.Goals as goal
 pub returns-then-is_of_slot : goal.returns-then-is_of_slot
 returns-then-is_of_slot c =
     let k = reached c.args.entries.now c.loop-entry.entry-index c.entry-item.result (omega arith) c.entry-item.is in
-    sym (spot-here (is_relocatable c.args.number) c.loop-entry.place (block_of c.entry-item.result) (drop (c.loop-entry.entry-index + 1) (blocks_of c.args.entries.now)) (sym c.is_of_slot.ensures ∙ c.if-is_of_slot.true))
-    ∙ ap (λ l. option_map (λ (s : Spot). c.loop-entry.place + sizes s.below) (spot (is_relocatable c.args.number) l)) (sym k.blocks)
+    sym (spot-here (is_relocatable c.args.number) c.loop-entry.place (block_of c.entry-item.result)
+    (drop (c.loop-entry.entry-index + 1) (blocks_of c.args.entries.now))
+    (sym c.is_of_slot.ensures ∙ c.if-is_of_slot.true))
+    ∙ ap (λ l. option_map (λ (s : Spot). c.loop-entry.place + sizes s.below) (spot (is_relocatable c.args.number) l))
+    (sym k.blocks)
     ∙ c.loop-entry.invariant.rest
 
 pub loop-entry-preserved : goal.loop-entry-preserved
@@ -19,8 +22,13 @@ loop-entry-preserved c =
     record {
       bytes = omega arith;
       rest =
-          ap (λ n. option_map (λ (s : Spot). (c.loop-entry.place + n) + sizes s.below) (spot (is_relocatable c.args.number) (drop (c.loop-entry.entry-index + 1) (blocks_of c.args.entries.now)))) c.entry_size-place.ensures
-          ∙ sym (spot-above (is_relocatable c.args.number) c.loop-entry.place (block_of c.entry-item.result) (drop (c.loop-entry.entry-index + 1) (blocks_of c.args.entries.now)) (sym c.is_of_slot.ensures ∙ c.if-is_of_slot.false))
-          ∙ ap (λ l. option_map (λ (s : Spot). c.loop-entry.place + sizes s.below) (spot (is_relocatable c.args.number) l)) (sym k.blocks)
+          ap (λ n. option_map (λ (s : Spot). (c.loop-entry.place + n) + sizes s.below)
+          (spot (is_relocatable c.args.number) (drop (c.loop-entry.entry-index + 1)
+          (blocks_of c.args.entries.now)))) c.entry_size-place.ensures
+          ∙ sym (spot-above (is_relocatable c.args.number) c.loop-entry.place (block_of c.entry-item.result)
+          (drop (c.loop-entry.entry-index + 1) (blocks_of c.args.entries.now))
+          (sym c.is_of_slot.ensures ∙ c.if-is_of_slot.false))
+          ∙ ap (λ l. option_map (λ (s : Spot). c.loop-entry.place + sizes s.below)
+          (spot (is_relocatable c.args.number) l)) (sym k.blocks)
           ∙ c.loop-entry.invariant.rest;
     }

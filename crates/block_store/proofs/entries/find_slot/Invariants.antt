@@ -9,5 +9,7 @@ use Rattle.block_store.proofs.entries.find_slot.Given as goal
 abbrev pub invariant-loop-entry : goal.invariant-loop-entry
 invariant-loop-entry l = record {
   bytes : l.place ≡ sizes (take l.entry-index (blocks_of l.entries));
-  rest : option_map (λ s. l.place + sizes s.below) (spot (is_relocatable l.number) (drop l.entry-index (blocks_of l.entries))) ≡ option_map (λ s. sizes s.below) (spot (is_relocatable l.number) (blocks_of l.entries));
+  rest : option_map (λ s. l.place + sizes s.below) (spot (is_relocatable l.number)
+      (drop l.entry-index (blocks_of l.entries))) ≡ option_map (λ s. sizes s.below)
+      (spot (is_relocatable l.number) (blocks_of l.entries));
 }

@@ -13,4 +13,6 @@ free_if-requires-clause-fits c =
 pub loop-i-preserved : goal.loop-i-preserved
 loop-i-preserved c =
     let bs = blocks_of c.args.entries.now.items in
-    c.free_if.ensures ∙ ap (λ l. take c.loop-i.i l ++ freed_first (is_relocatable c.args.number) (drop c.loop-i.i l)) c.loop-i.invariant ∙ freed-step (is_relocatable c.args.number) bs c.loop-i.i (omega (arith, length-map c.args.entries.now.items block_of))
+    c.free_if.ensures ∙ ap (λ l. take c.loop-i.i l ++ freed_first (is_relocatable c.args.number) (drop c.loop-i.i l))
+    c.loop-i.invariant ∙ freed-step (is_relocatable c.args.number) bs c.loop-i.i
+    (omega (arith, length-map c.args.entries.now.items block_of))

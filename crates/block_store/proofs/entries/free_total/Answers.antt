@@ -12,8 +12,11 @@ overflow_add-total c =
 
 pub loop-entry-preserved : goal.loop-entry-preserved
 loop-entry-preserved c =
-    let more = free-more c.args.entries.now c.loop-entry.entry-index c.entry-item.result (omega arith) c.entry-item.is in
+    let more = free-more c.args.entries.now c.loop-entry.entry-index c.entry-item.result (omega arith)
+    c.entry-item.is in
     elim c.match-entry.branch [
-      | in-Free w ↦ (let f : free_of (block_of c.entry-item.result) ≡ w.in-Free.n = ap (λ e. free_of (block_of e)) w.in-Free.is in omega (arith, more))
-      | in_default w ↦ (let f : free_of (block_of c.entry-item.result) ≡ 0 = free_of-not_free c.entry-item.result w.in_default.not-Free in omega (arith, more))
+      | in-Free w ↦ (let f : free_of (block_of c.entry-item.result) ≡ w.in-Free.n = ap (λ e. free_of (block_of e))
+          w.in-Free.is in omega (arith, more))
+      | in_default w ↦ (let f : free_of (block_of c.entry-item.result) ≡ 0 = free_of-not_free c.entry-item.result
+          w.in_default.not-Free in omega (arith, more))
     ]

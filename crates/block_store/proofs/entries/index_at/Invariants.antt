@@ -6,4 +6,5 @@ use Rattle.block_store.proofs.entries.index_at.Given as goal
 
 -- the rest of the entries gives the spot
 abbrev pub invariant-loop-i : goal.invariant-loop-i
-invariant-loop-i l = raised_by (take l.i (blocks_of l.entries)) (spot_at l.rest (drop l.i (blocks_of l.entries))) ≡ spot_at l.place (blocks_of l.entries)
+invariant-loop-i l = raised_by (take l.i (blocks_of l.entries)) (spot_at l.rest (drop l.i (blocks_of l.entries)))
+    ≡ spot_at l.place (blocks_of l.entries)

@@ -16,5 +16,10 @@ loop-i-preserved c =
     let j = c.loop-i.i - 1 in
     record {
       within = omega arith;
-      above = c.join_at.ensures ∙ ap (λ l. take j l ++ tidy_top (drop j l)) c.loop-i.invariant.above ∙ tidy-step bs j c.loop-i.i (omega arith) (omega (arith, c.loop-i.invariant.within, length-map c.args.entries.now.items block_of));
+      above = c.join_at.ensures ∙ ap (λ l. take j l ++ tidy_top (drop j l)) c.loop-i.invariant.above
+          ∙ tidy-step bs j c.loop-i.i (omega arith) (omega (
+            arith,
+            c.loop-i.invariant.within,
+            length-map c.args.entries.now.items block_of,
+          ));
     }

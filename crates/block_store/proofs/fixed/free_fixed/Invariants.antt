@@ -6,4 +6,5 @@ use Rattle.block_store.proofs.fixed.free_fixed.Given as goal
 
 -- those so far are freed, the others as they were
 abbrev pub invariant-loop-i : goal.invariant-loop-i
-invariant-loop-i l = blocks_of l.entries.items ≡ freed (is_fixed l.place) (take l.i (blocks_of l.initial.entries.items)) ++ drop l.i (blocks_of l.initial.entries.items)
+invariant-loop-i l = blocks_of l.entries.items ≡ freed (is_fixed l.place) (take l.i (blocks_of l.initial.entries.items))
+    ++ drop l.i (blocks_of l.initial.entries.items)

@@ -4,10 +4,16 @@ use Rattle.block_store.proofs.Zone.Listing.{entry_fits, freed_first-set, freed_f
 use Rattle.block_store.proofs.fixed.free_if.Goals as goal
 
 pub entry_size-bytes-requires : goal.entry_size-bytes-requires
-entry_size-bytes-requires c = omega (arith, entry_fits c.args.entries.now.items c.args.i c.index-entry.result.now (omega arith) c.index-entry.ensures)
+entry_size-bytes-requires c = omega (
+  arith,
+  entry_fits c.args.entries.now.items c.args.i c.index-entry.result.now (omega arith) c.index-entry.ensures,
+)
 
 pub returns-then-is_fixed_at : goal.returns-then-is_fixed_at
-returns-then-is_fixed_at c = freed_first-set (is_fixed c.args.place) c.args.entries.now.items c.args.i c.entry_size-bytes.result c.index-entry.result.now (omega arith) c.index-entry.ensures (sym c.is_fixed_at.ensures ∙ c.if-is_fixed_at.true) c.entry_size-bytes.ensures
+returns-then-is_fixed_at c = freed_first-set (is_fixed c.args.place) c.args.entries.now.items c.args.i
+    c.entry_size-bytes.result c.index-entry.result.now (omega arith) c.index-entry.ensures
+    (sym c.is_fixed_at.ensures ∙ c.if-is_fixed_at.true) c.entry_size-bytes.ensures
 
 pub returns-else-is_fixed_at : goal.returns-else-is_fixed_at
-returns-else-is_fixed_at c = freed_first-same (is_fixed c.args.place) c.args.entries.now.items c.args.i c.index-entry.result.now (omega arith) c.index-entry.ensures (sym c.is_fixed_at.ensures ∙ c.if-is_fixed_at.false)
+returns-else-is_fixed_at c = freed_first-same (is_fixed c.args.place) c.args.entries.now.items c.args.i
+    c.index-entry.result.now (omega arith) c.index-entry.ensures (sym c.is_fixed_at.ensures ∙ c.if-is_fixed_at.false)

@@ -11,4 +11,6 @@ use Rattle.block_store.proofs.fixed_tests.make_fixed.Goals as goal
 pub carve_fixed-requires : goal.carve_fixed-requires
 carve_fixed-requires c =
     let zone = blocks_of c.args.store.now.blocks.items in
-    subst (λ (l : List Block). IsSomeAnd (spot_at c.in-Some.place l) (λ s. IsTrue (is_room (padded c.args.size) s.here))) c.args.store.now.tidied (found-passes (is_room (padded c.args.size)) (tidy zone) c.in-Some.place c.in-Some.ensures)
+    subst (λ (l : List Block). IsSomeAnd (spot_at c.in-Some.place l)
+    (λ s. IsTrue (is_room (padded c.args.size) s.here))) c.args.store.now.tidied
+    (found-passes (is_room (padded c.args.size)) (tidy zone) c.in-Some.place c.in-Some.ensures)

@@ -8,4 +8,5 @@ use Rattle.block_store.proofs.packing.clear.Goals as goal
 pub loop-i-preserved : goal.loop-i-preserved
 loop-i-preserved c =
     let bs = blocks_of c.args.run.now in
-    c.clear_if.ensures ∙ ap (λ l. take c.loop-i.i l ++ cleared_first (drop c.loop-i.i l)) c.loop-i.invariant ∙ cleared-step bs c.loop-i.i (omega (arith, c.loop-i-test.true, length-map c.args.run.now block_of))
+    c.clear_if.ensures ∙ ap (λ l. take c.loop-i.i l ++ cleared_first (drop c.loop-i.i l)) c.loop-i.invariant
+    ∙ cleared-step bs c.loop-i.i (omega (arith, c.loop-i-test.true, length-map c.args.run.now block_of))

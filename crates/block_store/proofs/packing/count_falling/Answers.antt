@@ -5,7 +5,11 @@ use Rattle.block_store.specs.Inner.ListStore.{blocks_of, block_of}
 use Rattle.block_store.proofs.Zone.Listing.{drop-blocks}
 use Rattle.block_store.proofs.Regroup.Packed.{fallen-free, fallen-mover, fallen-barrier, fallen-later}
 use Rattle.block_store.proofs.packing.count_falling.Goals as goal
-use Rattle.block_store.proofs.packing.count_falling.Goals.{then-is_free_entry, else-is_free_entry+then-below+then-is_loose, else-is_free_entry+else-below, else-below-via-then-below+else-is_loose, else-below-via-else-below}
+use Rattle.block_store.proofs.packing.count_falling.Goals.{then-is_free_entry}
+use Rattle.block_store.proofs.packing.count_falling.Goals.{else-is_free_entry+then-below+then-is_loose}
+use Rattle.block_store.proofs.packing.count_falling.Goals.{else-is_free_entry+else-below}
+use Rattle.block_store.proofs.packing.count_falling.Goals.{else-below-via-then-below+else-is_loose}
+use Rattle.block_store.proofs.packing.count_falling.Goals.{else-below-via-else-below}
 
 pub loop-entry-preserved : goal.loop-entry-preserved
 loop-entry-preserved c =
@@ -16,21 +20,28 @@ loop-entry-preserved c =
     let now = c.if-is_free_entry in
     let free = sym c.is_free_entry.ensures in
     let was : l.falls + cond l.below (count is_mover (b ∷ above)) (falling (b ∷ above)) ≡ falling bs =
-    ap (λ k. l.falls + cond l.below (count is_mover k) (falling k)) (sym (drop-blocks c.args.run.now l.entry-index c.entry-item.result c.loop-entry-test.true c.entry-item.is)) ∙ l.invariant.rest in
+    ap (λ k. l.falls + cond l.below (count is_mover k) (falling k))
+    (sym (drop-blocks c.args.run.now l.entry-index c.entry-item.result c.loop-entry-test.true c.entry-item.is))
+    ∙ l.invariant.rest in
     elim c.if-is_free_entry.branch [
       | then-is_free_entry w ↦ record {
         few = omega (arith, w.falls-is, l.invariant.few);
-        rest = fallen-free l.below now.below l.falls now.falls (falling bs) b above w.falls-is w.below-is (free ∙ w.if-is_free_entry.true) was;
+        rest = fallen-free l.below now.below l.falls now.falls (falling bs) b above w.falls-is w.below-is
+            (free ∙ w.if-is_free_entry.true) was;
       }
       | else-is_free_entry+then-below+then-is_loose w ↦ record {
         few = omega (arith, w.falls-is, l.invariant.few);
-        rest = fallen-mover l.below now.below l.falls now.falls (falling bs) b above w.falls-is w.below-is (free ∙ w.if-is_free_entry.false) w.if-below.true (sym w.is_loose.ensures ∙ w.if-is_loose.true) was;
+        rest = fallen-mover l.below now.below l.falls now.falls (falling bs) b above w.falls-is w.below-is
+            (free ∙ w.if-is_free_entry.false) w.if-below.true (sym w.is_loose.ensures ∙ w.if-is_loose.true) was;
       }
       | else-is_free_entry+else-below w ↦ record {
         few = omega (arith, w.falls-is, l.invariant.few);
         rest = elim w.else-below.branch [
-          | else-below-via-then-below+else-is_loose v ↦ fallen-barrier l.below now.below l.falls now.falls (falling bs) b above w.falls-is w.below-is (free ∙ w.if-is_free_entry.false) v.if-below.true (sym v.is_loose.ensures ∙ v.if-is_loose.false) was
-          | else-below-via-else-below v ↦ fallen-later l.below now.below l.falls now.falls (falling bs) b above w.falls-is w.below-is (free ∙ w.if-is_free_entry.false) v.if-below.false was
+          | else-below-via-then-below+else-is_loose v ↦ fallen-barrier l.below now.below l.falls now.falls (falling bs)
+              b above w.falls-is w.below-is (free ∙ w.if-is_free_entry.false) v.if-below.true
+              (sym v.is_loose.ensures ∙ v.if-is_loose.false) was
+          | else-below-via-else-below v ↦ fallen-later l.below now.below l.falls now.falls (falling bs) b above
+              w.falls-is w.below-is (free ∙ w.if-is_free_entry.false) v.if-below.false was
         ];
       }
     ]

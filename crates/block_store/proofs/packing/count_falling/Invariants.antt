@@ -8,5 +8,6 @@ use Rattle.block_store.proofs.packing.count_falling.Given as goal
 abbrev pub invariant-loop-entry : goal.invariant-loop-entry
 invariant-loop-entry l = record {
   few : l.falls ≤ l.entry-index;
-  rest : l.falls + cond l.below (count is_mover (drop l.entry-index (blocks_of l.run))) (falling (drop l.entry-index (blocks_of l.run))) ≡ falling (blocks_of l.run);
+  rest : l.falls + cond l.below (count is_mover (drop l.entry-index (blocks_of l.run)))
+      (falling (drop l.entry-index (blocks_of l.run))) ≡ falling (blocks_of l.run);
 }

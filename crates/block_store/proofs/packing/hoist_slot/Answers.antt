@@ -8,4 +8,5 @@ pub hoist_between-requires-clause-loose : goal.hoist_between-requires-clause-loo
 hoist_between-requires-clause-loose c =
     let zone = blocks_of c.args.entries.now.items in
     let r = run_between c.run_bounds-start.result.0 c.run_bounds-start.result.1 zone in
-    (run_at-parts c.args.place zone r (found-between c.args.entries.now.items _ c.args.place c.run_bounds-start.result.0 c.run_bounds-start.result.1 c.deref.ensures.value c.run_bounds-start.ensures.run)).loose
+    (run_at-parts c.args.place zone r (found-between c.args.entries.now.items _ c.args.place c.run_bounds-start.result.0
+    c.run_bounds-start.result.1 c.deref.ensures.value c.run_bounds-start.ensures.run)).loose

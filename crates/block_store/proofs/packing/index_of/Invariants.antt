@@ -6,4 +6,5 @@ use Rattle.block_store.proofs.packing.index_of.Given as goal
 
 -- what passes is among the rest
 abbrev pub invariant-loop-i : goal.invariant-loop-i
-invariant-loop-i l = has (is_relocatable l.number) (drop l.i (blocks_of l.entries)) ≡ has (is_relocatable l.number) (blocks_of l.entries)
+invariant-loop-i l = has (is_relocatable l.number) (drop l.i (blocks_of l.entries))
+    ≡ has (is_relocatable l.number) (blocks_of l.entries)

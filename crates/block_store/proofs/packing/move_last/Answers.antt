@@ -10,4 +10,5 @@ returns c =
     let i = c.args.i in
     let n = length es - i in
     let e = entry.Masters in
-    blocks-last es _ i e c.requires (put_mid-rotated i n es c.rotate_left.new.self e c.requires (omega arith) c.rotate_left.ensures.after)
+    blocks-last es _ i e c.requires (put_mid-rotated i n es c.rotate_left.new.self e c.requires (omega arith)
+    c.rotate_left.ensures.after)

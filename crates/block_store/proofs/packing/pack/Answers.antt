@@ -9,7 +9,8 @@ use Rattle.block_store.proofs.packing.pack.Goals as goal
 use Rattle.block_store.proofs.Plain.Options.{the_some}
 
 pub returns-in_default : goal.returns-in_default
-returns-in_default c = λ above. ap (λ l. tidy (l ++ above)) (packed-none (blocks_of c.args.run.now) c.args.less c.requires.loose c.in_default.ensures)
+returns-in_default c = λ above. ap (λ l. tidy (l ++ above))
+    (packed-none (blocks_of c.args.run.now) c.args.less c.requires.loose c.in_default.ensures)
 
 pub returns : goal.returns
 returns c =
@@ -18,7 +19,9 @@ returns c =
     let es = c.clear.new.run in
     let n = length es - 1 in
     let left = c.free_total.result - c.args.less in
-    let at = the_some (nth_spot c.in-Some.i run) (λ s. is_free s.here ≡ true) (λ s. moved ≡ s.below ++ s.above ++ s.here ∷ []) c.in-Some.ensures.1 c.move_last.ensures in
+    let at = the_some (nth_spot c.in-Some.i run) (λ s. is_free s.here ≡ true)
+    (λ s. moved ≡ s.below ++ s.above ++ s.here ∷ []) c.in-Some.ensures.1 c.move_last.ensures in
     let within = c.in-Some.ensures.0 in
-    λ above. pack-done run moved (blocks_of (slice_set es n (entry.Free left))) es c.in-Some.i n left at.0 at.1 at.2 c.requires.loose at.3 c.clear.ensures (omega arith) refl above
+    λ above. pack-done run moved (blocks_of (slice_set es n (entry.Free left))) es c.in-Some.i n left at.0 at.1 at.2
+    c.requires.loose at.3 c.clear.ensures (omega arith) refl above
     ∙ ap (λ k. tidy (movers run ++ free (k - c.args.less) ++ above)) c.free_total.ensures

@@ -8,10 +8,12 @@ use Rattle.block_store.proofs.packing.raise_run.Goals.{In_ok-insert}
 use Rattle.block_store.proofs.packing.raise_run.Goals as goal
 
 -- the run with a Free block more
-raised : (c : In_ok-insert) → Raised (blocks_of c.args.entries.now.items) (blocks_of c.insert.new.self.items) c.args.place c.args.bytes c.run_bounds-start.result.0 c.run_bounds-start.result.1
+raised : (c : In_ok-insert) → Raised (blocks_of c.args.entries.now.items) (blocks_of c.insert.new.self.items)
+    c.args.place c.args.bytes c.run_bounds-start.result.0 c.run_bounds-start.result.1
 raised c =
     let now = c.run_bounds-start.ensures in
-    raised-above c.args.entries.now.items _ c.insert.new.self.items c.args.place c.args.bytes _ _ c.deref.ensures.value now.order now.within now.run c.in_ok-insert.ensures.items c.requires.fits c.requires.run
+    raised-above c.args.entries.now.items _ c.insert.new.self.items c.args.place c.args.bytes _ _ c.deref.ensures.value
+    now.order now.within now.run c.in_ok-insert.ensures.items c.requires.fits c.requires.run
 
 pub pack_between-requires-clause-fits : goal.pack_between-requires-clause-fits
 pack_between-requires-clause-fits c = (raised (goal.at.pack_between-requires-clause-fits c).In_ok-insert).fits
@@ -25,5 +27,6 @@ pack_between-requires-clause-less c = (raised (goal.at.pack_between-requires-cla
 pub returns-clause-ok : goal.returns-clause-ok
 returns-clause-ok c =
     let r = raised (goal.at.returns-clause-ok c).In_ok-insert in
-    let P : Option RunSpot → Type 0 = λ o. IfSome o (λ (r : RunSpot). blocks_of c.pack_between.new.entries.items ≡ tidy (with_run (low (Free c.args.bytes)) r)) in
+    let P : Option RunSpot → Type 0 = λ o. IfSome o (λ (r : RunSpot). blocks_of c.pack_between.new.entries.items
+    ≡ tidy (with_run (low (Free c.args.bytes)) r)) in
     subst P (sym r.found) (c.pack_between.ensures ∙ ap tidy r.done)

@@ -9,5 +9,7 @@ returns-clause-run c =
     let es = c.args.entries.now in
     let i = c.in-Some.i in
     let part = take (length es - i) (drop i es) in
-    let same = ap blocks_of (take_all (length es - i) (drop i es) (let z = length-drop i es in omega arith)) ∙ blocks_of-drop i es in
-    c.in-Some.ensures.1 ∙ ap Some (run-between i c.run_length.result (blocks_of es) (blocks_of part) same c.run_length.ensures.run c.run_length.ensures.above)
+    let same = ap blocks_of (take_all (length es - i) (drop i es) (let z = length-drop i es in omega arith))
+    ∙ blocks_of-drop i es in
+    c.in-Some.ensures.1 ∙ ap Some (run-between i c.run_length.result (blocks_of es) (blocks_of part) same
+    c.run_length.ensures.run c.run_length.ensures.above)

@@ -21,4 +21,5 @@ returns c =
     let es = c.args.entries.now in
     let start = c.run_bounds-start.result.0 in
     let end = c.run_bounds-start.result.1 in
-    ap Some (c.free_total.ensures ∙ ap free_sum (blocks-part es es start (end - start) refl)) ∙ sym (ap (option_map (λ (r : RunSpot). free_sum r.run)) c.run_bounds-start.ensures.run)
+    ap Some (c.free_total.ensures ∙ ap free_sum (blocks-part es es start (end - start) refl))
+    ∙ sym (ap (option_map (λ (r : RunSpot). free_sum r.run)) c.run_bounds-start.ensures.run)

@@ -13,5 +13,6 @@ returns c =
     let end = c.run_bounds-start.result.1 in
     let part = take (end - start) (drop start es) in
     let t = is_relocatable c.args.number in
-    ap Some (c.is_some.ensures ∙ has-found t (blocks_of part) (length part) c.index_of.result c.index_of.ensures ∙ ap (has t) (blocks-part es es start (end - start) refl))
+    ap Some (c.is_some.ensures ∙ has-found t (blocks_of part) (length part) c.index_of.result c.index_of.ensures
+    ∙ ap (has t) (blocks-part es es start (end - start) refl))
     ∙ sym (ap (option_map (λ (r : RunSpot). has t r.run)) c.run_bounds-start.ensures.run)

@@ -7,4 +7,5 @@ use Rattle.block_store.proofs.packing.run_start.Given as goal
 
 -- the rest of the entries gives the run
 abbrev pub invariant-loop-i : goal.invariant-loop-i
-invariant-loop-i l = option_map (run_raised (take l.i (blocks_of l.entries))) (walked l.bottom l.rest (drop l.i (blocks_of l.entries))) ≡ run_at l.place (blocks_of l.entries)
+invariant-loop-i l = option_map (run_raised (take l.i (blocks_of l.entries)))
+    (walked l.bottom l.rest (drop l.i (blocks_of l.entries))) ≡ run_at l.place (blocks_of l.entries)

@@ -12,13 +12,17 @@ pub pack_between-requires-clause-loose : goal.pack_between-requires-clause-loose
 pack_between-requires-clause-loose c =
     let zone = blocks_of c.args.entries.now.items in
     let r = run_between c.run_bounds-start.result.0 c.run_bounds-start.result.1 zone in
-    (run_at-parts c.args.place zone r (found-between c.args.entries.now.items _ c.args.place c.run_bounds-start.result.0 c.run_bounds-start.result.1 c.deref.ensures.value c.run_bounds-start.ensures.run)).loose
+    (run_at-parts c.args.place zone r (found-between c.args.entries.now.items _ c.args.place c.run_bounds-start.result.0
+    c.run_bounds-start.result.1 c.deref.ensures.value c.run_bounds-start.ensures.run)).loose
 
 pub returns-clause-falls : goal.returns-clause-falls
 returns-clause-falls c =
     let zone = blocks_of c.args.entries.now.items in
     let start = c.run_bounds-start.result.0 in
     let end = c.run_bounds-start.result.1 in
-    let found = found-between c.args.entries.now.items _ c.args.place start end c.deref.ensures.value c.run_bounds-start.ensures.run in
+    let found = found-between c.args.entries.now.items _ c.args.place start end c.deref.ensures.value
+    c.run_bounds-start.ensures.run in
     let P : Option RunSpot → Type 0 = λ o. IfSome o (λ (r : RunSpot). c.count_falling-falls.result ≡ falling r.run) in
-    subst P (sym found) (c.count_falling-falls.ensures ∙ ap falling (blocks-part c.args.entries.now.items c.deref-2.result.now start (end - start) c.deref-2.ensures.value))
+    subst P (sym found) (c.count_falling-falls.ensures
+    ∙ ap falling (blocks-part c.args.entries.now.items c.deref-2.result.now start (end - start)
+    c.deref-2.ensures.value))

@@ -14,14 +14,20 @@ loop-entry-preserved c =
     let total = c.loop-entry.total in
     elim c.match-left_after.branch [
       | in-Some w ↦ record {
-        above = ap (λ k. c.match-left_after.total + free_from k sparing (blocks_of c.args.entries.now) (c.loop-entry.entry-index + 1)) w.left-is
-            ∙ (let one = free-more_free sparing c.args.entries.now c.loop-entry.entry-index c.entry-item.result left w.in-Some.next (omega arith) c.entry-item.is w.in-Some.ensures in omega (arith, w.total-is, w.entry_size-total.ensures, one)) ∙ c.loop-entry.invariant.above;
+        above = ap (λ k. c.match-left_after.total + free_from k sparing (blocks_of c.args.entries.now)
+            (c.loop-entry.entry-index + 1)) w.left-is
+            ∙ (let one = free-more_free sparing c.args.entries.now c.loop-entry.entry-index c.entry-item.result left
+            w.in-Some.next (omega arith) c.entry-item.is w.in-Some.ensures in omega
+            (arith, w.total-is, w.entry_size-total.ensures, one)) ∙ c.loop-entry.invariant.above;
         bytes = omega (arith, w.total-is, w.entry_size-total.ensures, c.loop-entry.invariant.bytes);
       }
       | in_default w ↦ record {
-        above = ap (λ k. c.match-left_after.total + free_from k sparing (blocks_of c.args.entries.now) (c.loop-entry.entry-index + 1)) w.left-is
-            ∙ ap (λ k. k + free_from left sparing (blocks_of c.args.entries.now) (c.loop-entry.entry-index + 1)) w.total-is
-            ∙ ap (λ k. total + k) (sym (free-more_kept sparing c.args.entries.now c.loop-entry.entry-index c.entry-item.result left (omega arith) c.entry-item.is w.in_default.ensures)) ∙ c.loop-entry.invariant.above;
+        above = ap (λ k. c.match-left_after.total + free_from k sparing (blocks_of c.args.entries.now)
+            (c.loop-entry.entry-index + 1)) w.left-is
+            ∙ ap (λ k. k + free_from left sparing (blocks_of c.args.entries.now) (c.loop-entry.entry-index + 1))
+            w.total-is ∙ ap (λ k. total + k) (sym (free-more_kept sparing c.args.entries.now c.loop-entry.entry-index
+            c.entry-item.result left (omega arith) c.entry-item.is w.in_default.ensures))
+            ∙ c.loop-entry.invariant.above;
         bytes = omega (arith, w.total-is, c.loop-entry.invariant.bytes);
       }
     ]
@@ -29,5 +35,6 @@ loop-entry-preserved c =
 pub returns : goal.returns
 returns c =
     let es = c.args.entries.now in
-    let end = free-end c.args.sparing (blocks_of es) c.loop-entry.entry-index c.loop-entry.left (omega (arith, length-map es block_of)) in
+    let end = free-end c.args.sparing (blocks_of es) c.loop-entry.entry-index c.loop-entry.left
+    (omega (arith, length-map es block_of)) in
     omega (arith, end, c.loop-entry.invariant.above, free-purged c.args.sparing c.args.purges (blocks_of es))

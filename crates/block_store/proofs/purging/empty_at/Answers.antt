@@ -9,10 +9,15 @@ use Rattle.block_store.proofs.Zone.Listing.{entry_fits, drop-blocks}
 use Rattle.block_store.proofs.Zone.Spots.{blocks-set, sizes-same}
 use Rattle.block_store.proofs.Emptied.Purges.{emptied-goes, emptied-stays, and-false}
 use Rattle.block_store.proofs.purging.empty_at.Goals as goal
-use Rattle.block_store.proofs.purging.empty_at.Goals.{else-left-gt0-via-then-left-gt0+else-may_go_now, else-left-gt0-via-else-left-gt0}
+use Rattle.block_store.proofs.purging.empty_at.Goals.{else-left-gt0-via-then-left-gt0+else-may_go_now}
+use Rattle.block_store.proofs.purging.empty_at.Goals.{else-left-gt0-via-else-left-gt0}
 
 pub entry_size-bytes-requires : goal.entry_size-bytes-requires
-entry_size-bytes-requires c = omega (arith, c.requires.fits, entry_fits c.args.entries.now.items c.args.i c.index-entry.result.now (omega arith) c.index-entry.ensures)
+entry_size-bytes-requires c = omega (
+  arith,
+  c.requires.fits,
+  entry_fits c.args.entries.now.items c.args.i c.index-entry.result.now (omega arith) c.index-entry.ensures,
+)
 
 pub returns-then-may_go_now-clause-blocks : goal.returns-then-may_go_now-clause-blocks
 returns-then-may_go_now-clause-blocks c =
@@ -20,8 +25,10 @@ returns-then-may_go_now-clause-blocks c =
     let bs = blocks_of es in
     let i = c.args.i in
     let e = c.index-entry.result.now in
-    emptied-goes (spared c.args.sparing) bs _ i c.args.left (block_of e) c.if-left-gt0.true (drop-blocks es i e (omega arith) c.index-entry.ensures) (sym c.may_go_now.ensures ∙ c.if-may_go_now.true)
-    (blocks-set es i (entry.Free c.entry_size-bytes.result) (omega arith) ∙ ap (λ n. take i bs ++ Free n ∷ drop (i + 1) bs) c.entry_size-bytes.ensures)
+    emptied-goes (spared c.args.sparing) bs _ i c.args.left (block_of e) c.if-left-gt0.true
+    (drop-blocks es i e (omega arith) c.index-entry.ensures) (sym c.may_go_now.ensures ∙ c.if-may_go_now.true)
+    (blocks-set es i (entry.Free c.entry_size-bytes.result) (omega arith)
+    ∙ ap (λ n. take i bs ++ Free n ∷ drop (i + 1) bs) c.entry_size-bytes.ensures)
 
 pub returns-then-may_go_now-clause-bytes : goal.returns-then-may_go_now-clause-bytes
 returns-then-may_go_now-clause-bytes c =
@@ -29,15 +36,20 @@ returns-then-may_go_now-clause-bytes c =
     let bs = blocks_of es in
     let i = c.args.i in
     let e = c.index-entry.result.now in
-    ap sizes (blocks-set es i (entry.Free c.entry_size-bytes.result) (omega arith)) ∙ sizes-same (take i bs) (drop (i + 1) bs) (block_of e) (Free c.entry_size-bytes.result) c.entry_size-bytes.ensures
-    ∙ ap sizes (ap (λ l. take i bs ++ l) (sym (drop-blocks es i e (omega arith) c.index-entry.ensures)) ∙ take-append-drop i bs)
+    ap sizes (blocks-set es i (entry.Free c.entry_size-bytes.result) (omega arith))
+    ∙ sizes-same (take i bs) (drop (i + 1) bs) (block_of e) (Free c.entry_size-bytes.result) c.entry_size-bytes.ensures
+    ∙ ap sizes (ap (λ l. take i bs ++ l) (sym (drop-blocks es i e (omega arith) c.index-entry.ensures))
+    ∙ take-append-drop i bs)
 
 pub returns-else-left-gt0-clause-blocks : goal.returns-else-left-gt0-clause-blocks
 returns-else-left-gt0-clause-blocks c =
     let es = c.args.entries.now.items in
     let e = c.index-entry.result.now in
-    emptied-stays (spared c.args.sparing) (blocks_of es) c.args.i c.args.left (block_of e) (drop-blocks es c.args.i e (omega arith) c.index-entry.ensures)
+    emptied-stays (spared c.args.sparing) (blocks_of es) c.args.i c.args.left (block_of e)
+    (drop-blocks es c.args.i e (omega arith) c.index-entry.ensures)
     (elim c.else-left-gt0.branch [
-      | else-left-gt0-via-then-left-gt0+else-may_go_now w ↦ and-false (nat_lt 0 c.args.left) (may_go (spared c.args.sparing) (block_of e)) (sym w.may_go_now.ensures ∙ w.if-may_go_now.false)
-      | else-left-gt0-via-else-left-gt0 w ↦ ap (λ n. nat_lt 0 n && may_go (spared c.args.sparing) (block_of e)) (let z : c.args.left ≡ 0 = omega (arith, w.if-left-gt0.false) in z)
+      | else-left-gt0-via-then-left-gt0+else-may_go_now w ↦ and-false (nat_lt 0 c.args.left)
+          (may_go (spared c.args.sparing) (block_of e)) (sym w.may_go_now.ensures ∙ w.if-may_go_now.false)
+      | else-left-gt0-via-else-left-gt0 w ↦ ap (λ n. nat_lt 0 n && may_go (spared c.args.sparing) (block_of e))
+          (let z : c.args.left ≡ 0 = omega (arith, w.if-left-gt0.false) in z)
     ])

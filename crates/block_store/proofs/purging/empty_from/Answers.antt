@@ -7,4 +7,5 @@ use Rattle.block_store.proofs.purging.empty_from.Goals as goal
 
 pub returns-clause-blocks : goal.returns-clause-blocks
 returns-clause-blocks c =
-    sym (emptied-end (spared c.args.sparing) (blocks_of c.loop-i.entries.items) c.loop-i.left c.loop-i.i (omega (arith, c.loop-i.invariant.many, length-map c.loop-i.entries.items block_of))) ∙ c.loop-i.invariant.blocks
+    sym (emptied-end (spared c.args.sparing) (blocks_of c.loop-i.entries.items) c.loop-i.left c.loop-i.i
+    (omega (arith, c.loop-i.invariant.many, length-map c.loop-i.entries.items block_of))) ∙ c.loop-i.invariant.blocks

@@ -6,4 +6,6 @@ use Rattle.block_store.proofs.Emptied.Purges.{changed_above}
 use Rattle.block_store.proofs.purging.purge_above.Goals as goal
 
 pub returns : goal.returns
-returns c = changed_above c.args.entries.now.items _ c.args.place c.in-Some.i (emptied c.args.purges (spared c.args.sparing)) _ c.deref.ensures.value c.in-Some.ensures (c.tidy_entries.ensures ∙ ap tidy c.empty_from.ensures.blocks)
+returns c = changed_above c.args.entries.now.items _ c.args.place c.in-Some.i
+    (emptied c.args.purges (spared c.args.sparing)) _ c.deref.ensures.value c.in-Some.ensures
+    (c.tidy_entries.ensures ∙ ap tidy c.empty_from.ensures.blocks)

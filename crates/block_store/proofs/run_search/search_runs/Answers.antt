@@ -14,26 +14,34 @@ entry : (c : After-entry-item) → Reached c.args.entries.now c.loop-entry.entry
 entry c = reached c.args.entries.now c.loop-entry.entry-index c.entry-item.result (omega arith) c.entry-item.is
 
 -- the search from the entry that was reached on
-runs_from : (c : After-entry-item) → scan_runs c.args.number c.args.bytes (spared c.args.sparing) c.loop-entry.scan.left c.loop-entry.scan.start c.loop-entry.scan.free c.loop-entry.scan.met c.loop-entry.scan.place
-    (opened c.args.sparing (block_of c.entry-item.result ∷ drop (c.loop-entry.entry-index + 1) (blocks_of c.args.entries.now)))
-    ≡ scan_runs c.args.number c.args.bytes (spared c.args.sparing) c.args.purges 0 0 (any_run c.args.number) 0 (opened c.args.sparing (blocks_of c.args.entries.now))
+runs_from : (c : After-entry-item) → scan_runs c.args.number c.args.bytes (spared c.args.sparing) c.loop-entry.scan.left
+    c.loop-entry.scan.start c.loop-entry.scan.free c.loop-entry.scan.met c.loop-entry.scan.place
+    (opened c.args.sparing (block_of c.entry-item.result
+    ∷ drop (c.loop-entry.entry-index + 1) (blocks_of c.args.entries.now)))
+    ≡ scan_runs c.args.number c.args.bytes (spared c.args.sparing) c.args.purges 0 0 (any_run c.args.number) 0
+    (opened c.args.sparing (blocks_of c.args.entries.now))
 runs_from c =
     let scan = c.loop-entry.scan in
-    from-reached (λ l. scan_runs c.args.number c.args.bytes (spared c.args.sparing) scan.left scan.start scan.free scan.met scan.place (opened c.args.sparing l)) _ c.args.entries.now c.loop-entry.entry-index c.entry-item.result (entry c) c.loop-entry.invariant.above
+    from-reached (λ l. scan_runs c.args.number c.args.bytes (spared c.args.sparing) scan.left scan.start scan.free
+    scan.met scan.place (opened c.args.sparing l)) _ c.args.entries.now c.loop-entry.entry-index c.entry-item.result
+    (entry c) c.loop-entry.invariant.above
 
 pub returns : goal.returns
 returns c =
     let scan = c.loop-entry.scan in
     let bs = blocks_of c.args.entries.now in
     let none = drop-none c.loop-entry.entry-index bs (omega (arith, length-map c.args.entries.now block_of)) in
-    c.then_some.ensures ∙ ap (λ t. then_some t scan.start) c.is_enough.ensures ∙ then_some-cond (scan.met && nat_le c.args.bytes scan.free) scan.start
-    ∙ sym (scan-end c.args.number c.args.bytes c.args.sparing scan.left scan.start scan.free scan.met scan.place (drop c.loop-entry.entry-index bs) none)
+    c.then_some.ensures ∙ ap (λ t. then_some t scan.start) c.is_enough.ensures
+    ∙ then_some-cond (scan.met && nat_le c.args.bytes scan.free) scan.start
+    ∙ sym (scan-end c.args.number c.args.bytes c.args.sparing scan.left scan.start scan.free scan.met scan.place
+    (drop c.loop-entry.entry-index bs) none)
     ∙ c.loop-entry.invariant.above ∙ scan-is c.args.number c.args.bytes c.args.sparing c.args.purges bs
 
 pub returns-in_default : goal.returns-in_default
 returns-in_default c =
     sym (c.in_default.ensures.scan (drop (c.loop-entry.entry-index + 1) (blocks_of c.args.entries.now)))
-    ∙ runs_from (goal.at.returns-in_default c).After-entry-item ∙ scan-is c.args.number c.args.bytes c.args.sparing c.args.purges (blocks_of c.args.entries.now)
+    ∙ runs_from (goal.at.returns-in_default c).After-entry-item ∙ scan-is c.args.number c.args.bytes c.args.sparing
+    c.args.purges (blocks_of c.args.entries.now)
 
 pub loop-entry-preserved : goal.loop-entry-preserved
 loop-entry-preserved c =

@@ -10,5 +10,6 @@ use Rattle.block_store.proofs.runs.free_after_purges.Given as goal
 abbrev pub invariant-loop-entry : goal.invariant-loop-entry
 invariant-loop-entry l = record {
   free : l.free ≤ sizes (take l.entry-index (blocks_of l.entries));
-  rest : l.free + free_first l.left (spared l.sparing) (segments (drop l.entry-index (blocks_of l.entries))) ≡ free_first l.purges (spared l.sparing) (segments (blocks_of l.entries));
+  rest : l.free + free_first l.left (spared l.sparing) (segments (drop l.entry-index (blocks_of l.entries)))
+      ≡ free_first l.purges (spared l.sparing) (segments (blocks_of l.entries));
 }

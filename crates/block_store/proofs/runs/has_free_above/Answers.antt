@@ -13,6 +13,8 @@ pub returns : goal.returns
 returns c =
     let es = c.args.entries.now in
     let sp = spared c.args.sparing in
-    let P : List Block → Type 0 = λ above. nat_le c.args.bytes c.free_after_purges.result ≡ has_free c.args.bytes (emptied c.args.purges sp (segments above).first) in
+    let P : List Block → Type 0 = λ above. nat_le c.args.bytes c.free_after_purges.result
+    ≡ has_free c.args.bytes (emptied c.args.purges sp (segments above).first) in
     above-place es c.args.place c.in-Some.i P c.in-Some.ensures.1
-    (ap (nat_le c.args.bytes) (c.free_after_purges.ensures ∙ ap (λ l. free_sum (emptied c.args.purges sp (segments l).first)) (blocks-from es (c.in-Some.i + 1))))
+    (ap (nat_le c.args.bytes) (c.free_after_purges.ensures
+    ∙ ap (λ l. free_sum (emptied c.args.purges sp (segments l).first)) (blocks-from es (c.in-Some.i + 1))))

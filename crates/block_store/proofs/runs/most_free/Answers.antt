@@ -16,10 +16,13 @@ loop-entry-preserved c =
     let above = drop (i + 1) (blocks_of es) in
     ap (λ n. max n (largest_free above)) (c.larger-most.ensures ∙ ap (max c.loop-entry.most) c.entry_free.ensures)
     ∙ max-max c.loop-entry.most (free_of (block_of c.entry-item.result)) (largest_free above)
-    ∙ ap (λ l. max c.loop-entry.most (largest_free l)) (sym (drop-blocks es i c.entry-item.result (omega arith) c.entry-item.is)) ∙ c.loop-entry.invariant
+    ∙ ap (λ l. max c.loop-entry.most (largest_free l))
+    (sym (drop-blocks es i c.entry-item.result (omega arith) c.entry-item.is)) ∙ c.loop-entry.invariant
 
 pub returns : goal.returns
 returns c =
     sym (max-zero c.loop-entry.most)
-    ∙ ap (λ l. max c.loop-entry.most (largest_free l)) (sym (drop-none c.loop-entry.entry-index (blocks_of c.args.entries.now) (omega (arith, length-map c.args.entries.now block_of))))
+    ∙ ap (λ l. max c.loop-entry.most (largest_free l))
+    (sym (drop-none c.loop-entry.entry-index (blocks_of c.args.entries.now)
+    (omega (arith, length-map c.args.entries.now block_of))))
     ∙ c.loop-entry.invariant

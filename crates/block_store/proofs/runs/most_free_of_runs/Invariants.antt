@@ -10,5 +10,6 @@ use Rattle.block_store.proofs.runs.most_free_of_runs.Given as goal
 abbrev pub invariant-loop-entry : goal.invariant-loop-entry
 invariant-loop-entry l = record {
   free : l.free ≤ free_sum (take l.entry-index (blocks_of l.entries));
-  rest : max l.most (largest_from l.free (segments (drop l.entry-index (blocks_of l.entries)))) ≡ largest_run (blocks_of l.entries);
+  rest : max l.most (largest_from l.free (segments (drop l.entry-index (blocks_of l.entries))))
+      ≡ largest_run (blocks_of l.entries);
 }

@@ -19,8 +19,12 @@ loop-entry-preserved c =
     record {
       bytes = omega arith;
       rest = elim c.if-ends_run.branch [
-        | then-ends_run w ↦ place ∙ ap (λ n. nth_place n (c.loop-entry.place + size b) above) w.left-is ∙ nth-ends c.loop-entry.left c.loop-entry.place b above c.if-left-eq0.false (not-false (in_run b) c.ends_run.result c.ends_run.ensures w.if-ends_run.true) ∙ here
-        | else-ends_run w ↦ place ∙ ap (λ n. nth_place n (c.loop-entry.place + size b) above) w.left-is ∙ nth-in c.loop-entry.left c.loop-entry.place b above c.if-left-eq0.false (not-true (in_run b) c.ends_run.result c.ends_run.ensures w.if-ends_run.false) ∙ here
+        | then-ends_run w ↦ place ∙ ap (λ n. nth_place n (c.loop-entry.place + size b) above) w.left-is
+            ∙ nth-ends c.loop-entry.left c.loop-entry.place b above c.if-left-eq0.false
+            (not-false (in_run b) c.ends_run.result c.ends_run.ensures w.if-ends_run.true) ∙ here
+        | else-ends_run w ↦ place ∙ ap (λ n. nth_place n (c.loop-entry.place + size b) above) w.left-is
+            ∙ nth-in c.loop-entry.left c.loop-entry.place b above c.if-left-eq0.false
+            (not-true (in_run b) c.ends_run.result c.ends_run.ensures w.if-ends_run.false) ∙ here
       ];
     }
 
@@ -28,4 +32,5 @@ pub returns-else-left-eq0-2 : goal.returns-else-left-eq0-2
 returns-else-left-eq0-2 c =
     let es = c.args.entries.now in
     let i = c.loop-entry.entry-index in
-    sym (nth-none c.loop-entry.left c.loop-entry.place (drop i (blocks_of es)) c.if-left-eq0-2.false (drop-none i (blocks_of es) (omega (arith, length-map es block_of)))) ∙ c.loop-entry.invariant.rest
+    sym (nth-none c.loop-entry.left c.loop-entry.place (drop i (blocks_of es)) c.if-left-eq0-2.false
+    (drop-none i (blocks_of es) (omega (arith, length-map es block_of)))) ∙ c.loop-entry.invariant.rest

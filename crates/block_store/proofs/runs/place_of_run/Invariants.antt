@@ -10,5 +10,6 @@ use Rattle.block_store.proofs.runs.place_of_run.Given as goal
 abbrev pub invariant-loop-entry : goal.invariant-loop-entry
 invariant-loop-entry l = record {
   bytes : l.place ≡ sizes (take l.entry-index (blocks_of l.entries));
-  rest : nth_place l.left l.place (drop l.entry-index (blocks_of l.entries)) ≡ option_map (λ r. sizes r.below) (nth_run l.index (blocks_of l.entries));
+  rest : nth_place l.left l.place (drop l.entry-index (blocks_of l.entries))
+      ≡ option_map (λ r. sizes r.below) (nth_run l.index (blocks_of l.entries));
 }

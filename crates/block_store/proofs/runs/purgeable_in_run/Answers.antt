@@ -5,7 +5,8 @@ use Rattle.block_store.specs.Sparing.{spared}
 use Rattle.block_store.specs.Inner.ListStore.{blocks_of, block_of}
 use Rattle.block_store.proofs.Zone.Listing.{Reached, reached, from-reached}
 use Rattle.block_store.proofs.Emptied.Stretches.{drop-none}
-use Rattle.block_store.proofs.Regroup.RunLooks.{goes_first, goes-in, goes-more, goes-ends, goes-none, goes-size, not-false, not-true}
+use Rattle.block_store.proofs.Regroup.RunLooks.{goes_first, goes-in, goes-more, goes-ends, goes-none, goes-size}
+use Rattle.block_store.proofs.Regroup.RunLooks.{not-false, not-true}
 use Rattle.block_store.proofs.runs.purgeable_in_run.Goals as goal
 use Rattle.block_store.proofs.runs.purgeable_in_run.Goals.{After-entry-item, then-may_go_now, else-may_go_now}
 
@@ -13,7 +14,8 @@ entry : (c : After-entry-item) → Reached c.args.entries.now c.loop-entry.entry
 entry c = reached c.args.entries.now c.loop-entry.entry-index c.entry-item.result (omega arith) c.entry-item.is
 
 -- those so far, and those from the entry that was reached on
-known : (c : After-entry-item) → c.loop-entry.total + goes_first (spared c.args.sparing) (segments (block_of c.entry-item.result ∷ drop (c.loop-entry.entry-index + 1) (blocks_of c.args.entries.now)))
+known : (c : After-entry-item) → c.loop-entry.total + goes_first (spared c.args.sparing)
+    (segments (block_of c.entry-item.result ∷ drop (c.loop-entry.entry-index + 1) (blocks_of c.args.entries.now)))
     ≡ goes_first (spared c.args.sparing) (segments (blocks_of c.args.entries.now))
 known c =
     from-reached (λ l. c.loop-entry.total + goes_first (spared c.args.sparing) (segments l)) _
@@ -22,7 +24,8 @@ known c =
 pub returns-then-ends_run : goal.returns-then-ends_run
 returns-then-ends_run c =
     let b = block_of c.entry-item.result in
-    let ends = goes-ends (spared c.args.sparing) b (drop (c.loop-entry.entry-index + 1) (blocks_of c.args.entries.now)) (not-false (in_run b) c.ends_run.result c.ends_run.ensures c.if-ends_run.true) in
+    let ends = goes-ends (spared c.args.sparing) b (drop (c.loop-entry.entry-index + 1) (blocks_of c.args.entries.now))
+    (not-false (in_run b) c.ends_run.result c.ends_run.ensures c.if-ends_run.true) in
     let here = known (goal.at.returns-then-ends_run c).After-entry-item in
     omega (arith, ends, here)
 
@@ -37,17 +40,27 @@ loop-entry-preserved c =
     let here = known at in
     elim c.if-may_go_now.branch [
       | then-may_go_now w ↦ record {
-        few = omega (arith, w.total-is, c.loop-entry.invariant.few, goes-size sp b (sym c.may_go_now.ensures ∙ w.if-may_go_now.true));
-        rest = (let one = goes-more sp b above inside (sym c.may_go_now.ensures ∙ w.if-may_go_now.true) in omega (arith, w.total-is, one, here));
+        few = omega (
+          arith,
+          w.total-is,
+          c.loop-entry.invariant.few,
+          goes-size sp b (sym c.may_go_now.ensures ∙ w.if-may_go_now.true),
+        );
+        rest = (let one = goes-more sp b above inside (sym c.may_go_now.ensures ∙ w.if-may_go_now.true) in omega
+            (arith, w.total-is, one, here));
       }
       | else-may_go_now w ↦ record {
         few = omega (arith, w.total-is, c.loop-entry.invariant.few);
-        rest = ap (λ n. n + goes_first sp (segments above)) w.total-is ∙ ap (λ n. c.loop-entry.total + n) (goes-in sp b above inside (sym c.may_go_now.ensures ∙ w.if-may_go_now.false)) ∙ here;
+        rest = ap (λ n. n + goes_first sp (segments above)) w.total-is
+            ∙ ap (λ n. c.loop-entry.total + n) (goes-in sp b above inside
+            (sym c.may_go_now.ensures ∙ w.if-may_go_now.false)) ∙ here;
       }
     ]
 
 pub returns : goal.returns
 returns c =
     let above = drop c.loop-entry.entry-index (blocks_of c.args.entries.now) in
-    let none = goes-none (spared c.args.sparing) above (drop-none c.loop-entry.entry-index (blocks_of c.args.entries.now) (omega (arith, length-map c.args.entries.now block_of))) in
+    let none = goes-none (spared c.args.sparing) above
+    (drop-none c.loop-entry.entry-index (blocks_of c.args.entries.now)
+    (omega (arith, length-map c.args.entries.now block_of))) in
     omega (arith, none, c.loop-entry.invariant.rest)

@@ -10,5 +10,6 @@ use Rattle.block_store.proofs.runs.purgeable_in_run.Given as goal
 abbrev pub invariant-loop-entry : goal.invariant-loop-entry
 invariant-loop-entry l = record {
   few : l.total ≤ sizes (take l.entry-index (blocks_of l.entries));
-  rest : l.total + goes_first (spared l.sparing) (segments (drop l.entry-index (blocks_of l.entries))) ≡ goes_first (spared l.sparing) (segments (blocks_of l.entries));
+  rest : l.total + goes_first (spared l.sparing) (segments (drop l.entry-index (blocks_of l.entries)))
+      ≡ goes_first (spared l.sparing) (segments (blocks_of l.entries));
 }

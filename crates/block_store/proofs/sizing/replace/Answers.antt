@@ -11,16 +11,20 @@ use Rattle.block_store.proofs.sizing.replace.Goals as goal
 
 -- the block has room at the place, or grows there
 facts : (c : After-index) → SizedAt c.args.entries.now.items c.in-Some.i c.index.result.now (block_of c.args.new)
-facts c = sized-at c.args.entries.now.items _ c.args.place c.in-Some.i c.index.result.now (block_of c.args.new) c.deref.ensures.value c.in-Some.ensures c.index.ensures c.requires.room
+facts c = sized-at c.args.entries.now.items _ c.args.place c.in-Some.i c.index.result.now (block_of c.args.new)
+    c.deref.ensures.value c.in-Some.ensures c.index.ensures c.requires.room
 
 -- what holds of the entry's spot holds of that at the place
 there : (c : After-index) (P : Spot → Type 0) → P (entry_spot c.args.entries.now.items c.in-Some.i c.index.result.now)
     → IsSomeAnd (spot_at c.args.place (blocks_of c.args.entries.now.items)) P
-there c P = and_entry c.args.entries.now.items _ c.args.place c.in-Some.i c.index.result.now P c.deref.ensures.value c.in-Some.ensures c.index.ensures
+there c P = and_entry c.args.entries.now.items _ c.args.place c.in-Some.i c.index.result.now P c.deref.ensures.value
+    c.in-Some.ensures c.index.ensures
 
-if_there : (c : After-index) (P : Spot → Type 0) → P (entry_spot c.args.entries.now.items c.in-Some.i c.index.result.now)
+if_there : (c : After-index) (P : Spot → Type 0) → P
+    (entry_spot c.args.entries.now.items c.in-Some.i c.index.result.now)
     → IfSome (spot_at c.args.place (blocks_of c.args.entries.now.items)) P
-if_there c P = at_entry c.args.entries.now.items _ c.args.place c.in-Some.i c.index.result.now P c.deref.ensures.value c.in-Some.ensures c.index.ensures
+if_there c P = at_entry c.args.entries.now.items _ c.args.place c.in-Some.i c.index.result.now P c.deref.ensures.value
+    c.in-Some.ensures c.index.ensures
 
 pub entry_size-old-requires : goal.entry_size-old-requires
 entry_size-old-requires c =
@@ -43,7 +47,8 @@ returns-then-entry_size-old-clause-grown c =
     let new = block_of c.args.new in
     let le : size new ≤ size e = omega arith in
     on_ok c.fill.result
-    (if_there (goal.at.returns-then-entry_size-old-clause-grown c).After-index (λ s. size s.here < size new → IfSome (grow_up new s) (λ after. blocks_of c.fill.new.entries.items ≡ after))
+    (if_there (goal.at.returns-then-entry_size-old-clause-grown c).After-index
+    (λ s. size s.here < size new → IfSome (grow_up new s) (λ after. blocks_of c.fill.new.entries.items ≡ after))
     (λ less. absurd (let z : size e < size new = less in omega arith)))
 
 pub grow-requires-clause-more : goal.grow-requires-clause-more
@@ -64,5 +69,6 @@ returns-clause-cut c =
     let e = block_of c.index.result.now in
     let new = block_of c.args.new in
     let more : size e < size new = omega arith in
-    if_there (goal.at.returns-clause-cut c).After-index (λ s. size new ≤ size s.here → blocks_of c.grow.new.entries.items ≡ filled new s)
+    if_there (goal.at.returns-clause-cut c).After-index
+    (λ s. size new ≤ size s.here → blocks_of c.grow.new.entries.items ≡ filled new s)
     (λ le. absurd (let z : size new ≤ size e = le in omega arith))

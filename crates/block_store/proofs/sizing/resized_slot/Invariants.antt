@@ -6,4 +6,5 @@ use Rattle.block_store.proofs.sizing.resized_slot.Given as goal
 
 -- the rest has the same block of the slot
 abbrev pub invariant-loop-entry : goal.invariant-loop-entry
-invariant-loop-entry l = found (is_relocatable l.number) (drop l.entry-index (blocks_of l.entries)) ≡ found (is_relocatable l.number) (blocks_of l.entries)
+invariant-loop-entry l = found (is_relocatable l.number) (drop l.entry-index (blocks_of l.entries))
+    ≡ found (is_relocatable l.number) (blocks_of l.entries)

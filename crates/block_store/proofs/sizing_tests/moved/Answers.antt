@@ -11,5 +11,6 @@ pub move_to-requires-clause-room : goal.move_to-requires-clause-room
 move_to-requires-clause-room c =
     let zone = blocks_of c.args.store.now.blocks.items in
     let found = found-passes (is_room c.taken.result) (tidy zone) c.in-Some.place c.in-Some.ensures in
-    let here = subst (λ (l : List Block). IsSomeAnd (spot_at c.in-Some.place l) (λ s. IsTrue (is_room c.taken.result s.here))) c.args.store.now.tidied found in
+    let here = subst (λ (l : List Block). IsSomeAnd (spot_at c.in-Some.place l)
+    (λ s. IsTrue (is_room c.taken.result s.here))) c.args.store.now.tidied found in
     subst (λ (n : ℕ). IsSomeAnd (spot_at c.in-Some.place zone) (λ s. IsTrue (is_room n s.here))) c.taken.ensures here

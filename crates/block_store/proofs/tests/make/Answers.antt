@@ -12,4 +12,6 @@ pub carve-requires-clause-room : goal.carve-requires-clause-room
 carve-requires-clause-room c =
     let zone = blocks_of c.args.store.now.blocks.items in
     let same = c.args.store.now.tidied ∙ sym c.take_slot.ensures.zone in
-    subst (λ (l : List Block). IsSomeAnd (spot_at c.in-Some.place l) (λ s. IsTrue (is_room (padded c.args.size) s.here))) same (found-passes (is_room (padded c.args.size)) (tidy zone) c.in-Some.place c.in-Some.ensures)
+    subst (λ (l : List Block). IsSomeAnd (spot_at c.in-Some.place l)
+    (λ s. IsTrue (is_room (padded c.args.size) s.here))) same
+    (found-passes (is_room (padded c.args.size)) (tidy zone) c.in-Some.place c.in-Some.ensures)

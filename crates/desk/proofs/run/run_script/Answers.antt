@@ -11,6 +11,6 @@ returns-clause-transcript c =
     let lines = lines_told (run_alone n script).lines in
     let text : c.write_launch.new.text.items ≡ launch_line n = c.in_ok-write_launch.ensures ∙ ap (λ (l : List ℕ). l ++ launch_line n) c.new-text.ensures.items in
     let low : 272 ≤ n = omega (arith, c.requires.low) in
-    let ran = c.in_ok-run.ensures.0 ∙ ap (λ (t : List ℕ). c.write_launch.new.text.items ++ t) (fresh_run c.launch-application.result _ _ n script.blocks script.steps c.launch-application.ensures c.in_ok-store.ensures.zone low) in
+    let ran = c.in_ok-run.ensures.0 ∙ ap (λ (t : List ℕ). c.write_launch.new.text.items ++ t) (fresh_run _ _ _ n script.blocks script.steps c.in_ok-application.ensures c.in_ok-store.ensures.zone low) in
     c.in_ok-write_end.ensures
     ∙ ap (λ (t : List ℕ). t ++ end_line (pos 0)) (ran ∙ ap (λ (t : List ℕ). t ++ lines) text)

@@ -8,7 +8,8 @@ use Rattle.heap_calls.proofs.appending.length_at.Given.{Over}
 use Rattle.heap_calls.proofs.appending.length_at.Goals.{After-bytes}
 use Rattle.heap_calls.proofs.appending.length_at.Goals as goal
 
-known : (g : Over) (c : After-bytes g) → (length c.bytes.result.now ≡ length_of c.args.slot (g.S.BlockStore.zone c.args.store.now))
+known : (g : Over) (c : After-bytes g) → (length c.bytes.result.now
+    ≡ length_of c.args.slot (g.S.BlockStore.zone c.args.store.now))
     × (length c.bytes.result.now ≤ sizes (g.S.BlockStore.zone c.args.store.now))
 known g c =
     let zone = g.S.BlockStore.zone c.args.store.now in

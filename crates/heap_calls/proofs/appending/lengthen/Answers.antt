@@ -5,7 +5,8 @@ use Rattle.heap_calls.proofs.appending.lengthen.Given.{Over}
 use Rattle.heap_calls.proofs.appending.lengthen.Goals.{After-fit_block}
 use Rattle.heap_calls.proofs.appending.lengthen.Goals as goal
 
-sum : (g : Over) (c : After-fit_block g) → length_of c.args.slot (g.S.BlockStore.zone c.args.store.now) + c.args.more ≡ c.in-Some.size
+sum : (g : Over) (c : After-fit_block g) → length_of c.args.slot (g.S.BlockStore.zone c.args.store.now) + c.args.more
+    ≡ c.in-Some.size
 sum g c = ap (λ n. n + c.args.more) (sym c.requires.len) ∙ (size-is _ _ (sym c.joined_size.ensures ∙ c.in-Some.is)).0
 
 pub returns-clause-zone : goal.returns-clause-zone

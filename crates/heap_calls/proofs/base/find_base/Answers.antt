@@ -5,8 +5,10 @@ use Rattle.heap_calls.proofs.base.find_base.Goals as goal
 
 pub returns-clause-least : goal.returns-clause-least
 returns-clause-least g c =
-    least-of (λ k. run_spot (has_free c.args.bytes) (purged k c.args.sparing (g.S.BlockStore.zone c.args.store.now))) _ _ c.least_look-looked.ensures.least
+    least-of (λ k. run_spot (has_free c.args.bytes) (purged k c.args.sparing (g.S.BlockStore.zone c.args.store.now))) _
+    _ c.least_look-looked.ensures.least
 
 pub returns-clause-searches : goal.returns-clause-searches
 returns-clause-searches g c =
-    tries-of (λ k. run_spot (has_free c.args.bytes) (purged k c.args.sparing (g.S.BlockStore.zone c.args.store.now))) _ _ c.least_look-looked.ensures.least
+    tries-of (λ k. run_spot (has_free c.args.bytes) (purged k c.args.sparing (g.S.BlockStore.zone c.args.store.now))) _
+    _ c.least_look-looked.ensures.least

@@ -14,7 +14,8 @@ pub raise-requires-clause-run : goal.raise-requires-clause-run
 raise-requires-clause-run g c =
     let zone = purged c.find_base-found.result.purges c.args.sparing (g.S.BlockStore.zone c.args.store.now) in
     let P : Option ℕ → Type 0 = λ o. FindsLowestRun (has_free c.args.bytes) zone o in
-    raise-allowed c.args.bytes c.in-Some.run' zone (g.S.BlockStore.zone c.purge.new.self) c.purge.ensures.zone (subst P c.in-Some.is c.find_base-found.ensures.found)
+    raise-allowed c.args.bytes c.in-Some.run' zone (g.S.BlockStore.zone c.purge.new.self) c.purge.ensures.zone
+    (subst P c.in-Some.is c.find_base-found.ensures.found)
 
 pub returns-clause-place : goal.returns-clause-place
 returns-clause-place g c =
@@ -23,11 +24,13 @@ returns-clause-place g c =
     let after = g.S.BlockStore.zone c.raise.new.self in
     let Q : _ → Type 0 = λ o. IsBaseAt c.args.bytes o after (Some c.in-Some.run') in
     subst Q (sym c.find_base-found.ensures.least)
-    (base-found c.args.bytes c.in-Some.run' zone (g.S.BlockStore.zone c.purge.new.self) after c.requires.positive c.purge.ensures.zone (subst P c.in-Some.is c.find_base-found.ensures.found) c.in_ok-raise.ensures.ok)
+    (base-found c.args.bytes c.in-Some.run' zone (g.S.BlockStore.zone c.purge.new.self) after c.requires.positive
+    c.purge.ensures.zone (subst P c.in-Some.is c.find_base-found.ensures.found) c.in_ok-raise.ensures.ok)
 
 pub returns-in_err-raise-clause-fixed : goal.returns-in_err-raise-clause-fixed
 returns-in_err-raise-clause-fixed g c place =
-    ap (has (is_fixed place)) (c.in_err-raise.ensures.err ∙ c.purge.ensures.zone) ∙ fixed-purged c.find_base-found.result.purges c.args.sparing (g.S.BlockStore.zone c.args.store.now) place
+    ap (has (is_fixed place)) (c.in_err-raise.ensures.err ∙ c.purge.ensures.zone)
+    ∙ fixed-purged c.find_base-found.result.purges c.args.sparing (g.S.BlockStore.zone c.args.store.now) place
 
 pub returns-clause-fixed : goal.returns-clause-fixed
 returns-clause-fixed g c place =
@@ -35,6 +38,8 @@ returns-clause-fixed g c place =
     let P : Option ℕ → Type 0 = λ o. FindsLowestRun (has_free c.args.bytes) zone o in
     let after = g.S.BlockStore.zone c.raise.new.self in
     let found : P (Some c.in-Some.run') = subst P c.in-Some.is c.find_base-found.ensures.found in
-    let raised = at_run c.in-Some.run' zone (g.S.BlockStore.zone c.purge.new.self) found.0 (λ r. after ≡ tidy (with_run (low (Free c.args.bytes)) r)) c.purge.ensures.zone found.2 c.in_ok-raise.ensures.ok in
-    ap (has (is_fixed place)) raised ∙ fixed-run (low (Free c.args.bytes)) (none-low c.args.bytes) (has_free c.args.bytes) zone found.0 found.1 place
+    let raised = at_run c.in-Some.run' zone (g.S.BlockStore.zone c.purge.new.self) found.0
+    (λ r. after ≡ tidy (with_run (low (Free c.args.bytes)) r)) c.purge.ensures.zone found.2 c.in_ok-raise.ensures.ok in
+    ap (has (is_fixed place)) raised ∙ fixed-run (low (Free c.args.bytes)) (none-low c.args.bytes)
+    (has_free c.args.bytes) zone found.0 found.1 place
     ∙ fixed-purged c.find_base-found.result.purges c.args.sparing (g.S.BlockStore.zone c.args.store.now) place

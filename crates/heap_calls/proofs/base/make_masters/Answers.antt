@@ -12,8 +12,11 @@ returns-in_ok-add_masters-clause-made g c =
     let zone' = g.S.BlockStore.zone c.add_masters.new.self in
     let room = c.in_ok-room.room.place in
     let now = c.in_ok-add_masters.ensures in
-    made-some c.args.sparing zone zone' (g.S.BlockStore.rest c.args.store.now) (g.S.BlockStore.rest c.make_base.new.store) (g.S.BlockStore.rest c.add_masters.new.self) room c.in-Some.place c.in-Some.is
-    (masters-some c.args.sparing zone (g.S.BlockStore.zone c.make_base.new.store) zone' room c.in-Some.place c.in-Some.is c.in_ok-room.ensures.place now.ok)
+    made-some c.args.sparing zone zone' (g.S.BlockStore.rest c.args.store.now)
+    (g.S.BlockStore.rest c.make_base.new.store) (g.S.BlockStore.rest c.add_masters.new.self) room c.in-Some.place
+    c.in-Some.is
+    (masters-some c.args.sparing zone (g.S.BlockStore.zone c.make_base.new.store) zone' room c.in-Some.place
+    c.in-Some.is c.in_ok-room.ensures.place now.ok)
     c.in_ok-room.ensures.rest now.unused now.all now.slots now.window
 
 pub returns-in_default-clause-made : goal.returns-in_default-clause-made
@@ -21,15 +24,18 @@ returns-in_default-clause-made g c =
     let zone = g.S.BlockStore.zone c.args.store.now in
     let zone' = g.S.BlockStore.zone c.make_base.new.store in
     let room = c.in_ok-room.room.place in
-    made-none c.args.sparing zone zone' (g.S.BlockStore.rest c.args.store.now) (g.S.BlockStore.rest c.make_base.new.store) room c.in_default.is
+    made-none c.args.sparing zone zone' (g.S.BlockStore.rest c.args.store.now)
+    (g.S.BlockStore.rest c.make_base.new.store) room c.in_default.is
     (masters-none c.args.sparing zone zone' room c.in_default.is c.in_ok-room.ensures.place)
     (at_none room _ _ c.in_default.is c.in_ok-room.ensures.none) c.in_ok-room.ensures.rest
 
 pub returns-in_err-add_masters-clause-fixed : goal.returns-in_err-add_masters-clause-fixed
-returns-in_err-add_masters-clause-fixed g c place = ap (has (is_fixed place)) c.in_err-add_masters.ensures.err ∙ c.make_base.ensures.fixed place
+returns-in_err-add_masters-clause-fixed g c place =
+    ap (has (is_fixed place)) c.in_err-add_masters.ensures.err ∙ c.make_base.ensures.fixed place
 
 pub returns-in_ok-add_masters-clause-fixed : goal.returns-in_ok-add_masters-clause-fixed
 returns-in_ok-add_masters-clause-fixed g c place =
     let zone1 = g.S.BlockStore.zone c.make_base.new.store in
     let wide = base-wide 272 _ zone1 c.in_ok-room.room.place c.in-Some.place c.in-Some.is c.in_ok-room.ensures.place in
-    fixed-carved c.in-Some.place 272 zone1 (g.S.BlockStore.zone c.add_masters.new.self) Masters (λ p. refl) wide c.in_ok-add_masters.ensures.ok place ∙ c.make_base.ensures.fixed place
+    fixed-carved c.in-Some.place 272 zone1 (g.S.BlockStore.zone c.add_masters.new.self) Masters (λ p. refl) wide
+    c.in_ok-add_masters.ensures.ok place ∙ c.make_base.ensures.fixed place

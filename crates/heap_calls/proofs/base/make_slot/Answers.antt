@@ -7,12 +7,16 @@ use Rattle.heap_calls.proofs.base.make_slot.Goals as goal
 pub returns-in_default-place-clause-slot : goal.returns-in_default-place-clause-slot
 returns-in_default-place-clause-slot g c =
     let before = c.in_default.ensures in
-    slot-none c.args.sparing (g.S.BlockStore.zone c.args.store.now) (g.S.BlockStore.zone c.take_slot.new.self) (g.S.BlockStore.zone c.make_masters.new.store)
-    (g.S.BlockStore.rest c.args.store.now) (g.S.BlockStore.rest c.take_slot.new.self) (g.S.BlockStore.rest c.make_masters.new.store)
+    slot-none c.args.sparing (g.S.BlockStore.zone c.args.store.now) (g.S.BlockStore.zone c.take_slot.new.self)
+    (g.S.BlockStore.zone c.make_masters.new.store)
+    (g.S.BlockStore.rest c.args.store.now) (g.S.BlockStore.rest c.take_slot.new.self)
+    (g.S.BlockStore.rest c.make_masters.new.store)
     c.in_ok-room.room.place c.in_default-place.is before.none before.zone before.same c.in_ok-room.ensures.made
 
 pub returns-in_err-room-clause-fixed : goal.returns-in_err-room-clause-fixed
-returns-in_err-room-clause-fixed g c place = c.make_masters.ensures.fixed place ∙ ap (has (is_fixed place)) c.take_slot.ensures.zone
+returns-in_err-room-clause-fixed g c place = c.make_masters.ensures.fixed place
+    ∙ ap (has (is_fixed place)) c.take_slot.ensures.zone
 
 pub returns-clause-fixed : goal.returns-clause-fixed
-returns-clause-fixed g c place = ap (has (is_fixed place)) c.take_slot-2.ensures.zone ∙ c.make_masters.ensures.fixed place ∙ ap (has (is_fixed place)) c.take_slot.ensures.zone
+returns-clause-fixed g c place = ap (has (is_fixed place)) c.take_slot-2.ensures.zone
+    ∙ c.make_masters.ensures.fixed place ∙ ap (has (is_fixed place)) c.take_slot.ensures.zone

@@ -10,7 +10,8 @@ abbrev pub invariant-loop-bytes : goal.invariant-loop-bytes
 invariant-loop-bytes g l = record {
   within : l.index ≤ length (runs (g.S.BlockStore.zone l.initial.store));
   zone : g.S.BlockStore.zone l.store ≡ settled l.index (g.S.BlockStore.zone l.initial.store);
-  moves : (g.S.BlockStore.rest l.store).moves ≡ counted (g.S.BlockStore.rest l.initial.store).moves (falls l.index (runs (g.S.BlockStore.zone l.initial.store)));
+  moves : (g.S.BlockStore.rest l.store).moves ≡ counted (g.S.BlockStore.rest l.initial.store).moves
+      (falls l.index (runs (g.S.BlockStore.zone l.initial.store)));
   rest : KeepsSlots (g.S.BlockStore.rest l.initial.store) (g.S.BlockStore.rest l.store);
   stretches : l.stretches ≡ stretches l.index (runs (g.S.BlockStore.zone l.initial.store));
   none : (j : ℕ) → j < l.index → has_room l.bytes (settled j (g.S.BlockStore.zone l.initial.store)) ≡ false;

@@ -8,26 +8,34 @@ use Rattle.heap_calls.proofs.copying.copy_block.Goals as goal
 pub unreachable-requires : goal.unreachable-requires
 unreachable-requires g c =
     let store = c.new_block.new.store in
-    source-there c.args.source c.args.size c.in-Some.slot (g.S.BlockStore.zone c.args.store.now) (g.S.BlockStore.rest c.args.store.now) (g.S.BlockStore.zone store) (g.S.BlockStore.rest store)
-    c.in_ok-made.made.slot c.in-Some.is c.in_ok-made.ensures.answer c.requires.used (g.met.S.BlockStore.once store c.in-Some.slot) c.requires.size c.in_default-place_of.ensures
+    source-there c.args.source c.args.size c.in-Some.slot (g.S.BlockStore.zone c.args.store.now)
+    (g.S.BlockStore.rest c.args.store.now) (g.S.BlockStore.zone store) (g.S.BlockStore.rest store)
+    c.in_ok-made.made.slot c.in-Some.is c.in_ok-made.ensures.answer c.requires.used
+    (g.met.S.BlockStore.once store c.in-Some.slot) c.requires.size c.in_default-place_of.ensures
 
 pub unreachable-requires-in_default-place_of-2 : goal.unreachable-requires-in_default-place_of-2
 unreachable-requires-in_default-place_of-2 g c =
     let store = c.new_block.new.store in
-    new-there c.args.source c.args.size c.in-Some.slot (g.S.BlockStore.zone c.args.store.now) (g.S.BlockStore.rest c.args.store.now) (g.S.BlockStore.zone store) (g.S.BlockStore.rest store)
-    c.in_ok-made.made.slot c.in-Some.is c.in_ok-made.ensures.answer c.requires.used (g.met.S.BlockStore.once store c.in-Some.slot) c.requires.size c.in_default-place_of-2.ensures
+    new-there c.args.source c.args.size c.in-Some.slot (g.S.BlockStore.zone c.args.store.now)
+    (g.S.BlockStore.rest c.args.store.now) (g.S.BlockStore.zone store) (g.S.BlockStore.rest store)
+    c.in_ok-made.made.slot c.in-Some.is c.in_ok-made.ensures.answer c.requires.used
+    (g.met.S.BlockStore.once store c.in-Some.slot) c.requires.size c.in_default-place_of-2.ensures
 
 pub copy-requires-clause-source : goal.copy-requires-clause-source
 copy-requires-clause-source g c =
     let store = c.new_block.new.store in
-    may-read c.args.source c.args.size c.in-Some.slot (g.S.BlockStore.zone c.args.store.now) (g.S.BlockStore.rest c.args.store.now) (g.S.BlockStore.zone store) (g.S.BlockStore.rest store)
-    c.in_ok-made.made.slot c.in-Some.is c.in_ok-made.ensures.answer c.requires.used (g.met.S.BlockStore.once store c.in-Some.slot) c.requires.size c.in-Some-place_of.from c.in-Some-place_of.ensures
+    may-read c.args.source c.args.size c.in-Some.slot (g.S.BlockStore.zone c.args.store.now)
+    (g.S.BlockStore.rest c.args.store.now) (g.S.BlockStore.zone store) (g.S.BlockStore.rest store)
+    c.in_ok-made.made.slot c.in-Some.is c.in_ok-made.ensures.answer c.requires.used
+    (g.met.S.BlockStore.once store c.in-Some.slot) c.requires.size c.in-Some-place_of.from c.in-Some-place_of.ensures
 
 pub copy-requires-clause-within : goal.copy-requires-clause-within
 copy-requires-clause-within g c =
     let store = c.new_block.new.store in
-    may-write c.args.source c.args.size c.in-Some.slot (g.S.BlockStore.zone c.args.store.now) (g.S.BlockStore.rest c.args.store.now) (g.S.BlockStore.zone store) (g.S.BlockStore.rest store)
-    c.in_ok-made.made.slot c.in-Some.is c.in_ok-made.ensures.answer c.requires.used (g.met.S.BlockStore.once store c.in-Some.slot) c.requires.size c.in-Some-place_of-2.to c.in-Some-place_of-2.ensures
+    may-write c.args.source c.args.size c.in-Some.slot (g.S.BlockStore.zone c.args.store.now)
+    (g.S.BlockStore.rest c.args.store.now) (g.S.BlockStore.zone store) (g.S.BlockStore.rest store)
+    c.in_ok-made.made.slot c.in-Some.is c.in_ok-made.ensures.answer c.requires.used
+    (g.met.S.BlockStore.once store c.in-Some.slot) c.requires.size c.in-Some-place_of-2.to c.in-Some-place_of-2.ensures
 
 pub returns-clause-answer : goal.returns-clause-answer
 returns-clause-answer g c =
@@ -39,8 +47,10 @@ returns-clause-answer g c =
     let P : Option ℕ → Type 0 = λ o. IsCopy c.args.source c.args.size zone rest o zone' rest' in
     let done : P (Some c.in-Some.slot) =
     copy-done c.args.source c.args.size c.in-Some.slot zone rest (g.S.BlockStore.zone store) (g.S.BlockStore.rest store)
-    c.in_ok-made.made.slot c.in-Some.is c.in_ok-made.ensures.answer c.requires.used (g.met.S.BlockStore.once store c.in-Some.slot) c.requires.size
-    c.in-Some-place_of.from c.in-Some-place_of-2.to zone' rest' c.in-Some-place_of.ensures c.in-Some-place_of-2.ensures c.copy.ensures.zone c.copy.ensures.rest in
+    c.in_ok-made.made.slot c.in-Some.is c.in_ok-made.ensures.answer c.requires.used
+    (g.met.S.BlockStore.once store c.in-Some.slot) c.requires.size
+    c.in-Some-place_of.from c.in-Some-place_of-2.to zone' rest' c.in-Some-place_of.ensures c.in-Some-place_of-2.ensures
+    c.copy.ensures.zone c.copy.ensures.rest in
     subst P (sym c.in-Some.is) done
 
 pub returns-clause-fixed : goal.returns-clause-fixed
@@ -48,4 +58,5 @@ returns-clause-fixed g c =
     let zone1 = g.S.BlockStore.zone c.new_block.new.store in
     let zone' = g.S.BlockStore.zone c.copy.new.self in
     fixed-then (g.S.BlockStore.zone c.args.store.now) zone1 zone' c.new_block.ensures.fixed
-    (fixed-copied c.args.source c.in-Some.slot c.in-Some-place_of.from c.in-Some-place_of-2.to c.args.size 0 zone1 zone' c.in-Some-place_of.ensures c.in-Some-place_of-2.ensures c.copy.ensures.zone)
+    (fixed-copied c.args.source c.in-Some.slot c.in-Some-place_of.from c.in-Some-place_of-2.to c.args.size 0 zone1 zone'
+    c.in-Some-place_of.ensures c.in-Some-place_of-2.ensures c.copy.ensures.zone)

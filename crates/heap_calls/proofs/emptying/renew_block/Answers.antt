@@ -2,7 +2,8 @@ use Rattle.std.proofs.Common.{◌≡◌, Some, None, Option, ℕ, sym, ◌∙◌
 use Rattle.std.specs.Option.{MatchOption}
 use Rattle.heap_calls.specs.Inner.Loose.{renewed}
 use Rattle.heap_calls.proofs.Room.Seats.{at_none}
-use Rattle.heap_calls.proofs.NewBlocks.Renewing.{renewed_searches-is, renewed-none, renew-room, renew-gone, renewed-some}
+use Rattle.heap_calls.proofs.NewBlocks.Renewing.{renewed_searches-is, renewed-none, renew-room, renew-gone}
+use Rattle.heap_calls.proofs.NewBlocks.Renewing.{renewed-some}
 use Rattle.mac_words.specs.Size.{padded}
 use Rattle.block_store.specs.Block.{is_fixed}
 use Rattle.block_store.specs.Run.{has}
@@ -21,20 +22,30 @@ returns-in_default-place-clause-answer g c =
     let zone' = g.S.BlockStore.zone c.make_room-room.new.store in
     let made = c.make_room-room.result in
     let fits = sym c.phys.ensures ∙ c.in-Some.is in
-    let Q : Option ℕ → Type 0 = λ o. MatchOption o ((renewed c.args.slot c.args.size zone ≡ None) × (zone' ≡ zone)) (λ _. renewed c.args.slot c.args.size zone ≡ Some zone') in
+    let Q : Option ℕ → Type 0 = λ o. MatchOption o ((renewed c.args.slot c.args.size zone ≡ None) × (zone' ≡ zone))
+    (λ _. renewed c.args.slot c.args.size zone ≡ Some zone') in
     record {
-      none = subst Q (sym c.in_default-place.is) (renewed-none c.args.slot zone c.args.size c.in-Some.bytes fits zone' made.place c.in_default-place.is c.make_room-room.ensures.place, at_none made.place _ _ c.in_default-place.is c.make_room-room.ensures.none);
-      searches = renewed_searches-is c.args.slot zone c.args.size c.in-Some.bytes fits made.searches c.make_room-room.ensures.searches;
+      none = subst Q (sym c.in_default-place.is) (
+        renewed-none c.args.slot zone c.args.size c.in-Some.bytes fits zone'
+            made.place c.in_default-place.is c.make_room-room.ensures.place,
+        at_none made.place _ _ c.in_default-place.is c.make_room-room.ensures.none,
+      );
+      searches = renewed_searches-is c.args.slot zone c.args.size c.in-Some.bytes fits made.searches
+          c.make_room-room.ensures.searches;
       slots = c.make_room-room.ensures.rest;
     }
 
 pub carve-requires-clause-room : goal.carve-requires-clause-room
 carve-requires-clause-room g c =
-    renew-room c.args.slot (g.S.BlockStore.zone c.args.store.now) c.args.size c.in-Some.bytes (sym c.phys.ensures ∙ c.in-Some.is) (g.S.BlockStore.zone c.make_room-room.new.store) c.make_room-room.result.place c.in-Some-place.place c.in-Some-place.is c.make_room-room.ensures.place
+    renew-room c.args.slot (g.S.BlockStore.zone c.args.store.now) c.args.size c.in-Some.bytes
+    (sym c.phys.ensures ∙ c.in-Some.is) (g.S.BlockStore.zone c.make_room-room.new.store)
+    c.make_room-room.result.place c.in-Some-place.place c.in-Some-place.is c.make_room-room.ensures.place
 
 pub carve-requires-clause-no_block : goal.carve-requires-clause-no_block
 carve-requires-clause-no_block g c =
-    renew-gone c.args.slot (g.S.BlockStore.zone c.args.store.now) c.args.size c.in-Some.bytes (sym c.phys.ensures ∙ c.in-Some.is) (g.S.BlockStore.zone c.make_room-room.new.store) c.make_room-room.result.place c.in-Some-place.place c.in-Some-place.is c.make_room-room.ensures.place
+    renew-gone c.args.slot (g.S.BlockStore.zone c.args.store.now) c.args.size c.in-Some.bytes
+    (sym c.phys.ensures ∙ c.in-Some.is) (g.S.BlockStore.zone c.make_room-room.new.store)
+    c.make_room-room.result.place c.in-Some-place.place c.in-Some-place.is c.make_room-room.ensures.place
 
 pub returns-clause-answer : goal.returns-clause-answer
 returns-clause-answer g c =
@@ -45,10 +56,14 @@ returns-clause-answer g c =
     let carved = c.in_ok-carve.ensures.rest in
     let kept = c.make_room-room.ensures.rest in
     let fits = sym c.phys.ensures ∙ c.in-Some.is in
-    let Q : Option ℕ → Type 0 = λ o. MatchOption o ((renewed c.args.slot c.args.size zone ≡ None) × (after ≡ zone)) (λ _. renewed c.args.slot c.args.size zone ≡ Some after) in
+    let Q : Option ℕ → Type 0 = λ o. MatchOption o ((renewed c.args.slot c.args.size zone ≡ None) × (after ≡ zone))
+    (λ _. renewed c.args.slot c.args.size zone ≡ Some after) in
     record {
-      none = subst Q (sym c.in-Some-place.is) (renewed-some c.args.slot zone c.args.size c.in-Some.bytes fits zone' made.place c.in-Some-place.place c.in-Some-place.is c.make_room-room.ensures.place after c.in_ok-carve.ensures.ok);
-      searches = renewed_searches-is c.args.slot zone c.args.size c.in-Some.bytes fits made.searches c.make_room-room.ensures.searches;
+      none = subst Q (sym c.in-Some-place.is) (renewed-some c.args.slot zone c.args.size c.in-Some.bytes fits zone'
+          made.place c.in-Some-place.place c.in-Some-place.is c.make_room-room.ensures.place after
+          c.in_ok-carve.ensures.ok);
+      searches = renewed_searches-is c.args.slot zone c.args.size c.in-Some.bytes fits made.searches
+          c.make_room-room.ensures.searches;
       slots = record {
         slots = λ k. carved.slots k ∙ kept.slots k;
         unused = carved.unused ∙ kept.unused;
@@ -59,29 +74,41 @@ returns-clause-answer g c =
     }
 
 pub returns-in_err-carve-clause-fixed : goal.returns-in_err-carve-clause-fixed
-returns-in_err-carve-clause-fixed g c place = ap (has (is_fixed place)) c.in_err-carve.ensures.err ∙ c.make_room-room.ensures.fixed place
+returns-in_err-carve-clause-fixed g c place = ap (has (is_fixed place)) c.in_err-carve.ensures.err
+    ∙ c.make_room-room.ensures.fixed place
 
 pub returns-clause-fixed : goal.returns-clause-fixed
 returns-clause-fixed g c place =
-    let wide = renew-room c.args.slot (g.S.BlockStore.zone c.args.store.now) c.args.size c.in-Some.bytes (sym c.phys.ensures ∙ c.in-Some.is) (g.S.BlockStore.zone c.make_room-room.new.store) c.make_room-room.result.place c.in-Some-place.place c.in-Some-place.is c.make_room-room.ensures.place in
-    fixed-carved c.in-Some-place.place (padded c.args.size) (g.S.BlockStore.zone c.make_room-room.new.store) (g.S.BlockStore.zone c.carve.new.self) (fresh_block c.args.slot c.args.size) (λ p. refl) wide c.in_ok-carve.ensures.ok place
+    let wide = renew-room c.args.slot (g.S.BlockStore.zone c.args.store.now) c.args.size c.in-Some.bytes
+    (sym c.phys.ensures ∙ c.in-Some.is) (g.S.BlockStore.zone c.make_room-room.new.store)
+    c.make_room-room.result.place c.in-Some-place.place c.in-Some-place.is c.make_room-room.ensures.place in
+    fixed-carved c.in-Some-place.place (padded c.args.size) (g.S.BlockStore.zone c.make_room-room.new.store)
+    (g.S.BlockStore.zone c.carve.new.self) (fresh_block c.args.slot c.args.size) (λ p. refl) wide
+    c.in_ok-carve.ensures.ok place
     ∙ c.make_room-room.ensures.fixed place
 
 pub returns-in_default-clause-moves : goal.returns-in_default-clause-moves
 returns-in_default-clause-moves g c =
     let rest = g.S.BlockStore.rest c.args.store.now in
-    packs-none rest rest (renewed_moves c.args.slot c.args.size (g.S.BlockStore.zone c.args.store.now)) (omega arith) refl (cond-false {A = ℕ} _ _ 0 (ap is_some (sym c.phys.ensures ∙ c.in_default.is)))
+    packs-none rest rest (renewed_moves c.args.slot c.args.size (g.S.BlockStore.zone c.args.store.now)) (omega arith)
+    refl (cond-false {A = ℕ} _ _ 0 (ap is_some (sym c.phys.ensures ∙ c.in_default.is)))
 
 pub returns-in_default-place-clause-moves : goal.returns-in_default-place-clause-moves
 returns-in_default-place-clause-moves g c =
-    c.make_room-room.ensures.moves ∙ ap (counted (g.S.BlockStore.rest c.args.store.now).moves) (renewed_moves-is c.args.slot (g.S.BlockStore.zone c.args.store.now) c.args.size c.in-Some.bytes (sym c.phys.ensures ∙ c.in-Some.is))
+    c.make_room-room.ensures.moves ∙ ap (counted (g.S.BlockStore.rest c.args.store.now).moves)
+    (renewed_moves-is c.args.slot (g.S.BlockStore.zone c.args.store.now) c.args.size c.in-Some.bytes
+    (sym c.phys.ensures ∙ c.in-Some.is))
 
 pub returns-in_err-carve-clause-moves : goal.returns-in_err-carve-clause-moves
 returns-in_err-carve-clause-moves g c =
     c.carve.ensures.rest.moves ∙ c.make_room-room.ensures.moves
-    ∙ ap (counted (g.S.BlockStore.rest c.args.store.now).moves) (renewed_moves-is c.args.slot (g.S.BlockStore.zone c.args.store.now) c.args.size c.in-Some.bytes (sym c.phys.ensures ∙ c.in-Some.is))
+    ∙ ap (counted (g.S.BlockStore.rest c.args.store.now).moves)
+    (renewed_moves-is c.args.slot (g.S.BlockStore.zone c.args.store.now) c.args.size c.in-Some.bytes
+    (sym c.phys.ensures ∙ c.in-Some.is))
 
 pub returns-clause-moves : goal.returns-clause-moves
 returns-clause-moves g c =
     c.carve.ensures.rest.moves ∙ c.make_room-room.ensures.moves
-    ∙ ap (counted (g.S.BlockStore.rest c.args.store.now).moves) (renewed_moves-is c.args.slot (g.S.BlockStore.zone c.args.store.now) c.args.size c.in-Some.bytes (sym c.phys.ensures ∙ c.in-Some.is))
+    ∙ ap (counted (g.S.BlockStore.rest c.args.store.now).moves)
+    (renewed_moves-is c.args.slot (g.S.BlockStore.zone c.args.store.now) c.args.size c.in-Some.bytes
+    (sym c.phys.ensures ∙ c.in-Some.is))

@@ -14,4 +14,6 @@ returns-in-Up-clause-moves g c =
     let t = is_relocatable c.args.number in
     let P : Growth → Type 0 = λ o. FindsGrowth t (grown c.args.size (spot t zone)) zone (Some o) in
     let found : P grows.Up = subst P c.in-Up.is c.requires.found in
-    packs-none (g.S.BlockStore.rest c.args.store.now) (g.S.BlockStore.rest c.grow_up.new.store) (grow_moves t (grown c.args.size (spot t zone)) zone) (omega arith) c.grow_up.ensures.rest.moves (up-moves t (grown c.args.size (spot t zone)) zone found)
+    packs-none (g.S.BlockStore.rest c.args.store.now) (g.S.BlockStore.rest c.grow_up.new.store)
+    (grow_moves t (grown c.args.size (spot t zone)) zone) (omega arith) c.grow_up.ensures.rest.moves
+    (up-moves t (grown c.args.size (spot t zone)) zone found)

@@ -13,7 +13,8 @@ returns-clause-least g c =
     let looked = c.least_look-looked in
     let t = is_relocatable c.args.number in
     let new = grown c.args.size (spot t zone) in
-    least-of (λ k. grow_mover t new (purged k sparing zone)) (most_purges sparing zone) looked.result.purges looked.ensures.least
+    least-of (λ k. grow_mover t new (purged k sparing zone)) (most_purges sparing zone) looked.result.purges
+    looked.ensures.least
 
 pub returns-clause-searches : goal.returns-clause-searches
 returns-clause-searches g c =
@@ -22,4 +23,5 @@ returns-clause-searches g c =
     let looked = c.least_look-looked in
     let t = is_relocatable c.args.number in
     let new = grown c.args.size (spot t zone) in
-    tries-of (λ k. grow_mover t new (purged k sparing zone)) (most_purges sparing zone) looked.result.purges looked.ensures.least
+    tries-of (λ k. grow_mover t new (purged k sparing zone)) (most_purges sparing zone) looked.result.purges
+    looked.ensures.least

@@ -7,16 +7,31 @@ use Rattle.heap_calls.proofs.growing.growth_after.Goals as goal
 
 pub returns-then-room_above : goal.returns-then-room_above
 returns-then-room_above g c =
-    up-found (is_relocatable c.args.number) (grown c.args.size (spot (is_relocatable c.args.number) (g.S.BlockStore.zone c.args.store.now))) (purged c.args.purges c.args.sparing (g.S.BlockStore.zone c.args.store.now)) c.args.more c.room_above.result c.requires.more c.room_above.ensures c.if-room_above.true
+    up-found (is_relocatable c.args.number) (grown c.args.size
+    (spot (is_relocatable c.args.number) (g.S.BlockStore.zone c.args.store.now)))
+    (purged c.args.purges c.args.sparing (g.S.BlockStore.zone c.args.store.now)) c.args.more c.room_above.result
+    c.requires.more c.room_above.ensures c.if-room_above.true
 
 pub returns-in-Some : goal.returns-in-Some
 returns-in-Some g c =
-    away-found (is_relocatable c.args.number) (grown c.args.size (spot (is_relocatable c.args.number) (g.S.BlockStore.zone c.args.store.now))) (purged c.args.purges c.args.sparing (g.S.BlockStore.zone c.args.store.now)) c.args.more c.room_above.result c.requires.more c.room_above.ensures c.args.bytes c.in-Some.seat c.requires.takes c.if-room_above.false c.in-Some.ensures
+    away-found (is_relocatable c.args.number) (grown c.args.size
+    (spot (is_relocatable c.args.number) (g.S.BlockStore.zone c.args.store.now)))
+    (purged c.args.purges c.args.sparing (g.S.BlockStore.zone c.args.store.now)) c.args.more c.room_above.result
+    c.requires.more c.room_above.ensures c.args.bytes c.in-Some.seat c.requires.takes c.if-room_above.false
+    c.in-Some.ensures
 
 pub returns-in_default-run_of : goal.returns-in_default-run_of
 returns-in_default-run_of g c =
-    none-found (is_relocatable c.args.number) (grown c.args.size (spot (is_relocatable c.args.number) (g.S.BlockStore.zone c.args.store.now))) (purged c.args.purges c.args.sparing (g.S.BlockStore.zone c.args.store.now)) c.args.more c.room_above.result c.requires.more c.room_above.ensures c.args.bytes c.requires.takes c.if-room_above.false c.in_default.ensures c.in_default-run_of.ensures
+    none-found (is_relocatable c.args.number) (grown c.args.size
+    (spot (is_relocatable c.args.number) (g.S.BlockStore.zone c.args.store.now)))
+    (purged c.args.purges c.args.sparing (g.S.BlockStore.zone c.args.store.now)) c.args.more c.room_above.result
+    c.requires.more c.room_above.ensures c.args.bytes c.requires.takes c.if-room_above.false c.in_default.ensures
+    c.in_default-run_of.ensures
 
 pub returns : goal.returns
 returns g c =
-    last-found (is_relocatable c.args.number) (grown c.args.size (spot (is_relocatable c.args.number) (g.S.BlockStore.zone c.args.store.now))) (purged c.args.purges c.args.sparing (g.S.BlockStore.zone c.args.store.now)) c.args.more c.room_above.result c.requires.more c.room_above.ensures c.args.bytes c.in-Some-run_of.run' c.requires.takes c.if-room_above.false c.in_default.ensures c.in-Some-run_of.ensures
+    last-found (is_relocatable c.args.number) (grown c.args.size
+    (spot (is_relocatable c.args.number) (g.S.BlockStore.zone c.args.store.now)))
+    (purged c.args.purges c.args.sparing (g.S.BlockStore.zone c.args.store.now)) c.args.more c.room_above.result
+    c.requires.more c.room_above.ensures c.args.bytes c.in-Some-run_of.run' c.requires.takes c.if-room_above.false
+    c.in_default.ensures c.in-Some-run_of.ensures

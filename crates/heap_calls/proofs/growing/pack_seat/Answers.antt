@@ -17,36 +17,42 @@ use Rattle.heap_calls.proofs.growing.pack_seat.Goals.{After-settle}
 use Rattle.heap_calls.proofs.growing.pack_seat.Goals as goal
 
 -- the run that is packed
-found : (g : Over) (c : After-settle g) → FindsSeat c.args.bytes (g.S.BlockStore.zone c.args.store.now) (Some (see.Run c.in-Run.run'))
+found : (g : Over) (c : After-settle g) → FindsSeat c.args.bytes (g.S.BlockStore.zone c.args.store.now)
+    (Some (see.Run c.in-Run.run'))
 found g c =
     let P : Seat → Type 0 = λ s. FindsSeat c.args.bytes (g.S.BlockStore.zone c.args.store.now) (Some s) in
     subst P c.in-Run.is c.requires.found
 
 -- the zone with that run packed
-packed : (g : Over) (c : After-settle g) → g.S.BlockStore.zone c.settle.new.self ≡ tidy (with_run settle (found g c).1.0)
+packed : (g : Over) (c : After-settle g) → g.S.BlockStore.zone c.settle.new.self
+    ≡ tidy (with_run settle (found g c).1.0)
 packed g c =
     let zone = g.S.BlockStore.zone c.args.store.now in
-    at_run c.in-Run.run' zone zone (found g c).1.0 (λ r. g.S.BlockStore.zone c.settle.new.self ≡ tidy (with_run settle r)) refl (found g c).1.2 c.settle.ensures.zone
+    at_run c.in-Run.run' zone zone (found g c).1.0 (λ r. g.S.BlockStore.zone c.settle.new.self
+    ≡ tidy (with_run settle r)) refl (found g c).1.2 c.settle.ensures.zone
 
 pub unreachable-requires : goal.unreachable-requires
 unreachable-requires g c =
     let at = (goal.at.unreachable-requires g c).After-settle in
     let r = (found g at).1 in
     let store' = c.settle.new.self in
-    room-found c.args.bytes c.requires.positive (g.S.BlockStore.zone c.args.store.now) r.0 r.1 (g.S.BlockStore.zone store') (packed g at)
+    room-found c.args.bytes c.requires.positive (g.S.BlockStore.zone c.args.store.now) r.0 r.1
+    (g.S.BlockStore.zone store') (packed g at)
     (ap (spot (is_room c.args.bytes)) (sym (g.met.S.BlockStore.tidied store')) ∙ c.in_default.ensures)
 
 pub returns-clause-blocks : goal.returns-clause-blocks
 returns-clause-blocks g c =
     let at = (goal.at.returns-clause-blocks g c).After-settle in
     let r = (found g at).1 in
-    λ number. ap (block_of number) (packed g at) ∙ settle-blocks c.in-Run.run' (g.S.BlockStore.zone c.args.store.now) r.0 r.2 number
+    λ number. ap (block_of number) (packed g at) ∙ settle-blocks c.in-Run.run' (g.S.BlockStore.zone c.args.store.now)
+    r.0 r.2 number
 
 pub returns-clause-fixed : goal.returns-clause-fixed
 returns-clause-fixed g c place =
     let at = (goal.at.returns-clause-fixed g c).After-settle in
     let r = (found g at).1 in
-    ap (has (is_fixed place)) (packed g at) ∙ fixed-run_at settle none-settle c.in-Run.run' (g.S.BlockStore.zone c.args.store.now) r.0 r.2 place
+    ap (has (is_fixed place)) (packed g at) ∙ fixed-run_at settle none-settle c.in-Run.run'
+    (g.S.BlockStore.zone c.args.store.now) r.0 r.2 place
 
 pub returns-in-Free-clause-moves : goal.returns-in-Free-clause-moves
 returns-in-Free-clause-moves g c =
@@ -63,5 +69,7 @@ returns-clause-moves g c =
     let rest' = g.S.BlockStore.rest c.settle.new.self in
     let seat = found g (goal.at.returns-clause-moves g c).After-settle in
     let r = seat.1.0 in
-    let packed = at_run c.in-Run.run' zone zone r (λ r. IsRest (with_moves (falling r.run) rest) rest') refl seat.1.2 c.settle.ensures.rest in
-    packs-run rest rest rest' (falling r.run) (place_moves c.args.bytes zone) refl packed (at-packed c.args.bytes c.in-Run.run' zone seat)
+    let packed = at_run c.in-Run.run' zone zone r (λ r. IsRest (with_moves (falling r.run) rest) rest') refl seat.1.2
+    c.settle.ensures.rest in
+    packs-run rest rest rest' (falling r.run) (place_moves c.args.bytes zone) refl packed
+    (at-packed c.args.bytes c.in-Run.run' zone seat)

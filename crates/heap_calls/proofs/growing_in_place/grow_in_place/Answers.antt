@@ -1,4 +1,5 @@
-use Rattle.std.proofs.Common.{◌≡◌, ◌-◌, ◌≤◌, ◌<◌, ◌++◌, ◌∷◌, ◌⊎◌, inr, ℕ, Bool, false, Option, Some, None, List, sym, ◌∙◌, ap, subst, arith}
+use Rattle.std.proofs.Common.{◌≡◌, ◌-◌, ◌≤◌, ◌<◌, ◌++◌, ◌∷◌, ◌⊎◌, inr, ℕ, Bool, false, Option, Some, None, List, sym}
+use Rattle.std.proofs.Common.{◌∙◌, ap, subst, arith}
 use Rattle.std.specs.Option.{IfSome, IsSome}
 use Rattle.block_store.specs.Block.{Block, size, resized}
 use Rattle.block_store.specs.Run.{segments}
@@ -7,7 +8,9 @@ use Rattle.block_store.specs.Grow.{grow_up, grow_fixed, growth}
 use Rattle.block_store.specs.Sparing.{spared}
 use Rattle.heap_calls.specs.Inner.GrowingInPlace.{FindsPurges, enough, pushed_up}
 use Rattle.heap_calls.specs.Searches.{room_searches, in_place_searches}
-use Rattle.heap_calls.proofs.Sizes.GrowingInPlace.{looks-up, looks-run, Grows, grows, spot_if, some_if, spot_and, spot-small, up-allowed, grown-up, grown-none, pushed, pushed-allowed, grown-pushed, spot_at-above, phys-fits}
+use Rattle.heap_calls.proofs.Sizes.GrowingInPlace.{looks-up, looks-run, Grows, grows, spot_if, some_if, spot_and}
+use Rattle.heap_calls.proofs.Sizes.GrowingInPlace.{spot-small, up-allowed, grown-up, grown-none, pushed, pushed-allowed}
+use Rattle.heap_calls.proofs.Sizes.GrowingInPlace.{grown-pushed, spot_at-above, phys-fits}
 use Rattle.block_store.specs.Block.{is_fixed}
 use Rattle.block_store.specs.Run.{has}
 use Rattle.block_store.proofs.Plain.Options.{some_and}
@@ -22,7 +25,8 @@ pub overflow_add-place : goal.overflow_add-place
 overflow_add-place g c =
     let zone = g.S.BlockStore.zone c.args.store.now in
     let still = some_and (spot_at c.args.place zone) _ c.requires.still in
-    let is = spot_if (spot_at c.args.place zone) still.0 (λ s. c.bytes_at-taken.result ≡ size s.here) still.1 c.bytes_at-taken.ensures in
+    let is = spot_if (spot_at c.args.place zone) still.0 (λ s. c.bytes_at-taken.result ≡ size s.here) still.1
+    c.bytes_at-taken.ensures in
     omega (arith, is, spot-small c.args.place zone still.0 still.1, g.met.S.BlockStore.small c.args.store.now)
 
 -- what resizing asks of a spot
@@ -32,16 +36,22 @@ Resizes n s = (size (resized n s.here) ≤ size s.here) ⊎ IsSome (grow_up (res
 pub resize-requires : goal.resize-requires
 resize-requires g c =
     let zone = g.S.BlockStore.zone c.args.store.now in
-    let k = grows c.args.place zone c.args.bytes c.bytes_at-taken.result c.padded_size-wanted.result c.has_room_at.result c.requires.still c.requires.grows c.bytes_at-taken.ensures c.padded_size-wanted.ensures c.has_room_at.ensures in
-    spot_and (spot_at c.args.place zone) k.s (Resizes c.args.bytes) k.at (inr (up-allowed (resized c.args.bytes k.s.here) k.s (sym k.up_is ∙ c.if-has_room_at.true)))
+    let k = grows c.args.place zone c.args.bytes c.bytes_at-taken.result c.padded_size-wanted.result
+    c.has_room_at.result c.requires.still c.requires.grows c.bytes_at-taken.ensures c.padded_size-wanted.ensures
+    c.has_room_at.ensures in
+    spot_and (spot_at c.args.place zone) k.s (Resizes c.args.bytes) k.at
+    (inr (up-allowed (resized c.args.bytes k.s.here) k.s (sym k.up_is ∙ c.if-has_room_at.true)))
 
 pub returns-then-has_room_at-clause-zone : goal.returns-then-has_room_at-clause-zone
 returns-then-has_room_at-clause-zone g c =
     let zone = g.S.BlockStore.zone c.args.store.now in
     let zone' = g.S.BlockStore.zone c.resize.new.self in
     let sp = spared c.args.sparing in
-    let k = grows c.args.place zone c.args.bytes c.bytes_at-taken.result c.padded_size-wanted.result c.has_room_at.result c.requires.still c.requires.grows c.bytes_at-taken.ensures c.padded_size-wanted.ensures c.has_room_at.ensures in
-    let P : Spot → Type 0 = λ s. size s.here < size (resized c.args.bytes s.here) → IfSome (grow_up (resized c.args.bytes s.here) s) (λ after. zone' ≡ after) in
+    let k = grows c.args.place zone c.args.bytes c.bytes_at-taken.result c.padded_size-wanted.result
+    c.has_room_at.result c.requires.still c.requires.grows c.bytes_at-taken.ensures c.padded_size-wanted.ensures
+    c.has_room_at.ensures in
+    let P : Spot → Type 0 = λ s. size s.here < size (resized c.args.bytes s.here)
+    → IfSome (grow_up (resized c.args.bytes s.here) s) (λ after. zone' ≡ after) in
     let done : P k.s = spot_if (spot_at c.args.place zone) k.s P k.at c.in_ok-resize.ensures.grown in
     some_if (spot_at c.args.place zone) k.s (λ s. grow_fixed sp (resized c.args.bytes s.here) s ≡ Some zone') k.at
     (grown-up sp (resized c.args.bytes k.s.here) k.s zone' (sym k.up_is ∙ c.if-has_room_at.true) (done k.less))
@@ -50,19 +60,28 @@ pub returns-in_default-clause-zone : goal.returns-in_default-clause-zone
 returns-in_default-clause-zone g c =
     let zone = g.S.BlockStore.zone c.args.store.now in
     let sp = spared c.args.sparing in
-    let k = grows c.args.place zone c.args.bytes c.bytes_at-taken.result c.padded_size-wanted.result c.has_room_at.result c.requires.still c.requires.grows c.bytes_at-taken.ensures c.padded_size-wanted.ensures c.has_room_at.ensures in
-    let F : Option ℕ → Type 0 = λ o. IfSome (spot_at c.args.place zone) (λ s. FindsPurges (c.padded_size-wanted.result - c.bytes_at-taken.result) sp (segments s.above).first o) in
-    let none = spot_if (spot_at c.args.place zone) k.s (λ s. FindsPurges (c.padded_size-wanted.result - c.bytes_at-taken.result) sp (segments s.above).first None) k.at (subst F c.in_default.is c.least_purges-fewest.ensures.found) in
+    let k = grows c.args.place zone c.args.bytes c.bytes_at-taken.result c.padded_size-wanted.result
+    c.has_room_at.result c.requires.still c.requires.grows c.bytes_at-taken.ensures c.padded_size-wanted.ensures
+    c.has_room_at.ensures in
+    let F : Option ℕ → Type 0 = λ o. IfSome (spot_at c.args.place zone)
+    (λ s. FindsPurges (c.padded_size-wanted.result - c.bytes_at-taken.result) sp (segments s.above).first o) in
+    let none = spot_if (spot_at c.args.place zone) k.s
+    (λ s. FindsPurges (c.padded_size-wanted.result - c.bytes_at-taken.result) sp (segments s.above).first None) k.at
+    (subst F c.in_default.is c.least_purges-fewest.ensures.found) in
     let P : ℕ → Type 0 = λ d. FindsPurges d sp (segments k.s.above).first None in
     some_if (spot_at c.args.place zone) k.s (λ s. grow_fixed sp (resized c.args.bytes s.here) s ≡ None) k.at
     (grown-none sp (resized c.args.bytes k.s.here) k.s (sym k.up_is ∙ c.if-has_room_at.false) (subst P k.more_is none))
 
 -- the spot after the run above was packed upward
-spot-pushed : (place : ℕ) (zone zone' : List Block) (n more : ℕ) (up : Bool) (k : Grows place zone n more up) (purges : ℕ) (sp : Block → Bool)
-    → IfSome (spot_at place zone) (λ s. zone' ≡ s.below ++ s.here ∷ pushed_up more purges sp s.above) → spot_at place zone' ≡ Some (pushed (growth (resized n k.s.here) k.s) purges sp k.s)
+spot-pushed : (place : ℕ) (zone zone' : List Block) (n more : ℕ) (up : Bool) (k : Grows place zone n more up)
+    (purges : ℕ) (sp : Block → Bool)
+    → IfSome (spot_at place zone) (λ s. zone' ≡ s.below ++ s.here ∷ pushed_up more purges sp s.above)
+    → spot_at place zone' ≡ Some (pushed (growth (resized n k.s.here) k.s) purges sp k.s)
 spot-pushed place zone zone' n more up k purges sp h =
-    let is : zone' ≡ k.s.below ++ k.s.here ∷ pushed_up more purges sp k.s.above = spot_if (spot_at place zone) k.s (λ s. zone' ≡ s.below ++ s.here ∷ pushed_up more purges sp s.above) k.at h in
-    ap (spot_at place) is ∙ spot_at-above place zone k.s k.at (pushed_up more purges sp k.s.above) ∙ ap (λ d. Some (pushed d purges sp k.s)) k.more_is
+    let is : zone' ≡ k.s.below ++ k.s.here ∷ pushed_up more purges sp k.s.above =
+    spot_if (spot_at place zone) k.s (λ s. zone' ≡ s.below ++ s.here ∷ pushed_up more purges sp s.above) k.at h in
+    ap (spot_at place) is ∙ spot_at-above place zone k.s k.at (pushed_up more purges sp k.s.above)
+    ∙ ap (λ d. Some (pushed d purges sp k.s)) k.more_is
 
 pub resize-requires-2 : goal.resize-requires-2
 resize-requires-2 g c =
@@ -70,11 +89,15 @@ resize-requires-2 g c =
     let zone' = g.S.BlockStore.zone c.push_up.new.store in
     let sp = spared c.args.sparing in
     let more = c.padded_size-wanted.result - c.bytes_at-taken.result in
-    let k = grows c.args.place zone c.args.bytes c.bytes_at-taken.result c.padded_size-wanted.result c.has_room_at.result c.requires.still c.requires.grows c.bytes_at-taken.ensures c.padded_size-wanted.ensures c.has_room_at.ensures in
+    let k = grows c.args.place zone c.args.bytes c.bytes_at-taken.result c.padded_size-wanted.result
+    c.has_room_at.result c.requires.still c.requires.grows c.bytes_at-taken.ensures c.padded_size-wanted.ensures
+    c.has_room_at.ensures in
     let new = resized c.args.bytes k.s.here in
     spot_and (spot_at c.args.place zone') (pushed (growth new k.s) c.in-Some.purges sp k.s) (Resizes c.args.bytes)
-    (spot-pushed c.args.place zone zone' c.args.bytes more c.has_room_at.result k c.in-Some.purges sp c.in_ok-push_up.ensures.zone)
-    (inr (pushed-allowed c.args.place zone (g.met.S.BlockStore.tidied c.args.store.now) k.s k.at k.ends c.in-Some.purges sp new k.less))
+    (spot-pushed c.args.place zone zone' c.args.bytes more c.has_room_at.result k c.in-Some.purges sp
+    c.in_ok-push_up.ensures.zone)
+    (inr (pushed-allowed c.args.place zone (g.met.S.BlockStore.tidied c.args.store.now) k.s k.at k.ends c.in-Some.purges
+    sp new k.less))
 
 pub returns-clause-zone : goal.returns-clause-zone
 returns-clause-zone g c =
@@ -83,65 +106,94 @@ returns-clause-zone g c =
     let after = g.S.BlockStore.zone c.resize-2.new.self in
     let sp = spared c.args.sparing in
     let more = c.padded_size-wanted.result - c.bytes_at-taken.result in
-    let k = grows c.args.place zone c.args.bytes c.bytes_at-taken.result c.padded_size-wanted.result c.has_room_at.result c.requires.still c.requires.grows c.bytes_at-taken.ensures c.padded_size-wanted.ensures c.has_room_at.ensures in
+    let k = grows c.args.place zone c.args.bytes c.bytes_at-taken.result c.padded_size-wanted.result
+    c.has_room_at.result c.requires.still c.requires.grows c.bytes_at-taken.ensures c.padded_size-wanted.ensures
+    c.has_room_at.ensures in
     let new = resized c.args.bytes k.s.here in
-    let P : Spot → Type 0 = λ s. size s.here < size (resized c.args.bytes s.here) → IfSome (grow_up (resized c.args.bytes s.here) s) (λ z. after ≡ z) in
+    let P : Spot → Type 0 = λ s. size s.here < size (resized c.args.bytes s.here)
+    → IfSome (grow_up (resized c.args.bytes s.here) s) (λ z. after ≡ z) in
     let done : P (pushed (growth new k.s) c.in-Some.purges sp k.s) =
     spot_if (spot_at c.args.place zone') (pushed (growth new k.s) c.in-Some.purges sp k.s) P
-    (spot-pushed c.args.place zone zone' c.args.bytes more c.has_room_at.result k c.in-Some.purges sp c.in_ok-push_up.ensures.zone) c.in_ok-resize-2.ensures.grown in
-    let F : Option ℕ → Type 0 = λ o. IfSome (spot_at c.args.place zone) (λ s. FindsPurges (c.padded_size-wanted.result - c.bytes_at-taken.result) sp (segments s.above).first o) in
+    (spot-pushed c.args.place zone zone' c.args.bytes more c.has_room_at.result k c.in-Some.purges sp
+    c.in_ok-push_up.ensures.zone) c.in_ok-resize-2.ensures.grown in
+    let F : Option ℕ → Type 0 = λ o. IfSome (spot_at c.args.place zone)
+    (λ s. FindsPurges (c.padded_size-wanted.result - c.bytes_at-taken.result) sp (segments s.above).first o) in
     let Q : ℕ → Type 0 = λ d. FindsPurges d sp (segments k.s.above).first (Some c.in-Some.purges) in
-    let found : Q (growth new k.s) = subst Q k.more_is (spot_if (spot_at c.args.place zone) k.s (λ s. FindsPurges more sp (segments s.above).first (Some c.in-Some.purges)) k.at (subst F c.in-Some.is c.least_purges-fewest.ensures.found)) in
+    let found : Q (growth new k.s) = subst Q k.more_is
+    (spot_if (spot_at c.args.place zone) k.s (λ s. FindsPurges more sp (segments s.above).first
+    (Some c.in-Some.purges)) k.at (subst F c.in-Some.is c.least_purges-fewest.ensures.found)) in
     some_if (spot_at c.args.place zone) k.s (λ s. grow_fixed sp (resized c.args.bytes s.here) s ≡ Some after) k.at
-    (grown-pushed c.args.place zone (g.met.S.BlockStore.tidied c.args.store.now) k.s k.at k.ends c.in-Some.purges sp new k.less after (sym k.up_is ∙ c.if-has_room_at.false) found.2 (done k.less))
+    (grown-pushed c.args.place zone (g.met.S.BlockStore.tidied c.args.store.now) k.s k.at k.ends c.in-Some.purges sp new
+    k.less after (sym k.up_is ∙ c.if-has_room_at.false) found.2 (done k.less))
 
 pub returns-then-has_room_at-clause-searches : goal.returns-then-has_room_at-clause-searches
 returns-then-has_room_at-clause-searches g c =
     let zone = g.S.BlockStore.zone c.args.store.now in
     let sp = spared c.args.sparing in
-    let k = grows c.args.place zone c.args.bytes c.bytes_at-taken.result c.padded_size-wanted.result c.has_room_at.result c.requires.still c.requires.grows c.bytes_at-taken.ensures c.padded_size-wanted.ensures c.has_room_at.ensures in
+    let k = grows c.args.place zone c.args.bytes c.bytes_at-taken.result c.padded_size-wanted.result
+    c.has_room_at.result c.requires.still c.requires.grows c.bytes_at-taken.ensures c.padded_size-wanted.ensures
+    c.has_room_at.ensures in
     some_if (spot_at c.args.place zone) k.s (λ s. 1 ≡ in_place_searches sp (resized c.args.bytes s.here) s) k.at
     (looks-up sp (resized c.args.bytes k.s.here) k.s (sym k.up_is ∙ c.if-has_room_at.true))
 
 -- the looks at the run above
-looked : (place : ℕ) (zone : List Block) (n more : ℕ) (up : Bool) (k : Grows place zone n more up) (sp : Block → Bool) (looks : ℕ) → up ≡ false
-    → IfSome (spot_at place zone) (λ s. looks ≡ room_searches (enough more) sp (segments s.above).first) → IfSome (spot_at place zone) (λ s. looks ≡ in_place_searches sp (resized n s.here) s)
+looked : (place : ℕ) (zone : List Block) (n more : ℕ) (up : Bool) (k : Grows place zone n more up) (sp : Block → Bool)
+    (looks : ℕ) → up ≡ false
+    → IfSome (spot_at place zone) (λ s. looks ≡ room_searches (enough more) sp (segments s.above).first)
+    → IfSome (spot_at place zone) (λ s. looks ≡ in_place_searches sp (resized n s.here) s)
 looked place zone n more up k sp looks none h =
-    let is : looks ≡ room_searches (enough more) sp (segments k.s.above).first = spot_if (spot_at place zone) k.s (λ s. looks ≡ room_searches (enough more) sp (segments s.above).first) k.at h in
+    let is : looks ≡ room_searches (enough more) sp (segments k.s.above).first =
+    spot_if (spot_at place zone) k.s (λ s. looks ≡ room_searches (enough more) sp (segments s.above).first) k.at h in
     some_if (spot_at place zone) k.s (λ s. looks ≡ in_place_searches sp (resized n s.here) s) k.at
-    (looks-run sp (resized n k.s.here) k.s looks (sym k.up_is ∙ none) (is ∙ ap (λ d. room_searches (enough d) sp (segments k.s.above).first) k.more_is))
+    (looks-run sp (resized n k.s.here) k.s looks (sym k.up_is ∙ none)
+    (is ∙ ap (λ d. room_searches (enough d) sp (segments k.s.above).first) k.more_is))
 
 pub returns-in_default-clause-searches : goal.returns-in_default-clause-searches
 returns-in_default-clause-searches g c =
     let zone = g.S.BlockStore.zone c.args.store.now in
     let more = c.padded_size-wanted.result - c.bytes_at-taken.result in
-    let k = grows c.args.place zone c.args.bytes c.bytes_at-taken.result c.padded_size-wanted.result c.has_room_at.result c.requires.still c.requires.grows c.bytes_at-taken.ensures c.padded_size-wanted.ensures c.has_room_at.ensures in
-    looked c.args.place zone c.args.bytes more c.has_room_at.result k (spared c.args.sparing) c.least_purges-fewest.result.searches c.if-has_room_at.false c.least_purges-fewest.ensures.searches
+    let k = grows c.args.place zone c.args.bytes c.bytes_at-taken.result c.padded_size-wanted.result
+    c.has_room_at.result c.requires.still c.requires.grows c.bytes_at-taken.ensures c.padded_size-wanted.ensures
+    c.has_room_at.ensures in
+    looked c.args.place zone c.args.bytes more c.has_room_at.result k (spared c.args.sparing)
+    c.least_purges-fewest.result.searches c.if-has_room_at.false c.least_purges-fewest.ensures.searches
 
 pub returns-clause-searches : goal.returns-clause-searches
 returns-clause-searches g c =
     let zone = g.S.BlockStore.zone c.args.store.now in
     let more = c.padded_size-wanted.result - c.bytes_at-taken.result in
-    let k = grows c.args.place zone c.args.bytes c.bytes_at-taken.result c.padded_size-wanted.result c.has_room_at.result c.requires.still c.requires.grows c.bytes_at-taken.ensures c.padded_size-wanted.ensures c.has_room_at.ensures in
-    looked c.args.place zone c.args.bytes more c.has_room_at.result k (spared c.args.sparing) c.least_purges-fewest.result.searches c.if-has_room_at.false c.least_purges-fewest.ensures.searches
+    let k = grows c.args.place zone c.args.bytes c.bytes_at-taken.result c.padded_size-wanted.result
+    c.has_room_at.result c.requires.still c.requires.grows c.bytes_at-taken.ensures c.padded_size-wanted.ensures
+    c.has_room_at.ensures in
+    looked c.args.place zone c.args.bytes more c.has_room_at.result k (spared c.args.sparing)
+    c.least_purges-fewest.result.searches c.if-has_room_at.false c.least_purges-fewest.ensures.searches
 
 pub returns-then-has_room_at-clause-fixed : goal.returns-then-has_room_at-clause-fixed
 returns-then-has_room_at-clause-fixed g c place =
     let zone = g.S.BlockStore.zone c.args.store.now in
     let zone' = g.S.BlockStore.zone c.resize.new.self in
     let sp = spared c.args.sparing in
-    let k = grows c.args.place zone c.args.bytes c.bytes_at-taken.result c.padded_size-wanted.result c.has_room_at.result c.requires.still c.requires.grows c.bytes_at-taken.ensures c.padded_size-wanted.ensures c.has_room_at.ensures in
-    let grown = spot_if (spot_at c.args.place zone) k.s (λ s. grow_fixed sp (resized c.args.bytes s.here) s ≡ Some zone') k.at (returns-then-has_room_at-clause-zone g c) in
-    fixed-at c.args.place zone zone' k.s k.at (fixed-grow_fixed sp (resized c.args.bytes k.s.here) k.s zone' (alike-resized c.args.bytes k.s.here) grown) place
+    let k = grows c.args.place zone c.args.bytes c.bytes_at-taken.result c.padded_size-wanted.result
+    c.has_room_at.result c.requires.still c.requires.grows c.bytes_at-taken.ensures c.padded_size-wanted.ensures
+    c.has_room_at.ensures in
+    let grown = spot_if (spot_at c.args.place zone) k.s
+    (λ s. grow_fixed sp (resized c.args.bytes s.here) s ≡ Some zone') k.at (returns-then-has_room_at-clause-zone g c) in
+    fixed-at c.args.place zone zone' k.s k.at (fixed-grow_fixed sp (resized c.args.bytes k.s.here) k.s zone'
+    (alike-resized c.args.bytes k.s.here) grown) place
 
 pub returns-in_err-resize-2-clause-fixed : goal.returns-in_err-resize-2-clause-fixed
-returns-in_err-resize-2-clause-fixed g c place = ap (has (is_fixed place)) c.in_err-resize-2.ensures.err ∙ c.push_up.ensures.fixed place
+returns-in_err-resize-2-clause-fixed g c place = ap (has (is_fixed place)) c.in_err-resize-2.ensures.err
+    ∙ c.push_up.ensures.fixed place
 
 pub returns-clause-fixed : goal.returns-clause-fixed
 returns-clause-fixed g c place =
     let zone = g.S.BlockStore.zone c.args.store.now in
     let zone' = g.S.BlockStore.zone c.resize-2.new.self in
     let sp = spared c.args.sparing in
-    let k = grows c.args.place zone c.args.bytes c.bytes_at-taken.result c.padded_size-wanted.result c.has_room_at.result c.requires.still c.requires.grows c.bytes_at-taken.ensures c.padded_size-wanted.ensures c.has_room_at.ensures in
-    let grown = spot_if (spot_at c.args.place zone) k.s (λ s. grow_fixed sp (resized c.args.bytes s.here) s ≡ Some zone') k.at (returns-clause-zone g c) in
-    fixed-at c.args.place zone zone' k.s k.at (fixed-grow_fixed sp (resized c.args.bytes k.s.here) k.s zone' (alike-resized c.args.bytes k.s.here) grown) place
+    let k = grows c.args.place zone c.args.bytes c.bytes_at-taken.result c.padded_size-wanted.result
+    c.has_room_at.result c.requires.still c.requires.grows c.bytes_at-taken.ensures c.padded_size-wanted.ensures
+    c.has_room_at.ensures in
+    let grown = spot_if (spot_at c.args.place zone) k.s
+    (λ s. grow_fixed sp (resized c.args.bytes s.here) s ≡ Some zone') k.at (returns-clause-zone g c) in
+    fixed-at c.args.place zone zone' k.s k.at (fixed-grow_fixed sp (resized c.args.bytes k.s.here) k.s zone'
+    (alike-resized c.args.bytes k.s.here) grown) place

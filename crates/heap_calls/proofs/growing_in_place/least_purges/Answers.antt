@@ -24,7 +24,8 @@ returns-clause-found g c =
     let most = c.purgeable_after-most in
     let above = spot_at c.args.place (g.S.BlockStore.zone c.args.store.now) in
     let some = sym (ap is_some c.in-Some.is) ∙ looked.ensures.there in
-    above-found c.args.bytes looked.result.purges most.result c.args.sparing above most.ensures looked.ensures.least some
+    above-found c.args.bytes looked.result.purges most.result c.args.sparing above most.ensures looked.ensures.least
+    some
 
 pub returns-clause-searches : goal.returns-clause-searches
 returns-clause-searches g c =

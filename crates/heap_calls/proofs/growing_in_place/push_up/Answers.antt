@@ -14,16 +14,23 @@ use Rattle.heap_calls.proofs.growing_in_place.push_up.Goals.{After-purge_after}
 use Rattle.heap_calls.proofs.growing_in_place.push_up.Goals as goal
 
 -- the block, with the run above it emptied
-above : (g : Over) (c : After-purge_after g) → EmptiedAbove c.args.place c.args.taken c.args.bytes c.args.purges (spared c.args.sparing) (g.S.BlockStore.zone c.args.store.now) (g.S.BlockStore.zone c.purge_after.new.self)
+above : (g : Over) (c : After-purge_after g) → EmptiedAbove c.args.place c.args.taken c.args.bytes c.args.purges
+    (spared c.args.sparing) (g.S.BlockStore.zone c.args.store.now) (g.S.BlockStore.zone c.purge_after.new.self)
 above g c =
     let store = c.args.store.now in
-    emptied_above c.args.place c.args.taken c.args.bytes c.args.purges (spared c.args.sparing) (g.S.BlockStore.zone store) (g.S.BlockStore.zone c.purge_after.new.self)
+    emptied_above c.args.place c.args.taken c.args.bytes c.args.purges (spared c.args.sparing)
+    (g.S.BlockStore.zone store) (g.S.BlockStore.zone c.purge_after.new.self)
     (g.met.S.BlockStore.tidied store) c.requires.still c.requires.room c.purge_after.ensures.zone
 
 pub overflow_add-place : goal.overflow_add-place
 overflow_add-place g c =
     let above = above g (goal.at.overflow_add-place g c).After-purge_after in
-    omega (arith, above.size_is, spot-small c.args.place (g.S.BlockStore.zone c.args.store.now) above.s above.at, g.met.S.BlockStore.small c.args.store.now)
+    omega (
+      arith,
+      above.size_is,
+      spot-small c.args.place (g.S.BlockStore.zone c.args.store.now) above.s above.at,
+      g.met.S.BlockStore.small c.args.store.now,
+    )
 
 pub raise-requires-clause-run : goal.raise-requires-clause-run
 raise-requires-clause-run g c = (above g (goal.at.raise-requires-clause-run g c).After-purge_after).allowed
@@ -31,14 +38,19 @@ raise-requires-clause-run g c = (above g (goal.at.raise-requires-clause-run g c)
 pub returns-clause-zone : goal.returns-clause-zone
 returns-clause-zone g c =
     let after = g.S.BlockStore.zone c.raise.new.self in
-    on_ok_weaker {P = IfSome (run_at (c.args.place + c.args.taken) (g.S.BlockStore.zone c.purge_after.new.self)) (λ r. after ≡ tidy (with_run (low (Free c.args.bytes)) r))}
-    {Q = IfSome (spot_at c.args.place (g.S.BlockStore.zone c.args.store.now)) (λ s. after ≡ s.below ++ s.here ∷ pushed_up c.args.bytes c.args.purges (spared c.args.sparing) s.above)} c.raise.result
+    on_ok_weaker {P = IfSome (run_at (c.args.place + c.args.taken) (g.S.BlockStore.zone c.purge_after.new.self))
+    (λ r. after ≡ tidy (with_run (low (Free c.args.bytes)) r))}
+    {Q = IfSome (spot_at c.args.place (g.S.BlockStore.zone c.args.store.now))
+    (λ s. after ≡ s.below ++ s.here ∷ pushed_up c.args.bytes c.args.purges (spared c.args.sparing) s.above)}
+    c.raise.result
     ((above g (goal.at.returns-clause-zone g c).After-purge_after).raised after) c.raise.ensures.ok
 
 pub returns-clause-fixed : goal.returns-clause-fixed
 returns-clause-fixed g c place =
     let above = above g (goal.at.returns-clause-fixed g c).After-purge_after in
     let s = above.s in
-    fixed-raised c.raise.result (c.args.place + c.args.taken) c.args.bytes (g.S.BlockStore.zone c.purge_after.new.self) (g.S.BlockStore.zone c.raise.new.self) above.allowed c.raise.ensures.ok c.raise.ensures.err place
-    ∙ ap (has (is_fixed place)) above.left ∙ fixed-above_emptied s.below s.here s.above c.args.purges (spared c.args.sparing) place
+    fixed-raised c.raise.result (c.args.place + c.args.taken) c.args.bytes (g.S.BlockStore.zone c.purge_after.new.self)
+    (g.S.BlockStore.zone c.raise.new.self) above.allowed c.raise.ensures.ok c.raise.ensures.err place
+    ∙ ap (has (is_fixed place)) above.left ∙ fixed-above_emptied s.below s.here s.above c.args.purges
+    (spared c.args.sparing) place
     ∙ ap (has (is_fixed place)) (sym (spot_at-is c.args.place (g.S.BlockStore.zone c.args.store.now) s above.at))

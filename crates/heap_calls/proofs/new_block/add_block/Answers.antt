@@ -20,24 +20,30 @@ returns-in_default-place-clause-added g c =
     let zone1 = g.S.BlockStore.zone room.new.store in
     let back = c.give_slot-in_default-place in
     let fits = phys-some c.args.size c.in-Some.bytes (sym c.phys.ensures ∙ c.in-Some.is) in
-    let P : Option ℕ → Type 0 = λ o. IsAdded c.args.sparing c.args.slot c.args.size zone rest o (g.S.BlockStore.zone back.new.self) (g.S.BlockStore.rest back.new.self) in
+    let P : Option ℕ → Type 0 = λ o. IsAdded c.args.sparing c.args.slot c.args.size zone rest o
+    (g.S.BlockStore.zone back.new.self) (g.S.BlockStore.rest back.new.self) in
     let done : P None = (
-      inr (no_seat-no_room c.args.size c.in-Some.bytes fits.1 c.args.sparing zone zone1 room.result.place c.in_default-place.is room.ensures.place c.args.slot),
+      inr (no_seat-no_room c.args.size c.in-Some.bytes fits.1 c.args.sparing zone zone1 room.result.place
+          c.in_default-place.is room.ensures.place c.args.slot),
       back.ensures.zone ∙ at_none room.result.place _ _ c.in_default-place.is room.ensures.none,
-      kept-back rest (g.S.BlockStore.rest room.new.store) (g.S.BlockStore.rest back.new.self) c.args.slot room.ensures.rest back.ensures.rest,
+      kept-back rest (g.S.BlockStore.rest room.new.store) (g.S.BlockStore.rest back.new.self) c.args.slot
+          room.ensures.rest back.ensures.rest,
     ) in
     subst P (sym c.in_default-place.is) done
 
 pub carve-requires-clause-room : goal.carve-requires-clause-room
 carve-requires-clause-room g c =
     let fits = phys-some c.args.size c.in-Some.bytes (sym c.phys.ensures ∙ c.in-Some.is) in
-    carve-room c.args.size c.in-Some.bytes fits.1 c.args.sparing (g.S.BlockStore.zone c.args.store.now) (g.S.BlockStore.zone c.make_room-room.new.store) c.make_room-room.result.place c.in-Some-place.place c.in-Some-place.is c.make_room-room.ensures.place
+    carve-room c.args.size c.in-Some.bytes fits.1 c.args.sparing (g.S.BlockStore.zone c.args.store.now)
+    (g.S.BlockStore.zone c.make_room-room.new.store) c.make_room-room.result.place c.in-Some-place.place
+    c.in-Some-place.is c.make_room-room.ensures.place
 
 pub carve-requires-clause-no_block : goal.carve-requires-clause-no_block
 carve-requires-clause-no_block g c = c.make_room-room.ensures.kept c.args.slot c.requires.none
 
 pub give_slot-requires-in-Err-clause-no_block : goal.give_slot-requires-in-Err-clause-no_block
-give_slot-requires-in-Err-clause-no_block g c = ap (has (is_relocatable c.args.slot)) c.in-Err.ensures.err ∙ c.make_room-room.ensures.kept c.args.slot c.requires.none
+give_slot-requires-in-Err-clause-no_block g c = ap (has (is_relocatable c.args.slot)) c.in-Err.ensures.err
+    ∙ c.make_room-room.ensures.kept c.args.slot c.requires.none
 
 pub returns-in-Ok-clause-added : goal.returns-in-Ok-clause-added
 returns-in-Ok-clause-added g c =
@@ -58,7 +64,8 @@ returns-in-Ok-clause-added g c =
     } in
     let done : P (Some c.in-Some-place.place) = (
       fits.0,
-      carved-put c.args.size c.in-Some.bytes fits.1 c.args.sparing zone (g.S.BlockStore.zone room.new.store) zone' room.result.place c.in-Some-place.place c.args.slot c.in-Some-place.is room.ensures.place c.in-Ok.ensures.ok,
+      carved-put c.args.size c.in-Some.bytes fits.1 c.args.sparing zone (g.S.BlockStore.zone room.new.store) zone'
+          room.result.place c.in-Some-place.place c.args.slot c.in-Some-place.is room.ensures.place c.in-Ok.ensures.ok,
       kept,
     ) in
     subst P (sym c.in-Some-place.is) done
@@ -67,35 +74,47 @@ pub returns-in-Ok-clause-fixed : goal.returns-in-Ok-clause-fixed
 returns-in-Ok-clause-fixed g c place =
     let room = c.make_room-room in
     let fits = phys-some c.args.size c.in-Some.bytes (sym c.phys.ensures ∙ c.in-Some.is) in
-    let wide = carve-room c.args.size c.in-Some.bytes fits.1 c.args.sparing (g.S.BlockStore.zone c.args.store.now) (g.S.BlockStore.zone room.new.store) room.result.place c.in-Some-place.place c.in-Some-place.is room.ensures.place in
-    fixed-carved c.in-Some-place.place (padded c.args.size) (g.S.BlockStore.zone room.new.store) (g.S.BlockStore.zone c.carve.new.self) (fresh_block c.args.slot c.args.size) (λ p. refl) wide c.in-Ok.ensures.ok place
+    let wide = carve-room c.args.size c.in-Some.bytes fits.1 c.args.sparing (g.S.BlockStore.zone c.args.store.now)
+    (g.S.BlockStore.zone room.new.store) room.result.place c.in-Some-place.place c.in-Some-place.is
+    room.ensures.place in
+    fixed-carved c.in-Some-place.place (padded c.args.size) (g.S.BlockStore.zone room.new.store)
+    (g.S.BlockStore.zone c.carve.new.self) (fresh_block c.args.slot c.args.size) (λ p. refl) wide c.in-Ok.ensures.ok
+    place
     ∙ room.ensures.fixed place
 
 pub returns-in-Err-clause-fixed : goal.returns-in-Err-clause-fixed
 returns-in-Err-clause-fixed g c place =
-    ap (has (is_fixed place)) (c.give_slot-in-Err.ensures.zone ∙ c.in-Err.ensures.err) ∙ c.make_room-room.ensures.fixed place
+    ap (has (is_fixed place)) (c.give_slot-in-Err.ensures.zone ∙ c.in-Err.ensures.err)
+    ∙ c.make_room-room.ensures.fixed place
 
 pub returns-in_default-clause-moves : goal.returns-in_default-clause-moves
 returns-in_default-clause-moves g c =
     let large = ap is_some (sym c.phys.ensures ∙ c.in_default.is) in
-    packs-none (g.S.BlockStore.rest c.args.store.now) (g.S.BlockStore.rest c.give_slot.new.self) (content_moves c.args.sparing c.args.size (g.S.BlockStore.zone c.args.store.now)) (omega arith) c.give_slot.ensures.rest.moves
+    packs-none (g.S.BlockStore.rest c.args.store.now) (g.S.BlockStore.rest c.give_slot.new.self)
+    (content_moves c.args.sparing c.args.size (g.S.BlockStore.zone c.args.store.now)) (omega arith)
+    c.give_slot.ensures.rest.moves
     (cond-false {A = ℕ} _ _ 0 large)
 
 pub returns-in_default-place-clause-moves : goal.returns-in_default-place-clause-moves
 returns-in_default-place-clause-moves g c =
     let rest = g.S.BlockStore.rest c.args.store.now in
     let fits = phys-some c.args.size c.in-Some.bytes (sym c.phys.ensures ∙ c.in-Some.is) in
-    c.give_slot-in_default-place.ensures.rest.moves ∙ c.make_room-room.ensures.moves ∙ ap (counted rest.moves) (content-at c.args.size c.in-Some.bytes fits.0 fits.1 c.args.sparing (g.S.BlockStore.zone c.args.store.now))
+    c.give_slot-in_default-place.ensures.rest.moves ∙ c.make_room-room.ensures.moves
+    ∙ ap (counted rest.moves) (content-at c.args.size c.in-Some.bytes fits.0 fits.1 c.args.sparing
+    (g.S.BlockStore.zone c.args.store.now))
 
 pub returns-in-Ok-clause-moves : goal.returns-in-Ok-clause-moves
 returns-in-Ok-clause-moves g c =
     let rest = g.S.BlockStore.rest c.args.store.now in
     let fits = phys-some c.args.size c.in-Some.bytes (sym c.phys.ensures ∙ c.in-Some.is) in
-    c.in-Ok.ensures.rest.moves ∙ c.make_room-room.ensures.moves ∙ ap (counted rest.moves) (content-at c.args.size c.in-Some.bytes fits.0 fits.1 c.args.sparing (g.S.BlockStore.zone c.args.store.now))
+    c.in-Ok.ensures.rest.moves ∙ c.make_room-room.ensures.moves
+    ∙ ap (counted rest.moves) (content-at c.args.size c.in-Some.bytes fits.0 fits.1 c.args.sparing
+    (g.S.BlockStore.zone c.args.store.now))
 
 pub returns-in-Err-clause-moves : goal.returns-in-Err-clause-moves
 returns-in-Err-clause-moves g c =
     let rest = g.S.BlockStore.rest c.args.store.now in
     let fits = phys-some c.args.size c.in-Some.bytes (sym c.phys.ensures ∙ c.in-Some.is) in
     c.give_slot-in-Err.ensures.rest.moves ∙ c.in-Err.ensures.rest.moves ∙ c.make_room-room.ensures.moves
-    ∙ ap (counted rest.moves) (content-at c.args.size c.in-Some.bytes fits.0 fits.1 c.args.sparing (g.S.BlockStore.zone c.args.store.now))
+    ∙ ap (counted rest.moves) (content-at c.args.size c.in-Some.bytes fits.0 fits.1 c.args.sparing
+    (g.S.BlockStore.zone c.args.store.now))

@@ -12,9 +12,12 @@ use Rattle.heap_calls.proofs.new_block.new_block.Goals as goal
 
 pub returns-in_default-place-clause-answer : goal.returns-in_default-place-clause-answer
 returns-in_default-place-clause-answer g c =
-    inr (only-slot c.args.sparing c.args.size c.in-Some.slot (g.S.BlockStore.zone c.args.store.now) (g.S.BlockStore.zone c.make_slot.new.store) (g.S.BlockStore.zone c.add_block.new.store)
-    (g.S.BlockStore.rest c.args.store.now) (g.S.BlockStore.rest c.make_slot.new.store) (g.S.BlockStore.rest c.add_block.new.store)
-    c.in_ok-taken.taken.slot c.in_ok-room.room.place c.in-Some.is c.in_default-place.is c.in_ok-taken.ensures.slot c.in_ok-room.ensures.added)
+    inr (only-slot c.args.sparing c.args.size c.in-Some.slot (g.S.BlockStore.zone c.args.store.now)
+    (g.S.BlockStore.zone c.make_slot.new.store) (g.S.BlockStore.zone c.add_block.new.store)
+    (g.S.BlockStore.rest c.args.store.now) (g.S.BlockStore.rest c.make_slot.new.store)
+    (g.S.BlockStore.rest c.add_block.new.store)
+    c.in_ok-taken.taken.slot c.in_ok-room.room.place c.in-Some.is c.in_default-place.is c.in_ok-taken.ensures.slot
+    c.in_ok-room.ensures.added)
 
 pub returns-in_err-room-clause-fixed : goal.returns-in_err-room-clause-fixed
 returns-in_err-room-clause-fixed g c place = c.add_block.ensures.fixed place ∙ c.make_slot.ensures.fixed place
@@ -33,17 +36,22 @@ returns-in_default-clause-moves g c =
     let rest' = g.S.BlockStore.rest c.make_slot.new.store in
     let P : Option ℕ → Type 0 = λ o. IsSlot c.args.sparing zone rest o zone' rest' in
     let none : P None = subst P c.in_default.is c.in_ok-taken.ensures.slot in
-    packs-none rest rest' (new_moves c.args.sparing c.args.size rest.unused zone) (omega arith) c.make_slot.ensures.moves (ap (λ o. ready_count o (content_moves c.args.sparing c.args.size)) none.0)
+    packs-none rest rest' (new_moves c.args.sparing c.args.size rest.unused zone) (omega arith)
+    c.make_slot.ensures.moves (ap (λ o. ready_count o (content_moves c.args.sparing c.args.size)) none.0)
 
 -- the moves of a new block, where a slot was taken
-packed : (g : Over) (c : After-add_block g) → Packs (new_moves c.args.sparing c.args.size (g.S.BlockStore.rest c.args.store.now).unused (g.S.BlockStore.zone c.args.store.now)) (g.S.BlockStore.rest c.args.store.now) (g.S.BlockStore.rest c.add_block.new.store)
+packed : (g : Over) (c : After-add_block g) → Packs
+    (new_moves c.args.sparing c.args.size (g.S.BlockStore.rest c.args.store.now).unused
+    (g.S.BlockStore.zone c.args.store.now)) (g.S.BlockStore.rest c.args.store.now)
+    (g.S.BlockStore.rest c.add_block.new.store)
 packed g c =
     let rest = g.S.BlockStore.rest c.args.store.now in
     let zone1 = g.S.BlockStore.zone c.make_slot.new.store in
     let rest1 = g.S.BlockStore.rest c.make_slot.new.store in
     let P : Option ℕ → Type 0 = λ o. IsSlot c.args.sparing (g.S.BlockStore.zone c.args.store.now) rest o zone1 rest1 in
     let taken : P (Some c.in-Some.slot) = subst P c.in-Some.is c.in_ok-taken.ensures.slot in
-    packs-after rest rest1 (g.S.BlockStore.rest c.add_block.new.store) (content_moves c.args.sparing c.args.size zone1) c.make_slot.ensures.moves c.add_block.ensures.moves
+    packs-after rest rest1 (g.S.BlockStore.rest c.add_block.new.store) (content_moves c.args.sparing c.args.size zone1)
+    c.make_slot.ensures.moves c.add_block.ensures.moves
     ∙ ap (λ o. counted rest.moves (ready_count o (content_moves c.args.sparing c.args.size))) (sym taken.ready)
 
 pub returns-in_default-place-clause-moves : goal.returns-in_default-place-clause-moves

@@ -17,38 +17,46 @@ returns-then-bytes-bytes_at-clause-fixed g c place =
     let zone = g.S.BlockStore.zone c.args.store.now in
     let s = c.requires.0 in
     let fixed = spot-passes (is_fixed c.args.place) zone s c.requires.1 in
-    let sizes = sizes-are c.args.place c.args.size c.in-Some.bytes c.bytes_at.result zone s c.requires.2 fixed (sym c.phys.ensures ∙ c.in-Some.is) c.bytes_at.ensures in
+    let sizes = sizes-are c.args.place c.args.size c.in-Some.bytes c.bytes_at.result zone s c.requires.2 fixed
+    (sym c.phys.ensures ∙ c.in-Some.is) c.bytes_at.ensures in
     let zone' = g.S.BlockStore.zone c.resize.new.self in
     let new = resized c.args.size s.here in
     let less : size new ≤ size s.here = omega (arith, sizes.0, sizes.1, c.if-bytes-bytes_at.true) in
-    let done = at_place c.args.place zone s (λ s. size (resized c.args.size s.here) ≤ size s.here → zone' ≡ filled (resized c.args.size s.here) s) c.requires.2 c.in_ok-resize.ensures.cut in
-    ap (has (is_fixed place)) (done less) ∙ fixed-at c.args.place zone (filled new s) s c.requires.2 (fixed-filled new s (alike-resized c.args.size s.here)) place
+    let done = at_place c.args.place zone s (λ s. size (resized c.args.size s.here) ≤ size s.here → zone'
+    ≡ filled (resized c.args.size s.here) s) c.requires.2 c.in_ok-resize.ensures.cut in
+    ap (has (is_fixed place)) (done less) ∙ fixed-at c.args.place zone (filled new s) s c.requires.2
+    (fixed-filled new s (alike-resized c.args.size s.here)) place
 
 pub grow_in_place-requires-clause-still : goal.grow_in_place-requires-clause-still
 grow_in_place-requires-clause-still g c =
     let zone = g.S.BlockStore.zone c.args.store.now in
     let s = c.requires.0 in
     let fixed = spot-passes (is_fixed c.args.place) zone s c.requires.1 in
-    spot_and (spot_at c.args.place zone) s (λ s. in_run s.here ≡ false) c.requires.2 (stands c.args.place s.here fixed).1
+    spot_and (spot_at c.args.place zone) s (λ s. in_run s.here ≡ false) c.requires.2
+    (stands c.args.place s.here fixed).1
 
 pub grow_in_place-requires-clause-grows : goal.grow_in_place-requires-clause-grows
 grow_in_place-requires-clause-grows g c =
     let zone = g.S.BlockStore.zone c.args.store.now in
     let s = c.requires.0 in
     let fixed = spot-passes (is_fixed c.args.place) zone s c.requires.1 in
-    let sizes = sizes-are c.args.place c.args.size c.in-Some.bytes c.bytes_at.result zone s c.requires.2 fixed (sym c.phys.ensures ∙ c.in-Some.is) c.bytes_at.ensures in
-    spot_and (spot_at c.args.place zone) s (λ s. size s.here < size (resized c.args.size s.here)) c.requires.2 (omega (arith, sizes.0, sizes.1, c.if-bytes-bytes_at.false))
+    let sizes = sizes-are c.args.place c.args.size c.in-Some.bytes c.bytes_at.result zone s c.requires.2 fixed
+    (sym c.phys.ensures ∙ c.in-Some.is) c.bytes_at.ensures in
+    spot_and (spot_at c.args.place zone) s (λ s. size s.here < size (resized c.args.size s.here)) c.requires.2
+    (omega (arith, sizes.0, sizes.1, c.if-bytes-bytes_at.false))
 
 pub returns-clause-zone : goal.returns-clause-zone
 returns-clause-zone g c =
     let zone = g.S.BlockStore.zone c.args.store.now in
     let s = c.requires.0 in
     let fixed = spot-passes (is_fixed c.args.place) zone s c.requires.1 in
-    let sizes = sizes-are c.args.place c.args.size c.in-Some.bytes c.bytes_at.result zone s c.requires.2 fixed (sym c.phys.ensures ∙ c.in-Some.is) c.bytes_at.ensures in
+    let sizes = sizes-are c.args.place c.args.size c.in-Some.bytes c.bytes_at.result zone s c.requires.2 fixed
+    (sym c.phys.ensures ∙ c.in-Some.is) c.bytes_at.ensures in
     let zone' = g.S.BlockStore.zone c.grow_in_place.new.store in
     let fits = phys-some c.args.size c.in-Some.bytes (sym c.phys.ensures ∙ c.in-Some.is) in
     fitted-done (is_fixed c.args.place) nothing c.args.size zone zone' c.grow_in_place.result fits.0
-    (grown-done (is_fixed c.args.place) nothing c.args.size c.args.place zone zone' c.grow_in_place.result s c.requires.1 c.requires.2 (stands c.args.place s.here fixed).0
+    (grown-done (is_fixed c.args.place) nothing c.args.size c.args.place zone zone' c.grow_in_place.result s
+    c.requires.1 c.requires.2 (stands c.args.place s.here fixed).0
     (omega (arith, sizes.0, sizes.1, c.if-bytes-bytes_at.false)) c.grow_in_place.ensures.zone)
 
 pub returns-clause-searches : goal.returns-clause-searches
@@ -56,7 +64,9 @@ returns-clause-searches g c =
     let zone = g.S.BlockStore.zone c.args.store.now in
     let s = c.requires.0 in
     let fixed = spot-passes (is_fixed c.args.place) zone s c.requires.1 in
-    let sizes = sizes-are c.args.place c.args.size c.in-Some.bytes c.bytes_at.result zone s c.requires.2 fixed (sym c.phys.ensures ∙ c.in-Some.is) c.bytes_at.ensures in
+    let sizes = sizes-are c.args.place c.args.size c.in-Some.bytes c.bytes_at.result zone s c.requires.2 fixed
+    (sym c.phys.ensures ∙ c.in-Some.is) c.bytes_at.ensures in
     let fits = phys-some c.args.size c.in-Some.bytes (sym c.phys.ensures ∙ c.in-Some.is) in
-    looks-still (is_fixed c.args.place) nothing c.args.size c.args.place zone c.grow_in_place.result s c.requires.1 c.requires.2 (stands c.args.place s.here fixed).0 fits.0
+    looks-still (is_fixed c.args.place) nothing c.args.size c.args.place zone c.grow_in_place.result s c.requires.1
+    c.requires.2 (stands c.args.place s.here fixed).0 fits.0
     (omega (arith, sizes.0, sizes.1, c.if-bytes-bytes_at.false)) c.grow_in_place.ensures.searches

@@ -14,7 +14,8 @@ returns-in_default g c =
     let f = c.in_ok-found.found in
     let is = slot_of-ok c.args.handle es f (sym c.slot_of.ensures ∙ c.in_ok-found.was) in
     look_up-by zone slots es c.args.handle f.number f.slot is.0 is.1 c.requires.apart (omega arith)
-    ∙ ap (λ o. ok_or (option_map (held f.number) (option_map (rename_spot (handle_number es) (pointer_number es)) o)) NIL_HANDLE) c.in_default.ensures
+    ∙ ap (λ o. ok_or (option_map (held f.number) (option_map (rename_spot (handle_number es) (pointer_number es)) o))
+    NIL_HANDLE) c.in_default.ensures
 
 pub returns : goal.returns
 returns g c =
@@ -26,9 +27,11 @@ returns g c =
     let there = c.in-Some.ensures in (
       there.0,
       look_up-by zone slots es c.args.handle f.number f.slot is.0 is.1 c.requires.apart (omega arith)
-          ∙ ap (λ o. ok_or (option_map (held f.number) (option_map (rename_spot (handle_number es) (pointer_number es)) o)) NIL_HANDLE) there.1,
+          ∙ ap (λ o. ok_or (option_map (held f.number) (option_map (rename_spot (handle_number es) (pointer_number es))
+          o)) NIL_HANDLE) there.1,
       there.1,
       there,
+      f.guarded,
       is.1,
       omega arith,
     )

@@ -15,11 +15,13 @@ returns-in_default-clause-moves g c =
     let P : Option Seat → Type 0 = λ o. FindsSeat c.args.bytes (purged k c.args.sparing zone) o in
     let none : P None = subst P c.in_default.is c.find_seat-found.ensures.found in
     packs-none rest rest (seat_moves c.args.bytes c.args.sparing zone) (omega arith) refl
-    (seat-at c.args.bytes k c.args.sparing zone c.find_seat-found.ensures.searches ∙ no-place c.args.bytes (purged k c.args.sparing zone) c.requires none)
+    (seat-at c.args.bytes k c.args.sparing zone c.find_seat-found.ensures.searches
+    ∙ no-place c.args.bytes (purged k c.args.sparing zone) c.requires none)
 
 pub returns-clause-moves : goal.returns-clause-moves
 returns-clause-moves g c =
     let zone = g.S.BlockStore.zone c.args.store.now in
     let rest = g.S.BlockStore.rest c.args.store.now in
     let k = c.find_seat-found.result.purges in
-    c.take_seat-place.ensures.moves ∙ ap (counted rest.moves) (sym (seat-at c.args.bytes k c.args.sparing zone c.find_seat-found.ensures.searches))
+    c.take_seat-place.ensures.moves ∙ ap (counted rest.moves)
+    (sym (seat-at c.args.bytes k c.args.sparing zone c.find_seat-found.ensures.searches))

@@ -18,7 +18,9 @@ use Rattle.heap_calls.proofs.search.take_seat.Goals.{After-settle}
 use Rattle.heap_calls.proofs.search.take_seat.Goals as goal
 
 -- the run that was settled
-settled : (g : Over) (c : After-settle g) → (r : RunSpot) × (run_spot (has_free c.args.bytes) (purged c.args.purges c.args.sparing (g.S.BlockStore.zone c.args.store.now)) ≡ Some r)
+settled : (g : Over) (c : After-settle g) → (r : RunSpot)
+    × (run_spot (has_free c.args.bytes) (purged c.args.purges c.args.sparing (g.S.BlockStore.zone c.args.store.now))
+    ≡ Some r)
     × (g.S.BlockStore.zone c.settle.new.self ≡ tidy (with_run settle r))
 settled g c =
     let zone = purged c.args.purges c.args.sparing (g.S.BlockStore.zone c.args.store.now) in
@@ -26,7 +28,9 @@ settled g c =
     let found : P (see.Run c.in-Run.run') = subst P c.in-Run.is c.requires.found in (
       found.1.0,
       found.1.1,
-      at_run c.in-Run.run' zone (g.S.BlockStore.zone c.purge.new.self) found.1.0 (λ r. g.S.BlockStore.zone c.settle.new.self ≡ tidy (with_run settle r)) c.purge.ensures.zone found.1.2 c.settle.ensures.zone,
+      at_run c.in-Run.run' zone (g.S.BlockStore.zone c.purge.new.self) found.1.0
+          (λ r. g.S.BlockStore.zone c.settle.new.self ≡ tidy (with_run settle r)) c.purge.ensures.zone found.1.2
+          c.settle.ensures.zone,
     )
 
 pub unreachable-requires : goal.unreachable-requires
@@ -38,7 +42,8 @@ unreachable-requires g c =
 
 pub returns-in-Free-clause-kept : goal.returns-in-Free-clause-kept
 returns-in-Free-clause-kept g c number none =
-    ap (has (is_relocatable number)) c.purge.ensures.zone ∙ none-purged (is_relocatable number) (λ n. refl) c.args.purges c.args.sparing (g.S.BlockStore.zone c.args.store.now) none
+    ap (has (is_relocatable number)) c.purge.ensures.zone ∙ none-purged (is_relocatable number) (λ n. refl)
+    c.args.purges c.args.sparing (g.S.BlockStore.zone c.args.store.now) none
 
 pub returns-in-Some-clause-kept : goal.returns-in-Some-clause-kept
 returns-in-Some-clause-kept g c number none =
@@ -46,11 +51,13 @@ returns-in-Some-clause-kept g c number none =
     let k = settled g (goal.at.returns-in-Some-clause-kept g c).After-settle in
     ap (has (is_relocatable number)) k.2
     ∙ none-settled (is_relocatable number) (λ n. refl) (has_free c.args.bytes) zone k.0 k.1
-    (none-purged (is_relocatable number) (λ n. refl) c.args.purges c.args.sparing (g.S.BlockStore.zone c.args.store.now) none)
+    (none-purged (is_relocatable number) (λ n. refl) c.args.purges c.args.sparing (g.S.BlockStore.zone c.args.store.now)
+    none)
 
 pub returns-in-Free-clause-fixed : goal.returns-in-Free-clause-fixed
 returns-in-Free-clause-fixed g c place =
-    ap (has (is_fixed place)) c.purge.ensures.zone ∙ fixed-purged c.args.purges c.args.sparing (g.S.BlockStore.zone c.args.store.now) place
+    ap (has (is_fixed place)) c.purge.ensures.zone ∙ fixed-purged c.args.purges c.args.sparing
+    (g.S.BlockStore.zone c.args.store.now) place
 
 pub returns-in-Some-clause-fixed : goal.returns-in-Some-clause-fixed
 returns-in-Some-clause-fixed g c place =
@@ -64,7 +71,8 @@ returns-in-Free-clause-moves g c =
     let zone = purged c.args.purges c.args.sparing (g.S.BlockStore.zone c.args.store.now) in
     let P : Seat → Type 0 = λ s. FindsSeat c.args.bytes zone (Some s) in
     let found : P (see.Free _) = subst P c.in-Free.is c.requires.found in
-    packs-none (g.S.BlockStore.rest c.args.store.now) (g.S.BlockStore.rest c.purge.new.self) (place_moves c.args.bytes zone) (omega arith) c.purge.ensures.rest.moves (at-free c.args.bytes _ zone found)
+    packs-none (g.S.BlockStore.rest c.args.store.now) (g.S.BlockStore.rest c.purge.new.self)
+    (place_moves c.args.bytes zone) (omega arith) c.purge.ensures.rest.moves (at-free c.args.bytes _ zone found)
 
 pub returns-in-Some-clause-moves : goal.returns-in-Some-clause-moves
 returns-in-Some-clause-moves g c =
@@ -74,5 +82,7 @@ returns-in-Some-clause-moves g c =
     let P : Seat → Type 0 = λ s. FindsSeat c.args.bytes zone (Some s) in
     let found : P (see.Run c.in-Run.run') = subst P c.in-Run.is c.requires.found in
     let r = found.1.0 in
-    let packed = at_run c.in-Run.run' zone (g.S.BlockStore.zone c.purge.new.self) r (λ r. IsRest (with_moves (falling r.run) rest1) rest2) c.purge.ensures.zone found.1.2 c.settle.ensures.rest in
-    packs-run (g.S.BlockStore.rest c.args.store.now) rest1 rest2 (falling r.run) (place_moves c.args.bytes zone) c.purge.ensures.rest.moves packed (at-packed c.args.bytes c.in-Run.run' zone found)
+    let packed = at_run c.in-Run.run' zone (g.S.BlockStore.zone c.purge.new.self) r
+    (λ r. IsRest (with_moves (falling r.run) rest1) rest2) c.purge.ensures.zone found.1.2 c.settle.ensures.rest in
+    packs-run (g.S.BlockStore.rest c.args.store.now) rest1 rest2 (falling r.run) (place_moves c.args.bytes zone)
+    c.purge.ensures.rest.moves packed (at-packed c.args.bytes c.in-Run.run' zone found)

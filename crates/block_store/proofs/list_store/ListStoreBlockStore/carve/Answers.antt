@@ -8,6 +8,24 @@ pub invariant_of-self : goal.invariant_of-self
 invariant_of-self c =
     let self = c.args.self.now in
     let slots = slots_of self.slots.items in
-    let lawful = lawful-carved c.fill.result slots self.bytes (length self.slots.items) (blocks_of self.blocks.items) (blocks_of c.fill.new.entries.items) c.args.place c.args.number c.args.size c.in_ok-content.content.items
-    (record { covered = self.covered; masters = self.masters; no_block = self.no_block; once = self.once; tidied = self.tidied; aligned = self.aligned; placed = self.placed }) c.in_ok-content.ensures c.requires.used c.requires.no_block c.requires.room c.fill.ensures.ok (on_err_weaker c.fill.result (ap blocks_of) c.fill.ensures.err) in
-    record { covered = lawful.covered; small = self.small; masters = lawful.masters; no_block = lawful.no_block; once = lawful.once; tidied = lawful.tidied; aligned = lawful.aligned; placed = lawful.placed }
+    let lawful = lawful-carved c.fill.result slots self.bytes (length self.slots.items) (blocks_of self.blocks.items)
+    (blocks_of c.fill.new.entries.items) c.args.place c.args.number c.args.size c.in_ok-content.content.items (record {
+      covered = self.covered;
+      masters = self.masters;
+      no_block = self.no_block;
+      once = self.once;
+      tidied = self.tidied;
+      aligned = self.aligned;
+      placed = self.placed;
+    }) c.in_ok-content.ensures c.requires.used c.requires.no_block c.requires.room c.fill.ensures.ok
+    (on_err_weaker c.fill.result (ap blocks_of) c.fill.ensures.err) in
+    record {
+      covered = lawful.covered;
+      small = self.small;
+      masters = lawful.masters;
+      no_block = lawful.no_block;
+      once = lawful.once;
+      tidied = lawful.tidied;
+      aligned = lawful.aligned;
+      placed = lawful.placed;
+    }

@@ -11,5 +11,7 @@ use Rattle.block_store.proofs.list_store.ListStoreBlockStore.find_free.Goals as 
 pub returns : goal.returns
 returns c =
     let zone = blocks_of c.args.self.now.blocks.items in
-    finds (is_room c.args.bytes) (purged c.args.purges c.args.sparing zone) c.find_room.result (apart-tidy (emptied c.args.purges (spared c.args.sparing) (opened c.args.sparing zone)))
-    (c.find_room.ensures ∙ ap (λ l. option_map (λ (s : Spot). sizes s.below) (spot (is_room c.args.bytes) (purged c.args.purges c.args.sparing (blocks_of l)))) c.deref.ensures.value)
+    finds (is_room c.args.bytes) (purged c.args.purges c.args.sparing zone) c.find_room.result
+    (apart-tidy (emptied c.args.purges (spared c.args.sparing) (opened c.args.sparing zone)))
+    (c.find_room.ensures ∙ ap (λ l. option_map (λ (s : Spot). sizes s.below)
+    (spot (is_room c.args.bytes) (purged c.args.purges c.args.sparing (blocks_of l)))) c.deref.ensures.value)

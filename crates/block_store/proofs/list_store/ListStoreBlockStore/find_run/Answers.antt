@@ -9,5 +9,6 @@ use Rattle.block_store.proofs.list_store.ListStoreBlockStore.find_run.Goals as g
 
 pub returns : goal.returns
 returns c =
-    finds_run (has_free c.args.bytes) (purged c.args.purges c.args.sparing (blocks_of c.args.self.now.blocks.items)) c.search_runs.result
-    (c.search_runs.ensures ∙ ap (λ l. option_map (λ (r : RunSpot). sizes r.below) (run_spot (has_free c.args.bytes) (purged c.args.purges c.args.sparing (blocks_of l)))) c.deref.ensures.value)
+    finds_run (has_free c.args.bytes) (purged c.args.purges c.args.sparing (blocks_of c.args.self.now.blocks.items))
+    c.search_runs.result (c.search_runs.ensures ∙ ap (λ l. option_map (λ (r : RunSpot). sizes r.below)
+    (run_spot (has_free c.args.bytes) (purged c.args.purges c.args.sparing (blocks_of l)))) c.deref.ensures.value)

@@ -16,7 +16,9 @@ invariant_of-self c =
       covered = c.args.self.now.covered;
       small = c.args.self.now.small;
       masters = length-set slots i slot_entry.Unused ∙ c.args.self.now.masters;
-      no_block = none-set (slots_of slots) (slots_of (slice_set slots i slot_entry.Unused)) i Unused bs (slots_of-set slots i slot_entry.Unused (within-used slots i c.requires.used)) c.requires.no_block c.args.self.now.no_block;
+      no_block = none-set (slots_of slots) (slots_of (slice_set slots i slot_entry.Unused)) i Unused bs
+          (slots_of-set slots i slot_entry.Unused (within-used slots i c.requires.used)) c.requires.no_block
+          c.args.self.now.no_block;
       once = c.args.self.now.once;
       tidied = c.args.self.now.tidied;
       aligned = c.args.self.now.aligned;

@@ -12,5 +12,7 @@ pub returns : goal.returns
 returns c =
     let zone = blocks_of c.args.self.now.blocks.items in
     let goes = may_go (spared c.args.sparing) in
-    finds goes (purged c.args.purges c.args.sparing zone) c.find_purgeable.result (apart-tidy (emptied c.args.purges (spared c.args.sparing) (opened c.args.sparing zone)))
-    (c.find_purgeable.ensures ∙ ap (λ l. option_map (λ (s : Spot). sizes s.below) (spot goes (purged c.args.purges c.args.sparing (blocks_of l)))) c.deref.ensures.value)
+    finds goes (purged c.args.purges c.args.sparing zone) c.find_purgeable.result
+    (apart-tidy (emptied c.args.purges (spared c.args.sparing) (opened c.args.sparing zone)))
+    (c.find_purgeable.ensures ∙ ap (λ l. option_map (λ (s : Spot). sizes s.below)
+    (spot goes (purged c.args.purges c.args.sparing (blocks_of l)))) c.deref.ensures.value)

@@ -10,4 +10,5 @@ use Rattle.block_store.proofs.list_store.ListStoreBlockStore.nth_run.Goals as go
 pub returns : goal.returns
 returns c =
     finds_nth c.args.index (blocks_of c.args.self.now.blocks.items) c.place_of_run.result
-    (c.place_of_run.ensures ∙ ap (λ l. option_map (λ (r : RunSpot). sizes r.below) (nth_run c.args.index (blocks_of l))) c.deref.ensures.value)
+    (c.place_of_run.ensures ∙ ap (λ l. option_map (λ (r : RunSpot). sizes r.below) (nth_run c.args.index (blocks_of l)))
+    c.deref.ensures.value)

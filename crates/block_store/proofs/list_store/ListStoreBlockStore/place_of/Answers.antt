@@ -11,4 +11,5 @@ pub returns : goal.returns
 returns c =
     let zone = blocks_of c.args.self.now.blocks.items in
     finds (is_relocatable c.args.number) zone c.find_slot.result (apart-tidied zone c.args.self.now.tidied)
-    (c.find_slot.ensures ∙ ap (λ l. option_map (λ (s : Spot). sizes s.below) (spot (is_relocatable c.args.number) (blocks_of l))) c.deref.ensures.value)
+    (c.find_slot.ensures ∙ ap (λ l. option_map (λ (s : Spot). sizes s.below)
+    (spot (is_relocatable c.args.number) (blocks_of l))) c.deref.ensures.value)

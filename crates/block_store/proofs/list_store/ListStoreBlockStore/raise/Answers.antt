@@ -7,6 +7,25 @@ use Rattle.block_store.proofs.list_store.ListStoreBlockStore.raise.Goals as goal
 pub invariant_of-self : goal.invariant_of-self
 invariant_of-self c =
     let self = c.args.self.now in
-    let lawful = lawful-raised c.raise_run.result (slots_of self.slots.items) self.bytes (length self.slots.items) (blocks_of self.blocks.items) (blocks_of c.raise_run.new.entries.items) c.args.run c.args.bytes c.requires.even
-    (record { covered = self.covered; masters = self.masters; no_block = self.no_block; once = self.once; tidied = self.tidied; aligned = self.aligned; placed = self.placed }) c.requires.run c.raise_run.ensures.ok (on_err_weaker c.raise_run.result (ap blocks_of) c.raise_run.ensures.err) in
-    record { covered = lawful.covered; small = self.small; masters = lawful.masters; no_block = lawful.no_block; once = lawful.once; tidied = lawful.tidied; aligned = lawful.aligned; placed = lawful.placed }
+    let lawful = lawful-raised c.raise_run.result (slots_of self.slots.items) self.bytes (length self.slots.items)
+    (blocks_of self.blocks.items) (blocks_of c.raise_run.new.entries.items) c.args.run c.args.bytes c.requires.even
+    (record {
+      covered = self.covered;
+      masters = self.masters;
+      no_block = self.no_block;
+      once = self.once;
+      tidied = self.tidied;
+      aligned = self.aligned;
+      placed = self.placed;
+    }) c.requires.run c.raise_run.ensures.ok
+    (on_err_weaker c.raise_run.result (ap blocks_of) c.raise_run.ensures.err) in
+    record {
+      covered = lawful.covered;
+      small = self.small;
+      masters = lawful.masters;
+      no_block = lawful.no_block;
+      once = lawful.once;
+      tidied = lawful.tidied;
+      aligned = lawful.aligned;
+      placed = lawful.placed;
+    }

@@ -27,9 +27,12 @@ invariant_of-self c =
     record {
       covered = ap sizes after ∙ total-tidy size (λ n m. refl) (freed t bs) ∙ size-freed t bs ∙ c.args.self.now.covered;
       small = c.args.self.now.small;
-      masters = c.args.self.now.masters ∙ ap (λ n. 64 * n) (sym (ap (count is_masters) after ∙ masters-released c.args.number bs));
-      no_block = λ k unused. ap (has (is_relocatable k)) after ∙ released-none k t bs (c.args.self.now.no_block k unused);
-      once = λ k. subst (λ l. count (is_relocatable k) l ≤ 1) (sym after) (released-once k t bs (c.args.self.now.once k));
+      masters = c.args.self.now.masters ∙ ap (λ n. 64 * n)
+          (sym (ap (count is_masters) after ∙ masters-released c.args.number bs));
+      no_block = λ k unused. ap (has (is_relocatable k)) after
+          ∙ released-none k t bs (c.args.self.now.no_block k unused);
+      once = λ k. subst (λ l. count (is_relocatable k) l ≤ 1) (sym after)
+          (released-once k t bs (c.args.self.now.once k));
       tidied = ap tidy after ∙ tidy-tidy (freed t bs) ∙ sym after;
       aligned = subst Aligned (sym after) (aligned-tidy (freed t bs) (aligned-freed t bs c.args.self.now.aligned));
       placed = subst (Placed 0) (sym after) (placed-tidy 0 (freed t bs) (placed-freed 0 t bs c.args.self.now.placed));

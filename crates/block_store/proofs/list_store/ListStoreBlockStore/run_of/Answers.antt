@@ -13,5 +13,7 @@ pub returns : goal.returns
 returns c =
     let zone = purged c.args.purges c.args.sparing (blocks_of c.args.self.now.blocks.items) in
     finds_run (λ run. has (is_relocatable c.args.number) run && has_free c.args.bytes run) zone c.search_runs.result
-    (c.search_runs.ensures ∙ ap (λ l. option_map (λ (r : RunSpot). sizes r.below) (run_spot (suits (Some c.args.number) c.args.bytes) (purged c.args.purges c.args.sparing (blocks_of l)))) c.deref.ensures.value
-    ∙ ap (λ passes. option_map (λ (r : RunSpot). sizes r.below) (run_spot passes zone)) (suits-slot c.args.number c.args.bytes))
+    (c.search_runs.ensures ∙ ap (λ l. option_map (λ (r : RunSpot). sizes r.below)
+    (run_spot (suits (Some c.args.number) c.args.bytes) (purged c.args.purges c.args.sparing (blocks_of l))))
+    c.deref.ensures.value ∙ ap (λ passes. option_map (λ (r : RunSpot). sizes r.below) (run_spot passes zone))
+    (suits-slot c.args.number c.args.bytes))

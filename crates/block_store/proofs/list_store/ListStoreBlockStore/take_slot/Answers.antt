@@ -10,7 +10,8 @@ use Rattle.block_store.proofs.list_store.ListStoreBlockStore.take_slot.Goals.{In
 use Rattle.block_store.proofs.list_store.ListStoreBlockStore.take_slot.Goals as goal
 
 -- the slot that was found
-found : (c : In_ok-i) → (c.in_ok-i.i < length c.args.self.now.slots.items) × (slots_of c.args.self.now.slots.items c.in_ok-i.i ≡ Unused)
+found : (c : In_ok-i) → (c.in_ok-i.i < length c.args.self.now.slots.items)
+    × (slots_of c.args.self.now.slots.items c.in_ok-i.i ≡ Unused)
 found c =
     let P : List SlotEntry → Type 0 = λ l. (c.in_ok-i.i < length l) × (slots_of l c.in_ok-i.i ≡ Unused) in
     subst P c.deref.ensures.value c.in_ok-i.ensures
@@ -25,7 +26,9 @@ invariant_of-self c =
       covered = c.args.self.now.covered;
       small = c.args.self.now.small;
       masters = length-set slots i (slot_entry.Used false) ∙ c.args.self.now.masters;
-      no_block = none-set (slots_of slots) (slots_of (slice_set slots i (slot_entry.Used false))) i (Used false) bs (slots_of-set slots i (slot_entry.Used false) found.0) (c.args.self.now.no_block i (ap is_used found.1)) c.args.self.now.no_block;
+      no_block = none-set (slots_of slots) (slots_of (slice_set slots i (slot_entry.Used false))) i (Used false) bs
+          (slots_of-set slots i (slot_entry.Used false) found.0) (c.args.self.now.no_block i (ap is_used found.1))
+          c.args.self.now.no_block;
       once = c.args.self.now.once;
       tidied = c.args.self.now.tidied;
       aligned = c.args.self.now.aligned;

@@ -6,4 +6,8 @@ pub returns-clause-few : goal.returns-clause-few
 returns-clause-few g c =
     let look = c.args.self.now in
     let zone = g.S.BlockStore.zone c.args.store.now in
-    omega (arith, most-above look.place look.sparing zone look.most c.requires, g.met.S.BlockStore.small c.args.store.now)
+    omega (
+      arith,
+      most-above look.place look.sparing zone look.most c.requires,
+      g.met.S.BlockStore.small c.args.store.now,
+    )

@@ -12,16 +12,24 @@ use Rattle.heap_calls.proofs.heap.Heap.add_masters.Goals as goal
 pub invariant_of-self : goal.invariant_of-self
 invariant_of-self g c =
     let a = c.self.inside in
-    agrees-more (g.S.BlockStore.zone c.make_masters.new.store) (g.S.BlockStore.rest a.store) (g.S.BlockStore.rest c.make_masters.new.store) a.names.items c.self.invariant c.make_masters.ensures.fixed c.in_err-room.ensures.kept
+    agrees-more (g.S.BlockStore.zone c.make_masters.new.store) (g.S.BlockStore.rest a.store)
+    (g.S.BlockStore.rest c.make_masters.new.store) a.names.items c.self.invariant c.make_masters.ensures.fixed
+    c.in_err-room.ensures.kept
 
 pub returns-in_err-room-clause-kept : goal.returns-in_err-room-clause-kept
 returns-in_err-room-clause-kept g c host =
     let a = c.self.inside in
-    kept-still c.args.self.now (g.S.BlockStore.zone a.store) (g.S.BlockStore.zone c.make_masters.new.store) (g.S.BlockStore.rest a.store) (g.S.BlockStore.rest c.make_masters.new.store)
-    a.names.items a.names.items a.log c.self.view_is refl c.self.invariant c.in_err-room.ensures.kept c.make_masters.ensures.moves
+    kept-still c.args.self.now (g.S.BlockStore.zone a.store) (g.S.BlockStore.zone c.make_masters.new.store)
+    (g.S.BlockStore.rest a.store) (g.S.BlockStore.rest c.make_masters.new.store)
+    a.names.items a.names.items a.log c.self.view_is refl c.self.invariant c.in_err-room.ensures.kept
+    c.make_masters.ensures.moves
 
-made : (g : Over) (c : In_ok-room g) → Ends add_masters (g.S.BlockStore.zone c.self.inside.store) (g.S.BlockStore.rest c.self.inside.store) c.self.inside.names.items (served_answer (is_some c.in_ok-room.room.place)) (g.S.BlockStore.zone c.make_masters.new.store) (g.S.BlockStore.rest c.make_masters.new.store) c.self.inside.names.items
-made g c = masters-ends _ _ _ (g.met.S.BlockStore.masters c.self.inside.store) c.self.invariant _ _ c.make_masters.ensures.fixed c.in_ok-room.room.place c.in_ok-room.ensures.made
+made : (g : Over) (c : In_ok-room g) → Ends add_masters (g.S.BlockStore.zone c.self.inside.store)
+    (g.S.BlockStore.rest c.self.inside.store) c.self.inside.names.items
+    (served_answer (is_some c.in_ok-room.room.place)) (g.S.BlockStore.zone c.make_masters.new.store)
+    (g.S.BlockStore.rest c.make_masters.new.store) c.self.inside.names.items
+made g c = masters-ends _ _ _ (g.met.S.BlockStore.masters c.self.inside.store) c.self.invariant _ _
+    c.make_masters.ensures.fixed c.in_ok-room.room.place c.in_ok-room.ensures.made
 
 pub invariant_of-self-2 : goal.invariant_of-self-2
 invariant_of-self-2 g c = (made g (goal.at.invariant_of-self-2 g c).In_ok-room).agrees
@@ -30,5 +38,9 @@ pub returns-clause-answer : goal.returns-clause-answer
 returns-clause-answer g c =
     let a = c.self.inside in
     rw (c.account.ensures.reply, c.account.ensures.counted, c.is_some.ensures)
-    (served-looking add_masters more_masters_searches c.args.self.now (g.S.BlockStore.zone a.store) _ (g.S.BlockStore.rest a.store) (g.S.BlockStore.rest c.make_masters.new.store) a.names.items a.log (is_some c.in_ok-room.room.place) c.self.view_is
-    (made g (goal.at.returns-clause-answer g c).In_ok-room) c.in_ok-room.room.searches (c.in_ok-room.ensures.searches ∙ sym (masters_searches-is _ _ _ (g.met.S.BlockStore.masters a.store) c.self.invariant)) c.make_masters.ensures.moves)
+    (served-looking add_masters more_masters_searches c.args.self.now (g.S.BlockStore.zone a.store) _
+    (g.S.BlockStore.rest a.store) (g.S.BlockStore.rest c.make_masters.new.store) a.names.items a.log
+    (is_some c.in_ok-room.room.place) c.self.view_is
+    (made g (goal.at.returns-clause-answer g c).In_ok-room) c.in_ok-room.room.searches
+    (c.in_ok-room.ensures.searches ∙ sym (masters_searches-is _ _ _ (g.met.S.BlockStore.masters a.store)
+    c.self.invariant)) c.make_masters.ensures.moves)

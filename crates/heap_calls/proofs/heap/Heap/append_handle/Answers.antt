@@ -13,7 +13,8 @@ use Rattle.heap_calls.proofs.heap.Heap.append_handle.Goals.{In_ok-source}
 use Rattle.heap_calls.proofs.heap.Heap.append_handle.Goals as goal
 
 -- where the bytes come from
-source : (g : Over) (c : In_ok-source g) → Reaches (g.S.BlockStore.zone c.self.inside.store) (g.S.BlockStore.rest c.self.inside.store).slots c.self.inside.names.items c.args.from (Ok c.in_ok-source.source)
+source : (g : Over) (c : In_ok-source g) → Reaches (g.S.BlockStore.zone c.self.inside.store)
+    (g.S.BlockStore.rest c.self.inside.store).slots c.self.inside.names.items c.args.from (Ok c.in_ok-source.source)
 source g c = reached_in _ _ _ _ c.args.from (Ok c.in_ok-source.source) c.deref.ensures.value c.in_ok-source.ensures
 
 pub returns-in_err-source-clause-answer : goal.returns-in_err-source-clause-answer
@@ -21,8 +22,11 @@ returns-in_err-source-clause-answer g c =
     let p = err_from_is_err_and c.from_residual.result c.from_residual.ensures.1 in
     let a = c.self.inside in
     rw (p.1, p.2)
-    (nothing-grown c.args.self.now _ (g.S.BlockStore.rest a.store) a.names.items a.log c.self.view_is (hand_and_hand c.args.from c.args.to) (hand_and_hand_searches c.args.from c.args.to) (hand_and_hand_moves c.args.from c.args.to) c.in_err-source.field-0.0
-    c.args.from _ c.deref.ensures.value c.in_err-source.ensures (hand-none c.args.from c.args.to _) (omega arith) (omega arith))
+    (nothing-grown c.args.self.now _ (g.S.BlockStore.rest a.store) a.names.items a.log c.self.view_is
+    (hand_and_hand c.args.from c.args.to) (hand_and_hand_searches c.args.from c.args.to)
+    (hand_and_hand_moves c.args.from c.args.to) c.in_err-source.field-0.0
+    c.args.from _ c.deref.ensures.value c.in_err-source.ensures (hand-none c.args.from c.args.to _) (omega arith)
+    (omega arith))
 
 pub invariant_of-self : goal.invariant_of-self
 invariant_of-self g c = agrees-kept _ _ _ _ _ c.self.invariant c.append_block.ensures.fixed c.append_block.ensures.rest
@@ -33,19 +37,27 @@ returns-in_err-held-clause-answer g c =
     let p = err_from_is_err_and c.from_residual-in_err-held.result c.from_residual-in_err-held.ensures.1 in
     let a = c.self.inside in
     rw (p.1, p.2)
-    (nothing-grown c.args.self.now _ (g.S.BlockStore.rest a.store) a.names.items a.log c.self.view_is (hand_and_hand c.args.from c.args.to) (hand_and_hand_searches c.args.from c.args.to) (hand_and_hand_moves c.args.from c.args.to) c.in_err-held.field-0.0
-    c.args.to _ c.deref-2.ensures.value c.in_err-held.ensures (λ code. hand-nowhere c.args.from c.args.to _ _ code from.1) (omega arith) (omega arith))
+    (nothing-grown c.args.self.now _ (g.S.BlockStore.rest a.store) a.names.items a.log c.self.view_is
+    (hand_and_hand c.args.from c.args.to) (hand_and_hand_searches c.args.from c.args.to)
+    (hand_and_hand_moves c.args.from c.args.to) c.in_err-held.field-0.0
+    c.args.to _ c.deref-2.ensures.value c.in_err-held.ensures
+    (λ code. hand-nowhere c.args.from c.args.to _ _ code from.1) (omega arith) (omega arith))
 
 pub returns-clause-answer : goal.returns-clause-answer
 returns-clause-answer g c =
     let a = c.self.inside in
     let rest = g.S.BlockStore.rest a.store in
     let from = source g (goal.at.returns-clause-answer g c).In_ok-source in
-    let to = reached_in (g.S.BlockStore.zone a.store) rest.slots a.names.items _ c.args.to (Ok c.in_ok-held.held) c.deref-2.ensures.value c.in_ok-held.ensures in
-    let tells = hand-tells _ rest _ c.self.invariant c.args.from c.args.to c.in_ok-source.source c.in_ok-held.held from to c.length_at-more.result c.length_at-more.ensures.is in
+    let to = reached_in (g.S.BlockStore.zone a.store) rest.slots a.names.items _ c.args.to (Ok c.in_ok-held.held)
+    c.deref-2.ensures.value c.in_ok-held.ensures in
+    let tells = hand-tells _ rest _ c.self.invariant c.args.from c.args.to c.in_ok-source.source c.in_ok-held.held from
+    to c.length_at-more.result c.length_at-more.ensures.is in
     rw (c.account.ensures.reply, c.account.ensures.counted)
     (grown-done c.args.self.now _ rest _ _ c.self.view_is _ _ _ _ _ _ tells
-    _ (g.S.BlockStore.rest c.append_block.new.store) c.in_ok-grown.ensures.rest c.in_ok-grown.grown.done c.in_ok-grown.grown.searches c.in_ok-grown.ensures.searches c.in_ok-grown.ensures.zone c.in_ok-grown.ensures.full c.append_block.ensures.moves)
+    _ (g.S.BlockStore.rest c.append_block.new.store) c.in_ok-grown.ensures.rest c.in_ok-grown.grown.done
+    c.in_ok-grown.grown.searches c.in_ok-grown.ensures.searches c.in_ok-grown.ensures.zone
+    c.in_ok-grown.ensures.full c.append_block.ensures.moves)
 
 pub invariant_of-self-2 : goal.invariant_of-self-2
-invariant_of-self-2 g c = agrees-kept _ _ _ _ _ c.self.invariant c.append_block.ensures.fixed c.append_block.ensures.rest
+invariant_of-self-2 g c = agrees-kept _ _ _ _ _ c.self.invariant c.append_block.ensures.fixed
+    c.append_block.ensures.rest

@@ -15,8 +15,11 @@ returns-in_err-held-clause-answer g c =
     let a = c.self.inside in
     let x = c.args.bytes.now in
     rw (p.1, p.2)
-    (nothing-grown c.args.self.now _ (g.S.BlockStore.rest a.store) a.names.items a.log c.self.view_is (pointer_and_hand c.args.handle x) (pointer_and_hand_searches c.args.handle x) (pointer_and_hand_moves c.args.handle x) c.in_err-held.field-0.0
-    c.args.handle _ c.deref.ensures.value c.in_err-held.ensures (slice-none c.args.handle x _) (omega arith) (omega arith))
+    (nothing-grown c.args.self.now _ (g.S.BlockStore.rest a.store) a.names.items a.log c.self.view_is
+    (pointer_and_hand c.args.handle x) (pointer_and_hand_searches c.args.handle x)
+    (pointer_and_hand_moves c.args.handle x) c.in_err-held.field-0.0
+    c.args.handle _ c.deref.ensures.value c.in_err-held.ensures (slice-none c.args.handle x _) (omega arith)
+    (omega arith))
 
 pub invariant_of-self : goal.invariant_of-self
 invariant_of-self g c = agrees-kept _ _ _ _ _ c.self.invariant c.append_bytes.ensures.fixed c.append_bytes.ensures.rest
@@ -26,10 +29,15 @@ returns-clause-answer g c =
     let a = c.self.inside in
     let rest = g.S.BlockStore.rest a.store in
     let held = c.in_ok-held.held in
-    let there = reached_in (g.S.BlockStore.zone a.store) rest.slots a.names.items _ c.args.handle (Ok held) c.deref.ensures.value c.in_ok-held.ensures in
+    let there = reached_in (g.S.BlockStore.zone a.store) rest.slots a.names.items _ c.args.handle (Ok held)
+    c.deref.ensures.value c.in_ok-held.ensures in
     rw (c.account.ensures.reply, c.account.ensures.counted)
-    (grown-done c.args.self.now _ rest _ _ c.self.view_is _ _ _ _ _ _ (slice-tells _ rest _ c.self.invariant c.args.handle held there c.args.bytes.now)
-    _ (g.S.BlockStore.rest c.append_bytes.new.store) c.in_ok-grown.ensures.rest c.in_ok-grown.grown.done c.in_ok-grown.grown.searches c.in_ok-grown.ensures.searches c.in_ok-grown.ensures.zone c.in_ok-grown.ensures.full c.append_bytes.ensures.moves)
+    (grown-done c.args.self.now _ rest _ _ c.self.view_is _ _ _ _ _ _
+    (slice-tells _ rest _ c.self.invariant c.args.handle held there c.args.bytes.now)
+    _ (g.S.BlockStore.rest c.append_bytes.new.store) c.in_ok-grown.ensures.rest c.in_ok-grown.grown.done
+    c.in_ok-grown.grown.searches c.in_ok-grown.ensures.searches c.in_ok-grown.ensures.zone
+    c.in_ok-grown.ensures.full c.append_bytes.ensures.moves)
 
 pub invariant_of-self-2 : goal.invariant_of-self-2
-invariant_of-self-2 g c = agrees-kept _ _ _ _ _ c.self.invariant c.append_bytes.ensures.fixed c.append_bytes.ensures.rest
+invariant_of-self-2 g c = agrees-kept _ _ _ _ _ c.self.invariant c.append_bytes.ensures.fixed
+    c.append_bytes.ensures.rest

@@ -11,12 +11,17 @@ pub returns-in_err-place-clause-answer : goal.returns-in_err-place-clause-answer
 returns-in_err-place-clause-answer g c =
     let p = err_from_is_err_and c.from_residual.result c.from_residual.ensures.1 in
     let a = c.self.inside in
-    let found = found_by (block_named c.args.name) (g.S.BlockStore.zone a.store) (g.S.BlockStore.rest a.store).slots a.names.items _ (Err c.in_err-place.field-0.0) c.deref.ensures.value c.in_err-place.ensures in
-    rw (p.1, p.2) (refused_by (block_named c.args.name) c.in_err-place.field-0.0 (g.S.BlockStore.zone a.store) (g.S.BlockStore.rest a.store) a.names.items a.log c.args.self.now c.self.view_is found (λ s k. (Ok (sizes k.at.below + 16), s)))
+    let found = found_by (block_named c.args.name) (g.S.BlockStore.zone a.store) (g.S.BlockStore.rest a.store).slots
+    a.names.items _ (Err c.in_err-place.field-0.0) c.deref.ensures.value c.in_err-place.ensures in
+    rw (p.1, p.2) (refused_by (block_named c.args.name) c.in_err-place.field-0.0 (g.S.BlockStore.zone a.store)
+    (g.S.BlockStore.rest a.store) a.names.items a.log c.args.self.now c.self.view_is found
+    (λ s k. (Ok (sizes k.at.below + 16), s)))
 
 pub returns-clause-answer : goal.returns-clause-answer
 returns-clause-answer g c =
     let a = c.self.inside in
-    let found = found_by (block_named c.args.name) (g.S.BlockStore.zone a.store) (g.S.BlockStore.rest a.store).slots a.names.items _ (Ok c.in_ok-place.place) c.deref.ensures.value c.in_ok-place.ensures in
-    on_held (block_named c.args.name) (g.S.BlockStore.zone a.store) (g.S.BlockStore.rest a.store) a.names.items a.log c.args.self.now _ c.self.view_is found.2 (λ s k. (Ok (sizes k.at.below + 16), s))
+    let found = found_by (block_named c.args.name) (g.S.BlockStore.zone a.store) (g.S.BlockStore.rest a.store).slots
+    a.names.items _ (Ok c.in_ok-place.place) c.deref.ensures.value c.in_ok-place.ensures in
+    on_held (block_named c.args.name) (g.S.BlockStore.zone a.store) (g.S.BlockStore.rest a.store) a.names.items a.log
+    c.args.self.now _ c.self.view_is found.2 (λ s k. (Ok (sizes k.at.below + 16), s))
     ∙ ap (λ n. (Ok (n + 16), c.args.self.now)) (sizes-rename _ _ found.1.below ∙ found.4)

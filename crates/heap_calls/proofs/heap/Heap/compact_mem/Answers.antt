@@ -19,7 +19,13 @@ use Rattle.heap_calls.proofs.heap.Heap.compact_mem.Goals as goal
 pub overflow_add-stretches : goal.overflow_add-stretches
 overflow_add-stretches g c =
     let zone = g.S.BlockStore.zone c.self.inside.store in
-    omega (arith, c.compact-stretches.ensures.runs, stretches-le (runs_settled c.phys.result zone) (runs zone), runs_settled-few c.phys.result zone, g.met.S.BlockStore.small c.self.inside.store)
+    omega (
+      arith,
+      c.compact-stretches.ensures.runs,
+      stretches-le (runs_settled c.phys.result zone) (runs zone),
+      runs_settled-few c.phys.result zone,
+      g.met.S.BlockStore.small c.self.inside.store,
+    )
 
 pub returns : goal.returns
 returns g c =
@@ -31,15 +37,23 @@ returns g c =
     let es = a.names.items in
     let searches : compact_mem_searches c.args.size c.args.self.now.heap ≡ c.compact-stretches.result + 1 =
     ap (λ (m : Memory). compact_mem_searches c.args.size m.heap) (sym c.self.view_is)
-    ∙ ap (λ k. k + 1) (settled_stretches-rename (handle_number es) (pointer_number es) _ zone ∙ ap (λ p. stretches (runs_settled p zone) (runs zone)) (sym c.phys.ensures) ∙ sym c.compact-stretches.ensures.runs) in
-    let moves : compact_mem_moves c.args.size c.args.self.now.heap ≡ falls (runs_settled c.phys.result zone) (runs zone) =
+    ∙ ap (λ k. k + 1) (settled_stretches-rename (handle_number es) (pointer_number es) _ zone
+    ∙ ap (λ p. stretches (runs_settled p zone) (runs zone)) (sym c.phys.ensures)
+    ∙ sym c.compact-stretches.ensures.runs) in
+    let moves : compact_mem_moves c.args.size c.args.self.now.heap ≡ falls (runs_settled c.phys.result zone)
+    (runs zone) =
     ap (λ (m : Memory). compact_mem_moves c.args.size m.heap) (sym c.self.view_is)
-    ∙ settled_falls-rename (handle_number es) (pointer_number es) _ zone ∙ ap (λ p. falls (runs_settled p zone) (runs zone)) (sym c.phys.ensures) in
+    ∙ settled_falls-rename (handle_number es) (pointer_number es) _ zone
+    ∙ ap (λ p. falls (runs_settled p zone) (runs zone)) (sym c.phys.ensures) in
     record {
       answer = moving-done _ _ _ (Ok c.saturating_sub-most.result) zone' rest rest' es c.count.new.self
-          (searching-done _ _ (noting (compact_mem c.args.size) c.args.self.now) (Ok c.saturating_sub-most.result) (memory_of zone' (unmoved rest rest') es (record a.log { code = NO_ERR })) (memory_of zone' (unmoved rest rest') es c.count.new.self)
-          (compact_mem-done c.args.self.now c.args.size zone zone' rest (unmoved rest rest') es a.log c.largest_free.result c.saturating_sub-most.result
-          c.self.view_is (c.compact-stretches.ensures.zone ∙ ap (λ p. compacted p zone) c.phys.ensures) (unmoved-is rest rest' c.compact-stretches.ensures.rest) c.largest_free.ensures c.saturating_sub-most.ensures)
+          (searching-done _ _ (noting (compact_mem c.args.size) c.args.self.now) (Ok c.saturating_sub-most.result)
+          (memory_of zone' (unmoved rest rest') es (record a.log { code = NO_ERR }))
+          (memory_of zone' (unmoved rest rest') es c.count.new.self)
+          (compact_mem-done c.args.self.now c.args.size zone zone' rest (unmoved rest rest') es a.log
+          c.largest_free.result c.saturating_sub-most.result
+          c.self.view_is (c.compact-stretches.ensures.zone ∙ ap (λ p. compacted p zone) c.phys.ensures)
+          (unmoved-is rest rest' c.compact-stretches.ensures.rest) c.largest_free.ensures c.saturating_sub-most.ensures)
           searches (ap (memory_of zone' (unmoved rest rest') es) c.count.ensures))
           moves c.compact-stretches.ensures.moves;
     }
@@ -49,5 +63,7 @@ invariant_of-self g c =
     let a = c.self.inside in
     let zone = g.S.BlockStore.zone a.store in
     let zone' = g.S.BlockStore.zone c.compact-stretches.new.store in
-    agrees-kept zone zone' (g.S.BlockStore.rest a.store) (g.S.BlockStore.rest c.compact-stretches.new.store) a.names.items c.self.invariant
-    (fixed-then zone (compacted c.phys.result zone) zone' (fixed-settled (runs_settled c.phys.result zone) zone) (fixed-same (compacted c.phys.result zone) zone' c.compact-stretches.ensures.zone)) c.compact-stretches.ensures.rest
+    agrees-kept zone zone' (g.S.BlockStore.rest a.store) (g.S.BlockStore.rest c.compact-stretches.new.store)
+    a.names.items c.self.invariant
+    (fixed-then zone (compacted c.phys.result zone) zone' (fixed-settled (runs_settled c.phys.result zone) zone)
+    (fixed-same (compacted c.phys.result zone) zone' c.compact-stretches.ensures.zone)) c.compact-stretches.ensures.rest

@@ -7,8 +7,10 @@ use Rattle.heap_calls.specs.Searches.{hand_to_hand_searches}
 use Rattle.heap_calls.specs.Moves.{hand_to_hand_moves}
 use Rattle.heap_calls.proofs.Numbering.Answering.{at_place}
 use Rattle.heap_calls.proofs.NewBlocks.NewHandles.{agrees-more, kept-memory}
-use Rattle.heap_calls.proofs.NewBlocks.CopiedHandles.{copy-emptied, copy-not_found, slot-in, source-few, not_found-still}
-use Rattle.heap_calls.proofs.NewBlocks.Naming.{Names, Copied, copy-names, copied_searches-is, copied_moves-is, named-packing}
+use Rattle.heap_calls.proofs.NewBlocks.CopiedHandles.{copy-emptied, copy-not_found, slot-in, source-few}
+use Rattle.heap_calls.proofs.NewBlocks.CopiedHandles.{not_found-still}
+use Rattle.heap_calls.proofs.NewBlocks.Naming.{Names, Copied, copy-names, copied_searches-is, copied_moves-is}
+use Rattle.heap_calls.proofs.NewBlocks.Naming.{named-packing}
 use Rattle.heap_calls.proofs.Room.MoveCounts.{not-moved}
 use Rattle.heap_calls.proofs.heap.Heap.copy_handle.Given.{Over}
 use Rattle.heap_calls.proofs.heap.Heap.copy_handle.Goals.{After-bytes, In_ok-found, In_ok-made}
@@ -20,15 +22,22 @@ returns-in_err-found-clause-answer g c =
     let a = c.self.inside in
     let fits : Fits w64 a.log.searches = search rules in
     rw (p.1, p.2)
-    (not-moved _ _ c.in_err-found.field-0.0 c.args.self.now (g.S.BlockStore.zone a.store) (g.S.BlockStore.rest a.store) a.names.items a.log c.self.view_is
-    (copy-not_found c.args.self.now (g.S.BlockStore.zone a.store) (g.S.BlockStore.rest a.store) a.names.items c.deref.result.now a.log c.args.handle c.in_err-found.field-0.0 c.self.view_is (omega (arith, fits)) c.deref.ensures.value
+    (not-moved _ _ c.in_err-found.field-0.0 c.args.self.now (g.S.BlockStore.zone a.store) (g.S.BlockStore.rest a.store)
+    a.names.items a.log c.self.view_is
+    (copy-not_found c.args.self.now (g.S.BlockStore.zone a.store) (g.S.BlockStore.rest a.store) a.names.items
+    c.deref.result.now a.log c.args.handle c.in_err-found.field-0.0 c.self.view_is (omega (arith, fits))
+    c.deref.ensures.value
     (sym c.slot_of.ensures ∙ c.in_err-found.was))
-    (not_found-still c.args.self.now (g.S.BlockStore.zone a.store) (g.S.BlockStore.rest a.store) a.names.items c.deref.result.now a.log c.args.handle c.in_err-found.field-0.0 c.self.view_is c.deref.ensures.value
+    (not_found-still c.args.self.now (g.S.BlockStore.zone a.store) (g.S.BlockStore.rest a.store) a.names.items
+    c.deref.result.now a.log c.args.handle c.in_err-found.field-0.0 c.self.view_is c.deref.ensures.value
     (sym c.slot_of.ensures ∙ c.in_err-found.was)) (omega arith))
 
 -- the handle's entry
-entry : (g : Over) (c : In_ok-found g) → (c.args.handle ≡ Some c.in_ok-found.found.number) × (slice_get c.self.inside.names.items c.in_ok-found.found.number ≡ Some (Handle c.in_ok-found.found.slot))
-entry g c = slot-in c.self.inside.names.items c.deref.result.now c.args.handle c.in_ok-found.found c.deref.ensures.value (sym c.slot_of.ensures ∙ c.in_ok-found.was)
+entry : (g : Over) (c : In_ok-found g) → (c.args.handle ≡ Some c.in_ok-found.found.number)
+    × (slice_get c.self.inside.names.items c.in_ok-found.found.number
+    ≡ Some (Handle c.in_ok-found.found.slot c.in_ok-found.found.guarded))
+entry g c = slot-in c.self.inside.names.items c.deref.result.now c.args.handle c.in_ok-found.found c.deref.ensures.value
+    (sym c.slot_of.ensures ∙ c.in_ok-found.was)
 
 pub returns-in_default-clause-answer : goal.returns-in_default-clause-answer
 returns-in_default-clause-answer g c =
@@ -36,16 +45,20 @@ returns-in_default-clause-answer g c =
     let f = c.in_ok-found.found in
     let is = entry g (goal.at.returns-in_default-clause-answer g c).In_ok-found in
     let fits : Fits w64 a.log.searches = search rules in
-    copy-emptied c.args.self.now (g.S.BlockStore.zone a.store) (g.S.BlockStore.rest a.store) a.names.items a.log c.args.handle f.number f.slot c.self.view_is (omega (arith, fits)) (omega arith) is.0 is.1 c.self.invariant (omega arith) c.in_default.ensures
+    copy-emptied c.args.self.now (g.S.BlockStore.zone a.store) (g.S.BlockStore.rest a.store) a.names.items a.log
+    c.args.handle f.number f.slot c.self.view_is (omega (arith, fits)) (omega arith) is.0 is.1 c.self.invariant
+    (omega arith) c.in_default.ensures
 
 -- what is copied
-source : (g : Over) (c : After-bytes g) → Copied (g.S.BlockStore.zone c.self.inside.store) c.self.inside.names.items c.args.handle c.in_ok-found.found (length c.bytes.result.now)
+source : (g : Over) (c : After-bytes g) → Copied (g.S.BlockStore.zone c.self.inside.store) c.self.inside.names.items
+    c.args.handle c.in_ok-found.found (length c.bytes.result.now)
 source g c =
     let store = c.self.inside.store in
     let there = c.in-Some.ensures in
     let f = c.in_ok-found.found in
     let is = entry g c.before.before.before in
-    let long = ap length (sym (at_place c.in-Some.place (g.S.BlockStore.zone store) there.0 (λ s. c.bytes.result.now ≡ content_of s.here) there.2 c.bytes.ensures)) in
+    let long = ap length (sym (at_place c.in-Some.place (g.S.BlockStore.zone store) there.0
+    (λ s. c.bytes.result.now ≡ content_of s.here) there.2 c.bytes.ensures)) in
     let few = source-few (g.S.BlockStore.zone store) f.slot there.0 there.1 (g.met.S.BlockStore.small store) in
     record {
       is = is.0;
@@ -57,10 +70,14 @@ source g c =
       few = omega (arith, few, long);
     }
 
-made : (g : Over) (c : In_ok-made g) → Copied (g.S.BlockStore.zone c.self.inside.store) c.self.inside.names.items c.args.handle c.in_ok-found.found (length c.bytes.result.now)
-    → Names (hand_to_hand c.args.handle) (g.S.BlockStore.zone c.self.inside.store) (g.S.BlockStore.rest c.self.inside.store) c.self.inside.names.items c.in_ok-made.made.slot (g.S.BlockStore.zone c.copy_block.new.store) (g.S.BlockStore.rest c.copy_block.new.store)
+made : (g : Over) (c : In_ok-made g) → Copied (g.S.BlockStore.zone c.self.inside.store) c.self.inside.names.items
+    c.args.handle c.in_ok-found.found (length c.bytes.result.now)
+    → Names (hand_to_hand c.args.handle) (g.S.BlockStore.zone c.self.inside.store)
+    (g.S.BlockStore.rest c.self.inside.store) c.self.inside.names.items c.in_ok-made.made.slot
+    (g.S.BlockStore.zone c.copy_block.new.store) (g.S.BlockStore.rest c.copy_block.new.store)
 made g c from =
-    copy-names _ _ _ (g.met.S.BlockStore.masters c.self.inside.store) c.self.invariant c.args.handle c.in_ok-found.found _ from _ _ c.copy_block.ensures.fixed c.in_ok-made.made.slot c.in_ok-made.ensures.answer
+    copy-names _ _ _ (g.met.S.BlockStore.masters c.self.inside.store) c.self.invariant c.args.handle c.in_ok-found.found
+    _ from _ _ c.copy_block.ensures.fixed c.in_ok-made.made.slot c.in_ok-made.ensures.answer
 
 pub overflow_cast-size : goal.overflow_cast-size
 overflow_cast-size g c = let few = (source g c).few in omega arith
@@ -71,7 +88,8 @@ returns-in_err-reserve-clause-host g c host = inr (rw c.reserve.ensures.items c.
 pub returns-in_err-made-clause-kept : goal.returns-in_err-made-clause-kept
 returns-in_err-made-clause-kept g c host =
     let a = c.self.inside in
-    kept-memory c.args.self.now _ _ (g.S.BlockStore.rest a.store) (g.S.BlockStore.rest c.copy_block.new.store) a.names.items _ a.log c.self.view_is c.in_ok-reserve.ensures.items c.self.invariant c.in_err-made.ensures.kept
+    kept-memory c.args.self.now _ _ (g.S.BlockStore.rest a.store) (g.S.BlockStore.rest c.copy_block.new.store)
+    a.names.items _ a.log c.self.view_is c.in_ok-reserve.ensures.items c.self.invariant c.in_err-made.ensures.kept
 
 pub invariant_of-self-in_err-made : goal.invariant_of-self-in_err-made
 invariant_of-self-in_err-made g c = rw c.in_ok-reserve.ensures.items
@@ -83,9 +101,17 @@ returns-clause-answer g c =
     let masters = g.met.S.BlockStore.masters a.store in
     let from = source g (goal.at.returns-clause-answer g c).After-bytes in
     rw (c.name_handle.ensures.number, c.name_handle.ensures.entered, c.in_ok-reserve.ensures.items)
-    (named-packing (hand_to_hand c.args.handle) (hand_to_hand_searches c.args.handle) (hand_to_hand_moves c.args.handle) c.args.self.now (g.S.BlockStore.zone a.store) (g.S.BlockStore.zone c.copy_block.new.store) (g.S.BlockStore.rest a.store) (g.S.BlockStore.rest c.copy_block.new.store) a.names.items a.log c.count.new.self c.in_ok-made.made.slot c.self.view_is
-    (made g (goal.at.returns-clause-answer g c).In_ok-made from) c.in_ok-made.made.searches (c.in_ok-made.ensures.searches ∙ sym (copied_searches-is _ _ _ masters c.self.invariant c.args.handle c.in_ok-found.found _ from)) c.count.ensures
-    _ (copied_moves-is _ _ _ masters c.self.invariant c.args.handle c.in_ok-found.found _ from) c.in_ok-made.ensures.moves)
+    (named-packing (hand_to_hand c.args.handle) (hand_to_hand_searches c.args.handle) (hand_to_hand_moves c.args.handle)
+    c.args.self.now (g.S.BlockStore.zone a.store) (g.S.BlockStore.zone c.copy_block.new.store)
+    (g.S.BlockStore.rest a.store) (g.S.BlockStore.rest c.copy_block.new.store) a.names.items a.log c.count.new.self
+    c.in_ok-made.made.slot c.self.view_is
+    (made g (goal.at.returns-clause-answer g c).In_ok-made from) c.in_ok-made.made.searches
+    (c.in_ok-made.ensures.searches ∙ sym (copied_searches-is _ _ _ masters c.self.invariant c.args.handle
+    c.in_ok-found.found _ from)) c.count.ensures
+    _ (copied_moves-is _ _ _ masters c.self.invariant c.args.handle c.in_ok-found.found _ from)
+    c.in_ok-made.ensures.moves)
 
 pub invariant_of-self-2 : goal.invariant_of-self-2
-invariant_of-self-2 g c = rw (c.name_handle.ensures.entered, c.in_ok-reserve.ensures.items) (made g (goal.at.invariant_of-self-2 g c).In_ok-made (source g (goal.at.invariant_of-self-2 g c).After-bytes)).agrees
+invariant_of-self-2 g c = rw (c.name_handle.ensures.entered, c.in_ok-reserve.ensures.items)
+    (made g (goal.at.invariant_of-self-2 g c).In_ok-made
+    (source g (goal.at.invariant_of-self-2 g c).After-bytes)).agrees

@@ -11,15 +11,20 @@ pub returns-in_err-slot-clause-answer : goal.returns-in_err-slot-clause-answer
 returns-in_err-slot-clause-answer g c =
     let p = err_from_is_err_and c.from_residual.result c.from_residual.ensures.1 in
     let a = c.self.inside in
-    rw (p.1, p.2) (not_emptied c.args.handle c.in_err-slot.field-0.0 (g.S.BlockStore.zone a.store) (g.S.BlockStore.rest a.store) a.names.items _ a.log c.args.self.now (g.met.S.BlockStore.tidied a.store) c.self.view_is c.deref.ensures.value c.in_err-slot.ensures)
+    rw (p.1, p.2) (not_emptied c.args.handle c.in_err-slot.field-0.0 (g.S.BlockStore.zone a.store)
+    (g.S.BlockStore.rest a.store) a.names.items _ a.log c.args.self.now (g.met.S.BlockStore.tidied a.store)
+    c.self.view_is c.deref.ensures.value c.in_err-slot.ensures)
 
 pub returns-clause-answer : goal.returns-clause-answer
 returns-clause-answer g c =
     let a = c.self.inside in
     let zone = g.S.BlockStore.zone a.store in
     let rest = g.S.BlockStore.rest a.store in
-    let found = loose_in zone rest.slots a.names.items _ c.args.handle (Ok c.in_ok-slot.slot) c.deref.ensures.value c.in_ok-slot.ensures in
-    empty_handle-done c.args.self.now zone (g.S.BlockStore.zone c.release.new.self) rest (g.S.BlockStore.rest c.release.new.self) a.names.items a.log c.args.handle found.0 c.in_ok-slot.slot c.self.view_is found.1 found.2 c.self.invariant.apart found.3
+    let found = loose_in zone rest.slots a.names.items _ c.args.handle (Ok c.in_ok-slot.slot) c.deref.ensures.value
+    c.in_ok-slot.ensures in
+    empty_handle-done c.args.self.now zone (g.S.BlockStore.zone c.release.new.self) rest
+    (g.S.BlockStore.rest c.release.new.self) a.names.items a.log c.args.handle found.0 c.in_ok-slot.slot
+    c.self.view_is found.2 found.3 c.self.invariant.apart found.4
     (g.met.S.BlockStore.tidied a.store) c.release.ensures.rest c.release.ensures.zone
 
 pub invariant_of-self : goal.invariant_of-self
@@ -28,5 +33,7 @@ invariant_of-self g c =
     let zone = g.S.BlockStore.zone a.store in
     let zone' = g.S.BlockStore.zone c.release.new.self in
     let left = tidy (freed (is_relocatable c.in_ok-slot.slot) zone) in
-    agrees-same zone zone' (g.S.BlockStore.rest a.store) (g.S.BlockStore.rest c.release.new.self) a.names.items c.self.invariant
-    (fixed-then zone left zone' (fixed-released c.in_ok-slot.slot zone) (fixed-same left zone' c.release.ensures.zone)) c.release.ensures.rest
+    agrees-same zone zone' (g.S.BlockStore.rest a.store) (g.S.BlockStore.rest c.release.new.self) a.names.items
+    c.self.invariant
+    (fixed-then zone left zone' (fixed-released c.in_ok-slot.slot zone) (fixed-same left zone' c.release.ensures.zone))
+    c.release.ensures.rest

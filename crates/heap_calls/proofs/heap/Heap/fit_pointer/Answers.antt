@@ -8,17 +8,21 @@ use Rattle.heap_calls.proofs.heap.Heap.fit_pointer.Goals.{In_ok-target}
 use Rattle.heap_calls.proofs.heap.Heap.fit_pointer.Goals as goal
 
 -- the pointer's block
-target : (g : Over) (c : In_ok-target g) → IsHeld (g.S.BlockStore.zone c.self.inside.store) (g.S.BlockStore.rest c.self.inside.store).slots c.self.inside.names.items c.args.pointer c.in_ok-target.target
+target : (g : Over) (c : In_ok-target g) → IsHeld (g.S.BlockStore.zone c.self.inside.store)
+    (g.S.BlockStore.rest c.self.inside.store).slots c.self.inside.names.items c.args.pointer c.in_ok-target.target
 target g c =
     let a = c.self.inside in
-    pointer-held (g.S.BlockStore.zone a.store) (g.S.BlockStore.rest a.store) a.names.items _ c.args.pointer c.in_ok-target.target c.self.invariant (g.met.S.BlockStore.placed a.store) (g.met.S.BlockStore.tidied a.store) (omega arith) c.deref.ensures.value c.in_ok-target.ensures
+    pointer-held (g.S.BlockStore.zone a.store) (g.S.BlockStore.rest a.store) a.names.items _ c.args.pointer
+    c.in_ok-target.target c.self.invariant (g.met.S.BlockStore.placed a.store) (g.met.S.BlockStore.tidied a.store)
+    (omega arith) c.deref.ensures.value c.in_ok-target.ensures
 
 pub returns-in_err-target-clause-answer : goal.returns-in_err-target-clause-answer
 returns-in_err-target-clause-answer g c =
     let p = err_from_is_err_and c.from_residual.result c.from_residual.ensures.1 in
     let a = c.self.inside in
     let e = c.in_err-target.field-0.0 in
-    rw (p.1, p.2) (no_pointer c.args.self.now (g.S.BlockStore.zone a.store) (g.S.BlockStore.rest a.store) a.names.items a.log e c.args.pointer c.args.size c.self.view_is
+    rw (p.1, p.2) (no_pointer c.args.self.now (g.S.BlockStore.zone a.store) (g.S.BlockStore.rest a.store) a.names.items
+    a.log e c.args.pointer c.args.size c.self.view_is
     (target_in a.names.items _ c.args.pointer (Err e) c.deref.ensures.value c.in_err-target.ensures) (omega arith))
 
 pub fit_fixed-requires : goal.fit_fixed-requires
@@ -29,16 +33,23 @@ fit_fixed-requires g c =
 pub invariant_of-self : goal.invariant_of-self
 invariant_of-self g c =
     let a = c.self.inside in
-    agrees-same (g.S.BlockStore.zone a.store) (g.S.BlockStore.zone c.fit_fixed.new.store) (g.S.BlockStore.rest a.store) (g.S.BlockStore.rest c.fit_fixed.new.store) a.names.items c.self.invariant c.fit_fixed.ensures.fixed c.fit_fixed.ensures.rest
+    agrees-same (g.S.BlockStore.zone a.store) (g.S.BlockStore.zone c.fit_fixed.new.store) (g.S.BlockStore.rest a.store)
+    (g.S.BlockStore.rest c.fit_fixed.new.store) a.names.items c.self.invariant c.fit_fixed.ensures.fixed
+    c.fit_fixed.ensures.rest
 
 pub invariant_of-self-2 : goal.invariant_of-self-2
 invariant_of-self-2 g c =
     let a = c.self.inside in
-    agrees-same (g.S.BlockStore.zone a.store) (g.S.BlockStore.zone c.fit_fixed.new.store) (g.S.BlockStore.rest a.store) (g.S.BlockStore.rest c.fit_fixed.new.store) a.names.items c.self.invariant c.fit_fixed.ensures.fixed c.fit_fixed.ensures.rest
+    agrees-same (g.S.BlockStore.zone a.store) (g.S.BlockStore.zone c.fit_fixed.new.store) (g.S.BlockStore.rest a.store)
+    (g.S.BlockStore.rest c.fit_fixed.new.store) a.names.items c.self.invariant c.fit_fixed.ensures.fixed
+    c.fit_fixed.ensures.rest
 
 pub returns-clause-answer : goal.returns-clause-answer
 returns-clause-answer g c =
     let a = c.self.inside in
     rw (c.account.ensures.reply, c.account.ensures.counted)
-    (set_pointer_size-done c.args.self.now (g.S.BlockStore.zone a.store) (g.S.BlockStore.zone c.fit_fixed.new.store) (g.S.BlockStore.rest a.store) (g.S.BlockStore.rest c.fit_fixed.new.store) a.names.items a.log c.args.pointer c.in_ok-target.target c.args.size c.in_ok-grown.grown.searches c.in_ok-grown.grown.done c.self.view_is
-    (target g (goal.at.returns-clause-answer g c).In_ok-target) c.self.invariant.lone (omega arith) c.fit_fixed.ensures.rest c.in_ok-grown.ensures.searches c.in_ok-grown.ensures.zone c.in_ok-grown.ensures.full)
+    (set_pointer_size-done c.args.self.now (g.S.BlockStore.zone a.store) (g.S.BlockStore.zone c.fit_fixed.new.store)
+    (g.S.BlockStore.rest a.store) (g.S.BlockStore.rest c.fit_fixed.new.store) a.names.items a.log c.args.pointer
+    c.in_ok-target.target c.args.size c.in_ok-grown.grown.searches c.in_ok-grown.grown.done c.self.view_is
+    (target g (goal.at.returns-clause-answer g c).In_ok-target) c.self.invariant.lone (omega arith)
+    c.fit_fixed.ensures.rest c.in_ok-grown.ensures.searches c.in_ok-grown.ensures.zone c.in_ok-grown.ensures.full)

@@ -13,18 +13,25 @@ returns-in_err-held-clause-answer g c =
     let p = err_from_is_err_and c.from_residual.result c.from_residual.ensures.1 in
     let a = c.self.inside in
     rw (p.1, p.2)
-    (nothing-grown c.args.self.now _ (g.S.BlockStore.rest a.store) a.names.items a.log c.self.view_is (set_handle_size c.args.handle c.args.size) (set_handle_size_searches c.args.handle c.args.size) (set_handle_size_moves c.args.handle c.args.size) c.in_err-held.field-0.0
-    c.args.handle _ c.deref.ensures.value c.in_err-held.ensures (not-resized c.args.handle c.args.size _) (omega arith) (omega arith))
+    (nothing-grown c.args.self.now _ (g.S.BlockStore.rest a.store) a.names.items a.log c.self.view_is
+    (set_handle_size c.args.handle c.args.size) (set_handle_size_searches c.args.handle c.args.size)
+    (set_handle_size_moves c.args.handle c.args.size) c.in_err-held.field-0.0
+    c.args.handle _ c.deref.ensures.value c.in_err-held.ensures (not-resized c.args.handle c.args.size _) (omega arith)
+    (omega arith))
 
 pub returns-clause-answer : goal.returns-clause-answer
 returns-clause-answer g c =
     let a = c.self.inside in
     let held = c.in_ok-held.held in
     let rest = g.S.BlockStore.rest a.store in
-    let there = reached_in (g.S.BlockStore.zone a.store) rest.slots a.names.items _ c.args.handle (Ok held) c.deref.ensures.value c.in_ok-held.ensures in
+    let there = reached_in (g.S.BlockStore.zone a.store) rest.slots a.names.items _ c.args.handle (Ok held)
+    c.deref.ensures.value c.in_ok-held.ensures in
     rw (c.account.ensures.reply, c.account.ensures.counted)
-    (grown-done c.args.self.now _ rest _ _ c.self.view_is _ _ _ _ _ _ (resize-tells _ rest _ c.self.invariant c.args.handle held there c.args.size)
-    _ (g.S.BlockStore.rest c.fit_block.new.store) c.in_ok-grown.ensures.rest c.in_ok-grown.grown.done c.in_ok-grown.grown.searches c.in_ok-grown.ensures.searches c.in_ok-grown.ensures.zone c.in_ok-grown.ensures.full c.fit_block.ensures.moves)
+    (grown-done c.args.self.now _ rest _ _ c.self.view_is _ _ _ _ _ _
+    (resize-tells _ rest _ c.self.invariant c.args.handle held there c.args.size)
+    _ (g.S.BlockStore.rest c.fit_block.new.store) c.in_ok-grown.ensures.rest c.in_ok-grown.grown.done
+    c.in_ok-grown.grown.searches c.in_ok-grown.ensures.searches c.in_ok-grown.ensures.zone
+    c.in_ok-grown.ensures.full c.fit_block.ensures.moves)
 
 pub invariant_of-self : goal.invariant_of-self
 invariant_of-self g c = agrees-kept _ _ _ _ _ c.self.invariant c.fit_block.ensures.fixed c.fit_block.ensures.rest

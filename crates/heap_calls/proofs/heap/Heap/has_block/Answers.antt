@@ -1,16 +1,27 @@
-use Rattle.std.proofs.Common.{◌∙◌, ap}
-use Rattle.std.specs.Prelude.{is_ok}
+use Rattle.std.proofs.Common.{Some, sym, ◌∙◌, ap, arith}
+use Rattle.block_store.specs.Block.{is_relocatable}
+use Rattle.block_store.specs.Run.{has}
 use Rattle.heap_calls.specs.State.{Memory}
-use Rattle.heap_calls.specs.Answer.{look_up}
-use Rattle.heap_calls.proofs.Numbering.Answering.{found_in}
-use Rattle.heap_calls.proofs.Gates.Barring.{found-held}
+use Rattle.heap_calls.specs.Inner.Given.{slot_of}
+use Rattle.heap_calls.proofs.Numbering.Roles.{entry-of, block-there, block-none}
 use Rattle.heap_calls.proofs.heap.Heap.has_block.Goals as goal
+
+pub returns-in_default : goal.returns-in_default
+returns-in_default g c =
+    let a = c.self.inside in
+    let h = c.args.number in
+    let none = ap (slot_of (Some h)) (sym c.deref.ensures.value) ∙ sym c.slot_of.ensures ∙ c.in_default.is in
+    sym (block-none (g.S.BlockStore.zone a.store) (g.S.BlockStore.rest a.store).slots a.names.items h
+    c.in_default.field-0 none (omega arith))
+    ∙ ap (λ (m : Memory). has (is_relocatable h) m.heap.zone) c.self.view_is
 
 pub returns : goal.returns
 returns g c =
     let a = c.self.inside in
-    let zone = g.S.BlockStore.zone a.store in
-    let slots = (g.S.BlockStore.rest a.store).slots in
-    c.is_ok.ensures.value
-    ∙ found-held zone slots a.names.items c.args.handle c.find_block.result (found_in zone slots a.names.items _ c.args.handle c.find_block.result c.deref.ensures.value c.find_block.ensures)
-    ∙ ap (λ (m : Memory). is_ok (look_up c.args.handle m.heap)) c.self.view_is
+    let h = c.args.number in
+    let f = c.in-Ok.found in
+    let at = entry-of a.names.items c.deref.result.now h f c.deref.ensures.value (sym c.slot_of.ensures ∙ c.in-Ok.is) in
+    c.is_some.ensures
+    ∙ block-there (g.S.BlockStore.zone a.store) (g.S.BlockStore.rest a.store).slots a.names.items h f.slot
+    c.place_of.result at c.self.invariant.apart (omega arith) c.place_of.ensures
+    ∙ ap (λ (m : Memory). has (is_relocatable h) m.heap.zone) c.self.view_is

@@ -8,5 +8,6 @@ use Rattle.heap_calls.proofs.heap.Heap.len.Goals as goal
 pub returns : goal.returns
 returns g c =
     let a = c.self.inside in
-    c.len.ensures ∙ sym (sizes-rename (handle_number a.names.items) (pointer_number a.names.items) (g.S.BlockStore.zone a.store))
+    c.len.ensures ∙ sym (sizes-rename (handle_number a.names.items) (pointer_number a.names.items)
+    (g.S.BlockStore.zone a.store))
     ∙ ap (λ (m : Memory). sizes m.heap.zone) c.self.view_is

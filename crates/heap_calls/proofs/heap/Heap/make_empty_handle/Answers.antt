@@ -12,23 +12,33 @@ use Rattle.heap_calls.proofs.heap.Heap.make_empty_handle.Goals as goal
 pub returns-in_err-reserve-clause-host : goal.returns-in_err-reserve-clause-host
 returns-in_err-reserve-clause-host g c host = inr (rw c.reserve.ensures.items c.self.view_is)
 
-named : (g : Over) (c : In_ok-taken g) → Names new_empty_handle (g.S.BlockStore.zone c.self.inside.store) (g.S.BlockStore.rest c.self.inside.store) c.self.inside.names.items c.in_ok-taken.taken.slot (g.S.BlockStore.zone c.make_slot.new.store) (g.S.BlockStore.rest c.make_slot.new.store)
-named g c = empty-names _ _ _ (g.met.S.BlockStore.masters c.self.inside.store) c.self.invariant _ _ c.make_slot.ensures.fixed c.in_ok-taken.taken.slot c.in_ok-taken.ensures.slot
+named : (g : Over) (c : In_ok-taken g) → Names new_empty_handle (g.S.BlockStore.zone c.self.inside.store)
+    (g.S.BlockStore.rest c.self.inside.store) c.self.inside.names.items c.in_ok-taken.taken.slot
+    (g.S.BlockStore.zone c.make_slot.new.store) (g.S.BlockStore.rest c.make_slot.new.store)
+named g c = empty-names _ _ _ (g.met.S.BlockStore.masters c.self.inside.store) c.self.invariant _ _
+    c.make_slot.ensures.fixed c.in_ok-taken.taken.slot c.in_ok-taken.ensures.slot
 
 pub returns-in_err-taken-clause-kept : goal.returns-in_err-taken-clause-kept
 returns-in_err-taken-clause-kept g c host =
     let a = c.self.inside in
-    kept-still c.args.self.now _ _ (g.S.BlockStore.rest a.store) (g.S.BlockStore.rest c.make_slot.new.store) a.names.items _ a.log c.self.view_is c.in_ok-reserve.ensures.items c.self.invariant c.in_err-taken.ensures.kept c.make_slot.ensures.moves
+    kept-still c.args.self.now _ _ (g.S.BlockStore.rest a.store) (g.S.BlockStore.rest c.make_slot.new.store)
+    a.names.items _ a.log c.self.view_is c.in_ok-reserve.ensures.items c.self.invariant c.in_err-taken.ensures.kept
+    c.make_slot.ensures.moves
 
 pub returns-clause-answer : goal.returns-clause-answer
 returns-clause-answer g c =
     let a = c.self.inside in
     rw (c.name_handle.ensures.number, c.name_handle.ensures.entered, c.in_ok-reserve.ensures.items)
-    (named-looking new_empty_handle new_empty_handle_searches (λ _. 0) c.args.self.now (g.S.BlockStore.zone a.store) (g.S.BlockStore.zone c.make_slot.new.store) (g.S.BlockStore.rest a.store) (g.S.BlockStore.rest c.make_slot.new.store) a.names.items a.log c.count.new.self c.in_ok-taken.taken.slot c.self.view_is
-    (named g (goal.at.returns-clause-answer g c).In_ok-taken) c.in_ok-taken.taken.searches (c.in_ok-taken.ensures.searches ∙ sym (empty_searches-is _ _ _ (g.met.S.BlockStore.masters a.store) c.self.invariant)) c.count.ensures c.make_slot.ensures.moves)
+    (named-looking new_empty_handle new_empty_handle_searches (λ _. 0) c.args.self.now (g.S.BlockStore.zone a.store)
+    (g.S.BlockStore.zone c.make_slot.new.store) (g.S.BlockStore.rest a.store)
+    (g.S.BlockStore.rest c.make_slot.new.store) a.names.items a.log c.count.new.self c.in_ok-taken.taken.slot
+    c.self.view_is (named g (goal.at.returns-clause-answer g c).In_ok-taken) c.in_ok-taken.taken.searches
+    (c.in_ok-taken.ensures.searches ∙ sym (empty_searches-is _ _ _ (g.met.S.BlockStore.masters a.store)
+    c.self.invariant)) c.count.ensures c.make_slot.ensures.moves)
 
 pub invariant_of-self-2 : goal.invariant_of-self-2
-invariant_of-self-2 g c = rw (c.name_handle.ensures.entered, c.in_ok-reserve.ensures.items) (named g (goal.at.invariant_of-self-2 g c).In_ok-taken).agrees
+invariant_of-self-2 g c = rw (c.name_handle.ensures.entered, c.in_ok-reserve.ensures.items)
+    (named g (goal.at.invariant_of-self-2 g c).In_ok-taken).agrees
 
 pub invariant_of-self-in_err-taken : goal.invariant_of-self-in_err-taken
 invariant_of-self-in_err-taken g c = rw c.in_ok-reserve.ensures.items

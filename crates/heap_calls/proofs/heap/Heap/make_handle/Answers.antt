@@ -19,18 +19,28 @@ invariant_of-self-in_err-made g c = rw c.in_ok-reserve.ensures.items
 pub returns-in_err-made-clause-kept : goal.returns-in_err-made-clause-kept
 returns-in_err-made-clause-kept g c host =
     let a = c.self.inside in
-    kept-memory c.args.self.now _ _ (g.S.BlockStore.rest a.store) (g.S.BlockStore.rest c.new_block.new.store) a.names.items _ a.log c.self.view_is c.in_ok-reserve.ensures.items c.self.invariant c.in_err-made.ensures.kept
+    kept-memory c.args.self.now _ _ (g.S.BlockStore.rest a.store) (g.S.BlockStore.rest c.new_block.new.store)
+    a.names.items _ a.log c.self.view_is c.in_ok-reserve.ensures.items c.self.invariant c.in_err-made.ensures.kept
 
-made : (g : Over) (c : In_ok-made g) → Names (new_handle c.args.size) (g.S.BlockStore.zone c.self.inside.store) (g.S.BlockStore.rest c.self.inside.store) c.self.inside.names.items c.in_ok-made.made.slot (g.S.BlockStore.zone c.new_block.new.store) (g.S.BlockStore.rest c.new_block.new.store)
-made g c = new-names _ _ _ (g.met.S.BlockStore.masters c.self.inside.store) c.self.invariant _ _ c.new_block.ensures.fixed c.args.size c.in_ok-made.made.slot c.in_ok-made.ensures.answer
+made : (g : Over) (c : In_ok-made g) → Names (new_handle c.args.size) (g.S.BlockStore.zone c.self.inside.store)
+    (g.S.BlockStore.rest c.self.inside.store) c.self.inside.names.items c.in_ok-made.made.slot
+    (g.S.BlockStore.zone c.new_block.new.store) (g.S.BlockStore.rest c.new_block.new.store)
+made g c = new-names _ _ _ (g.met.S.BlockStore.masters c.self.inside.store) c.self.invariant _ _
+    c.new_block.ensures.fixed c.args.size c.in_ok-made.made.slot c.in_ok-made.ensures.answer
 
 pub invariant_of-self-2 : goal.invariant_of-self-2
-invariant_of-self-2 g c = rw (c.name_handle.ensures.entered, c.in_ok-reserve.ensures.items) (made g (goal.at.invariant_of-self-2 g c).In_ok-made).agrees
+invariant_of-self-2 g c = rw (c.name_handle.ensures.entered, c.in_ok-reserve.ensures.items)
+    (made g (goal.at.invariant_of-self-2 g c).In_ok-made).agrees
 
 pub returns-clause-answer : goal.returns-clause-answer
 returns-clause-answer g c =
     let a = c.self.inside in
     let masters = g.met.S.BlockStore.masters a.store in
     rw (c.name_handle.ensures.number, c.name_handle.ensures.entered, c.in_ok-reserve.ensures.items)
-    (named-packing (new_handle c.args.size) (new_handle_searches c.args.size) (new_handle_moves c.args.size) c.args.self.now (g.S.BlockStore.zone a.store) (g.S.BlockStore.zone c.new_block.new.store) (g.S.BlockStore.rest a.store) (g.S.BlockStore.rest c.new_block.new.store) a.names.items a.log c.count.new.self c.in_ok-made.made.slot c.self.view_is
-    (made g (goal.at.returns-clause-answer g c).In_ok-made) c.in_ok-made.made.searches (c.in_ok-made.ensures.searches ∙ sym (new_handle_searches-is _ _ _ c.args.size masters c.self.invariant)) c.count.ensures _ (new_handle_moves-is _ _ _ c.args.size masters c.self.invariant) c.in_ok-made.ensures.moves)
+    (named-packing (new_handle c.args.size) (new_handle_searches c.args.size) (new_handle_moves c.args.size)
+    c.args.self.now (g.S.BlockStore.zone a.store) (g.S.BlockStore.zone c.new_block.new.store)
+    (g.S.BlockStore.rest a.store) (g.S.BlockStore.rest c.new_block.new.store) a.names.items a.log c.count.new.self
+    c.in_ok-made.made.slot c.self.view_is
+    (made g (goal.at.returns-clause-answer g c).In_ok-made) c.in_ok-made.made.searches
+    (c.in_ok-made.ensures.searches ∙ sym (new_handle_searches-is _ _ _ c.args.size masters c.self.invariant))
+    c.count.ensures _ (new_handle_moves-is _ _ _ c.args.size masters c.self.invariant) c.in_ok-made.ensures.moves)

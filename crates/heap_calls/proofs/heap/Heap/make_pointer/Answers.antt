@@ -1,4 +1,5 @@
-use Rattle.std.proofs.Common.{◌≡◌, refl, ℕ, ◌++◌, ◌∷◌, [], length, Some, None, sym, ◌∙◌, ap, subst, arith, inr, Ok, Err, Option, List}
+use Rattle.std.proofs.Common.{◌≡◌, refl, ℕ, ◌++◌, ◌∷◌, [], length, Some, None, sym, ◌∙◌, ap, subst, arith, inr, Ok, Err}
+use Rattle.std.proofs.Common.{Option, List}
 use Rattle.mac_words.specs.declared.code.TheConstants.OsErr.{MEM_FULL}
 use Rattle.heap_calls.specs.State.{Memory}
 use Rattle.heap_calls.specs.declared.anchor.Anchor.{Anchor}
@@ -9,7 +10,8 @@ use Rattle.heap_calls.specs.Inner.NewPointer.{IsNewFixed}
 use Rattle.heap_calls.specs.Inner.Numbered.{state_of, memory_of}
 use Rattle.heap_calls.proofs.NewBlocks.NewHandles.{searched-done}
 use Rattle.heap_calls.proofs.Numbering.Changing.{agrees-same, kept, memory-same}
-use Rattle.heap_calls.proofs.NewBlocks.NewPointers.{new_pointer-refused, new_pointer-done, new_pointer_searches-is, agrees-more}
+use Rattle.heap_calls.proofs.NewBlocks.NewPointers.{new_pointer-refused, new_pointer-done, new_pointer_searches-is}
+use Rattle.heap_calls.proofs.NewBlocks.NewPointers.{agrees-more}
 use Rattle.heap_calls.proofs.heap.Heap.make_pointer.Given.{Over}
 use Rattle.heap_calls.proofs.heap.Heap.make_pointer.Goals.{After-push_reserved}
 use Rattle.heap_calls.proofs.heap.Heap.make_pointer.Goals as goal
@@ -27,23 +29,29 @@ returns-in_default-clause-answer g c =
     let es = a.names.items in
     let P : Option ℕ → Type 0 = λ o. IsNewFixed c.args.size zone o zone' in
     let none : P None = subst P c.in_default.is c.in_ok-room.ensures.put in
-    searched-done (new_pointer c.args.size) (new_pointer_searches c.args.size) c.args.self.now zone zone rest rest es es a.log c.count.new.self (Err MEM_FULL) c.in_ok-room.room.searches c.self.view_is
-    (new_pointer-refused c.args.size zone rest es none.1) refl refl (c.in_ok-room.ensures.searches ∙ sym (new_pointer_searches-is c.args.size zone rest es)) c.count.ensures
+    searched-done (new_pointer c.args.size) (new_pointer_searches c.args.size) c.args.self.now zone zone rest rest es es
+    a.log c.count.new.self (Err MEM_FULL) c.in_ok-room.room.searches c.self.view_is
+    (new_pointer-refused c.args.size zone rest es none.1) refl refl
+    (c.in_ok-room.ensures.searches ∙ sym (new_pointer_searches-is c.args.size zone rest es)) c.count.ensures
     ∙ ap (λ (m : Memory). (Err MEM_FULL, m))
     (sym (memory-same zone rest rest' es c.count.new.self c.add_fixed.ensures.rest)
     ∙ ap (λ z. memory_of z rest' es c.count.new.self) (sym none.0)
-    ∙ ap (λ (l : List Anchor). memory_of zone' rest' l c.count.new.self) (sym {A = List Anchor} c.in_ok-reserve.ensures.items))
+    ∙ ap (λ (l : List Anchor). memory_of zone' rest' l c.count.new.self)
+    (sym {A = List Anchor} c.in_ok-reserve.ensures.items))
 
 pub invariant_of-self-in_err-room : goal.invariant_of-self-in_err-room
-invariant_of-self-in_err-room g c = rw c.in_ok-reserve.ensures.items (agrees-same _ _ _ _ _ c.self.invariant c.in_err-room.ensures.fixed c.add_fixed.ensures.rest)
+invariant_of-self-in_err-room g c = rw c.in_ok-reserve.ensures.items
+    (agrees-same _ _ _ _ _ c.self.invariant c.in_err-room.ensures.fixed c.add_fixed.ensures.rest)
 
 -- the entries with the new pointer
-entered : (g : Over) (c : After-push_reserved g) → c.push_reserved.new.self.items ≡ c.self.inside.names.items ++ Pointer c.in-Some.place ∷ []
+entered : (g : Over) (c : After-push_reserved g) → c.push_reserved.new.self.items ≡ c.self.inside.names.items
+    ++ Pointer c.in-Some.place ∷ []
 entered g c = c.push_reserved.ensures.items ∙ ap (λ l. l ++ Pointer c.in-Some.place ∷ []) c.in_ok-reserve.ensures.items
 
 pub invariant_of-self-2 : goal.invariant_of-self-2
 invariant_of-self-2 g c = rw (entered g (goal.at.invariant_of-self-2 g c).After-push_reserved)
-    (agrees-more _ _ _ _ _ c.args.size c.in-Some.place c.self.invariant (kept _ _ c.add_fixed.ensures.rest) (rw c.in-Some.is at c.in_ok-room.ensures.put))
+    (agrees-more _ _ _ _ _ c.args.size c.in-Some.place c.self.invariant (kept _ _ c.add_fixed.ensures.rest)
+    (rw c.in-Some.is at c.in_ok-room.ensures.put))
 
 pub returns-clause-answer : goal.returns-clause-answer
 returns-clause-answer g c =
@@ -54,8 +62,14 @@ returns-clause-answer g c =
     let put : P (Some c.in-Some.place) = subst P c.in-Some.is c.in_ok-room.ensures.put in
     let es' = a.names.items ++ Pointer c.in-Some.place ∷ [] in
     let n : length a.names.items ≡ c.len-number.result = omega arith in
-    searched-done (new_pointer c.args.size) (new_pointer_searches c.args.size) c.args.self.now (g.S.BlockStore.zone a.store) zone' (g.S.BlockStore.rest a.store) rest' a.names.items es' a.log c.count.new.self (Ok c.len-number.result) c.in_ok-room.room.searches c.self.view_is
-    (new_pointer-done (g.S.BlockStore.zone a.store) zone' (g.S.BlockStore.rest a.store) rest' a.names.items c.args.size c.in-Some.place c.self.invariant (kept (g.S.BlockStore.rest a.store) rest' c.add_fixed.ensures.rest) put
+    searched-done (new_pointer c.args.size) (new_pointer_searches c.args.size) c.args.self.now
+    (g.S.BlockStore.zone a.store) zone' (g.S.BlockStore.rest a.store) rest' a.names.items es' a.log c.count.new.self
+    (Ok c.len-number.result) c.in_ok-room.room.searches c.self.view_is
+    (new_pointer-done (g.S.BlockStore.zone a.store) zone' (g.S.BlockStore.rest a.store) rest' a.names.items c.args.size
+    c.in-Some.place c.self.invariant (kept (g.S.BlockStore.rest a.store) rest' c.add_fixed.ensures.rest) put
     ∙ ap (λ (k : ℕ). (Ok k, state_of zone' rest'.slots es')) n)
-    c.add_fixed.ensures.rest.window c.add_fixed.ensures.rest.moves (c.in_ok-room.ensures.searches ∙ sym (new_pointer_searches-is c.args.size (g.S.BlockStore.zone a.store) (g.S.BlockStore.rest a.store) a.names.items)) c.count.ensures
-    ∙ ap (λ (l : List Anchor). (Ok c.len-number.result, memory_of zone' rest' l c.count.new.self)) (sym (entered g (goal.at.returns-clause-answer g c).After-push_reserved))
+    c.add_fixed.ensures.rest.window c.add_fixed.ensures.rest.moves
+    (c.in_ok-room.ensures.searches ∙ sym (new_pointer_searches-is c.args.size (g.S.BlockStore.zone a.store)
+    (g.S.BlockStore.rest a.store) a.names.items)) c.count.ensures
+    ∙ ap (λ (l : List Anchor). (Ok c.len-number.result, memory_of zone' rest' l c.count.new.self))
+    (sym (entered g (goal.at.returns-clause-answer g c).After-push_reserved))

@@ -18,20 +18,27 @@ returns-clause-answer g c =
     let most = c.saturating_sub.result in
     let P : Memory → Type 0 = λ m. noting max_block m ≡ (Ok most, record m { log = record m.log { code = NO_ERR } }) in
     let here : P (memory_of zone rest a.names.items a.log) =
-    ap (λ (n : ℕ). (Ok (n - 16), record (memory_of zone rest a.names.items a.log) { log = record a.log { code = NO_ERR } })) (largest_run-rename _ _ zone ∙ sym c.largest_run.ensures)
-    ∙ ap (λ (n : ℕ). (Ok n, record (memory_of zone rest a.names.items a.log) { log = record a.log { code = NO_ERR } })) (sym c.saturating_sub.ensures) in
-    subst P c.self.view_is here ∙ ap (λ (m : Memory). (Ok most, record m { log = record m.log { code = NO_ERR } })) (sym c.self.view_is)
+    ap (λ (n : ℕ). (
+      Ok (n - 16),
+      record (memory_of zone rest a.names.items a.log) { log = record a.log { code = NO_ERR } },
+    )) (largest_run-rename _ _ zone ∙ sym c.largest_run.ensures)
+    ∙ ap (λ (n : ℕ). (Ok n, record (memory_of zone rest a.names.items a.log) { log = record a.log { code = NO_ERR } }))
+    (sym c.saturating_sub.ensures) in
+    subst P c.self.view_is here ∙ ap (λ (m : Memory). (Ok most, record m { log = record m.log { code = NO_ERR } }))
+    (sym c.self.view_is)
 
 pub returns-clause-room : goal.returns-clause-room
 returns-clause-room g c =
     let a = c.self.inside in
     let n = c.saturating_sub.result in
     let P : Memory → Type 0 = λ m. 0 < n → IfSome (phys n) (λ p. IsSome (place p m.heap.zone)) in
-    subst P c.self.view_is (most-placed _ _ (g.S.BlockStore.zone a.store) n c.largest_run.result (g.met.S.BlockStore.aligned a.store) c.largest_run.ensures c.saturating_sub.ensures)
+    subst P c.self.view_is (most-placed _ _ (g.S.BlockStore.zone a.store) n c.largest_run.result
+    (g.met.S.BlockStore.aligned a.store) c.largest_run.ensures c.saturating_sub.ensures)
 
 pub returns-clause-no_more : goal.returns-clause-no_more
 returns-clause-no_more g c =
     let a = c.self.inside in
     let n = c.saturating_sub.result in
     let P : Memory → Type 0 = λ m. IfSome (phys (n + 1)) (λ p. place p m.heap.zone ≡ None) in
-    subst P c.self.view_is (no_more-placed _ _ (g.S.BlockStore.zone a.store) n c.largest_run.result c.largest_run.ensures c.saturating_sub.ensures)
+    subst P c.self.view_is (no_more-placed _ _ (g.S.BlockStore.zone a.store) n c.largest_run.result
+    c.largest_run.ensures c.saturating_sub.ensures)

@@ -21,7 +21,8 @@ use Rattle.heap_calls.proofs.heap.Heap.max_mem.Goals.{After-compact}
 use Rattle.heap_calls.proofs.heap.Heap.max_mem.Goals as goal
 
 -- the slots stay
-kept : (g : Over) (c : After-compact g) → KeepsSlots (g.S.BlockStore.rest c.self.inside.store) (g.S.BlockStore.rest c.compact.new.store)
+kept : (g : Over) (c : After-compact g) → KeepsSlots (g.S.BlockStore.rest c.self.inside.store)
+    (g.S.BlockStore.rest c.compact.new.store)
 kept g c =
     let emptied = c.purge.ensures.rest in
     let packed = c.compact.ensures.rest in
@@ -45,10 +46,12 @@ returns g c =
     let emptied = c.purge.ensures.rest in
     let is = purged_all-is zone all c.purges_for-purges.result c.purges_for-purges.ensures c.purge.ensures.zone in
     let moves : max_mem_moves c.args.self.now.heap ≡ falls (runs_settled None all) (runs all) =
-    ap (λ (m : Memory). max_mem_moves m.heap) (sym c.self.view_is) ∙ purged_moves-rename (handle_number es) (pointer_number es) zone ∙ ap all_moves (sym is)
+    ap (λ (m : Memory). max_mem_moves m.heap) (sym c.self.view_is) ∙ purged_moves-rename (handle_number es)
+    (pointer_number es) zone ∙ ap all_moves (sym is)
     ∙ ap (λ k. falls k (runs all)) (sym (least_or_last-none (length (runs all)))) in
     moving-done _ _ _ (Ok c.saturating_sub.result) zone' rest rest' es (record a.log { code = NO_ERR })
-    (max_mem-done c.args.self.now zone all zone' rest (unmoved rest rest') es a.log c.largest_free.result c.saturating_sub.result c.self.view_is is c.compact.ensures.zone
+    (max_mem-done c.args.self.now zone all zone' rest (unmoved rest rest') es a.log c.largest_free.result
+    c.saturating_sub.result c.self.view_is is c.compact.ensures.zone
     (unmoved-is rest rest' (kept g (goal.at.returns g c).After-compact))
     c.largest_free.ensures c.saturating_sub.ensures)
     moves (c.compact.ensures.moves ∙ ap (λ k. counted k (falls (runs_settled None all) (runs all))) emptied.moves)
@@ -60,7 +63,9 @@ invariant_of-self g c =
     let all = g.S.BlockStore.zone c.purge.new.self in
     let zone' = g.S.BlockStore.zone c.compact.new.store in
     let purges = c.purges_for-purges.result in
-    agrees-kept zone zone' (g.S.BlockStore.rest a.store) (g.S.BlockStore.rest c.compact.new.store) a.names.items c.self.invariant
-    (fixed-then zone all zone' (fixed-then zone (purged purges sparing.Nothing zone) all (fixed-purged purges sparing.Nothing zone) (fixed-same (purged purges sparing.Nothing zone) all c.purge.ensures.zone))
-    (fixed-then all (compacted None all) zone' (fixed-settled (runs_settled None all) all) (fixed-same (compacted None all) zone' c.compact.ensures.zone)))
+    agrees-kept zone zone' (g.S.BlockStore.rest a.store) (g.S.BlockStore.rest c.compact.new.store) a.names.items
+    c.self.invariant (fixed-then zone all zone' (fixed-then zone (purged purges sparing.Nothing zone) all
+    (fixed-purged purges sparing.Nothing zone) (fixed-same (purged purges sparing.Nothing zone) all
+    c.purge.ensures.zone)) (fixed-then all (compacted None all) zone' (fixed-settled (runs_settled None all) all)
+    (fixed-same (compacted None all) zone' c.compact.ensures.zone)))
     (kept g (goal.at.invariant_of-self g c).After-compact)

@@ -6,20 +6,26 @@ use Rattle.heap_calls.specs.declared.anchor.Anchor.TheVariants.{Handle}
 use Rattle.heap_calls.proofs.Numbering.Changing.{agrees-same}
 use Rattle.heap_calls.proofs.Room.Searching.{at_run}
 use Rattle.heap_calls.proofs.Room.Staying.{fixed-run, fixed-same, fixed-then, none-high}
-use Rattle.heap_calls.proofs.Numbering.Hoisting.{seen-at, seen_mover-is, rest-same, run-found, hoist-allowed, hoisted-done, hoisted-none, move_hhi-emptied, move_hhi-locked, move_hhi-done}
+use Rattle.heap_calls.proofs.Numbering.Hoisting.{seen-at, seen_mover-is, rest-same, run-found, hoist-allowed}
+use Rattle.heap_calls.proofs.Numbering.Hoisting.{hoisted-done, hoisted-none, move_hhi-emptied, move_hhi-locked}
+use Rattle.heap_calls.proofs.Numbering.Hoisting.{move_hhi-done}
 use Rattle.heap_calls.proofs.NewBlocks.CopiedHandles.{slot-in}
 use Rattle.heap_calls.proofs.heap.Heap.move_high.Given.{Over}
 use Rattle.heap_calls.proofs.heap.Heap.move_high.Goals.{In_ok-found, After-can_move}
 use Rattle.heap_calls.proofs.heap.Heap.move_high.Goals as goal
 
-entry : (g : Over) (c : In_ok-found g) → (c.args.handle ≡ Some c.in_ok-found.found.number) × (slice_get c.self.inside.names.items c.in_ok-found.found.number ≡ Some (Handle c.in_ok-found.found.slot))
-entry g c = slot-in c.self.inside.names.items c.deref.result.now c.args.handle c.in_ok-found.found c.deref.ensures.value (sym c.slot_of.ensures ∙ c.in_ok-found.was)
+entry : (g : Over) (c : In_ok-found g) → (c.args.handle ≡ Some c.in_ok-found.found.number)
+    × (slice_get c.self.inside.names.items c.in_ok-found.found.number
+    ≡ Some (Handle c.in_ok-found.found.slot c.in_ok-found.found.guarded))
+entry g c = slot-in c.self.inside.names.items c.deref.result.now c.args.handle c.in_ok-found.found c.deref.ensures.value
+    (sym c.slot_of.ensures ∙ c.in_ok-found.was)
 
 -- whether its block can move
 mover : (g : Over) (c : After-can_move g) → is_mover c.in-Some.ensures.0.here ≡ c.can_move.result
 mover g c =
     let there = c.in-Some.ensures in
-    sym (seen_mover-is there.0.here) ∙ sym (seen-at seen_mover c.in-Some.place (g.S.BlockStore.zone c.self.inside.store) there.0 c.block_at.result there.2 c.block_at.ensures) ∙ sym c.can_move.ensures
+    sym (seen_mover-is there.0.here) ∙ sym (seen-at seen_mover c.in-Some.place (g.S.BlockStore.zone c.self.inside.store)
+    there.0 c.block_at.result there.2 c.block_at.ensures) ∙ sym c.can_move.ensures
 
 pub returns-in_default-clause-answer : goal.returns-in_default-clause-answer
 returns-in_default-clause-answer g c =
@@ -29,7 +35,8 @@ returns-in_default-clause-answer g c =
     let es = a.names.items in
     let f = c.in_ok-found.found in
     let is = entry g (goal.at.returns-in_default-clause-answer g c).In_ok-found in
-    move_hhi-emptied c.args.self.now zone rest es a.log c.args.handle f.number f.slot c.self.view_is is.0 is.1 c.self.invariant.apart (omega arith) c.in_default.ensures
+    move_hhi-emptied c.args.self.now zone rest es a.log c.args.handle f.number f.slot c.self.view_is is.0 is.1
+    c.self.invariant.apart (omega arith) c.in_default.ensures
 
 pub returns-then-not-can_move-clause-answer : goal.returns-then-not-can_move-clause-answer
 returns-then-not-can_move-clause-answer g c =
@@ -40,8 +47,10 @@ returns-then-not-can_move-clause-answer g c =
     let f = c.in_ok-found.found in
     let is = entry g (goal.at.returns-then-not-can_move-clause-answer g c).In_ok-found in
     let there = c.in-Some.ensures in
-    let locked : is_mover there.0.here ≡ false = mover g (goal.at.returns-then-not-can_move-clause-answer g c).After-can_move ∙ c.if-not-can_move.true in
-    move_hhi-locked c.args.self.now zone rest es a.log c.args.handle f.number f.slot c.self.view_is is.0 is.1 c.self.invariant.apart (omega arith) there.0 there.1 locked
+    let locked : is_mover there.0.here ≡ false = mover g
+    (goal.at.returns-then-not-can_move-clause-answer g c).After-can_move ∙ c.if-not-can_move.true in
+    move_hhi-locked c.args.self.now zone rest es a.log c.args.handle f.number f.slot c.self.view_is is.0 is.1
+    c.self.invariant.apart (omega arith) there.0 there.1 locked
 
 pub returns-in_default-run_of-clause-answer : goal.returns-in_default-run_of-clause-answer
 returns-in_default-run_of-clause-answer g c =
@@ -52,16 +61,21 @@ returns-in_default-run_of-clause-answer g c =
     let f = c.in_ok-found.found in
     let is = entry g (goal.at.returns-in_default-run_of-clause-answer g c).In_ok-found in
     let there = c.in-Some.ensures in
-    let free : is_mover there.0.here ≡ true = mover g (goal.at.returns-in_default-run_of-clause-answer g c).After-can_move ∙ c.if-not-can_move.false in
-    let none = run-found (has (is_relocatable f.slot)) zone _ None (g.met.S.BlockStore.tidied a.store) c.in_default-run_of.ensures in
-    move_hhi-done c.args.self.now zone rest es a.log c.args.handle f.number f.slot c.self.view_is is.0 is.1 c.self.invariant.apart (omega arith) zone rest there.0 there.1 free (rest-same rest) (hoisted-none f.slot zone none)
+    let free : is_mover there.0.here ≡ true = mover g (goal.at.returns-in_default-run_of-clause-answer g
+    c).After-can_move ∙ c.if-not-can_move.false in
+    let none = run-found (has (is_relocatable f.slot)) zone _ None (g.met.S.BlockStore.tidied a.store)
+    c.in_default-run_of.ensures in
+    move_hhi-done c.args.self.now zone rest es a.log c.args.handle f.number f.slot c.self.view_is is.0 is.1
+    c.self.invariant.apart (omega arith) zone rest there.0 there.1 free (rest-same rest) (hoisted-none f.slot zone none)
     ∙ ap (λ m. (Ok tt, m)) c.self.view_is
 
 pub hoist-requires : goal.hoist-requires
 hoist-requires g c =
     let zone = g.S.BlockStore.zone c.self.inside.store in
     let slot = c.in_ok-found.found.slot in
-    hoist-allowed (is_relocatable slot) c.in-Some-run_of.run' zone (run-found (has (is_relocatable slot)) zone _ (Some c.in-Some-run_of.run') (g.met.S.BlockStore.tidied c.self.inside.store) c.in-Some-run_of.ensures)
+    hoist-allowed (is_relocatable slot) c.in-Some-run_of.run' zone
+    (run-found (has (is_relocatable slot)) zone _ (Some c.in-Some-run_of.run')
+    (g.met.S.BlockStore.tidied c.self.inside.store) c.in-Some-run_of.ensures)
 
 pub invariant_of-self : goal.invariant_of-self
 invariant_of-self g c =
@@ -70,11 +84,15 @@ invariant_of-self g c =
     let zone' = g.S.BlockStore.zone c.hoist.new.self in
     let slot = c.in_ok-found.found.slot in
     let run = c.in-Some-run_of.run' in
-    let found = run-found (has (is_relocatable slot)) zone _ (Some run) (g.met.S.BlockStore.tidied a.store) c.in-Some-run_of.ensures in
+    let found = run-found (has (is_relocatable slot)) zone _ (Some run) (g.met.S.BlockStore.tidied a.store)
+    c.in-Some-run_of.ensures in
     let now = tidy (with_run (high (is_relocatable slot)) found.0) in
-    let done = at_run run zone zone found.0 (λ r. zone' ≡ tidy (with_run (high (is_relocatable slot)) r)) refl found.2 c.hoist.ensures.zone in
-    agrees-same zone zone' (g.S.BlockStore.rest a.store) (g.S.BlockStore.rest c.hoist.new.self) a.names.items c.self.invariant
-    (fixed-then zone now zone' (fixed-run (high (is_relocatable slot)) (none-high (is_relocatable slot)) (has (is_relocatable slot)) zone found.0 found.1) (fixed-same now zone' done)) c.hoist.ensures.rest
+    let done = at_run run zone zone found.0 (λ r. zone' ≡ tidy (with_run (high (is_relocatable slot)) r)) refl found.2
+    c.hoist.ensures.zone in
+    agrees-same zone zone' (g.S.BlockStore.rest a.store) (g.S.BlockStore.rest c.hoist.new.self) a.names.items
+    c.self.invariant
+    (fixed-then zone now zone' (fixed-run (high (is_relocatable slot)) (none-high (is_relocatable slot))
+    (has (is_relocatable slot)) zone found.0 found.1) (fixed-same now zone' done)) c.hoist.ensures.rest
 
 pub returns-clause-answer : goal.returns-clause-answer
 returns-clause-answer g c =
@@ -86,7 +104,11 @@ returns-clause-answer g c =
     let f = c.in_ok-found.found in
     let is = entry g (goal.at.returns-clause-answer g c).In_ok-found in
     let there = c.in-Some.ensures in
-    let free : is_mover there.0.here ≡ true = mover g (goal.at.returns-clause-answer g c).After-can_move ∙ c.if-not-can_move.false in
-    let found = run-found (has (is_relocatable f.slot)) zone _ (Some c.in-Some-run_of.run') (g.met.S.BlockStore.tidied a.store) c.in-Some-run_of.ensures in
-    move_hhi-done c.args.self.now zone rest es a.log c.args.handle f.number f.slot c.self.view_is is.0 is.1 c.self.invariant.apart (omega arith) zone' (g.S.BlockStore.rest c.hoist.new.self) there.0 there.1 free c.hoist.ensures.rest
+    let free : is_mover there.0.here ≡ true = mover g (goal.at.returns-clause-answer g c).After-can_move
+    ∙ c.if-not-can_move.false in
+    let found = run-found (has (is_relocatable f.slot)) zone _ (Some c.in-Some-run_of.run')
+    (g.met.S.BlockStore.tidied a.store) c.in-Some-run_of.ensures in
+    move_hhi-done c.args.self.now zone rest es a.log c.args.handle f.number f.slot c.self.view_is is.0 is.1
+    c.self.invariant.apart (omega arith) zone' (g.S.BlockStore.rest c.hoist.new.self) there.0 there.1 free
+    c.hoist.ensures.rest
     (hoisted-done f.slot c.in-Some-run_of.run' zone zone' found c.hoist.ensures.zone)

@@ -5,15 +5,19 @@ use Rattle.heap_calls.proofs.heap.Heap.pointer_bytes.Goals.{In_ok-target}
 use Rattle.heap_calls.proofs.heap.Heap.pointer_bytes.Goals as goal
 
 -- the pointer's block
-target : (g : Over) (c : In_ok-target g) → IsHeld (g.S.BlockStore.zone c.self.inside.store) (g.S.BlockStore.rest c.self.inside.store).slots c.self.inside.names.items c.args.pointer c.in_ok-target.target
+target : (g : Over) (c : In_ok-target g) → IsHeld (g.S.BlockStore.zone c.self.inside.store)
+    (g.S.BlockStore.rest c.self.inside.store).slots c.self.inside.names.items c.args.pointer c.in_ok-target.target
 target g c =
     let a = c.self.inside in
-    pointer-held (g.S.BlockStore.zone a.store) (g.S.BlockStore.rest a.store) a.names.items _ c.args.pointer c.in_ok-target.target c.self.invariant (g.met.S.BlockStore.placed a.store) (g.met.S.BlockStore.tidied a.store) (omega arith) c.deref.ensures.value c.in_ok-target.ensures
+    pointer-held (g.S.BlockStore.zone a.store) (g.S.BlockStore.rest a.store) a.names.items _ c.args.pointer
+    c.in_ok-target.target c.self.invariant (g.met.S.BlockStore.placed a.store) (g.met.S.BlockStore.tidied a.store)
+    (omega arith) c.deref.ensures.value c.in_ok-target.ensures
 
 pub returns-clause-answer : goal.returns-clause-answer
 returns-clause-answer g c =
     let a = c.self.inside in
-    bytes-told (λ (x : List ℕ). x) (g.S.BlockStore.zone a.store) (g.S.BlockStore.rest a.store) a.names.items a.log c.args.self.now c.args.pointer c.in_ok-target.target c.bytes.result.now c.self.view_is
+    bytes-told (λ (x : List ℕ). x) (g.S.BlockStore.zone a.store) (g.S.BlockStore.rest a.store) a.names.items a.log
+    c.args.self.now c.args.pointer c.in_ok-target.target c.bytes.result.now c.self.view_is
     (target g (goal.at.returns-clause-answer g c).In_ok-target) c.bytes.ensures
 
 pub bytes-requires : goal.bytes-requires

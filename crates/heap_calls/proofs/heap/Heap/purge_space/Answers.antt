@@ -9,5 +9,7 @@ returns g c =
     let a = c.self.inside in
     let zone = g.S.BlockStore.zone a.store in
     let purges = c.purges_for-purges.result in
-    purge_space-done c.args.self.now zone (purge purges nothing zone) (g.S.BlockStore.rest a.store) a.names.items a.log c.free_after.result c.largest_after.result c.saturating_sub.result c.self.view_is
-    (purged_all-is zone (purge purges nothing zone) purges c.purges_for-purges.ensures refl) c.free_after.ensures c.largest_after.ensures c.saturating_sub.ensures
+    purge_space-done c.args.self.now zone (purge purges nothing zone) (g.S.BlockStore.rest a.store) a.names.items a.log
+    c.free_after.result c.largest_after.result c.saturating_sub.result c.self.view_is
+    (purged_all-is zone (purge purges nothing zone) purges c.purges_for-purges.ensures refl) c.free_after.ensures
+    c.largest_after.ensures c.saturating_sub.ensures

@@ -24,10 +24,13 @@ returns-in_err-slot-clause-answer g c =
     let es = a.names.items in
     let fits : Fits w64 a.log.searches = search rules in
     let few : a.log.searches < 18446744073709551616 = omega (arith, fits) in
-    let found = loose_in zone rest.slots es _ c.args.handle (Err c.in_err-slot.field-0.0) c.deref.ensures.value c.in_err-slot.ensures in
+    let found = loose_in zone rest.slots es _ c.args.handle (Err c.in_err-slot.field-0.0) c.deref.ensures.value
+    c.in_err-slot.ensures in
     rw (p.1, p.2) (not-moved _ _ c.in_err-slot.field-0.0 c.args.self.now zone rest es a.log c.self.view_is
-    (loose_not_searched c.args.size c.in_err-slot.field-0.0 zone rest es a.log c.args.handle c.args.self.now few c.self.view_is found)
-    (no_moves-loose c.args.handle c.args.size c.in_err-slot.field-0.0 c.args.self.now zone rest es a.log c.self.view_is found) (omega arith))
+    (loose_not_searched c.args.size c.in_err-slot.field-0.0 zone rest es a.log c.args.handle c.args.self.now few
+    c.self.view_is found)
+    (no_moves-loose c.args.handle c.args.size c.in_err-slot.field-0.0 c.args.self.now zone rest es a.log c.self.view_is
+    found) (omega arith))
 
 pub returns-clause-answer : goal.returns-clause-answer
 returns-clause-answer g c =
@@ -39,20 +42,31 @@ returns-clause-answer g c =
     let made = c.in_ok-room.room in
     let value = c.args.self.now in
     let log : Log = record a.log { searches = counted a.log.searches made.searches } in
-    let found = loose_in zone rest.slots a.names.items _ c.args.handle (Ok c.in_ok-slot.slot) c.deref.ensures.value c.in_ok-slot.ensures in
+    let found = loose_in zone rest.slots a.names.items _ c.args.handle (Ok c.in_ok-slot.slot) c.deref.ensures.value
+    c.in_ok-slot.ensures in
     rw (c.account.ensures.reply, c.account.ensures.counted, c.is_some.ensures) (is-served _ (is_some made.place) _
     (moving-done _ _ _ (served_answer (is_some made.place)) zone' rest rest' a.names.items log
-    (searching-done _ _ (silent (reallocate_handle c.args.handle c.args.size) value) (served_answer (is_some made.place)) (memory_of zone' (unmoved rest rest') a.names.items a.log) (memory_of zone' (unmoved rest rest') a.names.items log)
-    (reallocate-told value zone zone' rest rest' a.names.items a.log c.args.handle found.0 c.in_ok-slot.slot c.args.size made c.self.view_is found.1 found.2 c.self.invariant.apart found.3 c.in_ok-room.ensures.answer)
-    (reallocate_searches-is value zone zone' rest rest' a.names.items a.log c.args.handle found.0 c.in_ok-slot.slot c.args.size made c.self.view_is found.1 found.2 c.self.invariant.apart found.3 c.in_ok-room.ensures.answer) refl)
-    (reallocate_moves-is value zone zone' rest rest' a.names.items a.log c.args.handle found.0 c.in_ok-slot.slot c.args.size made c.self.view_is found.1 found.2 c.self.invariant.apart found.3 c.in_ok-room.ensures.answer) c.renew_block.ensures.moves))
+    (searching-done _ _ (silent (reallocate_handle c.args.handle c.args.size) value)
+    (served_answer (is_some made.place)) (memory_of zone' (unmoved rest rest') a.names.items a.log)
+    (memory_of zone' (unmoved rest rest') a.names.items log)
+    (reallocate-told value zone zone' rest rest' a.names.items a.log c.args.handle found.0 c.in_ok-slot.slot c.args.size
+    made c.self.view_is found.2 found.3 c.self.invariant.apart found.4 c.in_ok-room.ensures.answer)
+    (reallocate_searches-is value zone zone' rest rest' a.names.items a.log c.args.handle found.0 c.in_ok-slot.slot
+    c.args.size made c.self.view_is found.2 found.3 c.self.invariant.apart found.4 c.in_ok-room.ensures.answer) refl)
+    (reallocate_moves-is value zone zone' rest rest' a.names.items a.log c.args.handle found.0 c.in_ok-slot.slot
+    c.args.size made c.self.view_is found.2 found.3 c.self.invariant.apart found.4 c.in_ok-room.ensures.answer)
+    c.renew_block.ensures.moves))
 
 pub invariant_of-self : goal.invariant_of-self
 invariant_of-self g c =
     let a = c.self.inside in
-    agrees-kept (g.S.BlockStore.zone a.store) (g.S.BlockStore.zone c.renew_block.new.store) (g.S.BlockStore.rest a.store) (g.S.BlockStore.rest c.renew_block.new.store) a.names.items c.self.invariant c.renew_block.ensures.fixed c.in_err-room.ensures.answer
+    agrees-kept (g.S.BlockStore.zone a.store) (g.S.BlockStore.zone c.renew_block.new.store)
+    (g.S.BlockStore.rest a.store) (g.S.BlockStore.rest c.renew_block.new.store) a.names.items c.self.invariant
+    c.renew_block.ensures.fixed c.in_err-room.ensures.answer
 
 pub invariant_of-self-2 : goal.invariant_of-self-2
 invariant_of-self-2 g c =
     let a = c.self.inside in
-    agrees-kept (g.S.BlockStore.zone a.store) (g.S.BlockStore.zone c.renew_block.new.store) (g.S.BlockStore.rest a.store) (g.S.BlockStore.rest c.renew_block.new.store) a.names.items c.self.invariant c.renew_block.ensures.fixed c.in_ok-room.ensures.answer.slots
+    agrees-kept (g.S.BlockStore.zone a.store) (g.S.BlockStore.zone c.renew_block.new.store)
+    (g.S.BlockStore.rest a.store) (g.S.BlockStore.rest c.renew_block.new.store) a.names.items c.self.invariant
+    c.renew_block.ensures.fixed c.in_ok-room.ensures.answer.slots

@@ -16,12 +16,17 @@ pub returns-in_default-clause-answer : goal.returns-in_default-clause-answer
 returns-in_default-clause-answer g c =
     let fits : Fits w64 c.self.inside.log.searches = search rules in
     let same = ap (λ (m : Memory). m.log.searches) c.self.view_is in
-    reserve-too_large c.args.size c.args.self.now (sym c.phys.ensures ∙ c.in_default.is) (let P : ℕ → Type 0 = λ k. k ≤ 18446744073709551615 in subst P same (omega (arith, fits)))
+    reserve-too_large c.args.size c.args.self.now (sym c.phys.ensures ∙ c.in_default.is)
+    (let P : ℕ → Type 0 = λ k. k ≤ 18446744073709551615 in subst P same (omega (arith, fits)))
 
-reserved : (g : Over) (c : In_ok-room g) → Ends (reserve_mem c.args.size) (g.S.BlockStore.zone c.self.inside.store) (g.S.BlockStore.rest c.self.inside.store) c.self.inside.names.items (served_answer (is_some c.in_ok-room.room.place)) (g.S.BlockStore.zone c.make_base.new.store) (g.S.BlockStore.rest c.make_base.new.store) c.self.inside.names.items
+reserved : (g : Over) (c : In_ok-room g) → Ends (reserve_mem c.args.size) (g.S.BlockStore.zone c.self.inside.store)
+    (g.S.BlockStore.rest c.self.inside.store) c.self.inside.names.items
+    (served_answer (is_some c.in_ok-room.room.place)) (g.S.BlockStore.zone c.make_base.new.store)
+    (g.S.BlockStore.rest c.make_base.new.store) c.self.inside.names.items
 reserved g c =
     let now = c.in_ok-room.ensures in
-    reserve-ends _ _ _ (g.met.S.BlockStore.masters c.self.inside.store) c.self.invariant _ _ c.make_base.ensures.fixed c.args.size c.in-Some.bytes (sym c.phys.ensures ∙ c.in-Some.is) now.rest c.in_ok-room.room.place now.place
+    reserve-ends _ _ _ (g.met.S.BlockStore.masters c.self.inside.store) c.self.invariant _ _ c.make_base.ensures.fixed
+    c.args.size c.in-Some.bytes (sym c.phys.ensures ∙ c.in-Some.is) now.rest c.in_ok-room.room.place now.place
     (λ none. at_none c.in_ok-room.room.place _ _ none now.none)
 
 pub returns-clause-answer : goal.returns-clause-answer
@@ -29,9 +34,12 @@ returns-clause-answer g c =
     let a = c.self.inside in
     let now = c.in_ok-room.ensures in
     rw (c.account.ensures.reply, c.account.ensures.counted, c.is_some.ensures)
-    (served-looking (reserve_mem c.args.size) (reserve_searches (phys c.args.size)) c.args.self.now (g.S.BlockStore.zone a.store) _ (g.S.BlockStore.rest a.store) (g.S.BlockStore.rest c.make_base.new.store) a.names.items a.log (is_some c.in_ok-room.room.place) c.self.view_is
+    (served-looking (reserve_mem c.args.size) (reserve_searches (phys c.args.size)) c.args.self.now
+    (g.S.BlockStore.zone a.store) _ (g.S.BlockStore.rest a.store) (g.S.BlockStore.rest c.make_base.new.store)
+    a.names.items a.log (is_some c.in_ok-room.room.place) c.self.view_is
     (reserved g (goal.at.returns-clause-answer g c).In_ok-room) c.in_ok-room.room.searches
-    (now.searches ∙ sym (reserve_searches-is _ _ _ (g.met.S.BlockStore.masters a.store) c.self.invariant c.args.size c.in-Some.bytes (sym c.phys.ensures ∙ c.in-Some.is))) now.rest.moves)
+    (now.searches ∙ sym (reserve_searches-is _ _ _ (g.met.S.BlockStore.masters a.store) c.self.invariant c.args.size
+    c.in-Some.bytes (sym c.phys.ensures ∙ c.in-Some.is))) now.rest.moves)
 
 pub invariant_of-self : goal.invariant_of-self
 invariant_of-self g c = agrees-same _ _ _ _ _ c.self.invariant c.make_base.ensures.fixed c.make_base.ensures.rest

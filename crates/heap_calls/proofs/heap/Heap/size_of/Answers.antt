@@ -8,21 +8,29 @@ pub returns-in_err-place-clause-answer : goal.returns-in_err-place-clause-answer
 returns-in_err-place-clause-answer g c =
     let p = err_from_is_err_and c.from_residual.result c.from_residual.ensures.1 in
     let a = c.self.inside in
-    let found = found_in (g.S.BlockStore.zone a.store) (g.S.BlockStore.rest a.store).slots a.names.items _ c.args.handle (Err c.in_err-place.field-0.0) c.deref.ensures.value c.in_err-place.ensures in
-    rw (p.1, p.2) (refused_for c.in_err-place.field-0.0 (g.S.BlockStore.zone a.store) (g.S.BlockStore.rest a.store) a.names.items a.log c.args.handle c.args.self.now c.self.view_is found (λ s k. (Ok (length (content_of k.at.here)), s)))
+    let found = found_in (g.S.BlockStore.zone a.store) (g.S.BlockStore.rest a.store).slots a.names.items _ c.args.handle
+    (Err c.in_err-place.field-0.0) c.deref.ensures.value c.in_err-place.ensures in
+    rw (p.1, p.2) (refused_for c.in_err-place.field-0.0 (g.S.BlockStore.zone a.store) (g.S.BlockStore.rest a.store)
+    a.names.items a.log c.args.handle c.args.self.now c.self.view_is found
+    (λ s k. (Ok (length (content_of k.at.here)), s)))
 
 pub overflow_cast-result : goal.overflow_cast-result
 overflow_cast-result g c =
     let a = c.self.inside in
-    let found = found_in (g.S.BlockStore.zone a.store) (g.S.BlockStore.rest a.store).slots a.names.items _ c.args.handle (Ok c.in_ok-place.place) c.deref.ensures.value c.in_ok-place.ensures in
-    let bytes = at_place c.in_ok-place.place (g.S.BlockStore.zone a.store) found.1 (λ s. c.bytes.result.now ≡ content_of s.here) found.3 c.bytes.ensures in
+    let found = found_in (g.S.BlockStore.zone a.store) (g.S.BlockStore.rest a.store).slots a.names.items _ c.args.handle
+    (Ok c.in_ok-place.place) c.deref.ensures.value c.in_ok-place.ensures in
+    let bytes = at_place c.in_ok-place.place (g.S.BlockStore.zone a.store) found.1
+    (λ s. c.bytes.result.now ≡ content_of s.here) found.3 c.bytes.ensures in
     let n : length c.bytes.result.now ≡ length (content_of found.1.here) = ap length bytes in
     omega (arith, found.5)
 
 pub returns-clause-answer : goal.returns-clause-answer
 returns-clause-answer g c =
     let a = c.self.inside in
-    let found = found_in (g.S.BlockStore.zone a.store) (g.S.BlockStore.rest a.store).slots a.names.items _ c.args.handle (Ok c.in_ok-place.place) c.deref.ensures.value c.in_ok-place.ensures in
-    let bytes = at_place c.in_ok-place.place (g.S.BlockStore.zone a.store) found.1 (λ s. c.bytes.result.now ≡ content_of s.here) found.3 c.bytes.ensures in
-    on_found (g.S.BlockStore.zone a.store) (g.S.BlockStore.rest a.store) a.names.items a.log c.args.handle c.args.self.now _ c.self.view_is found.2 (λ s k. (Ok (length (content_of k.at.here)), s))
+    let found = found_in (g.S.BlockStore.zone a.store) (g.S.BlockStore.rest a.store).slots a.names.items _ c.args.handle
+    (Ok c.in_ok-place.place) c.deref.ensures.value c.in_ok-place.ensures in
+    let bytes = at_place c.in_ok-place.place (g.S.BlockStore.zone a.store) found.1
+    (λ s. c.bytes.result.now ≡ content_of s.here) found.3 c.bytes.ensures in
+    on_found (g.S.BlockStore.zone a.store) (g.S.BlockStore.rest a.store) a.names.items a.log c.args.handle
+    c.args.self.now _ c.self.view_is found.2 (λ s k. (Ok (length (content_of k.at.here)), s))
     ∙ ap (λ l. (Ok (length l), c.args.self.now)) (content_of-rename _ _ found.1.here ∙ sym bytes)

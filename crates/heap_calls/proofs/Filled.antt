@@ -1,0 +1,5 @@
+pub mod Replaced
+pub mod Named
+pub mod Owned
+pub mod Refilled
+pub mod Adding

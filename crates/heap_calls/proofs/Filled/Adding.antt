@@ -1,0 +1,77 @@
+use Rattle.std.proofs.Common.{◌≡◌, ℕ, false, true, List, length, refl, sym, ◌∙◌, ap, subst, Some, None}
+use Rattle.std.proofs.Common.{Ok}
+use Rattle.std.proofs.Common.{Err, Result, slice_get, slice_set}
+use Rattle.std.specs.Bool.{IsTrue}
+use Rattle.mac_words.specs.declared.code.OsErr.{OsErr}
+use Rattle.mac_words.specs.declared.code.TheConstants.OsErr.{MEM_FULL}
+use Rattle.block_store.specs.declared.flags.Flags.{Flags}
+use Rattle.block_store.specs.Block.{Block}
+use Rattle.block_store.specs.Slot.{Used, is_used}
+use Rattle.block_store.specs.Rest.{Rest, IsRest, with_slot}
+use Rattle.heap_calls.specs.declared.log.Log.{Log}
+use Rattle.heap_calls.specs.declared.anchor.Anchor.{Anchor}
+use Rattle.heap_calls.specs.declared.anchor.Anchor.TheVariants.{Handle}
+use Rattle.heap_calls.specs.declared.refusal.Refusal.TheVariants.{Code}
+use Rattle.heap_calls.specs.State.{Memory, Plain, Resource}
+use Rattle.heap_calls.specs.Inside.{cast, inside, new_inside, number_if}
+use Rattle.heap_calls.specs.Inner.Filling.{IsNext}
+use Rattle.heap_calls.specs.Inner.Numbered.{state_of, memory_of, Agrees}
+use Rattle.heap_calls.proofs.Filled.Owned.{get-last, set-last, owned-answer}
+use Rattle.heap_calls.proofs.NewBlocks.NewHandles.{with_handle}
+use Rattle.heap_calls.proofs.Numbering.Roles.{agrees-cast, cast-done, inside-done}
+
+-- New resources one after another.
+
+-- a new handle's slot is used
+pub added-used : (zone : List Block) (rest : Rest) (es : List Anchor) (slot : ℕ)
+    → Agrees zone rest (with_handle es slot)
+    → IsTrue (is_used (rest.slots slot))
+added-used zone rest es slot agrees = agrees.used (length es) slot false (get-last es (Handle slot false))
+
+-- its resource flag is set
+module _ (zone zone' : List Block) (rest rest' : Rest) (es : List Anchor) (slot : ℕ)
+    (agrees : Agrees zone rest (with_handle es slot))
+    (now : IsRest (with_slot slot (Used true) rest.unused rest) rest') (same : zone' ≡ zone)
+  where
+    at : slice_get (with_handle es slot) (length es) ≡ Some (Handle slot false)
+    at = get-last es (Handle slot false)
+
+    still : slice_set (with_handle es slot) (length es) (Handle slot false) ≡ with_handle es slot
+    still = set-last es (Handle slot false) (Handle slot false)
+
+    pub added-agrees : Agrees zone' rest' (with_handle es slot)
+    added-agrees =
+        let P : List Block → Type 0 = λ z. Agrees z rest' (with_handle es slot) in
+        let Q : List Anchor → Type 0 = λ l. Agrees zone rest' l in
+        subst P (sym same) (subst Q still (agrees-cast zone rest rest' (with_handle es slot) (length es) slot
+        (Used true)
+        false agrees at refl now.slots now.unused now.all))
+
+    added-done : (log : Log) → memory_of zone' rest' (with_handle es slot) log
+        ≡ inside (cast (λ _. Resource) (length es)) (memory_of zone rest (with_handle es slot) log)
+    added-done log =
+        inside-done (cast (λ _. Resource) (length es)) (memory_of zone rest (with_handle es slot) log) zone zone' rest
+        rest' (with_handle es slot) (with_handle es slot) log refl
+        (cast-done zone rest rest' (with_handle es slot) (length es) slot (Used true) false agrees at refl now.slots
+        now.unused now.all (λ _. Resource) refl
+        ∙ ap (λ l. state_of zone rest'.slots l) still
+        ∙ ap (λ z. state_of z rest'.slots (with_handle es slot)) (sym same))
+        now.window now.moves
+
+    pub added-next : (flags : Flags) (x : List ℕ) (old : Memory) (log : Log)
+        → new_inside Plain flags x old ≡ (Ok (length es), memory_of zone rest (with_handle es slot) log)
+        → IsNext flags x old (Some (length es)) (memory_of zone' rest' (with_handle es slot) log)
+    added-next flags x old log is =
+        let new = memory_of zone' rest' (with_handle es slot) log in
+        let done : new_inside Resource flags x old ≡ (Ok (length es), new) =
+        owned-answer false flags x old (memory_of zone rest (with_handle es slot) log) new (Ok (length es)) is
+        (added-done log) in
+        (ap (λ (a : Result ℕ OsErr × Memory). number_if a.0) done, ap (λ (a : Result ℕ OsErr × Memory). a.1) done)
+
+-- there is no room
+pub not-added : (flags : Flags) (x : List ℕ) (old new : Memory) → new_inside Plain flags x old ≡ (Err MEM_FULL, new)
+    → IsNext flags x old None new
+not-added flags x old new is =
+    let done : new_inside Resource flags x old ≡ (Err MEM_FULL, new) =
+    owned-answer false flags x old new new (Err (Code MEM_FULL)) is refl in
+    (ap (λ (a : Result ℕ OsErr × Memory). number_if a.0) done, ap (λ (a : Result ℕ OsErr × Memory). a.1) done)

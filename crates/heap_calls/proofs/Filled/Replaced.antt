@@ -1,0 +1,262 @@
+use Rattle.std.proofs.Common.{◌≡◌, ℕ, ◌+◌, ◌-◌, ◌≤◌, zero, suc, Bool, true, false, ◌==◌, List, [], ◌∷◌, ◌++◌, length}
+use Rattle.std.proofs.Common.{replicate, refl, sym, ◌∙◌, ap, cond, subst, map, arith, Option, Some, None, nat_le, drop}
+use Rattle.std.proofs.Common.{filter}
+use Rattle.std.specs.Option.{option_map, IfSome, IsSome, IsSomeAnd}
+use Rattle.std.proofs.lemmas.Option.{none-some, same_Some}
+use Rattle.std.proofs.lemmas.Bool.{or_parts}
+use Rattle.std.proofs.lemmas.List.{map-append, append-nil, length-replicate}
+use Rattle.std.proofs.Math.Seq.{drop-length}
+use Rattle.std.proofs.lemmas.List.Elements.{filter-append}
+use Rattle.mac_words.specs.Size.{padded}
+use Rattle.windows.specs.Writes.{written}
+use Rattle.block_store.specs.declared.flags.Flags.{Flags}
+use Rattle.block_store.specs.declared.sparing.Sparing.{Sparing}
+use Rattle.block_store.specs.Block.{Block, Free, Fixed, Masters, Relocatable, size, count, add, tidy, is_relocatable}
+use Rattle.block_store.specs.Block.{is_fixed, no_flags, content_of, with_content}
+use Rattle.block_store.specs.Seen.{with_flags}
+use Rattle.block_store.specs.Run.{has}
+use Rattle.block_store.specs.Room.{Spot, spot, spot_at, raised, filled, room, put_in_place}
+use Rattle.block_store.specs.Find.{FindsLowest}
+use Rattle.block_store.specs.Sparing.{spared, opened}
+use Rattle.block_store.proofs.Zone.Tidy.{total-tidy, spot-is, spot-passes}
+use Rattle.block_store.proofs.Zone.Passing.{filter-none}
+use Rattle.block_store.proofs.Regroup.Packed.{once-below}
+use Rattle.block_store.proofs.Plain.Options.{some_and}
+use Rattle.block_store.proofs.Emptied.Sparing.{filter-tidy, spot-lowest, lowest, mapped}
+use Rattle.heap_calls.specs.Inner.Search.{seat}
+use Rattle.heap_calls.specs.Inner.NewBlock.{fresh_block, zone_with_block}
+use Rattle.heap_calls.specs.Inner.Filling.{IsFresh, IsReplaced}
+use Rattle.heap_calls.specs.Inner.Numbered.{KeepsFixed}
+use Rattle.heap_calls.proofs.Numbering.Numbers.{leads_to-same}
+use Rattle.heap_calls.proofs.Numbering.Changing.{fixed-at}
+use Rattle.heap_calls.proofs.Room.Seats.{room-seat}
+use Rattle.heap_calls.proofs.Room.Staying.{fixed-spot, fixed-same, fixed-then}
+
+-- A new block that gets flags and bytes of its own is as one that was put in its place with them.
+
+-- the block of a slot with other flags and bytes
+abbrev pub replaced : ℕ → Flags → List ℕ → Block → Block
+replaced slot flags x b = cond (is_relocatable slot b) (Relocatable slot flags x) b
+
+add-replaced : (slot : ℕ) (flags : Flags) (x : List ℕ) (b : Block) (bs : List Block)
+    → add (replaced slot flags x b) (map (replaced slot flags x) bs) ≡ map (replaced slot flags x) (add b bs)
+add-replaced slot flags x (Free zero) bs = refl
+add-replaced slot flags x (Free (suc n)) [] = refl
+add-replaced slot flags x (Free (suc n)) (Free m ∷ bs) = refl
+add-replaced slot flags x (Free (suc n)) (Fixed id content ∷ bs) = refl
+add-replaced slot flags x (Free (suc n)) (Masters ∷ bs) = refl
+add-replaced slot flags x (Free (suc n)) (Relocatable id old content ∷ bs) = cases (id == slot)
+  where
+    cases : (t : Bool) → add (Free (suc n)) (cond t (Relocatable slot flags x) (Relocatable id old content)
+        ∷ map (replaced slot flags x) bs) ≡ Free (suc n) ∷ cond t (Relocatable slot flags x)
+        (Relocatable id old content)
+        ∷ map (replaced slot flags x) bs
+    cases true = refl
+    cases false = refl
+add-replaced slot flags x (Fixed id content) bs = refl
+add-replaced slot flags x Masters bs = refl
+add-replaced slot flags x (Relocatable id old content) bs = cases (id == slot)
+  where
+    cases : (t : Bool) → add (cond t (Relocatable slot flags x) (Relocatable id old content))
+        (map (replaced slot flags x) bs)
+        ≡ cond t (Relocatable slot flags x) (Relocatable id old content) ∷ map (replaced slot flags x) bs
+    cases true = refl
+    cases false = refl
+
+tidy-replaced : (slot : ℕ) (flags : Flags) (x : List ℕ) (bs : List Block) → tidy (map (replaced slot flags x) bs)
+    ≡ map (replaced slot flags x) (tidy bs)
+tidy-replaced slot flags x [] = refl
+tidy-replaced slot flags x (b ∷ bs) = ap (add (replaced slot flags x b)) (tidy-replaced slot flags x bs)
+    ∙ add-replaced slot flags x b (tidy bs)
+
+none-replaced : (slot : ℕ) (flags : Flags) (x : List ℕ) (bs : List Block) → has (is_relocatable slot) bs ≡ false
+    → map (replaced slot flags x) bs ≡ bs
+none-replaced slot flags x [] e = refl
+none-replaced slot flags x (b ∷ bs) e =
+    let parts = or_parts (is_relocatable slot b) (has (is_relocatable slot) bs) e in
+    ap (λ t. cond t (Relocatable slot flags x) b ∷ map (replaced slot flags x) bs) parts.0
+    ∙ ap (λ l. b ∷ l) (none-replaced slot flags x bs parts.1)
+
+-- the new block of a slot, put in its place with other flags and bytes
+filled-replaced : (slot : ℕ) (flags : Flags) (x y : List ℕ) (s : Spot) → length x ≡ length y
+    → has (is_relocatable slot) s.below ≡ false → has (is_relocatable slot) s.above ≡ false
+    → map (replaced slot flags x) (filled (Relocatable slot no_flags y) s) ≡ filled (Relocatable slot flags x) s
+filled-replaced slot flags x y s same below above =
+    sym (tidy-replaced slot flags x (s.below ++ Relocatable slot no_flags y ∷ Free left ∷ s.above))
+    ∙ ap tidy (map-append (replaced slot flags x) s.below (Relocatable slot no_flags y ∷ Free left ∷ s.above))
+    ∙ ap (λ l. tidy (l ++ replaced slot flags x (Relocatable slot no_flags y) ∷ Free left
+    ∷ map (replaced slot flags x) s.above)) (none-replaced slot flags x s.below below)
+    ∙ ap (λ t. tidy (s.below ++ cond t (Relocatable slot flags x) (Relocatable slot no_flags y) ∷ Free left
+    ∷ map (replaced slot flags x) s.above)) (leads_to-same slot)
+    ∙ ap (λ l. tidy (s.below ++ Relocatable slot flags x ∷ Free left ∷ l))
+    (none-replaced slot flags x s.above above)
+    ∙ ap (λ n. tidy (s.below ++ Relocatable slot flags x ∷ Free (size s.here - padded n) ∷ s.above)) (sym same)
+  where
+    left : ℕ
+    left = size s.here - size (Relocatable slot no_flags y)
+
+spot-replaced : (slot : ℕ) (flags : Flags) (x : List ℕ) (zone : List Block) (s : Spot)
+    → spot (is_relocatable slot) zone ≡ Some s
+    → count (is_relocatable slot) zone ≤ 1
+    → map (replaced slot flags x) zone ≡ s.below ++ Relocatable slot flags x ∷ s.above
+spot-replaced slot flags x zone s is once =
+    let passes = spot-passes (is_relocatable slot) zone s is in
+    let split = spot-is (is_relocatable slot) zone s is in
+    let P : List Block → Type 0 = λ z. count (is_relocatable slot) z ≤ 1 in
+    let none = once-below (is_relocatable slot) s.below s.above s.here passes (subst P split once) in
+    ap (map (replaced slot flags x)) split ∙ map-append (replaced slot flags x) s.below (s.here ∷ s.above)
+    ∙ ap (λ l. l ++ replaced slot flags x s.here ∷ map (replaced slot flags x) s.above)
+    (none-replaced slot flags x s.below none.0)
+    ∙ ap (λ t. s.below ++ cond t (Relocatable slot flags x) s.here ∷ map (replaced slot flags x) s.above) passes
+    ∙ ap (λ l. s.below ++ Relocatable slot flags x ∷ l) (none-replaced slot flags x s.above none.1)
+
+-- a new block that was put in its place
+module _ (sparing : Sparing) (n slot : ℕ) (ready zone1 : List Block)
+    (put : zone_with_block sparing slot n ready ≡ Some zone1) (once : count (is_relocatable slot) zone1 ≤ 1)
+  where
+    abbrev new : Block
+    new = fresh_block slot n
+
+    found : (s : Spot) × (seat (size new) sparing ready ≡ Some s) × (filled new s ≡ zone1)
+    found = mapped (filled new) (seat (size new) sparing ready) zone1 (sym (room-seat new sparing ready) ∙ put)
+
+    alone : (has (is_relocatable slot) found.0.below ≡ false) × (has (is_relocatable slot) found.0.above ≡ false)
+    alone =
+        let s = found.0 in
+        let left = size s.here - size new in
+        let same : count (is_relocatable slot) zone1 ≡ count (is_relocatable slot)
+        (s.below ++ new ∷ Free left ∷ s.above) =
+        ap (count (is_relocatable slot)) (sym found.2) ∙ total-tidy (λ b. cond (is_relocatable slot b) 1 0)
+        (λ n m. refl) (s.below ++ new ∷ Free left ∷ s.above) in
+        let none = once-below (is_relocatable slot) s.below (Free left ∷ s.above) new (leads_to-same slot)
+        (omega (arith, once, same)) in
+        (none.0, none.1)
+
+    -- it is there
+    pub new-here : option_map (λ (s : Spot). s.here) (spot (is_relocatable slot) zone1) ≡ Some new
+    new-here =
+        let s = found.0 in
+        let left = size s.here - size new in
+        spot-lowest (is_relocatable slot) zone1
+        ∙ ap (λ z. lowest (filter (is_relocatable slot) z)) (sym found.2)
+        ∙ ap lowest (filter-tidy (is_relocatable slot) (λ n. refl) (s.below ++ new ∷ Free left ∷ s.above)
+        ∙ filter-append (is_relocatable slot) s.below (new ∷ Free left ∷ s.above))
+        ∙ ap (λ l. lowest (l ++ filter (is_relocatable slot) (new ∷ Free left ∷ s.above)))
+        (filter-none (is_relocatable slot) s.below alone.0)
+        ∙ ap (λ t. lowest (cond t (new ∷ filter (is_relocatable slot) s.above) (filter (is_relocatable slot) s.above)))
+        (leads_to-same slot)
+
+    pub new-fresh : IsFresh slot n zone1
+    new-fresh = cases (spot (is_relocatable slot) zone1) new-here
+      where
+        cases : (o : Option Spot) → option_map (λ (s : Spot). s.here) o ≡ Some new
+            → IsSomeAnd o (λ s. s.here ≡ fresh_block slot n)
+        cases None e = absurd (none-some _ e)
+        cases (Some s) e = same_Some _ _ e
+
+    -- and with other flags and bytes, it is as if it had been put there with them
+    pub put-replaced : (flags : Flags) (x : List ℕ) (zone' : List Block) → length x ≡ n
+        → IsReplaced slot flags x zone1 zone'
+        → room (put_in_place (Relocatable slot flags x)) (spared sparing) (opened sparing ready) ≡ Some zone'
+    put-replaced flags x zone' long done =
+        let there = some_and (spot (is_relocatable slot) zone1) (λ s. s.here ≡ fresh_block slot n) new-fresh in
+        let P : Option Spot → Type 0 = λ o. IfSome o (λ s. zone' ≡ s.below ++ Relocatable slot flags x ∷ s.above) in
+        let now : P (Some there.0) = subst P there.1 done in
+        room-seat (Relocatable slot flags x) sparing ready
+        ∙ ap (λ k. option_map (filled (Relocatable slot flags x)) (seat (padded k) sparing ready)) same
+        ∙ ap (option_map (filled (Relocatable slot flags x))) found.1
+        ∙ ap Some (sym (filled-replaced slot flags x (replicate n 0) found.0 same alone.0 alone.1)
+        ∙ ap (map (replaced slot flags x)) found.2 ∙ spot-replaced slot flags x zone1 there.0 there.1 once ∙ sym now)
+      where
+        same : length x ≡ length {A = ℕ} (replicate n 0)
+        same = long ∙ sym (length-replicate n 0)
+
+-- another block at the spot of a place
+pub spot_at-changed : (place : ℕ) (bs : List Block) (s : Spot) (b : Block) → spot_at place bs ≡ Some s
+    → spot_at place (s.below ++ b ∷ s.above) ≡ Some (record s { here = b })
+spot_at-changed place [] s b e = absurd (none-some _ e)
+spot_at-changed place (c ∷ above) s b e = cases (place == 0) refl (nat_le (size c) place) refl
+    (spot_at (place - size c) above) (λ q. spot_at-changed (place - size c) above q b) e
+  where
+    cases : (t : Bool) → (place == 0) ≡ t → (u : Bool) → nat_le (size c) place ≡ u → (o : Option Spot)
+        → ((q : Spot) → o ≡ Some q → spot_at (place - size c) (q.below ++ b ∷ q.above) ≡ Some (record q { here = b }))
+        → cond t (Some (record { below = []; here = c; above = above })) (cond u (option_map (raised c) o) None)
+        ≡ Some s → spot_at place (s.below ++ b ∷ s.above) ≡ Some (record s { here = b })
+    cases true is u fits o rest e =
+        let P : Spot → Type 0 = λ s. spot_at place (s.below ++ b ∷ s.above) ≡ Some (record s { here = b }) in
+        subst P (same_Some _ _ e)
+        (ap (λ t. cond t (Some (let s : Spot = record { below = []; here = b; above = above } in s))
+        (cond (nat_le (size b) place) (option_map (raised b) (spot_at (place - size b) above)) None)) is)
+    cases false is false fits o rest e = absurd (none-some _ e)
+    cases false is true fits None rest e = absurd (none-some _ e)
+    cases false is true fits (Some q) rest e =
+        let P : Spot → Type 0 = λ s. spot_at place (s.below ++ b ∷ s.above) ≡ Some (record s { here = b }) in
+        subst P (same_Some _ _ e)
+        (ap (λ t. cond t (Some (let s : Spot = record { below = []; here = c; above = q.below ++ b ∷ q.above } in s))
+        (cond (nat_le (size c) place) (option_map (raised c) (spot_at (place - size c) (q.below ++ b ∷ q.above))) None))
+        is
+        ∙ ap (λ u. cond u (option_map (raised c) (spot_at (place - size c) (q.below ++ b ∷ q.above))) None) fits
+        ∙ ap (option_map (raised c)) (rest q refl))
+
+-- all bytes of a block are written anew
+written-all : (x y : List ℕ) → length y ≡ length x → written 0 x y ≡ x
+written-all x y same =
+    ap (λ l. x ++ l) (ap (λ k. drop k y) (let z : 0 + length x ≡ length y = omega (arith, same) in z) ∙ drop-length y)
+    ∙ append-nil x
+
+-- the bytes and the flags of a new block, one after the other
+module _ (slot place : ℕ) (flags : Flags) (x : List ℕ) (zone zone1 : List Block)
+    (fresh : IsFresh slot (length x) zone) (found : FindsLowest (is_relocatable slot) zone (Some place))
+  where
+    here : found.0.here ≡ fresh_block slot (length x)
+    here = let P : Option Spot → Type 0 = λ o. IsSomeAnd o (λ s. s.here ≡ fresh_block slot (length x)) in
+        let h : P (Some found.0) = subst P found.1 fresh in h
+
+    -- there is room for the bytes
+    pub may-fill : IsSomeAnd (spot_at place zone) (λ s. 0 + length x ≤ length (content_of s.here))
+    may-fill =
+        let P : Option Spot → Type 0 = λ o. IsSomeAnd o (λ s. 0 + length x ≤ length (content_of s.here)) in
+        let long : length (content_of found.0.here) ≡ length x = ap (λ b. length (content_of b)) here
+        ∙ length-replicate (length x) 0 in
+        subst P (sym found.2) (omega (arith, long))
+
+    module _ (done : IfSome (spot_at place zone) (λ s. zone1 ≡ s.below
+        ++ with_content (written 0 x (content_of s.here)) s.here ∷ s.above))
+      where
+        with_bytes : zone1 ≡ found.0.below ++ Relocatable slot no_flags x ∷ found.0.above
+        with_bytes =
+            let P : Option Spot → Type 0 = λ o. IfSome o (λ s. zone1 ≡ s.below
+            ++ with_content (written 0 x (content_of s.here)) s.here ∷ s.above) in
+            let first : P (Some found.0) = subst P found.2 done in
+            first ∙ ap (λ b. found.0.below ++ with_content (written 0 x (content_of b)) b ∷ found.0.above) here
+            ∙ ap (λ l. found.0.below ++ Relocatable slot no_flags l ∷ found.0.above)
+            (written-all x (replicate (length x) 0) (length-replicate (length x) 0))
+
+        still : spot_at place zone1 ≡ Some (record found.0 { here = Relocatable slot no_flags x })
+        still = ap (spot_at place) with_bytes ∙ spot_at-changed place zone found.0 (Relocatable slot no_flags x) found.2
+
+        pub may-flag : IsSome (spot_at place zone1)
+        may-flag = let P : Option Spot → Type 0 = λ o. IsSome o in subst P (sym still) refl
+
+        module _ (zone' : List Block) (flagged : IfSome (spot_at place zone1) (λ s. zone' ≡ s.below
+            ++ with_flags flags s.here ∷ s.above))
+          where
+            both : zone' ≡ found.0.below ++ Relocatable slot flags x ∷ found.0.above
+            both = let P : Option Spot → Type 0 = λ o. IfSome o (λ s. zone' ≡ s.below
+                ++ with_flags flags s.here ∷ s.above) in
+                let h : P (Some (record found.0 { here = Relocatable slot no_flags x })) = subst P still flagged in h
+
+            pub is-replaced : IsReplaced slot flags x zone zone'
+            is-replaced =
+                let P : Option Spot → Type 0 = λ o. IfSome o (λ s. zone' ≡ s.below ++ Relocatable slot flags x
+                ∷ s.above) in
+                subst P (sym found.1) both
+
+            pub fixed-replaced : KeepsFixed zone zone'
+            fixed-replaced =
+                let s = found.0 in
+                let now = s.below ++ Relocatable slot flags x ∷ s.above in
+                fixed-at place zone zone' s found.2
+                (fixed-then (s.below ++ s.here ∷ s.above) now zone'
+                (fixed-spot s.below s.above s.here (Relocatable slot flags x)
+                (λ p. sym (ap (is_fixed p) here))) (fixed-same now zone' both))

@@ -1,0 +1,11 @@
+pub mod Ways
+pub mod Paths
+pub mod Knowledge
+pub mod Standstill
+pub mod Survival
+pub mod Refusals
+pub mod Numbers
+pub mod Unmoved
+pub mod FewLooks
+pub mod Place
+pub mod Roles

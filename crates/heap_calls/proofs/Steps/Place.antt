@@ -1,0 +1,88 @@
+use Rattle.std.proofs.Common.{◌≡◌, ℕ, Bool, true, false, List, [], ◌∷◌, ◌++◌, refl, ◌∙◌, ap, cond}
+use Rattle.block_store.specs.Rest.{Site}
+use Rattle.heap_calls.specs.State.{Memory}
+use Rattle.heap_calls.specs.Inside.{has_block, refill_inside}
+use Rattle.heap_calls.specs.Path.{Step, NewFilled, NewEmptied, Refill, Release, Cast, stepped, read_by, refusal, walk}
+use Rattle.heap_calls.specs.Path.{reads}
+use Rattle.heap_calls.proofs.Tries.Elsewhere.{elsewhere}
+
+-- Steps on a heap don't hang on where it lies, and leave that, the code that MemError tells and what is busy.
+
+pub step-elsewhere : (window : Site) (step : Step) (m : Memory)
+    → stepped step (elsewhere window m) ≡ elsewhere window (stepped step m)
+step-elsewhere window (NewFilled role flags bytes) m = refl
+step-elsewhere window (NewEmptied role) m = refl
+step-elsewhere window (Refill h flags bytes) m = by_block (has_block h m.heap)
+  where
+    by_block : (t : Bool) → cond t (elsewhere window m) (refill_inside h flags bytes (elsewhere window m)).1
+        ≡ elsewhere window (cond t m (refill_inside h flags bytes m).1)
+    by_block true = refl
+    by_block false = refl
+step-elsewhere window (Release h) m = refl
+step-elsewhere window (Cast change h) m = refl
+
+pub refusal-elsewhere : (window : Site) (step : Step) (m : Memory)
+    → refusal step (elsewhere window m) ≡ refusal step m
+refusal-elsewhere window (NewFilled role flags bytes) m = refl
+refusal-elsewhere window (NewEmptied role) m = refl
+refusal-elsewhere window (Refill h flags bytes) m = refl
+refusal-elsewhere window (Release h) m = refl
+refusal-elsewhere window (Cast change h) m = refl
+
+read-elsewhere : (window : Site) (step : Step) (m : Memory) → read_by step (elsewhere window m) ≡ read_by step m
+read-elsewhere window (NewFilled role flags bytes) m = refl
+read-elsewhere window (NewEmptied role) m = refl
+read-elsewhere window (Refill h flags bytes) m = refl
+read-elsewhere window (Release h) m = refl
+read-elsewhere window (Cast change h) m = refl
+
+pub steps-elsewhere : (window : Site) (steps : List Step) (m : Memory)
+    → walk steps (elsewhere window m) ≡ elsewhere window (walk steps m)
+steps-elsewhere window [] m = refl
+steps-elsewhere window (step ∷ steps) m = ap (walk steps) (step-elsewhere window step m)
+    ∙ steps-elsewhere window steps (stepped step m)
+
+pub reads-elsewhere : (window : Site) (steps : List Step) (m : Memory)
+    → reads steps (elsewhere window m) ≡ reads steps m
+reads-elsewhere window [] m = refl
+reads-elsewhere window (step ∷ steps) m =
+    ap (λ (first : List (ℕ × List ℕ)). first ++ reads steps (stepped step (elsewhere window m)))
+    (read-elsewhere window step m)
+    ∙ ap (λ (n : Memory). read_by step m ++ reads steps n) (step-elsewhere window step m)
+    ∙ ap (λ (later : List (ℕ × List ℕ)). read_by step m ++ later) (reads-elsewhere window steps (stepped step m))
+
+-- what a step leaves of a memory
+pub record Rests (m n : Memory) : Type 0 where
+  pub busy : n.log.busy ≡ m.log.busy
+  pub code : n.log.code ≡ m.log.code
+  pub window : n.window ≡ m.window
+
+rests-same : (m : Memory) → Rests m m
+rests-same m = record { busy = refl; code = refl; window = refl }
+
+pub step-rests : (step : Step) (m : Memory) → Rests m (stepped step m)
+step-rests (NewFilled role flags bytes) m = record { busy = refl; code = refl; window = refl }
+step-rests (NewEmptied role) m = record { busy = refl; code = refl; window = refl }
+step-rests (Refill h flags bytes) m = by_block (has_block h m.heap)
+  where
+    by_block : (t : Bool) → Rests m (cond t m (refill_inside h flags bytes m).1)
+    by_block true = rests-same m
+    by_block false = record { busy = refl; code = refl; window = refl }
+step-rests (Release h) m = record { busy = refl; code = refl; window = refl }
+step-rests (Cast change h) m = record { busy = refl; code = refl; window = refl }
+
+pub steps-rest : (steps : List Step) (m : Memory) → Rests m (walk steps m)
+steps-rest [] m = rests-same m
+steps-rest (step ∷ steps) m =
+    let first = step-rests step m in
+    let later = steps-rest steps (stepped step m) in
+    record { busy = later.busy ∙ first.busy; code = later.code ∙ first.code; window = later.window ∙ first.window }
+
+pub steps-busy : (steps : List Step) (m : Memory) → (walk steps m).log.busy ≡ m.log.busy
+steps-busy steps m = (steps-rest steps m).busy
+
+pub steps-code : (steps : List Step) (m : Memory) → (walk steps m).log.code ≡ m.log.code
+steps-code steps m = (steps-rest steps m).code
+
+pub steps-window : (steps : List Step) (m : Memory) → (walk steps m).window ≡ m.window
+steps-window steps m = (steps-rest steps m).window

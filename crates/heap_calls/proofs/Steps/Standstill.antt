@@ -1,0 +1,140 @@
+use Rattle.std.proofs.Common.{◌≡◌, ℕ, ◌≤◌, Bool, true, false, ◌&&◌, ◌==◌, List, [], ◌∷◌, length, refl, sym, ◌∙◌, ap}
+use Rattle.std.proofs.Common.{subst, arith, Some}
+use Rattle.std.proofs.lemmas.Bool.{or_parts}
+use Rattle.std.proofs.lemmas.Bool.Decides.{Decides-eqb}
+use Rattle.block_store.specs.declared.flags.Flags.{Flags}
+use Rattle.block_store.specs.Block.{Block, Relocatable, sizes, count, is_relocatable, is_fixed}
+use Rattle.block_store.specs.Room.{put_in_place, room}
+use Rattle.block_store.proofs.Zone.Leading.{count-none}
+use Rattle.block_store.proofs.Zone.Alike.{Alike, alike-refl, alike-then, alike-put, alike-room, stands-is}
+use Rattle.block_store.proofs.Nonrelocatable.FixedCounts.{not_fixed-relocatable}
+use Rattle.heap_calls.specs.State.{State, Memory, Meaning}
+use Rattle.heap_calls.specs.Answer.{nothing}
+use Rattle.heap_calls.specs.Inside.{has_block}
+use Rattle.heap_calls.specs.Locked.{is_locked, locked_place}
+use Rattle.heap_calls.specs.Standing.{pointer_place}
+use Rattle.heap_calls.specs.Path.{Step, NewFilled, NewEmptied, Refill, Release, Cast, stepped, walk, read_by, put_reads}
+use Rattle.heap_calls.specs.Path.{lets, lets_of}
+use Rattle.heap_calls.proofs.Promises.Knowing.{Known, for_handle, none-handle, next-none}
+use Rattle.heap_calls.proofs.Promises.AlikeCalls.{Steady, never, steady-never, alike-slotted, alike-gone}
+use Rattle.heap_calls.proofs.Promises.LockedLaws.{steady-locked, fewer, some-locked, other-unlocked}
+use Rattle.heap_calls.proofs.Promises.StandingLaws.{steady-fixed}
+use Rattle.heap_calls.proofs.Steps.Ways.{Goes, step-goes, slotted-names}
+use Rattle.heap_calls.proofs.Steps.Knowledge.{step-known}
+
+-- What stands still through steps on a heap: a locked block, a pointer's block, and how many bytes a zone has.
+
+-- no block that a step makes or lets go is seen
+abbrev pub Unseen : (Block → Bool) → Step → State → Type 0
+Unseen seen (NewFilled role flags bytes) s = seen (Relocatable (length s.names) flags bytes) ≡ false
+Unseen seen (NewEmptied role) s = Unit {0}
+Unseen seen (Refill h flags bytes) s = has_block h s ≡ false → seen (Relocatable h flags bytes) ≡ false
+Unseen seen (Release h) s = (b : Block) → is_relocatable h b ≡ true → seen b ≡ false
+Unseen seen (Cast change h) s = Unit {0}
+
+module _ (seen : Block → Bool) (steady : Steady seen)
+  where
+    alike-new : (new : Block) → seen new ≡ false → (zone z : List Block)
+        → room (put_in_place new) nothing zone ≡ Some z → Alike seen zone z
+    alike-new new open_new zone z fits = alike-room seen steady.rigid (put_in_place new)
+        (alike-put seen steady.rigid new open_new) nothing zone z fits
+
+    alike-goes : (step : Step) (s : State) → Unseen seen step s → Goes (λ t. Alike seen s.zone t.zone) step s
+    alike-goes (NewFilled role flags bytes) s unseen = λ r is.
+        let a = alike-slotted seen steady nothing s r is in
+        let open_new : seen (Relocatable (length r.names) flags bytes) ≡ false =
+        ap (λ (ns : List Meaning). seen (Relocatable (length ns) flags bytes)) (slotted-names s r is) ∙ unseen in (
+          a,
+          λ z fits. alike-then seen steady.rigid s.zone r.zone z a
+              (alike-new (Relocatable (length r.names) flags bytes) open_new r.zone z fits),
+        )
+    alike-goes (NewEmptied role) s unseen = alike-slotted seen steady nothing s
+    alike-goes (Refill h flags bytes) s unseen = λ none is z fits.
+        alike-new (Relocatable h flags bytes) (unseen none) s.zone z fits
+    alike-goes (Release h) s unseen = λ is. alike-gone seen steady (is_relocatable h) unseen s.zone
+    alike-goes (Cast change h) s unseen = λ role is. alike-refl seen steady.rigid s.zone
+
+    pub alike-stepped : (step : Step) (m : Memory) → Unseen seen step m.heap
+        → Alike seen m.heap.zone (stepped step m).heap.zone
+    alike-stepped step m unseen =
+        step-goes (λ t. Alike seen m.heap.zone t.zone) step m (alike-refl seen steady.rigid m.heap.zone)
+        (alike-goes step m.heap unseen)
+
+-- a handle without a block isn't that of a locked one
+without-unlocked : (h place k : ℕ) (zone : List Block) → locked_place h zone ≡ Some place
+    → count (is_relocatable k) zone ≤ 0 → (flags : Flags) (bytes : List ℕ)
+    → is_locked h (Relocatable k flags bytes) ≡ false
+without-unlocked h place k zone is none flags bytes = cases (k == h) refl
+  where
+    cases : (t : Bool) → (k == h) ≡ t → (t && flags.locked) ≡ false
+    cases false e = refl
+    cases true e =
+        let few = subst (λ (j : ℕ). count (is_relocatable j) zone ≤ 0) ((Decides-eqb k h).0 e) none in
+        let l = fewer h zone in
+        some-locked h place zone is ((true && flags.locked) ≡ false) (omega arith)
+
+unseen-locked : (step : Step) (s : State) (bytes : ℕ → List ℕ) → Known s bytes → (h place : ℕ)
+    → lets step h ≡ false → locked_place h s.zone ≡ Some place → Unseen (is_locked h) step s
+unseen-locked (NewFilled role flags x) s bytes known h place keeps is =
+    without-unlocked h place (length s.names) s.zone is
+    (none-handle s bytes known (length s.names) (ap for_handle (next-none s.names))) flags x
+unseen-locked (NewEmptied role) s bytes known h place keeps is = tt
+unseen-locked (Refill k flags x) s bytes known h place keeps is = λ none.
+    without-unlocked h place k s.zone is (let n = count-none (is_relocatable k) s.zone none in omega arith) flags x
+unseen-locked (Release k) s bytes known h place keeps is = other-unlocked h k keeps
+unseen-locked (Cast change k) s bytes known h place keeps is = tt
+
+-- a locked block is where it was after a step that doesn't let its handle go
+pub step-locked : (step : Step) (m : Memory) (bytes : ℕ → List ℕ) → Known m.heap bytes → (h place : ℕ)
+    → lets step h ≡ false → locked_place h m.heap.zone ≡ Some place
+    → locked_place h (stepped step m).heap.zone ≡ Some place
+step-locked step m bytes known h place keeps is =
+    let zone = m.heap.zone in
+    let z = (stepped step m).heap.zone in
+    let alike = alike-stepped (is_locked h) (steady-locked h) step m
+    (unseen-locked step m.heap bytes known h place keeps is) in
+    stands-is (is_locked h) z ∙ sym alike.1 ∙ sym (stands-is (is_locked h) zone) ∙ is
+
+-- and after a path
+pub steps-locked : (steps : List Step) (m : Memory) (bytes : ℕ → List ℕ) → Known m.heap bytes → (h place : ℕ)
+    → lets_of steps h ≡ false → locked_place h m.heap.zone ≡ Some place
+    → locked_place h (walk steps m).heap.zone ≡ Some place
+steps-locked [] m bytes known h place keeps is = is
+steps-locked (step ∷ steps) m bytes known h place keeps is =
+    let both = or_parts (lets step h) (lets_of steps h) keeps in
+    steps-locked steps (stepped step m) (put_reads (read_by step m) bytes) (step-known step m bytes known) h place
+    both.1 (step-locked step m bytes known h place both.0 is)
+
+unseen-fixed : (p : ℕ) (step : Step) (s : State) → Unseen (is_fixed p) step s
+unseen-fixed p (NewFilled role flags x) s = refl
+unseen-fixed p (NewEmptied role) s = tt
+unseen-fixed p (Refill k flags x) s = λ none. refl
+unseen-fixed p (Release k) s = not_fixed-relocatable p k
+unseen-fixed p (Cast change k) s = tt
+
+-- no step moves a pointer's block, or lets it go
+pub step-fixed : (step : Step) (m : Memory) (p : ℕ)
+    → pointer_place p (stepped step m).heap.zone ≡ pointer_place p m.heap.zone
+step-fixed step m p =
+    let alike = alike-stepped (is_fixed p) (steady-fixed p) step m (unseen-fixed p step m.heap) in
+    stands-is (is_fixed p) (stepped step m).heap.zone ∙ sym alike.1 ∙ sym (stands-is (is_fixed p) m.heap.zone)
+
+pub steps-fixed : (steps : List Step) (m : Memory) (p : ℕ)
+    → pointer_place p (walk steps m).heap.zone ≡ pointer_place p m.heap.zone
+steps-fixed [] m p = refl
+steps-fixed (step ∷ steps) m p = steps-fixed steps (stepped step m) p ∙ step-fixed step m p
+
+unseen-never : (step : Step) (s : State) → Unseen never step s
+unseen-never (NewFilled role flags x) s = refl
+unseen-never (NewEmptied role) s = tt
+unseen-never (Refill k flags x) s = λ none. refl
+unseen-never (Release k) s = λ b is. refl
+unseen-never (Cast change k) s = tt
+
+-- no step changes how many bytes a zone has
+pub step-bytes : (step : Step) (m : Memory) → sizes (stepped step m).heap.zone ≡ sizes m.heap.zone
+step-bytes step m = sym (alike-stepped never steady-never step m (unseen-never step m.heap)).0
+
+pub steps-bytes : (steps : List Step) (m : Memory) → sizes (walk steps m).heap.zone ≡ sizes m.heap.zone
+steps-bytes [] m = refl
+steps-bytes (step ∷ steps) m = steps-bytes steps (stepped step m) ∙ step-bytes step m

@@ -1,0 +1,332 @@
+use Rattle.std.proofs.Common.{◌≡◌, ℕ, ◌+◌, ◌/◌, ◌%◌, ◌||◌, zero, suc, Bool, true, false, ◌==◌, List, [], ◌∷◌, ◌++◌}
+use Rattle.std.proofs.Common.{length, replicate, refl, sym, ◌∙◌, ap, cond, arith, Option, Some, None, Result, Ok, Err}
+use Rattle.std.proofs.Common.{nat_le, nat_lt, slice_get, slice_set}
+use Rattle.std.proofs.lemmas.Bool.Decides.{Decides-eqb}
+use Rattle.std.specs.Option.{option_map, ok_or}
+use Rattle.std.specs.Prelude.{is_some}
+use Rattle.mac_words.specs.Size.{phys}
+use Rattle.mac_words.specs.declared.code.OsErr.{OsErr}
+use Rattle.mac_words.specs.declared.code.TheConstants.OsErr.{NIL_HANDLE, MEM_FULL, LOCKED, PROFILE, PURGED}
+use Rattle.block_store.specs.declared.flags.Flags.{Flags}
+use Rattle.block_store.specs.Block.{Block, Fixed, Masters, Relocatable, is_mover, is_relocatable, is_fixed, content_of}
+use Rattle.block_store.specs.Block.{with_content, no_flags, tidy}
+use Rattle.windows.specs.Writes.{written}
+use Rattle.block_store.specs.Room.{Spot, spot, put_in_place, put_at_base, room}
+use Rattle.block_store.specs.Grow.{freed, grow}
+use Rattle.heap_calls.specs.State.{State, Memory, Plain, Resource, SystemResource, Meaning, Handle, Pointer}
+use Rattle.heap_calls.specs.State.{Disposed, used_slots, all_slots}
+use Rattle.heap_calls.specs.Answer.{Answer, Held, nothing, given, refused, disposed_of, rebuilt, change_flags, hoisted}
+use Rattle.heap_calls.specs.Answer.{look_up, known_as, handle_at, for_found, written_at, on_block}
+use Rattle.heap_calls.specs.Answer as calls
+use Rattle.heap_calls.specs.Slots.{slotted, if_ready, new_block, more_masters, new_handle}
+use Rattle.heap_calls.specs.Pointers.{pointed, pointed_at, block_named, reserved, reserve_mem}
+use Rattle.heap_calls.specs.Pointers.{dispose_pointer}
+use Rattle.heap_calls.specs.Purging.{emptied_at, is_loose, reallocated, reallocate_handle}
+use Rattle.heap_calls.specs.Copying.{append, appended, hand_to_hand, hand_and_hand}
+use Rattle.heap_calls.specs.Asked.{Asked, answered}
+use Rattle.heap_calls.specs.Asked as asked
+use Rattle.heap_calls.specs.Busy.{served}
+use Rattle.heap_calls.specs.Owned.{resource_meant, resource_role_at}
+use Rattle.heap_calls.proofs.Promises.Knowing.{pushed}
+use Rattle.heap_calls.proofs.Tries.Gating.{served-holds}
+
+-- No call of the Memory Manager makes a resource's handle, changes its role, or disposes of it.
+
+-- a name that is set anew: its number is no resource's, and others are what they were
+set-same : (ns : List Meaning) (k : ℕ) (new : Meaning) → resource_meant (Some new) ≡ None
+    → resource_meant (slice_get (slice_set ns k new) k) ≡ None
+set-same [] k new none = refl
+set-same (m ∷ ns) zero new none = none
+set-same (m ∷ ns) (suc k) new none = set-same ns k new none
+
+set-other : (ns : List Meaning) (k h : ℕ) (new : Meaning) → (k ≡ h → ⊥)
+    → slice_get (slice_set ns k new) h ≡ slice_get ns h
+set-other [] k h new other = refl
+set-other (m ∷ ns) zero zero new other = absurd (other refl)
+set-other (m ∷ ns) zero (suc h) new other = refl
+set-other (m ∷ ns) (suc k) zero new other = refl
+set-other (m ∷ ns) (suc k) (suc h) new other = set-other ns k h new (λ e. other (ap suc e))
+
+pub role-gone : (ns : List Meaning) (k h : ℕ) (new : Meaning) → resource_meant (Some new) ≡ None
+    → resource_meant (slice_get (slice_set ns k new) h) ≡ cond (k == h) None (resource_meant (slice_get ns h))
+role-gone ns k h new none = cases (k == h) refl
+  where
+    cases : (t : Bool) → (k == h) ≡ t
+        → resource_meant (slice_get (slice_set ns k new) h) ≡ cond t None (resource_meant (slice_get ns h))
+    cases true e =
+        ap (λ (j : ℕ). resource_meant (slice_get (slice_set ns k new) j)) (sym ((Decides-eqb k h).0 e))
+        ∙ set-same ns k new none
+    cases false e = ap resource_meant (set-other ns k h new
+        (λ same. let f : true ≡ false = sym ((Decides-eqb k h).1 same) ∙ e in cc))
+
+-- a name more
+push-other : (ns : List Meaning) (h : ℕ) (new : Meaning) → (length ns ≡ h → ⊥)
+    → slice_get (ns ++ new ∷ []) h ≡ slice_get ns h
+push-other [] zero new other = absurd (other refl)
+push-other [] (suc h) new other = refl
+push-other (m ∷ ns) zero new other = refl
+push-other (m ∷ ns) (suc h) new other = push-other ns h new (λ e. other (omega (arith, e)))
+
+pub role-new : (ns : List Meaning) (h : ℕ) (new : Meaning)
+    → resource_meant (slice_get (ns ++ new ∷ []) h)
+    ≡ cond (length ns == h) (resource_meant (Some new)) (resource_meant (slice_get ns h))
+role-new ns h new = cases (length ns == h) refl
+  where
+    cases : (t : Bool) → (length ns == h) ≡ t
+        → resource_meant (slice_get (ns ++ new ∷ []) h)
+        ≡ cond t (resource_meant (Some new)) (resource_meant (slice_get ns h))
+    cases true e =
+        ap (λ (j : ℕ). resource_meant (slice_get (ns ++ new ∷ []) j)) (sym ((Decides-eqb (length ns) h).0 e))
+        ∙ ap resource_meant (pushed ns new)
+    cases false e = ap resource_meant (push-other ns h new
+        (λ same. let f : true ≡ false = sym ((Decides-eqb (length ns) h).1 same) ∙ e in cc))
+
+-- neither changes a role where what goes and what comes is no resource's
+set-none : (ns : List Meaning) (k h : ℕ) (new : Meaning) → resource_meant (slice_get ns k) ≡ None
+    → resource_meant (Some new) ≡ None
+    → resource_meant (slice_get (slice_set ns k new) h) ≡ resource_meant (slice_get ns h)
+set-none [] k h new was none = refl
+set-none (m ∷ ns) zero zero new was none = none ∙ sym was
+set-none (m ∷ ns) zero (suc h) new was none = refl
+set-none (m ∷ ns) (suc k) zero new was none = refl
+set-none (m ∷ ns) (suc k) (suc h) new was none = set-none ns k h new was none
+
+push-none : (ns : List Meaning) (h : ℕ) (new : Meaning) → resource_meant (Some new) ≡ None
+    → resource_meant (slice_get (ns ++ new ∷ []) h) ≡ resource_meant (slice_get ns h)
+push-none [] zero new none = none
+push-none [] (suc h) new none = refl
+push-none (m ∷ ns) zero new none = refl
+push-none (m ∷ ns) (suc h) new none = push-none ns h new none
+
+-- a heap has the same resources' handles as another, in the same roles
+abbrev Keeps : State → State → Type 0
+Keeps before after = (h : ℕ) → resource_role_at h after ≡ resource_role_at h before
+
+same-keeps : (s : State) → Keeps s s
+same-keeps s h = refl
+
+found-keeps : {A T : Type 0} (r : Result A OsErr) (s : State) (answer : A → Answer T)
+    → ((k : A) → Keeps s (answer k).1) → Keeps s (for_found r s answer).1
+found-keeps (Err why) s answer each = same-keeps s
+found-keeps (Ok k) s answer each = each k
+
+either-keeps : {T : Type 0} (t : Bool) (s : State) (one other : Answer T) → Keeps s one.1
+    → Keeps s other.1 → Keeps s (cond t one other).1
+either-keeps true s one other first second = first
+either-keeps false s one other first second = second
+
+rebuilt-keeps : (o : Option (List Block)) (s : State) → Keeps s (rebuilt o s).1
+rebuilt-keeps None s h = refl
+rebuilt-keeps (Some zone) s h = refl
+
+given-keeps : (name : Meaning) → resource_meant (Some name) ≡ None → (o : Option (List Block)) (s : State)
+    → Keeps s (given name o s).1
+given-keeps name none None s h = refl
+given-keeps name none (Some zone) s h = push-none s.names h name none
+
+appended-keeps : (sp : Block → Bool) (k len : ℕ) (x : List ℕ) (o : Option (List Block)) (s : State)
+    → Keeps s (appended sp k len x o s).1
+appended-keeps sp k len x None s h = refl
+appended-keeps sp k len x (Some zone) s h = refl
+
+append-keeps : (sp : Block → Bool) (k len : ℕ) (x : List ℕ) (s : State) → Keeps s (append sp k len x s).1
+append-keeps sp k len x s =
+    either-keeps (is_some (phys (len + length x))) s
+    (appended sp k len x (grow (is_relocatable k) sp (len + length x) s.zone) s) (refused MEM_FULL s)
+    (appended-keeps sp k len x (grow (is_relocatable k) sp (len + length x) s.zone) s) (same-keeps s)
+
+written-keeps : (i : ℕ) (x : List ℕ) (at : Spot) (s : State) → Keeps s (written_at i x at s).1
+written-keeps i x at s = by_test (nat_le (i + length x) (length (content_of at.here)))
+  where
+    after : State
+    after = record s { zone = at.below ++ with_content (written i x (content_of at.here)) at.here ∷ at.above }
+
+    by_test : (t : Bool) → Keeps s (cond {A = Answer (Unit {0})} t (Ok tt, after) (refused PROFILE s)).1
+    by_test true h = refl
+    by_test false h = refl
+
+sized-keeps : (o : Option (List Block)) (n : ℕ) (s : State)
+    → Keeps s (cond (is_some (phys n)) (rebuilt o s) (refused MEM_FULL s)).1
+sized-keeps o n s =
+    either-keeps (is_some (phys n)) s (rebuilt o s) (refused MEM_FULL s) (rebuilt-keeps o s) (same-keeps s)
+
+emptied-keeps : (k : ℕ) (o : Option Spot) (s : State) → Keeps s (emptied_at k o s).1
+emptied-keeps k None s = same-keeps s
+emptied-keeps k (Some at) s = by_mover (is_mover at.here)
+  where
+    gone : State
+    gone = record s { zone = tidy (freed (is_relocatable k) s.zone) }
+
+    by_mover : (t : Bool) → Keeps s (cond {A = Answer (Unit {0})} t (Ok tt, gone) (refused PURGED s)).1
+    by_mover true h = refl
+    by_mover false h = refl
+
+flags-keep : (change : Flags → Flags) (handle : Option ℕ) (s : State) → Keeps s (change_flags change handle s).1
+flags-keep change handle s = found-keeps (look_up handle s) s _ (λ held h. refl)
+
+-- a slot that is made for a new handle
+ready-keeps : {T : Type 0} (sp : Block → Bool) (s : State) (answer : State → Answer T)
+    → ((r : State) → Keeps r (answer r).1) → Keeps s (if_ready (slotted sp s) s answer).1
+ready-keeps sp s answer each = by_slots (nat_lt (used_slots s) (all_slots s))
+  where
+    by_room : (o : Option (List Block))
+        → Keeps s (if_ready (option_map (λ zone. record s { zone = zone }) o) s answer).1
+    by_room None = same-keeps s
+    by_room (Some zone) = each (record s { zone = zone })
+
+    by_slots : (t : Bool) → Keeps s (if_ready (cond t (Some s) (more_masters sp s)) s answer).1
+    by_slots true = each s
+    by_slots false = by_room (room (put_at_base Masters) sp s.zone)
+
+made-keeps : (sp : Block → Bool) (x : List ℕ) (s : State) → Keeps s (new_block sp x s).1
+made-keeps sp x s =
+    given-keeps (Handle Plain) refl (room (put_in_place (Relocatable (length s.names) no_flags x)) sp s.zone) s
+
+handle-keeps : (n : ℕ) (s : State) → Keeps s (new_handle n s).1
+handle-keeps n s =
+    ready-keeps nothing s _
+    (λ r. either-keeps (is_some (phys n)) r (new_block nothing (replicate n 0) r) (refused MEM_FULL r)
+    (made-keeps nothing (replicate n 0) r) (same-keeps r))
+
+copy-keeps : (handle : Option ℕ) (s : State) → Keeps s (hand_to_hand handle s).1
+copy-keeps handle s =
+    found-keeps (look_up handle s) s _
+    (λ held. ready-keeps (is_relocatable held.number) s
+    (new_block (is_relocatable held.number) (content_of held.at.here))
+    (made-keeps (is_relocatable held.number) (content_of held.at.here)))
+
+joined-keeps : (from to : Option ℕ) (s : State) → Keeps s (hand_and_hand from to s).1
+joined-keeps from to s =
+    found-keeps (look_up from s) s _
+    (λ a. found-keeps (look_up to s) s _
+    (λ b. append-keeps (λ block. is_relocatable a.number block || is_relocatable b.number block) b.number
+    (length (content_of b.at.here)) (content_of a.at.here) s))
+
+moved-keeps : (handle : Option ℕ) (s : State) → Keeps s (calls.move_hhi handle s).1
+moved-keeps handle s =
+    found-keeps (look_up handle s) s _
+    (λ held. either-keeps {T = Unit {0}} (is_mover held.at.here) s
+    (Ok tt, record s { zone = hoisted held.number s.zone }) (refused LOCKED s) (λ h. refl) (same-keeps s))
+
+locked_high-keeps : (handle : Option ℕ) (s : State) → Keeps s (calls.hlock_hi handle s).1
+locked_high-keeps handle s = by_moved (calls.move_hhi handle s).0 (calls.move_hhi handle s).1 (moved-keeps handle s)
+  where
+    lock : Flags → Flags
+    lock f = record f { locked = true }
+
+    by_moved : (r : Result (Unit {0}) OsErr) (moved : State)
+        → Keeps s moved → Keeps s (for_found r s (λ (u : Unit {0}). change_flags lock handle moved)).1
+    by_moved (Err why) moved same = same-keeps s
+    by_moved (Ok u) moved same = λ h. flags-keep lock handle moved h ∙ same h
+
+renewed-keeps : (handle : Option ℕ) (n : ℕ) (s : State) → Keeps s (reallocate_handle handle n s).1
+renewed-keeps handle n s =
+    found-keeps (handle_at handle s) s _
+    (λ k. either-keeps (is_loose (spot (is_relocatable k.number) s.zone)) s
+    (cond (is_some (phys n)) (rebuilt (reallocated k.number n s.zone) s) (refused MEM_FULL s)) (refused PURGED s)
+    (sized-keeps (reallocated k.number n s.zone) n s) (same-keeps s))
+
+reserved-keeps : (n : ℕ) (s : State) → Keeps s (reserve_mem n s).1
+reserved-keeps n s = by_size (phys n) refl
+  where
+    by_size : (o : Option ℕ) → phys n ≡ o → Keeps s (reserve_mem n s).1
+    by_size None e = λ h. rw e refl
+    by_size (Some p) e = λ h. rw e (rebuilt-keeps (room (reserved p) nothing s.zone) s h)
+
+-- only an application's own handle is disposed of
+disposed-keeps : (handle : Option ℕ) (s : State) → Keeps s (calls.dispose_handle handle s).1
+disposed-keeps None s = same-keeps s
+disposed-keeps (Some k) s = by_name (slice_get s.names k) refl
+  where
+    by_name : (o : Option Meaning) → slice_get s.names k ≡ o
+        → Keeps s (for_found (known_as k o) s (λ known. disposed_of known.role known.number s)).1
+    by_name None is h = refl
+    by_name (Some Pointer) is h = refl
+    by_name (Some Disposed) is h = refl
+    by_name (Some (Handle Plain)) is h = set-none s.names k h Disposed (ap resource_meant is) refl
+    by_name (Some (Handle Resource)) is h = refl
+    by_name (Some (Handle SystemResource)) is h = refl
+
+unpointed-keeps : (pointer : Option ℕ) (s : State) → Keeps s (dispose_pointer pointer s).1
+unpointed-keeps None s = same-keeps s
+unpointed-keeps (Some p) s = by_name (slice_get s.names p) refl
+  where
+    gone : ℕ → State
+    gone k = record { zone = tidy (freed (is_fixed k) s.zone); names = slice_set s.names k Disposed }
+
+    by_spot : slice_get s.names p ≡ Some Pointer → (o : Option Spot)
+        → Keeps s (for_found {T = Unit {0}} (ok_or {E = OsErr} (option_map
+        (λ (at : Spot). let held : Held = record { number = p; at = at } in held) o) NIL_HANDLE) s
+        (λ held. (Ok tt, gone held.number))).1
+    by_spot is None h = refl
+    by_spot is (Some at) h = set-none s.names p h Disposed (ap resource_meant is) refl
+
+    by_name : (o : Option Meaning) → slice_get s.names p ≡ o
+        → Keeps s (for_found {T = Unit {0}} (pointed p o s) s (λ held. (Ok tt, gone held.number))).1
+    by_name None is h = refl
+    by_name (Some (Handle role)) is h = refl
+    by_name (Some Pointer) is h = by_spot is (spot (is_fixed p) s.zone) h
+    by_name (Some Disposed) is h = refl
+
+-- each call's row
+row-keeps : (a : Asked) (m : Memory) → Keeps m.heap (answered a m).1.heap
+row-keeps (asked.NewHandle n) m = handle-keeps n m.heap
+row-keeps asked.NewEmptyHandle m =
+    ready-keeps nothing m.heap _ (λ r. given-keeps (Handle Plain) refl (Some r.zone) r)
+row-keeps (asked.DisposeHandle handle) m = disposed-keeps handle m.heap
+row-keeps (asked.GetHandleSize handle) m = found-keeps {T = ℕ} (look_up handle m.heap) m.heap _ (λ held h. refl)
+row-keeps (asked.SetHandleSize handle n) m =
+    found-keeps (look_up handle m.heap) m.heap _
+    (λ held. sized-keeps (grow (is_relocatable held.number) (is_relocatable held.number) n m.heap.zone) n m.heap)
+row-keeps (asked.ReallocateHandle handle n) m = renewed-keeps handle n m.heap
+row-keeps (asked.EmptyHandle handle) m =
+    found-keeps (handle_at handle m.heap) m.heap _
+    (λ k. emptied-keeps k.number (spot (is_relocatable k.number) m.heap.zone) m.heap)
+row-keeps (asked.HLock handle) m = flags-keep (λ f. record f { locked = true }) handle m.heap
+row-keeps (asked.HUnlock handle) m = flags-keep (λ f. record f { locked = false }) handle m.heap
+row-keeps (asked.HPurge handle) m = flags-keep (λ f. record f { purgeable = true }) handle m.heap
+row-keeps (asked.HNoPurge handle) m = flags-keep (λ f. record f { purgeable = false }) handle m.heap
+row-keeps (asked.HGetState handle) m =
+    found-keeps (handle_at handle m.heap) m.heap _
+    (λ k. found-keeps {T = ℕ} (look_up handle m.heap) m.heap _ (λ held h. refl))
+row-keeps (asked.HSetState handle byte) m =
+    flags-keep (λ f. record { locked = byte / 128 % 2 == 1; purgeable = byte / 64 % 2 == 1 }) handle m.heap
+row-keeps (asked.MoveHHi handle) m = moved-keeps handle m.heap
+row-keeps (asked.HLockHi handle) m = locked_high-keeps handle m.heap
+row-keeps (asked.HandToHand handle) m = copy-keeps handle m.heap
+row-keeps (asked.HandAndHand from to) m = joined-keeps from to m.heap
+row-keeps (asked.PtrAndHand handle x) m =
+    found-keeps (look_up handle m.heap) m.heap _
+    (λ held. append-keeps (is_relocatable held.number) held.number (length (content_of held.at.here)) x m.heap)
+row-keeps (asked.NewPtr n) m =
+    let made = room (put_at_base (Fixed (length m.heap.names) (replicate n 0))) nothing m.heap.zone in
+    either-keeps (is_some (phys n)) m.heap (given Pointer made m.heap) (refused MEM_FULL m.heap)
+    (given-keeps Pointer refl made m.heap) (same-keeps m.heap)
+row-keeps (asked.DisposePtr pointer) m = unpointed-keeps pointer m.heap
+row-keeps (asked.GetPtrSize pointer) m = found-keeps {T = ℕ} (pointed_at pointer m.heap) m.heap _ (λ held h. refl)
+row-keeps (asked.SetPtrSize pointer n) m =
+    found-keeps (pointed_at pointer m.heap) m.heap _
+    (λ held. sized-keeps (grow (is_fixed held.number) nothing n m.heap.zone) n m.heap)
+row-keeps asked.FreeMem m = same-keeps m.heap
+row-keeps asked.MaxBlock m = same-keeps m.heap
+row-keeps asked.PurgeSpace m = same-keeps m.heap
+row-keeps (asked.CompactMem n) m = same-keeps m.heap
+row-keeps (asked.PurgeMem n) m = same-keeps m.heap
+row-keeps asked.MaxMem m = same-keeps m.heap
+row-keeps (asked.ReserveMem n) m = reserved-keeps n m.heap
+row-keeps asked.MoreMasters m =
+    rebuilt-keeps (option_map (λ (ready : State). ready.zone) (more_masters nothing m.heap)) m.heap
+row-keeps asked.MemError m = same-keeps m.heap
+row-keeps (asked.Put handle i x) m =
+    found-keeps (look_up handle m.heap) m.heap _ (λ held. written-keeps i x held.at m.heap)
+row-keeps (asked.Show handle) m = found-keeps {T = List ℕ} (look_up handle m.heap) m.heap _ (λ held h. refl)
+row-keeps (asked.PutPtr pointer i x) m =
+    found-keeps (pointed_at pointer m.heap) m.heap _ (λ held. written-keeps i x held.at m.heap)
+row-keeps (asked.ShowPtr pointer) m = found-keeps {T = List ℕ} (pointed_at pointer m.heap) m.heap _ (λ held h. refl)
+row-keeps (asked.Where name) m = found-keeps {T = ℕ} (block_named name m.heap) m.heap _ (λ held h. refl)
+
+-- a number is a resource's handle after a try just where it was before, in the same role
+pub served-roles : (a : Asked) (m : Memory) (h : ℕ)
+    → resource_role_at h (served a m).1.heap ≡ resource_role_at h m.heap
+served-roles a m h =
+    served-holds (λ t n. resource_role_at h n.heap ≡ resource_role_at h m.heap) a m (row-keeps a m h) (λ why kept. refl)

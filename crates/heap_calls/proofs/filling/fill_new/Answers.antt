@@ -1,0 +1,19 @@
+use Rattle.heap_calls.proofs.Filled.Replaced.{may-flag, is-replaced, fixed-replaced}
+use Rattle.heap_calls.proofs.filling.fill_new.Goals as goal
+
+pub set_flags-requires : goal.set_flags-requires
+set_flags-requires g c =
+    may-flag c.args.slot c.in-Some.place c.args.flags c.args.bytes.now (g.S.BlockStore.zone c.args.store.now)
+    (g.S.BlockStore.zone c.write.new.self) c.requires c.in-Some.ensures c.write.ensures.zone
+
+pub returns-clause-zone : goal.returns-clause-zone
+returns-clause-zone g c =
+    is-replaced c.args.slot c.in-Some.place c.args.flags c.args.bytes.now (g.S.BlockStore.zone c.args.store.now)
+    (g.S.BlockStore.zone c.write.new.self) c.requires c.in-Some.ensures c.write.ensures.zone
+    (g.S.BlockStore.zone c.set_flags.new.self) c.set_flags.ensures.zone
+
+pub returns-clause-fixed : goal.returns-clause-fixed
+returns-clause-fixed g c =
+    fixed-replaced c.args.slot c.in-Some.place c.args.flags c.args.bytes.now (g.S.BlockStore.zone c.args.store.now)
+    (g.S.BlockStore.zone c.write.new.self) c.requires c.in-Some.ensures c.write.ensures.zone
+    (g.S.BlockStore.zone c.set_flags.new.self) c.set_flags.ensures.zone

@@ -1,0 +1,77 @@
+use Rattle.std.proofs.Common.{◌≡◌, ◌<◌, Some, sym, ◌∙◌, refl, slice_get, is_some, arith}
+use Rattle.block_store.specs.Rest.{counted}
+use Rattle.heap_calls.specs.declared.anchor.Anchor.TheVariants.{Handle}
+use Rattle.heap_calls.specs.declared.log.Log.{Log}
+use Rattle.heap_calls.specs.Answer.{silent}
+use Rattle.heap_calls.specs.Inside.{refill}
+use Rattle.heap_calls.specs.Inner.Numbered.{memory_of, no_number}
+use Rattle.heap_calls.proofs.Filled.Refilled.{slot-emptied, refill_searches-is, refill_moves-is, refill-told}
+use Rattle.heap_calls.proofs.NewBlocks.Naming.{is-served}
+use Rattle.heap_calls.proofs.Numbering.Changing.{agrees-kept, unmoved}
+use Rattle.heap_calls.proofs.Numbering.Loosening.{handle_at-by}
+use Rattle.heap_calls.proofs.Numbering.Numbers.{is_relocatable-number, handle_number-at}
+use Rattle.heap_calls.proofs.Numbering.PurgeTrials.{served_answer, searching-done}
+use Rattle.heap_calls.proofs.Numbering.Roles.{entry-of}
+use Rattle.heap_calls.proofs.Room.MoveCounts.{moving-done}
+use Rattle.heap_calls.proofs.heap.Heap.refill.Given.{Over}
+use Rattle.heap_calls.proofs.heap.Heap.refill.Goals.{In_ok-found}
+use Rattle.heap_calls.proofs.heap.Heap.refill.Goals as goal
+
+-- the handle's entry
+entry : (g : Over) (c : In_ok-found g) → slice_get c.self.inside.names.items c.args.number
+    ≡ Some (Handle c.in_ok-found.found.slot c.in_ok-found.found.guarded)
+entry g c = entry-of c.self.inside.names.items c.deref.result.now c.args.number c.in_ok-found.found
+    c.deref.ensures.value (sym c.slot_of.ensures ∙ c.in_ok-found.was)
+
+pub refill_block-requires-clause-none : goal.refill_block-requires-clause-none
+refill_block-requires-clause-none g c =
+    let a = c.self.inside in
+    let at = entry g (goal.at.refill_block-requires-clause-none g c).In_ok-found in
+    let small : c.args.number < no_number = omega arith in
+    slot-emptied c.args.self.now (g.S.BlockStore.zone a.store) (g.S.BlockStore.rest a.store) a.names.items a.log
+    c.args.number c.in_ok-found.found.slot c.self.view_is
+    (is_relocatable-number a.names.items c.args.number c.in_ok-found.found.slot at c.self.invariant.apart small)
+    c.requires.emptied
+
+pub invariant_of-self : goal.invariant_of-self
+invariant_of-self g c =
+    let a = c.self.inside in
+    agrees-kept (g.S.BlockStore.zone a.store) (g.S.BlockStore.zone c.refill_block.new.store)
+    (g.S.BlockStore.rest a.store) (g.S.BlockStore.rest c.refill_block.new.store) a.names.items c.self.invariant
+    c.refill_block.ensures.fixed c.in_err-room.ensures.answer
+
+pub invariant_of-self-2 : goal.invariant_of-self-2
+invariant_of-self-2 g c =
+    let a = c.self.inside in
+    agrees-kept (g.S.BlockStore.zone a.store) (g.S.BlockStore.zone c.refill_block.new.store)
+    (g.S.BlockStore.rest a.store) (g.S.BlockStore.rest c.refill_block.new.store) a.names.items c.self.invariant
+    c.refill_block.ensures.fixed c.in_ok-room.ensures.answer.slots
+
+pub returns-clause-answer : goal.returns-clause-answer
+returns-clause-answer g c =
+    let a = c.self.inside in
+    let zone = g.S.BlockStore.zone a.store in
+    let zone' = g.S.BlockStore.zone c.refill_block.new.store in
+    let rest = g.S.BlockStore.rest a.store in
+    let rest' = g.S.BlockStore.rest c.refill_block.new.store in
+    let es = a.names.items in
+    let h = c.args.number in
+    let slot = c.in_ok-found.found.slot in
+    let flags = c.args.flags in
+    let x = c.args.bytes.now in
+    let made = c.in_ok-room.room in
+    let value = c.args.self.now in
+    let log : Log = record a.log { searches = counted a.log.searches made.searches } in
+    let at = entry g (goal.at.returns-clause-answer g c).In_ok-found in
+    let found = handle_at-by zone rest.slots es (Some h) h slot refl at in
+    let mine = sym (handle_number-at es h slot at c.self.invariant.apart) in
+    rw (c.account.ensures.reply, c.account.ensures.counted, c.is_some.ensures) (is-served _ (is_some made.place) _
+    (moving-done _ _ _ (served_answer (is_some made.place)) zone' rest rest' es log
+    (searching-done _ _ (silent (refill h flags x) value) (served_answer (is_some made.place))
+    (memory_of zone' (unmoved rest rest') es a.log) (memory_of zone' (unmoved rest rest') es log)
+    (refill-told value zone zone' rest rest' es a.log h slot flags x made _ refl c.self.view_is found mine
+    c.in_ok-room.ensures.answer)
+    (refill_searches-is value zone zone' rest rest' es a.log h slot flags x made _ refl c.self.view_is found mine
+    c.in_ok-room.ensures.answer) refl)
+    (refill_moves-is value zone zone' rest rest' es a.log h slot flags x made _ refl c.self.view_is found mine
+    c.in_ok-room.ensures.answer) c.refill_block.ensures.moves))

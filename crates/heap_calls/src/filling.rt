@@ -1,0 +1,301 @@
+//! Blocks with flags and bytes of their own.
+
+ghost use Rattle.std.specs.Prelude.{◌≡◌, ◌⊎◌, ◌+◌, ◌<◌, ◌≤◌, false, Err, [], map, length, IfOk, OnErr, IsErr, IsTrue};
+ghost use Rattle.std.specs.Prelude.{vec_len, vec_capacity};
+ghost use Rattle.heap_calls.specs.State.{Plain};
+ghost use Rattle.heap_calls.specs.Inside.{inside, has_block, new_inside, new_emptied_inside, refill_inside};
+ghost use Rattle.heap_calls.specs.Inside.{resource_role, new_all};
+ghost use Rattle.heap_calls.specs.Inner.Given.{IsAnswer, KeepsMoves, KeepsNames};
+ghost use Rattle.heap_calls.specs.Inner.Filling.{IsSizeOf, IsFresh, IsReplaced, IsFilling, IsRefilled, refilled_moves};
+ghost use Rattle.heap_calls.specs.Inner.Filling.{owned_by, wanted_as, IsNext};
+ghost use Rattle.heap_calls.specs.Inner.Loose.{IsRenewed, renewed_moves};
+ghost use Rattle.heap_calls.specs.Inner.NewBlock.{IsNewBlock, new_searches};
+ghost use Rattle.heap_calls.specs.Inner.NewSlot.{HasMore};
+ghost use Rattle.heap_calls.specs.Inner.Numbered.{Agrees, KeepsFixed, memory_of};
+ghost use Rattle.heap_calls.specs.Inner.Packed.{Packs, new_moves};
+ghost use Rattle.block_store.specs.Block.{is_relocatable};
+ghost use Rattle.block_store.specs.Rest.{IsRest};
+ghost use Rattle.block_store.specs.Run.{has};
+ghost use Rattle.block_store.specs.Slot.{is_used};
+ghost use Rattle.block_store.specs.declared.sparing.Sparing.TheVariants.{Nothing};
+
+use crate::anchor::{Anchor, name_handle, slot_of};
+use crate::base::Taken;
+use crate::emptying::renew_block;
+use crate::growing_in_place::Grown;
+use crate::heap::Heap;
+use crate::log::Log;
+use crate::new_block::new_block;
+use crate::refusal::Refusal;
+use crate::search::Room;
+use block_store::{BlockStore, Flags, Sparing};
+use std::alloc::{AllocError, Global};
+
+/// What a new resource is to hold.
+#[derive(Clone, Copy, Debug)]
+pub struct Filling<'a> {
+    pub bytes: &'a [u8],
+    pub flags: Flags,
+}
+
+impl<S: BlockStore> Heap<S> {
+    /// A new handle of a resource, with a block of these flags and bytes. -108 where there is no room for its block,
+    /// or all slots are used and there is no room for more. A want of host memory leaves all but the zone as it
+    /// was, and the zone too over a store that takes no host memory.
+    ///
+    /// *More Macintosh Toolbox*, chapter 1, "Using the Resource Manager".
+    pub fn new_resource(
+        &mut self,
+        bytes: &[u8],
+        flags: Flags,
+        guarded: bool,
+    ) -> Result<usize, Refusal>
+        ensures answer { IsAnswer (new_inside (resource_role guarded) flags bytes.now self.old) result self.new }
+        ensures host { result ≡ Err Refusal.HostMemory → IsTrue S.TAKES_HOST ⊎ (self.new ≡ self.old) }
+        ensures kept { result ≡ Err Refusal.HostMemory → KeepsNames self.old self.new }
+    {
+        let answer = self.fill_handle(bytes, flags);
+        self.own(answer, guarded)
+    }
+
+    /// A new handle of a resource, with no block. -108 where all slots are used and there is no room for more.
+    pub fn new_empty_resource(&mut self, guarded: bool) -> Result<usize, Refusal>
+        ensures answer { IsAnswer (new_emptied_inside (resource_role guarded) self.old) result self.new }
+        ensures host { result ≡ Err Refusal.HostMemory → IsTrue S.TAKES_HOST ⊎ (self.new ≡ self.old) }
+        ensures kept { result ≡ Err Refusal.HostMemory → KeepsMoves self.old self.new }
+    {
+        let answer = self.make_empty_handle();
+        self.own(answer, guarded)
+    }
+
+    /// New handles of resources, one after another and none of them guarded: the number of each, `None` for
+    /// each that finds no room. Room for the numbers and for the answer is had before the first is made, so that
+    /// a want of host memory changes nothing over a store that takes none.
+    pub fn new_resources(
+        &mut self,
+        alloc: Global,
+        wanted: &[Filling<'_>],
+    ) -> Result<Vec<Option<usize>>, AllocError>
+        ensures answer { IfOk result (λ v. new_all (map wanted_as wanted.now) self.old ≡ (v.items, self.new)) }
+        ensures host { IsErr result → IsTrue S.TAKES_HOST ⊎ (self.new ≡ self.old) }
+    {
+        let mut numbers = Vec::with_capacity(alloc, wanted.len())?;
+        self.names.reserve(wanted.len())?;
+        add_resources(
+            &mut self.store,
+            &mut self.names,
+            &mut self.log,
+            wanted,
+            &mut numbers,
+        )?;
+        Ok(numbers)
+    }
+
+    /// Gives an emptied handle a block of these flags and bytes; -108 where there is no room for it. A want of
+    /// host memory leaves all but the zone as it was.
+    pub fn refill(&mut self, number: usize, bytes: &[u8], flags: Flags) -> Result<(), Refusal>
+        requires emptied { has_block number self.old.heap ≡ false }
+        ensures answer { IsAnswer (refill_inside number flags bytes.now self.old) result self.new }
+        ensures host { result ≡ Err Refusal.HostMemory → IsTrue S.TAKES_HOST }
+        ensures kept { result ≡ Err Refusal.HostMemory → KeepsNames self.old self.new }
+    {
+        // The counts of looks and of moves are known to fit their types once they are read.
+        let _searches = self.log.searches;
+        let _moves = self.store.moves();
+        let found = slot_of(&self.names, Some(number))?;
+        let room = refill_block(&mut self.store, found.slot, bytes, flags)?;
+        self.account(Grown {
+            done: room.place.is_some(),
+            searches: room.searches,
+        })
+    }
+
+    /// A new handle, an application's own, with a block of these flags and bytes.
+    fn fill_handle(&mut self, bytes: &[u8], flags: Flags) -> Result<usize, Refusal>
+        ensures answer { IsAnswer (new_inside Plain flags bytes.now self.old) result self.new }
+        ensures host { result ≡ Err Refusal.HostMemory → IsTrue S.TAKES_HOST ⊎ (self.new ≡ self.old) }
+        ensures kept { result ≡ Err Refusal.HostMemory → KeepsNames self.old self.new }
+    {
+        self.names.reserve(1)?;
+        let made = fill_block(&mut self.store, bytes, flags)?;
+        self.log.count(made.searches);
+        name_handle(&mut self.names, made.slot)
+    }
+
+    /// Makes a new handle, if one was made, a resource's, and passes the answer on.
+    fn own(&mut self, answer: Result<usize, Refusal>, guarded: bool) -> Result<usize, Refusal>
+        ensures answer { result ≡ answer }
+        ensures owned { self.new ≡ inside (owned_by guarded answer) self.old }
+    {
+        if let Ok(number) = answer {
+            self.set_resource(number, true);
+            self.set_guard(number, guarded);
+        }
+        answer
+    }
+}
+
+/// The size of a block for some bytes; one that no block has where there are too many for any.
+fn size_of(bytes: &[u8]) -> u32
+    ensures { IsSizeOf (length bytes.now) result }
+{
+    u32::try_from(bytes.len()).unwrap_or(u32::MAX)
+}
+
+/// Writes bytes into the new block of a slot, which has as many, and sets its flags.
+fn fill_new<S: BlockStore>(store: &mut S, slot: u32, bytes: &[u8], flags: Flags)
+    requires { IsFresh slot (length bytes.now) (S.zone store.old) }
+    ensures zone { IsReplaced slot flags bytes.now (S.zone store.old) (S.zone store.new) }
+    ensures fixed { KeepsFixed (S.zone store.old) (S.zone store.new) }
+    ensures rest { IsRest (S.rest store.old) (S.rest store.new) }
+{
+    let Some(place) = store.place_of(slot) else {
+        unreachable!()
+    };
+    store.write(place, 0, bytes);
+    store.set_flags(place, flags);
+}
+
+/// Puts a new block of as many bytes 0 as are given where there is room, for a slot of its own, and answers
+/// that; `None` where no slot can be had, the block would be too large, or there is no room.
+fn new_block_for<S: BlockStore>(store: &mut S, bytes: &[u8]) -> Result<Taken, AllocError>
+    ensures answer { IfOk result (λ r. IsNewBlock Nothing (length bytes.now) (S.zone store.old) (S.rest store.old)
+        r.slot (S.zone store.new) (S.rest store.new)) }
+    ensures kept { OnErr result (HasMore (S.rest store.old) (S.rest store.new)) }
+    ensures fixed { KeepsFixed (S.zone store.old) (S.zone store.new) }
+    ensures searches { IfOk result (λ r. r.searches ≡ new_searches Nothing (length bytes.now)
+        (S.rest store.old).unused (S.zone store.old)) }
+    ensures moves { IfOk result (λ _. Packs (new_moves Nothing (length bytes.now) (S.rest store.old).unused
+        (S.zone store.old)) (S.rest store.old) (S.rest store.new)) }
+    ensures host { IsErr result → IsTrue S.TAKES_HOST }
+{
+    let size = size_of(bytes);
+    new_block(store, size, Sparing::Nothing)
+}
+
+/// Puts a new block with flags and bytes where there is room, for a slot of its own, and answers that; `None`
+/// where no slot can be had, the block would be too large, or there is no room.
+pub fn fill_block<S: BlockStore>(
+    store: &mut S,
+    bytes: &[u8],
+    flags: Flags,
+) -> Result<Taken, AllocError>
+    ensures answer { IfOk result (λ r. IsFilling flags bytes.now (S.zone store.old) (S.rest store.old) r.slot
+        (S.zone store.new) (S.rest store.new)) }
+    ensures kept { OnErr result (HasMore (S.rest store.old) (S.rest store.new)) }
+    ensures fixed { KeepsFixed (S.zone store.old) (S.zone store.new) }
+    ensures searches { IfOk result (λ r. r.searches ≡ new_searches Nothing (length bytes.now)
+        (S.rest store.old).unused (S.zone store.old)) }
+    ensures moves { IfOk result (λ _. Packs (new_moves Nothing (length bytes.now) (S.rest store.old).unused
+        (S.zone store.old)) (S.rest store.old) (S.rest store.new)) }
+    ensures host { IsErr result → IsTrue S.TAKES_HOST }
+{
+    let made = new_block_for(store, bytes)?;
+    let Some(slot) = made.slot else {
+        return Ok(made);
+    };
+    fill_new(store, slot, bytes, flags);
+    Ok(made)
+}
+
+/// Puts a new block of as many bytes 0 as are given where there is room once the block of a slot is Free.
+/// Nothing changes where there is none.
+fn renew_block_for<S: BlockStore>(
+    store: &mut S,
+    slot: u32,
+    bytes: &[u8],
+) -> Result<Room, AllocError>
+    requires { IsTrue (is_used ((S.rest store.old).slots slot)) }
+    ensures answer { IsRenewed slot (length bytes.now) (S.zone store.old) (S.rest store.old) result
+        (S.zone store.new) (S.rest store.new) }
+    ensures fixed { KeepsFixed (S.zone store.old) (S.zone store.new) }
+    ensures moves { Packs (renewed_moves slot (length bytes.now) (S.zone store.old)) (S.rest store.old)
+        (S.rest store.new) }
+    ensures host { IsErr result → IsTrue S.TAKES_HOST }
+{
+    let size = size_of(bytes);
+    renew_block(store, slot, size)
+}
+
+/// Puts a new block with flags and bytes where there is room, for a slot that has none. Nothing changes where
+/// there is no room.
+fn refill_block<S: BlockStore>(
+    store: &mut S,
+    slot: u32,
+    bytes: &[u8],
+    flags: Flags,
+) -> Result<Room, AllocError>
+    requires used { IsTrue (is_used ((S.rest store.old).slots slot)) }
+    requires none { has (is_relocatable slot) (S.zone store.old) ≡ false }
+    ensures answer { IsRefilled slot flags bytes.now (S.zone store.old) (S.rest store.old) result (S.zone store.new)
+        (S.rest store.new) }
+    ensures fixed { KeepsFixed (S.zone store.old) (S.zone store.new) }
+    ensures moves { Packs (refilled_moves slot (length bytes.now) (S.zone store.old)) (S.rest store.old)
+        (S.rest store.new) }
+    ensures host { IsErr result → IsTrue S.TAKES_HOST }
+{
+    let room = renew_block_for(store, slot, bytes)?;
+    let Some(_) = room.place else {
+        return Ok(room);
+    };
+    fill_new(store, slot, bytes, flags);
+    Ok(room)
+}
+
+/// Gives the next number, for which there is room, to a new handle of a resource, which isn't guarded; `None` where
+/// it finds no room.
+fn add_resource<S: BlockStore>(
+    store: &mut S,
+    names: &mut Vec<Anchor>,
+    log: &mut Log,
+    bytes: &[u8],
+    flags: Flags,
+) -> Result<Option<usize>, AllocError>
+    requires agrees { Agrees (S.zone store.old) (S.rest store.old) names.old.items }
+    requires room { vec_len names.old < vec_capacity names.old }
+    ensures agrees { Agrees (S.zone store.new) (S.rest store.new) names.new.items }
+    ensures next { IfOk result (λ number. IsNext flags bytes.now
+        (memory_of (S.zone store.old) (S.rest store.old) names.old.items log.old) number
+        (memory_of (S.zone store.new) (S.rest store.new) names.new.items log.new)) }
+    ensures len { vec_len names.new ≤ vec_len names.old + 1 }
+    ensures capacity { vec_capacity names.new ≡ vec_capacity names.old }
+    ensures host { IsErr result → IsTrue S.TAKES_HOST }
+{
+    let made = fill_block(store, bytes, flags)?;
+    log.count(made.searches);
+    let Some(slot) = made.slot else {
+        return Ok(None);
+    };
+    let number = names.len();
+    names.push_reserved(Anchor::Handle {
+        slot,
+        guarded: false,
+    });
+    store.set_resource(slot, true);
+    Ok(Some(number))
+}
+
+/// Makes new handles of resources in order, and adds what comes of each to the answers; there is room for all.
+fn add_resources<S: BlockStore>(
+    store: &mut S,
+    names: &mut Vec<Anchor>,
+    log: &mut Log,
+    wanted: &[Filling<'_>],
+    numbers: &mut Vec<Option<usize>>,
+) -> Result<(), AllocError>
+    requires agrees { Agrees (S.zone store.old) (S.rest store.old) names.old.items }
+    requires room { vec_len names.old + length wanted.now ≤ vec_capacity names.old }
+    requires numbers { vec_len numbers.old + length wanted.now ≤ vec_capacity numbers.old }
+    requires first { numbers.old.items ≡ [] }
+    ensures agrees { Agrees (S.zone store.new) (S.rest store.new) names.new.items }
+    ensures answer { IfOk result (λ _. new_all (map wanted_as wanted.now)
+        (memory_of (S.zone store.old) (S.rest store.old) names.old.items log.old)
+        ≡ (numbers.new.items, memory_of (S.zone store.new) (S.rest store.new) names.new.items log.new)) }
+    ensures host { IsErr result → IsTrue S.TAKES_HOST }
+{
+    for filling in wanted {
+        let number = add_resource(store, names, log, filling.bytes, filling.flags)?;
+        numbers.push_reserved(number);
+    }
+    Ok(())
+}

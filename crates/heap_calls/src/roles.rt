@@ -1,0 +1,84 @@
+//! The roles of handles: an application's own, a resource's, a System resource's.
+
+ghost use Rattle.std.specs.Prelude.{◌≡◌};
+ghost use Rattle.heap_calls.specs.Answer.{handle_at};
+ghost use Rattle.heap_calls.specs.Inside.{inside, cast, owned_as, guarded_as, is_owned, has_block, released};
+ghost use Rattle.heap_calls.specs.Inner.Roles.{is_system};
+
+use crate::anchor::{Anchor, slot_of};
+use crate::heap::Heap;
+use block_store::BlockStore;
+
+impl<S: BlockStore> Heap<S> {
+    /// Whether the handle that a name is bound to is a resource's.
+    pub fn is_resource(&self, handle: Option<usize>) -> bool
+        ensures { result ≡ is_owned (handle_at handle self.now.heap) }
+    {
+        match slot_of(&self.names, handle) {
+            Ok(found) => self.store.is_resource(found.slot),
+            Err(_) => false,
+        }
+    }
+
+    /// Makes the handle of a number an application's own, or a resource's, and in either case without a guard.
+    ///
+    /// *Inside Macintosh: Memory*, chapter 2, "Setting the Properties of Relocatable Blocks".
+    pub fn set_resource(&mut self, number: usize, resource: bool)
+        ensures { self.new ≡ inside (cast (owned_as resource) number) self.old }
+    {
+        let Ok(found) = slot_of(&self.names, Some(number)) else {
+            return;
+        };
+        self.store.set_resource(found.slot, resource);
+        self.names[number] = Anchor::Handle {
+            slot: found.slot,
+            guarded: false,
+        };
+    }
+
+    /// Makes the handle of a resource a System resource's, or one's that may be changed. A handle that is no
+    /// resource's stays so.
+    pub fn set_guard(&mut self, number: usize, guarded: bool)
+        ensures { self.new ≡ inside (cast (guarded_as guarded) number) self.old }
+    {
+        let Ok(found) = slot_of(&self.names, Some(number)) else {
+            return;
+        };
+        self.names[number] = Anchor::Handle {
+            slot: found.slot,
+            guarded,
+        };
+    }
+
+    /// Whether the handle of a number has a block.
+    pub fn has_block(&self, number: usize) -> bool
+        ensures { result ≡ has_block number self.now.heap }
+    {
+        let Ok(found) = slot_of(&self.names, Some(number)) else {
+            return false;
+        };
+        self.store.place_of(found.slot).is_some()
+    }
+
+    /// Lets the handle of a number and its block go, locked or not, of whatever role; its slot is unused.
+    pub fn release(&mut self, number: usize)
+        ensures { self.new ≡ inside (released number) self.old }
+    {
+        let Ok(found) = slot_of(&self.names, Some(number)) else {
+            return;
+        };
+        self.store.release(found.slot);
+        self.store.give_slot(found.slot);
+        self.names[number] = Anchor::Disposed;
+    }
+
+    /// Whether the handle that a name is bound to is a System resource's.
+    pub(crate) fn is_guarded(&self, handle: Option<usize>) -> bool
+        ensures { result ≡ is_system (handle_at handle self.now.heap) }
+    {
+        match slot_of(&self.names, handle) {
+            Ok(found) => found.guarded && self.store.is_resource(found.slot),
+            Err(_) => false,
+        }
+    }
+}

@@ -1,0 +1,162 @@
+use Rattle.std.proofs.Common.{◌≡◌, ℕ, Bool, true, false, cond, List, Option, Some, None, Result, Ok, Err, refl}
+use Rattle.std.proofs.Common.{sym, ◌∙◌, ap}
+use Rattle.std.proofs.Common.{subst}
+use Rattle.std.specs.Prelude.{not, ◌&&◌, is_some, option_map}
+use Rattle.mac_words.specs.declared.code.OsErr.{OsErr}
+use Rattle.heap_calls.specs.State.{Memory}
+use Rattle.heap_calls.specs.Inside.{refill_inside, has_block}
+use Rattle.heap_calls.specs.Inner.Given.{IsAnswer}
+use Rattle.heap_calls.specs.declared.refusal.Refusal.{Refusal}
+use Rattle.heap_calls.specs.declared.refusal.Refusal.TheVariants.{Code, HostMemory}
+use Rattle.res_map.specs.Map.{Reference, with_handle}
+use Rattle.res_calls.specs.Files.{OpenFile, Resources, Found, with_reference, file_of}
+use Rattle.res_calls.specs.Fetch.{Managers, Answer, is_system, flags_of, fetch_new, fetch_again, now_filled}
+use Rattle.res_calls.specs.Fetch.{now_emptied, now_refilled}
+use Rattle.res_calls.specs.Fetch as fetch
+use Rattle.res_calls.specs.Given.{IsFetched, IsUnread, managers}
+use Rattle.res_calls.specs.Places.{made_for, found_from, fetched_as, last_fetched}
+use Rattle.res_calls.specs.Rows.{noting}
+use Rattle.res_calls.specs.Rows as rows
+use Rattle.mac_words.specs.declared.code.TheConstants.OsErr.{NO_ERR}
+use Rattle.heap_calls.specs.Answer.{code_of}
+use Rattle.res_calls.specs.declared.find.Spot.{Spot}
+use Rattle.res_calls.specs.declared.fetched.Fetched.{Fetched}
+use Rattle.res_calls.specs.declared.fetched.Unread.{Unread}
+
+-- What a fetch comes to.
+
+-- a fetched handle, and a refusal, as they are given back
+abbrev pub given : ℕ → Bool → Result Fetched Unread
+given h read = Ok (record { handle = h; read = read })
+
+abbrev pub refused_with : Refusal → Option ℕ → Result Fetched Unread
+refused_with refusal reading = Err (record { refusal = refusal; reading = reading })
+
+-- the resources with these open files
+abbrev pub filed : List OpenFile → Resources → Resources
+filed chain r = record r { chain = chain }
+
+-- a new handle
+pub new_done : (loading : Bool) (f : Found) (r : Resources) (m n : Memory) (h : ℕ) (chain : List OpenFile)
+    → made_for loading (is_system f.file.here) f.reference.here m ≡ (Ok h, n)
+    → with_reference (with_handle (Some h) f.reference.here) f ≡ chain
+    → IsFetched (fetch_new loading f (managers r m)) (given h loading) (managers (filed chain r) n)
+new_done true f r m n h chain made put =
+    subst (λ p. IsFetched (now_filled f p (managers r m)) (given h true) (managers (filed chain r) n)) (sym made)
+    (refl, ap (λ (l : List OpenFile). managers (filed l r) n) put)
+new_done false f r m n h chain made put =
+    subst (λ p. IsFetched (now_emptied f p (managers r m)) (given h false) (managers (filed chain r) n)) (sym made)
+    (refl, ap (λ (l : List OpenFile). managers (filed l r) n) put)
+
+pub new_refused : (loading : Bool) (f : Found) (r : Resources) (m n : Memory) (refusal : Refusal)
+    → IsAnswer (made_for loading (is_system f.file.here) f.reference.here m) (Err refusal) n
+    → IsFetched (fetch_new loading f (managers r m)) (refused_with refusal None) (managers r n)
+new_refused loading f r m n HostMemory made = tt
+new_refused true f r m n (Code code) made =
+    subst (λ p. IsFetched (now_filled f p (managers r m)) (refused_with (Code code) None) (managers r n)) (sym made)
+    (refl, refl, refl)
+new_refused false f r m n (Code code) made =
+    subst (λ p. IsFetched (now_emptied f p (managers r m)) (refused_with (Code code) None) (managers r n)) (sym made)
+    (refl, refl, refl)
+
+-- an emptied handle is read again
+again_as : (loading has : Bool) (f : Found) (r : Resources) (m n : Memory) (h : ℕ) (result : Result Fetched Unread)
+    → has_block h m.heap ≡ has
+    → IsFetched (cond (loading && not has)
+    (now_refilled f h (refill_inside h (flags_of f.reference.here) f.reference.here.stored.datum m) (managers r m))
+    (fetch.done (record { handle = h; read = 0 }) (managers r m))) result (managers r n)
+    → IsFetched (fetch_again loading f h (managers r m)) result (managers r n)
+again_as loading has f r m n h result is e = rw is e
+
+pub again_stays : (loading : Bool) (f : Found) (r : Resources) (m : Memory) (h : ℕ)
+    → loading ≡ false → IsFetched (fetch_again loading f h (managers r m)) (given h false) (managers r m)
+again_stays false f r m h off = (refl, refl)
+again_stays true f r m h off = cc
+
+pub again_has : (loading : Bool) (f : Found) (r : Resources) (m : Memory) (h : ℕ)
+    → has_block h m.heap ≡ true → IsFetched (fetch_again loading f h (managers r m)) (given h false) (managers r m)
+again_has false f r m h has = (refl, refl)
+again_has true f r m h has = again_as true true f r m m h (given h false) has (refl, refl)
+
+pub again_done : (f : Found) (r : Resources) (m n : Memory) (h : ℕ) (x : Reference) → f.reference.here ≡ x
+    → has_block h m.heap ≡ false → refill_inside h (flags_of x) x.stored.datum m ≡ (Ok tt, n)
+    → IsFetched (fetch_again true f h (managers r m)) (given h true) (managers r n)
+again_done f r m n h x is has filled =
+    let so : refill_inside h (flags_of f.reference.here) f.reference.here.stored.datum m ≡ (Ok tt, n) =
+    ap (λ (y : Reference). refill_inside h (flags_of y) y.stored.datum m) is ∙ filled in
+    again_as true false f r m n h (given h true) has
+    (subst (λ p. IsFetched (now_refilled f h p (managers r m)) (given h true) (managers r n)) (sym so) (refl, refl))
+
+pub again_refused : (f : Found) (r : Resources) (m n : Memory) (h : ℕ) (x : Reference) (refusal : Refusal)
+    → f.reference.here ≡ x → has_block h m.heap ≡ false
+    → IsAnswer (refill_inside h (flags_of x) x.stored.datum m) (Err refusal) n
+    → IsFetched (fetch_again true f h (managers r m)) (refused_with refusal (Some h)) (managers r n)
+again_refused f r m n h x HostMemory is has filled = tt
+again_refused f r m n h x (Code code) is has filled =
+    let so : refill_inside h (flags_of f.reference.here) f.reference.here.stored.datum m ≡ (Err code, n) =
+    ap (λ (y : Reference). refill_inside h (flags_of y) y.stored.datum m) is ∙ filled in
+    again_as true false f r m n h (refused_with (Code code) (Some h)) has
+    (subst (λ p. IsFetched (now_refilled f h p (managers r m)) (refused_with (Code code) (Some h)) (managers r n))
+    (sym so) (refl, refl, refl))
+
+-- with a handle, or without one
+pub fetch_none : (loading : Bool) (f : Found) (s : Managers) (result : Result Fetched Unread) (after : Managers)
+    → f.reference.here.handle ≡ None → IsFetched (fetch_new loading f s) result after
+    → IsFetched (fetch.fetch loading f s) result after
+fetch_none loading f s result after none e =
+    subst (λ (o : Option ℕ). IsFetched (fetch.fetch_as loading f o s) result after) (sym none) e
+
+pub fetch_some : (loading : Bool) (f : Found) (s : Managers) (result : Result Fetched Unread) (after : Managers) (h : ℕ)
+    → f.reference.here.handle ≡ Some h → IsFetched (fetch_again loading f h s) result after
+    → IsFetched (fetch.fetch loading f s) result after
+fetch_some loading f s result after h some e =
+    subst (λ (o : Option ℕ). IsFetched (fetch.fetch_as loading f o s) result after) (sym some) e
+
+-- what was found, if anything, is fetched
+pub fetched_some : (loading : Bool) (o : Option Found) (s : Managers) (result : Result Fetched Unread)
+    (after : Managers)
+    → is_some o ≡ true → ((f : Found) → o ≡ Some f → IsFetched (fetch.fetch loading f s) result after)
+    → IsFetched (fetched_as loading o s) result after
+fetched_some loading None s result after some each = cc
+fetched_some loading (Some f) s result after some each = each f refl
+
+-- a fetch whose code is noted
+refused_noted : (call : Managers → Answer fetch.Fetched) (s : Managers) (refusal : Refusal) (reading : Option ℕ)
+    (r : Resources) (m : Memory) → IsUnread (call s) refusal reading (managers r m)
+    → IsUnread (noting call s) refusal reading
+    (managers (record r { error = last_fetched (refused_with refusal reading) r.error }) m)
+refused_noted call s HostMemory reading r m e = tt
+refused_noted call s (Code code) reading r m e = (
+  e.0,
+  e.1,
+  ap (λ (c : OsErr). rows.keep_error c (call s).after) (ap code_of e.0)
+      ∙ ap (λ (t : Managers). rows.keep_error code t) e.2,
+)
+
+pub fetch_noted : (call : Managers → Answer fetch.Fetched) (s : Managers) (result : Result Fetched Unread)
+    (r : Resources)
+    (m : Memory) → IsFetched (call s) result (managers r m)
+    → IsFetched (noting call s) result (managers (record r { error = last_fetched result r.error }) m)
+fetch_noted call s (Ok f) r m e = (
+  e.0,
+  ap (λ (c : OsErr). rows.keep_error c (call s).after) (ap code_of e.0)
+      ∙ ap (λ (t : Managers). rows.keep_error NO_ERR t) e.1,
+)
+fetch_noted call s (Err u) r m e = refused_noted call s u.refusal u.reading r m e
+
+-- the reference that was found
+pub here_of : (o : Option Found) (f : Found) (x : Reference) → o ≡ Some f
+    → option_map (λ (f : Found). f.reference.here) o ≡ Some x → f.reference.here ≡ x
+here_of o f x e p = let same : Some f.reference.here
+    ≡ Some x = ap (option_map (λ (f : Found). f.reference.here)) (sym e) ∙ p in cc
+
+-- the n-th reference of the current file is fetched
+pub ind_noted : (kind n : ℕ) (r : Resources) (m m' : Memory) (found : Option Spot) (loading : Bool)
+    (answer result : Result Fetched Unread) (new after : Resources)
+    → found_from found r.chain ≡ rows.nth_in kind n (file_of r.current r) → loading ≡ r.loading
+    → IsFetched (fetched_as loading (found_from found r.chain) (managers r m)) answer (managers new m')
+    → result ≡ answer → after ≡ record new { error = last_fetched answer new.error }
+    → IsFetched (noting (rows.get_one_ind_resource kind n) (managers r m)) result (managers after m')
+ind_noted kind n r m m' found loading answer result new after there on fetched same kept =
+    rw (same, kept) (fetch_noted (rows.get_one_ind_resource kind n) (managers r m) answer new m'
+    (rw (there, on) at fetched))

@@ -1,0 +1,30 @@
+use Rattle.std.proofs.Common.{◌≡◌, Result, Ok, Err, ◌∙◌, ap}
+use Rattle.mac_words.specs.declared.code.OsErr.{OsErr}
+use Rattle.mac_words.specs.declared.code.TheConstants.OsErr.{NO_ERR}
+use Rattle.heap_calls.specs.State.{Memory}
+use Rattle.heap_calls.specs.Answer.{code_of}
+use Rattle.heap_calls.specs.declared.refusal.Refusal.{Refusal}
+use Rattle.heap_calls.specs.declared.refusal.Refusal.TheVariants.{Code, HostMemory}
+use Rattle.res_calls.specs.Files.{Resources}
+use Rattle.res_calls.specs.Fetch.{Managers, Answer}
+use Rattle.res_calls.specs.Rows.{keep_error, noting}
+use Rattle.res_calls.specs.Given.{IsAnswered, managers, noted}
+
+-- A call whose code is noted.
+
+-- a call that gives what is answered, with its code noted
+noted_so : {T V : Type 0} (seen : V → T) (call : Managers → Answer T) (s : Managers) (answer : Result V Refusal)
+    (r : Resources) (m : Memory) → IsAnswered seen (call s) answer (managers r m)
+    → IsAnswered seen (noting call s) answer (managers (noted answer r) m)
+noted_so seen call s (Ok value) r m (reply, after) =
+    (reply, ap (λ (c : OsErr). keep_error c (call s).after) (ap code_of reply) ∙ ap (keep_error NO_ERR) after)
+noted_so seen call s (Err (Code code)) r m (reply, after) =
+    (reply, ap (λ (c : OsErr). keep_error c (call s).after) (ap code_of reply) ∙ ap (keep_error code) after)
+noted_so seen call s (Err HostMemory) r m h = tt
+
+pub is_noted : {T V : Type 0} (seen : V → T) (call : Managers → Answer T) (s : Managers)
+    (answer result : Result V Refusal) (r after : Resources) (m : Memory)
+    → IsAnswered seen (call s) answer (managers r m) → result ≡ answer → after ≡ noted answer r
+    → IsAnswered seen (noting call s) result (managers after m)
+is_noted seen call s answer result r after m h same is =
+    rw (same, is) (noted_so seen call s answer r m h)

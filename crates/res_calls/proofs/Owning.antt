@@ -1,0 +1,9 @@
+pub mod Lists
+pub mod Owners
+pub mod Places
+pub mod Changes
+pub mod Openings
+pub mod Closings
+pub mod Calls
+pub mod Facts
+pub mod Laws

@@ -1,0 +1,305 @@
+use Rattle.std.proofs.Common.{◌≡◌, ℕ, Bool, true, false, not, ◌==◌, nat_lt, nat_le, List, [], ◌∷◌, ◌++◌, refl, sym}
+use Rattle.std.proofs.Common.{◌∙◌, ap, subst, cond, arith, length, Option, Some, None, Result, Ok, Err}
+use Rattle.std.proofs.lemmas.Bool.{false_from_ne_true}
+use Rattle.std.proofs.lemmas.Bool.Decides.{Decides-eqb}
+use Rattle.std.specs.Prelude.{option_to_list}
+use Rattle.mac_words.specs.declared.code.OsErr.{OsErr}
+use Rattle.mac_words.specs.declared.code.TheConstants.OsErr.{END_OF_FILE, LOCKED, MAP_READ, PROFILE, RES_ATTR}
+use Rattle.fork_format.specs.Fork.{is_fork, content_of}
+use Rattle.heap_calls.specs.State.{Memory, Role}
+use Rattle.heap_calls.specs.Inside.{new_inside, new_emptied_inside, refill_inside, has_block, released, cast, owned_as}
+use Rattle.heap_calls.specs.Owned.{resource_role_at}
+use Rattle.heap_calls.proofs.Steps.Roles.{MakesHandle, filled-makes, emptied-makes, refilled-roles, released-roles}
+use Rattle.heap_calls.proofs.Steps.Roles.{own-roles}
+use Rattle.res_map.specs.Split.{Split, place}
+use Rattle.res_map.specs.Map.{Reference, Map, map_of, has_handle, is_handle, is_changed, is_resource, is_named}
+use Rattle.res_map.specs.Map.{nth, types}
+use Rattle.res_map.proofs.Splitting.{split-whole}
+use Rattle.res_calls.specs.Files.{File, OpenFile, Found, find, opened, file_of}
+use Rattle.res_calls.specs.Files.{file_named, open_at, current_references, fresh_resources}
+use Rattle.res_calls.specs.Fetch.{Managers, Answer, done, refused, flags_of, now_filled, now_emptied}
+use Rattle.res_calls.specs.Fetch.{now_refilled, fetch_as}
+use Rattle.res_calls.specs.Rows as rows
+use Rattle.res_calls.specs.Rows.{map_in, open_map, on_found, on_open, resource_of, open_as, open_fork, open_unless}
+use Rattle.res_calls.specs.Rows.{greatest_number, all_released, handles_of, closed, bars, released_at, detached_at}
+use Rattle.res_calls.specs.Rows.{open_named, told_type, fetched, nth_in, noting, preloaded}
+use Rattle.res_calls.specs.Asked.{ResourceAsked, served}
+use Rattle.res_calls.specs.Asked as asks
+use Rattle.res_calls.specs.Owning.{role_in}
+use Rattle.res_calls.proofs.Owning.Owners.{owners, OneOwner}
+use Rattle.res_calls.proofs.Owning.Places.{Stands, find-finds, nth-stands}
+use Rattle.res_calls.proofs.Owning.Changes.{one-owner-same, one-held, one-gone}
+use Rattle.res_calls.proofs.Owning.Openings.{Bare, bare-groups, bare-owners, loaded-owned}
+use Rattle.res_calls.proofs.Owning.Closings.{closed-owned}
+
+-- Each resource has its own handle, from an application's launch on and after each call.
+
+-- a new handle, with its datum or emptied
+filled-owns : (at : Found) (s : Managers) → Stands s.resources.chain at → at.reference.here.handle ≡ None → OneOwner s
+    → (x : Result ℕ OsErr × Memory) → MakesHandle (role_in at.file.here) s.memory.heap (x.0, x.1.heap)
+    → OneOwner (now_filled at x s).after
+filled-owns at s stands bare owns (Err code, m) made = one-owner-same s (record s { memory = m }) owns refl refl made
+filled-owns at s stands bare owns (Ok n, m) made = record {
+  one = one-held s.resources.chain s.memory.heap m.heap at n stands bare owns.one made;
+  numbered = owns.numbered;
+}
+
+emptied-owns : (at : Found) (s : Managers) → Stands s.resources.chain at → at.reference.here.handle ≡ None → OneOwner s
+    → (x : Result ℕ OsErr × Memory) → MakesHandle (role_in at.file.here) s.memory.heap (x.0, x.1.heap)
+    → OneOwner (now_emptied at x s).after
+emptied-owns at s stands bare owns (Err code, m) made = one-owner-same s (record s { memory = m }) owns refl refl made
+emptied-owns at s stands bare owns (Ok n, m) made = record {
+  one = one-held s.resources.chain s.memory.heap m.heap at n stands bare owns.one made;
+  numbered = owns.numbered;
+}
+
+-- an emptied handle is read again
+refilled-owns : (at : Found) (k : ℕ) (s : Managers) → OneOwner s → (x : Result (Unit {0}) OsErr × Memory)
+    → ((h : ℕ) → resource_role_at h x.1.heap ≡ resource_role_at h s.memory.heap)
+    → OneOwner (now_refilled at k x s).after
+refilled-owns at k s owns (Err code, m) same = one-owner-same s (record s { memory = m }) owns refl refl same
+refilled-owns at k s owns (Ok value, m) same = one-owner-same s (record s { memory = m }) owns refl refl same
+
+-- a fetch
+fetch-owns : (loading : Bool) (at : Found) (s : Managers) → Stands s.resources.chain at → OneOwner s → (o : Option ℕ)
+    → at.reference.here.handle ≡ o → OneOwner (fetch_as loading at o s).after
+fetch-owns true at s stands owns None bare =
+    filled-owns at s stands bare owns
+    (new_inside (role_in at.file.here) (flags_of at.reference.here) at.reference.here.stored.datum s.memory)
+    (filled-makes (role_in at.file.here) (flags_of at.reference.here) at.reference.here.stored.datum s.memory.heap)
+fetch-owns false at s stands owns None bare =
+    emptied-owns at s stands bare owns (new_emptied_inside (role_in at.file.here) s.memory)
+    (emptied-makes (role_in at.file.here) s.memory.heap)
+fetch-owns true at s stands owns (Some k) is = by_block (has_block k s.memory.heap)
+  where
+    filling : Result (Unit {0}) OsErr × Memory
+    filling = refill_inside k (flags_of at.reference.here) at.reference.here.stored.datum s.memory
+
+    by_block : (t : Bool)
+        → OneOwner (cond (not t) (now_refilled at k filling s) (done (record { handle = k; read = 0 }) s)).after
+    by_block true = owns
+    by_block false = refilled-owns at k s owns filling
+        (refilled-roles k (flags_of at.reference.here) at.reference.here.stored.datum s.memory.heap)
+fetch-owns false at s stands owns (Some k) is = owns
+
+-- what is answered of what was found
+found-owns : {T : Type 0} (found : Option Found) (s : Managers) (answer : Found → Answer T) → OneOwner s
+    → ((at : Found) → found ≡ Some at → OneOwner (answer at).after) → OneOwner (on_found found s answer).after
+found-owns None s answer owns each = owns
+found-owns (Some at) s answer owns each = each at refl
+
+fetched-owns : (found : Option Found) (s : Managers) → OneOwner s
+    → ((at : Found) → found ≡ Some at → Stands s.resources.chain at) → OneOwner (fetched found s).after
+fetched-owns found s owns stands =
+    found-owns found s _ owns
+    (λ at e. fetch-owns s.resources.loading at s (stands at e) owns at.reference.here.handle refl)
+
+searched-owns : (within : OpenFile → Bool) (test : Reference → Bool) (s : Managers) → OneOwner s
+    → OneOwner (fetched (find within test s.resources.chain) s).after
+searched-owns within test s owns =
+    fetched-owns (find within test s.resources.chain) s owns
+    (λ at e. (find-finds within test s.resources.chain at e).0)
+
+-- the resource of a handle
+has-some : (k : ℕ) (o : Option ℕ) → is_handle k o ≡ true → o ≡ Some k
+has-some k None e = cc
+has-some k (Some g) e = ap Some ((Decides-eqb g k).0 e)
+
+abbrev Holds : Option ℕ → Managers → Found → Type 0
+Holds handle s at = (k : ℕ) → handle ≡ Some k → Stands s.resources.chain at × (at.reference.here.handle ≡ Some k)
+
+resource-holds : (handle : Option ℕ) (s : Managers) (at : Found) → resource_of handle s.resources ≡ Some at
+    → Stands s.resources.chain at × Holds handle s at
+resource-holds None s at e = cc
+resource-holds (Some k) s at e =
+    let found = find-finds (λ f. true) (has_handle k) s.resources.chain at e in (
+      found.0,
+      λ j same. (
+        found.0,
+        has-some k at.reference.here.handle found.1 ∙ same,
+      ),
+    )
+
+-- a handle that is released, or detached
+released-owns : (handle : Option ℕ) (s : Managers) (at : Found) → OneOwner s → Holds handle s at
+    → OneOwner (released_at at handle s)
+released-owns None s at owns holds = owns
+released-owns (Some k) s at owns holds = let held = holds k refl in record {
+  one = one-gone s.resources.chain s.memory.heap (released k s.memory.heap) at k held.0 held.1 owns.one
+      (released-roles k s.memory.heap);
+  numbered = owns.numbered;
+}
+
+detached-owns : (handle : Option ℕ) (s : Managers) (at : Found) → OneOwner s → Holds handle s at
+    → OneOwner (detached_at at handle s)
+detached-owns None s at owns holds = owns
+detached-owns (Some k) s at owns holds = let held = holds k refl in record {
+  one = one-gone s.resources.chain s.memory.heap (cast (owned_as false) k s.memory.heap) at k held.0 held.1 owns.one
+      (own-roles k s.memory.heap);
+  numbered = owns.numbered;
+}
+
+either-owns : {T : Type 0} (t : Bool) (one other : Answer T) → OneOwner one.after → OneOwner other.after
+    → OneOwner (cond t one other).after
+either-owns true one other first second = first
+either-owns false one other first second = second
+
+release-owns : (handle : Option ℕ) (s : Managers) → OneOwner s → OneOwner (rows.release_resource handle s).after
+release-owns handle s owns =
+    found-owns (resource_of handle s.resources) s _ owns
+    (λ at e. either-owns (bars handle s.memory) (refused LOCKED s) _ owns
+    (either-owns (is_changed at.reference.here) (done tt s) (done tt (released_at at handle s)) owns
+    (released-owns handle s at owns (resource-holds handle s at e).1)))
+
+detach-owns : (handle : Option ℕ) (s : Managers) → OneOwner s → OneOwner (rows.detach_resource handle s).after
+detach-owns handle s owns =
+    found-owns (resource_of handle s.resources) s _ owns
+    (λ at e. either-owns (is_changed at.reference.here) (refused RES_ATTR s) (done tt (detached_at at handle s)) owns
+    (detached-owns handle s at owns (resource-holds handle s at e).1))
+
+-- a fork's map, as its file is opened
+pub map-bare : (fork : List ℕ) (read : Map) → map_in fork ≡ Ok read → Bare read.references
+map-bare fork read e = by_tests (length fork == 0) (is_fork fork) e
+  where
+    by_tests : (empty good : Bool)
+        → cond {A = Result Map OsErr} empty (Err END_OF_FILE) (cond good (Ok (map_of (content_of fork))) (Err MAP_READ))
+        ≡ Ok read → Bare read.references
+    by_tests true good e = cc
+    by_tests false true e =
+        let same : map_of (content_of fork) ≡ read = cc in
+        subst (λ (m : Map). Bare m.references) same (bare-groups (content_of fork).groups)
+    by_tests false false e = cc
+
+-- a file is opened
+opened-owns : (i : ℕ) (read : Map) (s : Managers) → Bare read.references → OneOwner s
+    → OneOwner (open_as (opened s.resources.next (Some i) read) s).after
+opened-owns i read s bare owns =
+    let next = owns.numbered in
+    let own : (s.resources.next == 0) ≡ false = false_from_ne_true (s.resources.next == 0)
+    (λ t. let none : s.resources.next ≡ 0 = (Decides-eqb s.resources.next 0).0 t in omega arith) in record {
+      one = loaded-owned (opened s.resources.next (Some i) read) s s.resources.chain own bare owns.one;
+      numbered = omega arith;
+    }
+
+map-owns : (i : ℕ) (r : Result Map OsErr) (s : Managers) → ((read : Map) → r ≡ Ok read → Bare read.references)
+    → OneOwner s → OneOwner (open_map i r s).after
+map-owns i (Err code) s bare owns = owns
+map-owns i (Ok read) s bare owns = opened-owns i read s (bare read refl) owns
+
+fork-owns : (i : ℕ) (fork : List ℕ) (s : Managers) → OneOwner s → OneOwner (open_fork i fork s).after
+fork-owns i fork s owns =
+    either-owns (nat_lt greatest_number s.resources.next) (refused PROFILE s) _ owns
+    (map-owns i (map_in fork) s (map-bare fork) owns)
+
+unless-owns : (at : Split File) (o : Option (Split OpenFile)) (s : Managers) → OneOwner s
+    → OneOwner (open_unless at o s).after
+unless-owns at (Some f) s owns = owns
+unless-owns at None s owns = fork-owns (place at) at.here.fork s owns
+
+named-owns : (o : Option (Split File)) (s : Managers) → OneOwner s → OneOwner (open_named o s).after
+named-owns None s owns = owns
+named-owns (Some at) s owns = unless-owns at (open_at (place at) s.resources) s owns
+
+-- a call on an open file
+open-owns : {T : Type 0} (o : Option (Split OpenFile)) (s : Managers) (answer : Split OpenFile → Answer T) → OneOwner s
+    → ((at : Split OpenFile) → o ≡ Some at → OneOwner (answer at).after) → OneOwner (on_open o s answer).after
+open-owns None s answer owns each = owns
+open-owns (Some at) s answer owns each = each at refl
+
+close-owns : (n : ℕ) (s : Managers) → OneOwner s → OneOwner (rows.close_res_file n s).after
+close-owns n s owns =
+    open-owns (file_of n s.resources) s _ owns
+    (λ at e. either-owns {T = Unit {0}} (n == 0) (refused PROFILE s) (done tt (record {
+      memory = all_released (handles_of at.here.map.references) s.memory;
+      resources = closed at s.resources;
+    })) owns
+    (record {
+      one = closed-owned s.resources.chain at s.memory
+          (split-whole (λ f. f.number == n) s.resources.chain at e) owns.one;
+      numbered = owns.numbered;
+    }))
+
+told-owns : (kind : Option ℕ) (s : Managers) → OneOwner s → OneOwner (told_type kind s).after
+told-owns None s owns = owns
+told-owns (Some kind) s owns = owns
+
+-- the code that ResError tells is no matter
+noted : {T : Type 0} (call : Managers → Answer T) (s : Managers) → OneOwner (call s).after
+    → OneOwner (noting call s).after
+noted call s owns = record { one = owns.one; numbered = owns.numbered }
+
+-- each call
+pub one-owner-served : (a : ResourceAsked) (s : Managers) → OneOwner s → OneOwner (served a s).after
+one-owner-served (asks.OpenResFile name) s owns =
+    noted (rows.open_res_file name) s (named-owns (file_named name s.resources) s owns)
+one-owner-served (asks.CloseResFile n) s owns = noted (rows.close_res_file n) s (close-owns n s owns)
+one-owner-served (asks.UseResFile n) s owns =
+    noted (rows.use_res_file n) s
+    (open-owns (file_of n s.resources) s _ owns (λ at e. record { one = owns.one; numbered = owns.numbered }))
+one-owner-served asks.CurResFile s owns = noted rows.cur_res_file s owns
+one-owner-served (asks.HomeResFile handle) s owns =
+    noted (rows.home_res_file handle) s (found-owns (resource_of handle s.resources) s _ owns (λ at e. owns))
+one-owner-served (asks.GetResource kind id) s owns =
+    noted (rows.get_resource kind id) s
+    (searched-owns (λ f. nat_le f.number s.resources.current) (is_resource kind id) s owns)
+one-owner-served (asks.GetOneResource kind id) s owns =
+    noted (rows.get_one_resource kind id) s
+    (searched-owns (λ f. f.number == s.resources.current) (is_resource kind id) s owns)
+one-owner-served (asks.GetNamedResource kind name) s owns =
+    noted (rows.get_named_resource kind name) s
+    (searched-owns (λ f. nat_le f.number s.resources.current) (is_named kind name) s owns)
+one-owner-served (asks.GetOneNamedResource kind name) s owns =
+    noted (rows.get_one_named_resource kind name) s
+    (searched-owns (λ f. f.number == s.resources.current) (is_named kind name) s owns)
+one-owner-served asks.CountOneTypes s owns = noted rows.count_one_types s owns
+one-owner-served (asks.GetOneIndType index) s owns =
+    noted (rows.get_one_ind_type index) s (told-owns (nth index (types (current_references s.resources))) s owns)
+one-owner-served (asks.CountOneResources kind) s owns = noted (rows.count_one_resources kind) s owns
+one-owner-served (asks.GetOneIndResource kind index) s owns =
+    noted (rows.get_one_ind_resource kind index) s
+    (fetched-owns (nth_in kind index (file_of s.resources.current s.resources)) s owns
+    (λ at e. nth-stands kind index (λ f. f.number == s.resources.current) s.resources.chain at e))
+one-owner-served (asks.LoadResource handle) s owns =
+    noted (rows.load_resource handle) s
+    (found-owns (resource_of handle s.resources) s _ owns
+    (λ at e. fetch-owns true at s (resource-holds handle s at e).0 owns at.reference.here.handle refl))
+one-owner-served (asks.ReleaseResource handle) s owns =
+    noted (rows.release_resource handle) s (release-owns handle s owns)
+one-owner-served (asks.DetachResource handle) s owns =
+    noted (rows.detach_resource handle) s (detach-owns handle s owns)
+one-owner-served (asks.GetResInfo handle) s owns =
+    noted (rows.get_res_info handle) s (found-owns (resource_of handle s.resources) s _ owns (λ at e. owns))
+one-owner-served (asks.GetResAttrs handle) s owns =
+    noted (rows.get_res_attrs handle) s (found-owns (resource_of handle s.resources) s _ owns (λ at e. owns))
+one-owner-served (asks.GetResourceSizeOnDisk handle) s owns =
+    noted (rows.get_resource_size_on_disk handle) s
+    (found-owns (resource_of handle s.resources) s _ owns (λ at e. owns))
+one-owner-served (asks.SetResLoad on) s owns =
+    noted (rows.set_res_load on) s (record { one = owns.one; numbered = owns.numbered })
+one-owner-served asks.ResError s owns = owns
+
+-- a heap without a resource's handle, and files that were just opened
+pub one-owner-fresh : (files : List File) (own system : Map) (m : Memory) → Bare own.references
+    → Bare system.references → ((h : ℕ) → resource_role_at h m.heap ≡ None)
+    → OneOwner (record { memory = m; resources = fresh_resources files own system })
+one-owner-fresh files own system m bare plain none = record {
+  one = λ h.
+      let app : OpenFile = opened 2 (Some 0) own in
+      let sys : OpenFile = opened 0 None system in
+      ap (λ (l : List Role). l ++ owners h (sys ∷ [])) (bare-owners h (role_in app) own.references bare)
+      ∙ ap (λ (l : List Role). l ++ []) (bare-owners h (role_in sys) system.references plain)
+      ∙ ap option_to_list (sym (none h));
+  numbered = omega arith;
+}
+
+-- and with those of the application's resources that are read at once
+pub one-owner-preloaded : (files : List File) (own system : Map) (m : Memory) → Bare own.references
+    → Bare system.references → ((h : ℕ) → resource_role_at h m.heap ≡ None)
+    → OneOwner (preloaded (record { memory = m; resources = fresh_resources files own system })).0
+one-owner-preloaded files own system m bare plain none = record {
+  one = loaded-owned (opened 2 (Some 0) own) (record { memory = m; resources = fresh_resources files own system })
+      (opened 0 None system ∷ []) refl bare
+      (λ h. ap (λ (l : List Role). l ++ []) (bare-owners h (role_in (opened 0 None system)) system.references plain)
+      ∙ ap option_to_list (sym (none h)));
+  numbered = omega arith;
+}

@@ -1,0 +1,94 @@
+use Rattle.std.proofs.Common.{◌≡◌, ℕ, List, [], ◌∷◌, refl, ◌∙◌, ap, subst}
+use Rattle.std.proofs.Common.{Option, Some, None, Result, Ok, Err}
+use Rattle.std.proofs.lemmas.Bool.Decides.{Decides-eqb}
+use Rattle.mac_words.specs.declared.code.OsErr.{OsErr}
+use Rattle.fork_format.specs.Content.{Content}
+use Rattle.heap_calls.specs.State.{Memory, Role}
+use Rattle.heap_calls.specs.Asked.{Asked}
+use Rattle.heap_calls.specs.Busy as heap
+use Rattle.heap_calls.specs.Owned.{resource_role_at}
+use Rattle.res_map.specs.Map.{Map, map_of, has_handle, is_handle}
+use Rattle.res_calls.specs.Files.{File, Resources, Found, find_open, fresh_resources}
+use Rattle.res_calls.specs.Fetch.{Managers}
+use Rattle.res_calls.specs.Rows.{map_in, own_opened, launched_resources, preloaded}
+use Rattle.res_calls.specs.Asked.{ResourceAsked, served}
+use Rattle.res_calls.specs.Owning.{role_in, role_for, Owns}
+use Rattle.res_calls.proofs.Owning.Places.{Stands}
+use Rattle.res_calls.proofs.Owning.Changes.{one-owner-same, one-owner-heap}
+use Rattle.res_calls.proofs.Owning.Openings.{Bare, bare-groups}
+use Rattle.res_calls.proofs.Owning.Calls.{map-bare, one-owner-served, one-owner-fresh, one-owner-preloaded}
+use Rattle.res_calls.proofs.Owning.Facts.{role-there, owns-one, one-owns}
+
+-- Each resource has its own handle, from an application's launch on and after each call.
+
+-- it hangs on the open files, on which numbers are resources' handles, and on the next number
+pub owns-same : (s after : Managers) → Owns s → after.resources.chain ≡ s.resources.chain
+    → after.resources.next ≡ s.resources.next
+    → ((h : ℕ) → resource_role_at h after.memory.heap ≡ resource_role_at h s.memory.heap) → Owns after
+owns-same s after owns chain next same =
+    owns-one after (one-owner-same s after (one-owns s owns) chain next same)
+
+-- a call of the Memory Manager, and one of the Resource Manager
+pub owns-heap : (a : Asked) (s : Managers) → Owns s → Owns (record s { memory = (heap.served a s.memory).1 })
+owns-heap a s owns =
+    owns-one (record s { memory = (heap.served a s.memory).1 }) (one-owner-heap a s (one-owns s owns))
+
+pub owns-served : (a : ResourceAsked) (s : Managers) → Owns s → Owns (served a s).after
+owns-served a s owns = owns-one (served a s).after (one-owner-served a s (one-owns s owns))
+
+-- a heap without a resource's handle, and files that were just opened
+pub owns-fresh : (files : List File) (own system : Map) (m : Memory) → Bare own.references → Bare system.references
+    → ((h : ℕ) → resource_role_at h m.heap ≡ None)
+    → Owns (record { memory = m; resources = fresh_resources files own system })
+owns-fresh files own system m bare plain none =
+    owns-one (record { memory = m; resources = fresh_resources files own system })
+    (one-owner-fresh files own system m bare plain none)
+
+-- and with those of the application's resources that are read at once
+pub owns-preloaded : (files : List File) (own system : Map) (m : Memory) → Bare own.references
+    → Bare system.references → ((h : ℕ) → resource_role_at h m.heap ≡ None)
+    → Owns (preloaded (record { memory = m; resources = fresh_resources files own system })).0
+owns-preloaded files own system m bare plain none =
+    owns-one (preloaded (record { memory = m; resources = fresh_resources files own system })).0
+    (one-owner-preloaded files own system m bare plain none)
+
+-- so it is as an application is launched, before its resources are read and after
+launched-by : (P : Resources → Type 0) (files : List File) (system : Content) (r : Resources)
+    → ((own : Map) → Bare own.references → P (fresh_resources files own (map_of system)))
+    → launched_resources files system ≡ Ok r → P r
+launched-by P [] system r each e = cc
+launched-by P (f ∷ files) system r each e = by_map (map_in f.fork) (map-bare f.fork) e
+  where
+    by_map : (o : Result Map OsErr) → ((read : Map) → o ≡ Ok read → Bare read.references)
+        → own_opened (f ∷ files) o system ≡ Ok r → P r
+    by_map (Err code) bare e = cc
+    by_map (Ok own) bare e =
+        let same : fresh_resources (f ∷ files) own (map_of system) ≡ r = cc in
+        subst P same (each own (bare own refl))
+
+pub owns-launched : (files : List File) (system : Content) (r : Resources) (m : Memory)
+    → launched_resources files system ≡ Ok r → ((h : ℕ) → resource_role_at h m.heap ≡ None)
+    → Owns (record { memory = m; resources = r }) × Owns (preloaded (record { memory = m; resources = r })).0
+owns-launched files system r m e none =
+    launched-by (λ x. Owns (record { memory = m; resources = x })
+    × Owns (preloaded (record { memory = m; resources = x })).0) files system r
+    (λ own bare. (
+      owns-fresh files own (map_of system) m bare (bare-groups system.groups) none,
+      owns-preloaded files own (map_of system) m bare (bare-groups system.groups) none,
+    )) e
+
+-- a reference's handle is a resource's, in the role that its file gives it
+pub owns-live : (s : Managers) → Owns s → (at : Found) (h : ℕ) → Stands s.resources.chain at
+    → at.reference.here.handle ≡ Some h → resource_role_at h s.memory.heap ≡ Some (role_in at.file.here)
+owns-live s owns at h stands has =
+    role-there s (one-owns s owns) at h stands (ap (is_handle h) has ∙ (Decides-eqb h h).1 refl)
+
+-- a resource's handle is that of a reference, which a search by the handle finds
+pub owns-known : (s : Managers) → Owns s → (h : ℕ) (role : Role) → resource_role_at h s.memory.heap ≡ Some role
+    → (at : Found) × (find_open (has_handle h) s.resources ≡ Some at) × (role_in at.file.here ≡ role)
+owns-known s owns h role is = by_found (find_open (has_handle h) s.resources) (owns.owned h ∙ is)
+  where
+    by_found : (o : Option Found) → role_for o ≡ Some role
+        → (at : Found) × (o ≡ Some at) × (role_in at.file.here ≡ role)
+    by_found None e = cc
+    by_found (Some at) e = (at, refl, cc)

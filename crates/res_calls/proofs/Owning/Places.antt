@@ -1,0 +1,101 @@
+use Rattle.std.proofs.Common.{◌≡◌, ℕ, Bool, true, false, List, [], ◌∷◌, ◌++◌, refl, sym, ◌∙◌, ap, cond, Option, subst}
+use Rattle.std.proofs.Common.{Some, None}
+use Rattle.std.proofs.lemmas.List.Concat.{flat_map-append}
+use Rattle.std.specs.List.{flat_map}
+use Rattle.std.specs.Option.{option_map, option_or}
+use Rattle.heap_calls.specs.State.{Role}
+use Rattle.res_map.specs.Split.{Split, split, replaced}
+use Rattle.res_map.specs.Map.{Reference, split_nth, is_of}
+use Rattle.res_map.proofs.Splitting.{split-whole, split-passes, split_nth-whole}
+use Rattle.res_calls.specs.Files.{OpenFile, Found, find, found_in, found_behind, with_reference}
+use Rattle.res_calls.specs.Rows.{nth_in}
+use Rattle.res_calls.specs.Owning.{role_in}
+use Rattle.res_calls.proofs.Owning.Owners.{owner, owners_in, owners}
+use Rattle.res_calls.proofs.Owning.Lists.{inner}
+
+-- A reference in its place among the open files, and the owners before and behind it.
+
+-- what was found stands in these files
+pub record Stands (chain : List OpenFile) (at : Found) : Type 0 where
+  pub file : replaced at.file.here at.file ≡ chain
+  pub reference : replaced at.reference.here at.reference ≡ at.file.here.map.references
+
+-- the files with another reference in its place, and with the same
+pub same-there : (chain : List OpenFile) (at : Found) → Stands chain at
+    → with_reference at.reference.here at ≡ chain
+same-there chain at stands =
+    ap (λ (refs : List Reference).
+    replaced (record at.file.here { map = record at.file.here.map { references = refs } }) at.file) stands.reference
+    ∙ stands.file
+
+-- what a search finds
+found-by : {T : Type 0} (P : T → Type 0) (one other : Option T) → ((at : T) → one ≡ Some at → P at)
+    → ((at : T) → other ≡ Some at → P at) → (at : T) → option_or one other ≡ Some at → P at
+found-by P None other first later at e = later at e
+found-by P (Some x) other first later at e = first at e
+
+mapped-by : {S T : Type 0} (P : T → Type 0) (f : S → T) (o : Option S) → ((x : S) → o ≡ Some x → P (f x))
+    → (at : T) → option_map f o ≡ Some at → P at
+mapped-by P f None each at e = cc
+mapped-by P f (Some x) each at e = let same : f x ≡ at = cc in subst P same (each x refl)
+
+-- it stands there, and passes
+abbrev pub Finds : (Reference → Bool) → List OpenFile → Found → Type 0
+Finds test chain at = Stands chain at × (test at.reference.here ≡ true)
+
+find-first : (test : Reference → Bool) (f : OpenFile) (older : List OpenFile) (t : Bool) (at : Found)
+    → cond t (option_map (found_in f older) (split test f.map.references)) None ≡ Some at → Finds test (f ∷ older) at
+find-first test f older false at e = cc
+find-first test f older true at e =
+    mapped-by (Finds test (f ∷ older)) (found_in f older) (split test f.map.references)
+    (λ x is. (
+      record { file = refl; reference = split-whole test f.map.references x is },
+      split-passes test f.map.references x is,
+    )) at e
+
+pub find-finds : (within : OpenFile → Bool) (test : Reference → Bool) (chain : List OpenFile) (at : Found)
+    → find within test chain ≡ Some at → Finds test chain at
+find-finds within test [] at e = cc
+find-finds within test (f ∷ older) at e =
+    found-by (Finds test (f ∷ older)) _ (option_map (found_behind f) (find within test older))
+    (find-first test f older (within f))
+    (mapped-by (Finds test (f ∷ older)) (found_behind f) (find within test older)
+    (λ x is. let inner = find-finds within test older x is in (
+      record { file = ap (λ l. f ∷ l) inner.0.file; reference = inner.0.reference },
+      inner.1,
+    ))) at e
+
+pub nth-stands : (kind n : ℕ) (test : OpenFile → Bool) (chain : List OpenFile) (at : Found)
+    → nth_in kind n (split test chain) ≡ Some at → Stands chain at
+nth-stands kind n test chain at e = by_file (split test chain) (split-whole test chain) at e
+  where
+    by_file : (o : Option (Split OpenFile)) → ((f : Split OpenFile) → o ≡ Some f → replaced f.here f ≡ chain)
+        → (at : Found) → nth_in kind n o ≡ Some at → Stands chain at
+    by_file None whole at e = cc
+    by_file (Some f) whole at e =
+        mapped-by (Stands chain) _ (split_nth n (is_of kind) f.here.map.references)
+        (λ x is. record {
+          file = whole f refl;
+          reference = split_nth-whole n (is_of kind) f.here.map.references x is;
+        }) at e
+
+-- the owners of a handle before the place, and behind it
+abbrev pub front : ℕ → Found → List Role
+front h at = owners h at.file.before ++ flat_map (owner h (role_in at.file.here)) at.reference.before
+
+abbrev pub back : ℕ → Found → List Role
+back h at = flat_map (owner h (role_in at.file.here)) at.reference.after ++ owners h at.file.after
+
+pub owners-at : (h : ℕ) (at : Found) (x : Reference)
+    → owners h (with_reference x at) ≡ front h at ++ (owner h (role_in at.file.here) x ++ back h at)
+owners-at h at x =
+    let own : Reference → List Role = owner h (role_in at.file.here) in
+    flat_map-append (owners_in h) at.file.before _
+    ∙ ap (λ (l : List Role). owners h at.file.before ++ (l ++ owners h at.file.after))
+    (flat_map-append own at.reference.before (x ∷ at.reference.after))
+    ∙ inner (owners h at.file.before) (flat_map own at.reference.before) (own x) (flat_map own at.reference.after)
+    (owners h at.file.after)
+
+pub owners-stand : (h : ℕ) (chain : List OpenFile) (at : Found) → Stands chain at
+    → owners h chain ≡ front h at ++ (owner h (role_in at.file.here) at.reference.here ++ back h at)
+owners-stand h chain at stands = ap (owners h) (sym (same-there chain at stands)) ∙ owners-at h at at.reference.here

@@ -1,0 +1,6 @@
+pub mod Steps
+pub mod Going
+pub mod Serving
+pub mod Letting
+pub mod Place
+pub mod Laws

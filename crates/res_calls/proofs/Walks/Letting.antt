@@ -1,0 +1,233 @@
+use Rattle.std.proofs.Common.{◌≡◌, ◌≤◌, ◌<◌, ◌+◌, ◌^◌, ◌||◌, ◌==◌, nat_lt, ℕ, Bool, true, false, Option, Some, None}
+use Rattle.std.proofs.Common.{List, [], ◌∷◌, refl, sym, ◌∙◌, ap, cond, length}
+use Rattle.std.specs.List.{list_any}
+use Rattle.std.proofs.Common.{Result, Ok, Err}
+use Rattle.mac_words.specs.declared.code.OsErr.{OsErr}
+use Rattle.res_map.specs.Map.{Map}
+use Rattle.res_calls.specs.Rows.{map_in}
+use Rattle.res_calls.proofs.Walks.Steps.{map_steps}
+use Rattle.block_store.specs.Block.{count, is_masters}
+use Rattle.block_store.specs.Rest.{counted}
+use Rattle.res_map.specs.Split.{Split, place}
+use Rattle.res_map.specs.Map.{Reference, is_preload, is_changed, is_handle, has_handle, with_handle}
+use Rattle.res_map.specs.Map.{is_resource}
+use Rattle.res_map.specs.Map.{is_named}
+use Rattle.heap_calls.specs.State.{Memory, Resource}
+use Rattle.heap_calls.specs.Inside.{owned_as}
+use Rattle.heap_calls.specs.Path.{Step, NewFilled, Release, Cast, walk, lets_of}
+use Rattle.heap_calls.proofs.Promises.FewSearches.{unlooked}
+use Rattle.heap_calls.proofs.Steps.FewLooks.{step-looks}
+use Rattle.res_calls.specs.Files.{File, OpenFile, Found, find_from_current, find_in_current, file_of}
+use Rattle.res_calls.specs.Files.{file_named, open_at}
+use Rattle.res_calls.specs.Fetch.{Managers, flags_of}
+use Rattle.res_calls.specs.Rows.{resource_of, handles_of, greatest_number, nth_in, bars}
+use Rattle.res_calls.specs.Asked.{ResourceAsked}
+use Rattle.res_calls.specs.Asked as asks
+use Rattle.res_calls.specs.Disposing.{holds, disposes_of, opens_file}
+use Rattle.res_calls.proofs.Walks.Steps.{for_found, for_open, fetch_steps, fetch_steps_as, fetched_steps}
+use Rattle.res_calls.proofs.Walks.Steps.{preload_steps}
+use Rattle.res_calls.proofs.Walks.Steps.{load_steps, fork_steps, unless_steps, open_steps, releases}
+use Rattle.res_calls.proofs.Walks.Steps.{close_steps, on_handle}
+use Rattle.res_calls.proofs.Walks.Steps.{release_steps, detach_steps, steps_of, new_filled, new_emptied, filled_again}
+
+-- Which handles the steps of a call let go, and how often they look for room.
+
+fetch-lets : (loading : Bool) (at : Found) (handle : Option ℕ) (h : ℕ)
+    → lets_of (fetch_steps_as loading at handle) h ≡ false
+fetch-lets true at None h = refl
+fetch-lets false at None h = refl
+fetch-lets true at (Some k) h = refl
+fetch-lets false at (Some k) h = refl
+
+found-lets : (found : Option Found) (steps : Found → List Step) (h : ℕ)
+    → ((at : Found) → lets_of (steps at) h ≡ false) → lets_of (for_found found steps) h ≡ false
+found-lets None steps h each = refl
+found-lets (Some at) steps h each = each at
+
+fetched-lets : (found : Option Found) (s : Managers) (h : ℕ) → lets_of (fetched_steps found s) h ≡ false
+fetched-lets found s h = found-lets found (fetch_steps s.resources.loading) h
+    (λ at. fetch-lets s.resources.loading at at.reference.here.handle h)
+
+preload-lets : (references : List Reference) (h : ℕ) → lets_of (preload_steps references) h ≡ false
+preload-lets [] h = refl
+preload-lets (x ∷ references) h = by_bit (preload-lets references h) (is_preload x)
+  where
+    by_bit : lets_of (preload_steps references) h ≡ false → (t : Bool)
+        → lets_of (cond t (NewFilled Resource (flags_of x) x.stored.datum ∷ preload_steps references)
+        (preload_steps references)) h ≡ false
+    by_bit behind true = behind
+    by_bit behind false = behind
+
+load-lets : (references : List Reference) (s : Managers) (h : ℕ) → lets_of (load_steps references s) h ≡ false
+load-lets references s h = by_loading s.resources.loading
+  where
+    by_loading : (t : Bool) → lets_of (cond t (preload_steps references) []) h ≡ false
+    by_loading true = preload-lets references h
+    by_loading false = refl
+
+map-lets : (read : Result Map OsErr) (s : Managers) (h : ℕ) → lets_of (map_steps read s) h ≡ false
+map-lets (Err code) s h = refl
+map-lets (Ok read) s h = load-lets read.references s h
+
+fork-lets : (fork : List ℕ) (s : Managers) (h : ℕ) → lets_of (fork_steps fork s) h ≡ false
+fork-lets fork s h = by_number (nat_lt greatest_number s.resources.next)
+  where
+    by_number : (full : Bool) → lets_of (cond full [] (map_steps (map_in fork) s)) h ≡ false
+    by_number true = refl
+    by_number false = map-lets (map_in fork) s h
+
+unless-lets : (at : Split File) (o : Option (Split OpenFile)) (s : Managers) (h : ℕ)
+    → lets_of (unless_steps at o s) h ≡ false
+unless-lets at None s h = fork-lets at.here.fork s h
+unless-lets at (Some f) s h = refl
+
+open-lets : (o : Option (Split File)) (s : Managers) (h : ℕ) → lets_of (open_steps o s) h ≡ false
+open-lets None s h = refl
+open-lets (Some at) s h = unless-lets at (open_at (place at) s.resources) s h
+
+-- handles that are released are those of the references
+releases-lets : (references : List Reference) (h : ℕ)
+    → list_any (has_handle h) references ≡ lets_of (releases (handles_of references)) h
+releases-lets [] h = refl
+releases-lets (x ∷ references) h = by_handle (releases-lets references h) x.handle
+  where
+    by_handle : list_any (has_handle h) references ≡ lets_of (releases (handles_of references)) h → (o : Option ℕ)
+        → (is_handle h o || list_any (has_handle h) references)
+        ≡ lets_of (releases (handles_of (with_handle o x ∷ references))) h
+    by_handle behind None = behind
+    by_handle behind (Some k) = ap (λ (t : Bool). k == h || t) behind
+
+close-lets : (n : ℕ) (o : Option (Split OpenFile)) (h : ℕ) → holds h o ≡ false
+    → lets_of (for_open o (close_steps n)) h ≡ false
+close-lets n None h e = refl
+close-lets n (Some at) h e = by_number (n == 0)
+  where
+    by_number : (t : Bool) → lets_of (cond t [] (releases (handles_of at.here.map.references))) h ≡ false
+    by_number true = refl
+    by_number false = sym (releases-lets at.here.map.references h) ∙ e
+
+release-lets : (handle : Option ℕ) (s : Managers) (at : Found) (h : ℕ)
+    → lets_of (on_handle handle Release) h ≡ false → lets_of (release_steps handle s at) h ≡ false
+release-lets handle s at h e = by_tests (bars handle s.memory) (is_changed at.reference.here)
+  where
+    by_tests : (busy changed : Bool)
+        → lets_of (cond busy [] (cond changed [] (on_handle handle Release))) h ≡ false
+    by_tests true changed = refl
+    by_tests false true = refl
+    by_tests false false = e
+
+cast-lets : (handle : Option ℕ) (h : ℕ) → lets_of (on_handle handle (Cast (owned_as false))) h ≡ false
+cast-lets None h = refl
+cast-lets (Some k) h = refl
+
+detach-lets : (handle : Option ℕ) (at : Found) (h : ℕ) → lets_of (detach_steps handle at) h ≡ false
+detach-lets handle at h = by_change (is_changed at.reference.here)
+  where
+    by_change : (t : Bool) → lets_of (cond t [] (on_handle handle (Cast (owned_as false)))) h ≡ false
+    by_change true = refl
+    by_change false = cast-lets handle h
+
+-- a call lets go only handles that it may dispose of
+pub lets-walk : (h : ℕ) (a : ResourceAsked) (s : Managers) → disposes_of h a s ≡ false
+    → lets_of (steps_of a s) h ≡ false
+lets-walk h (asks.OpenResFile name) s e = open-lets (file_named name s.resources) s h
+lets-walk h (asks.CloseResFile n) s e = close-lets n (file_of n s.resources) h e
+lets-walk h (asks.GetResource kind id) s e =
+    fetched-lets (find_from_current (is_resource kind id) s.resources) s h
+lets-walk h (asks.GetOneResource kind id) s e =
+    fetched-lets (find_in_current (is_resource kind id) s.resources) s h
+lets-walk h (asks.GetNamedResource kind name) s e =
+    fetched-lets (find_from_current (is_named kind name) s.resources) s h
+lets-walk h (asks.GetOneNamedResource kind name) s e =
+    fetched-lets (find_in_current (is_named kind name) s.resources) s h
+lets-walk h (asks.GetOneIndResource kind index) s e =
+    fetched-lets (nth_in kind index (file_of s.resources.current s.resources)) s h
+lets-walk h (asks.LoadResource handle) s e =
+    found-lets (resource_of handle s.resources) (fetch_steps true) h
+    (λ at. fetch-lets true at at.reference.here.handle h)
+lets-walk h (asks.ReleaseResource None) s e =
+    found-lets (resource_of None s.resources) (release_steps None s) h (λ at. release-lets None s at h refl)
+lets-walk h (asks.ReleaseResource (Some k)) s e =
+    found-lets (resource_of (Some k) s.resources) (release_steps (Some k) s) h
+    (λ at. release-lets (Some k) s at h (ap (λ (t : Bool). t || false) e))
+lets-walk h (asks.DetachResource handle) s e =
+    found-lets (resource_of handle s.resources) (detach_steps handle) h (λ at. detach-lets handle at h)
+lets-walk h asked s e = refl
+
+-- steps look at most once more than there are blocks
+abbrev pub LookFew : List Step → Memory → Type 0
+LookFew steps m =
+    0 < count is_masters m.heap.zone → m.log.searches < 2 ^ 64
+    → (n : ℕ) × (n ≤ length m.heap.zone + 1) × ((walk steps m).log.searches ≡ counted m.log.searches n)
+
+none-look : (m : Memory) → LookFew [] m
+none-look m masters fits = unlooked m.heap.zone m.log.searches fits
+
+releases-looks : (handles : List ℕ) (m : Memory) → (walk (releases handles) m).log.searches ≡ m.log.searches
+releases-looks [] m = refl
+releases-looks (h ∷ handles) m = releases-looks handles _
+
+releases-few : (handles : List ℕ) (m : Memory) → LookFew (releases handles) m
+releases-few handles m masters fits = let none = unlooked m.heap.zone m.log.searches fits in
+    (none.0, none.1, releases-looks handles m ∙ none.2)
+
+found-few : (found : Option Found) (steps : Found → List Step) (m : Memory)
+    → ((at : Found) → LookFew (steps at) m) → LookFew (for_found found steps) m
+found-few None steps m each = none-look m
+found-few (Some at) steps m each = each at
+
+fetch-few : (loading : Bool) (at : Found) (handle : Option ℕ) (m : Memory)
+    → LookFew (fetch_steps_as loading at handle) m
+fetch-few true at None m = step-looks (new_filled at) m
+fetch-few false at None m = step-looks (new_emptied at) m
+fetch-few true at (Some h) m = step-looks (filled_again at h) m
+fetch-few false at (Some h) m = none-look m
+
+fetched-few : (found : Option Found) (s : Managers) → LookFew (fetched_steps found s) s.memory
+fetched-few found s = found-few found (fetch_steps s.resources.loading) s.memory
+    (λ at. fetch-few s.resources.loading at at.reference.here.handle s.memory)
+
+close-few : (n : ℕ) (o : Option (Split OpenFile)) (m : Memory) → LookFew (for_open o (close_steps n)) m
+close-few n None m = none-look m
+close-few n (Some at) m = by_number (n == 0)
+  where
+    by_number : (t : Bool) → LookFew (cond t [] (releases (handles_of at.here.map.references))) m
+    by_number true = none-look m
+    by_number false = releases-few (handles_of at.here.map.references) m
+
+handle-few : (handle : Option ℕ) (step : ℕ → Step) (m : Memory) → LookFew (on_handle handle step) m
+handle-few None step m = none-look m
+handle-few (Some h) step m = step-looks (step h) m
+
+release-few : (handle : Option ℕ) (s : Managers) (at : Found) → LookFew (release_steps handle s at) s.memory
+release-few handle s at = by_tests (bars handle s.memory) (is_changed at.reference.here)
+  where
+    by_tests : (busy changed : Bool) → LookFew (cond busy [] (cond changed [] (on_handle handle Release))) s.memory
+    by_tests true changed = none-look s.memory
+    by_tests false true = none-look s.memory
+    by_tests false false = handle-few handle Release s.memory
+
+detach-few : (handle : Option ℕ) (at : Found) (m : Memory) → LookFew (detach_steps handle at) m
+detach-few handle at m = by_change (is_changed at.reference.here)
+  where
+    by_change : (t : Bool) → LookFew (cond t [] (on_handle handle (Cast (owned_as false)))) m
+    by_change true = none-look m
+    by_change false = handle-few handle (Cast (owned_as false)) m
+
+-- and so do those of a call that opens no file
+pub looks-walk : (a : ResourceAsked) (s : Managers) → opens_file a ≡ false → LookFew (steps_of a s) s.memory
+looks-walk (asks.OpenResFile name) s e = cc
+looks-walk (asks.CloseResFile n) s e = close-few n (file_of n s.resources) s.memory
+looks-walk (asks.GetResource kind id) s e = fetched-few (find_from_current (is_resource kind id) s.resources) s
+looks-walk (asks.GetOneResource kind id) s e = fetched-few (find_in_current (is_resource kind id) s.resources) s
+looks-walk (asks.GetNamedResource kind name) s e = fetched-few (find_from_current (is_named kind name) s.resources) s
+looks-walk (asks.GetOneNamedResource kind name) s e = fetched-few (find_in_current (is_named kind name) s.resources) s
+looks-walk (asks.GetOneIndResource kind index) s e =
+    fetched-few (nth_in kind index (file_of s.resources.current s.resources)) s
+looks-walk (asks.LoadResource handle) s e = found-few (resource_of handle s.resources) (fetch_steps true) s.memory
+    (λ at. fetch-few true at at.reference.here.handle s.memory)
+looks-walk (asks.ReleaseResource handle) s e =
+    found-few (resource_of handle s.resources) (release_steps handle s) s.memory (λ at. release-few handle s at)
+looks-walk (asks.DetachResource handle) s e =
+    found-few (resource_of handle s.resources) (detach_steps handle) s.memory (λ at. detach-few handle at s.memory)
+looks-walk asked s e = none-look s.memory

@@ -1,0 +1,115 @@
+use Rattle.std.proofs.Common.{◌≡◌, ℕ, Bool, true, false, true≢false, Option, Some, None, Result, Ok, Err, List, []}
+use Rattle.std.proofs.Common.{refl, sym, ◌∙◌, ap}
+use Rattle.mac_words.specs.declared.code.OsErr.{OsErr}
+use Rattle.mac_words.specs.Told.{Told, Done, Kind, Number, Refused}
+use Rattle.heap_calls.specs.Answer.{code_of}
+use Rattle.heap_calls.specs.Path.{Step, walk, reads}
+use Rattle.res_map.specs.Map.{is_resource, is_named}
+use Rattle.res_calls.specs.Files.{Resources, find_from_current, find_in_current, file_of, file_named}
+use Rattle.res_calls.specs.Files.{current_references}
+use Rattle.res_map.specs.Map.{nth, types}
+use Rattle.res_calls.specs.Fetch.{Managers, Answer}
+use Rattle.res_calls.specs.Rows as rows
+use Rattle.res_calls.specs.Rows.{noting, resource_of, told_type, nth_in}
+use Rattle.heap_calls.specs.Asked.{told_as}
+use Rattle.res_calls.specs.Asked.{ResourceAsked, Served, telling, tell_fetched, tell_info, served}
+use Rattle.res_calls.specs.Asked as asks
+use Rattle.res_calls.proofs.Walks.Steps.{steps_of, fetch_steps, close_steps, release_steps, detach_steps}
+use Rattle.res_calls.proofs.Walks.Going.{Refuses, Goes, done-goes, same-goes, refused-goes, found-goes, found-same}
+use Rattle.res_calls.proofs.Walks.Going.{open-goes, open-same, fetch-goes, fetched-goes, named-goes, close-goes}
+use Rattle.res_calls.proofs.Walks.Going.{release-goes, detach-goes}
+
+-- Each call of the Resource Manager goes by its steps.
+
+-- what a call comes to goes by steps; where it is refused it leaves the resources, but for the code that ResError tells
+pub record Serves (steps : List Step) (s : Managers) (x : Served) : Type 0 where
+  pub heap : x.after.memory ≡ walk steps s.memory
+  pub read : x.reads ≡ reads steps s.memory
+  pub files : x.after.resources.files ≡ s.resources.files
+  pub refuses : (code : OsErr) → x.told ≡ Refused code
+      → (x.reads ≡ []) × (x.after.resources ≡ record s.resources { error = code }) × Refuses steps s.memory code
+
+-- a refusal is told
+abbrev is_refusal : Told → Bool
+is_refusal (Refused code) = true
+is_refusal told = false
+
+telling-serves : {T : Type 0} (tell : T → Told) (call : Managers → Answer T) (s : Managers) (steps : List Step)
+    → ((value : T) → is_refusal (tell value) ≡ false) → Goes steps s (call s)
+    → Serves steps s (telling tell (noting call s))
+telling-serves {T} tell call s steps quiet goes =
+    record { heap = goes.heap; read = goes.read; files = goes.files; refuses = by_reply (call s).reply refl }
+  where
+    by_reply : (r : Result T OsErr) → (call s).reply ≡ r → (code : OsErr) → told_as tell r ≡ Refused code
+        → ((call s).reads ≡ [])
+        × ((noting call s).after.resources ≡ record s.resources { error = code })
+        × Refuses steps s.memory code
+    by_reply (Ok value) is code e = absurd (true≢false (sym (ap is_refusal e) ∙ quiet value))
+    by_reply (Err why) is code e =
+        let told : Refused why ≡ Refused code = e in
+        let same : why ≡ code = cc in
+        let refused : (call s).reply ≡ Err code = is ∙ ap (λ (c : OsErr). Err c) same in
+        let left = goes.refuses code refused in (
+          left.0,
+          ap (λ (r : Resources). let kept : Resources = record r { error = code_of (call s).reply } in kept) left.1
+              ∙ ap (λ (reply : Result T OsErr).
+              let kept : Resources = record s.resources { error = code_of reply } in kept) refused,
+          left.2,
+        )
+
+told_type-goes : (kind : Option ℕ) (s : Managers) → Goes [] s (told_type kind s)
+told_type-goes None s = refused-goes _ s
+told_type-goes (Some kind) s = same-goes kind s
+
+pub served-serves : (a : ResourceAsked) (s : Managers) → Serves (steps_of a s) s (served a s)
+served-serves (asks.OpenResFile name) s = telling-serves Number (rows.open_res_file name) s
+    (steps_of (asks.OpenResFile name) s) (λ n. refl) (named-goes (file_named name s.resources) s)
+served-serves (asks.CloseResFile n) s = telling-serves (λ x. Done) (rows.close_res_file n) s
+    (steps_of (asks.CloseResFile n) s) (λ x. refl)
+    (open-goes (file_of n s.resources) s _ (close_steps n) (λ at. close-goes n at s))
+served-serves (asks.UseResFile n) s = telling-serves (λ x. Done) (rows.use_res_file n) s [] (λ x. refl)
+    (open-same (file_of n s.resources) s _ (λ at. done-goes _ s _ refl refl))
+served-serves asks.CurResFile s = telling-serves Number rows.cur_res_file s [] (λ n. refl) (same-goes _ s)
+served-serves (asks.HomeResFile handle) s = telling-serves Number (rows.home_res_file handle) s [] (λ n. refl)
+    (found-same (resource_of handle s.resources) s _ (λ at. same-goes _ s))
+served-serves (asks.GetResource kind id) s = telling-serves tell_fetched (rows.get_resource kind id) s
+    (steps_of (asks.GetResource kind id) s) (λ f. refl)
+    (fetched-goes (find_from_current (is_resource kind id) s.resources) s)
+served-serves (asks.GetOneResource kind id) s = telling-serves tell_fetched (rows.get_one_resource kind id) s
+    (steps_of (asks.GetOneResource kind id) s) (λ f. refl)
+    (fetched-goes (find_in_current (is_resource kind id) s.resources) s)
+served-serves (asks.GetNamedResource kind name) s = telling-serves tell_fetched (rows.get_named_resource kind name) s
+    (steps_of (asks.GetNamedResource kind name) s) (λ f. refl)
+    (fetched-goes (find_from_current (is_named kind name) s.resources) s)
+served-serves (asks.GetOneNamedResource kind name) s =
+    telling-serves tell_fetched (rows.get_one_named_resource kind name) s
+    (steps_of (asks.GetOneNamedResource kind name) s) (λ f. refl)
+    (fetched-goes (find_in_current (is_named kind name) s.resources) s)
+served-serves asks.CountOneTypes s = telling-serves Number rows.count_one_types s [] (λ n. refl) (same-goes _ s)
+served-serves (asks.GetOneIndType index) s = telling-serves Kind (rows.get_one_ind_type index) s [] (λ k. refl)
+    (told_type-goes (nth index (types (current_references s.resources))) s)
+served-serves (asks.CountOneResources kind) s = telling-serves Number (rows.count_one_resources kind) s [] (λ n. refl)
+    (same-goes _ s)
+served-serves (asks.GetOneIndResource kind index) s =
+    telling-serves tell_fetched (rows.get_one_ind_resource kind index) s
+    (steps_of (asks.GetOneIndResource kind index) s) (λ f. refl)
+    (fetched-goes (nth_in kind index (file_of s.resources.current s.resources)) s)
+served-serves (asks.LoadResource handle) s = telling-serves tell_fetched (rows.load_resource handle) s
+    (steps_of (asks.LoadResource handle) s) (λ f. refl)
+    (found-goes (resource_of handle s.resources) s _ (fetch_steps true)
+    (λ at. fetch-goes true at at.reference.here.handle s))
+served-serves (asks.ReleaseResource handle) s = telling-serves (λ x. Done) (rows.release_resource handle) s
+    (steps_of (asks.ReleaseResource handle) s) (λ x. refl)
+    (found-goes (resource_of handle s.resources) s _ (release_steps handle s) (λ at. release-goes handle at s))
+served-serves (asks.DetachResource handle) s = telling-serves (λ x. Done) (rows.detach_resource handle) s
+    (steps_of (asks.DetachResource handle) s) (λ x. refl)
+    (found-goes (resource_of handle s.resources) s _ (detach_steps handle) (λ at. detach-goes handle at s))
+served-serves (asks.GetResInfo handle) s = telling-serves tell_info (rows.get_res_info handle) s [] (λ i. refl)
+    (found-same (resource_of handle s.resources) s _ (λ at. same-goes _ s))
+served-serves (asks.GetResAttrs handle) s = telling-serves Number (rows.get_res_attrs handle) s [] (λ n. refl)
+    (found-same (resource_of handle s.resources) s _ (λ at. same-goes _ s))
+served-serves (asks.GetResourceSizeOnDisk handle) s = telling-serves Number (rows.get_resource_size_on_disk handle) s []
+    (λ n. refl) (found-same (resource_of handle s.resources) s _ (λ at. same-goes _ s))
+served-serves (asks.SetResLoad on) s = telling-serves (λ x. Done) (rows.set_res_load on) s [] (λ x. refl)
+    (done-goes _ s _ refl refl)
+served-serves asks.ResError s = record { heap = refl; read = refl; files = refl; refuses = λ code e. cc }

@@ -1,0 +1,112 @@
+use Rattle.std.proofs.Common.{Result, Ok, Err}
+use Rattle.std.proofs.Common.{ℕ, Bool, true, false, Option, Some, None, List, [], ◌∷◌, ◌==◌, nat_lt}
+use Rattle.std.proofs.Common.{if◌then◌else◌}
+use Rattle.mac_words.specs.declared.code.OsErr.{OsErr}
+use Rattle.res_map.specs.Split.{Split, place}
+use Rattle.res_map.specs.Map.{Reference, Map, is_preload, is_changed, is_resource, is_named}
+use Rattle.heap_calls.specs.State.{Resource}
+use Rattle.heap_calls.specs.Inside.{resource_role, owned_as}
+use Rattle.heap_calls.specs.Path.{Step, NewFilled, NewEmptied, Refill, Release, Cast}
+use Rattle.res_calls.specs.Files.{File, OpenFile, Found, find_from_current, find_in_current, file_of, file_named}
+use Rattle.res_calls.specs.Files.{open_at}
+use Rattle.res_calls.specs.Fetch.{Managers, flags_of, is_system}
+use Rattle.res_calls.specs.Rows.{resource_of, handles_of, greatest_number, map_in, nth_in, bars}
+use Rattle.res_calls.specs.Asked.{ResourceAsked, OpenResFile, CloseResFile, GetResource, GetOneResource}
+use Rattle.res_calls.specs.Asked.{GetNamedResource, GetOneNamedResource, GetOneIndResource, LoadResource}
+use Rattle.res_calls.specs.Asked.{ReleaseResource, DetachResource}
+
+-- The steps that each call of the Resource Manager takes on the heap.
+
+-- for what was found, or for an open file; else none
+abbrev pub for_found : Option Found → (Found → List Step) → List Step
+for_found None steps = []
+for_found (Some at) steps = steps at
+
+abbrev pub for_open : Option (Split OpenFile) → (Split OpenFile → List Step) → List Step
+for_open None steps = []
+for_open (Some at) steps = steps at
+
+-- a new handle with the datum, or emptied
+abbrev pub new_filled : Found → Step
+new_filled at = NewFilled (resource_role (is_system at.file.here)) (flags_of at.reference.here)
+    at.reference.here.stored.datum
+
+abbrev pub new_emptied : Found → Step
+new_emptied at = NewEmptied (resource_role (is_system at.file.here))
+
+-- an emptied handle is filled
+abbrev pub filled_again : Found → ℕ → Step
+filled_again at h = Refill h (flags_of at.reference.here) at.reference.here.stored.datum
+
+-- the steps of a fetch, by whether loading is on and by the reference's handle
+abbrev pub fetch_steps_as : Bool → Found → Option ℕ → List Step
+fetch_steps_as loading at None = if loading then new_filled at ∷ [] else new_emptied at ∷ []
+fetch_steps_as loading at (Some h) = if loading then filled_again at h ∷ [] else []
+
+abbrev pub fetch_steps : Bool → Found → List Step
+fetch_steps loading at = fetch_steps_as loading at at.reference.here.handle
+
+abbrev pub fetched_steps : Option Found → Managers → List Step
+fetched_steps found s = for_found found (fetch_steps s.resources.loading)
+
+-- the references that are read as their file is opened
+abbrev pub preload_steps : List Reference → List Step
+preload_steps [] = []
+preload_steps (x ∷ references) =
+    if is_preload x then NewFilled Resource (flags_of x) x.stored.datum ∷ preload_steps references
+    else preload_steps references
+
+abbrev pub load_steps : List Reference → Managers → List Step
+load_steps references s = if s.resources.loading then preload_steps references else []
+
+-- an opening, step by step as it is defined
+abbrev pub map_steps : Result Map OsErr → Managers → List Step
+map_steps (Err code) s = []
+map_steps (Ok read) s = load_steps read.references s
+
+abbrev pub fork_steps : List ℕ → Managers → List Step
+fork_steps fork s = if nat_lt greatest_number s.resources.next then [] else map_steps (map_in fork) s
+
+abbrev pub unless_steps : Split File → Option (Split OpenFile) → Managers → List Step
+unless_steps at (Some f) s = []
+unless_steps at None s = fork_steps at.here.fork s
+
+abbrev pub open_steps : Option (Split File) → Managers → List Step
+open_steps None s = []
+open_steps (Some at) s = unless_steps at (open_at (place at) s.resources) s
+
+-- handles that are released in order
+abbrev pub releases : List ℕ → List Step
+releases [] = []
+releases (h ∷ handles) = Release h ∷ releases handles
+
+-- the handles of a file that is closed
+abbrev pub close_steps : ℕ → Split OpenFile → List Step
+close_steps n at = if n == 0 then [] else releases (handles_of at.here.map.references)
+
+-- the handle of a resource, if it is bound
+abbrev pub on_handle : Option ℕ → (ℕ → Step) → List Step
+on_handle None step = []
+on_handle (Some h) step = step h ∷ []
+
+abbrev pub release_steps : Option ℕ → Managers → Found → List Step
+release_steps handle s at =
+    if bars handle s.memory then [] else if is_changed at.reference.here then [] else on_handle handle Release
+
+abbrev pub detach_steps : Option ℕ → Found → List Step
+detach_steps handle at = if is_changed at.reference.here then [] else on_handle handle (Cast (owned_as false))
+
+-- the steps of a call
+abbrev pub steps_of : ResourceAsked → Managers → List Step
+steps_of (OpenResFile name) s = open_steps (file_named name s.resources) s
+steps_of (CloseResFile n) s = for_open (file_of n s.resources) (close_steps n)
+steps_of (GetResource kind id) s = fetched_steps (find_from_current (is_resource kind id) s.resources) s
+steps_of (GetOneResource kind id) s = fetched_steps (find_in_current (is_resource kind id) s.resources) s
+steps_of (GetNamedResource kind name) s = fetched_steps (find_from_current (is_named kind name) s.resources) s
+steps_of (GetOneNamedResource kind name) s = fetched_steps (find_in_current (is_named kind name) s.resources) s
+steps_of (GetOneIndResource kind index) s =
+    fetched_steps (nth_in kind index (file_of s.resources.current s.resources)) s
+steps_of (LoadResource handle) s = for_found (resource_of handle s.resources) (fetch_steps true)
+steps_of (ReleaseResource handle) s = for_found (resource_of handle s.resources) (release_steps handle s)
+steps_of (DetachResource handle) s = for_found (resource_of handle s.resources) (detach_steps handle)
+steps_of asked s = []

@@ -1,0 +1,34 @@
+use Rattle.std.proofs.Common.{ℕ, ℤ, List, [], ◌∷◌, Option, replicate}
+use Rattle.mac_words.specs.Told.{Told}
+use Rattle.fork_format.specs.Content.{Ref, Group}
+use Rattle.res_map.specs.Map.{Map, map_of}
+use Rattle.heap_calls.specs.Asked.{Asked}
+use Rattle.heap_calls.specs.Busy as heap
+use Rattle.res_calls.specs.Fetch.{Managers}
+use Rattle.res_calls.specs.Asked.{ResourceAsked, served}
+
+-- What lines of calls tell, one after another.
+
+-- a line: a call of either manager
+abbrev pub Line : Type 0
+Line = Managers → Told × Managers
+
+abbrev pub line : ResourceAsked → Line
+line a s = ((served a s).told, (served a s).after)
+
+abbrev pub heap_line : Asked → Line
+heap_line a s = ((heap.served a s.memory).0, record s { memory = (heap.served a s.memory).1 })
+
+abbrev pub tells : List Line → Managers → List Told
+tells [] s = []
+tells (l ∷ lines) s = (l s).0 ∷ tells lines (l s).1
+
+-- a resource, and a fork's map: its resources by type
+abbrev pub stored : ℤ → Option (List ℕ) → ℕ → List ℕ → Ref
+stored id name attrs datum = record { id = id; name = name; attrs = attrs; datum = datum }
+
+abbrev pub opened_map : List Group → Map
+opened_map groups = map_of (record { area = replicate 240 0; attrs = 0; groups = groups })
+
+abbrev pub group : ℕ → List Ref → Group
+group kind refs = record { kind = kind; refs = refs }

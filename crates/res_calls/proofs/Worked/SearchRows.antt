@@ -1,0 +1,65 @@
+use Rattle.std.proofs.Common.{◌≡◌, ℕ, pos, true, [], ◌∷◌, Some, None, refl}
+use Rattle.mac_words.specs.declared.code.TheConstants.OsErr.{NO_ERR, RES_NOT_FOUND, RES_FILE_NOT_FOUND}
+use Rattle.mac_words.specs.Told.{Done, Fetched, Number, Bytes, Kind, Refused}
+use Rattle.block_store.specs.Rest.{Site}
+use Rattle.heap_calls.specs.State.{fresh_memory}
+use Rattle.heap_calls.specs.Asked as asks
+use Rattle.res_calls.specs.Files.{Resources, opened}
+use Rattle.res_calls.specs.Fetch.{Managers}
+use Rattle.res_calls.specs.Asked.{UseResFile, CurResFile, HomeResFile, GetResource, GetOneResource}
+use Rattle.res_calls.specs.Asked.{GetNamedResource, GetOneNamedResource, CountOneTypes, GetOneIndType}
+use Rattle.res_calls.specs.Asked.{CountOneResources, GetOneIndResource}
+use Rattle.res_calls.proofs.Worked.Lines.{line, heap_line, tells, stored, opened_map, group}
+
+-- A search through the open files.
+
+-- 'STR '
+abbrev text : ℕ
+text = 0x53545220
+
+-- file 4 has 'STR ' 5 with the byte 't', file 3 has it twice, 'm1' named 'Menu' and 'm2', the System's has 's'
+abbrev resources : Resources
+resources = record {
+  files = [];
+  chain = opened 4 (Some 2) (opened_map (group text (stored (pos 5) None 0 (116 ∷ []) ∷ []) ∷ []))
+      ∷ opened 3 (Some 1) (opened_map (group text (stored (pos 5) (Some (77 ∷ 101 ∷ 110 ∷ 117 ∷ [])) 0 (109 ∷ 49 ∷ [])
+      ∷ stored (pos 5) None 0 (109 ∷ 50 ∷ []) ∷ []) ∷ []))
+      ∷ opened 2 (Some 0) (opened_map [])
+      ∷ opened 0 None (opened_map (group text (stored (pos 5) None 0 (115 ∷ []) ∷ []) ∷ []))
+      ∷ [];
+  current = 4;
+  next = 5;
+  loading = true;
+  error = NO_ERR;
+}
+
+abbrev start : Site → Managers
+start window = record { memory = fresh_memory 1024 window; resources = resources }
+
+-- the search starts at the current file
+from-current : (window : Site) → tells (line (GetResource text (pos 5)) ∷ heap_line (asks.Show (Some 0))
+    ∷ line (UseResFile 3) ∷ line (GetResource text (pos 5)) ∷ heap_line (asks.Show (Some 1))
+    ∷ line (GetOneResource text (pos 5)) ∷ line CurResFile ∷ []) (start window)
+    ≡ Fetched 0 1 ∷ Bytes (116 ∷ []) ∷ Done ∷ Fetched 1 1 ∷ Bytes (109 ∷ 49 ∷ []) ∷ Fetched 1 0 ∷ Number 3 ∷ []
+from-current window = refl
+
+-- names are compared without case
+by-name : (window : Site) → tells (line (UseResFile 3)
+    ∷ line (GetNamedResource text (109 ∷ 69 ∷ 78 ∷ 85 ∷ [])) ∷ line (GetOneNamedResource text (120 ∷ [])) ∷ [])
+    (start window)
+    ≡ Done ∷ Fetched 0 1 ∷ Refused RES_NOT_FOUND ∷ []
+by-name window = refl
+
+-- what the current file has
+counted : (window : Site) → tells (line (UseResFile 3) ∷ line CountOneTypes ∷ line (GetOneIndType 1)
+    ∷ line (CountOneResources text) ∷ line (GetOneIndResource text 2) ∷ heap_line (asks.Show (Some 0)) ∷ [])
+    (start window)
+    ≡ Done ∷ Number 1 ∷ Kind text ∷ Number 2 ∷ Fetched 0 1 ∷ Bytes (109 ∷ 50 ∷ []) ∷ []
+counted window = refl
+
+-- a resource of the System's is found behind a file without it
+behind-own : (window : Site) → tells (line (UseResFile 2) ∷ line (GetOneResource text (pos 5))
+    ∷ line (GetResource text (pos 5)) ∷ heap_line (asks.Show (Some 0)) ∷ line (HomeResFile (Some 0))
+    ∷ line (UseResFile 9) ∷ []) (start window)
+    ≡ Done ∷ Refused RES_NOT_FOUND ∷ Fetched 0 1 ∷ Bytes (115 ∷ []) ∷ Number 0 ∷ Refused RES_FILE_NOT_FOUND ∷ []
+behind-own window = refl

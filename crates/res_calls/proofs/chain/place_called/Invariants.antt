@@ -1,0 +1,12 @@
+use Rattle.std.proofs.Common.{◌≡◌, map, drop}
+use Rattle.std.specs.Prelude.{option_map, bytes_eq}
+use Rattle.res_map.specs.Split.{split, place}
+use Rattle.res_map.proofs.Steps.{place_from}
+use Rattle.res_calls.specs.Files.{File}
+use Rattle.res_calls.specs.View.{view_file}
+use Rattle.res_calls.proofs.chain.place_called.Given as goal
+
+-- what is found in the files that are left is found in all
+abbrev pub invariant-loop-i : goal.invariant-loop-i
+invariant-loop-i l = place_from l.i (split (λ (f : File). bytes_eq f.name l.name.0.items) (map view_file (drop l.i l.files)))
+    ≡ option_map place (split (λ (f : File). bytes_eq f.name l.name.0.items) (map view_file l.files))

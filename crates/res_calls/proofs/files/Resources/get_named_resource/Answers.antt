@@ -1,0 +1,16 @@
+use Rattle.std.proofs.Common.{subst}
+use Rattle.res_calls.specs.Files.{Resources}
+use Rattle.res_calls.specs.Rows.{noting}
+use Rattle.res_calls.specs.Given.{IsFetched, managers}
+use Rattle.res_calls.specs.Places.{fetch_wanted}
+use Rattle.res_calls.specs.declared.find.Within.TheVariants as within
+use Rattle.res_calls.specs.declared.find.Wanted.TheVariants as wanted
+use Rattle.res_calls.proofs.files.Resources.get_named_resource.Goals as goal
+
+pub returns-clause-answer : goal.returns-clause-answer
+returns-clause-answer g c =
+    subst (λ (r : Resources). IsFetched
+    (noting (fetch_wanted (within.UpTo r.current) (wanted.Named c.args.ty c.args.name) r.loading)
+    (managers c.args.self.now c.args.heap.now)) c.fetch_wanted.result
+    (managers c.fetch_wanted.new.self c.fetch_wanted.new.heap))
+    c.self.view_is c.fetch_wanted.ensures.answer

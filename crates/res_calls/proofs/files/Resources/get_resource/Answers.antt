@@ -1,0 +1,19 @@
+use Rattle.std.proofs.Common.{subst}
+use Rattle.std.specs.Int.{w16}
+use Rattle.std.proofs.lemmas.Int.{to_z-of_z}
+use Rattle.res_calls.specs.Files.{Resources}
+use Rattle.res_calls.specs.Rows.{noting}
+use Rattle.res_calls.specs.Given.{IsFetched, managers}
+use Rattle.res_calls.specs.Places.{fetch_wanted}
+use Rattle.res_calls.specs.declared.find.Within.TheVariants as within
+use Rattle.res_calls.specs.declared.find.Wanted.TheVariants as wanted
+use Rattle.res_calls.proofs.files.Resources.get_resource.Goals as goal
+
+pub returns-clause-answer : goal.returns-clause-answer
+returns-clause-answer g c =
+    let id = to_z-of_z w16 c.args.id c.ranges.id in
+    subst (λ (r : Resources). IsFetched
+    (noting (fetch_wanted (within.UpTo r.current) (wanted.Id c.args.ty c.args.id) r.loading)
+    (managers c.args.self.now c.args.heap.now)) c.fetch_wanted.result
+    (managers c.fetch_wanted.new.self c.fetch_wanted.new.heap))
+    c.self.view_is (rw id at c.fetch_wanted.ensures.answer)

@@ -1,0 +1,7 @@
+use Rattle.fork_format.specs.View.{view}
+use Rattle.res_calls.proofs.OpeningForks.{launch_refused}
+use Rattle.res_calls.proofs.files.Resources.new.Goals as goal
+
+pub returns-in-Err : goal.returns-in-Err
+returns-in-Err c = launch_refused c.args.files.items c.index.result.now c.in-Err.refusal (view c.args.system.now)
+    c.deref.result.now c.requires.own c.index.ensures c.deref.ensures.value c.in-Err.ensures

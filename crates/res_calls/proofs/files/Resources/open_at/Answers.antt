@@ -1,0 +1,25 @@
+use Rattle.std.proofs.Common.{ap}
+use Rattle.res_calls.specs.Files.{Resources}
+use Rattle.res_calls.specs.View.{view_file}
+use Rattle.block_store.proofs.Content.Resizing.{if_some}
+use Rattle.res_calls.proofs.OpeningForks.{file_here, low_number, fork_refused, fork_opened}
+use Rattle.res_calls.proofs.files.Resources.open_at.Goals as goal
+
+pub returns-in-Err-clause-answer : goal.returns-in-Err-clause-answer
+returns-in-Err-clause-answer g c =
+    let here = file_here c.args.self.now c.self.inside.files.items c.args.at c.index.result.now
+    (ap (λ (r : Resources). r.files) c.self.view_is) c.requires c.index.ensures in
+    let low = low_number c.self.inside.next c.args.self.now (ap (λ (r : Resources). r.next) c.self.view_is)
+    c.if-self-gt-GREATEST_NUMBER.false in
+    if_some _ _ (view_file c.index.result.now) here (fork_refused c.args.at c.index.result.now.fork.items
+    c.args.self.now c.args.heap.now c.in-Err.refusal c.deref.result.now low c.deref.ensures.value c.in-Err.ensures)
+
+pub returns-clause-answer : goal.returns-clause-answer
+returns-clause-answer g c =
+    let here = file_here c.args.self.now c.self.inside.files.items c.args.at c.index.result.now
+    (ap (λ (r : Resources). r.files) c.self.view_is) c.requires c.index.ensures in
+    let low = low_number c.self.inside.next c.args.self.now (ap (λ (r : Resources). r.next) c.self.view_is)
+    c.if-self-gt-GREATEST_NUMBER.false in
+    if_some _ _ (view_file c.index.result.now) here (fork_opened c.args.at c.in_ok-open_read.field-0
+    c.index.result.now.fork.items c.args.self.now c.args.heap.now c.in-Ok.read _ c.deref.result.now low
+    c.deref.ensures.value c.in-Ok.ensures c.in_ok-open_read.ensures.answer c.in_ok-open_read.ensures.after)

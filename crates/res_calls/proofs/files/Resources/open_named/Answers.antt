@@ -1,0 +1,20 @@
+use Rattle.std.proofs.Common.{ap, map, ◌∙◌}
+use Rattle.res_calls.specs.Files.{Resources}
+use Rattle.res_calls.specs.View.{view_file}
+use Rattle.res_calls.proofs.OpeningForks.{open_already, open_anew}
+use Rattle.res_calls.proofs.files.Resources.open_named.Goals as goal
+
+pub returns-in-Some-place_of_file-clause-answer : goal.returns-in-Some-place_of_file-clause-answer
+returns-in-Some-place_of_file-clause-answer g c = open_already c.args.name.now.0.items c.in-Some.at
+    c.in-Some-place_of_file.open c.args.self.now c.args.heap.now c.deref.result.now c.self.inside.chain.items
+    c.index.result.now (ap (map view_file) c.deref.ensures.value ∙ ap (λ (r : Resources). r.files) c.self.view_is)
+    (ap (λ (r : Resources). r.chain) c.self.view_is) c.in-Some.ensures.found
+    (rw c.deref-2.ensures.value at c.in-Some-place_of_file.ensures.found)
+    (rw c.deref-2.ensures.value at c.in-Some-place_of_file.ensures.within) c.index.ensures
+
+pub returns-in-None-clause-answer : goal.returns-in-None-clause-answer
+returns-in-None-clause-answer g c = open_anew c.args.name.now.0.items c.in-Some.at c.args.self.now
+    c.args.heap.now c.deref.result.now c.self.inside.chain.items _ _
+    (ap (map view_file) c.deref.ensures.value ∙ ap (λ (r : Resources). r.files) c.self.view_is)
+    (ap (λ (r : Resources). r.chain) c.self.view_is) c.in-Some.ensures.found
+    (rw c.deref-2.ensures.value at c.in-None.ensures.found) c.open_at.ensures.answer

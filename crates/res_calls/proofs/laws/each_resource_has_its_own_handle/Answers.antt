@@ -1,0 +1,11 @@
+use Rattle.res_calls.proofs.Owning.Laws.{owns-heap, owns-served, owns-launched}
+use Rattle.res_calls.proofs.laws.each_resource_has_its_own_handle.Goals as goal
+
+pub returns-clause-launched : goal.returns-clause-launched
+returns-clause-launched c = owns-launched
+
+pub returns-clause-heap : goal.returns-clause-heap
+returns-clause-heap c = owns-heap
+
+pub returns-clause-resources : goal.returns-clause-resources
+returns-clause-resources c = owns-served

@@ -1,0 +1,84 @@
+use Rattle.std.specs.Prelude.{ℕ, ℤ, Bool, Option, None, List, []}
+use Rattle.mac_words.specs.Told as tells
+use Rattle.mac_words.specs.Told.{Told, Done, Kind, Number, Code, Refused}
+use Rattle.heap_calls.specs.Asked.{told_as}
+use Rattle.res_calls.specs.Fetch.{Managers, Reads, Answer, Fetched}
+use Rattle.res_calls.specs.Rows as rows
+use Rattle.res_calls.specs.Rows.{noting}
+
+-- a call of the Resource Manager's table, with the number that each of its names is bound to, if it is bound
+pub data ResourceAsked : Type 0 where
+  OpenResFile : (name : List ℕ) → ResourceAsked
+  CloseResFile : (number : ℕ) → ResourceAsked
+  UseResFile : (number : ℕ) → ResourceAsked
+  CurResFile : ResourceAsked
+  HomeResFile : (handle : Option ℕ) → ResourceAsked
+  GetResource : (kind : ℕ) (id : ℤ) → ResourceAsked
+  GetOneResource : (kind : ℕ) (id : ℤ) → ResourceAsked
+  GetNamedResource : (kind : ℕ) (name : List ℕ) → ResourceAsked
+  GetOneNamedResource : (kind : ℕ) (name : List ℕ) → ResourceAsked
+  CountOneTypes : ResourceAsked
+  GetOneIndType : (index : ℕ) → ResourceAsked
+  CountOneResources : (kind : ℕ) → ResourceAsked
+  GetOneIndResource : (kind : ℕ) (index : ℕ) → ResourceAsked
+  LoadResource : (handle : Option ℕ) → ResourceAsked
+  ReleaseResource : (handle : Option ℕ) → ResourceAsked
+  DetachResource : (handle : Option ℕ) → ResourceAsked
+  GetResInfo : (handle : Option ℕ) → ResourceAsked
+  GetResAttrs : (handle : Option ℕ) → ResourceAsked
+  GetResourceSizeOnDisk : (handle : Option ℕ) → ResourceAsked
+  SetResLoad : (on : Bool) → ResourceAsked
+  ResError : ResourceAsked
+
+-- what a call came to: what it tells, what it read, the emptied handle that it reads again, and the managers after it
+pub record Served : Type 0 where
+  pub told : Told
+  pub reads : Reads
+  pub reading : Option ℕ
+  pub after : Managers
+
+-- an answer as it is told
+abbrev pub telling : {T : Type 0} → (T → Told) → Answer T → Served
+telling tell a = record { told = told_as tell a.reply; reads = a.reads; reading = a.reading; after = a.after }
+
+-- how a fetched handle, and a resource's ID, type and name, are told
+abbrev pub tell_fetched : Fetched → Told
+tell_fetched f = tells.Fetched f.handle f.read
+
+abbrev pub tell_info : rows.Info → Told
+tell_info i = tells.Info i.id i.kind i.name
+
+-- one try of a call
+abbrev pub served : ResourceAsked → Managers → Served
+served (OpenResFile name) s = telling Number (noting (rows.open_res_file name) s)
+served (CloseResFile number) s = telling (λ _. Done) (noting (rows.close_res_file number) s)
+served (UseResFile number) s = telling (λ _. Done) (noting (rows.use_res_file number) s)
+served CurResFile s = telling Number (noting rows.cur_res_file s)
+served (HomeResFile handle) s = telling Number (noting (rows.home_res_file handle) s)
+served (GetResource kind id) s = telling tell_fetched (noting (rows.get_resource kind id) s)
+served (GetOneResource kind id) s = telling tell_fetched (noting (rows.get_one_resource kind id) s)
+served (GetNamedResource kind name) s = telling tell_fetched (noting (rows.get_named_resource kind name) s)
+served (GetOneNamedResource kind name) s = telling tell_fetched (noting (rows.get_one_named_resource kind name) s)
+served CountOneTypes s = telling Number (noting rows.count_one_types s)
+served (GetOneIndType index) s = telling Kind (noting (rows.get_one_ind_type index) s)
+served (CountOneResources kind) s = telling Number (noting (rows.count_one_resources kind) s)
+served (GetOneIndResource kind index) s = telling tell_fetched (noting (rows.get_one_ind_resource kind index) s)
+served (LoadResource handle) s = telling tell_fetched (noting (rows.load_resource handle) s)
+served (ReleaseResource handle) s = telling (λ _. Done) (noting (rows.release_resource handle) s)
+served (DetachResource handle) s = telling (λ _. Done) (noting (rows.detach_resource handle) s)
+served (GetResInfo handle) s = telling tell_info (noting (rows.get_res_info handle) s)
+served (GetResAttrs handle) s = telling Number (noting (rows.get_res_attrs handle) s)
+served (GetResourceSizeOnDisk handle) s = telling Number (noting (rows.get_resource_size_on_disk handle) s)
+served (SetResLoad on) s = telling (λ _. Done) (noting (rows.set_res_load on) s)
+served ResError s = record { told = Code s.resources.error; reads = []; reading = None; after = s }
+
+-- the handle that a call names; a name that it binds is none of them
+abbrev pub named : ResourceAsked → Option ℕ
+named (HomeResFile handle) = handle
+named (LoadResource handle) = handle
+named (ReleaseResource handle) = handle
+named (DetachResource handle) = handle
+named (GetResInfo handle) = handle
+named (GetResAttrs handle) = handle
+named (GetResourceSizeOnDisk handle) = handle
+named asked = None

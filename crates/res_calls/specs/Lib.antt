@@ -1,0 +1,10 @@
+pub mod Files
+pub mod Fetch
+pub mod Rows
+pub mod Asked
+pub mod View
+pub mod Given
+pub mod Disposing
+pub mod Places
+pub mod Owning
+pub mod Preloading

@@ -1,0 +1,147 @@
+//! References are found along the open files.
+//!
+//! *More Macintosh Toolbox*, chapter 1, "The Resource File Search Path".
+
+ghost use Rattle.std.specs.Prelude.{◌≡◌, ◌<◌, map, length, option_map, is_some, true, Some, IfSome, if◌then◌else◌};
+ghost use Rattle.std.specs.Prelude.{None};
+ghost use Rattle.res_map.specs.Split.{split, place};
+ghost use Rattle.res_map.specs.Map.{with_handle};
+ghost use Rattle.res_map.specs.View.{view_entry};
+ghost use Rattle.res_calls.specs.Files.{Found, OpenFile as FileValue, find, with_reference};
+ghost use Rattle.res_calls.specs.Rows.{resource_of};
+ghost use Rattle.res_calls.specs.Places.{found_at, found_from, spot_of, is_searched, is_wanted};
+ghost use Rattle.res_calls.specs.View.{view_open};
+
+use crate::files::{OpenFile, Resources};
+use mac_words::OsType;
+use res_map::{Entry, ResFile};
+
+/// Where a reference stands.
+#[derive(Clone, Copy, Debug, PartialEq, Eq)]
+pub(crate) struct Spot {
+    /// The index of its file among the open ones, from the one that was opened last.
+    pub(crate) file: usize,
+    /// Its index in that file.
+    pub(crate) reference: usize,
+}
+
+/// The open files that are searched.
+#[derive(Clone, Copy, Debug, PartialEq, Eq)]
+pub(crate) enum Within {
+    /// Those with this number or a lower one: the file of the number, and those opened before it.
+    UpTo(u32),
+    /// The one with this number.
+    Only(u32),
+    /// All.
+    Each,
+}
+
+/// What is looked for.
+#[derive(Clone, Copy, Debug, PartialEq, Eq)]
+pub(crate) enum Wanted<'a> {
+    /// A resource of a type and ID.
+    Id(OsType, i16),
+    /// A resource of a type and name.
+    Named(OsType, &'a [u8]),
+    /// The resource that has this handle.
+    Handle(usize),
+}
+
+/// Whether a file is searched.
+fn is_searched_file(within: Within, number: u32) -> bool
+    ensures { (f : FileValue) → f.number ≡ number → is_searched within f ≡ result }
+{
+    match within {
+        Within::UpTo(most) => number <= most,
+        Within::Only(one) => number == one,
+        Within::Each => true,
+    }
+}
+
+/// The index of the first reference of a file that is wanted.
+fn find_in_map(map: &ResFile, wanted: Wanted<'_>) -> Option<usize>
+    ensures { result ≡ option_map place (split (is_wanted wanted.entry) map.now.references) }
+{
+    match wanted {
+        Wanted::Id(ty, id) => map.find(ty, id),
+        Wanted::Named(ty, name) => map.find_named(ty, name),
+        Wanted::Handle(handle) => map.find_handle(handle),
+    }
+}
+
+/// The same where the file is searched.
+fn find_in_file(file: &OpenFile, within: Within, wanted: Wanted<'_>) -> Option<usize>
+    ensures { result ≡ option_map place (if is_searched within (view_open file.now)
+        then split (is_wanted wanted.entry) file.now.map.references else None) }
+{
+    if is_searched_file(within, file.number) {
+        find_in_map(&file.map, wanted)
+    } else {
+        None
+    }
+}
+
+/// The place of the first reference that is wanted, in the first of the searched files that has one.
+#[tactic(auto, using(crate::proofs::Finding::spot_start, crate::proofs::Finding::found_here, crate::proofs::Finding::found_on))]
+fn find_spot(files: &[OpenFile], within: Within, wanted: Wanted<'_>) -> Option<Spot>
+    ensures { result ≡ option_map spot_of
+        (find (is_searched within) (is_wanted wanted.entry) (map view_open files.now)) }
+{
+    for i in 0..files.len() {
+        if let Some(reference) = find_in_file(&files[i], within, wanted) {
+            return Some(Spot { file: i, reference });
+        }
+    }
+    None
+}
+
+/// The reference in a place.
+#[tactic(auto, using(crate::proofs::Standing::inside_files, crate::proofs::Standing::inside_map, crate::proofs::Standing::entry_here))]
+pub(crate) fn entry_at<'a>(files: &'a [OpenFile], at: Spot) -> Entry<'a>
+    requires { is_some (found_at at (map view_open files.now)) ≡ true }
+    ensures { option_map (λ (f : Found). f.reference.here) (found_at at (map view_open files.now))
+        ≡ Some (view_entry result) }
+{
+    files[at.file].map.reference(at.reference)
+}
+
+/// The number of the file of a place.
+#[tactic(auto, using(crate::proofs::Standing::inside_files, crate::proofs::Standing::number_here))]
+pub(crate) fn number_at(files: &[OpenFile], at: Spot) -> u32
+    requires { is_some (found_at at (map view_open files.now)) ≡ true }
+    ensures { option_map (λ (f : Found). f.file.here.number) (found_at at (map view_open files.now)) ≡ Some result }
+{
+    files[at.file].number
+}
+
+/// Gives the reference in a place a handle, or takes it away.
+#[tactic(auto, using(crate::proofs::Standing::inside_files, crate::proofs::Standing::inside_map))]
+pub(crate) fn set_handle(files: &mut Vec<OpenFile>, at: Spot, handle: Option<usize>)
+    requires { is_some (found_at at (map view_open files.old.items)) ≡ true }
+    ensures { option_map (λ (f : Found). with_reference (with_handle handle f.reference.here) f)
+        (found_at at (map view_open files.old.items)) ≡ Some (map view_open files.new.items) }
+{
+    files[at.file].map.set_handle(at.reference, handle);
+}
+
+impl Resources {
+    /// The first reference that is wanted, in the first of the searched files that has one.
+    pub(crate) fn find(&self, within: Within, wanted: Wanted<'_>) -> Option<Spot>
+        ensures found { found_from result self.now.chain
+            ≡ find (is_searched within) (is_wanted wanted.entry) self.now.chain }
+        ensures placed { is_some (found_from result self.now.chain) ≡ is_some result }
+    {
+        find_spot(&self.chain, within, wanted)
+    }
+
+    /// The reference that has a handle.
+    pub(crate) fn find_handle(&self, handle: Option<usize>) -> Option<Spot>
+        ensures found { found_from result self.now.chain ≡ resource_of handle self.now }
+        ensures placed { is_some (found_from result self.now.chain) ≡ is_some result }
+    {
+        match handle {
+            None => None,
+            Some(number) => self.find(Within::Each, Wanted::Handle(number)),
+        }
+    }
+}

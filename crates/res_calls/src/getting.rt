@@ -1,0 +1,180 @@
+//! The calls that look a resource up and fetch it.
+
+ghost use Rattle.std.specs.Prelude.{◌≡◌, ◌⊎◌, ◌==◌, IsTrue, is_some, map};
+ghost use Rattle.byteorder.specs.Endian.{big_number};
+ghost use Rattle.heap_calls.specs.Inner.Given.{KeepsNames};
+ghost use Rattle.res_map.specs.Split.{split};
+ghost use Rattle.res_calls.specs.Files.{OpenFile as OpenFileValue, file_of};
+ghost use Rattle.res_calls.specs.Rows as rows;
+ghost use Rattle.res_calls.specs.Rows.{noting};
+ghost use Rattle.res_calls.specs.Given.{IsFetched, managers};
+ghost use Rattle.res_calls.specs.Places.{WantsHost, found_from, fetch_wanted};
+ghost use Rattle.res_calls.specs.View.{view_open};
+
+use crate::chain::place_numbered;
+use crate::fetched::{Fetched, Unread};
+use crate::files::{OpenFile, Resources};
+use crate::find::{Spot, Wanted, Within};
+use block_store::BlockStore;
+use heap_calls::Heap;
+use mac_words::OsType;
+
+/// The place of the n-th reference of a type, from 1, in the open file of a number.
+#[tactic(auto, using(crate::proofs::Standing::nth_found, crate::proofs::Standing::nth_none, crate::proofs::Standing::nth_closed, crate::proofs::Standing::nth_placed))]
+fn nth_spot(files: &[OpenFile], number: u32, ty: OsType, n: u32) -> Option<Spot>
+    ensures found { found_from result (map view_open files.now) ≡ rows.nth_in (big_number 4 ty.0) n
+        (split (λ (f : OpenFileValue). f.number == number) (map view_open files.now)) }
+    ensures placed { is_some (found_from result (map view_open files.now)) ≡ is_some result }
+{
+    let file = place_numbered(files, number)?;
+    let reference = files[file].map.find_nth(ty, n)?;
+    Some(Spot { file, reference })
+}
+
+impl Resources {
+    /// The n-th reference of a type in the current file, from 1.
+    fn find_nth(&self, ty: OsType, n: u32) -> Option<Spot>
+        ensures found { found_from result self.now.chain ≡ rows.nth_in (big_number 4 ty.0) n
+            (file_of self.now.current self.now) }
+        ensures placed { is_some (found_from result self.now.chain) ≡ is_some result }
+    {
+        nth_spot(&self.chain, self.current, ty, n)
+    }
+
+    /// Looks a reference up, fetches it, and keeps the code.
+    fn fetch_wanted<S: BlockStore>(
+        &mut self,
+        heap: &mut Heap<S>,
+        within: Within,
+        wanted: Wanted<'_>,
+        loading: bool,
+    ) -> Result<Fetched, Unread>
+        ensures answer { IsFetched (noting (fetch_wanted within wanted.entry loading) (managers self.old heap.old))
+            result (managers self.new heap.new) }
+        ensures left { WantsHost result → self.new ≡ self.old }
+        ensures host { WantsHost result → IsTrue S.TAKES_HOST ⊎ (heap.new ≡ heap.old) }
+        ensures kept { WantsHost result → KeepsNames heap.old heap.new }
+    {
+        let found = self.find(within, wanted);
+        let answer = self.fetch_found(heap, found, loading);
+        self.note_fetch(answer)
+    }
+
+    /// `GetResource`: the first resource of a type and ID in the current file and those opened before it. -192 where
+    /// there is none, -108 where there is no room for it.
+    pub fn get_resource<S: BlockStore>(
+        &mut self,
+        heap: &mut Heap<S>,
+        ty: OsType,
+        id: i16,
+    ) -> Result<Fetched, Unread>
+        ensures answer { IsFetched (noting (rows.get_resource (big_number 4 ty.0) id) (managers self.old heap.old))
+            result (managers self.new heap.new) }
+        ensures left { WantsHost result → self.new ≡ self.old }
+        ensures host { WantsHost result → IsTrue S.TAKES_HOST ⊎ (heap.new ≡ heap.old) }
+        ensures kept { WantsHost result → KeepsNames heap.old heap.new }
+    {
+        let (current, loading) = (self.current, self.loading);
+        self.fetch_wanted(heap, Within::UpTo(current), Wanted::Id(ty, id), loading)
+    }
+
+    /// `Get1Resource`: the first resource of a type and ID in the current file.
+    pub fn get1_resource<S: BlockStore>(
+        &mut self,
+        heap: &mut Heap<S>,
+        ty: OsType,
+        id: i16,
+    ) -> Result<Fetched, Unread>
+        ensures answer { IsFetched (noting (rows.get_one_resource (big_number 4 ty.0) id) (managers self.old heap.old))
+            result (managers self.new heap.new) }
+        ensures left { WantsHost result → self.new ≡ self.old }
+        ensures host { WantsHost result → IsTrue S.TAKES_HOST ⊎ (heap.new ≡ heap.old) }
+        ensures kept { WantsHost result → KeepsNames heap.old heap.new }
+    {
+        let (current, loading) = (self.current, self.loading);
+        self.fetch_wanted(heap, Within::Only(current), Wanted::Id(ty, id), loading)
+    }
+
+    /// `GetNamedResource`: the first resource of a type and name in the current file and those opened before it. ASCII
+    /// letters match in either case.
+    pub fn get_named_resource<S: BlockStore>(
+        &mut self,
+        heap: &mut Heap<S>,
+        ty: OsType,
+        name: &[u8],
+    ) -> Result<Fetched, Unread>
+        ensures answer { IsFetched (noting (rows.get_named_resource (big_number 4 ty.0) name.now)
+            (managers self.old heap.old)) result (managers self.new heap.new) }
+        ensures left { WantsHost result → self.new ≡ self.old }
+        ensures host { WantsHost result → IsTrue S.TAKES_HOST ⊎ (heap.new ≡ heap.old) }
+        ensures kept { WantsHost result → KeepsNames heap.old heap.new }
+    {
+        let (current, loading) = (self.current, self.loading);
+        self.fetch_wanted(
+            heap,
+            Within::UpTo(current),
+            Wanted::Named(ty, name),
+            loading,
+        )
+    }
+
+    /// `Get1NamedResource`: the first resource of a type and name in the current file.
+    pub fn get1_named_resource<S: BlockStore>(
+        &mut self,
+        heap: &mut Heap<S>,
+        ty: OsType,
+        name: &[u8],
+    ) -> Result<Fetched, Unread>
+        ensures answer { IsFetched (noting (rows.get_one_named_resource (big_number 4 ty.0) name.now)
+            (managers self.old heap.old)) result (managers self.new heap.new) }
+        ensures left { WantsHost result → self.new ≡ self.old }
+        ensures host { WantsHost result → IsTrue S.TAKES_HOST ⊎ (heap.new ≡ heap.old) }
+        ensures kept { WantsHost result → KeepsNames heap.old heap.new }
+    {
+        let (current, loading) = (self.current, self.loading);
+        self.fetch_wanted(
+            heap,
+            Within::Only(current),
+            Wanted::Named(ty, name),
+            loading,
+        )
+    }
+
+    /// `Get1IndResource`: the n-th resource of a type in the current file, from 1.
+    #[tactic(auto, using(crate::proofs::Fetches::ind_noted))]
+    pub fn get1_ind_resource<S: BlockStore>(
+        &mut self,
+        heap: &mut Heap<S>,
+        ty: OsType,
+        n: u32,
+    ) -> Result<Fetched, Unread>
+        ensures answer { IsFetched (noting (rows.get_one_ind_resource (big_number 4 ty.0) n)
+            (managers self.old heap.old)) result (managers self.new heap.new) }
+        ensures left { WantsHost result → self.new ≡ self.old }
+        ensures host { WantsHost result → IsTrue S.TAKES_HOST ⊎ (heap.new ≡ heap.old) }
+        ensures kept { WantsHost result → KeepsNames heap.old heap.new }
+    {
+        let loading = self.loading;
+        let found = self.find_nth(ty, n);
+        let answer = self.fetch_found(heap, found, loading);
+        self.note_fetch(answer)
+    }
+
+    /// `LoadResource`: the resource of a handle is read if that is emptied, whether loading is on or not. -192 where
+    /// the handle is none of a resource.
+    pub fn load_resource<S: BlockStore>(
+        &mut self,
+        heap: &mut Heap<S>,
+        handle: Option<usize>,
+    ) -> Result<Fetched, Unread>
+        ensures answer { IsFetched (noting (rows.load_resource handle) (managers self.old heap.old)) result
+            (managers self.new heap.new) }
+        ensures left { WantsHost result → self.new ≡ self.old }
+        ensures host { WantsHost result → IsTrue S.TAKES_HOST ⊎ (heap.new ≡ heap.old) }
+        ensures kept { WantsHost result → KeepsNames heap.old heap.new }
+    {
+        let found = self.find_handle(handle);
+        let answer = self.fetch_found(heap, found, true);
+        self.note_fetch(answer)
+    }
+}

@@ -1,0 +1,79 @@
+//! The resources of an application as it is launched.
+
+ghost use Rattle.std.specs.Prelude.{◌≡◌, ◌<◌, ◌∷◌, [], IsTrue, IfOk, map, length, Some, None};
+ghost use Rattle.std.specs.List.{list_all};
+ghost use Rattle.fork_format.specs.Content.{Group as GroupValue};
+ghost use Rattle.fork_format.specs.Canonical.{has_refs, are_distinct};
+ghost use Rattle.fork_format.specs.View.{view};
+ghost use Rattle.res_calls.specs.Files.{opened};
+ghost use Rattle.res_calls.specs.Given.{IsReply};
+ghost use Rattle.res_calls.specs.Rows.{map_in, launched_resources};
+ghost use Rattle.res_calls.specs.View.{view_file, view_open};
+
+use crate::files::{File, OpenFile, Resources};
+use fork_format::{Content, ForkFault, read_fork};
+use heap_calls::Refusal;
+use mac_words::OsErr;
+use res_map::ResFile;
+use std::alloc::{AllocError, Global};
+
+/// The map of a fork.
+pub fn open_map(alloc: Global, bytes: &[u8]) -> Result<ResFile, Refusal>
+    ensures { IsReply (map_in bytes.now) result }
+{
+    match read_fork(alloc, bytes) {
+        Ok(content) => Ok(ResFile::open(alloc, &content)?),
+        Err(ForkFault::Empty) => Err(Refusal::Code(OsErr::END_OF_FILE)),
+        Err(ForkFault::BadMap) => Err(Refusal::Code(OsErr::MAP_READ)),
+        Err(ForkFault::HostMemory) => Err(Refusal::HostMemory),
+    }
+}
+
+/// The number of the application's own file as it is launched.
+const OWN_FILE: u32 = 2;
+
+/// The open files of an application as it is launched.
+fn launched_chain(alloc: Global, own: ResFile, system: ResFile) -> Result<Vec<OpenFile>, AllocError>
+    ensures { IfOk result (λ v. map view_open v.items ≡ opened 2 (Some 0) own ∷ opened 0 None system ∷ []) }
+{
+    let mut chain = Vec::with_capacity(alloc, 2)?;
+    chain.push(OpenFile {
+        number: OWN_FILE,
+        file: Some(0),
+        map: own,
+        touched: false,
+    })?;
+    chain.push(OpenFile {
+        number: 0,
+        file: None,
+        map: system,
+        touched: false,
+    })?;
+    Ok(chain)
+}
+
+impl Resources {
+    /// The resources of an application as it is launched: the fork of its first file, and its own copy of the System's
+    /// map, are open. -39 where that fork has no bytes, -199 where its bytes spell no content.
+    pub fn new(alloc: Global, files: Vec<File>, system: &Content<'_>) -> Result<Resources, Refusal>
+        requires own { 0 < length files.items }
+        requires types { IsTrue (are_distinct (map (λ (g : GroupValue). g.kind) (view system.now).groups)) }
+        requires references { IsTrue (list_all has_refs (view system.now).groups) }
+        ensures { IsReply (launched_resources (map view_file files.items) (view system.now)) result }
+    {
+        let own = match open_map(alloc, &files[0].fork) {
+            Ok(own) => own,
+            Err(refusal) => return Err(refusal),
+        };
+        let system = ResFile::open(alloc, system)?;
+        let chain = launched_chain(alloc, own, system)?;
+        Ok(Resources {
+            files,
+            chain,
+            current: OWN_FILE,
+            next: OWN_FILE + 1,
+            loading: true,
+            error: OsErr::NO_ERR,
+        })
+    }
+}

@@ -1,0 +1,192 @@
+//! Files are opened.
+
+ghost use Rattle.std.specs.Prelude.{◌≡◌, ◌<◌, ◌≤◌, ◌⊎◌, ◌∷◌, IsTrue, IsErr, IfOk, OnOk, OnErr, IfSome, map, length};
+ghost use Rattle.std.specs.Prelude.{slice_get, Some, Err, ℕ};
+ghost use Rattle.res_calls.specs.Files.{opened};
+ghost use Rattle.res_calls.specs.Given.{IsAnswered, IsLoadedFirst, managers};
+ghost use Rattle.res_calls.specs.Rows as rows;
+ghost use Rattle.res_calls.specs.Rows.{noting, loaded_if, with_loaded, preloaded};
+ghost use Rattle.res_calls.specs.View.{view_open};
+
+use crate::chain::{place_called, place_of_file};
+use crate::files::{OpenFile, Resources};
+use crate::launching::open_map;
+use crate::preloading::preload;
+use block_store::BlockStore;
+use heap_calls::{Heap, Refusal};
+use mac_words::{FileName, OsErr};
+use res_map::ResFile;
+use std::alloc::{AllocError, Global};
+
+/// The greatest number of an open file.
+const GREATEST_NUMBER: u32 = 2_147_483_647;
+
+/// Reads the references of a file that are to be read as it is opened, where loading is on.
+fn load_into<S: BlockStore>(
+    alloc: Global,
+    heap: &mut Heap<S>,
+    file: &mut ResFile,
+    loading: bool,
+) -> Result<(), AllocError>
+    ensures file { OnOk result (file.new ≡ record file.old {
+      references = (loaded_if loading file.old.references heap.old).references;
+    }) }
+    ensures heap { OnOk result (heap.new ≡ (loaded_if loading file.old.references heap.old).memory) }
+    ensures kept { OnErr result (file.new ≡ file.old) }
+    ensures host { IsErr result → IsTrue S.TAKES_HOST ⊎ (heap.new ≡ heap.old) }
+{
+    if !loading {
+        return Ok(());
+    }
+    preload(alloc, heap, file)
+}
+
+/// Puts a file before the open ones, with its references that are to be read as it is opened.
+fn put_first<S: BlockStore>(
+    alloc: Global,
+    heap: &mut Heap<S>,
+    chain: &mut Vec<OpenFile>,
+    file: OpenFile,
+    loading: bool,
+) -> Result<(), AllocError>
+    ensures chain { OnOk result (map view_open chain.new.items ≡ with_loaded (loaded_if loading file.map.references
+        heap.old) (view_open file) ∷ map view_open chain.old.items) }
+    ensures heap { OnOk result (heap.new ≡ (loaded_if loading file.map.references heap.old).memory) }
+    ensures kept { OnErr result (chain.new.items ≡ chain.old.items) }
+    ensures host { IsErr result → IsTrue S.TAKES_HOST ⊎ (heap.new ≡ heap.old) }
+{
+    chain.reserve(1)?;
+    let mut file = file;
+    load_into(alloc, heap, &mut file.map, loading)?;
+    match chain.insert(0, file) {
+        Ok(()) => Ok(()),
+        Err(_) => unreachable!(),
+    }
+}
+
+/// Reads the references of the file that was opened last that are to be read as it is opened.
+fn load_first<S: BlockStore>(
+    alloc: Global,
+    heap: &mut Heap<S>,
+    chain: &mut Vec<OpenFile>,
+    loading: bool,
+) -> Result<(), AllocError>
+    ensures done { OnOk result (IsLoadedFirst loading (map view_open chain.old.items) heap.old
+        (map view_open chain.new.items) heap.new) }
+    ensures kept { OnErr result (map view_open chain.new.items ≡ map view_open chain.old.items) }
+    ensures host { IsErr result → IsTrue S.TAKES_HOST ⊎ (heap.new ≡ heap.old) }
+{
+    if chain.is_empty() {
+        return Ok(());
+    }
+    load_into(alloc, heap, &mut chain[0].map, loading)
+}
+
+impl Resources {
+    /// Reads what of the application's fork is to be read as it is launched.
+    ///
+    /// *More Macintosh Toolbox*, chapter 1, "Resource Attributes".
+    pub fn preload<S: BlockStore>(
+        &mut self,
+        alloc: Global,
+        heap: &mut Heap<S>,
+    ) -> Result<(), AllocError>
+        ensures done { OnOk result (managers self.new heap.new ≡ (preloaded (managers self.old heap.old)).0) }
+        ensures kept { OnErr result (self.new ≡ self.old) }
+        ensures host { IsErr result → IsTrue S.TAKES_HOST ⊎ (heap.new ≡ heap.old) }
+    {
+        load_first(alloc, heap, &mut self.chain, self.loading)
+    }
+
+    /// `OpenResFile`: opens the fork of a file, and answers the number of the open file, which is current then. A file
+    /// that is open already stays as it is, and current what was. -43 where there is no such file, -39 for a fork of no
+    /// bytes, -199 for one whose bytes spell no content.
+    ///
+    /// *More Macintosh Toolbox*, chapter 1, "Opening Resource Forks".
+    pub fn open_res_file<S: BlockStore>(
+        &mut self,
+        alloc: Global,
+        heap: &mut Heap<S>,
+        name: &FileName,
+    ) -> Result<u32, Refusal>
+        ensures answer { IsAnswered (λ (n : ℕ). n) (noting (rows.open_res_file name.now.0.items)
+            (managers self.old heap.old)) result (managers self.new heap.new) }
+        ensures kept { result ≡ Err Refusal.HostMemory → self.new ≡ self.old }
+        ensures host { result ≡ Err Refusal.HostMemory → IsTrue S.TAKES_HOST ⊎ (heap.new ≡ heap.old) }
+    {
+        let answer = self.open_named(alloc, heap, name);
+        self.note(answer)
+    }
+
+    /// Opens the file of a name.
+    fn open_named<S: BlockStore>(
+        &mut self,
+        alloc: Global,
+        heap: &mut Heap<S>,
+        name: &FileName,
+    ) -> Result<u32, Refusal>
+        ensures answer { IsAnswered (λ (n : ℕ). n) (rows.open_res_file name.now.0.items (managers self.old heap.old))
+            result (managers self.new heap.new) }
+        ensures kept { result ≡ Err Refusal.HostMemory → self.new ≡ self.old }
+        ensures host { result ≡ Err Refusal.HostMemory → IsTrue S.TAKES_HOST ⊎ (heap.new ≡ heap.old) }
+    {
+        let Some(at) = place_called(&self.files, name) else {
+            return Err(Refusal::Code(OsErr::FILE_NOT_FOUND));
+        };
+        match place_of_file(&self.chain, at) {
+            Some(open) => Ok(self.chain[open].number),
+            None => self.open_at(alloc, heap, at),
+        }
+    }
+
+    /// Opens the file at a place, which isn't open.
+    fn open_at<S: BlockStore>(
+        &mut self,
+        alloc: Global,
+        heap: &mut Heap<S>,
+        at: usize,
+    ) -> Result<u32, Refusal>
+        requires { at < length self.old.files }
+        ensures answer { IfSome (slice_get self.old.files at) (λ f. IsAnswered (λ (n : ℕ). n)
+            (rows.open_fork at f.fork (managers self.old heap.old)) result (managers self.new heap.new)) }
+        ensures kept { result ≡ Err Refusal.HostMemory → self.new ≡ self.old }
+        ensures host { result ≡ Err Refusal.HostMemory → IsTrue S.TAKES_HOST ⊎ (heap.new ≡ heap.old) }
+    {
+        if self.next > GREATEST_NUMBER {
+            return Err(Refusal::Code(OsErr::PROFILE));
+        }
+        let read = match open_map(alloc, &self.files[at].fork) {
+            Ok(read) => read,
+            Err(refusal) => return Err(refusal),
+        };
+        Ok(self.open_read(alloc, heap, at, read)?)
+    }
+
+    /// Opens the file at a place by its map.
+    fn open_read<S: BlockStore>(
+        &mut self,
+        alloc: Global,
+        heap: &mut Heap<S>,
+        at: usize,
+        read: ResFile,
+    ) -> Result<u32, AllocError>
+        requires { self.old.next ≤ rows.greatest_number }
+        ensures answer { IfOk result (λ n. n ≡ self.old.next) }
+        ensures after { OnOk result ((rows.open_as (opened self.old.next (Some at) read)
+            (managers self.old heap.old)).after ≡ managers self.new heap.new) }
+        ensures kept { OnErr result (self.new ≡ self.old) }
+        ensures host { IsErr result → IsTrue S.TAKES_HOST ⊎ (heap.new ≡ heap.old) }
+    {
+        let number = self.next;
+        let file = OpenFile {
+            number,
+            file: Some(at),
+            map: read,
+            touched: false,
+        };
+        put_first(alloc, heap, &mut self.chain, file, self.loading)?;
+        self.current = number;
+        self.next = number + 1;
+        Ok(number)
+    }
+}

@@ -1,0 +1,147 @@
+//! The calls by which a handle ceases to be a resource's.
+
+ghost use Rattle.std.specs.Prelude.{◌≡◌, ◌≢◌, Err, is_some, true, Some, map, option_map};
+ghost use Rattle.res_map.specs.View.{view_entry};
+ghost use Rattle.res_map.specs.Map.{is_changed};
+ghost use Rattle.res_calls.specs.Files.{Found, Resources as ResourcesValue};
+ghost use Rattle.res_calls.specs.Rows as rows;
+ghost use Rattle.res_calls.specs.Rows.{noting};
+ghost use Rattle.res_calls.specs.Given.{IsAnswered, managers};
+ghost use Rattle.res_calls.specs.Places.{found_at, chained, release_found, detach_found};
+ghost use Rattle.res_calls.specs.View.{view_open};
+
+use crate::files::{OpenFile, Resources};
+use crate::find::{Spot, entry_at, set_handle};
+use block_store::BlockStore;
+use heap_calls::{Heap, Refusal};
+use mac_words::{Attrs, OsErr};
+
+/// Whether the reference in a place was changed.
+fn is_changed_at(files: &[OpenFile], at: Spot) -> bool
+    requires { is_some (found_at at (map view_open files.now)) ≡ true }
+    ensures { option_map (λ (f : Found). is_changed f.reference.here) (found_at at (map view_open files.now))
+        ≡ Some result }
+{
+    let entry = entry_at(files, at);
+    let Attrs(attrs) = entry.stored.attrs;
+    attrs & Attrs::CHANGED != 0
+}
+
+/// Lets the handle of the reference in a place go, unless it is busy; where the resource was changed nothing is done.
+fn release_at<S: BlockStore>(
+    files: &mut Vec<OpenFile>,
+    heap: &mut Heap<S>,
+    at: Spot,
+    number: usize,
+) -> Result<(), Refusal>
+    requires { is_some (found_at at (map view_open files.old.items)) ≡ true }
+    ensures answer { (r : ResourcesValue) (f : Found) → found_at at (map view_open files.old.items) ≡ Some f
+        → IsAnswered (λ (u : Unit {0}). u)
+        (release_found (Some number) (managers (chained files.old.items r) heap.old) f)
+        result (managers (chained files.new.items r) heap.new) }
+    ensures host { result ≢ Err Refusal.HostMemory }
+{
+    if heap.is_busy(number) {
+        return Err(Refusal::Code(OsErr::LOCKED));
+    }
+    if is_changed_at(files, at) {
+        return Ok(());
+    }
+    heap.release(number);
+    set_handle(files, at, None);
+    Ok(())
+}
+
+/// Takes the handle of the reference in a place away, as an application's own; a changed resource keeps its handle.
+fn detach_at<S: BlockStore>(
+    files: &mut Vec<OpenFile>,
+    heap: &mut Heap<S>,
+    at: Spot,
+    number: usize,
+) -> Result<(), Refusal>
+    requires { is_some (found_at at (map view_open files.old.items)) ≡ true }
+    ensures answer { (r : ResourcesValue) (f : Found) → found_at at (map view_open files.old.items) ≡ Some f
+        → IsAnswered (λ (u : Unit {0}). u)
+        (detach_found (Some number) (managers (chained files.old.items r) heap.old) f)
+        result (managers (chained files.new.items r) heap.new) }
+    ensures host { result ≢ Err Refusal.HostMemory }
+{
+    if is_changed_at(files, at) {
+        return Err(Refusal::Code(OsErr::RES_ATTR));
+    }
+    heap.set_resource(number, false);
+    set_handle(files, at, None);
+    Ok(())
+}
+
+impl Resources {
+    /// `ReleaseResource`: disposes of a resource's handle, locked or not; where the resource was changed nothing is
+    /// done. -192 where the handle is none of a resource, -117 where it is busy.
+    pub fn release_resource<S: BlockStore>(
+        &mut self,
+        heap: &mut Heap<S>,
+        handle: Option<usize>,
+    ) -> Result<(), Refusal>
+        ensures answer { IsAnswered (λ (u : Unit {0}). u) (noting (rows.release_resource handle)
+            (managers self.old heap.old)) result (managers self.new heap.new) }
+        ensures host { result ≢ Err Refusal.HostMemory }
+    {
+        let answer = self.release(heap, handle);
+        self.note(answer)
+    }
+
+    /// The same, without keeping the code.
+    fn release<S: BlockStore>(
+        &mut self,
+        heap: &mut Heap<S>,
+        handle: Option<usize>,
+    ) -> Result<(), Refusal>
+        ensures answer { IsAnswered (λ (u : Unit {0}). u)
+            (rows.release_resource handle (managers self.old heap.old)) result
+            (managers self.new heap.new) }
+        ensures host { result ≢ Err Refusal.HostMemory }
+    {
+        let Some(number) = handle else {
+            return Err(Refusal::Code(OsErr::RES_NOT_FOUND));
+        };
+        let Some(at) = self.find_handle(handle) else {
+            return Err(Refusal::Code(OsErr::RES_NOT_FOUND));
+        };
+        release_at(&mut self.chain, heap, at, number)
+    }
+
+    /// `DetachResource`: a resource's handle becomes the application's own. -192 where the handle is none of a
+    /// resource, -198 where the resource was changed.
+    pub fn detach_resource<S: BlockStore>(
+        &mut self,
+        heap: &mut Heap<S>,
+        handle: Option<usize>,
+    ) -> Result<(), Refusal>
+        ensures answer { IsAnswered (λ (u : Unit {0}). u) (noting (rows.detach_resource handle)
+            (managers self.old heap.old)) result (managers self.new heap.new) }
+        ensures host { result ≢ Err Refusal.HostMemory }
+    {
+        let answer = self.detach(heap, handle);
+        self.note(answer)
+    }
+
+    /// The same, without keeping the code.
+    fn detach<S: BlockStore>(
+        &mut self,
+        heap: &mut Heap<S>,
+        handle: Option<usize>,
+    ) -> Result<(), Refusal>
+        ensures answer { IsAnswered (λ (u : Unit {0}). u)
+            (rows.detach_resource handle (managers self.old heap.old)) result
+            (managers self.new heap.new) }
+        ensures host { result ≢ Err Refusal.HostMemory }
+    {
+        let Some(number) = handle else {
+            return Err(Refusal::Code(OsErr::RES_NOT_FOUND));
+        };
+        let Some(at) = self.find_handle(handle) else {
+            return Err(Refusal::Code(OsErr::RES_NOT_FOUND));
+        };
+        detach_at(&mut self.chain, heap, at, number)
+    }
+}

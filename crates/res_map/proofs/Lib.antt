@@ -1,0 +1,4 @@
+pub mod Splitting
+pub mod Steps
+pub mod Types
+mod Short

@@ -1,0 +1,10 @@
+use Rattle.std.proofs.Common.{◌≡◌, ◌++◌, map, drop}
+use Rattle.fork_format.specs.Content.{Group}
+use Rattle.fork_format.specs.View.{view_group}
+use Rattle.res_map.proofs.reading.read_types.Given as goal
+
+-- the types so far, with those to come, are all
+abbrev pub invariant-loop-group : goal.invariant-loop-group
+invariant-loop-group l = l.types.items
+    ++ map (λ (g : Group). g.kind) (map view_group (drop l.group-index l.groups))
+    ≡ map (λ (g : Group). g.kind) (map view_group l.groups)

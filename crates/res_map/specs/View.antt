@@ -1,0 +1,26 @@
+use Rattle.std.specs.Prelude.{ℕ, Option, List, option_map}
+use Rattle.byteorder.specs.Endian.{big_number}
+use Rattle.fork_format.specs.View.{view_ref}
+use Rattle.res_map.specs.declared.stored.StoredName.{StoredName}
+use Rattle.res_map.specs.declared.stored.StoredReference.{StoredReference}
+use Rattle.res_map.specs.declared.entry.Entry.{Entry}
+use Rattle.res_map.specs.Map.{Reference}
+
+-- a name, a reference and one that is lent as values, without where they lie in memory
+abbrev pub view_name : Option StoredName → Option (List ℕ)
+view_name name = option_map (λ (n : StoredName). n.bytes.items) name
+
+abbrev pub view_reference : StoredReference → Reference
+view_reference r = record {
+  kind = r.kind;
+  stored = record {
+    id = r.id;
+    name = view_name r.rest.value.name;
+    attrs = r.attrs.0;
+    datum = r.rest.value.datum.items;
+  };
+  handle = r.rest.value.handle;
+}
+
+abbrev pub view_entry : Entry → Reference
+view_entry e = record { kind = big_number 4 e.ty.0; stored = view_ref e.stored; handle = e.handle }

@@ -1,0 +1,135 @@
+//! Searches in the references of a file.
+
+ghost use Rattle.std.specs.Prelude.{◌≡◌, map, length, option_map, filter_map, OnOk, IfOk, ℕ};
+ghost use Rattle.res_map.specs.Split.{split, place};
+ghost use Rattle.res_map.specs.Map.{Reference, is_of, is_resource, same_name, is_named, has_handle, of_type};
+ghost use Rattle.res_map.specs.Map.{split_nth};
+ghost use Rattle.res_map.specs.View.{view_name, view_reference};
+
+use crate::stored::{StoredName, StoredReference};
+use std::alloc::{AllocError, Global};
+
+/// Whether a reference has a type and ID.
+fn is_at(r: &StoredReference, kind: u32, id: i16) -> bool
+    ensures { result ≡ is_resource kind id (view_reference r.now) }
+{
+    r.kind == kind && r.id == id
+}
+
+/// The place of the first reference of a type and ID.
+#[tactic(auto, using(crate::proofs::Steps::found_here, crate::proofs::Steps::found_on))]
+pub fn place_of(refs: &[StoredReference], kind: u32, id: i16) -> Option<usize>
+    ensures { result ≡ option_map place (split (is_resource kind id) (map view_reference refs.now)) }
+{
+    for i in 0..refs.len() {
+        if is_at(&refs[i], kind, id) {
+            return Some(i);
+        }
+    }
+    None
+}
+
+/// Whether a text is a name.
+fn is_name(text: &[u8], name: &Option<StoredName>) -> bool
+    ensures { result ≡ same_name text.now (view_name name.now) }
+{
+    let Some(name) = name else {
+        return false;
+    };
+    name.bytes.as_slice().eq_ignore_ascii_case(text)
+}
+
+/// Whether a reference has a type and name.
+fn is_called(r: &StoredReference, kind: u32, text: &[u8]) -> bool
+    ensures { result ≡ is_named kind text.now (view_reference r.now) }
+{
+    r.kind == kind && is_name(text, &r.rest.name)
+}
+
+/// The place of the first reference of a type and name.
+#[tactic(auto, using(crate::proofs::Steps::found_here, crate::proofs::Steps::found_on))]
+pub fn place_named(refs: &[StoredReference], kind: u32, text: &[u8]) -> Option<usize>
+    ensures { result ≡ option_map place (split (is_named kind text.now) (map view_reference refs.now)) }
+{
+    for i in 0..refs.len() {
+        if is_called(&refs[i], kind, text) {
+            return Some(i);
+        }
+    }
+    None
+}
+
+/// Whether a reference has a handle.
+fn holds(r: &StoredReference, handle: usize) -> bool
+    ensures { result ≡ has_handle handle (view_reference r.now) }
+{
+    match r.rest.handle {
+        None => false,
+        Some(held) => held == handle,
+    }
+}
+
+/// The place of the first reference that has a handle.
+#[tactic(auto, using(crate::proofs::Steps::found_here, crate::proofs::Steps::found_on))]
+pub fn place_holding(refs: &[StoredReference], handle: usize) -> Option<usize>
+    ensures { result ≡ option_map place (split (has_handle handle) (map view_reference refs.now)) }
+{
+    for i in 0..refs.len() {
+        if holds(&refs[i], handle) {
+            return Some(i);
+        }
+    }
+    None
+}
+
+/// Whether a reference has a type.
+fn has_type(r: &StoredReference, kind: u32) -> bool
+    ensures { result ≡ is_of kind (view_reference r.now) }
+{
+    r.kind == kind
+}
+
+/// The place of the n-th reference of a type.
+#[tactic(auto, using(crate::proofs::Steps::nth_here, crate::proofs::Steps::nth_counted, crate::proofs::Steps::nth_on))]
+pub fn nth_place(refs: &[StoredReference], kind: u32, n: u32) -> Option<usize>
+    ensures { result ≡ option_map place (split_nth n (is_of kind) (map view_reference refs.now)) }
+{
+    let mut left = n;
+    for i in 0..refs.len() {
+        if has_type(&refs[i], kind) {
+            if left == 1 {
+                return Some(i);
+            }
+            left = left.saturating_sub(1);
+        }
+    }
+    None
+}
+
+/// How many references have a type.
+#[tactic(auto, using(crate::proofs::Steps::count_here, crate::proofs::Steps::count_on))]
+pub fn count_of(refs: &[StoredReference], kind: u32) -> usize
+    ensures { result ≡ length (of_type kind (map view_reference refs.now)) }
+{
+    let mut count = 0;
+    for r in refs {
+        if has_type(r, kind) {
+            count += 1;
+        }
+    }
+    count
+}
+
+/// The handles that references have, in order.
+#[tactic(auto, using(crate::proofs::Steps::gathered_some, crate::proofs::Steps::gathered_none))]
+pub fn handles_of(alloc: Global, refs: &[StoredReference]) -> Result<Vec<usize>, AllocError>
+    ensures { IfOk result (λ v. v.items ≡ filter_map (λ (r : Reference). r.handle) (map view_reference refs.now)) }
+{
+    let mut handles = Vec::new(alloc);
+    for r in refs {
+        if let Some(handle) = r.rest.handle {
+            handles.push(handle)?;
+        }
+    }
+    Ok(handles)
+}

@@ -1,0 +1,30 @@
+//! What is kept of a reference.
+
+ghost use Rattle.std.specs.Prelude.{◌≤◌, length};
+
+use mac_words::Attrs;
+
+/// The name of a resource: at most 255 bytes.
+#[derive(Drop)]
+pub struct StoredName {
+    pub bytes: Vec<u8>,
+    ghost short: { length bytes.items ≤ 255 },
+}
+
+/// What no search by type and ID reads.
+#[derive(Drop)]
+pub struct Rest {
+    pub name: Option<StoredName>,
+    pub datum: Vec<u8>,
+    pub handle: Option<usize>,
+}
+
+/// A reference. What a search by type and ID reads lies close to that of the next one: the rest lies elsewhere.
+#[derive(Drop)]
+pub struct StoredReference {
+    /// The type, as a number.
+    pub kind: u32,
+    pub id: i16,
+    pub attrs: Attrs,
+    pub rest: Box<Rest>,
+}

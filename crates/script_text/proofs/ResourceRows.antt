@@ -1,0 +1,80 @@
+-- Worked lines of the Resource Manager's calls, by computation.
+use Rattle.std.proofs.Common.{◌≡◌, [], ◌∷◌, true, false, Ok, Err, refl, codes, pos, negsuc}
+use Rattle.std.specs.Fmt.{digits}
+use Rattle.script_text.specs.declared.fault.FaultKind.TheVariants.{BadArgument, NotAllowed}
+use Rattle.script_text.specs.declared.word.Word.TheVariants as word
+use Rattle.script_text.specs.Token.{after_blanks, token_at}
+use Rattle.script_text.specs.Argument.{Letters, Number as Count, Signed, Raw, Flag, argument}
+use Rattle.script_text.specs.Call.{word_spelled}
+use Rattle.script_text.specs.Script.{script_of, read_at, with_token}
+use Rattle.script_text.specs.Transcript.{Number, Bytes, reply_line}
+use Rattle.script_text.proofs.Rows.{says}
+
+-- types with a blank, of four quotes and in hexadecimal; IDs below 0, and 0 with a minus
+types_and_ids : script_of (codes "GetResource h 'STR ' -128\nGet1Resource h '''''' -0\nCount1Resources $3F27aB00")
+    ≡ Ok (record {
+      blocks = [];
+      steps =
+          says 1 word.GetResource (Letters (codes "h") ∷ Raw (codes "STR ") ∷ Signed (negsuc 127) ∷ []) ∷
+          says 2 word.Get1Resource (Letters (codes "h") ∷ Raw (codes "''''") ∷ Signed (pos 0) ∷ []) ∷
+          says 3 word.Count1Resources (Raw (63 ∷ 39 ∷ 171 ∷ 0 ∷ []) ∷ []) ∷ [];
+    })
+unfolding script_of read_at with_token word_spelled argument token_at after_blanks
+types_and_ids = refl
+
+-- a name of no byte, a place, and a file
+names_and_places : script_of (codes "GetNamedResource h 'a b\"' \"\"\nGet1IndResource _ 'STR#' 2\nOpenResFile \"D 1\"")
+    ≡ Ok (record {
+      blocks = [];
+      steps =
+          says 1 word.GetNamedResource (Letters (codes "h") ∷ Raw (codes "a b\"") ∷ Raw [] ∷ []) ∷
+          says 2 word.Get1IndResource (Letters (codes "_") ∷ Raw (codes "STR#") ∷ Count 2 ∷ []) ∷
+          says 3 word.OpenResFile (Raw (codes "D 1") ∷ []) ∷ [];
+    })
+unfolding script_of read_at with_token word_spelled argument token_at after_blanks
+names_and_places = refl
+
+switches : script_of (codes "SetResLoad FALSE\nSetResLoad\tTRUE\n") ≡ Ok (record {
+  blocks = [];
+  steps = says 1 word.SetResLoad (Flag false ∷ []) ∷ says 2 word.SetResLoad (Flag true ∷ []) ∷ [];
+})
+unfolding script_of read_at with_token word_spelled argument token_at after_blanks
+switches = refl
+
+-- types of three bytes, of five, with more behind the quote, and of seven digits; IDs out of range, of six digits and
+-- of none; a file without a name, and in no quotes; a switch in lower case
+faulty : (script_of (codes "Count1Resources 'STR'") ≡ Err (1, BadArgument))
+    × (script_of (codes "Count1Resources 'STR#1'") ≡ Err (1, BadArgument))
+    × (script_of (codes "Count1Resources 'STR 'x") ≡ Err (1, BadArgument))
+    × (script_of (codes "Count1Resources $5354522") ≡ Err (1, BadArgument))
+    × (script_of (codes "GetResource h 'STR ' 32768") ≡ Err (1, BadArgument))
+    × (script_of (codes "GetResource h 'STR ' -32769") ≡ Err (1, BadArgument))
+    × (script_of (codes "GetResource h 'STR ' 000001") ≡ Err (1, BadArgument))
+    × (script_of (codes "GetResource h 'STR ' -") ≡ Err (1, BadArgument))
+    × (script_of (codes "OpenResFile \"\"") ≡ Err (1, BadArgument))
+    × (script_of (codes "OpenResFile Doc") ≡ Err (1, BadArgument))
+    × (script_of (codes "SetResLoad true") ≡ Err (1, BadArgument))
+unfolding script_of read_at with_token word_spelled argument token_at after_blanks
+faulty = (refl, refl, refl, refl, refl, refl, refl, refl, refl, refl, refl)
+
+-- a grow-zone script may release a resource, and get none
+released : script_of (codes "grow g\nReleaseResource h\nend") ≡ Ok (record {
+  steps = [];
+  blocks = (codes "g", says 2 word.ReleaseResource (Letters (codes "h") ∷ []) ∷ []) ∷ [];
+})
+unfolding script_of read_at with_token word_spelled argument token_at after_blanks
+released = refl
+
+not_got : script_of (codes "grow g\nGetResource h 'STR ' 1\nend") ≡ Err (2, NotAllowed)
+unfolding script_of read_at with_token word_spelled argument token_at after_blanks
+not_got = refl
+
+-- a type, and an ID with its type and name
+told : (reply_line 3 word.Get1IndType (pos 0) (Bytes (codes "STR ") ∷ []) ≡ codes "3 Get1IndType 0 $53545220\n")
+    × (reply_line 4 word.GetResInfo (pos 0) (Number (negsuc 127) ∷ Bytes (codes "TEXT") ∷ Bytes (codes "Note") ∷ [])
+    ≡ codes "4 GetResInfo 0 -128 $54455854 $4e6f7465\n")
+    × (reply_line 5 word.GetResInfo (pos 0) (Number (pos 128) ∷ Bytes (codes "TEXT") ∷ Bytes [] ∷ [])
+    ≡ codes "5 GetResInfo 0 128 $54455854 $\n")
+    × (reply_line 6 word.GetResource (negsuc 191) [] ≡ codes "6 GetResource -192\n")
+unfolding digits
+told = (refl, refl, refl, refl)

@@ -1,0 +1,243 @@
+//! Calls of the Resource Manager from outside.
+
+use crate::script::{Script, read_script};
+use crate::transcript::{write_grow_reply, write_reply};
+use crate::word::Word;
+use arrayvec::ArrayVec;
+use mac_words::{Call, Name, OsErr, OsType, Reply, ResourceCall};
+use std::alloc::Global;
+use std::process::Abort;
+use std::test::Fail;
+
+/// The line and the number of a script's fault; 0 and 0 where it has none.
+fn fault(alloc: Global, text: &[u8]) -> (usize, u8) {
+    match read_script(alloc, text) {
+        Ok(_) => (0, 0),
+        Err(fault) => (fault.line, fault.kind.number()),
+    }
+}
+
+/// The script that a text spells.
+fn script<R: Abort>(rt: &R, alloc: Global, text: &[u8]) -> Script {
+    read_script(alloc, text).ok().expect(rt, "a script")
+}
+
+/// The name of a resource.
+fn name<R: Abort>(rt: &R, letters: &[u8]) -> Name {
+    Name(
+        ArrayVec::try_from(letters)
+            .ok()
+            .expect(rt, "255 bytes at most"),
+    )
+}
+
+#[test]
+fn reads_each_call(rt: HostRuntime) -> Result<(), Fail> {
+    let alloc = rt.alloc();
+    let cases: [(&[u8], Word); 21] = [
+        (b"OpenResFile \"Doc\"", Word::OpenResFile),
+        (b"CloseResFile 3", Word::CloseResFile),
+        (b"UseResFile 2147483647", Word::UseResFile),
+        (b"CurResFile", Word::CurResFile),
+        (b"HomeResFile h", Word::HomeResFile),
+        (b"GetResource h 'STR ' 128", Word::GetResource),
+        (b"Get1Resource h 'STR ' -128", Word::Get1Resource),
+        (
+            b"GetNamedResource h 'MENU' \"File\"",
+            Word::GetNamedResource,
+        ),
+        (b"Get1NamedResource h 'MENU' $", Word::Get1NamedResource),
+        (b"Count1Types", Word::Count1Types),
+        (b"Get1IndType 1", Word::Get1IndType),
+        (b"Count1Resources 'MENU'", Word::Count1Resources),
+        (b"Get1IndResource h 'MENU' 1", Word::Get1IndResource),
+        (b"LoadResource h", Word::LoadResource),
+        (b"ReleaseResource h", Word::ReleaseResource),
+        (b"DetachResource h", Word::DetachResource),
+        (b"GetResInfo h", Word::GetResInfo),
+        (b"GetResAttrs h", Word::GetResAttrs),
+        (b"GetResourceSizeOnDisk h", Word::GetResourceSizeOnDisk),
+        (b"SetResLoad TRUE", Word::SetResLoad),
+        (b"ResError", Word::ResError),
+    ];
+    for (text, word) in cases {
+        let script = script(&rt, alloc, text);
+        assert_eq!(rt; script.steps().len(), 1);
+        for line in script.steps() {
+            assert_eq!(rt; Word::of(&line.call), word);
+        }
+    }
+    Ok(())
+}
+
+#[test]
+fn reads_types_and_ids(rt: HostRuntime) -> Result<(), Fail> {
+    let alloc = rt.alloc();
+    let cases: [(&[u8], [u8; 4], i16); 8] = [
+        (b"GetResource h 'STR ' -32768", *b"STR ", -32768),
+        (b"GetResource h 'STR#'\t32767 ", *b"STR#", 32767),
+        (b"GetResource h '''''' -0", *b"''''", 0),
+        (b"GetResource h '    ' 00128", *b"    ", 128),
+        (b"GetResource h '\t\" '' -00001", *b"\t\" '", -1),
+        (b"GetResource h '# \r ' 0\r\n", *b"# \r ", 0),
+        (b"GetResource h $53545220 1", *b"STR ", 1),
+        (b"GetResource h $00fFAb27 1", [0, 255, 171, 39], 1),
+    ];
+    for (text, ty, id) in cases {
+        let script = script(&rt, alloc, text);
+        assert_eq!(rt; script.steps().len(), 1);
+        for line in script.steps() {
+            match &line.call {
+                Call::Resource(ResourceCall::GetResource(_, found, number)) => {
+                    assert_eq!(rt; *found, OsType(ty));
+                    assert_eq!(rt; *number, id);
+                }
+                _ => assert!(rt; false),
+            }
+        }
+    }
+    Ok(())
+}
+
+#[test]
+fn reads_files_names_and_switches(rt: HostRuntime) -> Result<(), Fail> {
+    let alloc = rt.alloc();
+    let text =
+        b"OpenResFile \"My Doc\"\nGetNamedResource h 'STR ' \"\"\nGet1NamedResource _ 'STR ' $4e6F\nSetResLoad FALSE";
+    let script = script(&rt, alloc, text);
+    assert_eq!(rt; script.steps().len(), 4);
+    for line in script.steps() {
+        match &line.call {
+            Call::Resource(ResourceCall::OpenResFile(file)) => {
+                assert_eq!(rt; file.0.as_slice(), b"My Doc".as_slice());
+            }
+            Call::Resource(ResourceCall::GetNamedResource(_, _, text)) => {
+                assert_eq!(rt; text.0.as_slice(), b"".as_slice());
+            }
+            Call::Resource(ResourceCall::Get1NamedResource(label, ty, text)) => {
+                assert_eq!(rt; label.0.as_slice(), b"_".as_slice());
+                assert_eq!(rt; *ty, OsType(*b"STR "));
+                assert_eq!(rt; text.0.as_slice(), b"No".as_slice());
+            }
+            Call::Resource(ResourceCall::SetResLoad(on)) => assert!(rt; !*on),
+            _ => assert!(rt; false),
+        }
+    }
+    Ok(())
+}
+
+#[test]
+fn refuses_bad_arguments(rt: HostRuntime) -> Result<(), Fail> {
+    let alloc = rt.alloc();
+    let cases: [&[u8]; 30] = [
+        // types
+        b"Count1Resources",
+        b"Count1Resources STR#",
+        b"Count1Resources \"STR#\"",
+        b"Count1Resources 'STR'",
+        b"Count1Resources 'STR",
+        b"Count1Resources 'STR#1'",
+        b"Count1Resources 'STR 'x",
+        b"Count1Resources '''''''",
+        b"Count1Resources $5354522",
+        b"Count1Resources $535452",
+        b"Count1Resources $5354522000",
+        b"Count1Resources $5354522g",
+        // IDs
+        b"GetResource h 'STR '",
+        b"GetResource h 'STR ' 32768",
+        b"GetResource h 'STR ' -32769",
+        b"GetResource h 'STR ' 000128",
+        b"GetResource h 'STR ' -000128",
+        b"GetResource h 'STR ' -",
+        b"GetResource h 'STR ' +1",
+        b"GetResource h 'STR ' --1",
+        // files and names
+        b"OpenResFile \"\"",
+        b"OpenResFile $",
+        b"OpenResFile Doc",
+        b"GetNamedResource h 'STR ' x",
+        // switches, numbers and what is one too many
+        b"SetResLoad true",
+        b"SetResLoad 1",
+        b"SetResLoad TRUEx",
+        b"CloseResFile -1",
+        b"Get1IndType 2147483648",
+        b"ResError 0",
+    ];
+    for text in cases {
+        assert_eq!(rt; fault(alloc, text), (1, 2));
+    }
+    Ok(())
+}
+
+/// A line that ends with so many bytes in quotes.
+fn line_of(alloc: Global, front: &[u8], bytes: usize) -> Result<Vec<u8>, Fail> {
+    let mut text = Vec::from_slice(alloc, front)?;
+    text.push(b'"')?;
+    for _ in 0..bytes {
+        text.push(b'\'')?;
+    }
+    text.push(b'"')?;
+    Ok(text)
+}
+
+#[test]
+fn reads_files_of_63_and_names_of_255_bytes(rt: HostRuntime) -> Result<(), Fail> {
+    let alloc = rt.alloc();
+    let cases: [(&[u8], usize, u8); 5] = [
+        (b"OpenResFile ", 1, 0),
+        (b"OpenResFile ", 63, 0),
+        (b"OpenResFile ", 64, 2),
+        (b"GetNamedResource h 'STR ' ", 255, 0),
+        (b"GetNamedResource h 'STR ' ", 256, 2),
+    ];
+    for (front, bytes, want) in cases {
+        assert_eq!(rt; fault(alloc, &line_of(alloc, front, bytes)?).1, want);
+    }
+    Ok(())
+}
+
+#[test]
+fn reads_them_in_grow_zone_scripts(rt: HostRuntime) -> Result<(), Fail> {
+    let alloc = rt.alloc();
+    let cases: [(&[u8], (usize, u8)); 7] = [
+        (b"grow g\nReleaseResource h\nend", (0, 0)),
+        (b"grow g\nReleaseResource\nend", (2, 2)),
+        (b"grow g\nReleaseResource 'STR '\nend", (2, 2)),
+        (b"grow g\nGetResource h 'STR ' 128\nend", (2, 3)),
+        (b"grow g\nGetResource h 'STR\nend", (2, 3)),
+        (b"grow g\nDetachResource h\nend", (2, 3)),
+        (b"grow g\nResError\nend", (2, 3)),
+    ];
+    for (text, want) in cases {
+        assert_eq!(rt; fault(alloc, text), want);
+    }
+    Ok(())
+}
+
+#[test]
+fn writes_types_and_names(rt: HostRuntime) -> Result<(), Fail> {
+    let alloc = rt.alloc();
+    let mut text = Vec::new(alloc);
+    let ty = OsType(*b"STR ");
+    let noted = Reply::info(-128, ty, name(&rt, b"Note"));
+    let unnamed = Reply::info(32767, OsType([0, 255, 171, 39]), name(&rt, b""));
+    let refused = Reply::of(OsErr::RES_NOT_FOUND);
+    write_reply(&mut text, 1, Word::Count1Types, &Reply::count(2), None)?;
+    write_reply(&mut text, 2, Word::Get1IndType, &Reply::kind(ty), None)?;
+    write_reply(&mut text, 3, Word::GetResInfo, &noted, None)?;
+    write_reply(&mut text, 4, Word::GetResInfo, &unnamed, None)?;
+    write_grow_reply(&mut text, 5, Word::ReleaseResource, &refused, None)?;
+    assert_eq!(rt;
+        text.as_slice(),
+        b"1 Count1Types 0 2
+2 Get1IndType 0 $53545220
+3 GetResInfo 0 -128 $53545220 $4e6f7465
+4 GetResInfo 0 32767 $00ffab27 $
++5 ReleaseResource -192
+"
+            .as_slice()
+    );
+    Ok(())
+}
