@@ -4,9 +4,9 @@ use Rattle.res_calls.specs.Files.{Resources}
 use Rattle.desk.specs.Trying.{launched_with, nowhere}
 use Rattle.desk.specs.Step.{Event, run}
 use Rattle.desk.specs.Laws.{EachTry, ShowsPut, HoldsPut, KeepsLocked, KeepsFixed, EmptiesPurgeable, LooksFew}
-use Rattle.desk.specs.Laws.{RefusedLeaves, RefusedBinds, NothingBusy, GoesByRule, KeepsResources, KeepsForks}
+use Rattle.desk.specs.Laws.{RefusedLeaves, RefusedBinds, NothingBusy, GoesByRule, KeepsResources, KeepsFiles}
 use Rattle.desk.proofs.TryLaws.{sound-fresh, once-shows, once-holds, once-locked, once-fixed, once-purgeable}
-use Rattle.desk.proofs.TryLaws.{once-looks, once-refused, once-keeps-resources, once-keeps-forks}
+use Rattle.desk.proofs.TryLaws.{once-looks, once-refused, once-keeps-resources, once-keeps-files}
 use Rattle.desk.proofs.Carrying.{run-goes}
 use Rattle.desk.proofs.StepLaws.{binds-no-name}
 use Rattle.desk.proofs.Marking.{nothing-busy}
@@ -58,9 +58,9 @@ pub any_resources_stay : (resources : Resources) (n : ℕ) (script : Parts)
 any_resources_stay resources n script = (run-goes KeepsResources once-keeps-resources script.blocks script.steps
     (launched_with resources n nowhere) (λ h. []) (sound-fresh n)).each
 
-pub any_forks_stay : (resources : Resources) (n : ℕ) (script : Parts)
-    → EachTry KeepsForks (λ h. []) (tries resources n script)
-any_forks_stay resources n script = (run-goes KeepsForks once-keeps-forks script.blocks script.steps
+pub any_files_stay : (resources : Resources) (n : ℕ) (script : Parts)
+    → EachTry KeepsFiles (λ h. []) (tries resources n script)
+any_files_stay resources n script = (run-goes KeepsFiles once-keeps-files script.blocks script.steps
     (launched_with resources n nowhere) (λ h. []) (sound-fresh n)).each
 
 pub any_goes_by_rule : (resources : Resources) (n : ℕ) (script : Parts)

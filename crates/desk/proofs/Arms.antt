@@ -11,6 +11,10 @@ use Rattle.desk.specs.declared.tried.Tried.{Tried}
 
 -- How one call of the Resource Manager's table is tried: what its method answers is what the table tells.
 
+-- what is given by two things, by two equal ones
+pub by_both : {A B C : Type 0} (f : A → B → C) {a c : A} {b d : B} → a ≡ c → b ≡ d → f a b ≡ f c d
+by_both f first second = cc
+
 -- a try that tells what a call came to, where its method answered so
 told-so : {T : Type 0} (tell : T → Told) (again : Bool) (result : Result Tried AllocError)
     (P : Answer T → Managers → Type 0) (a : Answer T) (after : Managers)

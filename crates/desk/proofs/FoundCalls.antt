@@ -1,15 +1,22 @@
 use Rattle.std.proofs.Common.{◌≡◌, ◌∙◌, ℕ, ◌==◌, Bool, true, false, refl, sym, ap, cond, List, Option, Some, None}
 use Rattle.std.proofs.Common.{Result, Ok, Err}
-use Rattle.std.specs.Prelude.{nat_lt, if◌then◌else◌}
+use Rattle.std.specs.Prelude.{IfOk}
+use Rattle.std.specs.declared.alloc.AllocError.{AllocError}
+use Rattle.std.specs.Prelude.{nat_lt, nat_le, length, not, ◌&&◌, ◌||◌, if◌then◌else◌}
 use Rattle.mac_words.specs.declared.code.OsErr.{OsErr}
 use Rattle.mac_words.specs.Told.{Told, Done, Number, Kind}
 use Rattle.mac_words.specs.declared.code.TheConstants.OsErr.{PROFILE}
 use Rattle.res_map.specs.Split.{Split, place}
-use Rattle.res_map.specs.Map.{Map, is_changed, nth, types}
-use Rattle.res_calls.specs.Files.{File, OpenFile, Found, file_named, file_of, open_at, current_references}
-use Rattle.res_calls.specs.Fetch.{Managers, Answer, Fetched, refused}
+use Rattle.res_map.specs.Map.{Map, is_changed, is_protected, nth, types}
+use Rattle.res_calls.specs.Files.{File, OpenFile, Resources, Found, file_named, file_of, open_at, current_references}
+use Rattle.res_calls.specs.Fetch.{Managers, Answer, Fetched, refused, is_system}
 use Rattle.res_calls.specs.Rows.{on_found, on_open, resource_of, bars, told_type, open_fork, open_unless, open_named}
-use Rattle.res_calls.specs.Rows.{greatest_number, map_in, open_map, Info}
+use Rattle.res_calls.specs.Rows.{greatest_number, map_in, open_map, if_updated, Info}
+use Rattle.res_calls.specs.Changing.{most_files, create_named, on_known, on_removable, on_changeable}
+use Rattle.res_calls.specs.Update.{update}
+use Rattle.heap_calls.specs.Answer.{Known, handle_at}
+use Rattle.heap_calls.specs.Purging.{is_resource}
+use Rattle.heap_calls.specs.Inside.{has_block}
 use Rattle.heap_calls.specs.Asked.{told_as}
 use Rattle.res_calls.specs.Asked.{ResourceAsked, Served, served, tell_fetched, tell_info}
 use Rattle.res_calls.specs.Asked as asks
@@ -29,7 +36,9 @@ told-none tell none (Err code) = refl
 -- it shows no bytes
 pub found-shows-none : (a : ResourceAsked) (s : Managers) → bytes_told (served a s).told ≡ None
 found-shows-none (asks.OpenResFile name) s = told-none {T = ℕ} Number (λ x. refl) _
+found-shows-none (asks.CreateResFile name) s = told-none {T = Unit {0}} (λ x. Done) (λ x. refl) _
 found-shows-none (asks.CloseResFile number) s = told-none {T = Unit {0}} (λ x. Done) (λ x. refl) _
+found-shows-none (asks.UpdateResFile number) s = told-none {T = Unit {0}} (λ x. Done) (λ x. refl) _
 found-shows-none (asks.UseResFile number) s = told-none {T = Unit {0}} (λ x. Done) (λ x. refl) _
 found-shows-none asks.CurResFile s = refl
 found-shows-none (asks.HomeResFile handle) s = told-none {T = ℕ} Number (λ x. refl) _
@@ -44,8 +53,14 @@ found-shows-none (asks.GetOneIndResource kind index) s = told-none {T = Fetched}
 found-shows-none (asks.LoadResource handle) s = told-none {T = Fetched} tell_fetched (λ x. refl) _
 found-shows-none (asks.ReleaseResource handle) s = told-none {T = Unit {0}} (λ x. Done) (λ x. refl) _
 found-shows-none (asks.DetachResource handle) s = told-none {T = Unit {0}} (λ x. Done) (λ x. refl) _
+found-shows-none (asks.AddResource handle kind id name) s = told-none {T = Unit {0}} (λ x. Done) (λ x. refl) _
+found-shows-none (asks.RemoveResource handle) s = told-none {T = Unit {0}} (λ x. Done) (λ x. refl) _
+found-shows-none (asks.ChangedResource handle) s = told-none {T = Unit {0}} (λ x. Done) (λ x. refl) _
+found-shows-none (asks.WriteResource handle) s = told-none {T = Unit {0}} (λ x. Done) (λ x. refl) _
 found-shows-none (asks.GetResInfo handle) s = told-none {T = Info} tell_info (λ x. refl) _
+found-shows-none (asks.SetResInfo handle id name) s = told-none {T = Unit {0}} (λ x. Done) (λ x. refl) _
 found-shows-none (asks.GetResAttrs handle) s = told-none {T = ℕ} Number (λ x. refl) _
+found-shows-none (asks.SetResAttrs handle attrs) s = told-none {T = Unit {0}} (λ x. Done) (λ x. refl) _
 found-shows-none (asks.GetResourceSizeOnDisk handle) s = told-none {T = ℕ} Number (λ x. refl) _
 found-shows-none (asks.SetResLoad on) s = refl
 found-shows-none asks.ResError s = refl
@@ -84,6 +99,34 @@ opening-none (Some at) s = unless (open_at (place at) s.resources)
     unless None = fork-none (place at) at.here.fork s
     unless (Some f) = refl
 
+-- nor what follows an update
+updated-none : {T : Type 0} (r : Option Resources) (s : Managers) (answer : Resources → Answer T)
+    → ((r : Resources) → (answer r).reading ≡ None) → (if_updated r s answer).reading ≡ None
+updated-none None s answer none = refl
+updated-none (Some r) s answer none = none r
+
+-- nor what is answered on a handle, and on a resource that may be changed
+known-none : {T : Type 0} (known : Result Known OsErr) (s : Managers) (answer : Known → Answer T)
+    → ((k : Known) → (answer k).reading ≡ None) → (on_known known s answer).reading ≡ None
+known-none (Err code) s answer none = refl
+known-none (Ok k) s answer none = none k
+
+removable-none : {T : Type 0} (found : Option Found) (s : Managers) (answer : Found → Answer T)
+    → ((at : Found) → (answer at).reading ≡ None) → (on_removable found s answer).reading ≡ None
+removable-none None s answer none = refl
+removable-none (Some at) s answer none = none at
+
+changeable-none : {T : Type 0} (handle : Option ℕ) (s : Managers) (answer : Found → Answer T)
+    → ((at : Found) → (answer at).reading ≡ None) → (on_changeable handle s answer).reading ≡ None
+changeable-none handle s answer none = on_found-none (resource_of handle s.resources) s _
+    (λ at. either-none (is_system at.file.here) _ _ refl
+    (either-none (is_protected at.reference.here) _ _ refl (none at)))
+
+-- nor the making of a file
+made-none : (name : List ℕ) (file : Option (Split File)) (s : Managers) → (create_named name file s).reading ≡ None
+made-none name None s = either-none (nat_le most_files (length s.resources.files)) _ _ refl refl
+made-none name (Some at) s = either-none (length at.here.fork == 0) _ _ refl refl
+
 type-none : (kind : Option ℕ) (s : Managers) → (told_type kind s).reading ≡ None
 type-none None s = refl
 type-none (Some kind) s = refl
@@ -92,8 +135,13 @@ type-none (Some kind) s = refl
 reads-again : (a : ResourceAsked) (s : Managers)
     → (if fetches a then (served a s).reading else None) ≡ (served a s).reading
 reads-again (asks.OpenResFile name) s = sym (opening-none (file_named name s.resources) s)
+reads-again (asks.CreateResFile name) s = sym (made-none name (file_named name s.resources) s)
 reads-again (asks.CloseResFile number) s = sym (on_open-none (file_of number s.resources) s _
-    (λ at. either-none (number == 0) _ _ refl refl))
+    (λ at. either-none (number == 0) _ _ refl
+    (updated-none (update s.memory.heap at s.resources) s _ (λ r. refl))))
+reads-again (asks.UpdateResFile number) s = sym (on_open-none (file_of number s.resources) s _
+    (λ at. either-none (number == 0) _ _ refl
+    (updated-none (update s.memory.heap at s.resources) s _ (λ r. refl))))
 reads-again (asks.UseResFile number) s = sym (on_open-none (file_of number s.resources) s _ (λ at. refl))
 reads-again asks.CurResFile s = refl
 reads-again (asks.HomeResFile handle) s = sym (on_found-none (resource_of handle s.resources) s _ (λ at. refl))
@@ -110,15 +158,28 @@ reads-again (asks.ReleaseResource handle) s = sym (on_found-none (resource_of ha
     (λ at. either-none (bars handle s.memory) _ _ refl (either-none (is_changed at.reference.here) _ _ refl refl)))
 reads-again (asks.DetachResource handle) s = sym (on_found-none (resource_of handle s.resources) s _
     (λ at. either-none (is_changed at.reference.here) _ _ refl refl))
+reads-again (asks.AddResource handle kind id name) s = sym (known-none (handle_at handle s.memory.heap) s _
+    (λ k. either-none (is_resource k.role || not (has_block k.number s.memory.heap)) _ _ refl
+    (either-none (s.resources.current == 0) _ _ refl
+    (on_open-none (file_of s.resources.current s.resources) s _ (λ at. refl)))))
+reads-again (asks.RemoveResource handle) s = sym (known-none (handle_at handle s.memory.heap) s _
+    (λ k. removable-none (resource_of handle s.resources) s _
+    (λ at. either-none (is_system at.file.here) _ _ refl
+    (either-none (not (at.file.here.number == s.resources.current) || is_protected at.reference.here) _ _ refl refl))))
+reads-again (asks.ChangedResource handle) s = sym (changeable-none handle s _ (λ at. refl))
+reads-again (asks.WriteResource handle) s = sym (on_found-none (resource_of handle s.resources) s _
+    (λ at. either-none (is_changed at.reference.here && not (is_protected at.reference.here)) _ _ refl refl))
 reads-again (asks.GetResInfo handle) s = sym (on_found-none (resource_of handle s.resources) s _ (λ at. refl))
+reads-again (asks.SetResInfo handle id name) s = sym (changeable-none handle s _ (λ at. refl))
 reads-again (asks.GetResAttrs handle) s = sym (on_found-none (resource_of handle s.resources) s _ (λ at. refl))
+reads-again (asks.SetResAttrs handle attrs) s = sym (on_found-none (resource_of handle s.resources) s _ (λ at. refl))
 reads-again (asks.GetResourceSizeOnDisk handle) s =
     sym (on_found-none (resource_of handle s.resources) s _ (λ at. refl))
 reads-again (asks.SetResLoad on) s = refl
 reads-again asks.ResError s = refl
 
 -- a try that tells what a call came to is that of the definitions
-pub is_tried : (tried : Tried) (a : ResourceAsked) (s : Managers) (r : Running)
+is_tried : (tried : Tried) (a : ResourceAsked) (s : Managers) (r : Running)
     → TellsServed tried (served a s) (fetches a) → IsTried tried (resource_tried (served a s) r)
 is_tried tried a s r tells = record {
   reply = tells.reply;
@@ -127,6 +188,13 @@ is_tried tried a s r tells = record {
   wants = ap is_full tells.reply.code;
   over = tells.over;
 }
+
+-- and so is one that may have found no memory
+pub are_tried : (result : Result Tried AllocError) (a : ResourceAsked) (s : Managers) (r : Running)
+    → IfOk result (λ tried. TellsServed tried (served a s) (fetches a))
+    → IfOk result (λ tried. IsTried tried (resource_tried (served a s) r))
+are_tried (Ok tried) a s r tells = is_tried tried a s r tells
+are_tried (Err e) a s r tells = tt
 
 -- no bytes are shown by a call of the Resource Manager
 pub shows_nothing : (a : ResourceAsked) (s : Managers) → None ≡ bytes_told (served a s).told

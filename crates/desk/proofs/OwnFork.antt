@@ -23,3 +23,14 @@ never_refused files system answer refusal code own none reply is coded =
     let e : Ok own_resources ≡ Err code = sym own-launched
     ∙ sym (ap (λ (f : List File). launched_resources f system) own ∙ ap (launched_resources own_files) none)
     ∙ said in cc
+
+-- and has the resources that the definition says
+pub given_own : (files : List File) (system : Content) (answer : Result Resources Refusal) (resources : Resources)
+    → files ≡ own_files → system ≡ no_content → IsReply (launched_resources files system) answer
+    → answer ≡ Ok resources → resources ≡ own_resources
+given_own files system answer resources own none reply is =
+    let said : launched_resources files system ≡ Ok resources =
+    subst (IsReply (launched_resources files system)) is reply in
+    let e : Ok own_resources ≡ Ok resources = sym own-launched
+    ∙ sym (ap (λ (f : List File). launched_resources f system) own ∙ ap (launched_resources own_files) none)
+    ∙ said in cc

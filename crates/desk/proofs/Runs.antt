@@ -4,12 +4,12 @@ use Rattle.desk.specs.Trying.{launched, own_resources, nowhere}
 use Rattle.desk.specs.Application.{run_alone}
 use Rattle.desk.specs.Step.{Event}
 use Rattle.desk.specs.Laws.{EachTry, Linked, ShowsPut, HoldsPut, KeepsLocked, KeepsFixed, EmptiesPurgeable, LooksFew}
-use Rattle.desk.specs.Laws.{RefusedLeaves, RefusedBinds, NothingBusy, GoesByRule, KeepsResources, KeepsForks}
+use Rattle.desk.specs.Laws.{RefusedLeaves, RefusedBinds, NothingBusy, GoesByRule, KeepsResources, KeepsFiles}
 use Rattle.desk.proofs.TryLaws.{sound-fresh}
 use Rattle.desk.proofs.Carrying.{run-goes}
 use Rattle.desk.proofs.AnyRuns.{any_shows_put, any_holds_put, any_locked_stays, any_fixed_stays}
 use Rattle.desk.proofs.AnyRuns.{any_only_purgeable_go, any_looks_few, any_refused_leave, any_resources_stay}
-use Rattle.desk.proofs.AnyRuns.{any_forks_stay, any_goes_by_rule, any_refused_bind, any_nothing_stays_busy}
+use Rattle.desk.proofs.AnyRuns.{any_files_stay, any_goes_by_rule, any_refused_bind, any_nothing_stays_busy}
 
 -- The laws of a script's run, from its beginning in a fresh partition.
 
@@ -45,9 +45,9 @@ refused_leave n script = any_refused_leave own_resources n script
 pub resources_stay : (n : ℕ) (script : Parts) → EachTry KeepsResources (λ h. []) (run_alone n script).events
 resources_stay n script = any_resources_stay own_resources n script
 
--- and all calls the forks
-pub forks_stay : (n : ℕ) (script : Parts) → EachTry KeepsForks (λ h. []) (run_alone n script).events
-forks_stay n script = any_forks_stay own_resources n script
+-- and all calls that make or update no file the files
+pub files_stay : (n : ℕ) (script : Parts) → EachTry KeepsFiles (λ h. []) (run_alone n script).events
+files_stay n script = any_files_stay own_resources n script
 
 -- of each try nothing more is said
 abbrev Any : (ℕ → List ℕ) → Event → Type 0

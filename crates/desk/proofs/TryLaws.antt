@@ -33,7 +33,7 @@ use Rattle.desk.specs.Trying.{Running, Blocks, once, asked, resource_asked, mana
 use Rattle.desk.specs.Step.{Deed, Ask, Find, Steer, deed_of, event_of}
 use Rattle.desk.specs.Laws.{put_found, put_deed, put_event, ShowsPut, HoldsPut, frees, drops, lets, opens, Kept}
 use Rattle.desk.specs.Laws.{KeepsLocked, KeepsFixed, EmptiesPurgeable, LooksFew, RefusedLeaves, keeps_resources}
-use Rattle.desk.specs.Laws.{KeepsResources, KeepsForks}
+use Rattle.desk.specs.Laws.{KeepsResources, writes_files, KeepsFiles}
 use Rattle.res_calls.proofs.Walks.Laws as laws
 
 -- The laws of one try, by any application that a run reaches.
@@ -224,9 +224,9 @@ once-keeps-resources blocks l r bytes sound = of-try
     (λ d told reads after. keeps_resources d ≡ true → after.resources ≡ r.resources) blocks l.call r
     (λ a is. refl) (λ a is. cc) (λ k grow is. refl)
 
--- and each try the forks
-pub once-keeps-forks : (blocks : Blocks) (l : Line) (r : Running) (bytes : ℕ → List ℕ) → Sound r.memory bytes
-    → KeepsForks bytes (event_of l r (once blocks l.call r))
-once-keeps-forks blocks l r bytes sound = of-try
-    (λ d told reads after. after.resources.files ≡ r.resources.files) blocks l.call r
-    (λ a. refl) (λ a. laws.served-files a (managers_of r)) (λ k grow. refl)
+-- and each try that makes or updates no file the files
+pub once-keeps-files : (blocks : Blocks) (l : Line) (r : Running) (bytes : ℕ → List ℕ) → Sound r.memory bytes
+    → KeepsFiles bytes (event_of l r (once blocks l.call r))
+once-keeps-files blocks l r bytes sound = of-try
+    (λ d told reads after. writes_files d ≡ false → after.resources.files ≡ r.resources.files) blocks l.call r
+    (λ a is. refl) (λ a. laws.served-files a (managers_of r)) (λ k grow is. refl)

@@ -18,6 +18,7 @@ use Rattle.heap_calls.specs.Answer.{nothing}
 use Rattle.heap_calls.specs.Refused.{slotted_zone}
 use Rattle.res_calls.specs.Fetch.{Reads}
 use Rattle.res_calls.specs.Disposing.{disposes_of, opens_file}
+use Rattle.res_calls.specs.Writing.{writes}
 use Rattle.desk.specs.Trying.{Running, Blocks, managers_of}
 use Rattle.desk.specs.Step.{Deed, Ask, Find, Steer, Event, step, step_by_rule}
 
@@ -138,9 +139,15 @@ keeps_resources (Steer control) = true
 abbrev pub KeepsResources : (ℕ → List ℕ) → Event → Type 0
 KeepsResources bytes e = keeps_resources e.deed ≡ true → e.after.resources ≡ e.before.resources
 
--- no try changes a file's fork
-abbrev pub KeepsForks : (ℕ → List ℕ) → Event → Type 0
-KeepsForks bytes e = e.after.resources.files ≡ e.before.resources.files
+-- a call that may write a file's fork: it makes a file, or updates one
+abbrev pub writes_files : Deed → Bool
+writes_files (Ask asked) = false
+writes_files (Find asked) = writes asked
+writes_files (Steer control) = false
+
+-- no other try changes a file
+abbrev pub KeepsFiles : (ℕ → List ℕ) → Event → Type 0
+KeepsFiles bytes e = writes_files e.deed ≡ false → e.after.resources.files ≡ e.before.resources.files
 
 -- this holds of each step of a run, to the last line or to the end of the application
 abbrev pub EachStep : (Line → Running → Type 0) → Blocks → List Line → Running → Type 0

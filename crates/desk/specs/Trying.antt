@@ -118,7 +118,9 @@ type_number ty = big_number 4 ty.0
 
 abbrev pub resource_asked : ResourceCall → Bindings → ResourceAsked
 resource_asked (resource.OpenResFile name) names = finds.OpenResFile name.0.items
+resource_asked (resource.CreateResFile name) names = finds.CreateResFile name.0.items
 resource_asked (resource.CloseResFile number) names = finds.CloseResFile number
+resource_asked (resource.UpdateResFile number) names = finds.UpdateResFile number
 resource_asked (resource.UseResFile number) names = finds.UseResFile number
 resource_asked resource.CurResFile names = finds.CurResFile
 resource_asked (resource.HomeResFile name) names = finds.HomeResFile (bound_to name.0.items names)
@@ -134,8 +136,16 @@ resource_asked (resource.Get1IndResource name ty index) names = finds.GetOneIndR
 resource_asked (resource.LoadResource name) names = finds.LoadResource (bound_to name.0.items names)
 resource_asked (resource.ReleaseResource name) names = finds.ReleaseResource (bound_to name.0.items names)
 resource_asked (resource.DetachResource name) names = finds.DetachResource (bound_to name.0.items names)
+resource_asked (resource.AddResource name ty id text) names =
+    finds.AddResource (bound_to name.0.items names) (type_number ty) id text.0.items
+resource_asked (resource.RemoveResource name) names = finds.RemoveResource (bound_to name.0.items names)
+resource_asked (resource.ChangedResource name) names = finds.ChangedResource (bound_to name.0.items names)
+resource_asked (resource.WriteResource name) names = finds.WriteResource (bound_to name.0.items names)
 resource_asked (resource.GetResInfo name) names = finds.GetResInfo (bound_to name.0.items names)
+resource_asked (resource.SetResInfo name id text) names =
+    finds.SetResInfo (bound_to name.0.items names) id text.0.items
 resource_asked (resource.GetResAttrs name) names = finds.GetResAttrs (bound_to name.0.items names)
+resource_asked (resource.SetResAttrs name attrs) names = finds.SetResAttrs (bound_to name.0.items names) attrs
 resource_asked (resource.GetResourceSizeOnDisk name) names =
     finds.GetResourceSizeOnDisk (bound_to name.0.items names)
 resource_asked (resource.SetResLoad on) names = finds.SetResLoad on

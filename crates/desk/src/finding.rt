@@ -8,12 +8,11 @@ ghost use Rattle.desk.specs.Replies.{TellsServed, IsTried, fetches};
 use crate::application::Application;
 use crate::tried::{Tried, attributes, counted, done_on_resource, fetched, info, kind, sized};
 use block_store::BlockStore;
-use mac_words::{Reply, ResourceCall};
+use mac_words::{Attrs, Reply, ResourceCall};
 use std::alloc::AllocError;
 
 impl<'s, S: BlockStore> Application<'s, S> {
     /// Answers a call of the Resource Manager.
-    #[tactic(auto, using(crate::proofs::FoundCalls::is_tried))]
     pub(crate) fn find(&mut self, call: &ResourceCall) -> Result<Tried, AllocError>
         ensures tried { IfOk result (λ tried. IsTried tried (resource_tried (finds.served (resource_asked call.now
             self.old.names) (managers_of self.old)) self.old)) }
@@ -46,8 +45,16 @@ impl<'s, S: BlockStore> Application<'s, S> {
                 self.resources
                     .open_res_file(self.alloc, &mut self.heap, name),
             ),
+            ResourceCall::CreateResFile(name) => done_on_resource(
+                self.resources.create_res_file(self.alloc, name),
+            ),
             ResourceCall::CloseResFile(number) => done_on_resource(
-                self.resources.close_res_file(&mut self.heap, *number),
+                self.resources
+                    .close_res_file(self.alloc, &mut self.heap, *number),
+            ),
+            ResourceCall::UpdateResFile(number) => done_on_resource(
+                self.resources
+                    .update_res_file(self.alloc, &self.heap, *number),
             ),
             ResourceCall::UseResFile(number) => done_on_resource(
                 self.resources.use_res_file(*number),
@@ -89,11 +96,40 @@ impl<'s, S: BlockStore> Application<'s, S> {
                 self.resources
                     .detach_resource(&mut self.heap, self.names.number(name)),
             ),
+            ResourceCall::AddResource(name, ty, id, text) => done_on_resource(
+                self.resources.add_resource(
+                    self.alloc,
+                    &mut self.heap,
+                    self.names.number(name),
+                    *ty,
+                    *id,
+                    text,
+                ),
+            ),
+            ResourceCall::RemoveResource(name) => done_on_resource(
+                self.resources
+                    .remove_resource(&mut self.heap, self.names.number(name)),
+            ),
+            ResourceCall::ChangedResource(name) => done_on_resource(
+                self.resources.changed_resource(self.names.number(name)),
+            ),
+            ResourceCall::WriteResource(name) => done_on_resource(
+                self.resources
+                    .write_resource(self.alloc, &self.heap, self.names.number(name)),
+            ),
             ResourceCall::GetResInfo(name) => info(
                 self.resources.get_res_info(self.names.number(name)),
             ),
+            ResourceCall::SetResInfo(name, id, text) => done_on_resource(
+                self.resources
+                    .set_res_info(self.alloc, self.names.number(name), *id, text),
+            ),
             ResourceCall::GetResAttrs(name) => attributes(
                 self.resources.get_res_attrs(self.names.number(name)),
+            ),
+            ResourceCall::SetResAttrs(name, attrs) => done_on_resource(
+                self.resources
+                    .set_res_attrs(self.names.number(name), Attrs(*attrs)),
             ),
             ResourceCall::GetResourceSizeOnDisk(name) => sized(
                 self.resources

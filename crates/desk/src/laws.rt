@@ -6,7 +6,7 @@ ghost use Rattle.res_calls.specs.Files.{Resources};
 ghost use Rattle.desk.specs.Trying.{launched_with, nowhere};
 ghost use Rattle.desk.specs.Step.{run};
 ghost use Rattle.desk.specs.Laws.{EachTry, ShowsPut, HoldsPut, KeepsLocked, KeepsFixed, EmptiesPurgeable, LooksFew};
-ghost use Rattle.desk.specs.Laws.{RefusedLeaves, RefusedBinds, GoesByRule, NothingBusy, KeepsResources, KeepsForks};
+ghost use Rattle.desk.specs.Laws.{RefusedLeaves, RefusedBinds, GoesByRule, NothingBusy, KeepsResources, KeepsFiles};
 
 /// The laws of `run_script` hold of an application with any resources: what its files and the System's hold, and
 /// which of them are open, is free. A datum that is read into a handle is then the bytes last put there, until other
@@ -30,7 +30,7 @@ pub fn an_application_with_any_resources_keeps_the_laws()
         (run script.blocks script.steps (launched_with resources n nowhere)).events }
     ensures resources { (resources : Resources) (n : ℕ) (script : Parts) → EachTry KeepsResources (λ _. [])
         (run script.blocks script.steps (launched_with resources n nowhere)).events }
-    ensures forks { (resources : Resources) (n : ℕ) (script : Parts) → EachTry KeepsForks (λ _. [])
+    ensures files { (resources : Resources) (n : ℕ) (script : Parts) → EachTry KeepsFiles (λ _. [])
         (run script.blocks script.steps (launched_with resources n nowhere)).events }
     ensures idle { (resources : Resources) (n : ℕ) (script : Parts)
         → NothingBusy script.blocks script.steps (launched_with resources n nowhere) }

@@ -17,6 +17,10 @@ pub use laws::an_application_with_any_resources_keeps_the_laws;
 pub use run::run_script;
 
 #[cfg(test)]
+mod changing_tests;
+#[cfg(test)]
+mod disk;
+#[cfg(test)]
 mod grow_tests;
 #[cfg(test)]
 mod resource_tests;

@@ -62,11 +62,19 @@ pub fn named_resource(call: &ResourceCall, names: &Names) -> Option<usize>
         ResourceCall::LoadResource(name) => names.number(name),
         ResourceCall::ReleaseResource(name) => names.number(name),
         ResourceCall::DetachResource(name) => names.number(name),
+        ResourceCall::AddResource(name, _, _, _) => names.number(name),
+        ResourceCall::RemoveResource(name) => names.number(name),
+        ResourceCall::ChangedResource(name) => names.number(name),
+        ResourceCall::WriteResource(name) => names.number(name),
         ResourceCall::GetResInfo(name) => names.number(name),
+        ResourceCall::SetResInfo(name, _, _) => names.number(name),
         ResourceCall::GetResAttrs(name) => names.number(name),
+        ResourceCall::SetResAttrs(name, _) => names.number(name),
         ResourceCall::GetResourceSizeOnDisk(name) => names.number(name),
         ResourceCall::OpenResFile(_)
+        | ResourceCall::CreateResFile(_)
         | ResourceCall::CloseResFile(_)
+        | ResourceCall::UpdateResFile(_)
         | ResourceCall::UseResFile(_)
         | ResourceCall::CurResFile
         | ResourceCall::GetResource(..)

@@ -4,7 +4,7 @@ ghost use Rattle.std.specs.Prelude.{◌≡◌, ◌%◌, ◌≤◌, [], IfOk};
 ghost use Rattle.desk.specs.Trying.{launched, nowhere};
 ghost use Rattle.desk.specs.Application.{transcript, run_alone};
 ghost use Rattle.desk.specs.Laws.{EachTry, ShowsPut, HoldsPut, KeepsLocked, KeepsFixed, EmptiesPurgeable, LooksFew};
-ghost use Rattle.desk.specs.Laws.{RefusedLeaves, KeepsResources, KeepsForks, RefusedBinds, GoesByRule, Linked};
+ghost use Rattle.desk.specs.Laws.{RefusedLeaves, KeepsResources, KeepsFiles, RefusedBinds, GoesByRule, Linked};
 ghost use Rattle.desk.specs.Laws.{NothingBusy};
 
 use crate::application::Application;
@@ -20,7 +20,7 @@ use std::alloc::{AllocError, Global};
 /// # Errors
 ///
 /// Where the host refuses memory there is no transcript.
-#[tactic(auto, using(crate::proofs::Runs::shows_put, crate::proofs::Runs::holds_put, crate::proofs::Runs::locked_stays, crate::proofs::Runs::fixed_stays, crate::proofs::Runs::only_purgeable_go, crate::proofs::Runs::looks_few, crate::proofs::Runs::refused_leave, crate::proofs::Runs::resources_stay, crate::proofs::Runs::forks_stay, crate::proofs::Runs::refused_bind, crate::proofs::Runs::goes_by_rule, crate::proofs::Runs::linked, crate::proofs::Runs::nothing_stays_busy))]
+#[tactic(auto, using(crate::proofs::Runs::shows_put, crate::proofs::Runs::holds_put, crate::proofs::Runs::locked_stays, crate::proofs::Runs::fixed_stays, crate::proofs::Runs::only_purgeable_go, crate::proofs::Runs::looks_few, crate::proofs::Runs::refused_leave, crate::proofs::Runs::resources_stay, crate::proofs::Runs::files_stay, crate::proofs::Runs::refused_bind, crate::proofs::Runs::goes_by_rule, crate::proofs::Runs::linked, crate::proofs::Runs::nothing_stays_busy))]
 pub fn run_script(alloc: Global, size: u32, script: &Script) -> Result<Vec<u8>, AllocError>
     requires even { size % 16 ≡ 0 }
     requires low { 512 ≤ size }
@@ -61,8 +61,8 @@ pub fn run_script(alloc: Global, size: u32, script: &Script) -> Result<Vec<u8>, 
     // A call of the Memory Manager changes nothing of the resources, whatever it empties.
     ensures resources { EachTry KeepsResources (λ _. []) (run_alone size script.now).events }
 
-    // No try changes a file's resource fork.
-    ensures forks { EachTry KeepsForks (λ _. []) (run_alone size script.now).events }
+    // No try changes a file, but for those of CreateResFile, UpdateResFile and CloseResFile.
+    ensures files { EachTry KeepsFiles (λ _. []) (run_alone size script.now).events }
 
     // After each step no name is busy.
     ensures idle { NothingBusy script.now.blocks script.now.steps (launched size nowhere) }

@@ -21,3 +21,4 @@ pub mod Staying
 pub mod Inside
 pub mod Path
 pub mod Owned
+pub mod Contents

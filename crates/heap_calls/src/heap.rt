@@ -236,7 +236,7 @@ impl<S: BlockStore> Heap<S> {
     }
 
     /// The bytes of a handle's block, busy or not.
-    fn block_bytes(&self, handle: Option<usize>) -> Result<&[u8], Refusal>
+    pub(crate) fn block_bytes(&self, handle: Option<usize>) -> Result<&[u8], Refusal>
         ensures answer { IsShown (silent (show handle) self.now) result self.now }
         ensures host { result ≢ Err Refusal.HostMemory }
     {

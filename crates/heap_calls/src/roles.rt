@@ -1,7 +1,8 @@
 //! The roles of handles: an application's own, a resource's, a System resource's.
 
-ghost use Rattle.std.specs.Prelude.{◌≡◌};
+ghost use Rattle.std.specs.Prelude.{◌≡◌, is_ok, option_map};
 ghost use Rattle.heap_calls.specs.Answer.{handle_at};
+ghost use Rattle.heap_calls.specs.Contents.{bytes_of};
 ghost use Rattle.heap_calls.specs.Inside.{inside, cast, owned_as, guarded_as, is_owned, has_block, released};
 ghost use Rattle.heap_calls.specs.Inner.Roles.{is_system};
 
@@ -10,6 +11,13 @@ use crate::heap::Heap;
 use block_store::BlockStore;
 
 impl<S: BlockStore> Heap<S> {
+    /// Whether the number that a name is bound to is a handle's, emptied or not.
+    pub fn is_handle(&self, handle: Option<usize>) -> bool
+        ensures { result ≡ is_ok (handle_at handle self.now.heap) }
+    {
+        slot_of(&self.names, handle).is_ok()
+    }
+
     /// Whether the handle that a name is bound to is a resource's.
     pub fn is_resource(&self, handle: Option<usize>) -> bool
         ensures { result ≡ is_owned (handle_at handle self.now.heap) }
@@ -58,6 +66,16 @@ impl<S: BlockStore> Heap<S> {
             return false;
         };
         self.store.place_of(found.slot).is_some()
+    }
+
+    /// The bytes of the block of a number's handle, busy or not; none where it has no block.
+    pub fn bytes(&self, number: usize) -> Option<&[u8]>
+        ensures { option_map (λ b. b.now) result ≡ bytes_of number self.now.heap }
+    {
+        match self.block_bytes(Some(number)) {
+            Ok(bytes) => Some(bytes),
+            Err(_) => None,
+        }
     }
 
     /// Lets the handle of a number and its block go, locked or not, of whatever role; its slot is unused.

@@ -1,7 +1,7 @@
 //! The attributes of a resource.
 
 ghost use Rattle.std.specs.Prelude.{◌≡◌};
-ghost use Rattle.mac_words.specs.Attributes.{unchanged};
+ghost use Rattle.mac_words.specs.Attributes.{unchanged, changed, set, has_bit};
 
 /// The attribute byte of a resource. Bits that have no name here are kept as they stand.
 ///
@@ -28,5 +28,26 @@ impl Attrs {
         ensures { result.0 ≡ unchanged self.0 }
     {
         Attrs(self.0 & 0xfd)
+    }
+
+    /// The attributes with `resChanged`.
+    pub fn changed(self) -> Attrs
+        ensures { result.0 ≡ changed self.0 }
+    {
+        Attrs(self.0 | Attrs::CHANGED)
+    }
+
+    /// Other attributes, with `resChanged` as it is here.
+    pub fn set(self, new: Attrs) -> Attrs
+        ensures { result.0 ≡ set new.0 self.0 }
+    {
+        Attrs((new.0 & 0xfd) | (self.0 & Attrs::CHANGED))
+    }
+
+    /// Whether the attributes have a bit, given by its value.
+    pub fn has(self, bit: u8) -> bool
+        ensures { result ≡ has_bit bit self.0 }
+    {
+        self.0 & bit != 0
     }
 }

@@ -11,8 +11,12 @@ use crate::name::{FileName, Label, Name, OsType};
 pub enum ResourceCall {
     /// Opens a file's resource fork, which becomes the current one, and tells its number.
     OpenResFile(FileName),
+    /// Makes a file whose resource fork has no resources.
+    CreateResFile(FileName),
     /// Closes a resource fork and disposes of the handles of its resources.
     CloseResFile(u32),
+    /// Writes the resource fork of an open file, if its references were changed.
+    UpdateResFile(u32),
     /// Makes a resource fork that is open the current one, where searches begin.
     UseResFile(u32),
     /// Tells the number of the current resource fork.
@@ -41,10 +45,22 @@ pub enum ResourceCall {
     ReleaseResource(Label),
     /// Makes a resource's handle a plain one; the resource stays in its fork.
     DetachResource(Label),
+    /// Makes a plain handle that of a new resource of a type, ID and name in the current resource fork.
+    AddResource(Label, OsType, i16, Name),
+    /// Takes a resource out of the current resource fork; its handle stays as a plain one.
+    RemoveResource(Label),
+    /// Marks a resource as changed: its fork's next update writes the handle's bytes.
+    ChangedResource(Label),
+    /// Stores a changed resource's bytes at once.
+    WriteResource(Label),
     /// Tells a resource's ID, type and name.
     GetResInfo(Label),
+    /// Gives a resource another ID and name.
+    SetResInfo(Label, i16, Name),
     /// Tells a resource's attributes.
     GetResAttrs(Label),
+    /// Gives a resource other attributes.
+    SetResAttrs(Label, u8),
     /// Tells how many bytes a resource has in its fork.
     GetResourceSizeOnDisk(Label),
     /// Sets whether the calls that give a handle also read the resource's bytes.

@@ -200,6 +200,94 @@ const RESOURCES_TRANSCRIPT: &str = "launch 0 1024
 end 0
 ";
 
+/// `examples/changing.script`
+const CHANGING: &str = "# A file is made and opened: it has number 3, and is current.
+CreateResFile \"Notes\"
+OpenResFile \"Notes\"
+# A handle of the application's own becomes a resource of it. It counts as changed (2), and nothing is stored of it yet.
+NewHandle note 5
+Put note 0 \"Hello\"
+AddResource note 'TEXT' 128 \"Greeting\"
+GetResAttrs note
+GetResourceSizeOnDisk note
+# The update writes the fork, with the handle's bytes.
+UpdateResFile 3
+GetResAttrs note
+GetResourceSizeOnDisk note
+# Closing disposes of the handle. Opened again, the file has number 4, and the text is read back.
+CloseResFile 3
+Show note
+OpenResFile \"Notes\"
+Get1NamedResource text 'TEXT' \"greeting\"
+Show text
+# Other bytes are stored only once the resource is marked as changed; WriteResource stores them at once.
+Put text 0 \"J\"
+ChangedResource text
+WriteResource text
+EmptyHandle text
+LoadResource text
+Show text
+# It gets another ID and another name.
+SetResInfo text 129 \"Joke\"
+GetResInfo text
+Get1Resource old 'TEXT' 128
+# A protected resource (8) can't be changed, nor removed.
+SetResAttrs text 8
+ChangedResource text
+RemoveResource text
+SetResAttrs text 0
+# A resource that is removed leaves its handle to the application.
+RemoveResource text
+Count1Resources 'TEXT'
+Show text
+DisposeHandle text
+# The file stays when it is closed, with a fork that has no resources.
+CloseResFile 4
+CreateResFile \"Notes\"
+OpenResFile \"Notes\"
+Count1Types
+";
+
+const CHANGING_TRANSCRIPT: &str = "launch 0 1024
+2 CreateResFile 0
+3 OpenResFile 0 3
+5 NewHandle 0
+6 Put 0
+7 AddResource 0
+8 GetResAttrs 0 2
+9 GetResourceSizeOnDisk 0 0
+11 UpdateResFile 0
+12 GetResAttrs 0 0
+13 GetResourceSizeOnDisk 0 5
+15 CloseResFile 0
+16 Show -111
+17 OpenResFile 0 4
+18 Get1NamedResource 0 1
+19 Show 0 $48656c6c6f
+21 Put 0
+22 ChangedResource 0
+23 WriteResource 0
+24 EmptyHandle 0
+25 LoadResource 0 1
+26 Show 0 $4a656c6c6f
+28 SetResInfo 0
+29 GetResInfo 0 129 $54455854 $4a6f6b65
+30 Get1Resource -192
+32 SetResAttrs 0
+33 ChangedResource -198
+34 RemoveResource -196
+35 SetResAttrs 0
+37 RemoveResource 0
+38 Count1Resources 0 0
+39 Show 0 $4a656c6c6f
+40 DisposeHandle 0
+42 CloseResFile 0
+43 CreateResFile -48
+44 OpenResFile 0 5
+45 Count1Types 0 0
+end 0
+";
+
 /// `examples/kept_pointer.script`
 const KEPT_POINTER: &str =
     "# In 1024 bytes: a pointer that is kept across NewHandle points into another block.
@@ -298,6 +386,7 @@ fn runs_the_scripts(rt: HostRuntime) -> Result<(), Fail> {
         (MOVING, MOVING_TRANSCRIPT),
         (GROW_ZONE, GROW_ZONE_TRANSCRIPT),
         (RESOURCES, RESOURCES_TRANSCRIPT),
+        (CHANGING, CHANGING_TRANSCRIPT),
         (KEPT_POINTER, KEPT_POINTER_TRANSCRIPT),
         (KEPT_POINTER_LOCKED, KEPT_POINTER_LOCKED_TRANSCRIPT),
     ] {

@@ -1,19 +1,28 @@
-use Rattle.std.proofs.Common.{◌≡◌, ◌<◌, ℕ, ◌+◌, Bool, false, Option, Some, None, refl, sym, ◌∙◌, ap, List, [], ◌∷◌, ◌++◌, map, length}
+use Rattle.std.proofs.Common.{◌≡◌, ◌<◌, ℕ, ◌+◌, Bool, true, false, Option, Some, None, refl, sym, subst, ◌∙◌, ap, List, [], ◌∷◌, ◌++◌, map, length}
 use Rattle.std.proofs.Common.{drop, suc, zero, cond, arith, get_or}
-use Rattle.std.specs.Prelude.{option_map, slice_get, option_to_list, remove, ◌==◌, Ok}
+use Rattle.std.specs.Prelude.{option_map, slice_get, option_to_list, remove, ◌==◌, Ok, Err}
 use Rattle.std.specs.List.{cons_option}
 use Rattle.std.proofs.lemmas.Bool.{eqb-true}
-use Rattle.heap_calls.specs.State.{Memory}
+use Rattle.heap_calls.specs.State.{State, Memory}
 use Rattle.res_map.specs.Split.{Split, split, place, replaced, removed}
-use Rattle.res_map.specs.Map.{Reference}
-use Rattle.res_map.proofs.Splitting.{split-whole, split-passes, split-get, found-place}
+use Rattle.res_map.specs.Map.{Reference, content}
+use Rattle.fork_format.specs.Canonical.{fits}
+use Rattle.res_map.proofs.Splitting.{split-whole, split-passes, get-whole, found-place, remove-replaced}
 use Rattle.fork_format.proofs.Rest.{rest-map}
 use Rattle.res_calls.specs.Files.{OpenFile, Resources}
+use Rattle.res_calls.specs.declared.files.File.{File as StoredFile}
 use Rattle.res_calls.specs.declared.files.OpenFile.{OpenFile as StoredOpenFile}
-use Rattle.res_calls.specs.View.{view_open}
-use Rattle.res_calls.specs.Fetch.{Managers, Answer, done}
+use Rattle.res_calls.specs.View.{view_file, view_open}
+use Rattle.heap_calls.specs.declared.refusal.Refusal.{Refusal}
+use Rattle.heap_calls.specs.declared.refusal.Refusal.TheVariants.{Code, HostMemory}
+use Rattle.res_calls.specs.Places.{at_index}
+use Rattle.res_calls.specs.Update.{updated_reference, updated_map, updated, rewritten, update}
+use Rattle.res_calls.specs.Updating.{IsUpdated, stored_in}
+use Rattle.res_calls.proofs.Standing.{index_whole}
+use Rattle.res_calls.proofs.WritingAnew.{found_stands, same_resources}
+use Rattle.res_calls.specs.Fetch.{Answer, done}
 use Rattle.res_calls.specs.Given.{IsAnswered, managers}
-use Rattle.res_calls.specs.Rows.{all_released, handles_of, first_number, closed, close_res_file}
+use Rattle.res_calls.specs.Rows.{all_released, handles_of, first_number, closed, close_res_file, closed_file, if_updated}
 
 -- handles are let go one after the other
 handles_from : (references : List Reference) (i : ℕ) (x : Reference) → slice_get references i ≡ Some x
@@ -66,79 +75,139 @@ remove-seen view (suc n) [] = refl
 remove-seen view (suc n) (x ∷ xs) = ap (λ l. view x ∷ l) (remove-seen view n xs)
 
 -- a list without the item of a split, and what stands behind it
-remove-replaced : {A : Type 0} (before : List A) (x : A) (after : List A)
-    → remove (before ++ x ∷ after) (length before) ≡ before ++ after
-remove-replaced [] x after = refl
-remove-replaced (b ∷ before) x after = ap (λ l. b ∷ l) (remove-replaced before x after)
-
 drop-replaced : {A : Type 0} (before : List A) (x : A) (after : List A)
     → drop (suc (length before)) (before ++ x ∷ after) ≡ after
 drop-replaced [] x after = refl
 drop-replaced (b ∷ before) x after = drop-replaced before x after
 
-pub split-remove : {A : Type 0} (test : A → Bool) (xs : List A) (at : Split A) → split test xs ≡ Some at
-    → remove xs (place at) ≡ removed at
-split-remove test xs at e =
-    ap (λ l. remove l (place at)) (sym (split-whole test xs at e)) ∙ remove-replaced at.before at.here at.after
+-- a list around an item, without that item; what stands behind it
+replaced-remove : {A : Type 0} (x : A) (s : Split A) → remove (replaced x s) (place s) ≡ removed s
+replaced-remove x s = remove-replaced s.before x s.after
 
-pub split-drop : {A : Type 0} (test : A → Bool) (xs : List A) (at : Split A) → split test xs ≡ Some at
-    → drop (place at + 1) xs ≡ at.after
-split-drop test xs at e =
-    ap (λ l. drop (place at + 1) l) (sym (split-whole test xs at e))
-    ∙ ap (λ k. drop k (replaced at.here at)) (let s : place at + 1 ≡ suc (place at) = omega arith in s)
-    ∙ drop-replaced at.before at.here at.after
+replaced-drop : {A : Type 0} (x : A) (s : Split A) → drop (place s + 1) (replaced x s) ≡ s.after
+replaced-drop x s =
+    ap (λ k. drop k (replaced x s)) (let n : place s + 1 ≡ suc (place s) = omega arith in n)
+    ∙ drop-replaced s.before x s.after
 
--- the chain without a file that was found, and the number that is current then
-split-chain : (n i older : ℕ) (r : Resources) (chain : List OpenFile) (at : Split OpenFile)
-    → split (λ f. f.number == n) r.chain ≡ Some at → i ≡ place at
-    → older ≡ first_number (drop (i + 1) r.chain) → chain ≡ remove r.chain i
-    → (let s : Resources = record r { chain = chain; current = cond (r.current == n) older r.current } in s) ≡ closed at r
-split-chain n i older r chain at found is first without =
-    let number : at.here.number ≡ n = eqb-true at.here.number n (split-passes (λ f. f.number == n) r.chain at found) in
-    let left : chain ≡ removed at =
-    without ∙ ap (remove r.chain) is ∙ split-remove (λ f. f.number == n) r.chain at found in
-    let next : older ≡ first_number at.after =
-    first ∙ ap (λ k. first_number (drop (k + 1) r.chain)) is ∙ ap first_number (split-drop (λ f. f.number == n) r.chain at found) in
-    rw (left, next, ← number) refl
+-- an update leaves the handles of references
+updated-handles : (heap : State) (references : List Reference)
+    → handles_of (map (updated_reference heap) references) ≡ handles_of references
+updated-handles heap [] = refl
+updated-handles heap (x ∷ references) = ap (cons_option x.handle) (updated-handles heap references)
+
+-- an open file that was updated stands in its place, with its handles
+record Stays (s : Split OpenFile) (r : Resources) : Type 0 where
+  file : OpenFile
+  chain : r.chain ≡ replaced file s
+  handles : handles_of file.map.references ≡ handles_of s.here.map.references
+
+update-stays : (heap : State) (r after : Resources) (s : Split OpenFile) → replaced s.here s ≡ r.chain
+    → update heap s r ≡ Some after → Stays s after
+update-stays heap r after s whole e = cases s.here.touched (fits (content (updated_map heap s.here.map))) e
+  where
+    cases : (on fitting : Bool) → cond on (cond fitting (Some (rewritten heap s r)) None) (Some r) ≡ Some after
+        → Stays s after
+    cases false fitting e =
+        let is : r ≡ after = cc in
+        subst (λ (q : Resources). Stays s q) is (record { file = s.here; chain = sym whole; handles = refl })
+    cases true true e =
+        let is : rewritten heap s r ≡ after = cc in
+        subst (λ (q : Resources). Stays s q) is (record {
+          file = updated heap s.here;
+          chain = refl;
+          handles = updated-handles heap s.here.map.references;
+        })
+    cases true false e = cc
 
 -- a file that is closed
-closed_at : (n : ℕ) (r : Resources) (m : Memory) (at : Split OpenFile) → split (λ f. f.number == n) r.chain ≡ Some at
-    → (n == 0) ≡ false → close_res_file n (managers r m)
-    ≡ done tt (managers (closed at r) (all_released (handles_of at.here.map.references) m))
-closed_at n r m at found some = rw (found, some) refl
+closed_at : (n : ℕ) (q r : Resources) (m : Memory) (s : Split OpenFile)
+    → split (λ f. f.number == n) q.chain ≡ Some s → (n == 0) ≡ false → update m.heap s q ≡ Some r
+    → close_res_file n (managers q m)
+    ≡ done tt (managers (closed s r) (all_released (handles_of s.here.map.references) m))
+closed_at n q r m s found some is = rw (found, some, is) refl
 
-closed_so : (n i older : ℕ) (r : Resources) (chain : List OpenFile) (x : OpenFile) (m after : Memory)
-    → Some i ≡ option_map place (split (λ f. f.number == n) r.chain) → (n == 0) ≡ false
+-- the chain without it, and the number that is current then
+closed_chain : (n older : ℕ) (r : Resources) (chain : List OpenFile) (s : Split OpenFile)
+    → s.here.number ≡ n → older ≡ first_number s.after → chain ≡ removed s
+    → (let q : Resources = record r { chain = chain; current = cond (r.current == n) older r.current } in q) ≡ closed s r
+closed_chain n older r chain s number next left = rw (left, next, ← number) refl
+
+-- r: the resources after the update
+closed_so : (n i older : ℕ) (q r : Resources) (chain : List OpenFile) (x : OpenFile) (m after : Memory)
+    → Some i ≡ option_map place (split (λ (f : OpenFile). f.number == n) q.chain) → (n == 0) ≡ false
+    → ((s : Split OpenFile) → at_index i q.chain ≡ Some s → update m.heap s q ≡ Some r)
     → slice_get r.chain i ≡ Some x → older ≡ first_number (drop (i + 1) r.chain) → chain ≡ remove r.chain i
     → after ≡ all_released (handles_of x.map.references) m
-    → IsAnswered (λ (u : Unit {0}). u) (close_res_file n (managers r m)) (Ok tt)
+    → IsAnswered (λ (u : Unit {0}). u) (close_res_file n (managers q m)) (Ok tt)
     (managers (record r { chain = chain; current = cond (r.current == n) older r.current }) after)
-closed_so n i older r chain x m after found some here first without released =
-    let at = found-place (split (λ (f : OpenFile). f.number == n) r.chain) i found in
-    let same : Some at.0.here ≡ Some x =
-    sym (split-get (λ f. f.number == n) r.chain at.0 at.1.0) ∙ ap (slice_get r.chain) (sym at.1.1) ∙ here in
-    let is : at.0.here ≡ x = cc in
-    let s : Managers = managers r m in
-    let done_so : close_res_file n s
-    ≡ done tt (managers (closed at.0 r) (all_released (handles_of at.0.here.map.references) m)) =
-    closed_at n r m at.0 at.1.0 some in
-    let left = split-chain n i older r chain at.0 at.1.0 at.1.1 first without in
-    let let_go : all_released (handles_of at.0.here.map.references) m ≡ after =
-    ap (λ (f : OpenFile). all_released (handles_of f.map.references) m) is ∙ sym released in (
+closed_so n i older q r chain x m after found some each here first without released =
+    let test : OpenFile → Bool = λ f. f.number == n in
+    let at = found-place (split test q.chain) i found in
+    let s = at.0 in
+    let whole = split-whole test q.chain s at.1.0 in
+    let update_so = each s (ap (λ k. at_index k q.chain) at.1.1 ∙ index_whole q.chain s whole) in
+    let stays = update-stays m.heap q r s whole update_so in
+    let number : s.here.number ≡ n = eqb-true s.here.number n (split-passes test q.chain s at.1.0) in
+    let same : Some stays.file ≡ Some x =
+    sym (get-whole (replaced stays.file s) (record s { here = stays.file }) refl)
+    ∙ ap (λ l. slice_get l (place s)) (sym stays.chain) ∙ ap (slice_get r.chain) (sym at.1.1) ∙ here in
+    let is : stays.file ≡ x = cc in
+    let left : chain ≡ removed s =
+    without ∙ ap (remove r.chain) at.1.1 ∙ ap (λ l. remove l (place s)) stays.chain ∙ replaced-remove stays.file s in
+    let next : older ≡ first_number s.after =
+    first ∙ ap (λ k. first_number (drop (k + 1) r.chain)) at.1.1
+    ∙ ap (λ l. first_number (drop (place s + 1) l)) stays.chain ∙ ap first_number (replaced-drop stays.file s) in
+    let let_go : all_released (handles_of s.here.map.references) m ≡ after =
+    ap (λ l. all_released l m) (sym stays.handles)
+    ∙ ap (λ (f : OpenFile). all_released (handles_of f.map.references) m) is ∙ sym released in
+    let done_so = closed_at n q r m s at.1.0 some update_so in (
       ap (λ (a : Answer (Unit {0})). a.reply) done_so,
-      ap (λ (a : Answer (Unit {0})). a.after) done_so ∙ ap (λ (q : Resources). managers q
-          (all_released (handles_of at.0.here.map.references) m)) (sym left) ∙ ap (managers _) let_go,
+      ap (λ (a : Answer (Unit {0})). a.after) done_so
+          ∙ ap (λ (p : Resources). managers p (all_released (handles_of s.here.map.references) m))
+          (sym (closed_chain n older r chain s number next left)) ∙ ap (managers _) let_go,
     )
 
-pub closed_seen : (n i older : ℕ) (r : Resources) (xs ys : List StoredOpenFile) (x : OpenFile) (m after : Memory)
-    → map view_open xs ≡ r.chain → Some i ≡ option_map place (split (λ f. f.number == n) (map view_open xs))
-    → (n == 0) ≡ false → slice_get (map view_open xs) i ≡ Some x → older ≡ first_number (map view_open (drop (i + 1) xs))
-    → ys ≡ remove xs i → after ≡ all_released (handles_of x.map.references) m
-    → IsAnswered (λ (u : Unit {0}). u) (close_res_file n (managers r m)) (Ok tt)
-    (managers (record r { chain = map view_open ys; current = cond (r.current == n) older r.current }) after)
-closed_seen n i older r xs ys x m after chain found some here first without released =
-    closed_so n i older r (map view_open ys) x m after
-    (found ∙ ap (λ l. option_map place (split (λ (f : OpenFile). f.number == n) l)) chain) some
-    (ap (λ l. slice_get l i) (sym chain) ∙ here)
-    (first ∙ ap first_number (drop-seen view_open (i + 1) xs) ∙ ap (λ l. first_number (drop (i + 1) l)) chain)
-    (ap (map view_open) without ∙ remove-seen view_open i xs ∙ ap (λ l. remove l i) chain) released
+pub closed_seen : (n i older : ℕ) (q : Resources) (files files' : List StoredFile) (xs ys zs : List StoredOpenFile)
+    (x : OpenFile) (m after : Memory)
+    → Some i ≡ option_map place (split (λ (f : OpenFile). f.number == n) (map view_open xs)) → (n == 0) ≡ false
+    → ((r : Resources) (s : Split OpenFile) → at_index i (map view_open xs) ≡ Some s
+    → update m.heap s (stored_in files xs r) ≡ Some (stored_in files' ys r))
+    → slice_get (map view_open ys) i ≡ Some x → older ≡ first_number (map view_open (drop (i + 1) ys))
+    → zs ≡ remove ys i → after ≡ all_released (handles_of x.map.references) m
+    → IsAnswered (λ (u : Unit {0}). u) (close_res_file n (managers (stored_in files xs q) m)) (Ok tt)
+    (managers (record (stored_in files' zs q) { current = cond (q.current == n) older q.current }) after)
+closed_seen n i older q files files' xs ys zs x m after found some each here first without released =
+    closed_so n i older (stored_in files xs q) (stored_in files' ys q) (map view_open zs) x m after found some
+    (λ s at. each q s at) here
+    (first ∙ ap first_number (drop-seen view_open (i + 1) ys))
+    (ap (map view_open) without ∙ remove-seen view_open i ys) released
+
+-- a file that isn't closed, since its content doesn't fit
+refused_so : (o : Option Resources) (answer : Resources → Answer (Unit {0})) (q r : Resources) (m : Memory)
+    (refusal : Refusal) → IsUpdated o (Err refusal) r → r ≡ q
+    → IsAnswered (λ (u : Unit {0}). u) (if_updated o (managers q m) answer) (Err refusal) (managers r m)
+refused_so o answer q r m HostMemory is same = tt
+refused_so o answer q r m (Code code) is same =
+    rw (is.1, is.0) (refl, ap (λ (p : Resources). managers p m) (sym same))
+
+refused_at : (n : ℕ) (q : Resources) (m : Memory) (s : Split OpenFile)
+    → split (λ f. f.number == n) q.chain ≡ Some s → (n == 0) ≡ false
+    → close_res_file n (managers q m)
+    ≡ if_updated (update m.heap s q) (managers q m) (λ r. done tt (closed_file s r (managers q m)))
+refused_at n q m s found some = rw (found, some) refl
+
+pub close_refused : (n i : ℕ) (q : Resources) (files files' : List StoredFile) (xs ys : List StoredOpenFile)
+    (m : Memory) (refusal : Refusal)
+    → Some i ≡ option_map place (split (λ (f : OpenFile). f.number == n) (map view_open xs)) → (n == 0) ≡ false
+    → ((r : Resources) (s : Split OpenFile) → at_index i (map view_open xs) ≡ Some s
+    → IsUpdated (update m.heap s (stored_in files xs r)) (Err refusal) (stored_in files' ys r))
+    → map view_file files' ≡ map view_file files → map view_open ys ≡ map view_open xs
+    → IsAnswered (λ (u : Unit {0}). u) (close_res_file n (managers (stored_in files xs q) m)) (Err refusal)
+    (managers (stored_in files' ys q) m)
+close_refused n i q files files' xs ys m refusal found some each one two =
+    let at = found_stands (λ (f : OpenFile). f.number == n) i (map view_open xs) found in
+    let q0 = stored_in files xs q in
+    subst (λ (a : Answer (Unit {0})). IsAnswered (λ (u : Unit {0}). u) a (Err refusal) (managers (stored_in files' ys q) m))
+    (sym (refused_at n q0 m at.0 at.1.0 some))
+    (refused_so (update m.heap at.0 q0) (λ r. done tt (closed_file at.0 r (managers q0 m))) q0 (stored_in files' ys q) m
+    refusal (each q at.0 at.1.1) (same_resources files files' xs ys q one two))

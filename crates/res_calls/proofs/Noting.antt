@@ -1,16 +1,26 @@
-use Rattle.std.proofs.Common.{◌≡◌, Result, Ok, Err, ◌∙◌, ap}
+use Rattle.std.proofs.Common.{◌≡◌, Result, Ok, Err, ◌∙◌, ap, Option, None, Some, true, refl, subst}
+use Rattle.std.specs.Prelude.{is_some}
 use Rattle.mac_words.specs.declared.code.OsErr.{OsErr}
 use Rattle.mac_words.specs.declared.code.TheConstants.OsErr.{NO_ERR}
 use Rattle.heap_calls.specs.State.{Memory}
 use Rattle.heap_calls.specs.Answer.{code_of}
 use Rattle.heap_calls.specs.declared.refusal.Refusal.{Refusal}
 use Rattle.heap_calls.specs.declared.refusal.Refusal.TheVariants.{Code, HostMemory}
-use Rattle.res_calls.specs.Files.{Resources}
+use Rattle.res_calls.specs.Files.{Resources, Found}
 use Rattle.res_calls.specs.Fetch.{Managers, Answer}
-use Rattle.res_calls.specs.Rows.{keep_error, noting}
+use Rattle.res_calls.specs.Rows.{keep_error, noting, on_found}
 use Rattle.res_calls.specs.Given.{IsAnswered, managers, noted}
 
--- A call whose code is noted.
+-- A call on what was found; a call whose code is noted.
+
+-- what is answered on what was found, if anything was
+pub found_so : {T V : Type 0} (seen : V → T) (answer : Found → Answer T) (o p : Option Found) (s : Managers)
+    (result : Result V Refusal) (after : Managers) → is_some o ≡ true → o ≡ p
+    → ((f : Found) → o ≡ Some f → IsAnswered seen (answer f) result after)
+    → IsAnswered seen (on_found p s answer) result after
+found_so seen answer None p s result after e same each = cc
+found_so seen answer (Some f) p s result after e same each =
+    subst (λ (q : Option Found). IsAnswered seen (on_found q s answer) result after) same (each f refl)
 
 -- a call that gives what is answered, with its code noted
 noted_so : {T V : Type 0} (seen : V → T) (call : Managers → Answer T) (s : Managers) (answer : Result V Refusal)

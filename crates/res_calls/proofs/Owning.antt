@@ -4,6 +4,8 @@ pub mod Places
 pub mod Changes
 pub mod Openings
 pub mod Closings
+pub mod Casts
+pub mod Updates
 pub mod Calls
 pub mod Facts
 pub mod Laws

@@ -1,16 +1,17 @@
 use Rattle.std.proofs.Common.{◌≡◌, ℕ, ◌<◌, Bool, true, List, [], ◌∷◌, ◌++◌, length, map}
 use Rattle.std.proofs.Common.{Option, Some, None, refl, sym, ◌∙◌, ap, get_or, suc, zero, subst, IfSome}
-use Rattle.std.specs.Prelude.{option_map, is_some, slice_get, slice_set}
+use Rattle.std.specs.Prelude.{option_map, is_some, slice_get, slice_set, remove}
 use Rattle.std.proofs.lemmas.List.{length-map}
 use Rattle.std.proofs.lemmas.Option.{slice_get_within, slice_get-get_or, slice_get-map}
-use Rattle.res_map.specs.Split.{Split, split, behind, replaced, place}
-use Rattle.res_map.specs.Map.{Reference, Map, with_handle, is_of, split_nth}
-use Rattle.res_map.proofs.Splitting.{get-whole, set-whole, found-place, found-none, split-whole, split_nth-whole}
+use Rattle.res_map.specs.Split.{Split, split, behind, replaced, removed, place}
+use Rattle.res_map.specs.Map.{Reference, Map, is_of, split_nth}
+use Rattle.res_map.proofs.Splitting.{get-whole, set-whole, remove-whole, found-place, found-none}
+use Rattle.res_map.proofs.Splitting.{split-whole, split_nth-whole}
 use Rattle.res_calls.specs.Rows.{reference_in, nth_in}
 use Rattle.res_calls.specs.declared.files.OpenFile.{OpenFile as StoredOpenFile}
 use Rattle.res_calls.specs.View.{view_open}
 use Rattle.res_calls.proofs.Lookups.{found_seen}
-use Rattle.res_calls.specs.Files.{OpenFile, Found, with_reference}
+use Rattle.res_calls.specs.Files.{OpenFile, Found}
 use Rattle.res_calls.specs.Places.{at_index, in_file, found_at}
 use Rattle.res_calls.specs.declared.find.Spot.{Spot}
 
@@ -21,7 +22,7 @@ pub record Stands (A : Type 0) (n : ℕ) (xs : List A) (s : Split A) : Type 0 wh
   pub whole : replaced s.here s ≡ xs
   pub placed : place s ≡ n
 
-index_stands : {A : Type 0} (n : ℕ) (xs : List A) (s : Split A) → at_index n xs ≡ Some s → Stands A n xs s
+pub index_stands : {A : Type 0} (n : ℕ) (xs : List A) (s : Split A) → at_index n xs ≡ Some s → Stands A n xs s
 index_stands n [] s e = cc
 index_stands {A = A} zero (x ∷ xs) s e =
     let is : (let t : Split A = record { before = []; here = x; after = xs } in t) ≡ s = cc in
@@ -37,12 +38,15 @@ index_stands {A = A} (suc n) (x ∷ xs) s e = cases (at_index n xs) (index_stand
         subst (λ (u : Split A). Stands A (suc n) (x ∷ xs) u) same
         (record { whole = ap (λ l. x ∷ l) inner.whole; placed = ap suc inner.placed })
 
-stands_get : {A : Type 0} (n : ℕ) (xs : List A) (s : Split A) → Stands A n xs s → slice_get xs n ≡ Some s.here
+pub stands_get : {A : Type 0} (n : ℕ) (xs : List A) (s : Split A) → Stands A n xs s → slice_get xs n ≡ Some s.here
 stands_get n xs s stands = ap (slice_get xs) (sym stands.placed) ∙ get-whole xs s stands.whole
 
-stands_set : {A : Type 0} (n : ℕ) (xs : List A) (s : Split A) (y : A) → Stands A n xs s → slice_set xs n y
+pub stands_set : {A : Type 0} (n : ℕ) (xs : List A) (s : Split A) (y : A) → Stands A n xs s → slice_set xs n y
     ≡ replaced y s
 stands_set n xs s y stands = ap (λ k. slice_set xs k y) (sym stands.placed) ∙ set-whole xs y s stands.whole
+
+stands_removed : {A : Type 0} (n : ℕ) (xs : List A) (s : Split A) → Stands A n xs s → remove xs n ≡ removed s
+stands_removed n xs s stands = ap (remove xs) (sym stands.placed) ∙ remove-whole xs s stands.whole
 
 -- a file and a reference of it, as a place gives them
 pub record Seen (at : Spot) (chain : List OpenFile) (f : Found) : Type 0 where
@@ -122,58 +126,76 @@ number_here view xs at x n is e there =
     ap (option_map (λ (f : Found). f.file.here.number)) f.1
     ∙ ap (λ (g : OpenFile). Some g.number) (the_file view xs at x f.0 f.1 is) ∙ ap Some there
 
--- a file with another map
-abbrev mapped : Map → OpenFile → OpenFile
+-- a file with another map; touched with it
+abbrev pub mapped : Map → OpenFile → OpenFile
 mapped m f = record f { map = m }
 
--- a reference in a map that has another handle
-abbrev pub put_in : ℕ → Option ℕ → Map → Reference → Map
-put_in k handle m r = record m { references = slice_set m.references k (with_handle handle r) }
+abbrev pub touched_as : Map → OpenFile → OpenFile
+touched_as m f = record f { map = m; touched = true }
 
-put_here : (s : Split Reference) (k : ℕ) (handle : Option ℕ) (m new : Map) → Stands Reference k m.references s
-    → IfSome (slice_get m.references k) (λ r. new ≡ put_in k handle m r)
-    → new ≡ record m { references = replaced (with_handle handle s.here) s }
-put_here s k handle m new stands put =
-    let is : new ≡ put_in k handle m s.here =
-    subst (λ (o : Option Reference). IfSome o (λ r. new ≡ put_in k handle m r))
-    (stands_get k m.references s stands) put in
-    is ∙ ap (λ (l : List Reference). (let n : Map = record m { references = l } in n))
-    (stands_set k m.references s (with_handle handle s.here) stands)
+-- a map with other references
+abbrev pub listed : List Reference → Map → Map
+listed references m = record m { references = references }
 
-map_set : {X : Type 0} (view : X → OpenFile) (xs : List X) (i : ℕ) (y : X)
+-- the open files where one is another one, as they are kept
+pub map_set : {X : Type 0} (view : X → OpenFile) (xs : List X) (i : ℕ) (y : X)
     → map view (slice_set xs i y) ≡ slice_set (map view xs) i (view y)
 map_set view [] i y = refl
 map_set view (x ∷ xs) zero y = refl
 map_set view (x ∷ xs) (suc i) y = ap (λ l. view x ∷ l) (map_set view xs i y)
 
--- the open files where the reference in a place has another handle
-pub handle_put : {X : Type 0} (view : X → OpenFile) (xs : List X) (at : Spot) (x y : X) (handle : Option ℕ) (new : Map)
-    → x ≡ get_or xs at.file x → is_some (found_at at (map view xs)) ≡ true
-    → IfSome (slice_get (view x).map.references at.reference) (λ r. new ≡ put_in at.reference handle (view x).map r)
-    → view y ≡ mapped new (view x)
-    → option_map (λ (f : Found). with_reference (with_handle handle f.reference.here) f) (found_at at (map view xs))
+-- the open files where one of them is changed at a reference of it
+changed_file : {X : Type 0} (view : X → OpenFile) (xs : List X) (at : Spot) (x y : X)
+    (change : Split Reference → OpenFile → OpenFile) → x ≡ get_or xs at.file x
+    → is_some (found_at at (map view xs)) ≡ true
+    → ((s : Split Reference) → Stands Reference at.reference (view x).map.references s → view y ≡ change s (view x))
+    → option_map (λ (f : Found). replaced (change f.reference f.file.here) f.file) (found_at at (map view xs))
     ≡ Some (map view (slice_set xs at.file y))
-handle_put view xs at x y handle new is e put seen_so =
+changed_file view xs at x y change is e each =
     let f = some_of (found_at at (map view xs)) e in
     let seen = place_seen at (map view xs) f.0 f.1 in
     let file : f.0.file.here ≡ view x = the_file view xs at x f.0 f.1 is in
-    let inside : new ≡ record f.0.file.here.map {
-      references = replaced
-          (with_handle handle f.0.reference.here) f.0.reference;
-    } =
-    put_here f.0.reference at.reference handle f.0.file.here.map new seen.reference
-    (subst (λ (g : OpenFile). IfSome (slice_get g.map.references at.reference) (λ r. new
-    ≡ put_in at.reference handle g.map r))
-    (sym file) put) in
-    let here : mapped (record f.0.file.here.map {
-      references = replaced
-          (with_handle handle f.0.reference.here) f.0.reference;
-    }) f.0.file.here
-    ≡ view y =
-    ap (λ (m : Map). mapped m f.0.file.here) (sym inside) ∙ ap (mapped new) file ∙ sym seen_so in
-    ap (option_map (λ (f : Found). with_reference (with_handle handle f.reference.here) f)) f.1
+    let here : change f.0.reference f.0.file.here ≡ view y =
+    ap (change f.0.reference) file ∙ sym (each f.0.reference
+    (subst (λ (g : OpenFile). Stands Reference at.reference g.map.references f.0.reference) file seen.reference)) in
+    ap (option_map (λ (f : Found). replaced (change f.reference f.file.here) f.file)) f.1
     ∙ ap (λ (g : OpenFile). Some (replaced g f.0.file)) here
     ∙ ap Some (sym (stands_set at.file (map view xs) f.0.file (view y) seen.file) ∙ sym (map_set view xs at.file y))
+
+-- the open files where the reference in a place is another one, by the map of its file
+pub reference_put : {X : Type 0} (view : X → OpenFile) (xs : List X) (at : Spot) (x y : X)
+    (put : Map → OpenFile → OpenFile) (change : Reference → Reference) (new : Map) → x ≡ get_or xs at.file x
+    → is_some (found_at at (map view xs)) ≡ true
+    → IfSome (slice_get (view x).map.references at.reference)
+    (λ r. new ≡ listed (slice_set (view x).map.references at.reference (change r)) (view x).map)
+    → view y ≡ put new (view x)
+    → option_map (λ (f : Found). replaced
+    (put (listed (replaced (change f.reference.here) f.reference) f.file.here.map) f.file.here) f.file)
+    (found_at at (map view xs))
+    ≡ Some (map view (slice_set xs at.file y))
+reference_put view xs at x y put change new is e set seen_so =
+    changed_file view xs at x y
+    (λ s g. put (listed (replaced (change s.here) s) g.map) g) is e (λ s stands.
+    let so : new ≡ listed (slice_set (view x).map.references at.reference (change s.here)) (view x).map =
+    subst (λ (o : Option Reference). IfSome o (λ r. new
+    ≡ listed (slice_set (view x).map.references at.reference (change r)) (view x).map))
+    (stands_get at.reference (view x).map.references s stands) set in
+    seen_so ∙ ap (λ (m : Map). put m (view x)) (so ∙ ap (λ l. listed l (view x).map)
+    (stands_set at.reference (view x).map.references s (change s.here) stands)))
+
+-- the open files without the reference in a place
+pub reference_removed : {X : Type 0} (view : X → OpenFile) (xs : List X) (at : Spot) (x y : X)
+    (put : Map → OpenFile → OpenFile) (new : Map) → x ≡ get_or xs at.file x
+    → is_some (found_at at (map view xs)) ≡ true
+    → new ≡ listed (remove (view x).map.references at.reference) (view x).map
+    → view y ≡ put new (view x)
+    → option_map (λ (f : Found). replaced
+    (put (listed (removed f.reference) f.file.here.map) f.file.here) f.file) (found_at at (map view xs))
+    ≡ Some (map view (slice_set xs at.file y))
+reference_removed view xs at x y put new is e without seen_so =
+    changed_file view xs at x y (λ s g. put (listed (removed s) g.map) g) is e (λ s stands.
+    seen_so ∙ ap (λ (m : Map). put m (view x)) (without ∙ ap (λ l. listed l (view x).map)
+    (stands_removed at.reference (view x).map.references s stands)))
 
 -- a list around an item gives it by its index
 index_replaced : {A : Type 0} (before : List A) (x : A) (after : List A)

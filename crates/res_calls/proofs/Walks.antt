@@ -4,3 +4,4 @@ pub mod Serving
 pub mod Letting
 pub mod Place
 pub mod Laws
+pub mod Forks

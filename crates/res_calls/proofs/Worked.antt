@@ -1,3 +1,4 @@
 mod Lines
 mod SearchRows
 mod LoadRows
+mod ChangeRows

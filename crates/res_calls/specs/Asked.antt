@@ -5,11 +5,14 @@ use Rattle.heap_calls.specs.Asked.{told_as}
 use Rattle.res_calls.specs.Fetch.{Managers, Reads, Answer, Fetched}
 use Rattle.res_calls.specs.Rows as rows
 use Rattle.res_calls.specs.Rows.{noting}
+use Rattle.res_calls.specs.Changing as changing
 
 -- a call of the Resource Manager's table, with the number that each of its names is bound to, if it is bound
 pub data ResourceAsked : Type 0 where
   OpenResFile : (name : List ℕ) → ResourceAsked
+  CreateResFile : (name : List ℕ) → ResourceAsked
   CloseResFile : (number : ℕ) → ResourceAsked
+  UpdateResFile : (number : ℕ) → ResourceAsked
   UseResFile : (number : ℕ) → ResourceAsked
   CurResFile : ResourceAsked
   HomeResFile : (handle : Option ℕ) → ResourceAsked
@@ -24,8 +27,14 @@ pub data ResourceAsked : Type 0 where
   LoadResource : (handle : Option ℕ) → ResourceAsked
   ReleaseResource : (handle : Option ℕ) → ResourceAsked
   DetachResource : (handle : Option ℕ) → ResourceAsked
+  AddResource : (handle : Option ℕ) (kind : ℕ) (id : ℤ) (name : List ℕ) → ResourceAsked
+  RemoveResource : (handle : Option ℕ) → ResourceAsked
+  ChangedResource : (handle : Option ℕ) → ResourceAsked
+  WriteResource : (handle : Option ℕ) → ResourceAsked
   GetResInfo : (handle : Option ℕ) → ResourceAsked
+  SetResInfo : (handle : Option ℕ) (id : ℤ) (name : List ℕ) → ResourceAsked
   GetResAttrs : (handle : Option ℕ) → ResourceAsked
+  SetResAttrs : (handle : Option ℕ) (attrs : ℕ) → ResourceAsked
   GetResourceSizeOnDisk : (handle : Option ℕ) → ResourceAsked
   SetResLoad : (on : Bool) → ResourceAsked
   ResError : ResourceAsked
@@ -51,7 +60,9 @@ tell_info i = tells.Info i.id i.kind i.name
 -- one try of a call
 abbrev pub served : ResourceAsked → Managers → Served
 served (OpenResFile name) s = telling Number (noting (rows.open_res_file name) s)
+served (CreateResFile name) s = telling (λ _. Done) (noting (changing.create_res_file name) s)
 served (CloseResFile number) s = telling (λ _. Done) (noting (rows.close_res_file number) s)
+served (UpdateResFile number) s = telling (λ _. Done) (noting (rows.update_res_file number) s)
 served (UseResFile number) s = telling (λ _. Done) (noting (rows.use_res_file number) s)
 served CurResFile s = telling Number (noting rows.cur_res_file s)
 served (HomeResFile handle) s = telling Number (noting (rows.home_res_file handle) s)
@@ -66,8 +77,14 @@ served (GetOneIndResource kind index) s = telling tell_fetched (noting (rows.get
 served (LoadResource handle) s = telling tell_fetched (noting (rows.load_resource handle) s)
 served (ReleaseResource handle) s = telling (λ _. Done) (noting (rows.release_resource handle) s)
 served (DetachResource handle) s = telling (λ _. Done) (noting (rows.detach_resource handle) s)
+served (AddResource handle kind id name) s = telling (λ _. Done) (noting (changing.add_resource handle kind id name) s)
+served (RemoveResource handle) s = telling (λ _. Done) (noting (changing.remove_resource handle) s)
+served (ChangedResource handle) s = telling (λ _. Done) (noting (changing.changed_resource handle) s)
+served (WriteResource handle) s = telling (λ _. Done) (noting (changing.write_resource handle) s)
 served (GetResInfo handle) s = telling tell_info (noting (rows.get_res_info handle) s)
+served (SetResInfo handle id name) s = telling (λ _. Done) (noting (changing.set_res_info handle id name) s)
 served (GetResAttrs handle) s = telling Number (noting (rows.get_res_attrs handle) s)
+served (SetResAttrs handle attrs) s = telling (λ _. Done) (noting (changing.set_res_attrs handle attrs) s)
 served (GetResourceSizeOnDisk handle) s = telling Number (noting (rows.get_resource_size_on_disk handle) s)
 served (SetResLoad on) s = telling (λ _. Done) (noting (rows.set_res_load on) s)
 served ResError s = record { told = Code s.resources.error; reads = []; reading = None; after = s }
@@ -78,7 +95,13 @@ named (HomeResFile handle) = handle
 named (LoadResource handle) = handle
 named (ReleaseResource handle) = handle
 named (DetachResource handle) = handle
+named (AddResource handle kind id name) = handle
+named (RemoveResource handle) = handle
+named (ChangedResource handle) = handle
+named (WriteResource handle) = handle
 named (GetResInfo handle) = handle
+named (SetResInfo handle id name) = handle
 named (GetResAttrs handle) = handle
+named (SetResAttrs handle attrs) = handle
 named (GetResourceSizeOnDisk handle) = handle
 named asked = None

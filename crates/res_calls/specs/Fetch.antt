@@ -1,11 +1,12 @@
 use Rattle.std.specs.Prelude.{ℕ, ◌&&◌, ◌==◌, Bool, not, Option, Some, None, Result, Ok, Err, List, [], ◌∷◌, ◌++◌}
 use Rattle.std.specs.Prelude.{if◌then◌else◌}
 use Rattle.mac_words.specs.declared.code.OsErr.{OsErr}
+use Rattle.mac_words.specs.Attributes.{has_bit}
 use Rattle.mac_words.specs.declared.attributes.TheConstants.Attrs.{PURGEABLE, LOCKED}
 use Rattle.block_store.specs.declared.flags.Flags.{Flags}
 use Rattle.heap_calls.specs.State.{Resource, Memory}
 use Rattle.heap_calls.specs.Inside.{new_inside, new_emptied_inside, refill_inside, has_block, resource_role}
-use Rattle.res_map.specs.Map.{Reference, is_preload, has_bit}
+use Rattle.res_map.specs.Map.{Reference, is_preload}
 use Rattle.res_calls.specs.Files.{Resources, OpenFile, Found, holding}
 
 -- A resource is fetched: its reference gets a handle, and its datum is read into that.

@@ -1,10 +1,16 @@
 pub mod Files
 pub mod Fetch
+pub mod Update
+pub mod Updating
 pub mod Rows
+pub mod Changing
+pub mod Sound
 pub mod Asked
 pub mod View
 pub mod Given
 pub mod Disposing
+pub mod Writing
+pub mod Forks
 pub mod Places
 pub mod Owning
 pub mod Preloading

@@ -1,23 +1,30 @@
-use Rattle.std.specs.Prelude.{◌≡◌, ℕ, zero, suc, Bool, true, Option, Some, None, Result, Ok, Err, List, [], ◌∷◌, map}
-use Rattle.std.specs.Prelude.{option_map, nat_le, ◌==◌, if◌then◌else◌}
+use Rattle.std.specs.Prelude.{◌≡◌, ℕ, ℤ, zero, suc, Bool, true, Option, Some, None, Result, Ok, Err, List, [], ◌∷◌}
+use Rattle.std.specs.Prelude.{map, option_map, nat_le, not, ◌&&◌, ◌||◌, ◌==◌, if◌then◌else◌}
 use Rattle.byteorder.specs.Endian.{big_number}
 use Rattle.mac_words.specs.declared.code.OsErr.{OsErr}
 use Rattle.mac_words.specs.declared.code.TheConstants.OsErr.{NO_ERR, LOCKED, RES_ATTR}
-use Rattle.heap_calls.specs.State.{Memory}
-use Rattle.heap_calls.specs.Inside.{new_inside, new_emptied_inside, resource_role}
+use Rattle.mac_words.specs.declared.code.TheConstants.OsErr.{WRITE_PERMISSION, ADD_RES_FAILED, REMOVE_RES_FAILED}
+use Rattle.mac_words.specs.Attributes.{set}
+use Rattle.heap_calls.specs.State.{Memory, Role}
+use Rattle.heap_calls.specs.Purging.{is_resource as is_owner}
+use Rattle.heap_calls.specs.Inside.{new_inside, new_emptied_inside, resource_role, has_block}
 use Rattle.heap_calls.specs.declared.refusal.Refusal.{Refusal}
 use Rattle.heap_calls.specs.declared.refusal.Refusal.TheVariants.{Code, HostMemory}
-use Rattle.res_map.specs.Split.{Split, behind, place}
-use Rattle.res_map.specs.Map.{Reference, is_resource, is_named, has_handle, is_changed}
+use Rattle.res_map.specs.Split.{Split, behind, replaced, place}
+use Rattle.res_map.specs.Map.{Reference, is_resource, is_named, has_handle, is_changed, is_protected, with_attrs}
+use Rattle.res_map.specs.Map.{renamed, new_reference}
 use Rattle.res_calls.specs.Files.{OpenFile, Resources, Found, find}
-use Rattle.res_calls.specs.Fetch.{Managers, Answer, done, refused, flags_of}
+use Rattle.res_calls.specs.Fetch.{Managers, Answer, done, refused, flags_of, is_system}
 use Rattle.res_calls.specs.Fetch as fetch
-use Rattle.res_calls.specs.Rows.{on_found, reference_in, bars, released_at, detached_at}
+use Rattle.res_calls.specs.Rows.{on_found, reference_in, bars, released_at, detached_at, with_resources, on_file}
+use Rattle.res_calls.specs.Update.{bytes_held}
+use Rattle.res_calls.specs.Changing.{touched, marked, with_changed, stored_if, added_to, removed_from}
 use Rattle.res_calls.specs.Rows as rows
 use Rattle.fork_format.specs.declared.content.RefName.{RefName}
 use Rattle.res_calls.specs.declared.info.Info.{Info}
 use Rattle.res_calls.specs.declared.files.OpenFile.{OpenFile as StoredOpenFile}
 use Rattle.res_calls.specs.View.{view_open}
+use Rattle.res_calls.specs.declared.adding.NewReference.{NewReference}
 use Rattle.res_calls.specs.declared.find.Spot.{Spot}
 use Rattle.res_calls.specs.declared.find.Within.{Within}
 use Rattle.res_calls.specs.declared.find.Within.TheVariants as within
@@ -109,3 +116,44 @@ release_found handle s at = if bars handle s.memory then refused LOCKED s
 abbrev pub detach_found : Option ℕ → Managers → Found → Answer (Unit {0})
 detach_found handle s at = if is_changed at.reference.here then refused RES_ATTR s
     else done tt (detached_at at handle s)
+
+-- the open files where one of them is touched and has these references
+abbrev pub touched_files : Split OpenFile → List Reference → List OpenFile
+touched_files at references =
+    replaced (record at.here { map = record at.here.map { references = references }; touched = true }) at
+
+-- what a call answers on a resource that was found, where it may be changed
+abbrev pub if_changeable : {T : Type 0} → (Found → Answer T) → Managers → Found → Answer T
+if_changeable answer s at = if is_system at.file.here then refused WRITE_PERMISSION s
+    else if is_protected at.reference.here then refused RES_ATTR s else answer at
+
+-- a resource that was found is changed; it is written; it gets another ID and name, other attributes; it is removed
+abbrev pub change_found : Managers → Found → Answer (Unit {0})
+change_found s at = if_changeable (λ at.
+    done tt (with_resources (touched at.file (replaced (marked at.reference.here) at.reference) s.resources) s)) s at
+
+abbrev pub write_found : Option ℕ → Managers → Found → Answer (Unit {0})
+write_found handle s at = if is_changed at.reference.here && not (is_protected at.reference.here)
+    then done tt (stored_if (bytes_held handle s.memory.heap) at s) else done tt s
+
+abbrev pub rename_found : ℤ → List ℕ → Managers → Found → Answer (Unit {0})
+rename_found id text s at = if_changeable (λ at. done tt (with_changed (renamed id text at.reference.here) at s)) s at
+
+abbrev pub set_found : ℕ → Managers → Found → Answer (Unit {0})
+set_found attrs s at =
+    done tt (with_changed (with_attrs (set attrs at.reference.here.stored.attrs) at.reference.here) at s)
+
+abbrev pub remove_found : ℕ → Managers → Found → Answer (Unit {0})
+remove_found h s at = if is_system at.file.here then refused WRITE_PERMISSION s
+    else if not (at.file.here.number == s.resources.current) || is_protected at.reference.here
+    then refused REMOVE_RES_FAILED s
+    else done tt (removed_from at h s)
+
+-- a reference that is to be added, as it is seen; it is added with its handle, which has this role
+abbrev pub view_new : NewReference → Reference
+view_new new = new_reference (big_number 4 new.ty.0) new.id new.name.now.0.items new.handle
+
+abbrev pub add_found : Role → Reference → ℕ → Managers → Answer (Unit {0})
+add_found role new h s = if is_owner role || not (has_block h s.memory.heap) then refused ADD_RES_FAILED s
+    else if s.resources.current == 0 then refused WRITE_PERMISSION s
+    else on_file s.resources.current s (λ at. done tt (added_to at new h s))

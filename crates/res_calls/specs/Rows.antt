@@ -2,6 +2,7 @@ use Rattle.std.specs.Prelude.{ℕ, ℤ, ◌+◌, Bool, true, false, ◌==◌, na
 use Rattle.std.specs.Prelude.{length, if◌then◌else◌, option_map, unwrap_or, filter_map}
 use Rattle.mac_words.specs.declared.code.OsErr.{OsErr}
 use Rattle.mac_words.specs.declared.code.TheConstants.OsErr.{END_OF_FILE, FILE_NOT_FOUND, LOCKED, MAP_READ, PROFILE}
+use Rattle.mac_words.specs.declared.code.TheConstants.OsErr.{DISK_FULL}
 use Rattle.mac_words.specs.declared.code.TheConstants.OsErr.{RES_ATTR, RES_FILE_NOT_FOUND, RES_NOT_FOUND}
 use Rattle.heap_calls.specs.State.{Memory}
 use Rattle.heap_calls.specs.Answer.{code_of}
@@ -15,8 +16,9 @@ use Rattle.res_map.specs.Map.{split_nth, types}
 use Rattle.res_calls.specs.Files.{File, OpenFile, Resources, Found, find_from_current, find_in_current, find_open, holding}
 use Rattle.res_calls.specs.Files.{file_of, file_named, open_at, current_references, opened, fresh_resources}
 use Rattle.res_calls.specs.Fetch.{Managers, Reads, Answer, done, refused, Fetched, fetch, Loaded, preload}
+use Rattle.res_calls.specs.Update.{update}
 
--- The calls of the Resource Manager that read. More Macintosh Toolbox, chapter 1, "Resource Manager Routines".
+-- The calls of the Resource Manager that open files, read resources and close files. More Macintosh Toolbox, chapter 1, "Resource Manager Routines".
 -- A handle is given as the number that a name is bound to, or none for an unbound name.
 
 -- what a call on a reference answers, or that there is none
@@ -132,14 +134,30 @@ closed at r = record r {
   current = if r.current == at.here.number then first_number at.after else r.current;
 }
 
--- CloseResFile: the System's file stays open
+-- what a call answers after an update of an open file; where its content doesn't fit nothing is changed
+abbrev pub if_updated : {T : Type 0} → Option Resources → Managers → (Resources → Answer T) → Answer T
+if_updated None s answer = refused DISK_FULL s
+if_updated (Some r) s answer = answer r
+
+abbrev pub on_updated : {T : Type 0} → Split OpenFile → Managers → (Resources → Answer T) → Answer T
+on_updated at s answer = if_updated (update s.memory.heap at s.resources) s answer
+
+-- an open file is let go, with all handles of its resources
+abbrev pub closed_file : Split OpenFile → Resources → Managers → Managers
+closed_file at r s = record {
+  memory = all_released (handles_of at.here.map.references) s.memory;
+  resources = closed at r;
+}
+
+-- CloseResFile: the System's file stays open; another is updated first
 abbrev pub close_res_file : ℕ → Managers → Answer (Unit {0})
 close_res_file n s = on_file n s (λ at.
-    if n == 0 then refused PROFILE s
-    else done tt (record {
-      memory = all_released (handles_of at.here.map.references) s.memory;
-      resources = closed at s.resources;
-    }))
+    if n == 0 then refused PROFILE s else on_updated at s (λ r. done tt (closed_file at r s)))
+
+-- UpdateResFile: nothing is done for the System's
+abbrev pub update_res_file : ℕ → Managers → Answer (Unit {0})
+update_res_file n s = on_file n s (λ at.
+    if n == 0 then done tt s else on_updated at s (λ r. done tt (with_resources r s)))
 
 -- UseResFile
 abbrev pub use_res_file : ℕ → Managers → Answer (Unit {0})

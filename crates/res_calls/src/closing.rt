@@ -1,17 +1,25 @@
 //! Open files are closed.
 
-ghost use Rattle.std.specs.Prelude.{◌≡◌, ◌==◌, if◌then◌else◌, ◌≢◌, ◌<◌, ◌+◌, map, length, drop, slice_get, remove, option_to_list, Some, Err};
+ghost use Rattle.std.specs.Prelude.{◌≡◌, ◌==◌, if◌then◌else◌, ◌≢◌, ◌<◌, ◌+◌, map, length, drop, slice_get, remove, option_to_list, Some, Err, OnOk, true};
+ghost use Rattle.fork_format.specs.Canonical.{clear};
+ghost use Rattle.fork_format.specs.Fork.{Spells};
+ghost use Rattle.res_map.specs.Split.{Split};
+ghost use Rattle.res_map.specs.Map.{content};
+ghost use Rattle.res_calls.specs.Files.{OpenFile as OpenFileValue, file_of};
 ghost use Rattle.res_calls.specs.Given.{IsAnswered, managers};
 ghost use Rattle.res_calls.specs.Rows as rows;
 ghost use Rattle.res_calls.specs.Rows.{noting, all_released, handles_of, first_number};
+ghost use Rattle.res_calls.specs.Update.{fork_of, updated_map};
 ghost use Rattle.res_calls.specs.View.{view_open};
 
 use crate::chain::place_numbered;
 use crate::files::{OpenFile, Resources};
+use crate::updating::update_at;
 use block_store::BlockStore;
 use heap_calls::{Heap, Refusal};
 use mac_words::OsErr;
 use res_map::ResFile;
+use std::alloc::Global;
 
 /// A file that is open no more.
 #[derive(Drop)]
@@ -73,34 +81,53 @@ fn current_after(current: u32, closed: u32, older: u32) -> u32
 }
 
 impl Resources {
-    /// `CloseResFile`: closes an open file; all handles of its resources are disposed of, locked ones too. Where it was
-    /// the current file, the one opened before it is. -193 where no such file is open, -30001 for the System's.
+    /// `CloseResFile`: closes an open file, which is updated first; all handles of its resources are disposed of, locked
+    /// ones too. Where it was the current file, the one opened before it is. -193 where no such file is open, -30001 for
+    /// the System's, -34 where its content doesn't fit the format: then it stays open.
     ///
     /// *More Macintosh Toolbox*, chapter 1, "Closing Resource Forks".
     pub fn close_res_file<S: BlockStore>(
         &mut self,
+        alloc: Global,
         heap: &mut Heap<S>,
         number: u32,
     ) -> Result<(), Refusal>
         ensures answer { IsAnswered (λ (u : Unit {0}). u) (noting (rows.close_res_file number)
             (managers self.old heap.old)) result (managers self.new heap.new) }
-        ensures host { result ≢ Err Refusal.HostMemory }
+        ensures kept { result ≡ Err Refusal.HostMemory → self.new ≡ self.old }
+        ensures heap { result ≡ Err Refusal.HostMemory → heap.new ≡ heap.old }
+        ensures read_again { OnOk result ((at : Split OpenFileValue) → number ≢ 0 → file_of number self.old ≡ Some at
+            → at.here.touched ≡ true
+            → Spells (fork_of heap.old.heap at.here) (clear (content (updated_map heap.old.heap at.here.map)))) }
     {
-        let answer = self.close(heap, number);
+        let answer = self.close(alloc, heap, number);
         self.note(answer)
     }
 
     /// Closes an open file.
-    fn close<S: BlockStore>(&mut self, heap: &mut Heap<S>, number: u32) -> Result<(), Refusal>
+    fn close<S: BlockStore>(
+        &mut self,
+        alloc: Global,
+        heap: &mut Heap<S>,
+        number: u32,
+    ) -> Result<(), Refusal>
         ensures answer { IsAnswered (λ (u : Unit {0}). u) (rows.close_res_file number
             (managers self.old heap.old)) result (managers self.new heap.new) }
-        ensures host { result ≢ Err Refusal.HostMemory }
+        ensures kept { result ≡ Err Refusal.HostMemory → self.new ≡ self.old }
+        ensures heap { result ≡ Err Refusal.HostMemory → heap.new ≡ heap.old }
+        ensures read_again { OnOk result ((at : Split OpenFileValue) → number ≢ 0 → file_of number self.old ≡ Some at
+            → at.here.touched ≡ true
+            → Spells (fork_of heap.old.heap at.here) (clear (content (updated_map heap.old.heap at.here.map)))) }
     {
         let Some(at) = place_numbered(&self.chain, number) else {
             return Err(Refusal::Code(OsErr::RES_FILE_NOT_FOUND));
         };
         if number == 0 {
             return Err(Refusal::Code(OsErr::PROFILE));
+        }
+        match update_at(alloc, heap, &mut self.files, &mut self.chain, at) {
+            Ok(()) => {}
+            Err(refusal) => return Err(refusal),
         }
         let removed = take_out(&mut self.chain, at);
         release_all(heap, &removed.file.map);

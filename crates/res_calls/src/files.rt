@@ -48,9 +48,12 @@ pub struct Resources {
 
 impl Model for Resources {
     ghost use Rattle.res_calls.specs.Files.{Resources as ResourcesValue};
+    ghost use Rattle.res_calls.specs.Sound.{Sound};
     ghost use Rattle.res_calls.specs.View.{resources_of};
 
     ghost Value = { ResourcesValue };
 
     ghost view = { λ r. resources_of r.files.items r.chain.items r.current r.next r.loading r.error };
+
+    ghost invariant = { λ r. Sound (resources_of r.files.items r.chain.items r.current r.next r.loading r.error) };
 }

@@ -1,20 +1,23 @@
-//! References are found along the open files.
+//! References are found along the open files, and changed in their places.
 //!
 //! *More Macintosh Toolbox*, chapter 1, "The Resource File Search Path".
 
 ghost use Rattle.std.specs.Prelude.{◌≡◌, ◌<◌, map, length, option_map, is_some, true, Some, IfSome, if◌then◌else◌};
-ghost use Rattle.std.specs.Prelude.{None};
-ghost use Rattle.res_map.specs.Split.{split, place};
-ghost use Rattle.res_map.specs.Map.{with_handle};
+ghost use Rattle.std.specs.Prelude.{None, OnOk, OnErr, slice_get, slice_set, remove};
+ghost use Rattle.mac_words.specs.Attributes.{has_bit};
+ghost use Rattle.res_map.specs.Split.{split, place, replaced, removed};
+ghost use Rattle.res_map.specs.Map.{with_handle, with_attrs, stored_anew, renamed};
 ghost use Rattle.res_map.specs.View.{view_entry};
 ghost use Rattle.res_calls.specs.Files.{Found, OpenFile as FileValue, find, with_reference};
 ghost use Rattle.res_calls.specs.Rows.{resource_of};
 ghost use Rattle.res_calls.specs.Places.{found_at, found_from, spot_of, is_searched, is_wanted};
+ghost use Rattle.res_calls.specs.Places.{touched_files};
 ghost use Rattle.res_calls.specs.View.{view_open};
 
 use crate::files::{OpenFile, Resources};
-use mac_words::OsType;
+use mac_words::{Attrs, Name, OsType};
 use res_map::{Entry, ResFile};
+use std::alloc::{AllocError, Global};
 
 /// Where a reference stands.
 #[derive(Clone, Copy, Debug, PartialEq, Eq)]
@@ -114,6 +117,15 @@ pub(crate) fn number_at(files: &[OpenFile], at: Spot) -> u32
     files[at.file].number
 }
 
+/// Whether the attributes of the reference in a place have a bit, given by its value.
+pub(crate) fn has_bit_at(files: &[OpenFile], at: Spot, bit: u8) -> bool
+    requires { is_some (found_at at (map view_open files.now)) ≡ true }
+    ensures { option_map (λ (f : Found). has_bit bit f.reference.here.stored.attrs)
+        (found_at at (map view_open files.now)) ≡ Some result }
+{
+    entry_at(files, at).stored.attrs.has(bit)
+}
+
 /// Gives the reference in a place a handle, or takes it away.
 #[tactic(auto, using(crate::proofs::Standing::inside_files, crate::proofs::Standing::inside_map))]
 pub(crate) fn set_handle(files: &mut Vec<OpenFile>, at: Spot, handle: Option<usize>)
@@ -122,6 +134,88 @@ pub(crate) fn set_handle(files: &mut Vec<OpenFile>, at: Spot, handle: Option<usi
         (found_at at (map view_open files.old.items)) ≡ Some (map view_open files.new.items) }
 {
     files[at.file].map.set_handle(at.reference, handle);
+}
+
+/// Gives the reference in a place other attributes.
+#[tactic(auto, using(crate::proofs::Standing::inside_files, crate::proofs::Standing::inside_map))]
+pub(crate) fn set_attrs(files: &mut Vec<OpenFile>, at: Spot, attrs: Attrs)
+    requires { is_some (found_at at (map view_open files.old.items)) ≡ true }
+    ensures { option_map (λ (f : Found). with_reference (with_attrs attrs.0 f.reference.here) f)
+        (found_at at (map view_open files.old.items)) ≡ Some (map view_open files.new.items) }
+{
+    files[at.file].map.set_attrs(at.reference, attrs);
+}
+
+/// Stores other bytes of the reference in a place, which is changed no more.
+#[tactic(auto, using(crate::proofs::Standing::inside_files, crate::proofs::Standing::inside_map))]
+pub(crate) fn store(files: &mut Vec<OpenFile>, at: Spot, datum: Vec<u8>)
+    requires { is_some (found_at at (map view_open files.old.items)) ≡ true }
+    ensures { option_map (λ (f : Found). with_reference (stored_anew (Some datum.items) f.reference.here) f)
+        (found_at at (map view_open files.old.items)) ≡ Some (map view_open files.new.items) }
+{
+    files[at.file].map.store(at.reference, datum);
+}
+
+/// Gives the reference in a place another ID, and another name where the text isn't empty.
+#[tactic(auto, using(crate::proofs::Standing::inside_files, crate::proofs::Standing::inside_map))]
+pub(crate) fn rename(
+    files: &mut Vec<OpenFile>,
+    alloc: Global,
+    at: Spot,
+    id: i16,
+    name: &Name,
+) -> Result<(), AllocError>
+    requires { is_some (found_at at (map view_open files.old.items)) ≡ true }
+    ensures renamed { OnOk result (option_map (λ (f : Found). with_reference
+        (renamed id name.now.0.items f.reference.here) f) (found_at at (map view_open files.old.items))
+        ≡ Some (map view_open files.new.items)) }
+    ensures kept { OnErr result (map view_open files.new.items ≡ map view_open files.old.items) }
+{
+    files[at.file].map.rename(alloc, at.reference, id, name)?;
+    Ok(())
+}
+
+/// Gives a reference of an open file other attributes, and touches the file.
+fn mark_in(file: &mut OpenFile, index: usize, attrs: Attrs)
+    requires { index < length file.old.map.references }
+    ensures map { IfSome (slice_get file.old.map.references index) (λ r. file.new.map ≡ record file.old.map {
+      references = slice_set file.old.map.references index (with_attrs attrs.0 r);
+    }) }
+    ensures touched { file.new ≡ record file.old { map = file.new.map; touched = true } }
+{
+    file.map.set_attrs(index, attrs);
+    file.touched = true;
+}
+
+/// Gives the reference in a place other attributes, and touches its file.
+#[tactic(auto, using(crate::proofs::Standing::inside_files, crate::proofs::Standing::inside_map))]
+pub(crate) fn mark(files: &mut Vec<OpenFile>, at: Spot, attrs: Attrs)
+    requires { is_some (found_at at (map view_open files.old.items)) ≡ true }
+    ensures { option_map (λ (f : Found). touched_files f.file
+        (replaced (with_attrs attrs.0 f.reference.here) f.reference))
+        (found_at at (map view_open files.old.items)) ≡ Some (map view_open files.new.items) }
+{
+    mark_in(&mut files[at.file], at.reference, attrs);
+}
+
+/// Takes a reference out of an open file, and touches the file.
+fn remove_in(file: &mut OpenFile, index: usize)
+    requires { index < length file.old.map.references }
+    ensures map { file.new.map ≡ record file.old.map { references = remove file.old.map.references index } }
+    ensures touched { file.new ≡ record file.old { map = file.new.map; touched = true } }
+{
+    file.map.remove(index);
+    file.touched = true;
+}
+
+/// Takes the reference in a place out of its file, and touches that.
+#[tactic(auto, using(crate::proofs::Standing::inside_files, crate::proofs::Standing::inside_map))]
+pub(crate) fn take_out(files: &mut Vec<OpenFile>, at: Spot)
+    requires { is_some (found_at at (map view_open files.old.items)) ≡ true }
+    ensures { option_map (λ (f : Found). touched_files f.file (removed f.reference))
+        (found_at at (map view_open files.old.items)) ≡ Some (map view_open files.new.items) }
+{
+    remove_in(&mut files[at.file], at.reference);
 }
 
 impl Resources {

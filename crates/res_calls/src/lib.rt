@@ -1,8 +1,11 @@
 //! The calls of the Resource Manager, over the heap of an application.
 #![tactic(auto)]
 
+mod adding;
 mod chain;
+mod changing;
 mod closing;
+mod creating;
 mod current;
 mod fetched;
 mod fetching;
@@ -15,12 +18,20 @@ mod laws;
 mod opening;
 mod preloading;
 mod releasing;
+mod renaming;
+mod updating;
 
 pub use fetched::{Fetched, Unread};
 pub use files::{File, Resources};
 pub use info::Info;
-pub use laws::{each_resource_has_its_own_handle, the_first_reference_is_found};
+pub use laws::{
+    a_search_goes_back_in_time, an_update_stores_what_was_changed, an_updated_fork_is_read_again,
+    each_resource_has_its_own_handle, only_an_update_or_a_creation_writes_a_fork,
+    the_current_file_is_open, the_first_reference_is_found, the_open_files_stay_sound,
+};
 
+#[cfg(test)]
+mod tests_changing;
 #[cfg(test)]
 mod tests_fetch;
 #[cfg(test)]

@@ -1,11 +1,11 @@
 //! Files are opened.
 
 ghost use Rattle.std.specs.Prelude.{◌≡◌, ◌<◌, ◌≤◌, ◌⊎◌, ◌∷◌, IsTrue, IsErr, IfOk, OnOk, OnErr, IfSome, map, length};
-ghost use Rattle.std.specs.Prelude.{slice_get, Some, Err, ℕ};
+ghost use Rattle.std.specs.Prelude.{slice_get, Some, Ok, Err, ℕ};
 ghost use Rattle.res_calls.specs.Files.{opened};
 ghost use Rattle.res_calls.specs.Given.{IsAnswered, IsLoadedFirst, managers};
 ghost use Rattle.res_calls.specs.Rows as rows;
-ghost use Rattle.res_calls.specs.Rows.{noting, loaded_if, with_loaded, preloaded};
+ghost use Rattle.res_calls.specs.Rows.{noting, loaded_if, with_loaded, map_in, preloaded};
 ghost use Rattle.res_calls.specs.View.{view_open};
 
 use crate::chain::{place_called, place_of_file};
@@ -162,7 +162,7 @@ impl Resources {
         Ok(self.open_read(alloc, heap, at, read)?)
     }
 
-    /// Opens the file at a place by its map.
+    /// Opens the file at a place by its map, which is that of its fork.
     fn open_read<S: BlockStore>(
         &mut self,
         alloc: Global,
@@ -170,7 +170,9 @@ impl Resources {
         at: usize,
         read: ResFile,
     ) -> Result<u32, AllocError>
-        requires { self.old.next ≤ rows.greatest_number }
+        requires next { self.old.next ≤ rows.greatest_number }
+        requires place { at < length self.old.files }
+        requires read { IfSome (slice_get self.old.files at) (λ f. map_in f.fork ≡ Ok read) }
         ensures answer { IfOk result (λ n. n ≡ self.old.next) }
         ensures after { OnOk result ((rows.open_as (opened self.old.next (Some at) read)
             (managers self.old heap.old)).after ≡ managers self.new heap.new) }

@@ -1,8 +1,6 @@
 //! The calls by which a handle ceases to be a resource's.
 
-ghost use Rattle.std.specs.Prelude.{◌≡◌, ◌≢◌, Err, is_some, true, Some, map, option_map};
-ghost use Rattle.res_map.specs.View.{view_entry};
-ghost use Rattle.res_map.specs.Map.{is_changed};
+ghost use Rattle.std.specs.Prelude.{◌≡◌, ◌≢◌, Err, is_some, true, Some, map};
 ghost use Rattle.res_calls.specs.Files.{Found, Resources as ResourcesValue};
 ghost use Rattle.res_calls.specs.Rows as rows;
 ghost use Rattle.res_calls.specs.Rows.{noting};
@@ -11,21 +9,10 @@ ghost use Rattle.res_calls.specs.Places.{found_at, chained, release_found, detac
 ghost use Rattle.res_calls.specs.View.{view_open};
 
 use crate::files::{OpenFile, Resources};
-use crate::find::{Spot, entry_at, set_handle};
+use crate::find::{Spot, has_bit_at, set_handle};
 use block_store::BlockStore;
 use heap_calls::{Heap, Refusal};
 use mac_words::{Attrs, OsErr};
-
-/// Whether the reference in a place was changed.
-fn is_changed_at(files: &[OpenFile], at: Spot) -> bool
-    requires { is_some (found_at at (map view_open files.now)) ≡ true }
-    ensures { option_map (λ (f : Found). is_changed f.reference.here) (found_at at (map view_open files.now))
-        ≡ Some result }
-{
-    let entry = entry_at(files, at);
-    let Attrs(attrs) = entry.stored.attrs;
-    attrs & Attrs::CHANGED != 0
-}
 
 /// Lets the handle of the reference in a place go, unless it is busy; where the resource was changed nothing is done.
 fn release_at<S: BlockStore>(
@@ -44,7 +31,7 @@ fn release_at<S: BlockStore>(
     if heap.is_busy(number) {
         return Err(Refusal::Code(OsErr::LOCKED));
     }
-    if is_changed_at(files, at) {
+    if has_bit_at(files, at, Attrs::CHANGED) {
         return Ok(());
     }
     heap.release(number);
@@ -66,7 +53,7 @@ fn detach_at<S: BlockStore>(
         result (managers (chained files.new.items r) heap.new) }
     ensures host { result ≢ Err Refusal.HostMemory }
 {
-    if is_changed_at(files, at) {
+    if has_bit_at(files, at, Attrs::CHANGED) {
         return Err(Refusal::Code(OsErr::RES_ATTR));
     }
     heap.set_resource(number, false);

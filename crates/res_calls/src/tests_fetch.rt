@@ -1,14 +1,13 @@
 //! Resources are found along a chain of files, fetched, and let go.
 
-ghost use Rattle.std.specs.Prelude.{◌≤◌, length};
+ghost use Rattle.std.specs.Prelude.{◌<◌, ◌≤◌, length};
 
-use crate::files::{File, OpenFile, Resources};
-use crate::{Fetched, Unread};
+use crate::{Fetched, File, Resources, Unread};
+use arrayvec::ArrayVec;
 use block_store::ListStore;
 use fork_format::{Content, Group, Ref, RefName, read_fork, write_fork};
 use heap_calls::{Heap, Refusal};
-use mac_words::{Attrs, OsErr, OsType};
-use res_map::ResFile;
+use mac_words::{Attrs, FileName, OsErr, OsType};
 use std::alloc::Global;
 use std::process::Abort;
 use std::test::Fail;
@@ -32,8 +31,8 @@ fn resource<'b>(id: i16, name: Option<RefName<'b>>, attrs: u8, datum: &'b [u8]) 
     }
 }
 
-/// The map of a file with these resources of one type.
-fn map_of(alloc: Global, ty: OsType, resources: &[Ref<'static>]) -> Result<ResFile, Fail> {
+/// The fork of these resources of one type.
+fn fork_of(alloc: Global, ty: OsType, resources: &[Ref<'_>]) -> Result<Vec<u8>, Fail> {
     let refs = Vec::from_slice(alloc, resources)?;
     let mut groups = Vec::new(alloc);
     groups.push(Group { ty, refs })?;
@@ -42,55 +41,71 @@ fn map_of(alloc: Global, ty: OsType, resources: &[Ref<'static>]) -> Result<ResFi
         attrs: 0,
         groups,
     };
-    let fork = write_fork(alloc, &content)?;
-    let read = read_fork(alloc, &fork)?;
-    Ok(ResFile::open(alloc, &read)?)
+    Ok(write_fork(alloc, &content)?)
 }
 
-/// An open file.
-fn open(number: u32, map: ResFile) -> OpenFile {
-    OpenFile {
-        number,
-        file: None,
-        map,
-        touched: false,
+/// A file of this fork.
+fn file_of(name: &[u8], fork: Vec<u8>) -> File {
+    let mut letters = ArrayVec::new();
+    for byte in name {
+        let _full = letters.try_push(*byte).is_err();
+    }
+    File {
+        name: FileName(letters),
+        fork,
+        written: false,
     }
 }
 
-/// The resources of these open files, with the first of them current.
-fn resources_of(alloc: Global, chain: Vec<OpenFile>, current: u32) -> Resources {
-    let files: Vec<File> = Vec::new(alloc);
-    Resources {
-        files,
-        chain,
-        current,
-        next: 5,
-        loading: true,
-        error: OsErr::NO_ERR,
+/// The resources of an application with these files, and those of a System's fork.
+fn launched(alloc: Global, files: Vec<File>, system: &[u8]) -> Result<Resources, Fail>
+    requires { 0 < length files.items }
+{
+    let read = read_fork(alloc, system)?;
+    match Resources::new(alloc, files, &read) {
+        Ok(resources) => Ok(resources),
+        Err(_) => Err(Fail::new("the application's fork is not read")),
     }
 }
 
-/// The System's file, two others, and the application's own between them.
-fn chain_of_four(alloc: Global) -> Result<Resources, Fail> {
-    let mut chain = Vec::new(alloc);
-    let top = map_of(alloc, STR, &[resource(5, None, 0, b"t")])?;
-    chain.push(open(4, top))?;
+/// The System's file, the application's own, and two that were opened after it.
+fn chain_of_four(alloc: Global, heap: &mut Heap<ListStore>) -> Result<Resources, Fail> {
+    let own = fork_of(alloc, DATA, &[resource(1, None, 0, b"d")])?;
     let named = resource(5, Some(name_of(b"Menu")), 0, b"m1");
-    let middle = map_of(alloc, STR, &[named, resource(5, None, 0, b"m2")])?;
-    chain.push(open(3, middle))?;
-    let own = map_of(alloc, DATA, &[resource(1, None, 0, b"d")])?;
-    chain.push(open(2, own))?;
-    let system = map_of(alloc, STR, &[resource(5, None, 0, b"s")])?;
-    chain.push(open(0, system))?;
-    Ok(resources_of(alloc, chain, 4))
+    let middle = fork_of(alloc, STR, &[named, resource(5, None, 0, b"m2")])?;
+    let top = fork_of(alloc, STR, &[resource(5, None, 0, b"t")])?;
+    let system = fork_of(alloc, STR, &[resource(5, None, 0, b"s")])?;
+    let mut files = Vec::new(alloc);
+    files.push(file_of(b"App", own))?;
+    files.push(file_of(b"Mid", middle))?;
+    files.push(file_of(b"Top", top))?;
+    let mut resources = launched(alloc, files, &system)?;
+    for name in [b"Mid", b"Top"] {
+        let name = file_of(name, Vec::new(alloc)).name;
+        if resources.open_res_file(alloc, heap, &name).is_err() {
+            return Err(Fail::new("a file that isn't opened"));
+        }
+    }
+    Ok(resources)
 }
 
-/// One file beside an empty System's.
-fn own_file(alloc: Global, resources: &[Ref<'static>]) -> Result<Resources, Fail> {
-    let mut chain = Vec::new(alloc);
-    let own = map_of(alloc, DATA, resources)?;
-    chain.push(open(2, own))?;
-    Ok(resources_of(alloc, chain, 2))
+/// The application's own file beside an empty System's.
+fn own_file(alloc: Global, resources: &[Ref<'_>]) -> Result<Resources, Fail> {
+    let own = fork_of(alloc, DATA, resources)?;
+    let mut files = Vec::new(alloc);
+    files.push(file_of(b"App", own))?;
+    let empty = fork_of_nothing(alloc)?;
+    launched(alloc, files, &empty)
+}
+
+/// The fork of no resources.
+fn fork_of_nothing(alloc: Global) -> Result<Vec<u8>, Fail> {
+    let content = Content {
+        area: [0; 240],
+        attrs: 0,
+        groups: Vec::new(alloc),
+    };
+    Ok(write_fork(alloc, &content)?)
 }
 
 /// A heap over a zone of 4096 bytes.
@@ -126,8 +141,8 @@ fn refused(code: OsErr, reading: Option<usize>) -> Result<Fetched, Unread> {
 #[test]
 fn current_file_and_those_before_it_are_searched(rt: HostRuntime) -> Result<(), Fail> {
     let alloc = rt.alloc();
-    let mut files = chain_of_four(alloc)?;
     let mut heap = wide_heap(alloc)?;
+    let mut files = chain_of_four(alloc, &mut heap)?;
     assert_eq!(rt; files.get_resource(&mut heap, STR, 5), read_as(0, true));
     assert_eq!(rt; bytes_of(&heap, 0), b"t".as_slice());
     assert_eq!(rt; files.use_res_file(3), Ok(()));
@@ -158,8 +173,8 @@ fn current_file_and_those_before_it_are_searched(rt: HostRuntime) -> Result<(), 
 #[test]
 fn systems_file_is_searched_last(rt: HostRuntime) -> Result<(), Fail> {
     let alloc = rt.alloc();
-    let mut files = chain_of_four(alloc)?;
     let mut heap = wide_heap(alloc)?;
+    let mut files = chain_of_four(alloc, &mut heap)?;
     assert_eq!(rt; files.use_res_file(3), Ok(()));
     assert_eq!(rt; files.count1_types(), 1);
     assert_eq!(rt; files.get1_ind_type(1), Ok(STR));

@@ -170,26 +170,26 @@ fn closed_files_get_new_numbers(rt: HostRuntime) -> Result<(), Fail> {
     let mut resources = launched(alloc)?;
     let doc = name_of(b"Doc");
     assert_eq!(rt; resources.open_res_file(alloc, &mut heap, &doc), Ok(3));
-    assert_eq!(rt; resources.close_res_file(&mut heap, 3), Ok(()));
+    assert_eq!(rt; resources.close_res_file(alloc, &mut heap, 3), Ok(()));
     assert_eq!(rt; resources.cur_res_file(), 2);
     assert_eq!(rt; resources.open_res_file(alloc, &mut heap, &doc), Ok(4));
     // Another file is closed: the current one stays.
-    assert_eq!(rt; resources.close_res_file(&mut heap, 2), Ok(()));
+    assert_eq!(rt; resources.close_res_file(alloc, &mut heap, 2), Ok(()));
     assert_eq!(rt; resources.cur_res_file(), 4);
     assert_eq!(rt;
         resources.open_res_file(alloc, &mut heap, &name_of(b"App")),
         Ok(5)
     );
-    assert_eq!(rt; resources.close_res_file(&mut heap, 5), Ok(()));
+    assert_eq!(rt; resources.close_res_file(alloc, &mut heap, 5), Ok(()));
     assert_eq!(rt; resources.cur_res_file(), 4);
-    assert_eq!(rt; resources.close_res_file(&mut heap, 4), Ok(()));
+    assert_eq!(rt; resources.close_res_file(alloc, &mut heap, 4), Ok(()));
     assert_eq!(rt; resources.cur_res_file(), 0);
     assert_eq!(rt;
-        resources.close_res_file(&mut heap, 0),
+        resources.close_res_file(alloc, &mut heap, 0),
         Err(Refusal::Code(OsErr::PROFILE))
     );
     assert_eq!(rt;
-        resources.close_res_file(&mut heap, 4),
+        resources.close_res_file(alloc, &mut heap, 4),
         Err(Refusal::Code(OsErr::RES_FILE_NOT_FOUND))
     );
     Ok(())
@@ -238,7 +238,7 @@ fn closing_lets_go_of_a_locked_handle(rt: HostRuntime) -> Result<(), Fail> {
         resources.get_resource(&mut heap, DATA, 128),
         fetched(0, false)
     );
-    assert_eq!(rt; resources.close_res_file(&mut heap, 3), Ok(()));
+    assert_eq!(rt; resources.close_res_file(alloc, &mut heap, 3), Ok(()));
     assert_eq!(rt;
         heap.get_handle_size(Some(0)),
         Err(Refusal::Code(OsErr::WRONG_ZONE))

@@ -1,4 +1,10 @@
+pub mod Ends
+pub mod TypeLists
+pub mod Order
 pub mod Splitting
 pub mod Steps
 pub mod Types
 mod Short
+pub mod Anew
+pub mod Runs
+pub mod Contents

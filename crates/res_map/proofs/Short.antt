@@ -1,5 +1,5 @@
-use Rattle.std.proofs.Common.{◌≡◌, ◌≤◌, ◌<◌, ◌^◌, ℕ, Bool, true, false, List, [], ◌∷◌, length, map, filter, arith, cond}
-use Rattle.res_map.specs.Map.{Reference, is_of, of_type}
+use Rattle.std.proofs.Common.{◌≤◌, ◌<◌, ◌^◌, ℕ, Bool, true, false, List, [], ◌∷◌, length, map, arith, cond}
+use Rattle.res_map.specs.Map.{is_of, of_type}
 use Rattle.res_map.specs.View.{view_reference}
 use Rattle.res_map.specs.declared.stored.StoredReference.{StoredReference}
 

@@ -1,13 +1,13 @@
 use Rattle.std.proofs.Common.{◌≡◌, ℕ, ◌<◌, Bool, true, false, cond, List, [], ◌∷◌, ◌++◌, length, Option, Some, None}
 use Rattle.std.proofs.Common.{refl, sym, ◌∙◌, ap, arith, suc, zero, map, get_or, IfSome, subst}
-use Rattle.std.specs.Prelude.{option_map, slice_get, slice_set, ◌&&◌, ◌==◌, ◌-◌}
-use Rattle.res_map.specs.Split.{Split, split, behind, replaced, place}
+use Rattle.std.specs.Prelude.{option_map, slice_get, slice_set, remove, ◌&&◌, ◌==◌, ◌-◌}
+use Rattle.res_map.specs.Split.{Split, split, behind, replaced, removed, place}
 use Rattle.std.proofs.lemmas.Option.{slice_get_within}
 use Rattle.res_map.specs.Map.{split_nth}
 
 -- An item of a list in its place, and the same by its index.
 
--- the item at its place; another one put there
+-- the item at its place; another one put there; the list without it
 pub get-replaced : {A : Type 0} (before : List A) (x : A) (after : List A)
     → slice_get (before ++ x ∷ after) (length before) ≡ Some x
 get-replaced [] x after = refl
@@ -17,6 +17,11 @@ pub set-replaced : {A : Type 0} (before : List A) (x y : A) (after : List A)
     → slice_set (before ++ x ∷ after) (length before) y ≡ before ++ y ∷ after
 set-replaced [] x y after = refl
 set-replaced (b ∷ before) x y after = ap (λ l. b ∷ l) (set-replaced before x y after)
+
+pub remove-replaced : {A : Type 0} (before : List A) (x : A) (after : List A)
+    → remove (before ++ x ∷ after) (length before) ≡ before ++ after
+remove-replaced [] x after = refl
+remove-replaced (b ∷ before) x after = ap (λ l. b ∷ l) (remove-replaced before x after)
 
 -- what a split seen with one item more before it comes from
 behind_of : {A : Type 0} (x : A) (o : Option (Split A)) (at : Split A) → option_map (behind x) o ≡ Some at
@@ -89,6 +94,11 @@ pub set-whole : {A : Type 0} (xs : List A) (y : A) (at : Split A) → replaced a
 set-whole xs y at whole =
     ap (λ l. slice_set l (place at) y) (sym whole) ∙ set-replaced at.before at.here y at.after
 
+pub remove-whole : {A : Type 0} (xs : List A) (at : Split A) → replaced at.here at ≡ xs
+    → remove xs (place at) ≡ removed at
+remove-whole xs at whole =
+    ap (λ l. remove l (place at)) (sym whole) ∙ remove-replaced at.before at.here at.after
+
 pub inside-whole : {A : Type 0} (xs : List A) (at : Split A) → replaced at.here at ≡ xs → place at < length xs
 inside-whole xs at whole = slice_get_within xs (place at) at.here (get-whole xs at whole)
 
@@ -138,3 +148,10 @@ set-seen {A = A} view f (z ∷ xs) (suc i) d y inside seen = cases (slice_get (m
         → IfSome o (λ r. view z ∷ map view (slice_set xs i y) ≡ view z ∷ slice_set (map view xs) i (f r))
     cases None h = h
     cases (Some r) h = ap (λ l. view z ∷ l) h
+
+-- the same where the item was read at its index
+pub set-seen_at : {X A : Type 0} (view : X → A) (f : A → A) (xs : List X) (i : ℕ) (x y : X) → i < length xs
+    → x ≡ get_or xs i x → view y ≡ f (view x)
+    → IfSome (slice_get (map view xs) i) (λ r. map view (slice_set xs i y) ≡ slice_set (map view xs) i (f r))
+set-seen_at view f xs i x y inside is seen =
+    set-seen view f xs i x y inside (seen ∙ ap (λ z. f (view z)) is)

@@ -1,6 +1,6 @@
 use Rattle.std.proofs.Common.{◌≡◌, ℕ, Bool, true, false, not, cond, ◌||◌, List, [], ◌∷◌, ◌++◌, length, map, refl}
-use Rattle.std.proofs.Common.{sym, ◌∙◌, ap, Option, Some, None, suc, zero, ◌+◌, ◌<◌, arith, IfSome}
-use Rattle.std.specs.Prelude.{◌==◌, filter, nat_le, slice_get, slice_set}
+use Rattle.std.proofs.Common.{sym, ◌∙◌, ap, suc, ◌+◌, arith}
+use Rattle.std.specs.Prelude.{◌==◌, filter, nat_le}
 use Rattle.std.specs.List.{flat_map, list_all, list_any}
 use Rattle.std.proofs.lemmas.Bool.{and_parts, le-leb}
 use Rattle.fork_format.specs.Content.{Ref, Group, Content, distinct, joined}
@@ -10,8 +10,7 @@ use Rattle.fork_format.specs.Fork.{Spells, group_at, ref_at, type_places, type_l
 use Rattle.fork_format.proofs.Bools.{same_self, and_both}
 use Rattle.fork_format.proofs.Joining.{all_others, left_apart, distinct-distinct}
 use Rattle.fork_format.proofs.Whole.{filter-all}
-use Rattle.res_map.specs.Map.{Reference, types, read_reference, of_groups, with_handle}
-use Rattle.res_map.proofs.Splitting.{get-inside}
+use Rattle.res_map.specs.Map.{Reference, types, read_reference, of_groups}
 
 -- The types of references.
 
@@ -46,25 +45,6 @@ types-groups (g ∷ groups) apart some =
     cases [] h e = cc
     cases (r ∷ refs) h e = types-group g.kind r refs (of_groups groups) ∙ e
 
--- a reference with another handle has its type
-kinds-set : (references : List Reference) (i : ℕ) (r : Reference) (handle : Option ℕ) → slice_get references i ≡ Some r
-    → map (λ (x : Reference). x.kind) (slice_set references i (with_handle handle r))
-    ≡ map (λ (x : Reference). x.kind) references
-kinds-set [] i r handle e = refl
-kinds-set (x ∷ references) zero r handle e =
-    let is : x ≡ r = cc in ap (λ (y : Reference). y.kind ∷ map (λ (z : Reference). z.kind) references) (sym is)
-kinds-set (x ∷ references) (suc i) r handle e = ap (λ l. x.kind ∷ l) (kinds-set references i r handle e)
-
-pub types-set : (references changed : List Reference) (i : ℕ) (handle : Option ℕ) → i < length references
-    → IfSome (slice_get references i) (λ r. changed ≡ slice_set references i (with_handle handle r))
-    → types changed ≡ types references
-types-set references changed i handle inside is = cases (slice_get references i) refl is
-  where
-    cases : (o : Option Reference) → slice_get references i ≡ o
-        → IfSome o (λ r. changed ≡ slice_set references i (with_handle handle r)) → types changed ≡ types references
-    cases None e is = absurd (get-inside references i inside e)
-    cases (Some r) e is = ap types is ∙ ap distinct (kinds-set references i r handle e)
-
 -- The content of a fork: its groups have different types, and none is empty.
 
 -- a number that is among the types of groups is the type of one of them
@@ -90,7 +70,7 @@ kinds-any (g ∷ groups) = and_both
     (kinds-any groups))
 
 -- what all numbers pass, each of them once passes
-distinct-all : (p : ℕ → Bool) (ns : List ℕ) → list_all p ns ≡ true → list_all p (distinct ns) ≡ true
+pub distinct-all : (p : ℕ → Bool) (ns : List ℕ) → list_all p ns ≡ true → list_all p (distinct ns) ≡ true
 distinct-all p [] h = refl
 distinct-all p (n ∷ ns) h =
     let both : (p n ≡ true) × (list_all p ns ≡ true) = and_parts (p n) (list_all p ns) h in

@@ -1,3 +1,5 @@
 pub mod Split
 pub mod Map
+pub mod Runs
 pub mod View
+pub mod Inner

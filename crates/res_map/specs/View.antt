@@ -1,4 +1,5 @@
-use Rattle.std.specs.Prelude.{ℕ, Option, List, option_map}
+use Rattle.std.specs.Prelude.{ℕ, Option, List, Vec, map, option_map}
+use Rattle.std.specs.declared.alloc.Global.{Global}
 use Rattle.byteorder.specs.Endian.{big_number}
 use Rattle.fork_format.specs.View.{view_ref}
 use Rattle.res_map.specs.declared.stored.StoredName.{StoredName}
@@ -24,3 +25,10 @@ view_reference r = record {
 
 abbrev pub view_entry : Entry → Reference
 view_entry e = record { kind = big_number 4 e.ty.0; stored = view_ref e.stored; handle = e.handle }
+
+-- bytes that may be there, and those of many, as values
+abbrev pub view_bytes : Option (Vec ℕ Global) → Option (List ℕ)
+view_bytes bytes = option_map (λ (v : Vec ℕ Global). v.items) bytes
+
+abbrev pub view_all : List (Option (Vec ℕ Global)) → List (Option (List ℕ))
+view_all all = map view_bytes all

@@ -28,7 +28,7 @@ pub fn type_of(kind: u32) -> OsType
 }
 
 /// A name as it is lent.
-fn lent_name<'a>(name: &'a Option<StoredName>) -> Option<RefName<'a>>
+pub fn lent_name<'a>(name: &'a Option<StoredName>) -> Option<RefName<'a>>
     ensures { fork.view_name result ≡ view_name name.now }
 {
     match name {

@@ -3,14 +3,25 @@
 //! *More Macintosh Toolbox*, chapter 1, "The Resource Map".
 #![tactic(auto)]
 
+mod adding;
+mod changing;
 mod entry;
+mod laws;
 mod reading;
 mod res_file;
 mod search;
 mod stored;
+mod storing;
 
 pub use entry::Entry;
+pub use laws::{
+    a_content_that_is_opened_is_told_again, a_map_whose_content_is_opened_is_there_again,
+};
 pub use res_file::ResFile;
 
+#[cfg(test)]
+mod changing_tests;
+#[cfg(test)]
+mod storing_tests;
 #[cfg(test)]
 mod tests;

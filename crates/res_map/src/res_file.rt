@@ -1,23 +1,26 @@
 //! The map of one open file.
 
 ghost use Rattle.std.specs.Prelude.{◌≡◌, ◌<◌, ◌≤◌, ◌^◌, ℕ, IsTrue, Some, length, map, slice_get, slice_set, option_map};
-ghost use Rattle.std.specs.Prelude.{IfOk, IfSome, filter_map};
-ghost use Rattle.std.specs.List.{list_all};
+ghost use Rattle.std.specs.Prelude.{IfOk, IfSome, OnOk, OnErr, filter_map};
+ghost use Rattle.std.specs.List.{list_all, remove};
 ghost use Rattle.byteorder.specs.Endian.{big_number};
 ghost use Rattle.fork_format.specs.Content.{Group as GroupValue};
 ghost use Rattle.fork_format.specs.Canonical.{has_refs, are_distinct};
 ghost use Rattle.fork_format.specs.View.{view};
 ghost use Rattle.res_map.specs.Split.{split, place};
-ghost use Rattle.res_map.specs.Map.{Reference, Map, is_of, is_resource, is_named, has_handle, with_handle, types};
-ghost use Rattle.res_map.specs.Map.{of_type, nth, split_nth, map_of};
+ghost use Rattle.res_map.specs.Map.{Reference, Map, IsOrdered, is_of, is_resource, is_named, has_handle, types};
+ghost use Rattle.res_map.specs.Map.{of_type, nth, split_nth, map_of, with_handle, with_attrs, stored_anew, renamed};
+ghost use Rattle.res_map.specs.Map.{added, new_reference};
 ghost use Rattle.res_map.specs.View.{view_reference, view_entry};
 
+use crate::adding::{new_one, put_in, take_out};
+use crate::changing::{name_of, put_attrs, put_datum, put_handle, put_name};
 use crate::entry::{Entry, entry_of, type_of};
 use crate::reading::{read_groups, read_types};
 use crate::search::{count_of, handles_of, nth_place, place_holding, place_named, place_of};
 use crate::stored::StoredReference;
 use fork_format::{Content, kind_of};
-use mac_words::OsType;
+use mac_words::{Attrs, Name, OsType};
 use std::alloc::{AllocError, Global};
 use std::marker::Model;
 
@@ -29,10 +32,10 @@ use std::marker::Model;
 /// *More Macintosh Toolbox*, chapter 1, "The Resource Map".
 #[derive(Drop)]
 pub struct ResFile {
-    area: [u8; 240],
-    attrs: u16,
-    kinds: Vec<u32>,
-    refs: Vec<StoredReference>,
+    pub(crate) area: [u8; 240],
+    pub(crate) attrs: u16,
+    pub(crate) kinds: Vec<u32>,
+    pub(crate) refs: Vec<StoredReference>,
 }
 
 impl Model for ResFile {
@@ -40,8 +43,8 @@ impl Model for ResFile {
 
     ghost view = { λ f. record { area = f.area; attrs = f.attrs; references = map view_reference f.refs.items } };
 
-    // Each type once, in the order of the first references.
-    ghost invariant = { λ f. f.kinds.items ≡ types (map view_reference f.refs.items) };
+    // Each type once, in the order of the first references; the references of one type stand together.
+    ghost invariant = { λ f. IsOrdered f.kinds.items (map view_reference f.refs.items) };
 }
 
 impl ResFile {
@@ -147,6 +150,73 @@ impl ResFile {
     {
         put_handle(&mut self.refs, index, handle);
     }
+
+    /// Gives a reference other attributes.
+    pub fn set_attrs(&mut self, index: usize, attrs: Attrs)
+        requires { index < length self.old.references }
+        ensures { IfSome (slice_get self.old.references index) (λ r. self.new ≡ record self.old {
+          references = slice_set self.old.references index (with_attrs attrs.0 r);
+        }) }
+    {
+        put_attrs(&mut self.refs, index, attrs);
+    }
+
+    /// Stores other bytes of a resource, which is changed no more.
+    pub fn store(&mut self, index: usize, datum: Vec<u8>)
+        requires { index < length self.old.references }
+        ensures { IfSome (slice_get self.old.references index) (λ r. self.new ≡ record self.old {
+          references = slice_set self.old.references index (stored_anew (Some datum.items) r);
+        }) }
+    {
+        put_datum(&mut self.refs, index, datum);
+    }
+
+    /// Gives a reference another ID, and another name where that isn't empty.
+    pub fn rename(
+        &mut self,
+        alloc: Global,
+        index: usize,
+        id: i16,
+        name: &Name,
+    ) -> Result<(), AllocError>
+        requires { index < length self.old.references }
+        ensures renamed { OnOk result (IfSome (slice_get self.old.references index) (λ r. self.new ≡ record self.old {
+          references = slice_set self.old.references index (renamed id name.now.0.items r);
+        })) }
+        ensures kept { OnErr result (self.new ≡ self.old) }
+    {
+        let own = name_of(alloc, name)?;
+        put_name(&mut self.refs, index, id, name.0.as_slice(), own);
+        Ok(())
+    }
+
+    /// Takes a reference away. A type whose last reference it was is a type of the file no more.
+    pub fn remove(&mut self, index: usize)
+        requires { index < length self.old.references }
+        ensures { self.new ≡ record self.old { references = remove self.old.references index } }
+    {
+        take_out(&mut self.kinds, &mut self.refs, index);
+    }
+
+    /// Adds a reference behind the last one of its type; the first of a type is the last of all. It has a handle, is
+    /// to be written, and nothing is stored of it yet. An empty text gives it no name. Where memory is refused the file
+    /// is as it was.
+    pub fn add(
+        &mut self,
+        alloc: Global,
+        ty: OsType,
+        id: i16,
+        name: &Name,
+        handle: usize,
+    ) -> Result<(), AllocError>
+        ensures added { OnOk result (self.new ≡ record self.old {
+          references = added (new_reference (big_number 4 ty.0) id name.now.0.items handle) self.old.references;
+        }) }
+        ensures kept { OnErr result (self.new ≡ self.old) }
+    {
+        let new = new_one(alloc, kind_of(ty), id, name, handle)?;
+        put_in(&mut self.kinds, &mut self.refs, new)
+    }
 }
 
 /// The n-th of types, from 1.
@@ -160,13 +230,4 @@ fn nth_kind(kinds: &[u32], n: u32) -> Option<OsType>
         None => None,
         Some(kind) => Some(type_of(*kind)),
     }
-}
-
-/// Gives a reference a handle, or takes it away.
-fn put_handle(refs: &mut Vec<StoredReference>, index: usize, handle: Option<usize>)
-    requires { index < length refs.old.items }
-    ensures { IfSome (slice_get (map view_reference refs.old.items) index) (λ r. map view_reference refs.new.items
-        ≡ slice_set (map view_reference refs.old.items) index (with_handle handle r)) }
-{
-    refs[index].rest.handle = handle;
 }

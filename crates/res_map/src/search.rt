@@ -1,9 +1,10 @@
 //! Searches in the references of a file.
 
-ghost use Rattle.std.specs.Prelude.{◌≡◌, map, length, option_map, filter_map, OnOk, IfOk, ℕ};
+ghost use Rattle.std.specs.Prelude.{◌≡◌, ◌≤◌, map, length, option_map, filter_map, OnOk, IfOk, IfSome, ℕ};
 ghost use Rattle.res_map.specs.Split.{split, place};
 ghost use Rattle.res_map.specs.Map.{Reference, is_of, is_resource, same_name, is_named, has_handle, of_type};
 ghost use Rattle.res_map.specs.Map.{split_nth};
+ghost use Rattle.res_map.specs.Inner.{end_of};
 ghost use Rattle.res_map.specs.View.{view_name, view_reference};
 
 use crate::stored::{StoredName, StoredReference};
@@ -118,6 +119,22 @@ pub fn count_of(refs: &[StoredReference], kind: u32) -> usize
         }
     }
     count
+}
+
+/// The place behind the last reference of a type.
+#[tactic(auto, using(crate::proofs::Ends::end_here, crate::proofs::Ends::end_before))]
+pub fn end_of(refs: &[StoredReference], kind: u32) -> Option<usize>
+    ensures place { result ≡ end_of kind (map view_reference refs.now) }
+    ensures inside { IfSome result (λ n. n ≤ length refs.now) }
+{
+    let mut end = refs.len();
+    while end > 0 {
+        if has_type(&refs[end - 1], kind) {
+            return Some(end);
+        }
+        end -= 1;
+    }
+    None
 }
 
 /// The handles that references have, in order.

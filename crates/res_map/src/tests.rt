@@ -9,19 +9,19 @@ use std::alloc::{AllocError, Global};
 use std::process::Abort;
 use std::test::Fail;
 
-const TEXT: OsType = OsType(*b"TEXT");
+pub const TEXT: OsType = OsType(*b"TEXT");
 
-const ICON: OsType = OsType(*b"ICON");
+pub const ICON: OsType = OsType(*b"ICON");
 
-const MENU: OsType = OsType(*b"MENU");
+pub const MENU: OsType = OsType(*b"MENU");
 
-fn name_of(bytes: &[u8]) -> Option<RefName<'_>>
+pub fn name_of(bytes: &[u8]) -> Option<RefName<'_>>
     requires { length bytes.now ≤ 255 }
 {
     Some(RefName { bytes })
 }
 
-fn resource<'b>(id: i16, name: Option<RefName<'b>>, datum: &'b [u8]) -> Ref<'b> {
+pub fn resource<'b>(id: i16, name: Option<RefName<'b>>, datum: &'b [u8]) -> Ref<'b> {
     Ref {
         id,
         name,
@@ -30,7 +30,7 @@ fn resource<'b>(id: i16, name: Option<RefName<'b>>, datum: &'b [u8]) -> Ref<'b> 
     }
 }
 
-fn content_of(alloc: Global) -> Content<'static> {
+pub fn content_of(alloc: Global) -> Content<'static> {
     Content {
         area: [0; 240],
         attrs: 0,
@@ -54,20 +54,24 @@ fn icons(alloc: Global) -> Result<Group<'static>, AllocError> {
     Ok(Group { ty: ICON, refs })
 }
 
-fn opened(rt: &impl Abort, alloc: Global, content: &Content<'_>) -> Result<ResFile, AllocError> {
+pub fn opened(
+    rt: &impl Abort,
+    alloc: Global,
+    content: &Content<'_>,
+) -> Result<ResFile, AllocError> {
     assert!(rt; fits(content));
     ResFile::open(alloc, content)
 }
 
 /// Three texts, then three icons.
-fn two_types(rt: &impl Abort, alloc: Global) -> Result<ResFile, AllocError> {
+pub fn two_types(rt: &impl Abort, alloc: Global) -> Result<ResFile, AllocError> {
     let mut content = content_of(alloc);
     content.groups.push(texts(alloc)?)?;
     content.groups.push(icons(alloc)?)?;
     opened(rt, alloc, &content)
 }
 
-fn reference_at(rt: &impl Abort, file: &ResFile, index: usize, expected: &Entry<'_>) {
+pub fn reference_at(rt: &impl Abort, file: &ResFile, index: usize, expected: &Entry<'_>) {
     assert!(rt; index < file.len());
     assert!(rt; file.reference(index) == *expected);
 }

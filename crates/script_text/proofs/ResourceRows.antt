@@ -34,6 +34,19 @@ names_and_places : script_of (codes "GetNamedResource h 'a b\"' \"\"\nGet1IndRes
 unfolding script_of read_at with_token word_spelled argument token_at after_blanks
 names_and_places = refl
 
+-- files, types, IDs, names and attributes that are to be changed; a name of no byte
+changes : script_of (codes "CreateResFile \"D\"\nAddResource h 'STR ' -1 \"\"\nSetResInfo h 7 \"a\"\nSetResAttrs h 255")
+    ≡ Ok (record {
+      blocks = [];
+      steps =
+          says 1 word.CreateResFile (Raw (codes "D") ∷ []) ∷
+          says 2 word.AddResource (Letters (codes "h") ∷ Raw (codes "STR ") ∷ Signed (negsuc 0) ∷ Raw [] ∷ []) ∷
+          says 3 word.SetResInfo (Letters (codes "h") ∷ Signed (pos 7) ∷ Raw (codes "a") ∷ []) ∷
+          says 4 word.SetResAttrs (Letters (codes "h") ∷ Count 255 ∷ []) ∷ [];
+    })
+unfolding script_of read_at with_token word_spelled argument token_at after_blanks
+changes = refl
+
 switches : script_of (codes "SetResLoad FALSE\nSetResLoad\tTRUE\n") ≡ Ok (record {
   blocks = [];
   steps = says 1 word.SetResLoad (Flag false ∷ []) ∷ says 2 word.SetResLoad (Flag true ∷ []) ∷ [];
@@ -42,7 +55,7 @@ unfolding script_of read_at with_token word_spelled argument token_at after_blan
 switches = refl
 
 -- types of three bytes, of five, with more behind the quote, and of seven digits; IDs out of range, of six digits and
--- of none; a file without a name, and in no quotes; a switch in lower case
+-- of none; a file without a name, and in no quotes; a switch in lower case; no name; an attribute byte of 256
 faulty : (script_of (codes "Count1Resources 'STR'") ≡ Err (1, BadArgument))
     × (script_of (codes "Count1Resources 'STR#1'") ≡ Err (1, BadArgument))
     × (script_of (codes "Count1Resources 'STR 'x") ≡ Err (1, BadArgument))
@@ -54,8 +67,10 @@ faulty : (script_of (codes "Count1Resources 'STR'") ≡ Err (1, BadArgument))
     × (script_of (codes "OpenResFile \"\"") ≡ Err (1, BadArgument))
     × (script_of (codes "OpenResFile Doc") ≡ Err (1, BadArgument))
     × (script_of (codes "SetResLoad true") ≡ Err (1, BadArgument))
+    × (script_of (codes "AddResource h 'STR ' 1") ≡ Err (1, BadArgument))
+    × (script_of (codes "SetResAttrs h 256") ≡ Err (1, BadArgument))
 unfolding script_of read_at with_token word_spelled argument token_at after_blanks
-faulty = (refl, refl, refl, refl, refl, refl, refl, refl, refl, refl, refl)
+faulty = (refl, refl, refl, refl, refl, refl, refl, refl, refl, refl, refl, refl, refl)
 
 -- a grow-zone script may release a resource, and get none
 released : script_of (codes "grow g\nReleaseResource h\nend") ≡ Ok (record {
@@ -68,6 +83,10 @@ released = refl
 not_got : script_of (codes "grow g\nGetResource h 'STR ' 1\nend") ≡ Err (2, NotAllowed)
 unfolding script_of read_at with_token word_spelled argument token_at after_blanks
 not_got = refl
+
+not_added : script_of (codes "grow g\nAddResource h 'STR ' 1 \"\"\nend") ≡ Err (2, NotAllowed)
+unfolding script_of read_at with_token word_spelled argument token_at after_blanks
+not_added = refl
 
 -- a type, and an ID with its type and name
 told : (reply_line 3 word.Get1IndType (pos 0) (Bytes (codes "STR ") ∷ []) ≡ codes "3 Get1IndType 0 $53545220\n")

@@ -65,3 +65,16 @@ pub fn three<A: Argument + Drop, B: Argument + Drop, C: Argument + Drop>(
     let (b, c) = two(alloc, rest)?;
     Ok((a, b, c))
 }
+
+/// Four arguments, and the text is at its end.
+pub fn four<A: Argument + Drop, B: Argument + Drop, C: Argument + Drop, D: Argument + Drop>(
+    alloc: Global,
+    text: &[u8],
+) -> Result<(A, B, C, D), FaultKind>
+    ensures { Gives (λ x. A.seen x.0 ∷ B.seen x.1 ∷ C.seen x.2 ∷ D.seen x.3 ∷ []) result
+        (arguments (A.kind ∷ B.kind ∷ C.kind ∷ D.kind ∷ []) text.now) }
+{
+    let (a, rest) = first(alloc, text)?;
+    let (b, c, d) = three(alloc, rest)?;
+    Ok((a, b, c, d))
+}

@@ -34,9 +34,11 @@ fn name<R: Abort>(rt: &R, letters: &[u8]) -> Name {
 #[test]
 fn reads_each_call(rt: HostRuntime) -> Result<(), Fail> {
     let alloc = rt.alloc();
-    let cases: [(&[u8], Word); 21] = [
+    let cases: [(&[u8], Word); 29] = [
         (b"OpenResFile \"Doc\"", Word::OpenResFile),
+        (b"CreateResFile \"Doc\"", Word::CreateResFile),
         (b"CloseResFile 3", Word::CloseResFile),
+        (b"UpdateResFile 3", Word::UpdateResFile),
         (b"UseResFile 2147483647", Word::UseResFile),
         (b"CurResFile", Word::CurResFile),
         (b"HomeResFile h", Word::HomeResFile),
@@ -54,8 +56,14 @@ fn reads_each_call(rt: HostRuntime) -> Result<(), Fail> {
         (b"LoadResource h", Word::LoadResource),
         (b"ReleaseResource h", Word::ReleaseResource),
         (b"DetachResource h", Word::DetachResource),
+        (b"AddResource h 'STR ' 128 \"Note\"", Word::AddResource),
+        (b"RemoveResource h", Word::RemoveResource),
+        (b"ChangedResource h", Word::ChangedResource),
+        (b"WriteResource h", Word::WriteResource),
         (b"GetResInfo h", Word::GetResInfo),
+        (b"SetResInfo h 128 \"Note\"", Word::SetResInfo),
         (b"GetResAttrs h", Word::GetResAttrs),
+        (b"SetResAttrs h 255", Word::SetResAttrs),
         (b"GetResourceSizeOnDisk h", Word::GetResourceSizeOnDisk),
         (b"SetResLoad TRUE", Word::SetResLoad),
         (b"ResError", Word::ResError),
@@ -127,6 +135,40 @@ fn reads_files_names_and_switches(rt: HostRuntime) -> Result<(), Fail> {
 }
 
 #[test]
+fn reads_what_is_to_be_changed(rt: HostRuntime) -> Result<(), Fail> {
+    let alloc = rt.alloc();
+    let text = b"CreateResFile \"My Doc\"
+UpdateResFile 7
+AddResource h 'STR#' -128 \"a \"
+SetResInfo _ 32767 $
+SetResAttrs h 255
+";
+    let script = script(&rt, alloc, text);
+    assert_eq!(rt; script.steps().len(), 5);
+    for line in script.steps() {
+        match &line.call {
+            Call::Resource(ResourceCall::CreateResFile(file)) => {
+                assert_eq!(rt; file.0.as_slice(), b"My Doc".as_slice());
+            }
+            Call::Resource(ResourceCall::UpdateResFile(number)) => assert_eq!(rt; *number, 7),
+            Call::Resource(ResourceCall::AddResource(label, ty, id, text)) => {
+                assert_eq!(rt; label.0.as_slice(), b"h".as_slice());
+                assert_eq!(rt; (*ty, *id), (OsType(*b"STR#"), -128));
+                assert_eq!(rt; text.0.as_slice(), b"a ".as_slice());
+            }
+            Call::Resource(ResourceCall::SetResInfo(label, id, text)) => {
+                assert_eq!(rt; label.0.as_slice(), b"_".as_slice());
+                assert_eq!(rt; *id, 32767);
+                assert_eq!(rt; text.0.as_slice(), b"".as_slice());
+            }
+            Call::Resource(ResourceCall::SetResAttrs(_, byte)) => assert_eq!(rt; *byte, 255),
+            _ => assert!(rt; false),
+        }
+    }
+    Ok(())
+}
+
+#[test]
 fn refuses_bad_arguments(rt: HostRuntime) -> Result<(), Fail> {
     let alloc = rt.alloc();
     let cases: [&[u8]; 30] = [
@@ -171,6 +213,45 @@ fn refuses_bad_arguments(rt: HostRuntime) -> Result<(), Fail> {
     Ok(())
 }
 
+#[test]
+fn refuses_bad_arguments_of_what_is_to_be_changed(rt: HostRuntime) -> Result<(), Fail> {
+    let alloc = rt.alloc();
+    let cases: [&[u8]; 28] = [
+        b"CreateResFile",
+        b"CreateResFile \"\"",
+        b"CreateResFile Doc",
+        b"CreateResFile \"Doc\" 1",
+        b"UpdateResFile",
+        b"UpdateResFile -1",
+        b"UpdateResFile 2147483648",
+        b"UpdateResFile 3 4",
+        b"AddResource h 'STR ' 128",
+        b"AddResource h 'STR ' 128 Note",
+        b"AddResource h 'STR ' 128 \"Note\" 0",
+        b"AddResource h 'STR ' 128 \"Note",
+        b"AddResource h 'STR ' 32768 \"Note\"",
+        b"AddResource h 'STR' 128 \"Note\"",
+        b"AddResource 1h 'STR ' 128 \"Note\"",
+        b"AddResource h 128 'STR ' \"Note\"",
+        b"RemoveResource",
+        b"RemoveResource h h",
+        b"ChangedResource 'STR '",
+        b"WriteResource h 0",
+        b"SetResInfo h 128",
+        b"SetResInfo h \"Note\" 128",
+        b"SetResInfo h -32769 \"Note\"",
+        b"SetResInfo h 128 \"Note\" 0",
+        b"SetResAttrs h",
+        b"SetResAttrs h 256",
+        b"SetResAttrs h -1",
+        b"SetResAttrs h $10",
+    ];
+    for text in cases {
+        assert_eq!(rt; fault(alloc, text), (1, 2));
+    }
+    Ok(())
+}
+
 /// A line that ends with so many bytes in quotes.
 fn line_of(alloc: Global, front: &[u8], bytes: usize) -> Result<Vec<u8>, Fail> {
     let mut text = Vec::from_slice(alloc, front)?;
@@ -185,12 +266,19 @@ fn line_of(alloc: Global, front: &[u8], bytes: usize) -> Result<Vec<u8>, Fail> {
 #[test]
 fn reads_files_of_63_and_names_of_255_bytes(rt: HostRuntime) -> Result<(), Fail> {
     let alloc = rt.alloc();
-    let cases: [(&[u8], usize, u8); 5] = [
+    let cases: [(&[u8], usize, u8); 12] = [
         (b"OpenResFile ", 1, 0),
         (b"OpenResFile ", 63, 0),
         (b"OpenResFile ", 64, 2),
         (b"GetNamedResource h 'STR ' ", 255, 0),
         (b"GetNamedResource h 'STR ' ", 256, 2),
+        (b"CreateResFile ", 63, 0),
+        (b"CreateResFile ", 64, 2),
+        (b"AddResource h 'STR ' 128 ", 0, 0),
+        (b"AddResource h 'STR ' 128 ", 255, 0),
+        (b"AddResource h 'STR ' 128 ", 256, 2),
+        (b"SetResInfo h 128 ", 255, 0),
+        (b"SetResInfo h 128 ", 256, 2),
     ];
     for (front, bytes, want) in cases {
         assert_eq!(rt; fault(alloc, &line_of(alloc, front, bytes)?).1, want);
@@ -201,7 +289,7 @@ fn reads_files_of_63_and_names_of_255_bytes(rt: HostRuntime) -> Result<(), Fail>
 #[test]
 fn reads_them_in_grow_zone_scripts(rt: HostRuntime) -> Result<(), Fail> {
     let alloc = rt.alloc();
-    let cases: [(&[u8], (usize, u8)); 7] = [
+    let cases: [(&[u8], (usize, u8)); 16] = [
         (b"grow g\nReleaseResource h\nend", (0, 0)),
         (b"grow g\nReleaseResource\nend", (2, 2)),
         (b"grow g\nReleaseResource 'STR '\nend", (2, 2)),
@@ -209,6 +297,15 @@ fn reads_them_in_grow_zone_scripts(rt: HostRuntime) -> Result<(), Fail> {
         (b"grow g\nGetResource h 'STR\nend", (2, 3)),
         (b"grow g\nDetachResource h\nend", (2, 3)),
         (b"grow g\nResError\nend", (2, 3)),
+        (b"grow g\nCreateResFile \"Doc\"\nend", (2, 3)),
+        (b"grow g\nUpdateResFile 3\nend", (2, 3)),
+        (b"grow g\nAddResource h 'STR ' 128 \"Note\"\nend", (2, 3)),
+        (b"grow g\nRemoveResource h\nend", (2, 3)),
+        (b"grow g\nChangedResource h\nend", (2, 3)),
+        (b"grow g\nWriteResource h\nend", (2, 3)),
+        (b"grow g\nSetResInfo h 128 \"Note\"\nend", (2, 3)),
+        (b"grow g\nSetResAttrs h 0\nend", (2, 3)),
+        (b"grow g\nSetResAttrs h 256\nend", (2, 3)),
     ];
     for (text, want) in cases {
         assert_eq!(rt; fault(alloc, text), want);
@@ -229,6 +326,19 @@ fn writes_types_and_names(rt: HostRuntime) -> Result<(), Fail> {
     write_reply(&mut text, 3, Word::GetResInfo, &noted, None)?;
     write_reply(&mut text, 4, Word::GetResInfo, &unnamed, None)?;
     write_grow_reply(&mut text, 5, Word::ReleaseResource, &refused, None)?;
+    let done = Reply::of(OsErr::NO_ERR);
+    for word in [
+        Word::CreateResFile,
+        Word::UpdateResFile,
+        Word::AddResource,
+        Word::RemoveResource,
+        Word::ChangedResource,
+        Word::WriteResource,
+        Word::SetResInfo,
+    ] {
+        write_reply(&mut text, 6, word, &done, None)?;
+    }
+    write_reply(&mut text, 7, Word::SetResAttrs, &refused, None)?;
     assert_eq!(rt;
         text.as_slice(),
         b"1 Count1Types 0 2
@@ -236,6 +346,14 @@ fn writes_types_and_names(rt: HostRuntime) -> Result<(), Fail> {
 3 GetResInfo 0 -128 $53545220 $4e6f7465
 4 GetResInfo 0 32767 $00ffab27 $
 +5 ReleaseResource -192
+6 CreateResFile 0
+6 UpdateResFile 0
+6 AddResource 0
+6 RemoveResource 0
+6 ChangedResource 0
+6 WriteResource 0
+6 SetResInfo 0
+7 SetResAttrs -192
 "
             .as_slice()
     );

@@ -370,7 +370,7 @@ fn lists_each_call(rt: HostRuntime) -> Result<(), Fail> {
             assert!(rt; line.ends_with(":"));
         }
     }
-    assert_eq!(rt; listed, 62);
+    assert_eq!(rt; listed, 70);
     for line in [
         "  NewHandle h size\n",
         "  HandToHand b a\n",
@@ -380,6 +380,9 @@ fn lists_each_call(rt: HostRuntime) -> Result<(), Fail> {
         "  GetResource h type id\n",
         "  GetNamedResource h type text\n",
         "  Get1IndResource h type n\n",
+        "  AddResource h type id text\n",
+        "  SetResInfo h id text\n",
+        "  SetResAttrs h byte\n",
         "  SetResLoad switch\n  ResError\nWhat an application does by itself:\n",
         "Turns:\n  WaitNextEvent\n  ExitToShell\n",
         "  grow NAME .. end,",

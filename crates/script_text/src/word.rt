@@ -5,7 +5,7 @@ ghost use Rattle.script_text.specs.Call.{spelling, spoken, word_of, may_stand, w
 ghost use Rattle.script_text.specs.Reading.{Gives};
 ghost use Rattle.script_text.specs.declared.word.Word as declared;
 
-use crate::arguments::{none, one, three, two};
+use crate::arguments::{four, none, one, three, two};
 use crate::fault::FaultKind;
 use mac_words::{Call, ControlCall, HeapCall, ResourceCall};
 use std::alloc::Global;
@@ -46,7 +46,9 @@ pub enum Word {
     MemError,
     SetGrowZone,
     OpenResFile,
+    CreateResFile,
     CloseResFile,
+    UpdateResFile,
     UseResFile,
     CurResFile,
     HomeResFile,
@@ -61,8 +63,14 @@ pub enum Word {
     LoadResource,
     ReleaseResource,
     DetachResource,
+    AddResource,
+    RemoveResource,
+    ChangedResource,
+    WriteResource,
     GetResInfo,
+    SetResInfo,
     GetResAttrs,
+    SetResAttrs,
     GetResourceSizeOnDisk,
     SetResLoad,
     ResError,
@@ -120,7 +128,9 @@ macro_rules! calls {
             }
             "The Resource Manager" {
                 OpenResFile = Resource ResourceCall one(file);
+                CreateResFile = Resource ResourceCall one(file);
                 CloseResFile = Resource ResourceCall one(n);
+                UpdateResFile = Resource ResourceCall one(n);
                 UseResFile = Resource ResourceCall one(n);
                 CurResFile = Resource ResourceCall none();
                 HomeResFile = Resource ResourceCall one(h);
@@ -135,8 +145,14 @@ macro_rules! calls {
                 LoadResource = Resource ResourceCall one(h);
                 ReleaseResource = Resource ResourceCall one(h);
                 DetachResource = Resource ResourceCall one(h);
+                AddResource = Resource ResourceCall four(h, type, id, text);
+                RemoveResource = Resource ResourceCall one(h);
+                ChangedResource = Resource ResourceCall one(h);
+                WriteResource = Resource ResourceCall one(h);
                 GetResInfo = Resource ResourceCall one(h);
+                SetResInfo = Resource ResourceCall three(h, id, text);
                 GetResAttrs = Resource ResourceCall one(h);
+                SetResAttrs = Resource ResourceCall two(h, byte);
                 GetResourceSizeOnDisk = Resource ResourceCall one(h);
                 SetResLoad = Resource ResourceCall one(switch);
                 ResError = Resource ResourceCall none();
@@ -190,6 +206,9 @@ macro_rules! arm {
     ($alloc:expr, $text:expr; $word:ident $group:ident $calls:ident three($a:ident, $b:ident, $c:ident)) => {
         { let (a, b, c) = three($alloc, $text)?; Ok(Call::$group($calls::$word(a, b, c))) }
     };
+    ($alloc:expr, $text:expr; $word:ident $group:ident $calls:ident four($a:ident, $b:ident, $c:ident, $d:ident)) => {
+        { let (a, b, c, d) = four($alloc, $text)?; Ok(Call::$group($calls::$word(a, b, c, d))) }
+    };
 }
 
 macro_rules! read_of {
@@ -241,7 +260,7 @@ macro_rules! is_held {
 /// belongs to. Then the lines that make a grow-zone script, and the calls that it may hold.
 pub const CALLS: &str = calls!(listed);
 
-pub(crate) static WORDS: [Word; 60] = calls!(words);
+pub(crate) static WORDS: [Word; 68] = calls!(words);
 
 impl Word {
     /// The word of a call.

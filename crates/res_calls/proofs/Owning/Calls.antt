@@ -1,28 +1,43 @@
-use Rattle.std.proofs.Common.{◌≡◌, ℕ, Bool, true, false, not, ◌==◌, nat_lt, nat_le, List, [], ◌∷◌, ◌++◌, refl, sym}
-use Rattle.std.proofs.Common.{◌∙◌, ap, subst, cond, arith, length, Option, Some, None, Result, Ok, Err}
-use Rattle.std.proofs.lemmas.Bool.{false_from_ne_true}
+use Rattle.std.proofs.Common.{◌≡◌, ℕ, ℤ, Bool, true, false, not, ◌==◌, ◌&&◌, ◌||◌, map, nat_lt, nat_le, List, [], ◌∷◌}
+use Rattle.std.proofs.Common.{◌++◌, refl, sym, ◌∙◌, ap, subst, cond, arith, length, Option, Some, None, Result, Ok}
+use Rattle.std.proofs.Common.{Err}
+use Rattle.std.proofs.lemmas.Bool.{false_from_ne_true, or_parts}
 use Rattle.std.proofs.lemmas.Bool.Decides.{Decides-eqb}
 use Rattle.std.specs.Prelude.{option_to_list}
 use Rattle.mac_words.specs.declared.code.OsErr.{OsErr}
 use Rattle.mac_words.specs.declared.code.TheConstants.OsErr.{END_OF_FILE, LOCKED, MAP_READ, PROFILE, RES_ATTR}
+use Rattle.mac_words.specs.declared.code.TheConstants.OsErr.{ADD_RES_FAILED, REMOVE_RES_FAILED, WRITE_PERMISSION}
+use Rattle.mac_words.specs.declared.code.TheConstants.OsErr.{DISK_FULL, DUPLICATE_FILE}
+use Rattle.mac_words.specs.Attributes.{set}
+use Rattle.heap_calls.specs.Answer.{handle_at}
+use Rattle.heap_calls.specs.Purging.{is_resource}
+use Rattle.heap_calls.specs.Inside.{resource_role, new_inside, new_emptied_inside, refill_inside, has_block, released}
+use Rattle.heap_calls.specs.Inside.{cast, owned_as}
+use Rattle.res_map.specs.Split.{replaced, Split, place}
+use Rattle.res_map.specs.Map.{is_protected, with_attrs, renamed, stored_anew, Reference, Map, map_of, has_handle}
+use Rattle.res_map.specs.Map.{is_handle, is_changed, is_resource as is_wanted, is_named, nth, types}
+use Rattle.res_map.proofs.Splitting.{split-passes, split-whole}
+use Rattle.res_calls.specs.Files.{Resources, File, OpenFile, Found, find, opened, file_of, file_named, open_at}
+use Rattle.res_calls.specs.Files.{current_references, fresh_resources}
+use Rattle.res_calls.specs.Fetch.{is_system, Managers, Answer, done, refused, flags_of, now_filled, now_emptied}
+use Rattle.res_calls.specs.Fetch.{now_refilled, fetch_as}
+use Rattle.res_calls.specs.Rows.{with_resources, closed_file, map_in, open_map, resource_of, open_as, open_fork}
+use Rattle.res_calls.specs.Rows.{open_unless, greatest_number, closed, bars, released_at, detached_at, open_named}
+use Rattle.res_calls.specs.Rows.{told_type, fetched, nth_in, noting, preloaded}
+use Rattle.res_calls.specs.Update.{update, updated_reference, bytes_held}
+use Rattle.res_calls.specs.Changing as changing
+use Rattle.res_calls.specs.Changing.{create_named, most_files, marked, stored_if}
+use Rattle.res_calls.proofs.Keeping.{either-keeps, found-keeps, open-keeps, known-keeps, removable-keeps}
+use Rattle.res_calls.proofs.Keeping.{changeable-keeps, updated-keeps, update-comes}
+use Rattle.res_calls.proofs.Owning.Casts.{known-name, own-role, added-roles}
+use Rattle.res_calls.proofs.Owning.Updates.{with_references, one-alike, updated-handles, one-changed, one-removed}
+use Rattle.res_calls.proofs.Owning.Updates.{one-added}
 use Rattle.fork_format.specs.Fork.{is_fork, content_of}
 use Rattle.heap_calls.specs.State.{Memory, Role}
-use Rattle.heap_calls.specs.Inside.{new_inside, new_emptied_inside, refill_inside, has_block, released, cast, owned_as}
 use Rattle.heap_calls.specs.Owned.{resource_role_at}
 use Rattle.heap_calls.proofs.Steps.Roles.{MakesHandle, filled-makes, emptied-makes, refilled-roles, released-roles}
 use Rattle.heap_calls.proofs.Steps.Roles.{own-roles}
-use Rattle.res_map.specs.Split.{Split, place}
-use Rattle.res_map.specs.Map.{Reference, Map, map_of, has_handle, is_handle, is_changed, is_resource, is_named}
-use Rattle.res_map.specs.Map.{nth, types}
-use Rattle.res_map.proofs.Splitting.{split-whole}
-use Rattle.res_calls.specs.Files.{File, OpenFile, Found, find, opened, file_of}
-use Rattle.res_calls.specs.Files.{file_named, open_at, current_references, fresh_resources}
-use Rattle.res_calls.specs.Fetch.{Managers, Answer, done, refused, flags_of, now_filled, now_emptied}
-use Rattle.res_calls.specs.Fetch.{now_refilled, fetch_as}
 use Rattle.res_calls.specs.Rows as rows
-use Rattle.res_calls.specs.Rows.{map_in, open_map, on_found, on_open, resource_of, open_as, open_fork, open_unless}
-use Rattle.res_calls.specs.Rows.{greatest_number, all_released, handles_of, closed, bars, released_at, detached_at}
-use Rattle.res_calls.specs.Rows.{open_named, told_type, fetched, nth_in, noting, preloaded}
 use Rattle.res_calls.specs.Asked.{ResourceAsked, served}
 use Rattle.res_calls.specs.Asked as asks
 use Rattle.res_calls.specs.Owning.{role_in}
@@ -82,16 +97,11 @@ fetch-owns true at s stands owns (Some k) is = by_block (has_block k s.memory.he
         (refilled-roles k (flags_of at.reference.here) at.reference.here.stored.datum s.memory.heap)
 fetch-owns false at s stands owns (Some k) is = owns
 
--- what is answered of what was found
-found-owns : {T : Type 0} (found : Option Found) (s : Managers) (answer : Found → Answer T) → OneOwner s
-    → ((at : Found) → found ≡ Some at → OneOwner (answer at).after) → OneOwner (on_found found s answer).after
-found-owns None s answer owns each = owns
-found-owns (Some at) s answer owns each = each at refl
-
+-- what was found is fetched
 fetched-owns : (found : Option Found) (s : Managers) → OneOwner s
     → ((at : Found) → found ≡ Some at → Stands s.resources.chain at) → OneOwner (fetched found s).after
 fetched-owns found s owns stands =
-    found-owns found s _ owns
+    found-keeps OneOwner found s _ owns
     (λ at e. fetch-owns s.resources.loading at s (stands at e) owns at.reference.here.handle refl)
 
 searched-owns : (within : OpenFile → Bool) (test : Reference → Bool) (s : Managers) → OneOwner s
@@ -105,10 +115,10 @@ has-some : (k : ℕ) (o : Option ℕ) → is_handle k o ≡ true → o ≡ Some 
 has-some k None e = cc
 has-some k (Some g) e = ap Some ((Decides-eqb g k).0 e)
 
-abbrev Holds : Option ℕ → Managers → Found → Type 0
+abbrev pub Holds : Option ℕ → Managers → Found → Type 0
 Holds handle s at = (k : ℕ) → handle ≡ Some k → Stands s.resources.chain at × (at.reference.here.handle ≡ Some k)
 
-resource-holds : (handle : Option ℕ) (s : Managers) (at : Found) → resource_of handle s.resources ≡ Some at
+pub resource-holds : (handle : Option ℕ) (s : Managers) (at : Found) → resource_of handle s.resources ≡ Some at
     → Stands s.resources.chain at × Holds handle s at
 resource-holds None s at e = cc
 resource-holds (Some k) s at e =
@@ -139,23 +149,19 @@ detached-owns (Some k) s at owns holds = let held = holds k refl in record {
   numbered = owns.numbered;
 }
 
-either-owns : {T : Type 0} (t : Bool) (one other : Answer T) → OneOwner one.after → OneOwner other.after
-    → OneOwner (cond t one other).after
-either-owns true one other first second = first
-either-owns false one other first second = second
-
 release-owns : (handle : Option ℕ) (s : Managers) → OneOwner s → OneOwner (rows.release_resource handle s).after
 release-owns handle s owns =
-    found-owns (resource_of handle s.resources) s _ owns
-    (λ at e. either-owns (bars handle s.memory) (refused LOCKED s) _ owns
-    (either-owns (is_changed at.reference.here) (done tt s) (done tt (released_at at handle s)) owns
-    (released-owns handle s at owns (resource-holds handle s at e).1)))
+    found-keeps OneOwner (resource_of handle s.resources) s _ owns
+    (λ at e. either-keeps OneOwner (bars handle s.memory) (refused LOCKED s) _ (λ busy. owns)
+    (λ free. either-keeps OneOwner (is_changed at.reference.here) (done tt s) (done tt (released_at at handle s))
+    (λ changed. owns) (λ plain. released-owns handle s at owns (resource-holds handle s at e).1)))
 
 detach-owns : (handle : Option ℕ) (s : Managers) → OneOwner s → OneOwner (rows.detach_resource handle s).after
 detach-owns handle s owns =
-    found-owns (resource_of handle s.resources) s _ owns
-    (λ at e. either-owns (is_changed at.reference.here) (refused RES_ATTR s) (done tt (detached_at at handle s)) owns
-    (detached-owns handle s at owns (resource-holds handle s at e).1))
+    found-keeps OneOwner (resource_of handle s.resources) s _ owns
+    (λ at e. either-keeps OneOwner (is_changed at.reference.here) (refused RES_ATTR s)
+    (done tt (detached_at at handle s)) (λ changed. owns)
+    (λ plain. detached-owns handle s at owns (resource-holds handle s at e).1))
 
 -- a fork's map, as its file is opened
 pub map-bare : (fork : List ℕ) (read : Map) → map_in fork ≡ Ok read → Bare read.references
@@ -188,8 +194,8 @@ map-owns i (Ok read) s bare owns = opened-owns i read s (bare read refl) owns
 
 fork-owns : (i : ℕ) (fork : List ℕ) (s : Managers) → OneOwner s → OneOwner (open_fork i fork s).after
 fork-owns i fork s owns =
-    either-owns (nat_lt greatest_number s.resources.next) (refused PROFILE s) _ owns
-    (map-owns i (map_in fork) s (map-bare fork) owns)
+    either-keeps OneOwner (nat_lt greatest_number s.resources.next) (refused PROFILE s) _ (λ last. owns)
+    (λ more. map-owns i (map_in fork) s (map-bare fork) owns)
 
 unless-owns : (at : Split File) (o : Option (Split OpenFile)) (s : Managers) → OneOwner s
     → OneOwner (open_unless at o s).after
@@ -200,24 +206,127 @@ named-owns : (o : Option (Split File)) (s : Managers) → OneOwner s → OneOwne
 named-owns None s owns = owns
 named-owns (Some at) s owns = unless-owns at (open_at (place at) s.resources) s owns
 
--- a call on an open file
-open-owns : {T : Type 0} (o : Option (Split OpenFile)) (s : Managers) (answer : Split OpenFile → Answer T) → OneOwner s
-    → ((at : Split OpenFile) → o ≡ Some at → OneOwner (answer at).after) → OneOwner (on_open o s answer).after
-open-owns None s answer owns each = owns
-open-owns (Some at) s answer owns each = each at refl
+-- an update, by itself and before a file is closed
+updated-owns : (s : Managers) (at : Split OpenFile) (r : Resources) → replaced at.here at ≡ s.resources.chain
+    → OneOwner s → update s.memory.heap at s.resources ≡ Some r → OneOwner (with_resources r s)
+updated-owns s at r whole owns =
+    update-comes (λ q. OneOwner (with_resources q s)) s.memory.heap at s.resources r owns (record {
+      one = one-alike s.resources.chain s.memory.heap at
+          (map (updated_reference s.memory.heap) at.here.map.references) false whole
+          (updated-handles s.memory.heap at.here.map.references) owns.one;
+      numbered = owns.numbered;
+    })
+
+update-owns : (n : ℕ) (s : Managers) → OneOwner s → OneOwner (rows.update_res_file n s).after
+update-owns n s owns =
+    open-keeps OneOwner (file_of n s.resources) s _ owns
+    (λ at e. either-keeps {T = Unit {0}} OneOwner (n == 0) (done tt s) _ (λ system. owns)
+    (λ own. updated-keeps OneOwner at s (λ r. done tt (with_resources r s)) owns
+    (λ r is. updated-owns s at r (split-whole (λ f. f.number == n) s.resources.chain at e) owns is)))
 
 close-owns : (n : ℕ) (s : Managers) → OneOwner s → OneOwner (rows.close_res_file n s).after
 close-owns n s owns =
-    open-owns (file_of n s.resources) s _ owns
-    (λ at e. either-owns {T = Unit {0}} (n == 0) (refused PROFILE s) (done tt (record {
-      memory = all_released (handles_of at.here.map.references) s.memory;
-      resources = closed at s.resources;
-    })) owns
-    (record {
-      one = closed-owned s.resources.chain at s.memory
-          (split-whole (λ f. f.number == n) s.resources.chain at e) owns.one;
+    open-keeps OneOwner (file_of n s.resources) s _ owns
+    (λ at e. either-keeps {T = Unit {0}} OneOwner (n == 0) (refused PROFILE s) _ (λ system. owns)
+    (λ own. updated-keeps OneOwner at s (λ r. done tt (closed_file at r s)) owns
+    (λ r is. let left = closed-owned s.resources.chain at s.memory
+    (split-whole (λ f. f.number == n) s.resources.chain at e) owns.one in
+    update-comes (λ q. OneOwner (closed_file at q s)) s.memory.heap at s.resources r
+    (record { one = left; numbered = owns.numbered }) (record { one = left; numbered = owns.numbered }) is)))
+
+-- a file is made
+create-owns : (name : List ℕ) (o : Option (Split File)) (s : Managers) → OneOwner s
+    → OneOwner (create_named name o s).after
+create-owns name None s owns =
+    either-keeps {T = Unit {0}} OneOwner (nat_le most_files (length s.resources.files)) (refused DISK_FULL s) _
+    (λ full. owns) (λ more. record { one = owns.one; numbered = owns.numbered })
+create-owns name (Some at) s owns =
+    either-keeps {T = Unit {0}} OneOwner (length at.here.fork == 0) _ (refused DUPLICATE_FILE s)
+    (λ empty. record { one = owns.one; numbered = owns.numbered }) (λ some. owns)
+
+-- a resource is added with an application's own handle
+pub own-file : (n : ℕ) (s : Managers) (at : Split OpenFile) → file_of n s.resources ≡ Some at → (n == 0) ≡ false
+    → is_system at.here ≡ false
+own-file n s at e own =
+    ap (λ (m : ℕ). m == 0)
+    ((Decides-eqb at.here.number n).0 (split-passes (λ f. f.number == n) s.resources.chain at e)) ∙ own
+
+add-owns : (handle : Option ℕ) (kind : ℕ) (id : ℤ) (text : List ℕ) (s : Managers) → OneOwner s
+    → OneOwner (changing.add_resource handle kind id text s).after
+add-owns handle kind id text s owns =
+    known-keeps OneOwner (handle_at handle s.memory.heap) s _ owns
+    (λ k is. let known = known-name handle s.memory.heap k is in
+    either-keeps {T = Unit {0}} OneOwner (is_resource k.role || not (has_block k.number s.memory.heap))
+    (refused ADD_RES_FAILED s) _ (λ barred. owns)
+    (λ free. either-keeps {T = Unit {0}} OneOwner (s.resources.current == 0) (refused WRITE_PERMISSION s) _
+    (λ system. owns)
+    (λ own. open-keeps OneOwner (file_of s.resources.current s.resources) s _ owns
+    (λ at e. record {
+      one = one-added s.resources.chain s.memory.heap (cast (owned_as true) k.number s.memory.heap) at kind id text
+          k.number (split-whole (λ f. f.number == s.resources.current) s.resources.chain at e)
+          (ap resource_role (own-file s.resources.current s at e own)) owns.one
+          (own-role s.memory.heap k known.1 (or_parts (is_resource k.role) _ free).0)
+          (added-roles s.memory.heap k known.1);
       numbered = owns.numbered;
-    }))
+    }))))
+
+-- it is removed again
+remove-owns : (handle : Option ℕ) (s : Managers) → OneOwner s → OneOwner (changing.remove_resource handle s).after
+remove-owns handle s owns =
+    known-keeps OneOwner (handle_at handle s.memory.heap) s _ owns
+    (λ k is. removable-keeps {T = Unit {0}} OneOwner (resource_of handle s.resources) s _ owns
+    (λ at e. let held = (resource-holds handle s at e).1 k.number (known-name handle s.memory.heap k is).0 in
+    either-keeps {T = Unit {0}} OneOwner (is_system at.file.here) (refused WRITE_PERMISSION s) _ (λ system. owns)
+    (λ own. either-keeps {T = Unit {0}} OneOwner
+    (not (at.file.here.number == s.resources.current) || is_protected at.reference.here) (refused REMOVE_RES_FAILED s)
+    _ (λ barred. owns)
+    (λ free. record {
+      one = one-removed s.resources.chain s.memory.heap (cast (owned_as false) k.number s.memory.heap) at k.number
+          held.0 held.1 owns.one (own-roles k.number s.memory.heap);
+      numbered = owns.numbered;
+    }))))
+
+-- a reference is changed, and keeps its handle
+changed-owns : (s : Managers) (at : Found) (x : Reference) (t : Bool) → Stands s.resources.chain at
+    → x.handle ≡ at.reference.here.handle → OneOwner s
+    → OneOwner (with_resources (record s.resources {
+      chain = replaced (with_references (replaced x at.reference) t at.file.here) at.file;
+    }) s)
+changed-owns s at x t stands held owns = record {
+  one = one-changed s.resources.chain s.memory.heap at x t stands held owns.one;
+  numbered = owns.numbered;
+}
+
+mark-owns : (handle : Option ℕ) (s : Managers) → OneOwner s → OneOwner (changing.changed_resource handle s).after
+mark-owns handle s owns =
+    changeable-keeps OneOwner handle s _ owns
+    (λ at e own. changed-owns s at (marked at.reference.here) true (resource-holds handle s at e).0 refl owns)
+
+write-owns : (handle : Option ℕ) (s : Managers) → OneOwner s → OneOwner (changing.write_resource handle s).after
+write-owns handle s owns =
+    found-keeps OneOwner (resource_of handle s.resources) s _ owns
+    (λ at e. either-keeps {T = Unit {0}} OneOwner
+    (is_changed at.reference.here && not (is_protected at.reference.here)) _ (done tt s)
+    (λ changed. by_bytes at (resource-holds handle s at e).0 (bytes_held handle s.memory.heap)) (λ plain. owns))
+  where
+    by_bytes : (at : Found) → Stands s.resources.chain at → (o : Option (List ℕ)) → OneOwner (stored_if o at s)
+    by_bytes at stands None = owns
+    by_bytes at stands (Some bytes) = changed-owns s at (stored_anew (Some bytes) at.reference.here)
+        at.file.here.touched stands refl owns
+
+info-owns : (handle : Option ℕ) (id : ℤ) (text : List ℕ) (s : Managers) → OneOwner s
+    → OneOwner (changing.set_res_info handle id text s).after
+info-owns handle id text s owns =
+    changeable-keeps OneOwner handle s _ owns
+    (λ at e own. changed-owns s at (renamed id text at.reference.here) at.file.here.touched
+    (resource-holds handle s at e).0 refl owns)
+
+attrs-owns : (handle : Option ℕ) (attrs : ℕ) (s : Managers) → OneOwner s
+    → OneOwner (changing.set_res_attrs handle attrs s).after
+attrs-owns handle attrs s owns =
+    found-keeps OneOwner (resource_of handle s.resources) s _ owns
+    (λ at e. changed-owns s at (with_attrs (set attrs at.reference.here.stored.attrs) at.reference.here)
+    at.file.here.touched (resource-holds handle s at e).0 refl owns)
 
 told-owns : (kind : Option ℕ) (s : Managers) → OneOwner s → OneOwner (told_type kind s).after
 told-owns None s owns = owns
@@ -232,19 +341,22 @@ noted call s owns = record { one = owns.one; numbered = owns.numbered }
 pub one-owner-served : (a : ResourceAsked) (s : Managers) → OneOwner s → OneOwner (served a s).after
 one-owner-served (asks.OpenResFile name) s owns =
     noted (rows.open_res_file name) s (named-owns (file_named name s.resources) s owns)
+one-owner-served (asks.CreateResFile name) s owns =
+    noted (changing.create_res_file name) s (create-owns name (file_named name s.resources) s owns)
 one-owner-served (asks.CloseResFile n) s owns = noted (rows.close_res_file n) s (close-owns n s owns)
+one-owner-served (asks.UpdateResFile n) s owns = noted (rows.update_res_file n) s (update-owns n s owns)
 one-owner-served (asks.UseResFile n) s owns =
     noted (rows.use_res_file n) s
-    (open-owns (file_of n s.resources) s _ owns (λ at e. record { one = owns.one; numbered = owns.numbered }))
+    (open-keeps OneOwner (file_of n s.resources) s _ owns (λ at e. record { one = owns.one; numbered = owns.numbered }))
 one-owner-served asks.CurResFile s owns = noted rows.cur_res_file s owns
 one-owner-served (asks.HomeResFile handle) s owns =
-    noted (rows.home_res_file handle) s (found-owns (resource_of handle s.resources) s _ owns (λ at e. owns))
+    noted (rows.home_res_file handle) s (found-keeps OneOwner (resource_of handle s.resources) s _ owns (λ at e. owns))
 one-owner-served (asks.GetResource kind id) s owns =
     noted (rows.get_resource kind id) s
-    (searched-owns (λ f. nat_le f.number s.resources.current) (is_resource kind id) s owns)
+    (searched-owns (λ f. nat_le f.number s.resources.current) (is_wanted kind id) s owns)
 one-owner-served (asks.GetOneResource kind id) s owns =
     noted (rows.get_one_resource kind id) s
-    (searched-owns (λ f. f.number == s.resources.current) (is_resource kind id) s owns)
+    (searched-owns (λ f. f.number == s.resources.current) (is_wanted kind id) s owns)
 one-owner-served (asks.GetNamedResource kind name) s owns =
     noted (rows.get_named_resource kind name) s
     (searched-owns (λ f. nat_le f.number s.resources.current) (is_named kind name) s owns)
@@ -261,19 +373,31 @@ one-owner-served (asks.GetOneIndResource kind index) s owns =
     (λ at e. nth-stands kind index (λ f. f.number == s.resources.current) s.resources.chain at e))
 one-owner-served (asks.LoadResource handle) s owns =
     noted (rows.load_resource handle) s
-    (found-owns (resource_of handle s.resources) s _ owns
+    (found-keeps OneOwner (resource_of handle s.resources) s _ owns
     (λ at e. fetch-owns true at s (resource-holds handle s at e).0 owns at.reference.here.handle refl))
 one-owner-served (asks.ReleaseResource handle) s owns =
     noted (rows.release_resource handle) s (release-owns handle s owns)
 one-owner-served (asks.DetachResource handle) s owns =
     noted (rows.detach_resource handle) s (detach-owns handle s owns)
+one-owner-served (asks.AddResource handle kind id name) s owns =
+    noted (changing.add_resource handle kind id name) s (add-owns handle kind id name s owns)
+one-owner-served (asks.RemoveResource handle) s owns =
+    noted (changing.remove_resource handle) s (remove-owns handle s owns)
+one-owner-served (asks.ChangedResource handle) s owns =
+    noted (changing.changed_resource handle) s (mark-owns handle s owns)
+one-owner-served (asks.WriteResource handle) s owns =
+    noted (changing.write_resource handle) s (write-owns handle s owns)
 one-owner-served (asks.GetResInfo handle) s owns =
-    noted (rows.get_res_info handle) s (found-owns (resource_of handle s.resources) s _ owns (λ at e. owns))
+    noted (rows.get_res_info handle) s (found-keeps OneOwner (resource_of handle s.resources) s _ owns (λ at e. owns))
+one-owner-served (asks.SetResInfo handle id name) s owns =
+    noted (changing.set_res_info handle id name) s (info-owns handle id name s owns)
 one-owner-served (asks.GetResAttrs handle) s owns =
-    noted (rows.get_res_attrs handle) s (found-owns (resource_of handle s.resources) s _ owns (λ at e. owns))
+    noted (rows.get_res_attrs handle) s (found-keeps OneOwner (resource_of handle s.resources) s _ owns (λ at e. owns))
+one-owner-served (asks.SetResAttrs handle attrs) s owns =
+    noted (changing.set_res_attrs handle attrs) s (attrs-owns handle attrs s owns)
 one-owner-served (asks.GetResourceSizeOnDisk handle) s owns =
     noted (rows.get_resource_size_on_disk handle) s
-    (found-owns (resource_of handle s.resources) s _ owns (λ at e. owns))
+    (found-keeps OneOwner (resource_of handle s.resources) s _ owns (λ at e. owns))
 one-owner-served (asks.SetResLoad on) s owns =
     noted (rows.set_res_load on) s (record { one = owns.one; numbered = owns.numbered })
 one-owner-served asks.ResError s owns = owns

@@ -24,6 +24,7 @@ use Rattle.heap_calls.proofs.Steps.Place.{steps-busy, steps-code, steps-window}
 use Rattle.res_calls.specs.Fetch.{Managers}
 use Rattle.res_calls.specs.Asked.{ResourceAsked, served}
 use Rattle.res_calls.specs.Disposing.{disposes_of, opens_file}
+use Rattle.res_calls.specs.Writing.{writes}
 use Rattle.res_calls.proofs.Walks.Steps.{steps_of}
 use Rattle.res_calls.proofs.Walks.Going.{Refuses}
 use Rattle.res_calls.proofs.Walks.Serving.{served-serves}
@@ -147,7 +148,7 @@ pub served-no_more : (a : ResourceAsked) (s : Managers) (code : OsErr) → (serv
 served-no_more a s code tells = of-walk (λ m. staying m.heap.zone ≤ staying s.memory.heap.zone) a s
     (no_more-walk (steps_of a s) s.memory code (one-step a s code tells))
 
--- no call changes what is busy, the code that MemError tells, where the heap lies, or the files
+-- no call changes what is busy, the code that MemError tells, or where the heap lies
 pub served-busy : (a : ResourceAsked) (s : Managers) → (served a s).after.memory.log.busy ≡ s.memory.log.busy
 served-busy a s = of-walk (λ m. m.log.busy ≡ s.memory.log.busy) a s (steps-busy (steps_of a s) s.memory)
 
@@ -157,6 +158,7 @@ served-code a s = of-walk (λ m. m.log.code ≡ s.memory.log.code) a s (steps-co
 pub served-window : (a : ResourceAsked) (s : Managers) → (served a s).after.memory.window ≡ s.memory.window
 served-window a s = of-walk (λ m. m.window ≡ s.memory.window) a s (steps-window (steps_of a s) s.memory)
 
-pub served-files : (a : ResourceAsked) (s : Managers)
+-- and one that writes no fork leaves the files
+pub served-files : (a : ResourceAsked) (s : Managers) → writes a ≡ false
     → (served a s).after.resources.files ≡ s.resources.files
-served-files a s = (served-serves a s).files
+served-files a s quiet = (served-serves a s).files quiet

@@ -1,5 +1,6 @@
 use Rattle.std.proofs.Common.{◌≡◌, ◌≤◌, ◌<◌, ◌+◌, ◌^◌, ◌||◌, ◌==◌, nat_lt, ℕ, Bool, true, false, Option, Some, None}
 use Rattle.std.proofs.Common.{List, [], ◌∷◌, refl, sym, ◌∙◌, ap, cond, length}
+use Rattle.std.proofs.Common.{not}
 use Rattle.std.specs.List.{list_any}
 use Rattle.std.proofs.Common.{Result, Ok, Err}
 use Rattle.mac_words.specs.declared.code.OsErr.{OsErr}
@@ -9,17 +10,20 @@ use Rattle.res_calls.proofs.Walks.Steps.{map_steps}
 use Rattle.block_store.specs.Block.{count, is_masters}
 use Rattle.block_store.specs.Rest.{counted}
 use Rattle.res_map.specs.Split.{Split, place}
-use Rattle.res_map.specs.Map.{Reference, is_preload, is_changed, is_handle, has_handle, with_handle}
+use Rattle.res_map.specs.Map.{Reference, is_preload, is_changed, is_protected, is_handle, has_handle, with_handle}
 use Rattle.res_map.specs.Map.{is_resource}
 use Rattle.res_map.specs.Map.{is_named}
 use Rattle.heap_calls.specs.State.{Memory, Resource}
-use Rattle.heap_calls.specs.Inside.{owned_as}
+use Rattle.heap_calls.specs.Answer.{Known, handle_at}
+use Rattle.heap_calls.specs.Purging.{is_resource as is_owned}
+use Rattle.heap_calls.specs.Inside.{owned_as, has_block}
 use Rattle.heap_calls.specs.Path.{Step, NewFilled, Release, Cast, walk, lets_of}
 use Rattle.heap_calls.proofs.Promises.FewSearches.{unlooked}
 use Rattle.heap_calls.proofs.Steps.FewLooks.{step-looks}
-use Rattle.res_calls.specs.Files.{File, OpenFile, Found, find_from_current, find_in_current, file_of}
+use Rattle.res_calls.specs.Files.{File, OpenFile, Resources, Found, find_from_current, find_in_current, file_of}
 use Rattle.res_calls.specs.Files.{file_named, open_at}
-use Rattle.res_calls.specs.Fetch.{Managers, flags_of}
+use Rattle.res_calls.specs.Fetch.{Managers, flags_of, is_system}
+use Rattle.res_calls.specs.Update.{update}
 use Rattle.res_calls.specs.Rows.{resource_of, handles_of, greatest_number, nth_in, bars}
 use Rattle.res_calls.specs.Asked.{ResourceAsked}
 use Rattle.res_calls.specs.Asked as asks
@@ -27,7 +31,7 @@ use Rattle.res_calls.specs.Disposing.{holds, disposes_of, opens_file}
 use Rattle.res_calls.proofs.Walks.Steps.{for_found, for_open, fetch_steps, fetch_steps_as, fetched_steps}
 use Rattle.res_calls.proofs.Walks.Steps.{preload_steps}
 use Rattle.res_calls.proofs.Walks.Steps.{load_steps, fork_steps, unless_steps, open_steps, releases}
-use Rattle.res_calls.proofs.Walks.Steps.{close_steps, on_handle}
+use Rattle.res_calls.proofs.Walks.Steps.{if_done, close_steps, on_handle, for_known, add_steps, remove_steps}
 use Rattle.res_calls.proofs.Walks.Steps.{release_steps, detach_steps, steps_of, new_filled, new_emptied, filled_again}
 
 -- Which handles the steps of a call let go, and how often they look for room.
@@ -97,14 +101,23 @@ releases-lets (x ∷ references) h = by_handle (releases-lets references h) x.ha
     by_handle behind None = behind
     by_handle behind (Some k) = ap (λ (t : Bool). k == h || t) behind
 
-close-lets : (n : ℕ) (o : Option (Split OpenFile)) (h : ℕ) → holds h o ≡ false
-    → lets_of (for_open o (close_steps n)) h ≡ false
-close-lets n None h e = refl
-close-lets n (Some at) h e = by_number (n == 0)
+if_done-lets : (o : Option Resources) (handles : List ℕ) (h : ℕ) → lets_of (releases handles) h ≡ false
+    → lets_of (if_done o (releases handles)) h ≡ false
+if_done-lets None handles h e = refl
+if_done-lets (Some r) handles h e = e
+
+close-lets : (n : ℕ) (s : Managers) (o : Option (Split OpenFile)) (h : ℕ) → holds h o ≡ false
+    → lets_of (for_open o (close_steps n s)) h ≡ false
+close-lets n s None h e = refl
+close-lets n s (Some at) h e = by_number (n == 0)
   where
-    by_number : (t : Bool) → lets_of (cond t [] (releases (handles_of at.here.map.references))) h ≡ false
+    steps : List Step
+    steps = if_done (update s.memory.heap at s.resources) (releases (handles_of at.here.map.references))
+
+    by_number : (t : Bool) → lets_of (cond t [] steps) h ≡ false
     by_number true = refl
-    by_number false = sym (releases-lets at.here.map.references h) ∙ e
+    by_number false = if_done-lets (update s.memory.heap at s.resources) (handles_of at.here.map.references) h
+        (sym (releases-lets at.here.map.references h) ∙ e)
 
 release-lets : (handle : Option ℕ) (s : Managers) (at : Found) (h : ℕ)
     → lets_of (on_handle handle Release) h ≡ false → lets_of (release_steps handle s at) h ≡ false
@@ -127,11 +140,40 @@ detach-lets handle at h = by_change (is_changed at.reference.here)
     by_change true = refl
     by_change false = cast-lets handle h
 
+known-lets : (x : Result Known OsErr) (steps : Known → List Step) (h : ℕ)
+    → ((k : Known) → lets_of (steps k) h ≡ false) → lets_of (for_known x steps) h ≡ false
+known-lets (Err code) steps h each = refl
+known-lets (Ok k) steps h each = each k
+
+one_cast-lets : (o : Option (Split OpenFile)) (resource : Bool) (k h : ℕ)
+    → lets_of (for_open o (λ at. Cast (owned_as resource) k ∷ [])) h ≡ false
+one_cast-lets None resource k h = refl
+one_cast-lets (Some at) resource k h = refl
+
+add-lets : (s : Managers) (k : Known) (h : ℕ) → lets_of (add_steps s k) h ≡ false
+add-lets s k h = by_tests (is_owned k.role || not (has_block k.number s.memory.heap)) (s.resources.current == 0)
+  where
+    by_tests : (bad system : Bool) → lets_of (cond bad [] (cond system []
+        (for_open (file_of s.resources.current s.resources) (λ at. Cast (owned_as true) k.number ∷ [])))) h ≡ false
+    by_tests true system = refl
+    by_tests false true = refl
+    by_tests false false = one_cast-lets (file_of s.resources.current s.resources) true k.number h
+
+remove-lets : (s : Managers) (k : Known) (at : Found) (h : ℕ) → lets_of (remove_steps s k at) h ≡ false
+remove-lets s k at h = by_tests (is_system at.file.here)
+    (not (at.file.here.number == s.resources.current) || is_protected at.reference.here)
+  where
+    by_tests : (system kept : Bool)
+        → lets_of (cond system [] (cond kept [] (Cast (owned_as false) k.number ∷ []))) h ≡ false
+    by_tests true kept = refl
+    by_tests false true = refl
+    by_tests false false = refl
+
 -- a call lets go only handles that it may dispose of
 pub lets-walk : (h : ℕ) (a : ResourceAsked) (s : Managers) → disposes_of h a s ≡ false
     → lets_of (steps_of a s) h ≡ false
 lets-walk h (asks.OpenResFile name) s e = open-lets (file_named name s.resources) s h
-lets-walk h (asks.CloseResFile n) s e = close-lets n (file_of n s.resources) h e
+lets-walk h (asks.CloseResFile n) s e = close-lets n s (file_of n s.resources) h e
 lets-walk h (asks.GetResource kind id) s e =
     fetched-lets (find_from_current (is_resource kind id) s.resources) s h
 lets-walk h (asks.GetOneResource kind id) s e =
@@ -152,6 +194,10 @@ lets-walk h (asks.ReleaseResource (Some k)) s e =
     (λ at. release-lets (Some k) s at h (ap (λ (t : Bool). t || false) e))
 lets-walk h (asks.DetachResource handle) s e =
     found-lets (resource_of handle s.resources) (detach_steps handle) h (λ at. detach-lets handle at h)
+lets-walk h (asks.AddResource handle kind id name) s e =
+    known-lets (handle_at handle s.memory.heap) (add_steps s) h (λ k. add-lets s k h)
+lets-walk h (asks.RemoveResource handle) s e = known-lets (handle_at handle s.memory.heap) _ h
+    (λ k. found-lets (resource_of handle s.resources) (remove_steps s k) h (λ at. remove-lets s k at h))
 lets-walk h asked s e = refl
 
 -- steps look at most once more than there are blocks
@@ -187,13 +233,25 @@ fetched-few : (found : Option Found) (s : Managers) → LookFew (fetched_steps f
 fetched-few found s = found-few found (fetch_steps s.resources.loading) s.memory
     (λ at. fetch-few s.resources.loading at at.reference.here.handle s.memory)
 
-close-few : (n : ℕ) (o : Option (Split OpenFile)) (m : Memory) → LookFew (for_open o (close_steps n)) m
-close-few n None m = none-look m
-close-few n (Some at) m = by_number (n == 0)
+if_done-few : (o : Option Resources) (handles : List ℕ) (m : Memory) → LookFew (if_done o (releases handles)) m
+if_done-few None handles m = none-look m
+if_done-few (Some r) handles m = releases-few handles m
+
+open-few : (o : Option (Split OpenFile)) (steps : Split OpenFile → List Step) (m : Memory)
+    → ((at : Split OpenFile) → LookFew (steps at) m) → LookFew (for_open o steps) m
+open-few None steps m each = none-look m
+open-few (Some at) steps m each = each at
+
+close-few : (n : ℕ) (s : Managers) (at : Split OpenFile) → LookFew (close_steps n s at) s.memory
+close-few n s at = by_number (n == 0)
   where
-    by_number : (t : Bool) → LookFew (cond t [] (releases (handles_of at.here.map.references))) m
-    by_number true = none-look m
-    by_number false = releases-few (handles_of at.here.map.references) m
+    steps : List Step
+    steps = if_done (update s.memory.heap at s.resources) (releases (handles_of at.here.map.references))
+
+    by_number : (t : Bool) → LookFew (cond t [] steps) s.memory
+    by_number true = none-look s.memory
+    by_number false =
+        if_done-few (update s.memory.heap at s.resources) (handles_of at.here.map.references) s.memory
 
 handle-few : (handle : Option ℕ) (step : ℕ → Step) (m : Memory) → LookFew (on_handle handle step) m
 handle-few None step m = none-look m
@@ -214,10 +272,36 @@ detach-few handle at m = by_change (is_changed at.reference.here)
     by_change true = none-look m
     by_change false = handle-few handle (Cast (owned_as false)) m
 
+known-few : (x : Result Known OsErr) (steps : Known → List Step) (m : Memory)
+    → ((k : Known) → LookFew (steps k) m) → LookFew (for_known x steps) m
+known-few (Err code) steps m each = none-look m
+known-few (Ok k) steps m each = each k
+
+add-few : (s : Managers) (k : Known) → LookFew (add_steps s k) s.memory
+add-few s k = by_tests (is_owned k.role || not (has_block k.number s.memory.heap)) (s.resources.current == 0)
+  where
+    by_tests : (bad system : Bool) → LookFew (cond bad [] (cond system []
+        (for_open (file_of s.resources.current s.resources) (λ at. Cast (owned_as true) k.number ∷ [])))) s.memory
+    by_tests true system = none-look s.memory
+    by_tests false true = none-look s.memory
+    by_tests false false = open-few (file_of s.resources.current s.resources) _ s.memory
+        (λ at. step-looks (Cast (owned_as true) k.number) s.memory)
+
+remove-few : (s : Managers) (k : Known) (at : Found) → LookFew (remove_steps s k at) s.memory
+remove-few s k at = by_tests (is_system at.file.here)
+    (not (at.file.here.number == s.resources.current) || is_protected at.reference.here)
+  where
+    by_tests : (system kept : Bool)
+        → LookFew (cond system [] (cond kept [] (Cast (owned_as false) k.number ∷ []))) s.memory
+    by_tests true kept = none-look s.memory
+    by_tests false true = none-look s.memory
+    by_tests false false = step-looks (Cast (owned_as false) k.number) s.memory
+
 -- and so do those of a call that opens no file
 pub looks-walk : (a : ResourceAsked) (s : Managers) → opens_file a ≡ false → LookFew (steps_of a s) s.memory
 looks-walk (asks.OpenResFile name) s e = cc
-looks-walk (asks.CloseResFile n) s e = close-few n (file_of n s.resources) s.memory
+looks-walk (asks.CloseResFile n) s e =
+    open-few (file_of n s.resources) (close_steps n s) s.memory (λ at. close-few n s at)
 looks-walk (asks.GetResource kind id) s e = fetched-few (find_from_current (is_resource kind id) s.resources) s
 looks-walk (asks.GetOneResource kind id) s e = fetched-few (find_in_current (is_resource kind id) s.resources) s
 looks-walk (asks.GetNamedResource kind name) s e = fetched-few (find_from_current (is_named kind name) s.resources) s
@@ -230,4 +314,8 @@ looks-walk (asks.ReleaseResource handle) s e =
     found-few (resource_of handle s.resources) (release_steps handle s) s.memory (λ at. release-few handle s at)
 looks-walk (asks.DetachResource handle) s e =
     found-few (resource_of handle s.resources) (detach_steps handle) s.memory (λ at. detach-few handle at s.memory)
+looks-walk (asks.AddResource handle kind id name) s e =
+    known-few (handle_at handle s.memory.heap) (add_steps s) s.memory (λ k. add-few s k)
+looks-walk (asks.RemoveResource handle) s e = known-few (handle_at handle s.memory.heap) _ s.memory
+    (λ k. found-few (resource_of handle s.resources) (remove_steps s k) s.memory (λ at. remove-few s k at))
 looks-walk asked s e = none-look s.memory

@@ -1,26 +1,34 @@
 use Rattle.std.proofs.Common.{◌≡◌, ℕ, Bool, true, false, not, Option, Some, None, Result, Ok, Err, List, [], ◌∷◌}
-use Rattle.std.proofs.Common.{refl, ◌∙◌, ap, cond, ◌==◌, nat_lt, if◌then◌else◌}
+use Rattle.std.proofs.Common.{ℤ, ◌||◌, ◌&&◌, ◌++◌, nat_le, length, refl, ◌∙◌, ap, cond, ◌==◌, nat_lt, if◌then◌else◌}
 use Rattle.mac_words.specs.declared.code.OsErr.{OsErr}
-use Rattle.mac_words.specs.declared.code.TheConstants.OsErr.{LOCKED, PROFILE, RES_ATTR}
+use Rattle.mac_words.specs.declared.code.TheConstants.OsErr.{LOCKED, PROFILE, RES_ATTR, ADD_RES_FAILED}
+use Rattle.mac_words.specs.declared.code.TheConstants.OsErr.{REMOVE_RES_FAILED, WRITE_PERMISSION, DUPLICATE_FILE, DISK_FULL}
 use Rattle.mac_words.specs.Told.{Told, Done, Kind, Number}
 use Rattle.res_map.specs.Map.{Map}
 use Rattle.res_calls.specs.Rows.{map_in, open_map}
 use Rattle.block_store.specs.Rest.{Site}
-use Rattle.res_map.specs.Split.{Split, place}
-use Rattle.res_map.specs.Map.{Reference, is_preload, is_changed, is_resource, is_named, nth, types}
+use Rattle.res_map.specs.Split.{Split, place, replaced}
+use Rattle.res_map.specs.Map.{Reference, is_preload, is_changed, is_protected, is_resource, is_named, nth, types}
+use Rattle.res_map.specs.Map.{new_reference, renamed}
 use Rattle.heap_calls.specs.State.{Memory, Resource}
-use Rattle.heap_calls.specs.Answer.{code_of}
+use Rattle.heap_calls.specs.Answer.{Known, code_of, handle_at}
+use Rattle.heap_calls.specs.Purging.{is_resource as is_owned}
 use Rattle.heap_calls.specs.Inside.{new_inside, new_emptied_inside, refill_inside, has_block, resource_role}
 use Rattle.heap_calls.specs.Inside.{inside, released}
 use Rattle.heap_calls.proofs.Tries.Elsewhere.{elsewhere}
-use Rattle.res_calls.specs.Files.{File, OpenFile, Found, opened, find_from_current, find_in_current, file_of}
+use Rattle.res_calls.specs.Files.{File, OpenFile, Resources, Found, opened, find_from_current, find_in_current, file_of}
 use Rattle.res_calls.specs.Files.{file_named}
 use Rattle.res_calls.specs.Files.{open_at, current_references}
 use Rattle.res_calls.specs.Fetch.{Managers, Answer, done, refused, flags_of, is_system, now_filled, now_emptied}
 use Rattle.res_calls.specs.Fetch.{now_refilled, fetch_as, Loaded, given, preload_one, loaded_both, preload}
 use Rattle.res_calls.specs.Rows as rows
 use Rattle.res_calls.specs.Rows.{on_found, on_open, loaded, opened_with, open_as, open_fork, open_unless, open_named}
-use Rattle.res_calls.specs.Rows.{greatest_number, all_released, handles_of, closed, bars, released_at}
+use Rattle.res_calls.specs.Rows.{greatest_number, all_released, handles_of, closed, closed_file, bars, released_at}
+use Rattle.res_calls.specs.Rows.{if_updated, on_updated, with_resources}
+use Rattle.res_calls.specs.Update.{update, written, bytes_held}
+use Rattle.res_calls.specs.Changing as changing
+use Rattle.res_calls.specs.Changing.{most_files, new_file, new_fork, with_files, create_named, on_known, added_to}
+use Rattle.res_calls.specs.Changing.{on_removable, removed_from, stored_if, touched, marked, with_changed}
 use Rattle.res_calls.specs.Rows.{detached_at, fetched}
 use Rattle.res_calls.specs.Rows.{resource_of, told_type, nth_in, keep_error, noting}
 use Rattle.res_calls.specs.Asked.{ResourceAsked, Served, telling, tell_fetched, tell_info, served}
@@ -172,19 +180,127 @@ releases-place : (window : Site) (handles : List ℕ) (m : Memory)
 releases-place window [] m = refl
 releases-place window (h ∷ handles) m = releases-place window handles (inside (released h) m)
 
-close-place : (window : Site) (n : ℕ) (at : Split OpenFile) (s : Managers) (t : Bool)
-    → cond t (refused PROFILE (moved window s)) (done all_done (record {
-      memory = all_released (handles_of at.here.map.references) (elsewhere window s.memory);
-      resources = closed at s.resources;
-    }))
-    ≡ answer_moved window (cond t (refused PROFILE s) (done all_done (record {
-      memory = all_released (handles_of at.here.map.references) s.memory;
-      resources = closed at s.resources;
-    })))
-close-place window n at s true = refl
-close-place window n at s false =
-    ap (λ (m : Memory). done all_done (record { memory = m; resources = closed at s.resources }))
+closed-place : (window : Site) (o : Option Resources) (at : Split OpenFile) (s : Managers)
+    → if_updated o (moved window s) (λ r. done all_done (closed_file at r (moved window s)))
+    ≡ answer_moved window (if_updated o s (λ r. done all_done (closed_file at r s)))
+closed-place window None at s = refl
+closed-place window (Some r) at s =
+    ap (λ (m : Memory). done all_done (record { memory = m; resources = closed at r }))
     (releases-place window (handles_of at.here.map.references) s.memory)
+
+abbrev closing : Split OpenFile → Managers → Bool → Answer (Unit {0})
+closing at s system =
+    if system then refused PROFILE s else on_updated at s (λ r. done all_done (closed_file at r s))
+
+close-place : (window : Site) (at : Split OpenFile) (s : Managers) (t : Bool)
+    → closing at (moved window s) t ≡ answer_moved window (closing at s t)
+close-place window at s true = refl
+close-place window at s false = closed-place window (update s.memory.heap at s.resources) at s
+
+-- an update, and a file that is made
+updated-place : (window : Site) (o : Option Resources) (s : Managers)
+    → if_updated o (moved window s) (λ r. done all_done (with_resources r (moved window s)))
+    ≡ answer_moved window (if_updated o s (λ r. done all_done (with_resources r s)))
+updated-place window None s = refl
+updated-place window (Some r) s = refl
+
+abbrev updating : Split OpenFile → Managers → Bool → Answer (Unit {0})
+updating at s system =
+    if system then done all_done s else on_updated at s (λ r. done all_done (with_resources r s))
+
+update-place : (window : Site) (at : Split OpenFile) (s : Managers) (t : Bool)
+    → updating at (moved window s) t ≡ answer_moved window (updating at s t)
+update-place window at s true = refl
+update-place window at s false = updated-place window (update s.memory.heap at s.resources) s
+
+create-place : (window : Site) (name : List ℕ) (o : Option (Split File)) (s : Managers)
+    → create_named name o (moved window s) ≡ answer_moved window (create_named name o s)
+create-place window name None s = by_count (nat_le most_files (length s.resources.files))
+  where
+    creating : Managers → Bool → Answer (Unit {0})
+    creating n full = if full then refused DISK_FULL n
+        else done all_done (with_files (n.resources.files ++ new_file name ∷ []) n)
+
+    by_count : (full : Bool) → creating (moved window s) full ≡ answer_moved window (creating s full)
+    by_count true = refl
+    by_count false = refl
+create-place window name (Some at) s = by_fork (length at.here.fork == 0)
+  where
+    creating : Managers → Bool → Answer (Unit {0})
+    creating n empty = if empty then done all_done (with_files (written (place at) new_fork n.resources.files) n)
+        else refused DUPLICATE_FILE n
+
+    by_fork : (empty : Bool) → creating (moved window s) empty ≡ answer_moved window (creating s empty)
+    by_fork true = refl
+    by_fork false = refl
+
+-- a handle of the heap; one that becomes a resource's, and one of a resource that is removed
+known-place : {T : Type 0} (window : Site) (x : Result Known OsErr) (s : Managers) (there here : Known → Answer T)
+    → ((k : Known) → there k ≡ answer_moved window (here k))
+    → on_known x (moved window s) there ≡ answer_moved window (on_known x s here)
+known-place window (Err code) s there here each = refl
+known-place window (Ok k) s there here each = each k
+
+abbrev adding : (Managers → Split OpenFile → Answer (Unit {0})) → Managers → Bool → Bool → Answer (Unit {0})
+adding one s bad system =
+    if bad then refused ADD_RES_FAILED s
+    else if system then refused WRITE_PERMISSION s
+    else on_open (file_of s.resources.current s.resources) s (one s)
+
+abbrev adds : ℕ → ℤ → List ℕ → Known → Managers → Split OpenFile → Answer (Unit {0})
+adds kind id name k s at = done all_done (added_to at (new_reference kind id name k.number) k.number s)
+
+add-place : (window : Site) (kind : ℕ) (id : ℤ) (name : List ℕ) (k : Known) (s : Managers) (bad system : Bool)
+    → adding (adds kind id name k) (moved window s) bad system
+    ≡ answer_moved window (adding (adds kind id name k) s bad system)
+add-place window kind id name k s true system = refl
+add-place window kind id name k s false true = refl
+add-place window kind id name k s false false =
+    open-place window (file_of s.resources.current s.resources) s _ _ (λ at. refl)
+
+removable-place : {T : Type 0} (window : Site) (found : Option Found) (s : Managers)
+    (there here : Found → Answer T) → ((at : Found) → there at ≡ answer_moved window (here at))
+    → on_removable found (moved window s) there ≡ answer_moved window (on_removable found s here)
+removable-place window None s there here each = refl
+removable-place window (Some at) s there here each = each at
+
+abbrev removing : Known → Found → Managers → Bool → Bool → Answer (Unit {0})
+removing k at s system kept =
+    if system then refused WRITE_PERMISSION s
+    else if kept then refused REMOVE_RES_FAILED s
+    else done all_done (removed_from at k.number s)
+
+remove-place : (window : Site) (k : Known) (at : Found) (s : Managers) (system kept : Bool)
+    → removing k at (moved window s) system kept ≡ answer_moved window (removing k at s system kept)
+remove-place window k at s true kept = refl
+remove-place window k at s false true = refl
+remove-place window k at s false false = refl
+
+-- changes of a resource
+abbrev changing_to : Resources → Managers → Bool → Bool → Answer (Unit {0})
+changing_to r s system kept =
+    if system then refused WRITE_PERMISSION s
+    else if kept then refused RES_ATTR s
+    else done all_done (with_resources r s)
+
+change-place : (window : Site) (r : Resources) (s : Managers) (system kept : Bool)
+    → changing_to r (moved window s) system kept ≡ answer_moved window (changing_to r s system kept)
+change-place window r s true kept = refl
+change-place window r s false true = refl
+change-place window r s false false = refl
+
+stored-place : (window : Site) (bytes : Option (List ℕ)) (at : Found) (s : Managers)
+    → done all_done (stored_if bytes at (moved window s)) ≡ answer_moved window (done all_done (stored_if bytes at s))
+stored-place window None at s = refl
+stored-place window (Some bytes) at s = refl
+
+abbrev writing : Option (List ℕ) → Found → Managers → Bool → Answer (Unit {0})
+writing bytes at s t = if t then done all_done (stored_if bytes at s) else done all_done s
+
+write-place : (window : Site) (bytes : Option (List ℕ)) (at : Found) (s : Managers) (t : Bool)
+    → writing bytes at (moved window s) t ≡ answer_moved window (writing bytes at s t)
+write-place window bytes at s true = stored-place window bytes at s
+write-place window bytes at s false = refl
 
 -- a release, and a detaching
 bars-place : (window : Site) (handle : Option ℕ) (m : Memory) → bars handle (elsewhere window m) ≡ bars handle m
@@ -236,7 +352,7 @@ pub served-elsewhere : (window : Site) (a : ResourceAsked) (s : Managers)
 served-elsewhere window (asks.OpenResFile name) s = telling-place window Number (rows.open_res_file name) s
     (named-place window (file_named name s.resources) s)
 served-elsewhere window (asks.CloseResFile n) s = telling-place window (λ x. Done) (rows.close_res_file n) s
-    (open-place window (file_of n s.resources) s _ _ (λ at. close-place window n at s (n == 0)))
+    (open-place window (file_of n s.resources) s _ _ (λ at. close-place window at s (n == 0)))
 served-elsewhere window (asks.UseResFile n) s = telling-place window (λ x. Done) (rows.use_res_file n) s
     (open-place window (file_of n s.resources) s _ _ (λ at. refl))
 served-elsewhere window asks.CurResFile s = refl
@@ -263,9 +379,11 @@ served-elsewhere window (asks.GetOneIndResource kind index) s =
 served-elsewhere window (asks.LoadResource handle) s = telling-place window tell_fetched (rows.load_resource handle) s
     (found-place window (resource_of handle s.resources) s _ _
     (λ at. fetch-place window true at at.reference.here.handle s))
-served-elsewhere window (asks.ReleaseResource handle) s = telling-place window (λ x. Done) (rows.release_resource handle) s
+served-elsewhere window (asks.ReleaseResource handle) s =
+    telling-place window (λ x. Done) (rows.release_resource handle) s
     (found-place window (resource_of handle s.resources) s _ _ (λ at. release-place window handle at s))
-served-elsewhere window (asks.DetachResource handle) s = telling-place window (λ x. Done) (rows.detach_resource handle) s
+served-elsewhere window (asks.DetachResource handle) s =
+    telling-place window (λ x. Done) (rows.detach_resource handle) s
     (found-place window (resource_of handle s.resources) s _ _
     (λ at. detach-place window handle at s (is_changed at.reference.here)))
 served-elsewhere window (asks.GetResInfo handle) s = telling-place window tell_info (rows.get_res_info handle) s
@@ -276,4 +394,37 @@ served-elsewhere window (asks.GetResourceSizeOnDisk handle) s =
     telling-place window Number (rows.get_resource_size_on_disk handle) s
     (found-place window (resource_of handle s.resources) s _ _ (λ at. refl))
 served-elsewhere window (asks.SetResLoad on) s = refl
+served-elsewhere window (asks.CreateResFile name) s =
+    telling-place window (λ x. Done) (changing.create_res_file name) s
+    (create-place window name (file_named name s.resources) s)
+served-elsewhere window (asks.UpdateResFile n) s = telling-place window (λ x. Done) (rows.update_res_file n) s
+    (open-place window (file_of n s.resources) s _ _ (λ at. update-place window at s (n == 0)))
+served-elsewhere window (asks.AddResource handle kind id name) s =
+    telling-place window (λ x. Done) (changing.add_resource handle kind id name) s
+    (known-place window (handle_at handle s.memory.heap) s _ _ (λ k. add-place window kind id name k s
+    (is_owned k.role || not (has_block k.number s.memory.heap)) (s.resources.current == 0)))
+served-elsewhere window (asks.RemoveResource handle) s =
+    telling-place window (λ x. Done) (changing.remove_resource handle) s
+    (known-place window (handle_at handle s.memory.heap) s _ _
+    (λ k. removable-place window (resource_of handle s.resources) s _ _
+    (λ at. remove-place window k at s (is_system at.file.here)
+    (not (at.file.here.number == s.resources.current) || is_protected at.reference.here))))
+served-elsewhere window (asks.ChangedResource handle) s =
+    telling-place window (λ x. Done) (changing.changed_resource handle) s
+    (found-place window (resource_of handle s.resources) s _ _ (λ at. change-place window
+    (touched at.file (replaced (marked at.reference.here) at.reference) s.resources) s
+    (is_system at.file.here) (is_protected at.reference.here)))
+served-elsewhere window (asks.WriteResource handle) s =
+    telling-place window (λ x. Done) (changing.write_resource handle) s
+    (found-place window (resource_of handle s.resources) s _ _
+    (λ at. write-place window (bytes_held handle s.memory.heap) at s
+    (is_changed at.reference.here && not (is_protected at.reference.here))))
+served-elsewhere window (asks.SetResInfo handle id name) s =
+    telling-place window (λ x. Done) (changing.set_res_info handle id name) s
+    (found-place window (resource_of handle s.resources) s _ _ (λ at. change-place window
+    (with_changed (renamed id name at.reference.here) at s).resources s
+    (is_system at.file.here) (is_protected at.reference.here)))
+served-elsewhere window (asks.SetResAttrs handle attrs) s =
+    telling-place window (λ x. Done) (changing.set_res_attrs handle attrs) s
+    (found-place window (resource_of handle s.resources) s _ _ (λ at. refl))
 served-elsewhere window asks.ResError s = refl

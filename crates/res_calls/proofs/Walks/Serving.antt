@@ -2,7 +2,7 @@ use Rattle.std.proofs.Common.{◌≡◌, ℕ, Bool, true, false, true≢false, O
 use Rattle.std.proofs.Common.{refl, sym, ◌∙◌, ap}
 use Rattle.mac_words.specs.declared.code.OsErr.{OsErr}
 use Rattle.mac_words.specs.Told.{Told, Done, Kind, Number, Refused}
-use Rattle.heap_calls.specs.Answer.{code_of}
+use Rattle.heap_calls.specs.Answer.{code_of, handle_at}
 use Rattle.heap_calls.specs.Path.{Step, walk, reads}
 use Rattle.res_map.specs.Map.{is_resource, is_named}
 use Rattle.res_calls.specs.Files.{Resources, find_from_current, find_in_current, file_of, file_named}
@@ -10,22 +10,27 @@ use Rattle.res_calls.specs.Files.{current_references}
 use Rattle.res_map.specs.Map.{nth, types}
 use Rattle.res_calls.specs.Fetch.{Managers, Answer}
 use Rattle.res_calls.specs.Rows as rows
+use Rattle.res_calls.specs.Changing as changing
+use Rattle.res_calls.specs.Writing.{writes}
 use Rattle.res_calls.specs.Rows.{noting, resource_of, told_type, nth_in}
 use Rattle.heap_calls.specs.Asked.{told_as}
 use Rattle.res_calls.specs.Asked.{ResourceAsked, Served, telling, tell_fetched, tell_info, served}
 use Rattle.res_calls.specs.Asked as asks
 use Rattle.res_calls.proofs.Walks.Steps.{steps_of, fetch_steps, close_steps, release_steps, detach_steps}
+use Rattle.res_calls.proofs.Walks.Steps.{add_steps, remove_steps}
 use Rattle.res_calls.proofs.Walks.Going.{Refuses, Goes, done-goes, same-goes, refused-goes, found-goes, found-same}
 use Rattle.res_calls.proofs.Walks.Going.{open-goes, open-same, fetch-goes, fetched-goes, named-goes, close-goes}
-use Rattle.res_calls.proofs.Walks.Going.{release-goes, detach-goes}
+use Rattle.res_calls.proofs.Walks.Going.{release-goes, detach-goes, known-goes, add-goes, removable-goes, remove-goes}
+use Rattle.res_calls.proofs.Walks.Going.{update-goes, create-goes, changeable-goes, write-goes}
 
 -- Each call of the Resource Manager goes by its steps.
 
--- what a call comes to goes by steps; where it is refused it leaves the resources, but for the code that ResError tells
-pub record Serves (steps : List Step) (s : Managers) (x : Served) : Type 0 where
+-- what a call comes to goes by steps, and leaves the files but where it writes; where it is refused it leaves the
+-- resources, but for the code that ResError tells
+pub record Serves (writing : Bool) (steps : List Step) (s : Managers) (x : Served) : Type 0 where
   pub heap : x.after.memory ≡ walk steps s.memory
   pub read : x.reads ≡ reads steps s.memory
-  pub files : x.after.resources.files ≡ s.resources.files
+  pub files : writing ≡ false → x.after.resources.files ≡ s.resources.files
   pub refuses : (code : OsErr) → x.told ≡ Refused code
       → (x.reads ≡ []) × (x.after.resources ≡ record s.resources { error = code }) × Refuses steps s.memory code
 
@@ -34,9 +39,9 @@ abbrev is_refusal : Told → Bool
 is_refusal (Refused code) = true
 is_refusal told = false
 
-telling-serves : {T : Type 0} (tell : T → Told) (call : Managers → Answer T) (s : Managers) (steps : List Step)
-    → ((value : T) → is_refusal (tell value) ≡ false) → Goes steps s (call s)
-    → Serves steps s (telling tell (noting call s))
+telling-serves : {T : Type 0} {w : Bool} (tell : T → Told) (call : Managers → Answer T) (s : Managers)
+    (steps : List Step) → ((value : T) → is_refusal (tell value) ≡ false) → Goes w steps s (call s)
+    → Serves w steps s (telling tell (noting call s))
 telling-serves {T} tell call s steps quiet goes =
     record { heap = goes.heap; read = goes.read; files = goes.files; refuses = by_reply (call s).reply refl }
   where
@@ -57,16 +62,16 @@ telling-serves {T} tell call s steps quiet goes =
           left.2,
         )
 
-told_type-goes : (kind : Option ℕ) (s : Managers) → Goes [] s (told_type kind s)
+told_type-goes : (kind : Option ℕ) (s : Managers) → Goes false [] s (told_type kind s)
 told_type-goes None s = refused-goes _ s
 told_type-goes (Some kind) s = same-goes kind s
 
-pub served-serves : (a : ResourceAsked) (s : Managers) → Serves (steps_of a s) s (served a s)
+pub served-serves : (a : ResourceAsked) (s : Managers) → Serves (writes a) (steps_of a s) s (served a s)
 served-serves (asks.OpenResFile name) s = telling-serves Number (rows.open_res_file name) s
     (steps_of (asks.OpenResFile name) s) (λ n. refl) (named-goes (file_named name s.resources) s)
 served-serves (asks.CloseResFile n) s = telling-serves (λ x. Done) (rows.close_res_file n) s
     (steps_of (asks.CloseResFile n) s) (λ x. refl)
-    (open-goes (file_of n s.resources) s _ (close_steps n) (λ at. close-goes n at s))
+    (open-goes (file_of n s.resources) s _ (close_steps n s) (λ at. close-goes n at s))
 served-serves (asks.UseResFile n) s = telling-serves (λ x. Done) (rows.use_res_file n) s [] (λ x. refl)
     (open-same (file_of n s.resources) s _ (λ at. done-goes _ s _ refl refl))
 served-serves asks.CurResFile s = telling-serves Number rows.cur_res_file s [] (λ n. refl) (same-goes _ s)
@@ -112,4 +117,26 @@ served-serves (asks.GetResourceSizeOnDisk handle) s = telling-serves Number (row
     (λ n. refl) (found-same (resource_of handle s.resources) s _ (λ at. same-goes _ s))
 served-serves (asks.SetResLoad on) s = telling-serves (λ x. Done) (rows.set_res_load on) s [] (λ x. refl)
     (done-goes _ s _ refl refl)
-served-serves asks.ResError s = record { heap = refl; read = refl; files = refl; refuses = λ code e. cc }
+served-serves (asks.CreateResFile name) s = telling-serves (λ x. Done) (changing.create_res_file name) s [] (λ x. refl)
+    (create-goes name (file_named name s.resources) s)
+served-serves (asks.UpdateResFile n) s = telling-serves (λ x. Done) (rows.update_res_file n) s [] (λ x. refl)
+    (open-same (file_of n s.resources) s _ (λ at. update-goes n at s))
+served-serves (asks.AddResource handle kind id name) s =
+    telling-serves (λ x. Done) (changing.add_resource handle kind id name) s
+    (steps_of (asks.AddResource handle kind id name) s) (λ x. refl)
+    (known-goes (handle_at handle s.memory.heap) s _ (add_steps s) (λ k. add-goes kind id name s k))
+served-serves (asks.RemoveResource handle) s = telling-serves (λ x. Done) (changing.remove_resource handle) s
+    (steps_of (asks.RemoveResource handle) s) (λ x. refl)
+    (known-goes (handle_at handle s.memory.heap) s _ _
+    (λ k. removable-goes (resource_of handle s.resources) s _ (remove_steps s k) (λ at. remove-goes s k at)))
+served-serves (asks.ChangedResource handle) s = telling-serves (λ x. Done) (changing.changed_resource handle) s []
+    (λ x. refl) (found-same (resource_of handle s.resources) s _
+    (λ at. changeable-goes at s _ (done-goes _ s _ refl refl)))
+served-serves (asks.WriteResource handle) s = telling-serves (λ x. Done) (changing.write_resource handle) s []
+    (λ x. refl) (found-same (resource_of handle s.resources) s _ (λ at. write-goes handle at s))
+served-serves (asks.SetResInfo handle id name) s =
+    telling-serves (λ x. Done) (changing.set_res_info handle id name) s [] (λ x. refl) (found-same (resource_of handle s.resources) s _
+    (λ at. changeable-goes at s _ (done-goes _ s _ refl refl)))
+served-serves (asks.SetResAttrs handle attrs) s = telling-serves (λ x. Done) (changing.set_res_attrs handle attrs) s []
+    (λ x. refl) (found-same (resource_of handle s.resources) s _ (λ at. done-goes _ s _ refl refl))
+served-serves asks.ResError s = record { heap = refl; read = refl; files = λ quiet. refl; refuses = λ code e. cc }

@@ -1,19 +1,22 @@
 use Rattle.std.proofs.Common.{Result, Ok, Err}
-use Rattle.std.proofs.Common.{ℕ, Bool, true, false, Option, Some, None, List, [], ◌∷◌, ◌==◌, nat_lt}
+use Rattle.std.proofs.Common.{ℕ, Bool, true, false, not, ◌||◌, Option, Some, None, List, [], ◌∷◌, ◌==◌, nat_lt}
 use Rattle.std.proofs.Common.{if◌then◌else◌}
 use Rattle.mac_words.specs.declared.code.OsErr.{OsErr}
 use Rattle.res_map.specs.Split.{Split, place}
-use Rattle.res_map.specs.Map.{Reference, Map, is_preload, is_changed, is_resource, is_named}
+use Rattle.res_map.specs.Map.{Reference, Map, is_preload, is_changed, is_protected, is_resource, is_named}
 use Rattle.heap_calls.specs.State.{Resource}
-use Rattle.heap_calls.specs.Inside.{resource_role, owned_as}
+use Rattle.heap_calls.specs.Answer.{Known, handle_at}
+use Rattle.heap_calls.specs.Purging.{is_resource as is_owned}
+use Rattle.heap_calls.specs.Inside.{resource_role, owned_as, has_block}
 use Rattle.heap_calls.specs.Path.{Step, NewFilled, NewEmptied, Refill, Release, Cast}
-use Rattle.res_calls.specs.Files.{File, OpenFile, Found, find_from_current, find_in_current, file_of, file_named}
-use Rattle.res_calls.specs.Files.{open_at}
+use Rattle.res_calls.specs.Files.{File, OpenFile, Resources, Found, find_from_current, find_in_current, file_of}
+use Rattle.res_calls.specs.Files.{file_named, open_at}
 use Rattle.res_calls.specs.Fetch.{Managers, flags_of, is_system}
 use Rattle.res_calls.specs.Rows.{resource_of, handles_of, greatest_number, map_in, nth_in, bars}
 use Rattle.res_calls.specs.Asked.{ResourceAsked, OpenResFile, CloseResFile, GetResource, GetOneResource}
 use Rattle.res_calls.specs.Asked.{GetNamedResource, GetOneNamedResource, GetOneIndResource, LoadResource}
-use Rattle.res_calls.specs.Asked.{ReleaseResource, DetachResource}
+use Rattle.res_calls.specs.Asked.{ReleaseResource, DetachResource, AddResource, RemoveResource}
+use Rattle.res_calls.specs.Update.{update}
 
 -- The steps that each call of the Resource Manager takes on the heap.
 
@@ -80,9 +83,14 @@ abbrev pub releases : List ℕ → List Step
 releases [] = []
 releases (h ∷ handles) = Release h ∷ releases handles
 
--- the handles of a file that is closed
-abbrev pub close_steps : ℕ → Split OpenFile → List Step
-close_steps n at = if n == 0 then [] else releases (handles_of at.here.map.references)
+-- the handles of a file that is closed, if it could be updated
+abbrev pub if_done : Option Resources → List Step → List Step
+if_done None steps = []
+if_done (Some r) steps = steps
+
+abbrev pub close_steps : ℕ → Managers → Split OpenFile → List Step
+close_steps n s at = if n == 0 then []
+    else if_done (update s.memory.heap at s.resources) (releases (handles_of at.here.map.references))
 
 -- the handle of a resource, if it is bound
 abbrev pub on_handle : Option ℕ → (ℕ → Step) → List Step
@@ -96,10 +104,29 @@ release_steps handle s at =
 abbrev pub detach_steps : Option ℕ → Found → List Step
 detach_steps handle at = if is_changed at.reference.here then [] else on_handle handle (Cast (owned_as false))
 
+-- for a handle of the heap, else none
+abbrev pub for_known : Result Known OsErr → (Known → List Step) → List Step
+for_known (Err code) steps = []
+for_known (Ok k) steps = steps k
+
+-- a handle becomes a resource's of the current file
+abbrev pub add_steps : Managers → Known → List Step
+add_steps s k =
+    if is_owned k.role || not (has_block k.number s.memory.heap) then []
+    else if s.resources.current == 0 then []
+    else for_open (file_of s.resources.current s.resources) (λ at. Cast (owned_as true) k.number ∷ [])
+
+-- a resource of the current file is removed
+abbrev pub remove_steps : Managers → Known → Found → List Step
+remove_steps s k at =
+    if is_system at.file.here then []
+    else if not (at.file.here.number == s.resources.current) || is_protected at.reference.here then []
+    else Cast (owned_as false) k.number ∷ []
+
 -- the steps of a call
 abbrev pub steps_of : ResourceAsked → Managers → List Step
 steps_of (OpenResFile name) s = open_steps (file_named name s.resources) s
-steps_of (CloseResFile n) s = for_open (file_of n s.resources) (close_steps n)
+steps_of (CloseResFile n) s = for_open (file_of n s.resources) (close_steps n s)
 steps_of (GetResource kind id) s = fetched_steps (find_from_current (is_resource kind id) s.resources) s
 steps_of (GetOneResource kind id) s = fetched_steps (find_in_current (is_resource kind id) s.resources) s
 steps_of (GetNamedResource kind name) s = fetched_steps (find_from_current (is_named kind name) s.resources) s
@@ -109,4 +136,7 @@ steps_of (GetOneIndResource kind index) s =
 steps_of (LoadResource handle) s = for_found (resource_of handle s.resources) (fetch_steps true)
 steps_of (ReleaseResource handle) s = for_found (resource_of handle s.resources) (release_steps handle s)
 steps_of (DetachResource handle) s = for_found (resource_of handle s.resources) (detach_steps handle)
+steps_of (AddResource handle kind id name) s = for_known (handle_at handle s.memory.heap) (add_steps s)
+steps_of (RemoveResource handle) s =
+    for_known (handle_at handle s.memory.heap) (λ k. for_found (resource_of handle s.resources) (remove_steps s k))
 steps_of asked s = []

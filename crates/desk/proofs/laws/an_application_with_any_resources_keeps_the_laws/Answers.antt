@@ -1,6 +1,6 @@
 use Rattle.desk.proofs.AnyRuns.{any_goes_by_rule, any_shows_put, any_holds_put, any_locked_stays}
 use Rattle.desk.proofs.AnyRuns.{any_fixed_stays, any_only_purgeable_go, any_looks_few, any_refused_leave}
-use Rattle.desk.proofs.AnyRuns.{any_resources_stay, any_forks_stay, any_nothing_stays_busy, any_refused_bind}
+use Rattle.desk.proofs.AnyRuns.{any_resources_stay, any_files_stay, any_nothing_stays_busy, any_refused_bind}
 use Rattle.desk.proofs.laws.an_application_with_any_resources_keeps_the_laws.Goals as goal
 
 pub returns-clause-rule : goal.returns-clause-rule
@@ -30,8 +30,8 @@ returns-clause-refused c = any_refused_leave
 pub returns-clause-resources : goal.returns-clause-resources
 returns-clause-resources c = any_resources_stay
 
-pub returns-clause-forks : goal.returns-clause-forks
-returns-clause-forks c = any_forks_stay
+pub returns-clause-files : goal.returns-clause-files
+returns-clause-files c = any_files_stay
 
 pub returns-clause-idle : goal.returns-clause-idle
 returns-clause-idle c = any_nothing_stays_busy

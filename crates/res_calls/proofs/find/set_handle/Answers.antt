@@ -1,6 +1,7 @@
 use Rattle.std.proofs.Common.{refl}
+use Rattle.res_map.specs.Map.{with_handle}
 use Rattle.res_calls.specs.View.{view_open}
-use Rattle.res_calls.proofs.Standing.{inside_map, handle_put}
+use Rattle.res_calls.proofs.Standing.{inside_map, mapped, reference_put}
 use Rattle.res_calls.proofs.find.set_handle.Goals as goal
 
 pub set_handle-requires : goal.set_handle-requires
@@ -9,5 +10,5 @@ set_handle-requires c =
 
 pub returns : goal.returns
 returns c =
-    handle_put view_open c.args.files.now.items c.args.at c.index_mut.result.now _ c.args.handle c.set_handle.new.self
-    c.index_mut.ensures.value c.requires c.set_handle.ensures refl
+    reference_put view_open c.args.files.now.items c.args.at c.index_mut.result.now _ mapped (with_handle c.args.handle)
+    c.set_handle.new.self c.index_mut.ensures.value c.requires c.set_handle.ensures refl

@@ -7,8 +7,17 @@ use Rattle.mac_words.specs.Told.{Done, Number, Kind}
 use Rattle.res_calls.specs.Asked.{telling, tell_fetched, tell_info}
 use Rattle.res_calls.specs.Given.{managers}
 use Rattle.res_calls.specs.Rows as rows
-use Rattle.desk.proofs.Arms.{arm_told, arm_after}
+use Rattle.res_calls.specs.Changing as changing
+use Rattle.desk.proofs.Arms.{by_both, arm_told, arm_after}
 use Rattle.desk.proofs.application.Application.answer_resource.Goals as goal
+
+pub returns-in-CreateResFile-clause-told : goal.returns-in-CreateResFile-clause-told
+returns-in-CreateResFile-clause-told g c =
+    arm_told (λ (u : Unit {0}). Done) false c.done_on_resource.result _ _ _ c.args.call.now _ c.args.self.now _ c.done_on_resource.ensures.tried (c.create_res_file.ensures.answer c.self-in-CreateResFile.inside.heap) refl refl c.in-CreateResFile.is c.self-in-CreateResFile.view_is
+
+pub returns-in-CreateResFile-clause-after : goal.returns-in-CreateResFile-clause-after
+returns-in-CreateResFile-clause-after g c =
+    arm_after (λ (u : Unit {0}). Done) c.done_on_resource.result _ _ _ c.args.call.now _ c.args.self.now _ _ c.done_on_resource.ensures.after (c.create_res_file.ensures.answer c.self-in-CreateResFile.inside.heap) refl refl c.in-CreateResFile.is c.self-in-CreateResFile.view_is
 
 pub returns-in-UseResFile-clause-told : goal.returns-in-UseResFile-clause-told
 returns-in-UseResFile-clause-told g c =
@@ -78,6 +87,14 @@ pub returns-in-Count1Resources-clause-after : goal.returns-in-Count1Resources-cl
 returns-in-Count1Resources-clause-after g c =
     arm_after Number c.sized-in-Count1Resources.result _ _ _ c.args.call.now _ c.args.self.now _ _ c.sized-in-Count1Resources.ensures.after (c.count1_resources.ensures.answer c.self-in-Count1Resources.inside.heap) refl refl c.in-Count1Resources.is c.self-in-Count1Resources.view_is
 
+pub returns-in-ChangedResource-clause-told : goal.returns-in-ChangedResource-clause-told
+returns-in-ChangedResource-clause-told g c =
+    arm_told (λ (u : Unit {0}). Done) false c.done_on_resource-in-ChangedResource.result _ _ _ c.args.call.now _ c.args.self.now _ c.done_on_resource-in-ChangedResource.ensures.tried (c.changed_resource.ensures.answer c.self-in-ChangedResource.inside.heap) (ap (λ (h : Option ℕ). telling (λ (u : Unit {0}). Done) (rows.noting (changing.changed_resource h) (managers c.self-in-ChangedResource.inside.resources c.self-in-ChangedResource.inside.heap))) c.number-in-ChangedResource.ensures) refl c.in-ChangedResource.is c.self-in-ChangedResource.view_is
+
+pub returns-in-ChangedResource-clause-after : goal.returns-in-ChangedResource-clause-after
+returns-in-ChangedResource-clause-after g c =
+    arm_after (λ (u : Unit {0}). Done) c.done_on_resource-in-ChangedResource.result _ _ _ c.args.call.now _ c.args.self.now _ _ c.done_on_resource-in-ChangedResource.ensures.after (c.changed_resource.ensures.answer c.self-in-ChangedResource.inside.heap) (ap (λ (h : Option ℕ). telling (λ (u : Unit {0}). Done) (rows.noting (changing.changed_resource h) (managers c.self-in-ChangedResource.inside.resources c.self-in-ChangedResource.inside.heap))) c.number-in-ChangedResource.ensures) refl c.in-ChangedResource.is c.self-in-ChangedResource.view_is
+
 pub returns-in-GetResInfo-clause-told : goal.returns-in-GetResInfo-clause-told
 returns-in-GetResInfo-clause-told g c =
     arm_told tell_info false c.info.result _ _ _ c.args.call.now _ c.args.self.now _ c.info.ensures.tried (c.get_res_info.ensures.answer c.self-in-GetResInfo.inside.heap) (ap (λ (h : Option ℕ). telling tell_info (rows.noting (rows.get_res_info h) (managers c.self-in-GetResInfo.inside.resources c.self-in-GetResInfo.inside.heap))) c.number-in-GetResInfo.ensures) refl c.in-GetResInfo.is c.self-in-GetResInfo.view_is
@@ -86,6 +103,16 @@ pub returns-in-GetResInfo-clause-after : goal.returns-in-GetResInfo-clause-after
 returns-in-GetResInfo-clause-after g c =
     arm_after tell_info c.info.result _ _ _ c.args.call.now _ c.args.self.now _ _ c.info.ensures.after (c.get_res_info.ensures.answer c.self-in-GetResInfo.inside.heap) (ap (λ (h : Option ℕ). telling tell_info (rows.noting (rows.get_res_info h) (managers c.self-in-GetResInfo.inside.resources c.self-in-GetResInfo.inside.heap))) c.number-in-GetResInfo.ensures) refl c.in-GetResInfo.is c.self-in-GetResInfo.view_is
 
+pub returns-in-SetResInfo-clause-told : goal.returns-in-SetResInfo-clause-told
+returns-in-SetResInfo-clause-told g c =
+    let fits : FitsSigned w16 c.in-SetResInfo.id = search rules in
+    arm_told (λ (u : Unit {0}). Done) false c.done_on_resource-in-SetResInfo.result _ _ _ c.args.call.now _ c.args.self.now _ c.done_on_resource-in-SetResInfo.ensures.tried (c.set_res_info.ensures.answer c.self-in-SetResInfo.inside.heap) (by_both (λ (h : Option ℕ) (i : ℤ). telling (λ (u : Unit {0}). Done) (rows.noting (changing.set_res_info h i c.in-SetResInfo.text.0.items) (managers c.self-in-SetResInfo.inside.resources c.self-in-SetResInfo.inside.heap))) c.number-in-SetResInfo.ensures (to_z-of_z w16 c.in-SetResInfo.id fits)) refl c.in-SetResInfo.is c.self-in-SetResInfo.view_is
+
+pub returns-in-SetResInfo-clause-after : goal.returns-in-SetResInfo-clause-after
+returns-in-SetResInfo-clause-after g c =
+    let fits : FitsSigned w16 c.in-SetResInfo.id = search rules in
+    arm_after (λ (u : Unit {0}). Done) c.done_on_resource-in-SetResInfo.result _ _ _ c.args.call.now _ c.args.self.now _ _ c.done_on_resource-in-SetResInfo.ensures.after (c.set_res_info.ensures.answer c.self-in-SetResInfo.inside.heap) (by_both (λ (h : Option ℕ) (i : ℤ). telling (λ (u : Unit {0}). Done) (rows.noting (changing.set_res_info h i c.in-SetResInfo.text.0.items) (managers c.self-in-SetResInfo.inside.resources c.self-in-SetResInfo.inside.heap))) c.number-in-SetResInfo.ensures (to_z-of_z w16 c.in-SetResInfo.id fits)) refl c.in-SetResInfo.is c.self-in-SetResInfo.view_is
+
 pub returns-in-GetResAttrs-clause-told : goal.returns-in-GetResAttrs-clause-told
 returns-in-GetResAttrs-clause-told g c =
     arm_told Number false c.attributes.result _ _ _ c.args.call.now _ c.args.self.now _ c.attributes.ensures.tried (c.get_res_attrs.ensures.answer c.self-in-GetResAttrs.inside.heap) (ap (λ (h : Option ℕ). telling Number (rows.noting (rows.get_res_attrs h) (managers c.self-in-GetResAttrs.inside.resources c.self-in-GetResAttrs.inside.heap))) c.number-in-GetResAttrs.ensures) refl c.in-GetResAttrs.is c.self-in-GetResAttrs.view_is
@@ -93,6 +120,14 @@ returns-in-GetResAttrs-clause-told g c =
 pub returns-in-GetResAttrs-clause-after : goal.returns-in-GetResAttrs-clause-after
 returns-in-GetResAttrs-clause-after g c =
     arm_after Number c.attributes.result _ _ _ c.args.call.now _ c.args.self.now _ _ c.attributes.ensures.after (c.get_res_attrs.ensures.answer c.self-in-GetResAttrs.inside.heap) (ap (λ (h : Option ℕ). telling Number (rows.noting (rows.get_res_attrs h) (managers c.self-in-GetResAttrs.inside.resources c.self-in-GetResAttrs.inside.heap))) c.number-in-GetResAttrs.ensures) refl c.in-GetResAttrs.is c.self-in-GetResAttrs.view_is
+
+pub returns-in-SetResAttrs-clause-told : goal.returns-in-SetResAttrs-clause-told
+returns-in-SetResAttrs-clause-told g c =
+    arm_told (λ (u : Unit {0}). Done) false c.done_on_resource-in-SetResAttrs.result _ _ _ c.args.call.now _ c.args.self.now _ c.done_on_resource-in-SetResAttrs.ensures.tried (c.set_res_attrs.ensures.answer c.self-in-SetResAttrs.inside.heap) (ap (λ (h : Option ℕ). telling (λ (u : Unit {0}). Done) (rows.noting (changing.set_res_attrs h c.in-SetResAttrs.attrs) (managers c.self-in-SetResAttrs.inside.resources c.self-in-SetResAttrs.inside.heap))) c.number-in-SetResAttrs.ensures) refl c.in-SetResAttrs.is c.self-in-SetResAttrs.view_is
+
+pub returns-in-SetResAttrs-clause-after : goal.returns-in-SetResAttrs-clause-after
+returns-in-SetResAttrs-clause-after g c =
+    arm_after (λ (u : Unit {0}). Done) c.done_on_resource-in-SetResAttrs.result _ _ _ c.args.call.now _ c.args.self.now _ _ c.done_on_resource-in-SetResAttrs.ensures.after (c.set_res_attrs.ensures.answer c.self-in-SetResAttrs.inside.heap) (ap (λ (h : Option ℕ). telling (λ (u : Unit {0}). Done) (rows.noting (changing.set_res_attrs h c.in-SetResAttrs.attrs) (managers c.self-in-SetResAttrs.inside.resources c.self-in-SetResAttrs.inside.heap))) c.number-in-SetResAttrs.ensures) refl c.in-SetResAttrs.is c.self-in-SetResAttrs.view_is
 
 pub returns-in-GetResourceSizeOnDisk-clause-told : goal.returns-in-GetResourceSizeOnDisk-clause-told
 returns-in-GetResourceSizeOnDisk-clause-told g c =

@@ -1,6 +1,7 @@
-use Rattle.std.proofs.Common.{ap}
+use Rattle.std.proofs.Common.{ap, sym, ◌∙◌}
 use Rattle.res_calls.specs.Files.{Resources}
 use Rattle.res_calls.specs.View.{view_file}
+use Rattle.res_calls.specs.Rows.{map_in}
 use Rattle.block_store.proofs.Content.Resizing.{if_some}
 use Rattle.res_calls.proofs.OpeningForks.{file_here, low_number, fork_refused, fork_opened}
 use Rattle.res_calls.proofs.files.Resources.open_at.Goals as goal
@@ -23,3 +24,9 @@ returns-clause-answer g c =
     if_some _ _ (view_file c.index.result.now) here (fork_opened c.args.at c.in_ok-open_read.field-0
     c.index.result.now.fork.items c.args.self.now c.args.heap.now c.in-Ok.read _ c.deref.result.now low
     c.deref.ensures.value c.in-Ok.ensures c.in_ok-open_read.ensures.answer c.in_ok-open_read.ensures.after)
+
+pub open_read-requires-clause-read : goal.open_read-requires-clause-read
+open_read-requires-clause-read g c =
+    let here = file_here c.args.self.now c.self.inside.files.items c.args.at c.index.result.now
+    (ap (λ (r : Resources). r.files) c.self.view_is) c.requires c.index.ensures in
+    if_some _ _ (view_file c.index.result.now) here (ap map_in (sym c.deref.ensures.value) ∙ c.in-Ok.ensures)

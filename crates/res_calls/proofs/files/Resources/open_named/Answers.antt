@@ -2,6 +2,7 @@ use Rattle.std.proofs.Common.{ap, map, ◌∙◌}
 use Rattle.res_calls.specs.Files.{Resources}
 use Rattle.res_calls.specs.View.{view_file}
 use Rattle.res_calls.proofs.OpeningForks.{open_already, open_anew}
+use Rattle.res_calls.proofs.Soundness.Methods.{name_missing}
 use Rattle.res_calls.proofs.files.Resources.open_named.Goals as goal
 
 pub returns-in-Some-place_of_file-clause-answer : goal.returns-in-Some-place_of_file-clause-answer
@@ -18,3 +19,8 @@ returns-in-None-clause-answer g c = open_anew c.args.name.now.0.items c.in-Some.
     (ap (map view_file) c.deref.ensures.value ∙ ap (λ (r : Resources). r.files) c.self.view_is)
     (ap (λ (r : Resources). r.chain) c.self.view_is) c.in-Some.ensures.found
     (rw c.deref-2.ensures.value at c.in-None.ensures.found) c.open_at.ensures.answer
+
+pub returns-in_default-clause-answer : goal.returns-in_default-clause-answer
+returns-in_default-clause-answer g c = name_missing c.args.name.now.0.items c.deref.result.now c.args.self.now
+    (ap (map view_file) c.deref.ensures.value ∙ ap (λ (r : Resources). r.files) c.self.view_is)
+    c.in_default.ensures.found c.args.heap.now

@@ -1,8 +1,8 @@
-use Rattle.std.proofs.Common.{◌≡◌, ◌∙◌, sym, ap, map, List}
+use Rattle.std.proofs.Common.{◌≡◌, ◌∙◌, ap, map, List}
 use Rattle.fork_format.specs.Content.{Group}
 use Rattle.fork_format.specs.View.{view_group}
-use Rattle.res_map.specs.Map.{types, of_groups}
-use Rattle.res_map.proofs.Types.{types-groups}
+use Rattle.res_map.specs.Map.{of_groups}
+use Rattle.res_map.proofs.Contents.{ordered_groups}
 use Rattle.res_map.proofs.res_file.ResFile.open.Goals as goal
 
 pub invariant_of-result : goal.invariant_of-result
@@ -10,6 +10,5 @@ invariant_of-result c =
     let groups : List Group = map view_group c.args.content.now.groups.items in
     let is : map view_group c.as_slice-groups.result.now ≡ groups =
     ap (map view_group) c.as_slice-groups.ensures.value in
-    c.in_ok-kinds.ensures ∙ ap (map (λ (g : Group). g.kind)) is
-    ∙ sym (ap types c.in_ok-refs.ensures ∙ ap (λ gs. types (of_groups gs)) is
-    ∙ types-groups groups c.requires.types c.requires.references)
+    ordered_groups groups _ _ c.requires.types c.requires.references
+    (c.in_ok-kinds.ensures ∙ ap (map (λ (g : Group). g.kind)) is) (c.in_ok-refs.ensures ∙ ap of_groups is)

@@ -1,0 +1,70 @@
+use Rattle.std.proofs.Common.{◌≡◌, ℕ, ◌+◌, Bool, true, false, not, ◌==◌, List, ap, cond, map, subst, length, Result}
+use Rattle.std.proofs.Common.{Ok, Err}
+use Rattle.std.proofs.lemmas.Bool.{or_left, eq-eqb}
+use Rattle.std.proofs.lemmas.Nat.{and_assoc}
+use Rattle.std.specs.Prelude.{filter}
+use Rattle.std.specs.List.{list_all}
+use Rattle.mac_words.specs.Attributes.{has_bit}
+use Rattle.mac_words.specs.declared.attributes.TheConstants.Attrs.{CHANGED}
+use Rattle.mac_words.specs.declared.code.OsErr.{OsErr}
+use Rattle.mac_words.specs.declared.code.TheConstants.OsErr.{END_OF_FILE, MAP_READ}
+use Rattle.fork_format.specs.Content.{Ref, Group, is_of, distinct, joined}
+use Rattle.fork_format.specs.Fork.{number, ref_places, ref_at, group_at, type_places, map_kept, map_start, is_fork}
+use Rattle.fork_format.specs.Fork.{content_of}
+use Rattle.res_map.specs.Map.{Map, map_of, of_group, of_groups, read_reference}
+use Rattle.res_calls.specs.Rows.{map_in}
+use Rattle.res_calls.specs.Sound.{keeps_handle}
+use Rattle.res_calls.proofs.Soundness.Lists.{all-filter, all-flat, all-implied, all-made, all-mapped}
+use Rattle.res_calls.proofs.Soundness.References.{changed-clear}
+
+-- What is read from a fork: no reference is changed, and the map's attributes are as a fork gives them.
+
+-- a resource as it is stored, without resChanged; and those of a type
+abbrev is_clear : Ref → Bool
+is_clear r = not (has_bit CHANGED r.attrs)
+
+abbrev are_clear : Group → Bool
+are_clear g = list_all is_clear g.refs
+
+places-clear : (bytes places : List ℕ) → list_all are_clear (map (group_at bytes) places) ≡ true
+places-clear bytes places =
+    all-made are_clear (group_at bytes) places
+    (λ at. all-made is_clear (ref_at bytes) (ref_places at bytes)
+    (λ ref. ap not (changed-clear (number 1 (ref + 4) bytes))))
+
+joined-clear : (groups : List Group) → list_all are_clear groups ≡ true → list_all are_clear (joined groups) ≡ true
+joined-clear groups e =
+    all-made are_clear _ (distinct (map (λ g. g.kind) groups))
+    (λ kind. all-flat is_clear (λ g. g.refs) (filter (is_of kind) groups)
+    (all-filter are_clear (is_of kind) groups e))
+
+groups-keep : (groups : List Group) → list_all are_clear groups ≡ true
+    → list_all keeps_handle (of_groups groups) ≡ true
+groups-keep groups e =
+    all-flat keeps_handle of_group groups
+    (all-implied (λ g. list_all keeps_handle (of_group g)) are_clear groups
+    (λ g clear. all-mapped keeps_handle is_clear (read_reference g.kind) g.refs
+    (λ r is. or_left (is_clear r) false is) clear) e)
+
+pub record Fresh (m : Map) : Type 0 where
+  pub references : list_all keeps_handle m.references ≡ true
+  pub attrs : (map_kept m.attrs == m.attrs) ≡ true
+
+read-fresh : (fork : List ℕ) → Fresh (map_of (content_of fork))
+read-fresh fork = record {
+  references = groups-keep (joined (map (group_at fork) (type_places fork)))
+      (joined-clear (map (group_at fork) (type_places fork)) (places-clear fork (type_places fork)));
+  attrs = let attrs : ℕ = number 2 (map_start fork + 22) fork in
+      eq-eqb (map_kept (map_kept attrs)) (map_kept attrs) (and_assoc 65439 attrs 65439);
+}
+
+-- as its file is opened
+pub map-fresh : (fork : List ℕ) (read : Map) → map_in fork ≡ Ok read → Fresh read
+map-fresh fork read e = by_tests (length fork == 0) (is_fork fork) e
+  where
+    by_tests : (empty good : Bool)
+        → cond {A = Result Map OsErr} empty (Err END_OF_FILE) (cond good (Ok (map_of (content_of fork))) (Err MAP_READ))
+        ≡ Ok read → Fresh read
+    by_tests true good e = cc
+    by_tests false true e = let same : map_of (content_of fork) ≡ read = cc in subst Fresh same (read-fresh fork)
+    by_tests false false e = cc

@@ -1,0 +1,87 @@
+use Rattle.std.proofs.Common.{◌≡◌, ℕ, Bool, true, false, not, ◌==◌, List, [], ◌∷◌, ◌++◌, refl, sym, ◌∙◌, ap, cond}
+use Rattle.std.proofs.Common.{map, Option, Some, Result, Ok, Err}
+use Rattle.std.proofs.lemmas.Bool.{and_parts, and_from, or_left, or_right}
+use Rattle.std.proofs.lemmas.Nat.{and_assoc}
+use Rattle.std.specs.Int.Bits.{and_zero_r}
+use Rattle.std.specs.Prelude.{is_some}
+use Rattle.std.specs.List.{list_all}
+use Rattle.mac_words.specs.Attributes.{has_bit, unchanged}
+use Rattle.mac_words.specs.declared.attributes.TheConstants.Attrs.{CHANGED}
+use Rattle.mac_words.specs.declared.code.OsErr.{OsErr}
+use Rattle.heap_calls.specs.State.{State, Memory, Resource}
+use Rattle.heap_calls.specs.Inside.{new_inside}
+use Rattle.res_map.specs.Map.{Reference, is_changed, is_preload, stored_anew, added}
+use Rattle.res_calls.specs.Fetch.{flags_of, given, preload_one, preload}
+use Rattle.res_calls.specs.Rows.{loaded_if}
+use Rattle.res_calls.specs.Update.{fresh, updated_reference}
+use Rattle.res_calls.specs.Sound.{keeps_handle}
+use Rattle.res_calls.proofs.Owning.Updates.{added-one}
+use Rattle.res_calls.proofs.Soundness.Lists.{all-between, all-made}
+
+-- A changed reference has a handle.
+
+-- attributes without resChanged haven't it
+pub changed-clear : (attrs : ℕ) → has_bit CHANGED (unchanged attrs) ≡ false
+changed-clear attrs = ap (λ (n : ℕ). not (n == 0)) (and_assoc 2 attrs 253 ∙ and_zero_r attrs)
+
+pub anew-keeps : (bytes : Option (List ℕ)) (x : Reference) → keeps_handle (stored_anew bytes x) ≡ true
+anew-keeps bytes x =
+    or_left (not (is_changed (stored_anew bytes x))) (is_some x.handle) (ap not (changed-clear x.stored.attrs))
+
+pub held-keeps : (x : Reference) (k : ℕ) → x.handle ≡ Some k → keeps_handle x ≡ true
+held-keeps x k e = or_right (not (is_changed x)) (is_some x.handle) (ap is_some e)
+
+pub plain-keeps : (x : Reference) → is_changed x ≡ false → keeps_handle x ≡ true
+plain-keeps x e = or_left (not (is_changed x)) (is_some x.handle) (ap not e)
+
+-- after an update; with one more
+pub updated-keep : (heap : State) (references : List Reference)
+    → list_all keeps_handle (map (updated_reference heap) references) ≡ true
+updated-keep heap references =
+    all-made keeps_handle (updated_reference heap) references (λ x. anew-keeps (fresh heap x) x)
+
+pub added-keep : (new : Reference) (references : List Reference) → keeps_handle new ≡ true
+    → list_all keeps_handle references ≡ true → list_all keeps_handle (added new references) ≡ true
+added-keep new references keeps e =
+    let place = added-one new references in
+    ap (list_all keeps_handle) (sym place.whole)
+    ∙ all-between keeps_handle place.before new place.after (ap (list_all keeps_handle) place.rest ∙ e) keeps
+
+-- those of a file that is opened
+both-keep : (xs ys : List Reference) → list_all keeps_handle xs ≡ true → list_all keeps_handle ys ≡ true
+    → list_all keeps_handle (xs ++ ys) ≡ true
+both-keep [] ys first later = later
+both-keep (x ∷ xs) ys first later =
+    let parts = and_parts (keeps_handle x) (list_all keeps_handle xs) first in
+    and_from (keeps_handle x) (list_all keeps_handle (xs ++ ys)) parts.0 (both-keep xs ys parts.1 later)
+
+one-keeps : (x : Reference) (m : Memory) → keeps_handle x ≡ true
+    → list_all keeps_handle (preload_one x m).references ≡ true
+one-keeps x m e = by_bit (is_preload x)
+  where
+    alone : (y : Reference) → keeps_handle y ≡ true → list_all keeps_handle (y ∷ []) ≡ true
+    alone y is = and_from (keeps_handle y) true is refl
+
+    by_room : (o : Result ℕ OsErr × Memory) → list_all keeps_handle (given x o).references ≡ true
+    by_room (Err code, n) = alone x e
+    by_room (Ok k, n) = alone (record x { handle = Some k }) (held-keeps (record x { handle = Some k }) k refl)
+
+    by_bit : (t : Bool)
+        → list_all keeps_handle (cond t (given x (new_inside Resource (flags_of x) x.stored.datum m))
+        (record { references = x ∷ []; memory = m; reads = [] })).references ≡ true
+    by_bit true = by_room (new_inside Resource (flags_of x) x.stored.datum m)
+    by_bit false = alone x e
+
+pub preload-keeps : (references : List Reference) (m : Memory) → list_all keeps_handle references ≡ true
+    → list_all keeps_handle (preload references m).references ≡ true
+preload-keeps [] m e = refl
+preload-keeps (x ∷ references) m e =
+    let parts = and_parts (keeps_handle x) (list_all keeps_handle references) e in
+    both-keep (preload_one x m).references (preload references (preload_one x m).memory).references
+    (one-keeps x m parts.0) (preload-keeps references (preload_one x m).memory parts.1)
+
+pub loaded-keeps : (loading : Bool) (references : List Reference) (m : Memory)
+    → list_all keeps_handle references ≡ true
+    → list_all keeps_handle (loaded_if loading references m).references ≡ true
+loaded-keeps true references m e = preload-keeps references m e
+loaded-keeps false references m e = e

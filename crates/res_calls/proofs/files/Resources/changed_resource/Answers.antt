@@ -1,0 +1,10 @@
+use Rattle.res_calls.specs.Changing as changing
+use Rattle.res_calls.specs.Given.{managers}
+use Rattle.res_calls.proofs.Noting.{is_noted}
+use Rattle.res_calls.proofs.files.Resources.changed_resource.Goals as goal
+
+pub returns-clause-answer : goal.returns-clause-answer
+returns-clause-answer c = λ m. is_noted (λ (u : Unit {0}). u)
+    (changing.changed_resource c.args.handle)
+    (managers c.args.self.now m) _ _ _ _ m (c.change-answer.ensures.answer m)
+    c.note.ensures.answer c.note.ensures.noted

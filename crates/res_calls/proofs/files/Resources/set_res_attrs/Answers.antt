@@ -1,0 +1,10 @@
+use Rattle.res_calls.specs.Changing as changing
+use Rattle.res_calls.specs.Given.{managers}
+use Rattle.res_calls.proofs.Noting.{is_noted}
+use Rattle.res_calls.proofs.files.Resources.set_res_attrs.Goals as goal
+
+pub returns-clause-answer : goal.returns-clause-answer
+returns-clause-answer c = λ m. is_noted (λ (u : Unit {0}). u)
+    (changing.set_res_attrs c.args.handle c.args.attrs.0)
+    (managers c.args.self.now m) _ _ _ _ m (c.set_all_attrs-answer.ensures.answer m)
+    c.note.ensures.answer c.note.ensures.noted

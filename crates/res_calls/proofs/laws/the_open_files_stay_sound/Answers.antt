@@ -1,0 +1,11 @@
+use Rattle.res_calls.proofs.Soundness.Laws.{sound-launched, sound-preloaded, sound-served}
+use Rattle.res_calls.proofs.laws.the_open_files_stay_sound.Goals as goal
+
+pub returns-clause-launched : goal.returns-clause-launched
+returns-clause-launched c = sound-launched
+
+pub returns-clause-read : goal.returns-clause-read
+returns-clause-read c = sound-preloaded
+
+pub returns-clause-resources : goal.returns-clause-resources
+returns-clause-resources c = sound-served

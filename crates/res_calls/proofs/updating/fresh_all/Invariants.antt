@@ -1,0 +1,9 @@
+use Rattle.std.proofs.Common.{◌≡◌, ◌++◌, map, drop}
+use Rattle.res_map.specs.View.{view_all}
+use Rattle.res_calls.specs.Update.{fresh}
+use Rattle.res_calls.proofs.updating.fresh_all.Given as goal
+
+-- what is fresh so far, and then what is fresh of the rest, is what is fresh of all
+abbrev pub invariant-loop-i : goal.invariant-loop-i
+invariant-loop-i g l = view_all l.all.items ++ map (fresh l.heap.heap) (drop l.i l.file.references)
+    ≡ map (fresh l.heap.heap) l.file.references

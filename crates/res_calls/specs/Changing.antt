@@ -1,0 +1,141 @@
+use Rattle.std.specs.Prelude.{ℕ, ℤ, true, false, not, ◌&&◌, ◌||◌, ◌==◌, nat_le, Option, Some, None, Result, Ok, Err, List, []}
+use Rattle.std.specs.Prelude.{◌∷◌, ◌++◌, length, replicate, if◌then◌else◌}
+use Rattle.mac_words.specs.Attributes.{changed, set}
+use Rattle.mac_words.specs.declared.code.OsErr.{OsErr}
+use Rattle.mac_words.specs.declared.code.TheConstants.OsErr.{RES_NOT_FOUND, ADD_RES_FAILED, REMOVE_RES_FAILED, RES_ATTR}
+use Rattle.mac_words.specs.declared.code.TheConstants.OsErr.{WRITE_PERMISSION, DUPLICATE_FILE, DISK_FULL}
+use Rattle.fork_format.specs.Content.{Content}
+use Rattle.fork_format.specs.Canonical.{canon}
+use Rattle.heap_calls.specs.Answer.{Known, handle_at}
+use Rattle.heap_calls.specs.Purging.{is_resource}
+use Rattle.heap_calls.specs.Inside.{inside, cast, owned_as, has_block}
+use Rattle.res_map.specs.Split.{Split, replaced, removed, place}
+use Rattle.res_map.specs.Map.{Reference, new_reference, added, is_changed, is_protected, with_attrs, renamed, stored_anew}
+use Rattle.res_calls.specs.Files.{File, OpenFile, Resources, Found, with_reference, file_named}
+use Rattle.res_calls.specs.Fetch.{Managers, Answer, done, refused, is_system}
+use Rattle.res_calls.specs.Update.{bytes_held, written}
+use Rattle.res_calls.specs.Rows.{on_resource, on_file, resource_of, with_resources}
+
+-- The calls of the Resource Manager that change resources. More Macintosh Toolbox, chapter 1,
+-- "Creating and Opening Resource Files", "Manipulating Resources" and "Writing Resources".
+
+-- the most files that an application has
+abbrev pub most_files : ℕ
+most_files = 256
+
+-- the content of a new fork, and the fork
+abbrev pub no_content : Content
+no_content = record { area = replicate 240 0; attrs = 0; groups = [] }
+
+abbrev pub new_fork : List ℕ
+new_fork = canon no_content
+
+-- a file that is made
+abbrev pub new_file : List ℕ → File
+new_file name = record { name = name; fork = new_fork; written = true }
+
+-- the managers with other files
+abbrev pub with_files : List File → Managers → Managers
+with_files files s = with_resources (record s.resources { files = files }) s
+
+-- CreateResFile: a file with a fork of no bytes gets a new one in its place
+abbrev pub create_named : List ℕ → Option (Split File) → Managers → Answer (Unit {0})
+create_named name None s =
+    if nat_le most_files (length s.resources.files) then refused DISK_FULL s
+    else done tt (with_files (s.resources.files ++ new_file name ∷ []) s)
+create_named name (Some at) s =
+    if length at.here.fork == 0 then done tt (with_files (written (place at) new_fork s.resources.files) s)
+    else refused DUPLICATE_FILE s
+
+abbrev pub create_res_file : List ℕ → Managers → Answer (Unit {0})
+create_res_file name s = create_named name (file_named name s.resources) s
+
+-- the resources where an open file is touched and has these references
+abbrev pub touched : Split OpenFile → List Reference → Resources → Resources
+touched at references r = record r {
+  chain = replaced (record at.here { map = record at.here.map { references = references }; touched = true }) at;
+}
+
+-- what a call answers on a handle, of whatever role and emptied or not
+abbrev pub on_known : {T : Type 0} → Result Known OsErr → Managers → (Known → Answer T) → Answer T
+on_known (Err code) s answer = refused RES_NOT_FOUND s
+on_known (Ok k) s answer = answer k
+
+abbrev pub on_handle : {T : Type 0} → Option ℕ → Managers → (Known → Answer T) → Answer T
+on_handle handle s answer = on_known (handle_at handle s.memory.heap) s answer
+
+-- a handle is a resource's of an open file from now on
+abbrev pub added_to : Split OpenFile → Reference → ℕ → Managers → Managers
+added_to at new h s = record {
+  memory = inside (cast (owned_as true) h) s.memory;
+  resources = touched at (added new at.here.map.references) s.resources;
+}
+
+-- AddResource: to the current file
+abbrev pub add_resource : Option ℕ → ℕ → ℤ → List ℕ → Managers → Answer (Unit {0})
+add_resource handle kind id text s = on_handle handle s (λ k.
+    if is_resource k.role || not (has_block k.number s.memory.heap) then refused ADD_RES_FAILED s
+    else if s.resources.current == 0 then refused WRITE_PERMISSION s
+    else on_file s.resources.current s (λ at.
+    done tt (added_to at (new_reference kind id text k.number) k.number s)))
+
+-- what a call answers on a resource's handle, and how it refuses other handles
+abbrev pub on_removable : {T : Type 0} → Option Found → Managers → (Found → Answer T) → Answer T
+on_removable None s answer = refused REMOVE_RES_FAILED s
+on_removable (Some at) s answer = answer at
+
+-- a resource is removed, and its handle is the application's own
+abbrev pub removed_from : Found → ℕ → Managers → Managers
+removed_from at h s = record {
+  memory = inside (cast (owned_as false) h) s.memory;
+  resources = touched at.file (removed at.reference) s.resources;
+}
+
+-- RemoveResource: from the current file
+abbrev pub remove_resource : Option ℕ → Managers → Answer (Unit {0})
+remove_resource handle s = on_handle handle s (λ k. on_removable (resource_of handle s.resources) s (λ at.
+    if is_system at.file.here then refused WRITE_PERMISSION s
+    else if not (at.file.here.number == s.resources.current) || is_protected at.reference.here
+    then refused REMOVE_RES_FAILED s
+    else done tt (removed_from at k.number s)))
+
+-- what a call answers on a resource that may be changed: neither the System's nor a protected one
+abbrev pub on_changeable : {T : Type 0} → Option ℕ → Managers → (Found → Answer T) → Answer T
+on_changeable handle s answer = on_resource handle s (λ at.
+    if is_system at.file.here then refused WRITE_PERMISSION s
+    else if is_protected at.reference.here then refused RES_ATTR s
+    else answer at)
+
+-- ChangedResource
+abbrev pub marked : Reference → Reference
+marked x = with_attrs (changed x.stored.attrs) x
+
+abbrev pub changed_resource : Option ℕ → Managers → Answer (Unit {0})
+changed_resource handle s = on_changeable handle s (λ at.
+    done tt (with_resources (touched at.file (replaced (marked at.reference.here) at.reference) s.resources) s))
+
+-- the resources with another reference in that place
+abbrev pub with_changed : Reference → Found → Managers → Managers
+with_changed x at s = with_resources (record s.resources { chain = with_reference x at }) s
+
+-- the bytes of a handle are stored, if it has some
+abbrev pub stored_if : Option (List ℕ) → Found → Managers → Managers
+stored_if None at s = s
+stored_if (Some bytes) at s = with_changed (stored_anew (Some bytes) at.reference.here) at s
+
+-- WriteResource: the fork follows at the next update
+abbrev pub write_resource : Option ℕ → Managers → Answer (Unit {0})
+write_resource handle s = on_resource handle s (λ at.
+    if is_changed at.reference.here && not (is_protected at.reference.here)
+    then done tt (stored_if (bytes_held handle s.memory.heap) at s)
+    else done tt s)
+
+-- SetResInfo: an empty text leaves the name
+abbrev pub set_res_info : Option ℕ → ℤ → List ℕ → Managers → Answer (Unit {0})
+set_res_info handle id text s = on_changeable handle s (λ at.
+    done tt (with_changed (renamed id text at.reference.here) at s))
+
+-- SetResAttrs: of the System's resources too
+abbrev pub set_res_attrs : Option ℕ → ℕ → Managers → Answer (Unit {0})
+set_res_attrs handle attrs s = on_resource handle s (λ at.
+    done tt (with_changed (with_attrs (set attrs at.reference.here.stored.attrs) at.reference.here) at s))

@@ -1,0 +1,58 @@
+use Rattle.std.specs.Prelude.{ℕ, ◌-◌, ◌==◌, true, false, Option, Some, None, List, [], ◌∷◌, map, if◌then◌else◌}
+use Rattle.fork_format.specs.Canonical.{canon, fits}
+use Rattle.heap_calls.specs.State.{State}
+use Rattle.heap_calls.specs.Contents.{bytes_of}
+use Rattle.res_map.specs.Split.{Split, replaced}
+use Rattle.res_map.specs.Map.{Reference, Map, is_changed, stored_anew, content}
+use Rattle.res_calls.specs.Files.{File, OpenFile, Resources}
+
+-- An open file is updated: its fork is written anew. More Macintosh Toolbox, chapter 1, "Writing Resources".
+
+-- the bytes of a handle, if there is one and it has a block
+abbrev pub bytes_held : Option ℕ → State → Option (List ℕ)
+bytes_held None heap = None
+bytes_held (Some h) heap = bytes_of h heap
+
+-- what an update stores of a reference: its handle's bytes, where it was changed. Where the handle is emptied what is
+-- stored stays
+abbrev pub fresh : State → Reference → Option (List ℕ)
+fresh heap r = if is_changed r then bytes_held r.handle heap else None
+
+-- the references, the map and the open file as an update leaves them
+abbrev pub updated_reference : State → Reference → Reference
+updated_reference heap r = stored_anew (fresh heap r) r
+
+abbrev pub updated_map : State → Map → Map
+updated_map heap m = record m { references = map (updated_reference heap) m.references }
+
+abbrev pub updated : State → OpenFile → OpenFile
+updated heap f = record f { map = updated_map heap f.map; touched = false }
+
+-- the files with another fork in one place
+abbrev pub written : ℕ → List ℕ → List File → List File
+written i fork [] = []
+written i fork (f ∷ files) = if i == 0 then record f { fork = fork; written = true } ∷ files
+    else f ∷ written (i - 1) fork files
+
+-- the fork of an open file; the System's has none that is written
+abbrev pub written_at : Option ℕ → List ℕ → List File → List File
+written_at None fork files = files
+written_at (Some i) fork files = written i fork files
+
+-- the fork that an update writes
+abbrev pub fork_of : State → OpenFile → List ℕ
+fork_of heap f = canon (content (updated_map heap f.map))
+
+-- the resources after an update that writes
+abbrev pub rewritten : State → Split OpenFile → Resources → Resources
+rewritten heap at r = record r {
+  files = written_at at.here.file (fork_of heap at.here) r.files;
+  chain = replaced (updated heap at.here) at;
+}
+
+-- the resources after an update: an untouched file stays as it is; none where the file's content doesn't fit the format
+abbrev pub update : State → Split OpenFile → Resources → Option Resources
+update heap at r =
+    if at.here.touched
+    then if fits (content (updated_map heap at.here.map)) then Some (rewritten heap at r) else None
+    else Some r

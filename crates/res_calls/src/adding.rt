@@ -1,0 +1,223 @@
+//! The calls by which a handle becomes a resource's, and by which a resource is removed.
+//!
+//! *More Macintosh Toolbox*, chapter 1, "Modifying Resources" and "Disposing of Resources".
+
+ghost use Rattle.std.specs.Prelude.{◌≡◌, ◌≢◌, Ok, Err, OnOk, OnErr, Some, is_some, map, true};
+ghost use Rattle.byteorder.specs.Endian.{big_number};
+ghost use Rattle.res_map.specs.Map.{added};
+ghost use Rattle.res_calls.specs.Files.{Found, Resources as ResourcesValue};
+ghost use Rattle.heap_calls.specs.State.{Role};
+ghost use Rattle.heap_calls.specs.Answer.{handle_at};
+ghost use Rattle.res_calls.specs.Changing as changing;
+ghost use Rattle.res_calls.specs.Changing.{added_to};
+ghost use Rattle.res_calls.specs.Fetch.{done};
+ghost use Rattle.res_calls.specs.Rows.{noting, on_file};
+ghost use Rattle.res_calls.specs.Given.{IsAnswered, managers};
+ghost use Rattle.res_calls.specs.Places.{found_at, chained, view_new, add_found, remove_found};
+ghost use Rattle.res_calls.specs.View.{view_open};
+
+use crate::chain::place_numbered;
+use crate::files::{OpenFile, Resources};
+use crate::find::{Spot, has_bit_at, number_at, take_out};
+use block_store::BlockStore;
+use heap_calls::{Heap, Refusal};
+use mac_words::{Attrs, Name, OsErr, OsType};
+use std::alloc::{AllocError, Global};
+
+/// A reference that is to be added.
+#[derive(Clone, Copy)]
+pub(crate) struct NewReference<'a> {
+    /// Its type.
+    ty: OsType,
+    /// Its ID.
+    id: i16,
+    /// Its name; an empty one for none.
+    name: &'a Name,
+    /// The number of its handle.
+    handle: usize,
+}
+
+/// Adds a reference to an open file, and touches that. Where the host has no memory nothing is changed.
+fn add_in(file: &mut OpenFile, alloc: Global, new: NewReference<'_>) -> Result<(), AllocError>
+    ensures map { OnOk result (file.new.map ≡ record file.old.map {
+      references = added (view_new new.entry) file.old.map.references;
+    }) }
+    ensures touched { OnOk result (file.new ≡ record file.old { map = file.new.map; touched = true }) }
+    ensures kept { OnErr result (file.new ≡ file.old) }
+{
+    file.map.add(alloc, new.ty, new.id, new.name, new.handle)?;
+    file.touched = true;
+    Ok(())
+}
+
+/// Adds a reference with this handle to the open file of a number; the handle is a resource's from now on. Where the
+/// host has no memory nothing is changed.
+fn add_to<S: BlockStore>(
+    files: &mut Vec<OpenFile>,
+    alloc: Global,
+    heap: &mut Heap<S>,
+    current: u32,
+    new: NewReference<'_>,
+) -> Result<(), Refusal>
+    ensures answer { (r : ResourcesValue) → IsAnswered (λ (u : Unit {0}). u)
+        (on_file current (managers (chained files.old.items r) heap.old) (λ at. done tt (added_to at
+        (view_new new.entry) new.entry.handle (managers (chained files.old.items r) heap.old))))
+        result (managers (chained files.new.items r) heap.new) }
+    ensures kept { result ≡ Err Refusal.HostMemory → map view_open files.new.items ≡ map view_open files.old.items }
+    ensures heap { result ≡ Err Refusal.HostMemory → heap.new ≡ heap.old }
+{
+    let Some(at) = place_numbered(files, current) else {
+        return Err(Refusal::Code(OsErr::RES_FILE_NOT_FOUND));
+    };
+    add_in(&mut files[at], alloc, new)?;
+    heap.set_resource(new.handle, true);
+    Ok(())
+}
+
+/// Adds a reference with the handle of a number to the current file, unless that is the System's, or the handle is
+/// emptied or a resource's already.
+fn add_with<S: BlockStore>(
+    files: &mut Vec<OpenFile>,
+    alloc: Global,
+    heap: &mut Heap<S>,
+    current: u32,
+    new: NewReference<'_>,
+) -> Result<(), Refusal>
+    ensures answer { (r : ResourcesValue) (role : Role) → r.current ≡ current
+        → handle_at (Some new.entry.handle) heap.old.heap ≡ Ok (record { number = new.entry.handle; role = role })
+        → IsAnswered (λ (u : Unit {0}). u) (add_found role (view_new new.entry) new.entry.handle
+        (managers (chained files.old.items r) heap.old))
+        result (managers (chained files.new.items r) heap.new) }
+    ensures kept { result ≡ Err Refusal.HostMemory → map view_open files.new.items ≡ map view_open files.old.items }
+    ensures heap { result ≡ Err Refusal.HostMemory → heap.new ≡ heap.old }
+{
+    if heap.is_resource(Some(new.handle)) || !heap.has_block(new.handle) {
+        return Err(Refusal::Code(OsErr::ADD_RES_FAILED));
+    }
+    if current == 0 {
+        return Err(Refusal::Code(OsErr::WRITE_PERMISSION));
+    }
+    add_to(files, alloc, heap, current, new)
+}
+
+/// Takes the reference in a place out of its file, unless that isn't current or the resource is protected. Its handle
+/// becomes the application's own.
+fn remove_at<S: BlockStore>(
+    files: &mut Vec<OpenFile>,
+    heap: &mut Heap<S>,
+    at: Spot,
+    number: usize,
+    current: u32,
+) -> Result<(), Refusal>
+    requires { is_some (found_at at (map view_open files.old.items)) ≡ true }
+    ensures answer { (r : ResourcesValue) (f : Found) → found_at at (map view_open files.old.items) ≡ Some f
+        → r.current ≡ current
+        → IsAnswered (λ (u : Unit {0}). u)
+        (remove_found number (managers (chained files.old.items r) heap.old) f)
+        result (managers (chained files.new.items r) heap.new) }
+    ensures host { result ≢ Err Refusal.HostMemory }
+{
+    let home = number_at(files, at);
+    if home == 0 {
+        return Err(Refusal::Code(OsErr::WRITE_PERMISSION));
+    }
+    if home != current || has_bit_at(files, at, Attrs::PROTECTED) {
+        return Err(Refusal::Code(OsErr::REMOVE_RES_FAILED));
+    }
+    heap.set_resource(number, false);
+    take_out(files, at);
+    Ok(())
+}
+
+impl Resources {
+    /// `AddResource`: a handle with a block becomes a resource's, of the current file. -192 where the handle is none,
+    /// -194 where it is emptied or a resource's already, -61 where the current file is the System's. Where the host has no
+    /// memory nothing is changed.
+    pub fn add_resource<S: BlockStore>(
+        &mut self,
+        alloc: Global,
+        heap: &mut Heap<S>,
+        handle: Option<usize>,
+        ty: OsType,
+        id: i16,
+        name: &Name,
+    ) -> Result<(), Refusal>
+        ensures answer { IsAnswered (λ (u : Unit {0}). u) (noting (changing.add_resource handle (big_number 4 ty.0) id
+            name.now.0.items) (managers self.old heap.old)) result (managers self.new heap.new) }
+        ensures kept { result ≡ Err Refusal.HostMemory → self.new ≡ self.old }
+        ensures heap { result ≡ Err Refusal.HostMemory → heap.new ≡ heap.old }
+    {
+        let answer = self.add(alloc, heap, handle, ty, id, name);
+        self.note(answer)
+    }
+
+    /// The same, without keeping the code.
+    fn add<S: BlockStore>(
+        &mut self,
+        alloc: Global,
+        heap: &mut Heap<S>,
+        handle: Option<usize>,
+        ty: OsType,
+        id: i16,
+        name: &Name,
+    ) -> Result<(), Refusal>
+        ensures answer { IsAnswered (λ (u : Unit {0}). u) (changing.add_resource handle (big_number 4 ty.0) id
+            name.now.0.items (managers self.old heap.old)) result (managers self.new heap.new) }
+        ensures kept { result ≡ Err Refusal.HostMemory → self.new ≡ self.old }
+        ensures heap { result ≡ Err Refusal.HostMemory → heap.new ≡ heap.old }
+    {
+        let Some(number) = handle else {
+            return Err(Refusal::Code(OsErr::RES_NOT_FOUND));
+        };
+        if !heap.is_handle(handle) {
+            return Err(Refusal::Code(OsErr::RES_NOT_FOUND));
+        }
+        let current = self.current;
+        let new = NewReference {
+            ty,
+            id,
+            name,
+            handle: number,
+        };
+        add_with(&mut self.chain, alloc, heap, current, new)
+    }
+
+    /// `RemoveResource`: takes a resource out of the current file; its handle becomes the application's own. -192 where
+    /// the handle is none, -196 where it is none of a resource, -61 for the System's, -196 where the resource is of
+    /// another file than the current one, or protected.
+    pub fn remove_resource<S: BlockStore>(
+        &mut self,
+        heap: &mut Heap<S>,
+        handle: Option<usize>,
+    ) -> Result<(), Refusal>
+        ensures answer { IsAnswered (λ (u : Unit {0}). u) (noting (changing.remove_resource handle)
+            (managers self.old heap.old)) result (managers self.new heap.new) }
+        ensures host { result ≢ Err Refusal.HostMemory }
+    {
+        let answer = self.remove(heap, handle);
+        self.note(answer)
+    }
+
+    /// The same, without keeping the code.
+    fn remove<S: BlockStore>(
+        &mut self,
+        heap: &mut Heap<S>,
+        handle: Option<usize>,
+    ) -> Result<(), Refusal>
+        ensures answer { IsAnswered (λ (u : Unit {0}). u)
+            (changing.remove_resource handle (managers self.old heap.old)) result
+            (managers self.new heap.new) }
+        ensures host { result ≢ Err Refusal.HostMemory }
+    {
+        let Some(number) = handle else {
+            return Err(Refusal::Code(OsErr::RES_NOT_FOUND));
+        };
+        if !heap.is_handle(handle) {
+            return Err(Refusal::Code(OsErr::RES_NOT_FOUND));
+        }
+        let Some(at) = self.find_handle(handle) else {
+            return Err(Refusal::Code(OsErr::REMOVE_RES_FAILED));
+        };
+        remove_at(&mut self.chain, heap, at, number, self.current)
+    }
+}

@@ -1,0 +1,238 @@
+//! Open files are updated: their forks are written anew.
+//!
+//! *More Macintosh Toolbox*, chapter 1, "Writing Resources".
+
+ghost use Rattle.std.specs.Prelude.{◌≡◌, ◌≢◌, ◌<◌, true, false, map, length, option_map, Some, Ok, Err, IfOk, OnOk, IsErr};
+ghost use Rattle.fork_format.specs.Canonical.{clear};
+ghost use Rattle.fork_format.specs.Fork.{Spells};
+ghost use Rattle.res_map.specs.Split.{Split};
+ghost use Rattle.res_map.specs.Map.{content, all_anew};
+ghost use Rattle.res_map.specs.View.{view_entry, view_bytes, view_all};
+ghost use Rattle.res_calls.specs.Files.{OpenFile as OpenFileValue, Resources as ResourcesValue, file_of};
+ghost use Rattle.res_calls.specs.Given.{IsAnswered, managers};
+ghost use Rattle.res_calls.specs.Places.{at_index};
+ghost use Rattle.res_calls.specs.Rows as rows;
+ghost use Rattle.res_calls.specs.Rows.{noting};
+ghost use Rattle.res_calls.specs.Update.{bytes_held, fresh, updated_map, written_at, fork_of, update};
+ghost use Rattle.res_calls.specs.Updating.{IsFork, IsAnew, IsUpdated, stored_in};
+ghost use Rattle.res_calls.specs.View.{view_file, view_open};
+
+use crate::chain::place_numbered;
+use crate::files::{File, OpenFile, Resources};
+use block_store::BlockStore;
+use fork_format::{WriteFault, write_fork};
+use heap_calls::{Heap, Refusal};
+use mac_words::{Attrs, OsErr};
+use res_map::{Entry, ResFile};
+use std::alloc::{AllocError, Global};
+
+/// What an update of an open file is to store and to write. It is made before anything is changed.
+#[derive(Drop)]
+pub(crate) struct Anew {
+    /// For each reference the bytes that are stored of it from then on; none where those that are stored stay.
+    stored: Vec<Option<Vec<u8>>>,
+    /// The bytes of the fork.
+    fork: Vec<u8>,
+}
+
+/// The bytes of a handle, if there is one and it has a block.
+fn held_bytes<S: BlockStore>(heap: &Heap<S>, handle: Option<usize>) -> Option<&[u8]>
+    ensures { option_map (λ b. b.now) result ≡ bytes_held handle heap.now.heap }
+{
+    match handle {
+        None => None,
+        Some(number) => heap.bytes(number),
+    }
+}
+
+/// Bytes of their own, where there are some.
+fn own_bytes(alloc: Global, bytes: Option<&[u8]>) -> Result<Option<Vec<u8>>, AllocError>
+    ensures { IfOk result (λ o. view_bytes o ≡ option_map (λ b. b.now) bytes.entry) }
+{
+    match bytes {
+        None => Ok(None),
+        Some(bytes) => Ok(Some(Vec::from_slice(alloc, bytes)?)),
+    }
+}
+
+/// What an update stores of a reference: its handle's bytes where it was changed and the handle has a block.
+fn fresh_of<S: BlockStore>(
+    alloc: Global,
+    heap: &Heap<S>,
+    entry: &Entry<'_>,
+) -> Result<Option<Vec<u8>>, AllocError>
+    ensures { IfOk result (λ o. view_bytes o ≡ fresh heap.now.heap (view_entry entry.now)) }
+{
+    if entry.stored.attrs.has(Attrs::CHANGED) {
+        own_bytes(alloc, held_bytes(heap, entry.handle))
+    } else {
+        Ok(None)
+    }
+}
+
+/// What an update stores of the references of a map, in order.
+fn fresh_all<S: BlockStore>(
+    alloc: Global,
+    heap: &Heap<S>,
+    file: &ResFile,
+) -> Result<Vec<Option<Vec<u8>>>, AllocError>
+    ensures { IfOk result (λ v. view_all v.items ≡ map (fresh heap.now.heap) file.now.references) }
+{
+    let mut all = Vec::with_capacity(alloc, file.len())?;
+    for i in 0..file.len() {
+        let next = fresh_of(alloc, heap, &file.reference(i))?;
+        all.push(next)?;
+    }
+    Ok(all)
+}
+
+/// The fork of a map whose references store these bytes. -34 where that doesn't fit the format.
+fn write_with(alloc: Global, file: &ResFile, stored: &[Option<Vec<u8>>]) -> Result<Vec<u8>, Refusal>
+    requires { length stored.now ≡ length file.now.references }
+    ensures { IsFork (content (record file.now {
+      references = all_anew (view_all stored.now) file.now.references;
+    })) result }
+{
+    let content = file.content(alloc, stored)?;
+    match write_fork(alloc, &content) {
+        Ok(fork) => Ok(fork),
+        Err(WriteFault::TooLarge) => Err(Refusal::Code(OsErr::DISK_FULL)),
+        Err(WriteFault::HostMemory) => Err(Refusal::HostMemory),
+    }
+}
+
+/// What an update of a map is to store and to write.
+fn make_anew<S: BlockStore>(alloc: Global, heap: &Heap<S>, file: &ResFile) -> Result<Anew, Refusal>
+    ensures { IsAnew heap.now.heap file.now result }
+{
+    let stored = fresh_all(alloc, heap, file)?;
+    match write_with(alloc, file, &stored) {
+        Ok(fork) => Ok(Anew { stored, fork }),
+        Err(refusal) => Err(refusal),
+    }
+}
+
+/// Gives a file another fork.
+fn give_fork(file: &mut File, fork: Vec<u8>)
+    ensures { view_file file.new ≡ record (view_file file.old) { fork = fork.items; written = true } }
+{
+    file.fork = fork;
+    file.written = true;
+}
+
+/// Puts a fork in the place of a file's, which was written then. Where the file has no place nothing is done.
+pub(crate) fn put_fork(files: &mut Vec<File>, place: Option<usize>, fork: Vec<u8>)
+    ensures { map view_file files.new.items ≡ written_at place fork.items (map view_file files.old.items) }
+{
+    if let Some(at) = place {
+        if at < files.len() {
+            give_fork(&mut files[at], fork);
+        }
+    }
+}
+
+/// Stores the bytes of an update in an open file, which is touched no more.
+fn store_in(file: &mut OpenFile, stored: Vec<Option<Vec<u8>>>)
+    requires { length stored.items ≡ length file.old.map.references }
+    ensures { view_open file.new ≡ record (view_open file.old) {
+      map = record file.old.map { references = all_anew (view_all stored.items) file.old.map.references };
+      touched = false;
+    } }
+{
+    file.map.store_all(stored);
+    file.touched = false;
+}
+
+/// Writes and stores what an update of an open file is to.
+fn carry_out(files: &mut Vec<File>, file: &mut OpenFile, anew: Anew)
+    requires { length anew.stored.items ≡ length file.old.map.references }
+    ensures files { map view_file files.new.items
+        ≡ written_at (view_open file.old).file anew.fork.items (map view_file files.old.items) }
+    ensures file { view_open file.new ≡ record (view_open file.old) {
+      map = record file.old.map { references = all_anew (view_all anew.stored.items) file.old.map.references };
+      touched = false;
+    } }
+{
+    put_fork(files, file.file, anew.fork);
+    store_in(file, anew.stored);
+}
+
+/// Updates the open file at a place, if it is touched: all of it, or nothing. -34 where its content doesn't fit the
+/// format.
+pub(crate) fn update_at<S: BlockStore>(
+    alloc: Global,
+    heap: &Heap<S>,
+    files: &mut Vec<File>,
+    chain: &mut Vec<OpenFile>,
+    at: usize,
+) -> Result<(), Refusal>
+    requires { at < length chain.old.items }
+    ensures answer { (r : ResourcesValue) (s : Split OpenFileValue) → at_index at (map view_open chain.old.items) ≡ Some s
+        → IsUpdated (update heap.now.heap s (stored_in files.old.items chain.old.items r)) result
+        (stored_in files.new.items chain.new.items r) }
+    ensures files { IsErr result → map view_file files.new.items ≡ map view_file files.old.items }
+    ensures chain { IsErr result → map view_open chain.new.items ≡ map view_open chain.old.items }
+    ensures length { length chain.new.items ≡ length chain.old.items }
+    ensures read_again { OnOk result ((s : Split OpenFileValue) → at_index at (map view_open chain.old.items) ≡ Some s
+        → s.here.touched ≡ true
+        → Spells (fork_of heap.now.heap s.here) (clear (content (updated_map heap.now.heap s.here.map)))) }
+{
+    if !chain[at].touched {
+        return Ok(());
+    }
+    // All host memory is had before anything is changed.
+    let anew = match make_anew(alloc, heap, &chain[at].map) {
+        Ok(anew) => anew,
+        Err(refusal) => return Err(refusal),
+    };
+    carry_out(files, &mut chain[at], anew);
+    Ok(())
+}
+
+impl Resources {
+    /// `UpdateResFile`: writes the fork of an open file anew, if it was touched: all of it, or nothing. The changed
+    /// resources are stored as their handles hold them then; one whose handle is emptied keeps what is stored of it.
+    /// Nothing is done for the System's file. -193 where no such file is open, -34 where its content doesn't fit the
+    /// format.
+    ///
+    /// *More Macintosh Toolbox*, chapter 1, "Writing Resources".
+    pub fn update_res_file<S: BlockStore>(
+        &mut self,
+        alloc: Global,
+        heap: &Heap<S>,
+        number: u32,
+    ) -> Result<(), Refusal>
+        ensures answer { IsAnswered (λ (u : Unit {0}). u) (noting (rows.update_res_file number)
+            (managers self.old heap.now)) result (managers self.new heap.now) }
+        ensures kept { result ≡ Err Refusal.HostMemory → self.new ≡ self.old }
+        ensures read_again { OnOk result ((at : Split OpenFileValue) → number ≢ 0 → file_of number self.old ≡ Some at
+            → at.here.touched ≡ true
+            → Spells (fork_of heap.now.heap at.here) (clear (content (updated_map heap.now.heap at.here.map)))) }
+    {
+        let answer = self.update(alloc, heap, number);
+        self.note(answer)
+    }
+
+    /// Updates an open file.
+    fn update<S: BlockStore>(
+        &mut self,
+        alloc: Global,
+        heap: &Heap<S>,
+        number: u32,
+    ) -> Result<(), Refusal>
+        ensures answer { IsAnswered (λ (u : Unit {0}). u) (rows.update_res_file number (managers self.old heap.now))
+            result (managers self.new heap.now) }
+        ensures kept { result ≡ Err Refusal.HostMemory → self.new ≡ self.old }
+        ensures read_again { OnOk result ((at : Split OpenFileValue) → number ≢ 0 → file_of number self.old ≡ Some at
+            → at.here.touched ≡ true
+            → Spells (fork_of heap.now.heap at.here) (clear (content (updated_map heap.now.heap at.here.map)))) }
+    {
+        let Some(at) = place_numbered(&self.chain, number) else {
+            return Err(Refusal::Code(OsErr::RES_FILE_NOT_FOUND));
+        };
+        if number == 0 {
+            return Ok(());
+        }
+        update_at(alloc, heap, &mut self.files, &mut self.chain, at)
+    }
+}
