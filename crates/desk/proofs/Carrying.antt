@@ -44,6 +44,7 @@ marked-heap false (Some n) m = refl
 pub marked_for-heap : (busy : Bool) (c : Call) (reading : Option ℕ) (r : Running)
     → (marked_for busy c reading r).memory.heap ≡ r.memory.heap
 marked_for-heap busy (call.Control c) reading r = refl
+marked_for-heap busy (call.Segment c) reading r = marked-heap busy reading r.memory
 marked_for-heap busy (call.Resource c) reading r =
     let first : Memory = marked busy (named (resource_asked c r.names)) r.memory in
     marked-heap busy reading first ∙ marked-heap busy (named (resource_asked c r.names)) r.memory
@@ -64,6 +65,7 @@ marked-sound false (Some n) m bytes sound =
 pub marked_for-sound : (busy : Bool) (c : Call) (reading : Option ℕ) (r : Running) (bytes : ℕ → List ℕ)
     → Sound r.memory bytes → Sound (marked_for busy c reading r).memory bytes
 marked_for-sound busy (call.Control c) reading r bytes sound = sound
+marked_for-sound busy (call.Segment c) reading r bytes sound = marked-sound busy reading r.memory bytes sound
 marked_for-sound busy (call.Resource c) reading r bytes sound =
     let first : Memory = marked busy (named (resource_asked c r.names)) r.memory in
     marked-sound busy reading first bytes
@@ -79,6 +81,7 @@ marked_for-sound busy (call.Heap c) reading r bytes sound =
 kept-heap : (c : Call) (code : OsErr) (r : Running) → (kept_anew c code r).memory.heap ≡ r.memory.heap
 kept-heap (call.Heap c) code r = refl
 kept-heap (call.Resource c) code r = refl
+kept-heap (call.Segment c) code r = refl
 kept-heap (call.Control c) code r = refl
 
 kept-sound : (c : Call) (code : OsErr) (r : Running) (bytes : ℕ → List ℕ) → Sound r.memory bytes
@@ -86,6 +89,7 @@ kept-sound : (c : Call) (code : OsErr) (r : Running) (bytes : ℕ → List ℕ) 
 kept-sound (call.Heap c) code r bytes sound =
     record { known = sound.known; masters = sound.masters; fits = sound.fits }
 kept-sound (call.Resource c) code r bytes sound = sound
+kept-sound (call.Segment c) code r bytes sound = sound
 kept-sound (call.Control c) code r bytes sound = sound
 
 module _ (P : (ℕ → List ℕ) → Event → Type 0)

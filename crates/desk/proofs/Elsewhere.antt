@@ -1,6 +1,6 @@
 use Rattle.std.proofs.Common.{◌≡◌, ◌∙◌, ◌≤◌, ◌-◌, ◌++◌, arith, ℕ, Bool, true, false, zero, suc, List, [], ◌∷◌, refl}
 use Rattle.std.proofs.Common.{sym, ap}
-use Rattle.std.proofs.Common.{cond, map, Option, Some, None}
+use Rattle.std.proofs.Common.{cond, map, Option, Some, None, pos}
 use Rattle.std.proofs.lemmas.List.{map-append}
 use Rattle.mac_words.specs.declared.code.OsErr.{OsErr}
 use Rattle.mac_words.specs.declared.call.Call.{Call}
@@ -8,16 +8,25 @@ use Rattle.mac_words.specs.declared.call.Call.TheVariants as call
 use Rattle.mac_words.specs.declared.call.ControlCall.TheVariants as control
 use Rattle.block_store.specs.Rest.{Site}
 use Rattle.block_store.specs.Block.{Block, sizes, free, fresh}
-use Rattle.heap_calls.specs.State.{Memory}
+use Rattle.heap_calls.specs.State.{Memory, fresh_memory}
 use Rattle.mac_words.specs.Told.{Told}
 use Rattle.heap_calls.specs.Asked.{Asked}
 use Rattle.heap_calls.specs.Naming.{first_named, second_named}
 use Rattle.heap_calls.proofs.Tries.Elsewhere.{elsewhere, served-elsewhere}
 use Rattle.script_text.specs.declared.script.Line.{Line}
+use Rattle.res_calls.specs.Files.{Resources}
+use Rattle.res_calls.specs.Fetch.{Managers, Reads}
+use Rattle.res_calls.specs.Own.{own_datum}
 use Rattle.res_calls.specs.Asked.{Served, named}
-use Rattle.desk.specs.Trying.{Running, Blocks, Tried, once, asked, resource_asked, managers_of, launched, nowhere}
-use Rattle.desk.specs.Trying.{heap_tried, resource_tried, code_told}
+use Rattle.segments.specs.Table.{table_in}
+use Rattle.segments.specs.Calls.{code_type}
+use Rattle.segments.specs.Asked.{Served as Jumped}
+use Rattle.desk.specs.Trying.{Running, Blocks, Tried, once, asked, resource_asked, managers_of, program_of, launched}
+use Rattle.desk.specs.Trying.{launched_with, own_resources, nowhere, heap_tried, resource_tried, segment_tried}
+use Rattle.desk.specs.Trying.{code_told}
 use Rattle.res_calls.proofs.Walks.Place.{served-elsewhere as found-elsewhere}
+use Rattle.res_calls.proofs.Walks.Launching.{preloaded-elsewhere}
+use Rattle.segments.proofs.Laws.{served-elsewhere as jumped-elsewhere}
 use Rattle.desk.specs.Step.{Event, Course, joined, event_of, marked, marked_for, grown_line, grown}
 use Rattle.desk.specs.Step.{grown_for, asked_for, kept_anew, ended, stands, Round, Ends, Again, made_room, after_asking}
 use Rattle.desk.specs.Step.{after_try, round, continued, step_in, step, most_rounds, unless_over, run}
@@ -41,6 +50,8 @@ once-elsewhere site blocks (call.Heap c) r =
 once-elsewhere site blocks (call.Resource c) r =
     ap (λ (x : Served). resource_tried x (moved site r))
     (found-elsewhere site (resource_asked c r.names) (managers_of r))
+once-elsewhere site blocks (call.Segment c) r =
+    ap (λ (x : Jumped). segment_tried x (moved site r)) (jumped-elsewhere site c (program_of r))
 once-elsewhere site blocks (call.Control (control.SetGrowZone name)) r = refl
 once-elsewhere site blocks (call.Control control.WaitNextEvent) r = refl
 once-elsewhere site blocks (call.Control control.ExitToShell) r = refl
@@ -77,6 +88,8 @@ marked-elsewhere site false (Some n) m = refl
 marked_for-elsewhere : (site : Site) (busy : Bool) (c : Call) (reading : Option ℕ) (r : Running)
     → marked_for busy c reading (moved site r) ≡ moved site (marked_for busy c reading r)
 marked_for-elsewhere site busy (call.Control c) reading r = refl
+marked_for-elsewhere site busy (call.Segment c) reading r =
+    ap (λ (m : Memory). record r { memory = m }) (marked-elsewhere site busy reading r.memory)
 marked_for-elsewhere site busy (call.Resource c) reading r =
     let handle : Option ℕ = named (resource_asked c r.names) in
     ap (λ (m : Memory). record r { memory = m })
@@ -131,6 +144,7 @@ kept-elsewhere : (site : Site) (c : Call) (code : OsErr) (r : Running)
     → kept_anew c code (moved site r) ≡ moved site (kept_anew c code r)
 kept-elsewhere site (call.Heap c) code r = refl
 kept-elsewhere site (call.Resource c) code r = refl
+kept-elsewhere site (call.Segment c) code r = refl
 kept-elsewhere site (call.Control c) code r = refl
 
 stands-elsewhere : (site : Site) (l : Line) (t : Tried) (r : Running)
@@ -193,17 +207,30 @@ over-elsewhere site c next same = by_over c.over
     by_over true = refl
     by_over false = ap (joined (course_elsewhere site c)) (same c.after) ∙ joined-elsewhere site c (next c.after)
 
-whole-elsewhere : (site : Site) (blocks : Blocks) (lines : List Line) (r : Running)
+-- a run is the same elsewhere
+pub whole-elsewhere : (site : Site) (blocks : Blocks) (lines : List Line) (r : Running)
     → run blocks lines (moved site r) ≡ course_elsewhere site (run blocks lines r)
 whole-elsewhere site blocks [] r = refl
 whole-elsewhere site blocks (l ∷ lines) r =
     ap (λ (c : Course). unless_over c (run blocks lines)) (step_in-elsewhere site (most_rounds r) blocks l r)
     ∙ over-elsewhere site (step blocks l r) (run blocks lines) (λ x. whole-elsewhere site blocks lines x)
 
--- the lines of a run are the same elsewhere
-pub run_elsewhere : (site : Site) (blocks : Blocks) (lines : List Line) (r : Running)
-    → (run blocks lines (moved site r)).lines ≡ (run blocks lines r).lines
-run_elsewhere site blocks lines r = ap (λ (c : Course). c.lines) (whole-elsewhere site blocks lines r)
+-- and so is a launch
+pub launched-elsewhere : (resources : Resources) (n : ℕ) (site : Site)
+    → launched_with resources n site ≡ moved site (launched_with resources n nowhere)
+launched-elsewhere resources n site = ap begun (preloaded-elsewhere site managers)
+  where
+    managers : Managers
+    managers = record { memory = fresh_memory n nowhere; resources = resources }
+
+    begun : Managers × Reads → Running
+    begun opened = record {
+      memory = opened.0.memory;
+      resources = opened.0.resources;
+      table = table_in (own_datum code_type (pos 0) resources);
+      names = [];
+      grow = [];
+    }
 
 free-total : (m : ℕ) → sizes (free m) ≡ m
 free-total zero = refl
@@ -213,12 +240,25 @@ free-total (suc m) = omega arith
 pub sizes-fresh : (n : ℕ) → 272 ≤ n → sizes (fresh n) ≡ n
 sizes-fresh n big = omega (arith, free-total (n - 272))
 
--- the lines of an application in a fresh zone of n bytes, wherever that lies
+-- the course of an application in a fresh zone of n bytes, wherever that lies
+pub fresh_course : (resources : Resources) (r : Running) (zone : List Block) (site : Site) (n : ℕ) (blocks : Blocks)
+    (lines : List Line) → r ≡ launched_with resources (sizes zone) site → zone ≡ fresh n → 272 ≤ n
+    → run blocks lines r ≡ course_elsewhere site (run blocks lines (launched_with resources n nowhere))
+fresh_course resources r zone site n blocks lines is whole big =
+    ap (run blocks lines)
+    (is ∙ ap (λ (z : List Block). launched_with resources (sizes z) site) whole
+    ∙ ap (λ (k : ℕ). launched_with resources k site) (sizes-fresh n big)
+    ∙ launched-elsewhere resources n site)
+    ∙ whole-elsewhere site blocks lines (launched_with resources n nowhere)
+
+-- its lines, and those of a script alone
+pub fresh_run_with : (resources : Resources) (r : Running) (zone : List Block) (site : Site) (n : ℕ) (blocks : Blocks)
+    (lines : List Line) → r ≡ launched_with resources (sizes zone) site → zone ≡ fresh n → 272 ≤ n
+    → lines_told (run blocks lines r).lines ≡ lines_told (run blocks lines (launched_with resources n nowhere)).lines
+fresh_run_with resources r zone site n blocks lines is whole big =
+    ap (λ (c : Course). lines_told c.lines) (fresh_course resources r zone site n blocks lines is whole big)
+
 pub fresh_run : (r : Running) (zone : List Block) (site : Site) (n : ℕ) (blocks : Blocks) (lines : List Line)
     → r ≡ launched (sizes zone) site → zone ≡ fresh n → 272 ≤ n
     → lines_told (run blocks lines r).lines ≡ lines_told (run blocks lines (launched n nowhere)).lines
-fresh_run r zone site n blocks lines is whole big =
-    ap (λ (x : Running). lines_told (run blocks lines x).lines)
-    (is ∙ ap (λ (z : List Block). launched (sizes z) site) whole
-    ∙ ap (λ (k : ℕ). launched k site) (sizes-fresh n big))
-    ∙ ap lines_told (run_elsewhere site blocks lines (launched n nowhere))
+fresh_run = fresh_run_with own_resources

@@ -7,17 +7,19 @@ use Rattle.mac_words.specs.declared.call.Call.TheVariants as call
 use Rattle.mac_words.specs.declared.call.ControlCall.TheVariants as control
 use Rattle.block_store.specs.Block.{Block, sizes, count, is_masters}
 use Rattle.heap_calls.specs.State.{State, Memory}
-use Rattle.mac_words.specs.Told.{Told, Done, Given, Fetched, Number, Numbers, Code, Bytes, Kind, Info, Refused}
+use Rattle.mac_words.specs.Told.{Told, Done, Given, Fetched, Number, Numbers, Code, Bytes, Kind, Info, Entry, Refused}
 use Rattle.heap_calls.specs.Staying.{ease, staying}
 use Rattle.heap_calls.proofs.Tries.Parting.{parted, less_stays}
 use Rattle.heap_calls.proofs.Tries.Keeping.{served_bytes, served_masters_no_fewer, served_no_more}
 use Rattle.script_text.specs.declared.script.Line.{Line}
-use Rattle.desk.specs.Trying.{Running, Blocks, Tried, once, managers_of, code_told, is_full}
+use Rattle.desk.specs.Trying.{Running, Blocks, Tried, once, asked, resource_asked, managers_of, program_of}
+use Rattle.desk.specs.Trying.{code_told, is_full}
 use Rattle.desk.specs.Step.{Course, event_of, marked_for, grown, grown_for, asked_for, Round, Ends}
 use Rattle.desk.specs.Step.{Again, made_room, after_asking, joined, ended, stands, round, continued, step_in, step}
 use Rattle.desk.specs.Step.{step_by_rule, most_rounds, Event}
 use Rattle.desk.specs.Laws.{put_event, put_events, GoesByRule}
 use Rattle.res_calls.proofs.Walks.Laws.{served-bytes, served-masters, served-no_more}
+use Rattle.segments.proofs.Laws as jumping
 use Rattle.desk.proofs.TryLaws.{Sound, of-try, once-sound}
 use Rattle.desk.proofs.Carrying.{asked-goes, step-goes, marked_for-heap, marked_for-sound}
 use Rattle.desk.proofs.StepLaws.{each-step}
@@ -28,7 +30,7 @@ use Rattle.desk.proofs.StepLaws.{each-step}
 abbrev stays : Running → ℕ
 stays r = staying r.memory.heap.zone
 
--- a try that found no room was refused
+-- an answer that tells of no room is a refusal
 full-refused : (t : Told) → is_full (code_told t) ≡ true → (code : OsErr) × (t ≡ Refused code)
 full-refused (Refused code) e = (code, refl)
 full-refused Done e = cc
@@ -36,18 +38,25 @@ full-refused (Given n) e = cc
 full-refused (Fetched handle read) e = cc
 full-refused (Kind kind) e = cc
 full-refused (Info id kind name) e = cc
+full-refused (Entry segment flag) e = cc
 full-refused (Number n) e = cc
 full-refused (Numbers n m) e = cc
 full-refused (Code code) e = cc
 full-refused (Bytes x) e = cc
 
--- a try that is refused leaves no more that stays
-once-stays : (blocks : Blocks) (c : Call) (r : Running) (code : OsErr) → (once blocks c r).told ≡ Refused code
+-- a try that found no room leaves no more that stays
+once-stays : (blocks : Blocks) (c : Call) (r : Running) → (once blocks c r).wants ≡ true
     → stays (once blocks c r).after ≤ stays r
-once-stays blocks c r code tells = of-try
-    (λ d told reads after. told ≡ Refused code → stays after ≤ stays r) blocks c r
-    (λ a is. served_no_more a r.memory code is) (λ a is. served-no_more a (managers_of r) code is)
-    (λ k grow is. omega arith) tells
+once-stays blocks (call.Heap c) r wants =
+    let full = full-refused (once blocks (call.Heap c) r).told wants in
+    served_no_more (asked c r.names) r.memory full.0 full.1
+once-stays blocks (call.Resource c) r wants =
+    let full = full-refused (once blocks (call.Resource c) r).told wants in
+    served-no_more (resource_asked c r.names) (managers_of r) full.0 full.1
+once-stays blocks (call.Segment c) r wants = jumping.served-no_more c (program_of r) wants
+once-stays blocks (call.Control (control.SetGrowZone name)) r wants = cc
+once-stays blocks (call.Control control.WaitNextEvent) r wants = cc
+once-stays blocks (call.Control control.ExitToShell) r wants = cc
 
 -- no try changes how many bytes a zone has, or lets a block of master pointers go
 abbrev Frame : List Block → List Block → Type 0
@@ -70,6 +79,10 @@ once-frame blocks c r bytes sound = of-try
     (λ a. (
       served-bytes a (managers_of r) bytes sound.known,
       served-masters a (managers_of r) bytes sound.known,
+    ))
+    (λ c. (
+      jumping.served-bytes c (program_of r),
+      jumping.served-masters c (program_of r),
     )) (λ k grow. frame-same r.memory.heap.zone)
 
 grown-frame : (blocks : Blocks) (script : List Line) (r : Running) (bytes : ℕ → List ℕ) → Sound r.memory bytes
@@ -101,21 +114,12 @@ falls : (blocks : Blocks) (l : Line) (r : Running) (bytes : ℕ → List ℕ) �
 falls blocks l r bytes sound wants rose =
     let t : Tried = once blocks l.call r in
     let came : Course = asked_for blocks l r t in
-    let full = full-refused t.told (wants-full blocks l.call r wants) in
-    let no_more = once-stays blocks l.call r full.0 full.1 in
+    let no_more = once-stays blocks l.call r wants in
     let known = once-sound blocks l.call r bytes sound in
     let frame = for-frame blocks l t.reading t.after (put_event (event_of l r t) bytes) known in
     let eased = ltb-true (ease t.after.memory.heap.zone) (ease came.after.memory.heap.zone) rose in
     let less = less_stays t.after.memory.heap.zone came.after.memory.heap.zone frame.0 frame.1 eased in
     omega arith
-  where
-    wants-full : (blocks : Blocks) (c : Call) (r : Running) → (once blocks c r).wants ≡ true
-        → is_full (code_told (once blocks c r).told) ≡ true
-    wants-full blocks (call.Heap c) r wants = wants
-    wants-full blocks (call.Resource c) r wants = wants
-    wants-full blocks (call.Control (control.SetGrowZone name)) r wants = cc
-    wants-full blocks (call.Control control.WaitNextEvent) r wants = cc
-    wants-full blocks (call.Control control.ExitToShell) r wants = cc
 
 -- what is known of some bytes last put
 abbrev SomeSound : Memory → Type 0

@@ -1,4 +1,4 @@
-use Rattle.std.proofs.Common.{◌≡◌, ◌∙◌, ℕ, ◌==◌, Bool, true, false, refl, sym, ap, cond, List, Option, Some, None}
+use Rattle.std.proofs.Common.{◌≡◌, ◌∙◌, ℕ, ◌==◌, Bool, true, false, refl, sym, cond, List, Option, Some, None}
 use Rattle.std.proofs.Common.{Result, Ok, Err}
 use Rattle.std.specs.Prelude.{IfOk}
 use Rattle.std.specs.declared.alloc.AllocError.{AllocError}
@@ -20,7 +20,7 @@ use Rattle.heap_calls.specs.Inside.{has_block}
 use Rattle.heap_calls.specs.Asked.{told_as}
 use Rattle.res_calls.specs.Asked.{ResourceAsked, Served, served, tell_fetched, tell_info}
 use Rattle.res_calls.specs.Asked as asks
-use Rattle.desk.specs.Trying.{Running, resource_tried, is_full}
+use Rattle.desk.specs.Trying.{Running, resource_tried}
 use Rattle.desk.specs.Application.{bytes_told}
 use Rattle.desk.specs.Replies.{TellsServed, IsTried, fetches}
 use Rattle.desk.specs.declared.tried.Tried.{Tried}
@@ -185,7 +185,7 @@ is_tried tried a s r tells = record {
   reply = tells.reply;
   given = tells.given;
   reading = λ wants. tells.reading wants ∙ reads-again a s;
-  wants = ap is_full tells.reply.code;
+  wants = tells.wants;
   over = tells.over;
 }
 

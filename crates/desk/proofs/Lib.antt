@@ -3,9 +3,12 @@ mod Rounds
 mod Saying
 mod Arms
 mod FoundCalls
+mod JumpCalls
 mod OwnFork
+mod Quits
 mod TryLaws
 mod Carrying
+mod Counting
 mod StepLaws
 mod Marking
 mod Ending

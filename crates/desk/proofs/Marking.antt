@@ -6,6 +6,7 @@ use Rattle.mac_words.specs.declared.call.Call.{Call}
 use Rattle.mac_words.specs.declared.call.Call.TheVariants as call
 use Rattle.mac_words.specs.declared.call.HeapCall.{HeapCall}
 use Rattle.mac_words.specs.declared.resource_call.ResourceCall.{ResourceCall}
+use Rattle.mac_words.specs.declared.segment_call.SegmentCall.{SegmentCall}
 use Rattle.res_calls.specs.Asked.{named}
 use Rattle.heap_calls.specs.State.{Memory}
 use Rattle.heap_calls.specs.Asked.{Asked}
@@ -112,6 +113,11 @@ marked_for-resource busy c reading r =
     marked-marks busy reading first
     ∙ ap (marks busy reading) (marked-marks busy (named (resource_asked c r.names)) r.memory)
 
+marked_for-segment : (busy : Bool) (c : SegmentCall) (reading : Option ℕ) (r : Running)
+    → (marked_for busy (call.Segment c) reading r).memory.log.busy
+    ≡ all_marks busy None None reading r.memory.log.busy
+marked_for-segment busy c reading r = marked-marks busy reading r.memory
+
 -- lines of a grow-zone script leave which numbers are busy
 grown-busy : (blocks : Blocks) (script : List Line) (r : Running)
     → (grown blocks script r).after.memory.log.busy ≡ r.memory.log.busy
@@ -124,6 +130,15 @@ cleared-behind : (blocks : Blocks) (c : Call) (script : List Line) (reading : Op
     → r.memory.log.busy ≡ idle
     → (marked_for false c reading (grown blocks script (marked_for true c reading r)).after).memory.log.busy ≡ idle
 cleared-behind blocks (call.Control c) script reading r none = grown-busy blocks script r ∙ none
+cleared-behind blocks (call.Segment c) script reading r none =
+    marked_for-segment false c reading (grown blocks script busy).after
+    ∙ ap (all_marks false None None reading)
+    (grown-busy blocks script busy ∙ marked_for-segment true c reading r
+    ∙ ap (all_marks true None None reading) none)
+    ∙ marked-and-cleared None None reading
+  where
+    busy : Running
+    busy = marked_for true (call.Segment c) reading r
 cleared-behind blocks (call.Resource c) script reading r none =
     marked_for-resource false c reading after
     ∙ ap (λ (names : Bindings). all_marks false (named (resource_asked c names)) None reading after.memory.log.busy)
@@ -171,6 +186,7 @@ asked-idle blocks l r none =
 kept-busy : (c : Call) (code : OsErr) (r : Running) → (kept_anew c code r).memory.log.busy ≡ r.memory.log.busy
 kept-busy (call.Heap c) code r = refl
 kept-busy (call.Resource c) code r = refl
+kept-busy (call.Segment c) code r = refl
 kept-busy (call.Control c) code r = refl
 
 -- nothing is busy after a course

@@ -10,7 +10,7 @@ use Rattle.mac_words.specs.Told.{Told, Done, Given, Number, Code, Refused}
 use Rattle.script_text.specs.declared.script.Line.{Line}
 use Rattle.script_text.specs.Script.{Parts}
 use Rattle.desk.specs.Step.{Shown}
-use Rattle.desk.specs.Application.{run_alone}
+use Rattle.desk.specs.Alone.{run_alone}
 
 -- Worked examples of grow-zone scripts, in a partition of 1,024 bytes.
 

@@ -19,14 +19,16 @@ use Rattle.script_text.specs.Call.{word_of}
 use Rattle.script_text.specs.declared.script.Line.{Line}
 use Rattle.script_text.specs.Transcript.{Shown, Number, values_of, type_shown}
 use Rattle.script_text.specs.Transcript.{name_shown, bytes_shown, reply_line, grow_line}
-use Rattle.mac_words.specs.Told.{Told, Done, Given, Fetched, Number as Count, Numbers, Code, Bytes, Kind, Info}
+use Rattle.mac_words.specs.Told.{Told, Done, Given, Fetched, Number as Count, Numbers, Code, Bytes, Kind, Info, Entry}
 use Rattle.mac_words.specs.Told.{Refused}
 use Rattle.heap_calls.specs.Asked.{told_as}
 use Rattle.heap_calls.specs.Asked as asks
 use Rattle.desk.specs.Names.{bound_to}
-use Rattle.desk.specs.Trying.{Running, Blocks, asked, resource_asked, managers_of, once, code_told, is_full}
+use Rattle.desk.specs.Trying.{Running, Blocks, asked, resource_asked, managers_of, program_of, once, code_told}
+use Rattle.desk.specs.Trying.{is_full}
 use Rattle.desk.specs.Application.{numbers_told, type_told, name_told, bytes_told, values_told, line_told}
 use Rattle.desk.proofs.FoundCalls.{told-none, found-shows-none}
+use Rattle.desk.proofs.JumpCalls.{jump-shows-none}
 use Rattle.desk.specs.Replies.{Says}
 
 -- What a reply says, and what a call shows again.
@@ -69,6 +71,7 @@ full-shows-none (Info id kind name) full = refl
 full-shows-none (Count n) full = refl
 full-shows-none (Numbers one other) full = refl
 full-shows-none (Code code) full = refl
+full-shows-none (Entry segment flag) full = refl
 full-shows-none (Bytes bytes) full = let f : false ≡ true = full in cc
 full-shows-none (Refused code) full = refl
 
@@ -153,9 +156,21 @@ shown-again blocks (call.Resource c) r =
     found-shows-none (resource_asked c (once blocks (call.Resource c) r).after.names)
     (managers_of (once blocks (call.Resource c) r).after)
     ∙ sym (found-shows-none (resource_asked c r.names) (managers_of r))
+shown-again blocks (call.Segment c) r =
+    jump-shows-none c (program_of (once blocks (call.Segment c) r).after) ∙ sym (jump-shows-none c (program_of r))
 shown-again blocks (call.Control (control.SetGrowZone name)) r = refl
 shown-again blocks (call.Control control.WaitNextEvent) r = refl
 shown-again blocks (call.Control control.ExitToShell) r = refl
+
+-- and a call that is for want of room shows none
+pub wants-shows-none : (blocks : Blocks) (c : Call) (r : Running) → (once blocks c r).wants ≡ true
+    → bytes_told (once blocks c r).told ≡ None
+wants-shows-none blocks (call.Heap c) r wants = full-shows-none (served (asked c r.names) r.memory).0 wants
+wants-shows-none blocks (call.Resource c) r wants = found-shows-none (resource_asked c r.names) (managers_of r)
+wants-shows-none blocks (call.Segment c) r wants = jump-shows-none c (program_of r)
+wants-shows-none blocks (call.Control (control.SetGrowZone name)) r wants = refl
+wants-shows-none blocks (call.Control control.WaitNextEvent) r wants = refl
+wants-shows-none blocks (call.Control control.ExitToShell) r wants = refl
 
 -- so the line of a call of a grow-zone script is written
 pub grown-said : (l : Line) (word : Word) (reply : Reply) (bytes : Option (List ℕ)) (told : Told)

@@ -37,6 +37,7 @@ marked_for-names : (busy : Bool) (c : Call) (reading : Option ℕ) (r : Running)
     → (marked_for busy c reading r).names ≡ r.names
 marked_for-names busy (call.Control c) reading r = refl
 marked_for-names busy (call.Resource c) reading r = refl
+marked_for-names busy (call.Segment c) reading r = refl
 marked_for-names busy (call.Heap c) reading r = refl
 
 for-names : (blocks : Blocks) (l : Line) (reading : Option ℕ) (r : Running)
@@ -63,12 +64,14 @@ names-kept (call.Resource (resource.GetNamedResource name ty text)) names = refl
 names-kept (call.Resource (resource.Get1NamedResource name ty text)) names = refl
 names-kept (call.Resource (resource.Get1IndResource name ty index)) names = refl
 names-kept (call.Resource c) names = refl
+names-kept (call.Segment c) names = refl
 names-kept (call.Control c) names = refl
 
 -- nor where a code is kept anew
 kept-names : (c : Call) (code : OsErr) (r : Running) → (kept_anew c code r).names ≡ r.names
 kept-names (call.Heap c) code r = refl
 kept-names (call.Resource c) code r = refl
+kept-names (call.Segment c) code r = refl
 kept-names (call.Control c) code r = refl
 
 -- a call that is refused binds nothing

@@ -6,6 +6,7 @@ use Rattle.mac_words.specs.declared.call.Call.TheVariants as call
 use Rattle.mac_words.specs.declared.code.OsErr.{OsErr}
 use Rattle.mac_words.specs.declared.call.ControlCall.{ControlCall}
 use Rattle.mac_words.specs.declared.call.ControlCall.TheVariants as control
+use Rattle.mac_words.specs.declared.segment_call.SegmentCall.{SegmentCall}
 use Rattle.block_store.specs.Block.{count, is_masters, is_relocatable}
 use Rattle.block_store.specs.Run.{has}
 use Rattle.block_store.specs.Rest.{counted}
@@ -13,7 +14,7 @@ use Rattle.heap_calls.specs.Locked.{locked_place}
 use Rattle.heap_calls.specs.Standing.{pointer_place}
 use Rattle.heap_calls.specs.Emptying.{may_be_emptied}
 use Rattle.heap_calls.specs.State.{Memory, fresh_memory}
-use Rattle.mac_words.specs.Told.{Told, Done, Given, Fetched, Number, Numbers, Code, Bytes, Kind, Info, Refused}
+use Rattle.mac_words.specs.Told.{Told, Done, Given, Fetched, Number, Numbers, Code, Bytes, Kind, Info, Entry, Refused}
 use Rattle.heap_calls.specs.Asked.{Asked}
 use Rattle.heap_calls.specs.Asked as asks
 use Rattle.heap_calls.specs.Busy.{served}
@@ -23,18 +24,25 @@ use Rattle.heap_calls.proofs.Promises.FewSearches.{unlooked}
 use Rattle.heap_calls.proofs.Tries.Gating.{served-known, served-shows, served-locked, served-fixed, served-purgeable}
 use Rattle.heap_calls.proofs.Tries.Gating.{served_looks, served-refused, served-busy}
 use Rattle.heap_calls.proofs.Tries.Keeping.{served_masters_no_fewer}
+use Rattle.res_calls.specs.Files.{Resources}
 use Rattle.res_calls.specs.Fetch.{Managers, Reads}
 use Rattle.res_calls.specs.Asked.{ResourceAsked}
 use Rattle.res_calls.specs.Asked as finds
+use Rattle.segments.specs.Calls.{Program}
+use Rattle.segments.specs.Asked as jumps
 use Rattle.script_text.specs.Script.{block_of}
 use Rattle.script_text.specs.declared.script.Line.{Line}
 use Rattle.heap_calls.specs.Path.{put_reads}
-use Rattle.desk.specs.Trying.{Running, Blocks, once, asked, resource_asked, managers_of, nowhere}
-use Rattle.desk.specs.Step.{Deed, Ask, Find, Steer, deed_of, event_of}
+use Rattle.desk.specs.Trying.{Running, Blocks, once, asked, resource_asked, managers_of, program_of, nowhere}
+use Rattle.desk.specs.Trying.{launched_with}
+use Rattle.desk.specs.Step.{Deed, Ask, Find, Jump, Steer, deed_of, event_of}
 use Rattle.desk.specs.Laws.{put_found, put_deed, put_event, ShowsPut, HoldsPut, frees, drops, lets, opens, Kept}
 use Rattle.desk.specs.Laws.{KeepsLocked, KeepsFixed, EmptiesPurgeable, LooksFew, RefusedLeaves, keeps_resources}
-use Rattle.desk.specs.Laws.{KeepsResources, writes_files, KeepsFiles}
+use Rattle.desk.specs.Laws.{KeepsResources, writes_files, KeepsFiles, KeepsTable}
+use Rattle.desk.specs.Laws.{put_at_launch, jumps as is_jump}
 use Rattle.res_calls.proofs.Walks.Laws as laws
+use Rattle.res_calls.proofs.Walks.Launching.{preloaded-known, preloaded-masters, preloaded-fits}
+use Rattle.segments.proofs.Laws as jumping
 
 -- The laws of one try, by any application that a run reaches.
 
@@ -48,7 +56,20 @@ pub record Sound (m : Memory) (bytes : ℕ → List ℕ) : Type 0 where
 pub sound-fresh : (n : ℕ) → Sound (fresh_memory n nowhere) (λ h. [])
 sound-fresh n = record { known = known-fresh n; masters = omega arith; fits = omega arith }
 
--- an application after a call of the heap's table, or of the Resource Manager's
+-- that of an application that was just launched
+pub sound-launched : (resources : Resources) (n : ℕ)
+    → Sound (launched_with resources n nowhere).memory (put_at_launch resources n)
+sound-launched resources n =
+    let s : Managers = record { memory = fresh_memory n nowhere; resources = resources } in
+    let fresh = sound-fresh n in
+    let some = fresh.masters in
+    let kept = preloaded-masters s in record {
+      known = preloaded-known s (λ h. []) fresh.known;
+      masters = omega arith;
+      fits = preloaded-fits s fresh.masters fresh.fits;
+    }
+
+-- an application after a call of the heap's table, of the Resource Manager's, or of the Segment Manager's
 abbrev pub asked_after : Asked → Running → Running
 asked_after a r = record r { memory = (served a r.memory).1 }
 
@@ -58,31 +79,42 @@ found_after a r = record r {
   resources = (finds.served a (managers_of r)).after.resources;
 }
 
--- what holds of each call of the heap's table, of each of the Resource Manager's, and of one that leaves both, holds of
--- each try
+abbrev pub jumped_after : SegmentCall → Running → Running
+jumped_after c r = record r {
+  memory = (jumps.served c (program_of r)).after.managers.memory;
+  resources = (jumps.served c (program_of r)).after.managers.resources;
+  table = (jumps.served c (program_of r)).after.table;
+}
+
+-- what holds of each call of the heap's table, of each of the Resource Manager's, of each of the Segment Manager's, and
+-- of one that leaves them all, holds of each try
 pub of-try : (Q : Deed → Told → Reads → Running → Type 0) (blocks : Blocks) (c : Call) (r : Running)
     → ((a : Asked) → Q (Ask a) (served a r.memory).0 [] (asked_after a r))
     → ((a : ResourceAsked) → Q (Find a) (finds.served a (managers_of r)).told (finds.served a (managers_of r)).reads
     (found_after a r))
+    → ((c : SegmentCall) → Q (Jump c) (jumps.served c (program_of r)).told (jumps.served c (program_of r)).reads
+    (jumped_after c r))
     → ((k : ControlCall) (grow : List Line) → Q (Steer k) Done [] (record r { grow = grow }))
     → Q (deed_of c r.names) (once blocks c r).told (once blocks c r).reads (once blocks c r).after
-of-try Q blocks (call.Heap c) r asks finds steers = asks (asked c r.names)
-of-try Q blocks (call.Resource c) r asks finds steers = finds (resource_asked c r.names)
-of-try Q blocks (call.Control (control.SetGrowZone name)) r asks finds steers =
+of-try Q blocks (call.Heap c) r asks finds jumps steers = asks (asked c r.names)
+of-try Q blocks (call.Resource c) r asks finds jumps steers = finds (resource_asked c r.names)
+of-try Q blocks (call.Segment c) r asks finds jumps steers = jumps c
+of-try Q blocks (call.Control (control.SetGrowZone name)) r asks finds jumps steers =
     steers (control.SetGrowZone name) (block_of name.0.items blocks)
-of-try Q blocks (call.Control control.WaitNextEvent) r asks finds steers = steers control.WaitNextEvent r.grow
-of-try Q blocks (call.Control control.ExitToShell) r asks finds steers = steers control.ExitToShell r.grow
+of-try Q blocks (call.Control control.WaitNextEvent) r asks finds jumps steers = steers control.WaitNextEvent r.grow
+of-try Q blocks (call.Control control.ExitToShell) r asks finds jumps steers = steers control.ExitToShell r.grow
 
 -- a try binds no name
 pub once-names : (blocks : Blocks) (c : Call) (r : Running) → (once blocks c r).after.names ≡ r.names
 once-names blocks c r = of-try (λ d told reads after. after.names ≡ r.names) blocks c r
-    (λ a. refl) (λ a. refl) (λ k grow. refl)
+    (λ a. refl) (λ a. refl) (λ c. refl) (λ k grow. refl)
 
 -- and leaves which numbers are busy
 pub once-busy : (blocks : Blocks) (c : Call) (r : Running)
     → (once blocks c r).after.memory.log.busy ≡ r.memory.log.busy
 once-busy blocks c r = of-try (λ d told reads after. after.memory.log.busy ≡ r.memory.log.busy) blocks c r
-    (λ a. served-busy a r.memory) (λ a. laws.served-busy a (managers_of r)) (λ k grow. refl)
+    (λ a. served-busy a r.memory) (λ a. laws.served-busy a (managers_of r))
+    (λ c. jumping.served-busy c (program_of r)) (λ k grow. refl)
 
 -- what is known is kept by each call of the heap's table
 served-sound : (a : Asked) (m : Memory) (bytes : ℕ → List ℕ) → Sound m bytes
@@ -107,6 +139,7 @@ found-put (Code code) reads bytes none = refl
 found-put (Bytes x) reads bytes none = refl
 found-put (Kind kind) reads bytes none = refl
 found-put (Info id kind name) reads bytes none = refl
+found-put (Entry segment flag) reads bytes none = refl
 
 -- and by each of the Resource Manager's
 found-sound : (a : ResourceAsked) (s : Managers) (bytes : ℕ → List ℕ) → Sound s.memory bytes
@@ -121,13 +154,24 @@ found-sound a s bytes sound =
       fits = laws.served-fits a s sound.masters sound.fits;
     }
 
+-- and by each of the Segment Manager's
+jumped-sound : (c : SegmentCall) (p : Program) (bytes : ℕ → List ℕ) → Sound p.managers.memory bytes
+    → Sound (jumps.served c p).after.managers.memory (put_reads (jumps.served c p).reads bytes)
+jumped-sound c p bytes sound =
+    let few = jumping.served-looks c p sound.masters sound.fits in
+    let count = few.2 in
+    let kept = jumping.served-masters c p in
+    let some = sound.masters in
+    record { known = jumping.served-known c p bytes sound.known; masters = omega arith; fits = omega arith }
+
 -- and so by each try, with the bytes that it put
 pub once-sound : (blocks : Blocks) (c : Call) (r : Running) (bytes : ℕ → List ℕ) → Sound r.memory bytes
     → Sound (once blocks c r).after.memory
     (put_deed (deed_of c r.names) (once blocks c r).told (once blocks c r).reads bytes)
 once-sound blocks c r bytes sound = of-try
     (λ d told reads after. Sound after.memory (put_deed d told reads bytes)) blocks c r
-    (λ a. served-sound a r.memory bytes sound) (λ a. found-sound a (managers_of r) bytes sound) (λ k grow. sound)
+    (λ a. served-sound a r.memory bytes sound) (λ a. found-sound a (managers_of r) bytes sound)
+    (λ c. jumped-sound c (program_of r) bytes sound) (λ k grow. sound)
 
 -- bytes that a try shows are those last put
 pub once-shows : (blocks : Blocks) (l : Line) (r : Running) (bytes : ℕ → List ℕ) → Sound r.memory bytes
@@ -135,7 +179,7 @@ pub once-shows : (blocks : Blocks) (l : Line) (r : Running) (bytes : ℕ → Lis
 once-shows blocks l r bytes sound = of-try
     (λ d told reads after. (h : ℕ) (shown : List ℕ)
     → (d ≡ Ask (asks.Show (Some h))) ⊎ (d ≡ Ask (asks.ShowPtr (Some h)))
-    → told ≡ Bytes shown → shown ≡ bytes h) blocks l.call r shows found none
+    → told ≡ Bytes shown → shown ≡ bytes h) blocks l.call r shows found jumped none
   where
     same : (a b : Asked) → Ask a ≡ Ask b → a ≡ b
     same a b e = cc
@@ -153,6 +197,12 @@ once-shows blocks l r bytes sound = of-try
         → (finds.served a (managers_of r)).told ≡ Bytes shown → shown ≡ bytes h
     found a h shown (inl is) tells = cc
     found a h shown (inr is) tells = cc
+
+    jumped : (c : SegmentCall) (h : ℕ) (shown : List ℕ)
+        → (Jump c ≡ Ask (asks.Show (Some h))) ⊎ (Jump c ≡ Ask (asks.ShowPtr (Some h)))
+        → (jumps.served c (program_of r)).told ≡ Bytes shown → shown ≡ bytes h
+    jumped c h shown (inl is) tells = cc
+    jumped c h shown (inr is) tells = cc
 
     none : (k : ControlCall) (grow : List Line) (h : ℕ) (shown : List ℕ)
         → (Steer k ≡ Ask (asks.Show (Some h))) ⊎ (Steer k ≡ Ask (asks.ShowPtr (Some h)))
@@ -172,7 +222,8 @@ once-locked blocks l r bytes sound h place = of-try
     (λ d told reads after. frees h d r ≡ false → locked_place h r.memory.heap.zone ≡ Some place
     → locked_place h after.memory.heap.zone ≡ Some place) blocks l.call r
     (λ a. served-locked a r.memory sound.known.once h place)
-    (λ a. laws.served-locked a (managers_of r) bytes sound.known h place) (λ k grow keeps is. is)
+    (λ a. laws.served-locked a (managers_of r) bytes sound.known h place)
+    (λ c. jumping.served-locked c (program_of r) bytes sound.known h place) (λ k grow keeps is. is)
 
 -- and pointers' blocks
 pub once-fixed : (blocks : Blocks) (l : Line) (r : Running) (bytes : ℕ → List ℕ) → Sound r.memory bytes
@@ -181,7 +232,8 @@ once-fixed blocks l r bytes sound p place = of-try
     (λ d told reads after. drops p d ≡ false → pointer_place p r.memory.heap.zone ≡ Some place
     → pointer_place p after.memory.heap.zone ≡ Some place) blocks l.call r
     (λ a. served-fixed a r.memory sound.known.once (next-new r.memory.heap bytes sound.known) p place)
-    (λ a keeps. laws.served-fixed a (managers_of r) bytes sound.known p place) (λ k grow keeps is. is)
+    (λ a keeps. laws.served-fixed a (managers_of r) bytes sound.known p place)
+    (λ c keeps. jumping.served-fixed c (program_of r) bytes sound.known p place) (λ k grow keeps is. is)
 
 -- and empties only blocks that may be emptied
 pub once-purgeable : (blocks : Blocks) (l : Line) (r : Running) (bytes : ℕ → List ℕ) → Sound r.memory bytes
@@ -192,6 +244,7 @@ once-purgeable blocks l r bytes sound h = of-try
     → may_be_emptied h r.memory.heap.zone ≡ true) blocks l.call r
     (λ a. served-purgeable a r.memory sound.known.once h)
     (λ a. laws.served-purgeable a (managers_of r) bytes sound.known h)
+    (λ c keeps. jumping.served-purgeable c (program_of r) bytes sound.known h)
     (λ k grow keeps before after. absurd-same before after)
   where
     absurd-same : {t : Bool} → t ≡ true → t ≡ false → may_be_emptied h r.memory.heap.zone ≡ true
@@ -205,6 +258,7 @@ once-looks blocks l r bytes sound = of-try
     × (after.memory.log.searches ≡ counted r.memory.log.searches n)) blocks l.call r
     (λ a opens. served_looks a r.memory sound.masters sound.fits)
     (λ a opens. laws.served-looks a (managers_of r) opens sound.masters sound.fits)
+    (λ c opens. jumping.served-looks c (program_of r) sound.masters sound.fits)
     (λ k grow opens. unlooked r.memory.heap.zone r.memory.log.searches sound.fits)
 
 -- where it is refused it leaves the heap
@@ -213,20 +267,32 @@ pub once-refused : (blocks : Blocks) (l : Line) (r : Running) (bytes : ℕ → L
 once-refused blocks l r bytes sound code tells = (
   of-try (λ d told reads after. told ≡ Refused code → Kept d code r after) blocks l.call r
       (λ a is. ((served-refused a r.memory code is).0, refl))
-      (λ a. laws.served-refused a (managers_of r) code) (λ k grow is. (refl, refl)) tells,
+      (λ a. laws.served-refused a (managers_of r) code)
+      (λ c is other. ap (λ (p : Program). kept p) (jumping.served-refused c (program_of r) code is other))
+      (λ k grow is. (refl, refl)) tells,
   once-names blocks l.call r,
 )
+  where
+    kept : Program → Running
+    kept p = record r { memory = p.managers.memory; resources = p.managers.resources; table = p.table }
 
 -- a call of the heap's table leaves the resources
 pub once-keeps-resources : (blocks : Blocks) (l : Line) (r : Running) (bytes : ℕ → List ℕ) → Sound r.memory bytes
     → KeepsResources bytes (event_of l r (once blocks l.call r))
 once-keeps-resources blocks l r bytes sound = of-try
     (λ d told reads after. keeps_resources d ≡ true → after.resources ≡ r.resources) blocks l.call r
-    (λ a is. refl) (λ a is. cc) (λ k grow is. refl)
+    (λ a is. refl) (λ a is. cc) (λ c is. cc) (λ k grow is. refl)
 
 -- and each try that makes or updates no file the files
 pub once-keeps-files : (blocks : Blocks) (l : Line) (r : Running) (bytes : ℕ → List ℕ) → Sound r.memory bytes
     → KeepsFiles bytes (event_of l r (once blocks l.call r))
 once-keeps-files blocks l r bytes sound = of-try
     (λ d told reads after. writes_files d ≡ false → after.resources.files ≡ r.resources.files) blocks l.call r
-    (λ a is. refl) (λ a. laws.served-files a (managers_of r)) (λ k grow is. refl)
+    (λ a is. refl) (λ a. laws.served-files a (managers_of r))
+    (λ c is. jumping.served-files c (program_of r)) (λ k grow is. refl)
+
+-- and each but those of the Segment Manager's calls the jump table
+pub once-keeps-table : (blocks : Blocks) (l : Line) (r : Running) (bytes : ℕ → List ℕ) → Sound r.memory bytes
+    → KeepsTable bytes (event_of l r (once blocks l.call r))
+once-keeps-table blocks l r bytes sound = of-try (λ d told reads after. is_jump d ≡ false → after.table ≡ r.table)
+    blocks l.call r (λ a is. refl) (λ a is. refl) (λ c is. cc) (λ k grow is. refl)

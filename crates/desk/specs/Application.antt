@@ -1,16 +1,15 @@
 use Rattle.std.specs.Prelude.{ℕ, ℤ, pos, Option, Some, None, List, [], ◌∷◌, ◌++◌, map, if◌then◌else◌}
 use Rattle.std.specs.List.{flat_map}
 use Rattle.byteorder.specs.Endian.{big_bytes}
-use Rattle.mac_words.specs.Told.{Told, Fetched, Number, Numbers, Code, Bytes, Kind, Info}
+use Rattle.mac_words.specs.Told.{Told, Fetched, Number, Numbers, Code, Bytes, Kind, Info, Entry}
 use Rattle.script_text.specs.Call.{word_of}
-use Rattle.script_text.specs.Script.{Parts}
-use Rattle.script_text.specs.Transcript.{Shown as Value, bytes_shown, launch_line, reply_line, grow_line, end_line}
+use Rattle.script_text.specs.Transcript.{Shown as Value, bytes_shown, reply_line, grow_line}
 use Rattle.script_text.specs.Transcript as shows
 use Rattle.script_text.specs.declared.word.Word.{Word}
-use Rattle.desk.specs.Trying.{launched, nowhere, code_told}
-use Rattle.desk.specs.Step.{Shown, Course, run}
+use Rattle.desk.specs.Trying.{code_told}
+use Rattle.desk.specs.Step.{Shown}
 
--- The transcript of an application.
+-- The lines of a transcript.
 
 -- the numbers that are told; that of a handle or pointer is the name's alone
 abbrev pub numbers_told : Told → List ℤ
@@ -19,6 +18,7 @@ numbers_told (Number n) = pos n ∷ []
 numbers_told (Numbers one other) = pos one ∷ pos other ∷ []
 numbers_told (Code code) = code.0 ∷ []
 numbers_told (Info id kind name) = id ∷ []
+numbers_told (Entry segment flag) = segment ∷ pos flag ∷ []
 numbers_told told = []
 
 -- the bytes of the type that is told
@@ -57,11 +57,3 @@ line_told s = if s.grown then grown_told_line s.line.number (word_of s.line.call
 -- lines of the transcript in order
 abbrev pub lines_told : List Shown → List ℕ
 lines_told lines = flat_map line_told lines
-
--- what a script comes to, run to its end in a fresh partition of n bytes
-abbrev pub run_alone : ℕ → Parts → Course
-run_alone n script = run script.blocks script.steps (launched n nowhere)
-
--- the transcript of a script, run so
-abbrev pub transcript : ℕ → Parts → List ℕ
-transcript n script = launch_line n ++ lines_told (run_alone n script).lines ++ end_line (pos 0)

@@ -1,5 +1,6 @@
-use Rattle.std.specs.Prelude.{◌≡◌, ◌≤◌, ◌⊎◌, ℕ, Bool, true, false, Some, List, [], ◌∷◌, length, ◌+◌}
+use Rattle.std.specs.Prelude.{◌≡◌, ◌≢◌, ◌≤◌, ◌⊎◌, ℕ, Bool, true, false, Some, List, [], ◌∷◌, length, ◌+◌}
 use Rattle.mac_words.specs.declared.code.OsErr.{OsErr}
+use Rattle.mac_words.specs.declared.code.TheConstants.OsErr.{SYSTEM_ERROR}
 use Rattle.block_store.specs.Block.{is_relocatable}
 use Rattle.block_store.specs.Run.{has}
 use Rattle.block_store.specs.Rest.{counted}
@@ -19,8 +20,10 @@ use Rattle.heap_calls.specs.Refused.{slotted_zone}
 use Rattle.res_calls.specs.Fetch.{Reads}
 use Rattle.res_calls.specs.Disposing.{disposes_of, opens_file}
 use Rattle.res_calls.specs.Writing.{writes}
-use Rattle.desk.specs.Trying.{Running, Blocks, managers_of}
-use Rattle.desk.specs.Step.{Deed, Ask, Find, Steer, Event, step, step_by_rule}
+use Rattle.res_calls.specs.Files.{Resources}
+use Rattle.segments.specs.Asked.{unlocks}
+use Rattle.desk.specs.Trying.{Running, Blocks, managers_of, read_at_launch, nowhere}
+use Rattle.desk.specs.Step.{Deed, Ask, Find, Jump, Steer, Event, step, step_by_rule}
 
 -- What holds of each try of a run, the refused ones and those of a grow-zone script's lines too.
 
@@ -29,10 +32,12 @@ abbrev pub put_found : Told → Reads → (ℕ → List ℕ) → ℕ → List �
 put_found (Refused code) reads bytes = bytes
 put_found told reads bytes = put_reads reads bytes
 
--- the bytes last put into each handle and pointer, after one try more
+-- the bytes last put into each handle and pointer, after one try more. What a call on a segment reads counts although it
+-- be refused: the application ends then, with the segment in memory
 abbrev pub put_deed : Deed → Told → Reads → (ℕ → List ℕ) → ℕ → List ℕ
 put_deed (Ask asked) told reads bytes = put_by asked told bytes
 put_deed (Find asked) told reads bytes = put_found told reads bytes
+put_deed (Jump call) told reads bytes = put_reads reads bytes
 put_deed (Steer control) told reads bytes = bytes
 
 abbrev pub put_event : Event → (ℕ → List ℕ) → ℕ → List ℕ
@@ -42,6 +47,10 @@ put_event e bytes = put_deed e.deed e.told e.reads bytes
 abbrev pub put_events : List Event → (ℕ → List ℕ) → ℕ → List ℕ
 put_events [] bytes = bytes
 put_events (e ∷ events) bytes = put_events events (put_event e bytes)
+
+-- the bytes last put before the first step of an application: those that were read of its fork as it was launched
+abbrev pub put_at_launch : Resources → ℕ → ℕ → List ℕ
+put_at_launch resources n = put_reads (read_at_launch resources n nowhere) (λ h. [])
 
 -- this holds of each try, by the bytes last put before it
 abbrev pub EachTry : ((ℕ → List ℕ) → Event → Type 0) → (ℕ → List ℕ) → List Event → Type 0
@@ -67,18 +76,21 @@ HoldsPut bytes e = Holds e.after.memory.heap (put_event e bytes)
 abbrev pub frees : ℕ → Deed → Running → Bool
 frees h (Ask asked) r = releases h asked
 frees h (Find asked) r = disposes_of h asked (managers_of r)
+frees h (Jump call) r = unlocks h call (managers_of r)
 frees h (Steer control) r = false
 
 -- a call that disposes of a pointer
 abbrev pub drops : ℕ → Deed → Bool
 drops p (Ask asked) = disposes p asked
 drops p (Find asked) = false
+drops p (Jump call) = false
 drops p (Steer control) = false
 
 -- a call that empties a handle or disposes of it
 abbrev pub lets : ℕ → Deed → Running → Bool
 lets h (Ask asked) r = lets_go h asked
 lets h (Find asked) r = disposes_of h asked (managers_of r)
+lets h (Jump call) r = false
 lets h (Steer control) r = false
 
 -- a block that is locked before a try is locked after it, at the same distance from the zone's bottom, unless the call
@@ -104,6 +116,7 @@ EmptiesPurgeable bytes e =
 abbrev pub opens : Deed → Bool
 opens (Ask asked) = false
 opens (Find asked) = opens_file asked
+opens (Jump call) = false
 opens (Steer control) = false
 
 -- a try, but for an opening, looks for room at most once more than there are blocks at its start, by the heap's own
@@ -114,7 +127,8 @@ LooksFew bytes e =
     × (e.after.memory.log.searches ≡ counted e.before.memory.log.searches n)
 
 -- what a try that was refused leaves: the heap as it was, but for the zone that a refused call of the heap's table
--- leaves; a call of the Resource Manager leaves its code, and a block of slots that was made for a new handle
+-- leaves; a call of the Resource Manager leaves its code, and a block of slots that was made for a new handle; a call on
+-- a segment leaves all as it was, unless a system error ends the application
 abbrev pub Kept : Deed → OsErr → Running → Running → Type 0
 Kept (Ask asked) code r after =
     (after.memory.heap ≡ record r.memory.heap { zone = refused_zone asked r.memory })
@@ -123,6 +137,7 @@ Kept (Find asked) code r after =
     ((after.memory.heap ≡ r.memory.heap)
     ⊎ (after.memory.heap ≡ record r.memory.heap { zone = slotted_zone nothing r.memory.heap }))
     × (after.resources ≡ record r.resources { error = code })
+Kept (Jump call) code r after = code ≢ SYSTEM_ERROR → after ≡ r
 Kept (Steer control) code r after = (after.memory.heap ≡ r.memory.heap) × (after.resources ≡ r.resources)
 
 -- a try that is refused leaves that, and each name bound as it was
@@ -134,6 +149,7 @@ RefusedLeaves bytes e =
 abbrev pub keeps_resources : Deed → Bool
 keeps_resources (Ask asked) = true
 keeps_resources (Find asked) = false
+keeps_resources (Jump call) = false
 keeps_resources (Steer control) = true
 
 abbrev pub KeepsResources : (ℕ → List ℕ) → Event → Type 0
@@ -143,11 +159,22 @@ KeepsResources bytes e = keeps_resources e.deed ≡ true → e.after.resources �
 abbrev pub writes_files : Deed → Bool
 writes_files (Ask asked) = false
 writes_files (Find asked) = writes asked
+writes_files (Jump call) = false
 writes_files (Steer control) = false
 
 -- no other try changes a file
 abbrev pub KeepsFiles : (ℕ → List ℕ) → Event → Type 0
 KeepsFiles bytes e = writes_files e.deed ≡ false → e.after.resources.files ≡ e.before.resources.files
+
+-- a call on a segment, which alone may change the jump table
+abbrev pub jumps : Deed → Bool
+jumps (Ask asked) = false
+jumps (Find asked) = false
+jumps (Jump call) = true
+jumps (Steer control) = false
+
+abbrev pub KeepsTable : (ℕ → List ℕ) → Event → Type 0
+KeepsTable bytes e = jumps e.deed ≡ false → e.after.table ≡ e.before.table
 
 -- this holds of each step of a run, to the last line or to the end of the application
 abbrev pub EachStep : (Line → Running → Type 0) → Blocks → List Line → Running → Type 0

@@ -2,5 +2,6 @@ pub mod Names
 pub mod Trying
 pub mod Step
 pub mod Application
+pub mod Alone
 pub mod Replies
 pub mod Laws

@@ -5,6 +5,8 @@ use Rattle.mac_words.specs.declared.code.TheConstants.OsErr.{MEM_FULL}
 use Rattle.mac_words.specs.declared.call.Call.{Call}
 use Rattle.mac_words.specs.declared.call.Call.TheVariants as call
 use Rattle.mac_words.specs.declared.call.ControlCall.{ControlCall}
+use Rattle.mac_words.specs.declared.call.ControlCall.TheVariants as control
+use Rattle.mac_words.specs.declared.segment_call.SegmentCall.{SegmentCall}
 use Rattle.mac_words.specs.declared.call.HeapCall.TheVariants as heap
 use Rattle.mac_words.specs.declared.resource_call.ResourceCall.TheVariants as resource
 use Rattle.block_store.specs.Block.{sizes}
@@ -28,11 +30,13 @@ use Rattle.desk.specs.Trying.{Running, Blocks, Tried, once, asked, resource_aske
 pub data Deed : Type 0 where
   Ask : (asked : Asked) → Deed
   Find : (asked : ResourceAsked) → Deed
+  Jump : (call : SegmentCall) → Deed
   Steer : (control : ControlCall) → Deed
 
 abbrev pub deed_of : Call → Bindings → Deed
 deed_of (call.Heap c) names = Ask (asked c names)
 deed_of (call.Resource c) names = Find (resource_asked c names)
+deed_of (call.Segment c) names = Jump c
 deed_of (call.Control c) names = Steer c
 
 -- a try, as the history has it: what was called, what it told, what it read, and the application before and after it
@@ -91,6 +95,7 @@ marked false (Some n) m = with_busy (eased n m.log.busy) m
 -- the same for all that a try names, and for the emptied handle that it would have read again
 abbrev pub marked_for : Bool → Call → Option ℕ → Running → Running
 marked_for busy (call.Control c) reading r = r
+marked_for busy (call.Segment c) reading r = record r { memory = marked busy reading r.memory }
 marked_for busy (call.Resource c) reading r = record r {
   memory = marked busy reading (marked busy (named (resource_asked c r.names)) r.memory);
 }
@@ -160,6 +165,7 @@ names_given c given names = names
 abbrev pub kept_anew : Call → OsErr → Running → Running
 kept_anew (call.Heap c) code r = record r { memory = keep_code code r.memory }
 kept_anew (call.Resource c) code r = record r { resources = record r.resources { error = code } }
+kept_anew (call.Segment c) code r = r
 kept_anew (call.Control c) code r = r
 
 -- a call that ends with a try: its line, and its name bound
@@ -230,3 +236,17 @@ unless_over c next = if c.over then c else joined c (next c.after)
 abbrev pub run : Blocks → List Line → Running → Course
 run blocks [] r = nothing_yet r
 run blocks (l ∷ lines) r = unless_over (step blocks l r) (run blocks lines)
+
+-- a line that ends a turn
+abbrev pub is_wait : Call → Bool
+is_wait (call.Control control.WaitNextEvent) = true
+is_wait c = false
+
+-- lines up to and including the first that ends a turn
+abbrev pub up_to_wait : List Line → List Line
+up_to_wait [] = []
+up_to_wait (l ∷ lines) = if is_wait l.call then l ∷ [] else l ∷ up_to_wait lines
+
+-- a turn: steps up to and including the next WaitNextEvent, or to the last line
+abbrev pub turn : Blocks → List Line → Running → Course
+turn blocks lines r = run blocks (up_to_wait lines) r

@@ -1,7 +1,7 @@
-use Rattle.std.specs.Prelude.{ℕ, Bool, true, false, Option, None, List, [], ◌∷◌, codes, replicate}
+use Rattle.std.specs.Prelude.{ℕ, pos, Bool, true, false, Option, None, List, [], ◌∷◌, codes, replicate}
 use Rattle.std.specs.Ordering.{int_eq}
 use Rattle.mac_words.specs.declared.code.OsErr.{OsErr}
-use Rattle.mac_words.specs.declared.code.TheConstants.OsErr.{NO_ERR, MEM_FULL}
+use Rattle.mac_words.specs.declared.code.TheConstants.OsErr.{NO_ERR, MEM_FULL, SYSTEM_ERROR}
 use Rattle.mac_words.specs.declared.call.Call.{Call}
 use Rattle.mac_words.specs.declared.call.Call.TheVariants as call
 use Rattle.mac_words.specs.declared.call.ControlCall.{ControlCall}
@@ -15,7 +15,7 @@ use Rattle.mac_words.specs.declared.name.OsType.{OsType}
 use denote.RawPtr.{null_ptr}
 use Rattle.block_store.specs.Rest.{Site}
 use Rattle.heap_calls.specs.State.{Memory, fresh_memory}
-use Rattle.mac_words.specs.Told.{Told, Done, Given, Fetched, Number, Numbers, Code, Bytes, Kind, Info, Refused}
+use Rattle.mac_words.specs.Told.{Told, Done, Given, Fetched, Number, Numbers, Code, Bytes, Kind, Info, Entry, Refused}
 use Rattle.heap_calls.specs.Asked.{Asked}
 use Rattle.heap_calls.specs.Asked as asks
 use Rattle.heap_calls.specs.Busy.{served}
@@ -26,17 +26,24 @@ use Rattle.res_calls.specs.Files.{File, Resources, fresh_resources}
 use Rattle.res_calls.specs.Fetch.{Managers, Reads}
 use Rattle.res_calls.specs.Asked.{ResourceAsked, Served}
 use Rattle.res_calls.specs.Asked as finds
+use Rattle.res_calls.specs.Own.{own_datum}
+use Rattle.res_calls.specs.Rows.{preloaded}
+use Rattle.segments.specs.Table as jumps
+use Rattle.segments.specs.Table.{table_in}
+use Rattle.segments.specs.Calls.{Program, code_type}
+use Rattle.segments.specs.Asked as segments
 use Rattle.script_text.specs.Script.{block_of}
 use Rattle.script_text.specs.declared.script.Line.{Line}
 use Rattle.desk.specs.Names.{Bindings, bound_to}
 
 -- One try of one call, by the application that makes it. Nothing is bound or written yet, and nothing is tried again.
 
--- a running application: its memory, its resources, what the names of its script are bound to, and the lines of its
--- grow-zone script, none where none is set
+-- a running application: its memory, its resources, its jump table, what the names of its script are bound to, and the
+-- lines of its grow-zone script, none where none is set
 pub record Running : Type 0 where
   pub memory : Memory
   pub resources : Resources
+  pub table : List jumps.Entry
   pub names : Bindings
   pub grow : List Line
 
@@ -56,18 +63,35 @@ own_files = record { name = codes "script"; fork = canon no_content; written = f
 abbrev pub own_resources : Resources
 own_resources = fresh_resources own_files (map_of no_content) (map_of no_content)
 
--- an application with such resources in a fresh partition of n bytes, before its first step
+-- the managers of an application in a fresh partition of n bytes, and what is read of its fork as it is launched
+abbrev pub opened_in : Resources → ℕ → Site → Managers × Reads
+opened_in resources n site = preloaded (record { memory = fresh_memory n site; resources = resources })
+
+-- an application with such resources in a fresh partition of n bytes, before its first step: the resources of its fork
+-- that are to be preloaded are read, and so is its jump table
 abbrev pub launched_with : Resources → ℕ → Site → Running
-launched_with resources n site =
-    record { memory = fresh_memory n site; resources = resources; names = []; grow = [] }
+launched_with resources n site = record {
+  memory = (opened_in resources n site).0.memory;
+  resources = (opened_in resources n site).0.resources;
+  table = table_in (own_datum code_type (pos 0) resources);
+  names = [];
+  grow = [];
+}
+
+-- the bytes put into each handle as it is launched
+abbrev pub read_at_launch : Resources → ℕ → Site → Reads
+read_at_launch resources n site = (opened_in resources n site).1
 
 -- one that is a script alone
 abbrev pub launched : ℕ → Site → Running
 launched n site = launched_with own_resources n site
 
--- its heap, and the resources that have handles in it
+-- its heap, and the resources that have handles in it; the same with its jump table
 abbrev pub managers_of : Running → Managers
 managers_of r = record { memory = r.memory; resources = r.resources }
+
+abbrev pub program_of : Running → Program
+program_of r = record { managers = managers_of r; table = r.table }
 
 -- the grow-zone scripts of a text, each with its name
 abbrev pub Blocks : Type 0
@@ -172,11 +196,15 @@ code_told (Code code) = NO_ERR
 code_told (Bytes bytes) = NO_ERR
 code_told (Kind kind) = NO_ERR
 code_told (Info id kind name) = NO_ERR
+code_told (Entry segment flag) = NO_ERR
 code_told (Refused code) = code
 
--- the code of a want of room
+-- the code of a want of room; that of a segment that can't be loaded, which ends the application
 abbrev pub is_full : OsErr → Bool
 is_full code = int_eq code.0 MEM_FULL.0
+
+abbrev pub is_fatal : OsErr → Bool
+is_fatal code = int_eq code.0 SYSTEM_ERROR.0
 
 -- a try of a call of the heap's table
 abbrev pub heap_tried : Told × Memory → Running → Tried
@@ -200,6 +228,21 @@ resource_tried s r = record {
   after = record r { memory = s.after.memory; resources = s.after.resources };
 }
 
+-- a try of a call of the Segment Manager's table
+abbrev pub segment_tried : segments.Served → Running → Tried
+segment_tried s r = record {
+  told = s.told;
+  reads = s.reads;
+  reading = s.reading;
+  wants = s.wants;
+  over = is_fatal (code_told s.told);
+  after = record r {
+    memory = s.after.managers.memory;
+    resources = s.after.managers.resources;
+    table = s.after.table;
+  };
+}
+
 -- a call that is done without the heap
 abbrev pub steered : Bool → Running → Tried
 steered over r = record { told = Done; reads = []; reading = None; wants = false; over = over; after = r }
@@ -214,4 +257,5 @@ control_tried blocks control.ExitToShell r = steered true r
 abbrev pub once : Blocks → Call → Running → Tried
 once blocks (call.Heap c) r = heap_tried (served (asked c r.names) r.memory) r
 once blocks (call.Resource c) r = resource_tried (finds.served (resource_asked c r.names) (managers_of r)) r
+once blocks (call.Segment c) r = segment_tried (segments.served c (program_of r)) r
 once blocks (call.Control c) r = control_tried blocks c r

@@ -299,7 +299,7 @@ fn a_file_of_no_bytes_gets_a_fork(rt: HostRuntime) -> Result<(), Fail> {
     ];
     let left = leaves(&rt, alloc, empty, &rows)?;
     assert_eq!(rt; fork_at(&left, 1), fork_of(alloc, NONE)?.as_slice());
-    assert_eq!(rt; left.files().len(), 2);
+    assert_eq!(rt; left.len(), 2);
     Ok(())
 }
 
@@ -325,7 +325,7 @@ fn there_are_256_files_at_most(rt: HostRuntime) -> Result<(), Fail> {
         ("CreateResFile \"New\"", "-34"),
     ];
     let left = leaves(&rt, alloc, with_256_files(alloc)?, &rows)?;
-    assert_eq!(rt; left.files().len(), 256);
+    assert_eq!(rt; left.len(), 256);
     Ok(())
 }
 

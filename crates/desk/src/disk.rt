@@ -1,10 +1,10 @@
 //! Files for tests: forks, applications with files of these forks, and what scripts leave of them.
 
-ghost use Rattle.std.specs.Prelude.{◌<◌, ◌≡◌, [], length};
+ghost use Rattle.std.specs.Prelude.{◌<◌, ◌≤◌, ◌≡◌, ◌%◌, length};
 
-use crate::application::Application;
+use crate::giving::give_alone;
+use crate::grow_tests::text_of;
 use arrayvec::ArrayVec;
-use block_store::ListStore;
 use fork_format::{Content, Group, Ref, read_fork, write_fork};
 use mac_words::{Attrs, FileName, OsType};
 use res_calls::{File, Resources};
@@ -67,27 +67,65 @@ pub fn crowded_fork(alloc: Global) -> Result<Vec<u8>, AllocError> {
     Ok(fork)
 }
 
-/// A fork of one resource.
-pub fn fork_with(alloc: Global, ty: OsType, attrs: u8, datum: &[u8]) -> Result<Vec<u8>, Fail> {
-    let resource = Ref {
-        id: 1,
-        name: None,
-        attrs: Attrs(attrs),
-        datum,
-    };
-    let group = Group {
-        ty,
-        refs: vec![in alloc; resource]?,
-    };
+/// A resource of a fork, without a name.
+#[derive(Clone, Copy)]
+pub struct Stored<'a> {
+    pub ty: OsType,
+    pub id: i16,
+    pub attrs: u8,
+    pub datum: &'a [u8],
+}
+
+impl<'a> Stored<'a> {
+    /// A resource of this type, ID and attributes, with these bytes.
+    pub fn new(ty: &[u8; 4], id: i16, attrs: u8, datum: &'a [u8]) -> Stored<'a> {
+        Stored {
+            ty: OsType(*ty),
+            id,
+            attrs,
+            datum,
+        }
+    }
+}
+
+/// Resources by type; those of one type stand together.
+fn groups_of<'a>(alloc: Global, resources: &[Stored<'a>]) -> Result<Vec<Group<'a>>, AllocError> {
+    let mut groups: Vec<Group<'a>> = Vec::new(alloc);
+    for resource in resources {
+        let reference = Ref {
+            id: resource.id,
+            name: None,
+            attrs: Attrs(resource.attrs),
+            datum: resource.datum,
+        };
+        match groups.last_mut() {
+            Some(group) if group.ty == resource.ty => group.refs.push(reference)?,
+            _ => groups.push(Group {
+                ty: resource.ty,
+                refs: vec![in alloc; reference]?,
+            })?,
+        }
+    }
+    Ok(groups)
+}
+
+/// A fork of these resources.
+pub fn fork_holding(alloc: Global, resources: &[Stored<'_>]) -> Result<Vec<u8>, Fail> {
     let content = Content {
         area: [0; 240],
         attrs: 0,
-        groups: vec![in alloc; group]?,
+        groups: groups_of(alloc, resources)?,
     };
     match write_fork(alloc, &content) {
         Ok(fork) => Ok(fork),
         Err(_) => Err(Fail::new("a fork that isn't written")),
     }
+}
+
+/// A fork of one resource, whose ID is 1.
+pub fn fork_with(alloc: Global, ty: OsType, attrs: u8, datum: &[u8]) -> Result<Vec<u8>, Fail> {
+    let OsType(ty) = ty;
+    fork_holding(alloc, &[Stored::new(&ty, 1, attrs, datum)])
 }
 
 /// The name of a file.
@@ -132,40 +170,167 @@ pub fn beside(alloc: Global, others: &[(&[u8], &[u8])]) -> Result<Resources, Fai
     launched(alloc, files, &none)
 }
 
-/// Runs calls in a partition of 4,096 bytes with these resources: each stands with the code that answers it, and with
-/// the values behind the code. Gives what is left of the resources.
+/// The resources of an application with these in its own fork, no files beside, and an empty System's file.
+pub fn holding(alloc: Global, resources: &[Stored<'_>]) -> Result<Resources, Fail> {
+    let own = fork_holding(alloc, resources)?;
+    launched(
+        alloc,
+        vec![in alloc; file_of(b"App", own)]?,
+        &fork_of(alloc, NONE)?,
+    )
+}
+
+/// The text of a script, and that of the transcript which it is to leave.
+#[derive(Drop)]
+pub struct Texts {
+    pub script: String,
+    pub transcript: String,
+}
+
+impl Texts {
+    /// Calls of a script in a partition of so many bytes: each stands with the code that answers it, and with the
+    /// values behind the code.
+    pub fn of_rows(alloc: Global, size: u32, rows: &[(&str, &str)]) -> Result<Texts, Fail> {
+        let mut script = String::new(alloc);
+        let mut transcript = format!(in alloc; "launch 0 {size}\n")?;
+        for (index, (call, answer)) in rows.iter().enumerate() {
+            let word = match call.split_once(' ') {
+                Some((word, _)) => word,
+                None => call,
+            };
+            let line = index.wrapping_add(1);
+            writeln!(script, "{call}")?;
+            writeln!(transcript, "{line} {word} {answer}")?;
+        }
+        Ok(Texts { script, transcript })
+    }
+
+    /// Lines of a script in a partition of so many bytes, and the lines that they leave behind that of the launch.
+    pub fn of_lines(
+        alloc: Global,
+        size: u32,
+        script: &[&str],
+        told: &[&str],
+    ) -> Result<Texts, Fail> {
+        let script = text_of(alloc, script)?;
+        let told = text_of(alloc, told)?;
+        let transcript = format!(in alloc; "launch 0 {size}\n{told}")?;
+        Ok(Texts { script, transcript })
+    }
+}
+
+/// The files again, with their forks.
+fn copied(alloc: Global, files: &[File]) -> Result<Vec<File>, AllocError> {
+    let mut copies = Vec::new(alloc);
+    for file in files {
+        copies.push(File {
+            name: file.name.clone()?,
+            fork: Vec::from_slice(alloc, file.fork.as_slice())?,
+            written: file.written,
+        })?;
+    }
+    Ok(copies)
+}
+
+/// Takes so many steps of a script in a partition of so many bytes with these resources, and quits then if that is
+/// asked for: it leaves its transcript. Gives the files that are left.
+pub fn give(
+    rt: &impl Abort,
+    alloc: Global,
+    size: u32,
+    resources: Resources,
+    texts: &Texts,
+    steps: usize,
+    quit: bool,
+) -> Result<Vec<File>, Fail>
+    requires even { size % 16 ≡ 0 }
+    requires low { 512 ≤ size }
+    requires high { size ≤ 134217728 }
+{
+    let Ok(script) = read_script(alloc, texts.script.as_bytes()) else {
+        return Err(Fail::new("a faulty script"));
+    };
+    let given = give_alone(alloc, size, resources, &script, steps, quit)?;
+    let files = copied(alloc, given.files())?;
+    assert_eq!(rt;
+        given.into_transcript().as_slice(),
+        texts.transcript.as_bytes()
+    );
+    Ok(files)
+}
+
+/// Runs calls in a partition of 4,096 bytes with these resources, and no further. Gives the files that are left.
 pub fn leaves(
     rt: &impl Abort,
     alloc: Global,
     resources: Resources,
     rows: &[(&str, &str)],
-) -> Result<Resources, Fail> {
-    let mut text = String::new(alloc);
-    let mut expected = String::new(alloc);
-    for (index, (call, answer)) in rows.iter().enumerate() {
-        let word = match call.split_once(' ') {
-            Some((word, _)) => word,
-            None => call,
-        };
-        let line = index.wrapping_add(1);
-        writeln!(text, "{call}")?;
-        writeln!(expected, "{line} {word} {answer}")?;
-    }
-    let Ok(script) = read_script(alloc, text.as_bytes()) else {
-        return Err(Fail::new("a faulty script"));
-    };
-    let store = ListStore::new(alloc, 4096)?;
-    let mut application = Application::launch_with(alloc, store, resources);
-    let mut told = Vec::new(alloc);
-    application.run(&script, &mut told)?;
-    assert_eq!(rt; told.as_slice(), expected.as_bytes());
-    Ok(application.resources)
+) -> Result<Vec<File>, Fail> {
+    let texts = Texts::of_rows(alloc, 4096, rows)?;
+    give(rt, alloc, 4096, resources, &texts, rows.len(), false)
+}
+
+/// Runs calls in a partition of so many bytes with these resources, to the end of the application, whose code is this.
+/// Gives the files that are left.
+pub fn ends(
+    rt: &impl Abort,
+    alloc: Global,
+    size: u32,
+    resources: Resources,
+    rows: &[(&str, &str)],
+    code: &str,
+) -> Result<Vec<File>, Fail>
+    requires even { size % 16 ≡ 0 }
+    requires low { 512 ≤ size }
+    requires high { size ≤ 134217728 }
+{
+    let mut texts = Texts::of_rows(alloc, size, rows)?;
+    writeln!(texts.transcript, "end {code}")?;
+    give(
+        rt,
+        alloc,
+        size,
+        resources,
+        &texts,
+        rows.len().wrapping_add(1),
+        false,
+    )
+}
+
+/// Runs a script of these lines in a partition of so many bytes with these resources, to the end of the application:
+/// they leave those lines, and that code.
+pub fn tells(
+    rt: &impl Abort,
+    alloc: Global,
+    size: u32,
+    resources: Resources,
+    script: &[&str],
+    told: &[&str],
+    code: &str,
+) -> Result<(), Fail>
+    requires even { size % 16 ≡ 0 }
+    requires low { 512 ≤ size }
+    requires high { size ≤ 134217728 }
+{
+    let mut texts = Texts::of_lines(alloc, size, script, told)?;
+    writeln!(texts.transcript, "end {code}")?;
+    let steps = script.len().wrapping_add(1);
+    let _files = give(rt, alloc, size, resources, &texts, steps, false)?;
+    Ok(())
 }
 
 /// The fork of a file; no bytes where there is no such file.
-pub fn fork_at(resources: &Resources, index: usize) -> &[u8] {
-    match resources.files().get(index) {
+pub fn fork_at(files: &[File], index: usize) -> &[u8] {
+    match files.get(index) {
         Some(file) => file.fork.as_slice(),
         None => b"",
+    }
+}
+
+/// Whether the fork of a file was written.
+pub fn written_at(files: &[File], index: usize) -> bool {
+    match files.get(index) {
+        Some(file) => file.written,
+        None => false,
     }
 }

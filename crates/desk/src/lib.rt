@@ -3,27 +3,38 @@
 
 mod application;
 mod finding;
+mod giving;
+mod jumping;
 mod laws;
 mod names;
 mod naming;
 mod own;
+mod quitting;
 mod run;
 mod stepping;
 mod tried;
 mod trying;
+mod turns;
 
 pub use application::Application;
+pub use giving::{Given, give_alone};
 pub use laws::an_application_with_any_resources_keeps_the_laws;
+pub use quitting::Exit;
 pub use run::run_script;
+pub use turns::up_to_wait;
 
 #[cfg(test)]
 mod changing_tests;
 #[cfg(test)]
 mod disk;
 #[cfg(test)]
+mod ending_tests;
+#[cfg(test)]
 mod grow_tests;
 #[cfg(test)]
 mod resource_tests;
+#[cfg(test)]
+mod segment_tests;
 #[cfg(test)]
 mod table_tests;
 #[cfg(test)]

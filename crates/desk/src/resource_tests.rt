@@ -1,77 +1,15 @@
 //! Calls of the Resource Manager, and grow-zone scripts with them.
 
-ghost use Rattle.std.specs.Prelude.{◌≡◌, ◌%◌, ◌≤◌, []};
-
-use crate::application::Application;
-use crate::grow_tests::{leaves, text_of};
+use crate::disk::{Stored, holding, tells};
+use crate::grow_tests::leaves;
 use crate::tests::play;
-use arrayvec::ArrayVec;
-use block_store::ListStore;
-use fork_format::{Content, Group, Ref, write_fork};
-use mac_words::{Attrs, FileName, OsType};
-use res_calls::{File, Resources};
-use script_text::read_script;
+use res_calls::Resources;
 use std::alloc::Global;
-use std::process::Abort;
 use std::test::Fail;
 
-/// A fork with one resource: `TEXT` 128, of 300 bytes.
-fn text_fork(alloc: Global) -> Result<Vec<u8>, Fail> {
-    let text = Ref {
-        id: 128,
-        name: None,
-        attrs: Attrs(0),
-        datum: &[7; 300],
-    };
-    let group = Group {
-        ty: OsType(*b"TEXT"),
-        refs: vec![in alloc; text]?,
-    };
-    let content = Content {
-        area: [0; 240],
-        attrs: 0,
-        groups: vec![in alloc; group]?,
-    };
-    match write_fork(alloc, &content) {
-        Ok(fork) => Ok(fork),
-        Err(_) => Err(Fail::new("a fork that isn't written")),
-    }
-}
-
-/// The resources of an application with that fork, and none of the System's.
-fn text_resources(alloc: Global) -> Result<Resources, Fail> {
-    let mut name = ArrayVec::new();
-    name.push(b'A');
-    let file = File {
-        name: FileName(name),
-        fork: text_fork(alloc)?,
-        written: false,
-    };
-    let system = Content {
-        area: [0; 240],
-        attrs: 0,
-        groups: Vec::new(alloc),
-    };
-    match Resources::new(alloc, vec![in alloc; file]?, &system) {
-        Ok(resources) => Ok(resources),
-        Err(_) => Err(Fail::new("a fork that isn't read")),
-    }
-}
-
-/// Runs a script of these lines in a partition of 1,024 bytes, with that fork: its calls leave those lines.
-fn tells(rt: &impl Abort, alloc: Global, script: &[&str], transcript: &[&str]) -> Result<(), Fail> {
-    let text = text_of(alloc, script)?;
-    let expected = text_of(alloc, transcript)?;
-    let Ok(script) = read_script(alloc, text.as_bytes()) else {
-        return Err(Fail::new("a faulty script"));
-    };
-    let resources = text_resources(alloc)?;
-    let store = ListStore::new(alloc, 1024)?;
-    let mut application = Application::launch_with(alloc, store, resources);
-    let mut told = Vec::new(alloc);
-    application.run(&script, &mut told)?;
-    assert_eq!(rt; told.as_slice(), expected.as_bytes());
-    Ok(())
+/// The resources of an application with `TEXT` 128 of 300 bytes in its fork.
+fn text(alloc: Global) -> Result<Resources, Fail> {
+    holding(alloc, &[Stored::new(b"TEXT", 128, 0, &[7; 300])])
 }
 
 #[test]
@@ -199,7 +137,8 @@ fn resource_is_read_once(rt: HostRuntime) -> Result<(), Fail> {
         "16 DetachResource 0",
         "17 DisposeHandle 0",
     ];
-    tells(&rt, rt.alloc(), &script, &transcript)
+    let alloc = rt.alloc();
+    tells(&rt, alloc, 1024, text(alloc)?, &script, &transcript, "0")
 }
 
 #[test]
@@ -230,7 +169,8 @@ fn handle_that_is_read_again_is_busy(rt: HostRuntime) -> Result<(), Fail> {
         "11 GetHandleSize 0 300",
         "12 EmptyHandle 0",
     ];
-    tells(&rt, rt.alloc(), &script, &transcript)
+    let alloc = rt.alloc();
+    tells(&rt, alloc, 1024, text(alloc)?, &script, &transcript, "0")
 }
 
 #[test]
@@ -253,7 +193,8 @@ fn released_resource_makes_room(rt: HostRuntime) -> Result<(), Fail> {
         "7 GetHandleSize -111",
         "8 ResError 0 0",
     ];
-    tells(&rt, rt.alloc(), &script, &transcript)
+    let alloc = rt.alloc();
+    tells(&rt, alloc, 1024, text(alloc)?, &script, &transcript, "0")
 }
 
 #[test]
@@ -280,5 +221,6 @@ fn busy_resource_is_not_released(rt: HostRuntime) -> Result<(), Fail> {
         "9 ResError 0 -108",
         "10 ReleaseResource 0",
     ];
-    tells(&rt, rt.alloc(), &script, &transcript)
+    let alloc = rt.alloc();
+    tells(&rt, alloc, 1024, text(alloc)?, &script, &transcript, "0")
 }

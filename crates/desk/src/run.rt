@@ -1,16 +1,15 @@
 //! A script, run to its end.
 
-ghost use Rattle.std.specs.Prelude.{◌≡◌, ◌%◌, ◌≤◌, [], IfOk};
-ghost use Rattle.desk.specs.Trying.{launched, nowhere};
-ghost use Rattle.desk.specs.Application.{transcript, run_alone};
+ghost use Rattle.std.specs.Prelude.{◌≡◌, ◌%◌, ◌≤◌, ◌+◌, [], length, IfOk};
+ghost use Rattle.desk.specs.Trying.{launched, own_resources as own, nowhere};
+ghost use Rattle.desk.specs.Alone.{run_alone, script_alone, first_steps};
 ghost use Rattle.desk.specs.Laws.{EachTry, ShowsPut, HoldsPut, KeepsLocked, KeepsFixed, EmptiesPurgeable, LooksFew};
 ghost use Rattle.desk.specs.Laws.{RefusedLeaves, KeepsResources, KeepsFiles, RefusedBinds, GoesByRule, Linked};
-ghost use Rattle.desk.specs.Laws.{NothingBusy};
+ghost use Rattle.desk.specs.Laws.{KeepsTable, NothingBusy};
 
-use crate::application::Application;
-use block_store::ListStore;
-use mac_words::OsErr;
-use script_text::{Script, write_end, write_launch};
+use crate::giving::give_alone;
+use crate::own::own_resources;
+use script_text::Script;
 use std::alloc::{AllocError, Global};
 
 /// Runs a script to its end in a fresh partition of `size` bytes, and gives its transcript: the line of the
@@ -20,14 +19,19 @@ use std::alloc::{AllocError, Global};
 /// # Errors
 ///
 /// Where the host refuses memory there is no transcript.
-#[tactic(auto, using(crate::proofs::Runs::shows_put, crate::proofs::Runs::holds_put, crate::proofs::Runs::locked_stays, crate::proofs::Runs::fixed_stays, crate::proofs::Runs::only_purgeable_go, crate::proofs::Runs::looks_few, crate::proofs::Runs::refused_leave, crate::proofs::Runs::resources_stay, crate::proofs::Runs::files_stay, crate::proofs::Runs::refused_bind, crate::proofs::Runs::goes_by_rule, crate::proofs::Runs::linked, crate::proofs::Runs::nothing_stays_busy))]
+#[tactic(auto, using(crate::proofs::Quits::all_steps, crate::proofs::Runs::shows_put, crate::proofs::Runs::holds_put, crate::proofs::Runs::locked_stays, crate::proofs::Runs::fixed_stays, crate::proofs::Runs::only_purgeable_go, crate::proofs::Runs::looks_few, crate::proofs::Runs::refused_leave, crate::proofs::Runs::resources_stay, crate::proofs::Runs::files_stay, crate::proofs::Runs::table_stays, crate::proofs::Runs::refused_bind, crate::proofs::Runs::goes_by_rule, crate::proofs::Runs::linked, crate::proofs::Runs::nothing_stays_busy))]
 pub fn run_script(alloc: Global, size: u32, script: &Script) -> Result<Vec<u8>, AllocError>
     requires even { size % 16 ≡ 0 }
     requires low { 512 ≤ size }
     requires high { size ≤ 134217728 }
 
-    // The transcript is that of the definitions.
-    ensures transcript { IfOk result (λ text. text.items ≡ transcript size script.now) }
+    // The transcript is what the application gives alone: its fork has no resources, it has no other files, and there
+    // are none of the System's.
+    ensures transcript { IfOk result (λ text. text.items ≡ (script_alone size script.now).transcript) }
+
+    // It is that of all its steps, of which the laws speak.
+    ensures whole { first_steps own size script.now (length script.now.steps + 1)
+        ≡ run_alone size script.now }
 
     // Each step is a try, and the same step again as long as its grow-zone script makes room: no bound ends it.
     ensures rule { GoesByRule script.now.blocks script.now.steps (launched size nowhere) }
@@ -55,7 +59,7 @@ pub fn run_script(alloc: Global, size: u32, script: &Script) -> Result<Vec<u8>, 
     ensures looks { EachTry LooksFew (λ _. []) (run_alone size script.now).events }
 
     // A refused try leaves the heap and the resources as they were, but for the zone where the tables say so and for
-    // ResError's code, and each name bound as it was.
+    // ResError's code, and each name bound as it was. A segment that can't be loaded ends the application instead.
     ensures refused { EachTry RefusedLeaves (λ _. []) (run_alone size script.now).events }
 
     // A call of the Memory Manager changes nothing of the resources, whatever it empties.
@@ -64,17 +68,17 @@ pub fn run_script(alloc: Global, size: u32, script: &Script) -> Result<Vec<u8>, 
     // No try changes a file, but for those of CreateResFile, UpdateResFile and CloseResFile.
     ensures files { EachTry KeepsFiles (λ _. []) (run_alone size script.now).events }
 
+    // No try changes the jump table, but for those of the Segment Manager's calls.
+    ensures table { EachTry KeepsTable (λ _. []) (run_alone size script.now).events }
+
     // After each step no name is busy.
     ensures idle { NothingBusy script.now.blocks script.now.steps (launched size nowhere) }
 
     // A step whose call is refused binds no name.
     ensures bound { RefusedBinds script.now.blocks script.now.steps (launched size nowhere) }
 {
-    let store = ListStore::new(alloc, size)?;
-    let mut application = Application::launch(alloc, store)?;
-    let mut text = Vec::new(alloc);
-    write_launch(&mut text, size)?;
-    application.run(script, &mut text)?;
-    write_end(&mut text, OsErr::NO_ERR)?;
-    Ok(text)
+    let resources = own_resources(alloc)?;
+    let steps = script.steps().len() + 1;
+    let given = give_alone(alloc, size, resources, script, steps, false)?;
+    Ok(given.into_transcript())
 }

@@ -4,13 +4,15 @@ ghost use Rattle.std.specs.Prelude.{◌≡◌, ◌++◌, [], IfOk, OnOk};
 ghost use Rattle.script_text.specs.Call.{word_of};
 ghost use Rattle.script_text.specs.Transcript.{reply_line, values_of};
 ghost use Rattle.desk.specs.Trying.{once};
-ghost use Rattle.desk.specs.Step.{marked, marked_for, grown, grown_for, kept_anew, names_given, round, step, run};
+ghost use Rattle.desk.specs.Step.{marked, marked_for, grown, grown_for, kept_anew, names_given, round, step, run, turn};
 ghost use Rattle.desk.specs.Application.{bytes_told, lines_told};
-ghost use Rattle.desk.specs.Replies.{Came, CameRound};
+ghost use Rattle.desk.specs.Replies.{Came, CameRound, exit_of};
 
 use crate::application::Application;
 use crate::naming::{named, named_resource};
+use crate::quitting::Exit;
 use crate::tried::Tried;
+use crate::turns::up_to_wait;
 use block_store::BlockStore;
 use mac_words::{Call, HeapCall, ResourceCall};
 use script_text::{Line, Script, Word, write_grow_reply, write_reply};
@@ -22,7 +24,7 @@ pub(crate) enum Next {
     /// The call is tried again.
     Again,
     /// The call has ended, and the application with it where so.
-    Ended(bool),
+    Ended(Option<Exit>),
 }
 
 impl<'s, S: BlockStore> Application<'s, S> {
@@ -51,6 +53,7 @@ impl<'s, S: BlockStore> Application<'s, S> {
                 self.mark_number(busy, handle);
                 self.mark_number(busy, reading);
             }
+            Call::Segment(_) => self.mark_number(busy, reading),
             Call::Control(_) => {}
         }
     }
@@ -98,6 +101,7 @@ impl<'s, S: BlockStore> Application<'s, S> {
         match call {
             Call::Heap(_) => self.heap.keep_code(tried.reply.code),
             Call::Resource(_) => self.resources.keep_error(tried.reply.code),
+            Call::Segment(_) => {}
             Call::Control(_) => {}
         }
     }
@@ -128,7 +132,7 @@ impl<'s, S: BlockStore> Application<'s, S> {
     }
 
     /// Ends a call with a try: its line is appended to a text, and its name is bound.
-    fn end(&mut self, line: &Line, tried: &Tried, text: &mut Vec<u8>) -> Result<(), AllocError>
+    fn end_call(&mut self, line: &Line, tried: &Tried, text: &mut Vec<u8>) -> Result<(), AllocError>
         ensures text { OnOk result (text.new.items ≡ text.old.items ++ reply_line line.now.number
             (word_of line.now.call) tried.now.reply.code.0
             (values_of tried.now.reply (bytes_told (once [] line.now.call self.old).told))) }
@@ -153,7 +157,8 @@ impl<'s, S: BlockStore> Application<'s, S> {
             text.new.items self.new) }
     {
         let tried = self.once(script, &line.call)?;
-        if tried.wants_room() {
+        let exit = tried.exit();
+        if tried.wants {
             let before = self.heap.to_be_had();
             self.ask_script(script, line, tried.reading, text)?;
             if self.heap.to_be_had() > before {
@@ -162,14 +167,14 @@ impl<'s, S: BlockStore> Application<'s, S> {
             self.keep_anew(&line.call, &tried);
             write_reply(text, line.number, Word::of(&line.call), &tried.reply, None)?;
         } else {
-            self.end(line, &tried, text)?;
+            self.end_call(line, &tried, text)?;
         }
-        Ok(Next::Ended(tried.over))
+        Ok(Next::Ended(exit))
     }
 
     /// Takes a step, the call of a line: it is tried, and where there is no room for it the grow-zone script is
     /// run; where that makes room the call is tried again, else its answer stands. The transcript's lines are
-    /// appended to a text. Tells whether the application ends with it.
+    /// appended to a text. Tells how the application ends with it, if it does.
     ///
     /// *Inside Macintosh: Memory*, chapter 1, "Grow-Zone Functions".
     pub fn step(
@@ -177,8 +182,8 @@ impl<'s, S: BlockStore> Application<'s, S> {
         script: &'s Script,
         line: &Line,
         text: &mut Vec<u8>,
-    ) -> Result<bool, AllocError>
-        ensures over { IfOk result (λ over. over ≡ (step script.now.blocks line.now self.old).over) }
+    ) -> Result<Option<Exit>, AllocError>
+        ensures ends { IfOk result (λ exit. exit ≡ exit_of (step script.now.blocks line.now self.old)) }
         ensures came { OnOk result (Came (step script.now.blocks line.now self.old) text.old.items text.new.items
             self.new) }
     {
@@ -186,22 +191,46 @@ impl<'s, S: BlockStore> Application<'s, S> {
         for _round in 0..most {
             match self.round(script, line, text)? {
                 Next::Again => {}
-                Next::Ended(over) => return Ok(over),
+                Next::Ended(exit) => return Ok(exit),
             }
         }
-        Ok(false)
+        Ok(None)
     }
 
-    /// Takes the steps of a script, to its last line or to the end of the application.
-    pub fn run(&mut self, script: &'s Script, text: &mut Vec<u8>) -> Result<(), AllocError>
-        ensures { OnOk result (Came (run script.now.blocks script.now.steps self.old) text.old.items text.new.items
+    /// Takes steps in order, to the last line or to the end of the application. Tells how it ends, if it does.
+    pub fn run(
+        &mut self,
+        script: &'s Script,
+        lines: &[Line],
+        text: &mut Vec<u8>,
+    ) -> Result<Option<Exit>, AllocError>
+        ensures ends { IfOk result (λ exit. exit ≡ exit_of (run script.now.blocks lines.now self.old)) }
+        ensures came { OnOk result (Came (run script.now.blocks lines.now self.old) text.old.items text.new.items
             self.new) }
     {
-        for line in script.steps() {
-            if self.step(script, line, text)? {
-                return Ok(());
+        for line in lines {
+            let exit = self.step(script, line, text)?;
+            if exit.is_some() {
+                return Ok(exit);
             }
         }
-        Ok(())
+        Ok(None)
+    }
+
+    /// Takes a turn: steps up to and including the next `WaitNextEvent`, or to the last line, as `up_to_wait` gives
+    /// them. Tells how the application ends with it, if it does.
+    ///
+    /// *Inside Macintosh: Processes*, chapter 1, "Scheduling of Processes".
+    pub fn turn(
+        &mut self,
+        script: &'s Script,
+        lines: &[Line],
+        text: &mut Vec<u8>,
+    ) -> Result<Option<Exit>, AllocError>
+        ensures ends { IfOk result (λ exit. exit ≡ exit_of (turn script.now.blocks lines.now self.old)) }
+        ensures came { OnOk result (Came (turn script.now.blocks lines.now self.old) text.old.items text.new.items
+            self.new) }
+    {
+        self.run(script, up_to_wait(lines), text)
     }
 }

@@ -2,6 +2,7 @@
 
 ghost use Rattle.std.specs.Prelude.{◌≡◌, ◌%◌, ◌≤◌};
 
+use crate::disk::Texts;
 use crate::run_script;
 use script_text::read_script;
 use std::alloc::Global;
@@ -15,22 +16,12 @@ pub fn play(rt: &impl Abort, alloc: Global, size: u32, rows: &[(&str, &str)]) ->
     requires low { 512 ≤ size }
     requires high { size ≤ 134217728 }
 {
-    let mut script = String::new(alloc);
-    let mut expected = format!(in alloc; "launch 0 {size}\n")?;
-    for (index, (call, answer)) in rows.iter().enumerate() {
-        let word = match call.split_once(' ') {
-            Some((word, _)) => word,
-            None => call,
-        };
-        let line = index.wrapping_add(1);
-        writeln!(script, "{call}")?;
-        writeln!(expected, "{line} {word} {answer}")?;
-    }
-    expected.push_str("end 0\n")?;
-    match read_script(alloc, script.as_bytes()) {
+    let mut texts = Texts::of_rows(alloc, size, rows)?;
+    texts.transcript.push_str("end 0\n")?;
+    match read_script(alloc, texts.script.as_bytes()) {
         Ok(script) => {
             let transcript = run_script(alloc, size, &script)?;
-            assert_eq!(rt; transcript.as_slice(), expected.as_bytes());
+            assert_eq!(rt; transcript.as_slice(), texts.transcript.as_bytes());
             Ok(())
         }
         Err(_) => Err(Fail::new("a faulty script")),
@@ -89,6 +80,7 @@ fn name_bound_anew_lets_its_handle_go(rt: HostRuntime) -> Result<(), Fail> {
         ("DisposeHandle a", "0"),
         ("GetHandleSize a", "-111"),
         ("GetHandleSize zz", "-109"),
+        ("LoadResource zz", "-192"),
         ("FreeMem", "0 720"),
     ];
     play(&rt, rt.alloc(), 1024, &rows)

@@ -12,8 +12,9 @@ ghost use Rattle.res_calls.specs.Asked.{telling, tell_fetched, tell_info};
 ghost use Rattle.mac_words.specs.declared.attributes.Attrs.{Attrs as StoredAttrs};
 ghost use Rattle.res_calls.specs.Given.{IsAnswered, IsFetched};
 ghost use Rattle.res_calls.specs.Places.{seen_info};
-ghost use Rattle.desk.specs.Replies.{Says, TellsTold, TellsServed, GivenAs};
+ghost use Rattle.desk.specs.Replies.{Says, TellsTold, TellsServed, GivenAs, exit_as};
 
+use crate::quitting::Exit;
 use heap_calls::{Refusal, Space};
 use mac_words::{Attrs, OsErr, OsType, Reply};
 use res_calls::{Fetched, Info, Unread};
@@ -28,6 +29,8 @@ pub struct Tried {
     pub given: Option<usize>,
     /// The number of the emptied handle that would have been read again.
     pub reading: Option<usize>,
+    /// There was no room for what the call asked for.
+    pub wants: bool,
     /// The application ends with the call.
     pub over: bool,
 }
@@ -38,21 +41,31 @@ impl Tried {
         ensures reply { result.reply ≡ reply }
         ensures given { result.given ≡ None }
         ensures reading { result.reading ≡ None }
+        ensures wants { result.wants ≡ is_full reply.code }
         ensures goes_on { result.over ≡ false }
     {
+        let wants = reply.code == OsErr::MEM_FULL;
         Tried {
             reply,
             given: None,
             reading: None,
+            wants,
             over: false,
         }
     }
 
-    /// Whether there was no room for what the call asked for.
-    pub fn wants_room(&self) -> bool
-        ensures { result ≡ is_full self.now.reply.code }
+    /// How the application ends with the call, if it does.
+    pub fn exit(&self) -> Option<Exit>
+        ensures { result ≡ exit_as self.now.over self.now.reply.code }
     {
-        self.reply.code == OsErr::MEM_FULL
+        if !self.over {
+            return None;
+        }
+        if self.reply.code == OsErr::SYSTEM_ERROR {
+            Some(Exit::Stops)
+        } else {
+            Some(Exit::Quits)
+        }
     }
 }
 
@@ -66,6 +79,7 @@ pub fn given(answer: Result<usize, Refusal>) -> Result<Tried, AllocError>
             reply: Reply::of(OsErr::NO_ERR),
             given: Some(number),
             reading: None,
+            wants: false,
             over: false,
         }),
         Err(Refusal::Code(code)) => Ok(Tried::told(Reply::of(code))),
@@ -138,6 +152,7 @@ pub fn fetched(answer: Result<Fetched, Unread>) -> Result<Tried, AllocError>
             reply: Reply::number(u32::from(fetched.read)),
             given: Some(fetched.handle),
             reading: None,
+            wants: false,
             over: false,
         }),
         Err(
@@ -149,6 +164,7 @@ pub fn fetched(answer: Result<Fetched, Unread>) -> Result<Tried, AllocError>
             reply: Reply::of(code),
             given: None,
             reading,
+            wants: code == OsErr::MEM_FULL,
             over: false,
         }),
         Err(

@@ -23,6 +23,7 @@ impl<'s, S: BlockStore> Application<'s, S> {
         match call {
             Call::Heap(call) => self.answer(call),
             Call::Resource(call) => self.find(call),
+            Call::Segment(call) => self.jump(call),
             Call::Control(call) => Ok(self.steer(script, call)),
         }
     }
@@ -42,7 +43,7 @@ impl<'s, S: BlockStore> Application<'s, S> {
     }
 
     /// The bytes that a call shows in the state that it leaves.
-    #[tactic(auto, using(crate::proofs::FoundCalls::shows_nothing))]
+    #[tactic(auto, using(crate::proofs::FoundCalls::shows_nothing, crate::proofs::JumpCalls::jump_shows_nothing))]
     pub(crate) fn shown(&self, call: &Call) -> Option<&[u8]>
         ensures { option_map (λ bytes. bytes.now) result ≡ bytes_told (once [] call.now self.now).told }
     {
@@ -52,6 +53,7 @@ impl<'s, S: BlockStore> Application<'s, S> {
                 self.heap.show_pointer(self.names.number(name)).ok()
             }
             Call::Resource(_) => None,
+            Call::Segment(_) => None,
             _ => None,
         }
     }

@@ -9,3 +9,4 @@ pub mod Unmoved
 pub mod FewLooks
 pub mod Place
 pub mod Roles
+pub mod Segments

@@ -10,9 +10,9 @@ use Rattle.block_store.specs.Run.{has}
 use Rattle.heap_calls.specs.State.{Role, Plain, Resource, SystemResource, Handle, State}
 use Rattle.heap_calls.specs.State.{Memory}
 use Rattle.heap_calls.specs.Answer.{Answer, Known, refused, given, nothing, rebuilt, for_found, handle_at, without}
-use Rattle.heap_calls.specs.Answer.{silent, searching, moving}
+use Rattle.heap_calls.specs.Answer.{silent, searching, moving, h_unlock, hlock_hi}
 use Rattle.heap_calls.specs.Slots.{slotted, if_ready, made}
-use Rattle.heap_calls.specs.Purging.{is_resource}
+use Rattle.heap_calls.specs.Purging.{is_resource, h_purge}
 use Rattle.heap_calls.specs.Searches.{new_handle_searches, new_empty_handle_searches, room_searches}
 use Rattle.heap_calls.specs.Moves.{new_handle_moves, put_moves}
 
@@ -116,3 +116,13 @@ refill_inside h flags x m =
 -- a change of a heap that takes no look for room
 abbrev pub inside : (State → State) → Memory → Memory
 inside change m = record m { heap = change m.heap }
+
+-- What the Segment Manager does with a segment's block as the segment is loaded: it is moved as high as it goes, and
+-- locked. A block that is locked stays as it is, and so does a handle without one. Inside Macintosh: Processes,
+-- chapter 7, "Loading and Unloading Segments"
+abbrev pub held_high : ℕ → State → State
+held_high h s = (hlock_hi (Some h) s).1
+
+-- and as it is unloaded: its block is unlocked, and may be emptied
+abbrev pub loosened : ℕ → State → State
+loosened h s = (h_purge (Some h) (h_unlock (Some h) s).1).1

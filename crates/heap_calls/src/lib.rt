@@ -27,6 +27,7 @@ mod reaching;
 mod refusal;
 mod roles;
 mod search;
+mod segments;
 mod sizing;
 
 pub use anchor::Anchor;
@@ -44,5 +45,7 @@ pub use refusal::Refusal;
 mod filling_tests;
 #[cfg(test)]
 mod role_tests;
+#[cfg(test)]
+mod segment_tests;
 #[cfg(test)]
 mod tests;

@@ -83,7 +83,7 @@ impl<S: BlockStore> Heap<S> {
     }
 
     /// Moves a handle's block to the top of its run, and locks it there.
-    fn lock_high(&mut self, handle: Option<usize>) -> Result<(), Refusal>
+    pub(crate) fn lock_high(&mut self, handle: Option<usize>) -> Result<(), Refusal>
         ensures answer { IsAnswer (silent (hlock_hi handle) self.old) result self.new }
         ensures host { result ≢ Err Refusal.HostMemory }
     {

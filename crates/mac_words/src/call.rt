@@ -2,6 +2,7 @@
 
 use crate::name::Label;
 use crate::resource_call::ResourceCall;
+use crate::segment_call::SegmentCall;
 
 /// A call of a script. Each table of calls is an enum of its own.
 #[derive(Debug, Drop)]
@@ -10,6 +11,8 @@ pub enum Call {
     Heap(HeapCall),
     /// A call of the Resource Manager.
     Resource(ResourceCall),
+    /// A call of the Segment Manager, or through the jump table.
+    Segment(SegmentCall),
     /// A call by which an application says how it is run.
     Control(ControlCall),
 }

@@ -8,6 +8,7 @@ mod code;
 mod name;
 mod reply;
 mod resource_call;
+mod segment_call;
 mod size;
 
 pub use attributes::Attrs;
@@ -16,4 +17,5 @@ pub use code::OsErr;
 pub use name::{FileName, Label, Name, OsType};
 pub use reply::Reply;
 pub use resource_call::ResourceCall;
+pub use segment_call::SegmentCall;
 pub use size::phys;

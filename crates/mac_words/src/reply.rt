@@ -1,6 +1,6 @@
 //! Replies.
 
-ghost use Rattle.std.specs.Prelude.{◌≡◌, ◌<◌, ◌^◌, pos, [], ◌∷◌, Some, None};
+ghost use Rattle.std.specs.Prelude.{◌≡◌, ◌<◌, ◌^◌, pos, [], ◌∷◌, Some, None, if◌then◌else◌};
 
 use crate::code::OsErr;
 use crate::name::{Name, OsType};
@@ -59,6 +59,24 @@ impl Reply {
         let mut numbers = ArrayVec::new();
         numbers.push(one as i64);
         numbers.push(other as i64);
+        Reply {
+            code: OsErr::NO_ERR,
+            numbers,
+            ty: None,
+            name: None,
+        }
+    }
+
+    /// Code 0, the segment of a jump table's entry, and a flag as 1 or 0.
+    pub fn entry(segment: i16, flag: bool) -> Reply
+        ensures code { result.code ≡ OsErr.NO_ERR }
+        ensures numbers { result.numbers.items ≡ segment ∷ pos (if flag then 1 else 0) ∷ [] }
+        ensures ty { result.ty ≡ None }
+        ensures name { result.name ≡ None }
+    {
+        let mut numbers = ArrayVec::new();
+        numbers.push(segment as i64);
+        numbers.push(if flag { 1 } else { 0 });
         Reply {
             code: OsErr::NO_ERR,
             numbers,

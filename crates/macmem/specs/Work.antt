@@ -1,6 +1,6 @@
 use Rattle.std.specs.Prelude.{◌≡◌, ℕ, Ok, List, IsTrue, codes}
 use Rattle.script_text.specs.Script.{Parts, script_of, spelled}
-use Rattle.desk.specs.Application.{transcript}
+use Rattle.desk.specs.Alone.{script_alone}
 use Rattle.fork_format.specs.Content.{Content}
 use Rattle.fork_format.specs.Fork.{is_fork, content_of}
 use Rattle.fork_format.specs.Canonical.{canon, fits}
@@ -12,7 +12,7 @@ use Rattle.macmem.specs.declared.work.Form.TheVariants.{Canonical, Accepted}
 -- the text spells
 abbrev pub IsTranscriptOf : ℕ → List ℕ → List ℕ → Type 0
 IsTranscriptOf n text out =
-    (script : Parts) × (script_of text ≡ Ok (spelled script)) × (out ≡ transcript n script)
+    (script : Parts) × (script_of text ≡ Ok (spelled script)) × (out ≡ (script_alone n script).transcript)
 
 -- a listing of a fork: that of the content which the bytes spell
 abbrev pub IsListingOf : List ℕ → List ℕ → Type 0

@@ -288,6 +288,26 @@ const CHANGING_TRANSCRIPT: &str = "launch 0 1024
 end 0
 ";
 
+/// `examples/segments.script`
+const SEGMENTS: &str =
+    "# The application's fork has no resources, so its jump table has no entries, and there is no segment to unload.
+ShowEntry 0
+UnloadSeg 1
+NewHandle text 100
+# A segment that can't be loaded is a system error: 15 ends the application, and nothing is updated.
+LoadSeg 1
+# This is no step any more.
+DisposeHandle text
+";
+
+const SEGMENTS_TRANSCRIPT: &str = "launch 0 1024
+2 ShowEntry -30001
+3 UnloadSeg 0
+4 NewHandle 0
+6 LoadSeg 15
+end 15
+";
+
 /// `examples/kept_pointer.script`
 const KEPT_POINTER: &str =
     "# In 1024 bytes: a pointer that is kept across NewHandle points into another block.
@@ -387,6 +407,7 @@ fn runs_the_scripts(rt: HostRuntime) -> Result<(), Fail> {
         (GROW_ZONE, GROW_ZONE_TRANSCRIPT),
         (RESOURCES, RESOURCES_TRANSCRIPT),
         (CHANGING, CHANGING_TRANSCRIPT),
+        (SEGMENTS, SEGMENTS_TRANSCRIPT),
         (KEPT_POINTER, KEPT_POINTER_TRANSCRIPT),
         (KEPT_POINTER_LOCKED, KEPT_POINTER_LOCKED_TRANSCRIPT),
     ] {

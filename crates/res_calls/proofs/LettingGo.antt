@@ -90,7 +90,7 @@ replaced-drop x s =
     ∙ drop-replaced s.before x s.after
 
 -- an update leaves the handles of references
-updated-handles : (heap : State) (references : List Reference)
+pub updated-handles : (heap : State) (references : List Reference)
     → handles_of (map (updated_reference heap) references) ≡ handles_of references
 updated-handles heap [] = refl
 updated-handles heap (x ∷ references) = ap (cons_option x.handle) (updated-handles heap references)

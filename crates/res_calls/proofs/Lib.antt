@@ -15,3 +15,6 @@ pub mod Preloads
 pub mod Following
 pub mod Keeping
 pub mod Joining
+pub mod OwnFork
+pub mod LastOpened
+pub mod LeftFiles

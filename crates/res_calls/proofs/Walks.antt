@@ -5,3 +5,6 @@ pub mod Letting
 pub mod Place
 pub mod Laws
 pub mod Forks
+pub mod Answered
+pub mod Own
+pub mod Launching

@@ -108,7 +108,7 @@ anew_refused heap m given stored (Code code) same is wrote =
     (wrote.0, ap (λ (n : Map). fits (content n)) (sym (anew_so heap m given (ap view_all same ∙ is))) ∙ wrote.1)
 
 -- a file behind the first one
-written_cons : (i : ℕ) (fork : List ℕ) (f : File) (files : List File)
+pub written_cons : (i : ℕ) (fork : List ℕ) (f : File) (files : List File)
     → written (suc i) fork (f ∷ files) ≡ f ∷ written i fork files
 written_cons i fork f files =
     let more : (suc i == 0) ≡ false = ne_eqb (suc i) 0 (λ e. (let none : ⊥ = omega (arith, e) in none)) in

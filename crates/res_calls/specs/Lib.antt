@@ -12,5 +12,7 @@ pub mod Disposing
 pub mod Writing
 pub mod Forks
 pub mod Places
+pub mod Own
 pub mod Owning
 pub mod Preloading
+pub mod Leaving

@@ -1,4 +1,4 @@
-use Rattle.std.specs.Prelude.{◌≡◌, ℕ, ℤ, zero, suc, Bool, true, Option, Some, None, Result, Ok, Err, List, [], ◌∷◌}
+use Rattle.std.specs.Prelude.{◌≡◌, ℕ, ℤ, zero, suc, Bool, true, false, Option, Some, None, Result, Ok, Err, List, [], ◌∷◌}
 use Rattle.std.specs.Prelude.{map, option_map, nat_le, not, ◌&&◌, ◌||◌, ◌==◌, if◌then◌else◌}
 use Rattle.byteorder.specs.Endian.{big_number}
 use Rattle.mac_words.specs.declared.code.OsErr.{OsErr}
@@ -13,17 +13,21 @@ use Rattle.heap_calls.specs.declared.refusal.Refusal.TheVariants.{Code, HostMemo
 use Rattle.res_map.specs.Split.{Split, behind, replaced, place}
 use Rattle.res_map.specs.Map.{Reference, is_resource, is_named, has_handle, is_changed, is_protected, with_attrs}
 use Rattle.res_map.specs.Map.{renamed, new_reference}
-use Rattle.res_calls.specs.Files.{OpenFile, Resources, Found, find}
+use Rattle.res_calls.specs.Files.{OpenFile, Resources, Found, find, is_at}
 use Rattle.res_calls.specs.Fetch.{Managers, Answer, done, refused, flags_of, is_system}
 use Rattle.res_calls.specs.Fetch as fetch
 use Rattle.res_calls.specs.Rows.{on_found, reference_in, bars, released_at, detached_at, with_resources, on_file}
 use Rattle.res_calls.specs.Update.{bytes_held}
 use Rattle.res_calls.specs.Changing.{touched, marked, with_changed, stored_if, added_to, removed_from}
 use Rattle.res_calls.specs.Rows as rows
+use Rattle.res_calls.specs.Rows.{closed_file}
+use Rattle.res_calls.specs.Update.{update}
+use Rattle.res_calls.specs.Leaving.{Left, update_code, updated_or, left_file, last_opened}
 use Rattle.fork_format.specs.declared.content.RefName.{RefName}
 use Rattle.res_calls.specs.declared.info.Info.{Info}
+use Rattle.res_calls.specs.declared.files.File.{File as StoredFile}
 use Rattle.res_calls.specs.declared.files.OpenFile.{OpenFile as StoredOpenFile}
-use Rattle.res_calls.specs.View.{view_open}
+use Rattle.res_calls.specs.View.{view_file, view_open}
 use Rattle.res_calls.specs.declared.adding.NewReference.{NewReference}
 use Rattle.res_calls.specs.declared.find.Spot.{Spot}
 use Rattle.res_calls.specs.declared.find.Within.{Within}
@@ -63,6 +67,7 @@ abbrev pub is_searched : Within → OpenFile → Bool
 is_searched (within.UpTo n) = λ f. nat_le f.number n
 is_searched (within.Only n) = λ f. f.number == n
 is_searched within.Each = λ f. true
+is_searched within.Own = λ f. is_at 0 f.file
 
 abbrev pub is_wanted : Wanted → Reference → Bool
 is_wanted (wanted.Id ty id) = is_resource (big_number 4 ty.0) id
@@ -157,3 +162,36 @@ abbrev pub add_found : Role → Reference → ℕ → Managers → Answer (Unit 
 add_found role new h s = if is_owner role || not (has_block h s.memory.heap) then refused ADD_RES_FAILED s
     else if s.resources.current == 0 then refused WRITE_PERMISSION s
     else on_file s.resources.current s (λ at. done tt (added_to at new h s))
+
+-- a file is open besides the System's: the last opened isn't the System's
+abbrev pub has_own : List OpenFile → Bool
+has_own [] = false
+has_own (f ∷ older) = not (is_system f)
+
+-- resources with these files and open files, and this number of the current file
+abbrev pub standing : List StoredFile → List StoredOpenFile → ℕ → Resources → Resources
+standing files chain current r =
+    record r { files = map view_file files; chain = map view_open chain; current = current }
+
+-- the last opened file is updated and closed: the code of its update, and the managers after it
+abbrev pub left_last_of : List OpenFile → Managers → Left
+left_last_of [] s = record { code = NO_ERR; after = s }
+left_last_of (f ∷ older) s = record {
+  code = update_code (update s.memory.heap (last_opened f older) s.resources);
+  after = left_file (last_opened f older) s;
+}
+
+abbrev pub left_last : Managers → Left
+left_last s = left_last_of s.resources.chain s
+
+-- what an update of the last opened file leaves: its code, and the resources
+abbrev pub IsLastUpdated : Memory → List OpenFile → OsErr → Resources → Resources → Type 0
+IsLastUpdated m [] code before after = Unit {0}
+IsLastUpdated m (f ∷ older) code before after =
+    (code ≡ update_code (update m.heap (last_opened f older) before))
+    × (after ≡ updated_or (update m.heap (last_opened f older) before) before)
+
+-- the last opened file is closed as it is
+abbrev pub IsLastClosed : List OpenFile → Managers → Managers → Type 0
+IsLastClosed [] s after = Unit {0}
+IsLastClosed (f ∷ older) s after = closed_file (last_opened f older) s.resources s ≡ after

@@ -24,7 +24,7 @@ pub fn place_numbered(chain: &[OpenFile], number: u32) -> Option<usize>
 }
 
 /// Whether a file is open as the one at a place among the application's files.
-fn is_open_at(file: &OpenFile, index: usize) -> bool
+pub fn is_open_at(file: &OpenFile, index: usize) -> bool
     ensures { result ≡ is_at index (view_open file.now).file }
 {
     match file.file {

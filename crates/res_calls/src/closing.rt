@@ -23,10 +23,10 @@ use std::alloc::Global;
 
 /// A file that is open no more.
 #[derive(Drop)]
-struct Removed {
-    file: OpenFile,
+pub(crate) struct Removed {
+    pub(crate) file: OpenFile,
     /// The number of the file that was opened before it; 0 where none was.
-    older: u32,
+    pub(crate) older: u32,
 }
 
 /// Lets the handle of a reference go, where it has one.
@@ -40,7 +40,7 @@ fn release_held<S: BlockStore>(heap: &mut Heap<S>, handle: Option<usize>)
 
 /// Lets the handles of all references of a file go, in order.
 #[tactic(auto, using(crate::proofs::LettingGo::released_next, crate::proofs::LettingGo::released_none))]
-fn release_all<S: BlockStore>(heap: &mut Heap<S>, map: &ResFile)
+pub(crate) fn release_all<S: BlockStore>(heap: &mut Heap<S>, map: &ResFile)
     ensures { heap.new ≡ all_released (handles_of map.now.references) heap.old }
 {
     for i in 0..map.len() {
@@ -62,7 +62,7 @@ fn number_at(chain: &[OpenFile], at: usize) -> u32
 }
 
 /// Takes an open file out of the chain.
-fn take_out(chain: &mut Vec<OpenFile>, at: usize) -> Removed
+pub(crate) fn take_out(chain: &mut Vec<OpenFile>, at: usize) -> Removed
     requires { at < length chain.old.items }
     ensures file { slice_get (map view_open chain.old.items) at ≡ Some (view_open result.file) }
     ensures older { result.older ≡ first_number (map view_open (drop (at + 1) chain.old.items)) }
@@ -74,7 +74,7 @@ fn take_out(chain: &mut Vec<OpenFile>, at: usize) -> Removed
 }
 
 /// The number of the current file after one is closed, by the number of that opened before it.
-fn current_after(current: u32, closed: u32, older: u32) -> u32
+pub(crate) fn current_after(current: u32, closed: u32, older: u32) -> u32
     ensures { result ≡ (if current == closed then older else current) }
 {
     if current == closed { older } else { current }

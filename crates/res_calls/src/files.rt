@@ -15,6 +15,9 @@ pub struct File {
     pub written: bool,
 }
 
+/// The place of the application's own file among its files.
+pub(crate) const OWN_PLACE: usize = 0;
+
 /// An open file.
 #[derive(Drop)]
 pub(crate) struct OpenFile {

@@ -8,13 +8,14 @@ ghost use Rattle.mac_words.specs.Attributes.{has_bit};
 ghost use Rattle.res_map.specs.Split.{split, place, replaced, removed};
 ghost use Rattle.res_map.specs.Map.{with_handle, with_attrs, stored_anew, renamed};
 ghost use Rattle.res_map.specs.View.{view_entry};
-ghost use Rattle.res_calls.specs.Files.{Found, OpenFile as FileValue, find, with_reference};
+ghost use Rattle.res_calls.specs.Files.{Found, find, with_reference};
 ghost use Rattle.res_calls.specs.Rows.{resource_of};
 ghost use Rattle.res_calls.specs.Places.{found_at, found_from, spot_of, is_searched, is_wanted};
 ghost use Rattle.res_calls.specs.Places.{touched_files};
 ghost use Rattle.res_calls.specs.View.{view_open};
 
-use crate::files::{OpenFile, Resources};
+use crate::chain::is_open_at;
+use crate::files::{OWN_PLACE, OpenFile, Resources};
 use mac_words::{Attrs, Name, OsType};
 use res_map::{Entry, ResFile};
 use std::alloc::{AllocError, Global};
@@ -37,6 +38,8 @@ pub(crate) enum Within {
     Only(u32),
     /// All.
     Each,
+    /// The application's own file.
+    Own,
 }
 
 /// What is looked for.
@@ -51,13 +54,14 @@ pub(crate) enum Wanted<'a> {
 }
 
 /// Whether a file is searched.
-fn is_searched_file(within: Within, number: u32) -> bool
-    ensures { (f : FileValue) → f.number ≡ number → is_searched within f ≡ result }
+fn is_searched_file(within: Within, file: &OpenFile) -> bool
+    ensures { is_searched within (view_open file.now) ≡ result }
 {
     match within {
-        Within::UpTo(most) => number <= most,
-        Within::Only(one) => number == one,
+        Within::UpTo(most) => file.number <= most,
+        Within::Only(one) => file.number == one,
         Within::Each => true,
+        Within::Own => is_open_at(file, OWN_PLACE),
     }
 }
 
@@ -77,7 +81,7 @@ fn find_in_file(file: &OpenFile, within: Within, wanted: Wanted<'_>) -> Option<u
     ensures { result ≡ option_map place (if is_searched within (view_open file.now)
         then split (is_wanted wanted.entry) file.now.map.references else None) }
 {
-    if is_searched_file(within, file.number) {
+    if is_searched_file(within, file) {
         find_in_map(&file.map, wanted)
     } else {
         None

@@ -10,7 +10,7 @@ ghost use Rattle.res_calls.specs.Given.{IsReply};
 ghost use Rattle.res_calls.specs.Rows.{map_in, launched_resources};
 ghost use Rattle.res_calls.specs.View.{view_file, view_open};
 
-use crate::files::{File, OpenFile, Resources};
+use crate::files::{File, OWN_PLACE, OpenFile, Resources};
 use fork_format::{Content, ForkFault, read_fork};
 use heap_calls::Refusal;
 use mac_words::OsErr;
@@ -39,7 +39,7 @@ fn launched_chain(alloc: Global, own: ResFile, system: ResFile) -> Result<Vec<Op
     let mut chain = Vec::with_capacity(alloc, 2)?;
     chain.push(OpenFile {
         number: OWN_FILE,
-        file: Some(0),
+        file: Some(OWN_PLACE),
         map: own,
         touched: false,
     })?;
@@ -61,7 +61,7 @@ impl Resources {
         requires references { IsTrue (list_all has_refs (view system.now).groups) }
         ensures { IsReply (launched_resources (map view_file files.items) (view system.now)) result }
     {
-        let own = match open_map(alloc, &files[0].fork) {
+        let own = match open_map(alloc, &files[OWN_PLACE].fork) {
             Ok(own) => own,
             Err(refusal) => return Err(refusal),
         };

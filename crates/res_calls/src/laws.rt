@@ -1,8 +1,8 @@
 //! Laws of the definitions.
 
-ghost use Rattle.std.specs.Prelude.{◌≡◌, ◌≢◌, ◌<◌, ℕ, Bool, true, false, Ok, Some, None, List, ◌∷◌, option_map, filter, nat_le};
-ghost use Rattle.std.specs.Prelude.{ℤ, Option, Err, slice_get};
-ghost use Rattle.std.specs.List.{flat_map, find as first_of};
+ghost use Rattle.std.specs.Prelude.{◌≡◌, ◌≢◌, ◌<◌, ◌⊎◌, ◌&&◌, ℕ, ℤ, Bool, true, false, not, Ok, Err, Option, Some, None};
+ghost use Rattle.std.specs.Prelude.{List, [], ◌∷◌, length, option_map, filter, nat_le, slice_get};
+ghost use Rattle.std.specs.List.{flat_map, list_all, list_any, find as first_of};
 ghost use Rattle.mac_words.specs.declared.code.TheConstants.OsErr.{NO_ERR, RES_FILE_NOT_FOUND};
 ghost use Rattle.fork_format.specs.Canonical.{clear, fits};
 ghost use Rattle.fork_format.specs.Content.{Content, IsContent};
@@ -15,8 +15,10 @@ ghost use Rattle.res_map.specs.Map.{Reference, is_changed, content, map_of};
 ghost use Rattle.res_calls.specs.Asked.{ResourceAsked, UpdateResFile, served};
 ghost use Rattle.res_calls.specs.Changing.{add_resource};
 ghost use Rattle.res_calls.specs.Fetch.{Managers};
-ghost use Rattle.res_calls.specs.Files.{File, Resources, OpenFile, Found, file_of, find_from_current};
+ghost use Rattle.res_calls.specs.Files.{File, Resources, OpenFile, Found, file_of, find_from_current, is_at};
 ghost use Rattle.res_calls.specs.Forks.{Written, HasFork, StoresHandle};
+ghost use Rattle.res_calls.specs.Leaving.{leave};
+ghost use Rattle.res_calls.specs.Own.{fetch_own};
 ghost use Rattle.res_calls.specs.Owning.{Owns};
 ghost use Rattle.res_calls.specs.Rows.{launched_resources, preloaded, map_in, keep_error};
 ghost use Rattle.res_calls.specs.Sound.{Sound};
@@ -34,7 +36,8 @@ pub fn the_first_reference_is_found()
 
 /// Each resource has its own handle: one handle for one reference, and one reference for one handle, in the role that
 /// its file gives it (`Owns`). It is so where an application is launched over a heap that has no resource's handle,
-/// before its resources are read and after, and each try of a call of either manager keeps it.
+/// before its resources are read and after, and each try of a call of either manager keeps it, and a fetch from the
+/// application's own fork.
 pub fn each_resource_has_its_own_handle()
     ensures launched { (files : List File) (system : Content) (r : Resources) (m : Memory)
         → launched_resources files system ≡ Ok r → ((h : ℕ) → resource_role_at h m.heap ≡ None)
@@ -42,6 +45,7 @@ pub fn each_resource_has_its_own_handle()
     ensures heap { (asked : Asked) (s : Managers) → Owns s
         → Owns (record s { memory = (heap.served asked s.memory).1 }) }
     ensures resources { (asked : ResourceAsked) (s : Managers) → Owns s → Owns (served asked s).after }
+    ensures own { (kind : ℕ) (id : ℤ) (s : Managers) → Owns s → Owns (fetch_own kind id s).after }
 {}
 
 /// A search begins in the current file, and goes on in those that were opened before it, in their order.
@@ -51,13 +55,17 @@ pub fn a_search_goes_back_in_time()
 {}
 
 /// What holds of the open files at all times (`Sound`) holds where an application is launched, before its resources are
-/// read and after, and each try of a call keeps it.
+/// read and after, and each try of a call keeps it, and so do a fetch from the application's own fork and the
+/// application's leaving.
 pub fn the_open_files_stay_sound()
     ensures launched { (files : List File) (system : Content) (r : Resources)
         → launched_resources files system ≡ Ok r → Sound r }
     ensures read { (s : Managers) → Sound s.resources → Sound (preloaded s).0.resources }
     ensures resources { (asked : ResourceAsked) (s : Managers) → Sound s.resources
         → Sound (served asked s).after.resources }
+    ensures own { (kind : ℕ) (id : ℤ) (s : Managers) → Sound s.resources
+        → Sound (fetch_own kind id s).after.resources }
+    ensures left { (s : Managers) → Sound s.resources → Sound (leave s).after.resources }
 {}
 
 /// What a call does to the files: nothing, but that `CreateResFile` makes one or gives one without bytes an empty fork,
@@ -105,4 +113,21 @@ pub fn an_updated_fork_is_read_again()
 pub fn the_current_file_is_open()
     ensures { (handle : Option ℕ) (kind : ℕ) (id : ℤ) (name : List ℕ) (s : Managers) → Sound s.resources
         → (add_resource handle kind id name s).reply ≢ Err RES_FILE_NOT_FOUND }
+{}
+
+/// An application that leaves closes all its files: the System's alone stays open. There are as many files as before,
+/// each as it was or with another fork, which was written then. One that wasn't open, or not touched, is as it was; and
+/// where no open file was touched, so are all, and the code is 0.
+pub fn an_application_that_leaves_closes_its_files()
+    ensures closed { (s : Managers) → Sound s.resources
+        → (f : OpenFile) × ((leave s).after.resources.chain ≡ f ∷ []) × (f.number ≡ 0) }
+    ensures count { (s : Managers) → length (leave s).after.resources.files ≡ length s.resources.files }
+    ensures files { (s : Managers) (i : ℕ) (f : File) → slice_get s.resources.files i ≡ Some f
+        → (g : File) × (slice_get (leave s).after.resources.files i ≡ Some g)
+        × ((g ≡ f) ⊎ (g ≡ record f { fork = g.fork; written = true })) }
+    ensures untouched { (s : Managers) (i : ℕ)
+        → list_any (λ (f : OpenFile). f.touched && is_at i f.file) s.resources.chain ≡ false
+        → slice_get (leave s).after.resources.files i ≡ slice_get s.resources.files i }
+    ensures nothing_touched { (s : Managers) → list_all (λ (f : OpenFile). not f.touched) s.resources.chain ≡ true
+        → ((leave s).code ≡ NO_ERR) × ((leave s).after.resources.files ≡ s.resources.files) }
 {}

@@ -15,7 +15,9 @@ mod getting;
 mod info;
 mod launching;
 mod laws;
+mod leaving;
 mod opening;
+mod own;
 mod preloading;
 mod releasing;
 mod renaming;
@@ -25,7 +27,8 @@ pub use fetched::{Fetched, Unread};
 pub use files::{File, Resources};
 pub use info::Info;
 pub use laws::{
-    a_search_goes_back_in_time, an_update_stores_what_was_changed, an_updated_fork_is_read_again,
+    a_search_goes_back_in_time, an_application_that_leaves_closes_its_files,
+    an_update_stores_what_was_changed, an_updated_fork_is_read_again,
     each_resource_has_its_own_handle, only_an_update_or_a_creation_writes_a_fork,
     the_current_file_is_open, the_first_reference_is_found, the_open_files_stay_sound,
 };
@@ -36,3 +39,5 @@ mod tests_changing;
 mod tests_fetch;
 #[cfg(test)]
 mod tests_files;
+#[cfg(test)]
+mod tests_own;

@@ -5,3 +5,4 @@ mod Shown
 mod Rows
 mod BlockRows
 mod ResourceRows
+mod SegmentRows

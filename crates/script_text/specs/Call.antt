@@ -7,6 +7,8 @@ use Rattle.mac_words.specs.declared.call.HeapCall.{HeapCall}
 use Rattle.mac_words.specs.declared.call.HeapCall.TheVariants as heap
 use Rattle.mac_words.specs.declared.resource_call.ResourceCall.{ResourceCall}
 use Rattle.mac_words.specs.declared.resource_call.ResourceCall.TheVariants as resource
+use Rattle.mac_words.specs.declared.segment_call.SegmentCall.{SegmentCall}
+use Rattle.mac_words.specs.declared.segment_call.SegmentCall.TheVariants as segment
 use Rattle.script_text.specs.declared.fault.FaultKind.{FaultKind}
 use Rattle.script_text.specs.declared.word.Word.{Word}
 use Rattle.script_text.specs.declared.word.Word.TheVariants as word
@@ -78,6 +80,10 @@ row word.SetResAttrs = (codes "SetResAttrs", Label ∷ Byte ∷ [])
 row word.GetResourceSizeOnDisk = (codes "GetResourceSizeOnDisk", Label ∷ [])
 row word.SetResLoad = (codes "SetResLoad", Switch ∷ [])
 row word.ResError = (codes "ResError", [])
+row word.LoadSeg = (codes "LoadSeg", Id ∷ [])
+row word.UnloadSeg = (codes "UnloadSeg", Id ∷ [])
+row word.CallEntry = (codes "CallEntry", Size ∷ [])
+row word.ShowEntry = (codes "ShowEntry", Size ∷ [])
 row word.Put = (codes "Put", Label ∷ Size ∷ Bytes ∷ [])
 row word.Show = (codes "Show", Label ∷ [])
 row word.PutPtr = (codes "PutPtr", Label ∷ Size ∷ Bytes ∷ [])
@@ -169,6 +175,13 @@ resource_spoken (resource.GetResourceSizeOnDisk h) = (word.GetResourceSizeOnDisk
 resource_spoken (resource.SetResLoad on) = (word.SetResLoad, Flag on ∷ [])
 resource_spoken resource.ResError = (word.ResError, [])
 
+-- a call of the Segment Manager, or through the jump table, as its word and what its arguments say
+abbrev pub segment_spoken : SegmentCall → Word × List Value
+segment_spoken (segment.LoadSeg id) = (word.LoadSeg, Signed id ∷ [])
+segment_spoken (segment.UnloadSeg id) = (word.UnloadSeg, Signed id ∷ [])
+segment_spoken (segment.CallEntry n) = (word.CallEntry, Number n ∷ [])
+segment_spoken (segment.ShowEntry n) = (word.ShowEntry, Number n ∷ [])
+
 -- a call by which an application says how it is run, as its word and what its arguments say
 abbrev pub control_spoken : ControlCall → Word × List Value
 control_spoken (control.SetGrowZone name) = (word.SetGrowZone, Letters name.0.items ∷ [])
@@ -179,6 +192,7 @@ control_spoken control.ExitToShell = (word.ExitToShell, [])
 abbrev pub spoken : Call → Word × List Value
 spoken (call.Heap c) = heap_spoken c
 spoken (call.Resource c) = resource_spoken c
+spoken (call.Segment c) = segment_spoken c
 spoken (call.Control c) = control_spoken c
 
 -- the word of a call
@@ -194,6 +208,7 @@ may_stand word.HPurge = true
 may_stand word.HNoPurge = true
 may_stand word.HUnlock = true
 may_stand word.ReleaseResource = true
+may_stand word.UnloadSeg = true
 may_stand _ = false
 
 -- the calls that a grow-zone script may hold

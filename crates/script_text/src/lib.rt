@@ -19,4 +19,6 @@ pub use word::{CALLS, Word, words_are_apart};
 #[cfg(test)]
 mod resource_tests;
 #[cfg(test)]
+mod segment_tests;
+#[cfg(test)]
 mod tests;

@@ -370,7 +370,7 @@ fn lists_each_call(rt: HostRuntime) -> Result<(), Fail> {
             assert!(rt; line.ends_with(":"));
         }
     }
-    assert_eq!(rt; listed, 70);
+    assert_eq!(rt; listed, 74);
     for line in [
         "  NewHandle h size\n",
         "  HandToHand b a\n",
@@ -383,10 +383,11 @@ fn lists_each_call(rt: HostRuntime) -> Result<(), Fail> {
         "  AddResource h type id text\n",
         "  SetResInfo h id text\n",
         "  SetResAttrs h byte\n",
-        "  SetResLoad switch\n  ResError\nWhat an application does by itself:\n",
+        "  SetResLoad switch\n  ResError\nThe Segment Manager:\n  LoadSeg id\n",
+        "  UnloadSeg id\n  CallEntry n\n  ShowEntry n\nWhat an application does by itself:\n",
         "Turns:\n  WaitNextEvent\n  ExitToShell\n",
         "  grow NAME .. end,",
-        "    EmptyHandle DisposeHandle DisposePtr HPurge HNoPurge HUnlock ReleaseResource\n",
+        "    EmptyHandle DisposeHandle DisposePtr HPurge HNoPurge HUnlock ReleaseResource UnloadSeg\n",
     ] {
         assert!(rt; CALLS.contains(line), "at {line}");
     }

@@ -7,7 +7,7 @@ ghost use Rattle.script_text.specs.declared.word.Word as declared;
 
 use crate::arguments::{four, none, one, three, two};
 use crate::fault::FaultKind;
-use mac_words::{Call, ControlCall, HeapCall, ResourceCall};
+use mac_words::{Call, ControlCall, HeapCall, ResourceCall, SegmentCall};
 use std::alloc::Global;
 
 /// The word of a call, spelled as its variant is named.
@@ -74,6 +74,10 @@ pub enum Word {
     GetResourceSizeOnDisk,
     SetResLoad,
     ResError,
+    LoadSeg,
+    UnloadSeg,
+    CallEntry,
+    ShowEntry,
     Put,
     Show,
     PutPtr,
@@ -157,6 +161,12 @@ macro_rules! calls {
                 SetResLoad = Resource ResourceCall one(switch);
                 ResError = Resource ResourceCall none();
             }
+            "The Segment Manager" {
+                LoadSeg = Segment SegmentCall one(id);
+                UnloadSeg = Segment SegmentCall one(id);
+                CallEntry = Segment SegmentCall one(n);
+                ShowEntry = Segment SegmentCall one(n);
+            }
             "What an application does by itself" {
                 Put = Heap HeapCall three(h, offset, bytes);
                 Show = Heap HeapCall one(h);
@@ -168,7 +178,7 @@ macro_rules! calls {
                 WaitNextEvent = Control ControlCall none();
                 ExitToShell = Control ControlCall none();
             }
-            [EmptyHandle DisposeHandle DisposePtr HPurge HNoPurge HUnlock ReleaseResource]
+            [EmptyHandle DisposeHandle DisposePtr HPurge HNoPurge HUnlock ReleaseResource UnloadSeg]
         }
     };
 }
@@ -260,7 +270,7 @@ macro_rules! is_held {
 /// belongs to. Then the lines that make a grow-zone script, and the calls that it may hold.
 pub const CALLS: &str = calls!(listed);
 
-pub(crate) static WORDS: [Word; 68] = calls!(words);
+pub(crate) static WORDS: [Word; 72] = calls!(words);
 
 impl Word {
     /// The word of a call.

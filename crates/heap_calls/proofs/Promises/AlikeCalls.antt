@@ -218,7 +218,7 @@ module _ (seen : Block → Bool) (steady : Steady seen)
     alike-rebuilt s (Some zone) made = made zone refl
 
     -- other flags
-    alike-flags : (change : Flags → Flags) (k : ℕ) (s : State) → LeavesFlags seen s.zone k change
+    pub alike-flags : (change : Flags → Flags) (k : ℕ) (s : State) → LeavesFlags seen s.zone k change
         → Alike seen s.zone (change_flags change (Some k) s).1.zone
     alike-flags change k s kept = by_spot (look_up (Some k) s) (λ held is. (look_up-spot k s held is).0)
       where
@@ -258,7 +258,7 @@ module _ (seen : Block → Bool) (steady : Steady seen)
         by_spot (Ok held) = by_mover held.number (is_mover held.at.here)
 
     -- HLockHi: what was moved and is locked wasn't seen
-    alike-locked_high : (k : ℕ) (s : State) → LeavesLoose seen s.zone
+    pub alike-locked_high : (k : ℕ) (s : State) → LeavesLoose seen s.zone
         → Alike seen s.zone (calls.hlock_hi (Some k) s).1.zone
     alike-locked_high k s loose = by_spot (look_up (Some k) s) (λ held is. (look_up-spot k s held is).0)
       where

@@ -5,7 +5,7 @@ use Rattle.std.proofs.lemmas.Bool.{cond-false}
 use Rattle.std.proofs.lemmas.Bool.Decides.{Decides-eqb}
 use Rattle.std.proofs.lemmas.Option.{same_Some}
 use Rattle.std.specs.Option.{option_map}
-use Rattle.std.specs.Prelude.{IsTrue, is_some, unwrap_or, if◌then◌else◌}
+use Rattle.std.specs.Prelude.{IsTrue, is_some, if◌then◌else◌}
 use Rattle.mac_words.specs.Size.{phys}
 use Rattle.mac_words.specs.declared.code.OsErr.{OsErr}
 use Rattle.mac_words.specs.declared.code.TheConstants.OsErr.{MEM_FULL, LOCKED, PROFILE, PURGED}
@@ -14,7 +14,7 @@ use Rattle.block_store.specs.Block.{Block, Free, Fixed, Masters, Relocatable, si
 use Rattle.block_store.specs.Block.{is_purgeable, is_masters, is_relocatable, is_fixed, content_of, with_content}
 use Rattle.block_store.specs.Block.{no_flags, tidy, resized}
 use Rattle.windows.specs.Writes.{written}
-use Rattle.block_store.specs.Run.{change_run, has, high, runs}
+use Rattle.block_store.specs.Run.{has, runs}
 use Rattle.block_store.specs.Room.{Spot, spot, put_in_place, put_at_base, room}
 use Rattle.block_store.specs.Grow.{freed, grow}
 use Rattle.block_store.specs.Compact.{runs_settled}
@@ -42,7 +42,8 @@ use Rattle.block_store.proofs.Zone.Keeping.{unless, tidied, freed-is}
 use Rattle.heap_calls.proofs.Promises.Knowing.{look_up-spot, pointed_at-spot}
 use Rattle.heap_calls.proofs.Promises.LastPutLaws.{found-same, handle_at-name}
 use Rattle.heap_calls.proofs.Promises.AlikeCalls.{flagged-number}
-use Rattle.block_store.proofs.Zone.Surviving.{changed-all, high-all, settled-all, purged-all, made-all, base-all}
+use Rattle.heap_calls.proofs.Promises.KnownChanges.{hoisted-all}
+use Rattle.block_store.proofs.Zone.Surviving.{settled-all, purged-all, made-all, base-all}
 use Rattle.block_store.proofs.Zone.Surviving.{grown-all}
 
 -- Each block that may not be emptied is there after each call that doesn't let it go.
@@ -146,17 +147,6 @@ module _ (of : Block → ℕ) (none : (n : ℕ) → of (Free n) ≡ 0) (goes : (
         by_ready None ready = omega arith
         by_ready (Some r) ready = let a = ready r refl in let b = next r in omega arith
 
-    of-hoisted : (k : ℕ) (zone : List Block) → total of zone ≤ total of (hoisted k zone)
-    of-hoisted k zone =
-        cases (change_run (has (is_relocatable k)) (high (is_relocatable k)) zone)
-        (λ z e. changed-all of none (has (is_relocatable k)) (high (is_relocatable k))
-        (λ run one. let h = high-all of none (is_relocatable k) run one in omega arith) zone z e)
-      where
-        cases : (o : Option (List Block)) → ((z : List Block) → o ≡ Some z → total of zone ≤ total of z)
-            → total of zone ≤ total of (unwrap_or (option_map tidy o) zone)
-        cases None less = omega arith
-        cases (Some z) less = let l = less z refl in omega (arith, tidied of none z)
-
     of-moved : (handle : Option ℕ) (s : State) → total of s.zone ≤ total of (move_hhi handle s).1.zone
     of-moved handle s = of-found (look_up handle s) s (λ held. if is_mover held.at.here
         then (Ok tt, record s { zone = hoisted held.number s.zone }) else refused LOCKED s)
@@ -165,7 +155,7 @@ module _ (of : Block → ℕ) (none : (n : ℕ) → of (Free n) ≡ 0) (goes : (
         by_mover : (k : ℕ) (t : Bool) → total of s.zone ≤ total of
             (cond t (let done : Answer (Unit {0}) = (Ok tt, record s { zone = hoisted k s.zone }) in
             done) (refused LOCKED s)).1.zone
-        by_mover k true = of-hoisted k s.zone
+        by_mover k true = hoisted-all of none k s.zone
         by_mover k false = omega arith
 
     of-put_at : (test : Block → Bool) (i : ℕ) (x : List ℕ) (s : State) (at : Spot) → spot test s.zone ≡ Some at

@@ -29,6 +29,7 @@ use Rattle.heap_calls.specs.Asked.{told_as}
 use Rattle.block_store.proofs.Zone.Views.{map-some}
 use Rattle.block_store.proofs.Zone.Keeping.{SeesNoFree, unless, unless-le, unless-none, tidied, freed-is, changed-le}
 use Rattle.block_store.proofs.Zone.Keeping.{high-le, room-le, base-le, swapped-le, grown-le}
+use Rattle.block_store.proofs.Zone.Surviving.{changed-all, high-all}
 use Rattle.heap_calls.proofs.Promises.Knowing.{Known, for_handle, for_pointer, handle-only, pointer-only, look_up-spot}
 use Rattle.heap_calls.proofs.Promises.Knowing.{known-at, known-pointed, handle-changed, pointer-changed, known-more}
 use Rattle.heap_calls.proofs.Promises.Knowing.{known-less, none-handle, none-pointer, push-stands, pushed, set-stands}
@@ -253,7 +254,8 @@ known-flags change (Some h) s bytes known = by_spot (look_up (Some h) s) (λ k i
         (found k refl) (known.once h))
 
 -- a block moved to the top of its run
-hoisted-le : (of : Block → ℕ) → SeesNoFree of → (h : ℕ) (zone : List Block) → total of (hoisted h zone) ≤ total of zone
+pub hoisted-le : (of : Block → ℕ) → SeesNoFree of → (h : ℕ) (zone : List Block)
+    → total of (hoisted h zone) ≤ total of zone
 hoisted-le of none h zone = cases (change_run (has (is_relocatable h)) (high (is_relocatable h)) zone)
     (λ z e. changed-le of none (has (is_relocatable h)) (high (is_relocatable h)) (high-le of none (is_relocatable h))
     zone z e)
@@ -262,6 +264,18 @@ hoisted-le of none h zone = cases (change_run (has (is_relocatable h)) (high (is
         → total of (unwrap_or (option_map tidy o) zone) ≤ total of zone
     cases None less = omega arith
     cases (Some z) less = let l = less z refl in omega (arith, tidied of none z)
+
+pub hoisted-all : (of : Block → ℕ) → SeesNoFree of → (h : ℕ) (zone : List Block)
+    → total of zone ≤ total of (hoisted h zone)
+hoisted-all of none h zone =
+    cases (change_run (has (is_relocatable h)) (high (is_relocatable h)) zone)
+    (λ z e. changed-all of none (has (is_relocatable h)) (high (is_relocatable h))
+    (λ run one. let l = high-all of none (is_relocatable h) run one in omega arith) zone z e)
+  where
+    cases : (o : Option (List Block)) → ((z : List Block) → o ≡ Some z → total of zone ≤ total of z)
+        → total of zone ≤ total of (unwrap_or (option_map tidy o) zone)
+    cases None more = omega arith
+    cases (Some z) more = let l = more z refl in omega (arith, tidied of none z)
 
 pub known-hoisted : (handle : Option ℕ) (s : State) (bytes : ℕ → List ℕ) → Known s bytes
     → Known (move_hhi handle s).1 bytes

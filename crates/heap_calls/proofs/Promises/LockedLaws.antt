@@ -114,7 +114,7 @@ by_number h k R same other = cases (k == h) refl
     cases false e = other e
 
 -- a handle without a locked block isn't that of the locked one
-loose-unlocked : (h place : ℕ) (zone : List Block) → OneBlockEach zone → locked_place h zone ≡ Some place
+pub loose-unlocked : (h place : ℕ) (zone : List Block) → OneBlockEach zone → locked_place h zone ≡ Some place
     → LeavesLoose (is_locked h) zone
 loose-unlocked h place zone once is k loose =
     by_number h k ((b : Block) → is_relocatable k b ≡ true → is_locked h b ≡ false)
@@ -129,6 +129,14 @@ loose-unlocked h place zone once is k loose =
     by_spot (Some at) found e b passes = let f : true ≡ false = sym e
         ∙ locked-stands h at.here (locked-only h place zone at (once h) found is) in cc
 
+-- other flags of the block of another handle
+pub other-flags : (h k : ℕ) → (k == h) ≡ false → (zone : List Block) (change : Flags → Flags)
+    → LeavesFlags (is_locked h) zone k change
+other-flags h k other zone change at found =
+    let passes = spot-passes (is_relocatable k) zone at found in
+    other-unlocked h k other at.here passes ∙ sym (other-unlocked h k other (flagged change at.here)
+    (flagged-number change k at.here ∙ passes))
+
 -- other flags, where the lock of a locked block stays
 flags-locked : (h place : ℕ) (zone : List Block) → OneBlockEach zone → locked_place h zone ≡ Some place
     → (k : ℕ) (change : Flags → Flags) → (k ≡ h → (b : Block) → is_locked h b ≡ true
@@ -139,9 +147,7 @@ flags-locked h place zone once is k change kept at found =
     (λ same. let locked = locked-only h place zone at (once h)
     (subst (λ (j : ℕ). spot (is_relocatable j) zone ≡ Some at) same found) is in
     locked ∙ sym (kept same at.here locked))
-    (λ other. let passes = spot-passes (is_relocatable k) zone at found in
-    other-unlocked h k other at.here passes ∙ sym (other-unlocked h k other (flagged change at.here)
-    (flagged-number change k at.here ∙ passes)))
+    (λ other. other-flags h k other zone change at found)
 
 -- a change that locks, or leaves the lock
 still-locked : (h : ℕ) (change : Flags → Flags) → ((f : Flags) → f.locked ≡ true → (change f).locked ≡ true)

@@ -10,7 +10,6 @@ use Rattle.block_store.specs.declared.flags.Flags.{Flags}
 use Rattle.block_store.specs.Block.{Block, Fixed, Masters, Relocatable, is_mover, is_relocatable, is_fixed, content_of}
 use Rattle.block_store.specs.Block.{with_content, no_flags, sizes, tidy, count}
 use Rattle.windows.specs.Writes.{written}
-use Rattle.block_store.specs.Run.{change_run, has, high}
 use Rattle.block_store.specs.Room.{Spot, spot, put_in_place, put_at_base, room}
 use Rattle.block_store.specs.Grow.{freed, grow}
 use Rattle.block_store.proofs.Zone.Tidy.{spot-is, spot-passes}
@@ -32,10 +31,8 @@ use Rattle.mac_words.specs.Told.{Told, Done, Given, Number, Bytes, Refused}
 use Rattle.heap_calls.specs.Asked.{Asked, told_as, answered}
 use Rattle.heap_calls.specs.Asked as asked
 use Rattle.heap_calls.specs.Refused.{slotted_zone, copying_zone, zone_left, code_left}
-use Rattle.block_store.proofs.Zone.Keeping.{tidied}
-use Rattle.heap_calls.proofs.Promises.KnownChanges.{none-spot}
+use Rattle.heap_calls.proofs.Promises.KnownChanges.{none-spot, hoisted-all}
 use Rattle.heap_calls.proofs.Promises.Knowing.{look_up-spot}
-use Rattle.block_store.proofs.Zone.Surviving.{changed-all, high-all}
 
 -- A refused call leaves all as it was, but for the zone where the table says so.
 
@@ -203,22 +200,6 @@ copy-leaves handle s = by_held (look_up handle s)
         ready-leaves (is_relocatable held.number) s (new_block (is_relocatable held.number) (content_of held.at.here))
         (made-leaves (is_relocatable held.number) (content_of held.at.here))
 
--- a block that was moved high is there
-hoisted-count : (k : ℕ) (zone : List Block) → count (is_relocatable k) zone ≤ count (is_relocatable k) (hoisted k zone)
-hoisted-count k zone =
-    cases (change_run (has (is_relocatable k)) (high (is_relocatable k)) zone)
-    (λ z e. changed-all one (λ n. refl) (has (is_relocatable k)) (high (is_relocatable k))
-    (λ run alone. let h = high-all one (λ n. refl) (is_relocatable k) run alone in omega arith) zone z e)
-  where
-    one : Block → ℕ
-    one b = cond {A = ℕ} (is_relocatable k b) 1 0
-
-    cases : (o : Option (List Block))
-        → ((z : List Block) → o ≡ Some z → count (is_relocatable k) zone ≤ count (is_relocatable k) z)
-        → count (is_relocatable k) zone ≤ count (is_relocatable k) (unwrap_or (option_map tidy o) zone)
-    cases None less = omega arith
-    cases (Some z) less = let l = less z refl in omega (arith, tidied one (λ n. refl) z)
-
 -- a handle with a block has one where its block is in another zone
 found-again : (k : ℕ) (zone : List Block) (s : State) (held : Held) → look_up (Some k) s ≡ Ok held
     → 1 ≤ count (is_relocatable k) zone → {code : OsErr} → look_up (Some k) (record s { zone = zone }) ≢ Err code
@@ -292,7 +273,8 @@ locked_high-leaves (Some k) s = by_held (look_up (Some k) s) (λ held is. is)
         let own = look_up-spot k s held is in
         let one = found-count (is_relocatable k) s.zone held.at own.0 in
         let rises : ℕ → Type 0 = λ j. count (is_relocatable k) s.zone ≤ count (is_relocatable k) (hoisted j s.zone) in
-        let more : rises held.number = subst rises (sym own.1) (hoisted-count k s.zone) in
+        let more : rises held.number = subst rises (sym own.1)
+        (hoisted-all (λ b. cond (is_relocatable k b) 1 0) (λ n. refl) k s.zone) in
         absurd
         (found-again k (hoisted held.number s.zone) s held is (omega arith)
         (flags-refused lock (Some k) (record s { zone = hoisted held.number s.zone }) code e))

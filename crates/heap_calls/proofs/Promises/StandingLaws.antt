@@ -39,7 +39,7 @@ steady-fixed p = record { rigid = rigid; sized = sized; filled = filled; masters
     filled x Masters = refl
     filled x (Relocatable id flags content) = refl
 
-flagged-fixed : (p : ℕ) (change : Flags → Flags) (b : Block) → is_fixed p b ≡ is_fixed p (flagged change b)
+pub flagged-fixed : (p : ℕ) (change : Flags → Flags) (b : Block) → is_fixed p b ≡ is_fixed p (flagged change b)
 flagged-fixed p change (Free n) = refl
 flagged-fixed p change (Fixed id content) = refl
 flagged-fixed p change Masters = refl

@@ -76,7 +76,7 @@ refilled-owns at k s owns (Err code, m) same = one-owner-same s (record s { memo
 refilled-owns at k s owns (Ok value, m) same = one-owner-same s (record s { memory = m }) owns refl refl same
 
 -- a fetch
-fetch-owns : (loading : Bool) (at : Found) (s : Managers) → Stands s.resources.chain at → OneOwner s → (o : Option ℕ)
+pub fetch-owns : (loading : Bool) (at : Found) (s : Managers) → Stands s.resources.chain at → OneOwner s → (o : Option ℕ)
     → at.reference.here.handle ≡ o → OneOwner (fetch_as loading at o s).after
 fetch-owns true at s stands owns None bare =
     filled-owns at s stands bare owns

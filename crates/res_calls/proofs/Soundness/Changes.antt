@@ -111,7 +111,7 @@ written-many i fork (f ∷ files) = by_place (i == 0) (written-many (i - 1) fork
     by_place true e = refl
     by_place false e = ap suc e
 
-written-at-many : (file : Option ℕ) (fork : List ℕ) (files : List File)
+pub written-at-many : (file : Option ℕ) (fork : List ℕ) (files : List File)
     → length (written_at file fork files) ≡ length files
 written-at-many None fork files = refl
 written-at-many (Some i) fork files = written-many i fork files

@@ -34,7 +34,7 @@ use Rattle.res_calls.proofs.Walks.Laws.{served-files}
 -- What the calls that write forks do to the files.
 
 -- the resources after an update: with the files that there were, or with those of a touched file that fits
-updated_files : (heap : State) (at : Split OpenFile) (r after : Resources) → update heap at r ≡ Some after
+pub updated_files : (heap : State) (at : Split OpenFile) (r after : Resources) → update heap at r ≡ Some after
     → (after.files ≡ r.files) ⊎ ((at.here.touched ≡ true) × (fits (content (updated_map heap at.here.map)) ≡ true)
     × (after.files ≡ written_at at.here.file (fork_of heap at.here) r.files))
 updated_files heap at r after is = by_tests at.here.touched refl (fits (content (updated_map heap at.here.map))) refl is
@@ -96,7 +96,7 @@ close_writes_fork n s = updating_files n s (refused PROFILE s) (λ at r. done tt
     (λ at r. refl) (file_of n s.resources) refl (n == 0) refl
 
 -- an update of an untouched file, and of the System's, only notes its code
-untouched_stays : (heap : State) (at : Split OpenFile) (r : Resources) → at.here.touched ≡ false
+pub untouched_stays : (heap : State) (at : Split OpenFile) (r : Resources) → at.here.touched ≡ false
     → update heap at r ≡ Some r
 untouched_stays heap at r untouched =
     ap (λ (t : Bool). cond t (cond (fits (content (updated_map heap at.here.map))) (Some (rewritten heap at r)) None)

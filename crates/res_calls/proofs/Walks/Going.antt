@@ -248,7 +248,7 @@ preload-loads (x ∷ references) m = by_bit (λ n. preload-loads references n) (
         }
     by_bit behind false = let later = behind m in record { heap = later.heap; read = later.read }
 
-loaded-loads : (f : OpenFile) (s : Managers) → Loads (load_steps f.map.references s) s.memory (loaded f s)
+pub loaded-loads : (f : OpenFile) (s : Managers) → Loads (load_steps f.map.references s) s.memory (loaded f s)
 loaded-loads f s = by_loading s.resources.loading
   where
     by_loading : (t : Bool) → Loads (if t then preload_steps f.map.references else []) s.memory

@@ -109,7 +109,7 @@ served-fits a s masters fits = of-walk (λ m. m.log.searches < 2 ^ 64) a s
     (steps-fits (steps_of a s) s.memory masters fits)
 
 -- a refused call leaves the heap, but that a block of slots may stay that was made for it
-abbrev Left : State → State → Type 0
+abbrev pub Left : State → State → Type 0
 Left before after = (after ≡ before) ⊎ (after ≡ record before { zone = slotted_zone nothing before })
 
 left-by : (step : Step) (s : State) → Left s (record s { zone = left_zone step s })
@@ -119,7 +119,7 @@ left-by (Refill h flags bytes) s = inl refl
 left-by (Release h) s = inl refl
 left-by (Cast change h) s = inl refl
 
-left-walk : (steps : List Step) (m : Memory) (code : OsErr) → Refuses steps m code → Left m.heap (walk steps m).heap
+pub left-walk : (steps : List Step) (m : Memory) (code : OsErr) → Refuses steps m code → Left m.heap (walk steps m).heap
 left-walk steps m code (inl none) = inl (ap (λ (path : List Step). (walk path m).heap) none)
 left-walk steps m code (inr (step, is, refused)) =
     subst (λ (path : List Step). Left m.heap (walk path m).heap) (sym is)
@@ -135,7 +135,7 @@ served-refused a s code tells = (
 )
 
 -- and no more stays than before it
-no_more-walk : (steps : List Step) (m : Memory) (code : OsErr) → Refuses steps m code
+pub no_more-walk : (steps : List Step) (m : Memory) (code : OsErr) → Refuses steps m code
     → staying (walk steps m).heap.zone ≤ staying m.heap.zone
 no_more-walk steps m code (inl none) =
     subst (λ (path : List Step). staying (walk path m).heap.zone ≤ staying m.heap.zone) (sym none) (omega arith)

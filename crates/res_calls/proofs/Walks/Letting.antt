@@ -36,14 +36,14 @@ use Rattle.res_calls.proofs.Walks.Steps.{release_steps, detach_steps, steps_of, 
 
 -- Which handles the steps of a call let go, and how often they look for room.
 
-fetch-lets : (loading : Bool) (at : Found) (handle : Option ℕ) (h : ℕ)
+pub fetch-lets : (loading : Bool) (at : Found) (handle : Option ℕ) (h : ℕ)
     → lets_of (fetch_steps_as loading at handle) h ≡ false
 fetch-lets true at None h = refl
 fetch-lets false at None h = refl
 fetch-lets true at (Some k) h = refl
 fetch-lets false at (Some k) h = refl
 
-found-lets : (found : Option Found) (steps : Found → List Step) (h : ℕ)
+pub found-lets : (found : Option Found) (steps : Found → List Step) (h : ℕ)
     → ((at : Found) → lets_of (steps at) h ≡ false) → lets_of (for_found found steps) h ≡ false
 found-lets None steps h each = refl
 found-lets (Some at) steps h each = each at
@@ -52,7 +52,7 @@ fetched-lets : (found : Option Found) (s : Managers) (h : ℕ) → lets_of (fetc
 fetched-lets found s h = found-lets found (fetch_steps s.resources.loading) h
     (λ at. fetch-lets s.resources.loading at at.reference.here.handle h)
 
-preload-lets : (references : List Reference) (h : ℕ) → lets_of (preload_steps references) h ≡ false
+pub preload-lets : (references : List Reference) (h : ℕ) → lets_of (preload_steps references) h ≡ false
 preload-lets [] h = refl
 preload-lets (x ∷ references) h = by_bit (preload-lets references h) (is_preload x)
   where
@@ -62,7 +62,7 @@ preload-lets (x ∷ references) h = by_bit (preload-lets references h) (is_prelo
     by_bit behind true = behind
     by_bit behind false = behind
 
-load-lets : (references : List Reference) (s : Managers) (h : ℕ) → lets_of (load_steps references s) h ≡ false
+pub load-lets : (references : List Reference) (s : Managers) (h : ℕ) → lets_of (load_steps references s) h ≡ false
 load-lets references s h = by_loading s.resources.loading
   where
     by_loading : (t : Bool) → lets_of (cond t (preload_steps references) []) h ≡ false
@@ -217,12 +217,12 @@ releases-few : (handles : List ℕ) (m : Memory) → LookFew (releases handles) 
 releases-few handles m masters fits = let none = unlooked m.heap.zone m.log.searches fits in
     (none.0, none.1, releases-looks handles m ∙ none.2)
 
-found-few : (found : Option Found) (steps : Found → List Step) (m : Memory)
+pub found-few : (found : Option Found) (steps : Found → List Step) (m : Memory)
     → ((at : Found) → LookFew (steps at) m) → LookFew (for_found found steps) m
 found-few None steps m each = none-look m
 found-few (Some at) steps m each = each at
 
-fetch-few : (loading : Bool) (at : Found) (handle : Option ℕ) (m : Memory)
+pub fetch-few : (loading : Bool) (at : Found) (handle : Option ℕ) (m : Memory)
     → LookFew (fetch_steps_as loading at handle) m
 fetch-few true at None m = step-looks (new_filled at) m
 fetch-few false at None m = step-looks (new_emptied at) m

@@ -50,7 +50,7 @@ loaded_moved window l = record l { memory = elsewhere window l.memory }
 abbrev pub served_moved : Site → Served → Served
 served_moved window x = record x { after = moved window x.after }
 
-found-place : {T : Type 0} (window : Site) (found : Option Found) (s : Managers) (there here : Found → Answer T)
+pub found-place : {T : Type 0} (window : Site) (found : Option Found) (s : Managers) (there here : Found → Answer T)
     → ((at : Found) → there at ≡ answer_moved window (here at))
     → on_found found (moved window s) there ≡ answer_moved window (on_found found s here)
 found-place window None s there here each = refl
@@ -79,7 +79,7 @@ refilled-place : (window : Site) (at : Found) (h : ℕ) (s : Managers) (x : Resu
 refilled-place window at h s (Ok value, m) = refl
 refilled-place window at h s (Err code, m) = refl
 
-fetch-place : (window : Site) (loading : Bool) (at : Found) (handle : Option ℕ) (s : Managers)
+pub fetch-place : (window : Site) (loading : Bool) (at : Found) (handle : Option ℕ) (s : Managers)
     → fetch_as loading at handle (moved window s) ≡ answer_moved window (fetch_as loading at handle s)
 fetch-place window true at None s = filled-place window at s (new_inside (resource_role (is_system at.file.here))
     (flags_of at.reference.here) at.reference.here.stored.datum s.memory)
@@ -132,7 +132,7 @@ preload-place window (x ∷ references) m =
     ∙ ap (loaded_both (loaded_moved window (preload_one x m)))
     (preload-place window references (preload_one x m).memory)
 
-loaded-place : (window : Site) (f : OpenFile) (s : Managers)
+pub loaded-place : (window : Site) (f : OpenFile) (s : Managers)
     → loaded f (moved window s) ≡ loaded_moved window (loaded f s)
 loaded-place window f s = by_loading s.resources.loading
   where

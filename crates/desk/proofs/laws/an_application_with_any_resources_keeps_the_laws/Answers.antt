@@ -1,10 +1,17 @@
-use Rattle.desk.proofs.AnyRuns.{any_goes_by_rule, any_shows_put, any_holds_put, any_locked_stays}
-use Rattle.desk.proofs.AnyRuns.{any_fixed_stays, any_only_purgeable_go, any_looks_few, any_refused_leave}
-use Rattle.desk.proofs.AnyRuns.{any_resources_stay, any_files_stay, any_nothing_stays_busy, any_refused_bind}
+use Rattle.desk.proofs.AnyRuns.{any_launch_holds, any_goes_by_rule, any_linked, any_shows_put, any_holds_put}
+use Rattle.desk.proofs.AnyRuns.{any_locked_stays, any_fixed_stays, any_only_purgeable_go, any_looks_few}
+use Rattle.desk.proofs.AnyRuns.{any_refused_leave, any_resources_stay, any_files_stay, any_table_stays}
+use Rattle.desk.proofs.AnyRuns.{any_nothing_stays_busy, any_refused_bind}
 use Rattle.desk.proofs.laws.an_application_with_any_resources_keeps_the_laws.Goals as goal
+
+pub returns-clause-launched : goal.returns-clause-launched
+returns-clause-launched c = any_launch_holds
 
 pub returns-clause-rule : goal.returns-clause-rule
 returns-clause-rule c = any_goes_by_rule
+
+pub returns-clause-linked : goal.returns-clause-linked
+returns-clause-linked c = any_linked
 
 pub returns-clause-shown : goal.returns-clause-shown
 returns-clause-shown c = any_shows_put
@@ -32,6 +39,9 @@ returns-clause-resources c = any_resources_stay
 
 pub returns-clause-files : goal.returns-clause-files
 returns-clause-files c = any_files_stay
+
+pub returns-clause-table : goal.returns-clause-table
+returns-clause-table c = any_table_stays
 
 pub returns-clause-idle : goal.returns-clause-idle
 returns-clause-idle c = any_nothing_stays_busy

@@ -3,7 +3,7 @@ use Rattle.block_store.specs.Block.{sizes}
 use Rattle.desk.specs.Trying.{Running}
 use Rattle.desk.specs.Step.{step, step_in, round}
 use Rattle.desk.specs.Application.{lines_told}
-use Rattle.desk.specs.Replies.{Came, CameRound}
+use Rattle.desk.specs.Replies.{Came, CameRound, exit_of}
 use Rattle.desk.specs.declared.stepping.Next.{Next}
 use Rattle.desk.proofs.Rounds.{step_ends, step_goes_on}
 use Rattle.desk.proofs.application.Application.step.Given.{Over}
@@ -12,7 +12,7 @@ use Rattle.desk.proofs.application.Application.step.Goals as goal
 
 -- where the call has ended, so has its step
 done : (g : Over) (c : In-Ended g)
-    → (c.in-Ended.over ≡ (step c.args.script.now.blocks c.args.line.now c.args.self.now).over)
+    → (c.in-Ended.exit ≡ exit_of (step c.args.script.now.blocks c.args.line.now c.args.self.now))
     × Came (step c.args.script.now.blocks c.args.line.now c.args.self.now) c.args.text.now.items c.round.new.text.items c.round.new.self
 done g c =
     let blocks = c.args.script.now.blocks in
@@ -25,16 +25,16 @@ done g c =
     let more : n ≡ suc k = omega (arith, c.loop-round-test.true) in
     let same : most ≡ sizes r.memory.heap.zone + 1 = ap (λ (x : ℕ). x + 1) (c.from-most.ensures ∙ c.len.ensures ∙ ap (λ (x : Running). sizes x.memory.heap.zone) c.self.view_is) in
     let came = subst (λ (x : Next). CameRound (round blocks l c.loop-round.self) x c.loop-round.text.items c.round.new.text.items c.round.new.self) c.in-Ended.is c.in_ok-round.ensures in
-    let ends = step_ends blocks l n k c.loop-round.self c.round.new.self c.in-Ended.over c.loop-round.text.items c.round.new.text.items c.args.text.now.items (step_in most blocks l r) more came inv.0 inv.1 inv.2 in (
-      ends.0 ∙ ap (λ (x : ℕ). (step_in x blocks l r).over) same,
+    let ends = step_ends blocks l n k c.loop-round.self c.round.new.self c.in-Ended.exit c.loop-round.text.items c.round.new.text.items c.args.text.now.items (step_in most blocks l r) more came inv.0 inv.1 inv.2 in (
+      ends.0 ∙ ap (λ (x : ℕ). exit_of (step_in x blocks l r)) same,
       (
         ends.1.0 ∙ ap (λ (x : ℕ). c.args.text.now.items ++ lines_told (step_in x blocks l r).lines) same,
         ends.1.1 ∙ ap (λ (x : ℕ). (step_in x blocks l r).after) same,
       ),
     )
 
-pub returns-in-Ended-clause-over : goal.returns-in-Ended-clause-over
-returns-in-Ended-clause-over g c = (done g (goal.at.returns-in-Ended-clause-over g c).In-Ended).0
+pub returns-in-Ended-clause-ends : goal.returns-in-Ended-clause-ends
+returns-in-Ended-clause-ends g c = (done g (goal.at.returns-in-Ended-clause-ends g c).In-Ended).0
 
 pub returns-in-Ended-clause-came : goal.returns-in-Ended-clause-came
 returns-in-Ended-clause-came g c = (done g (goal.at.returns-in-Ended-clause-came g c).In-Ended).1

@@ -1,6 +1,7 @@
 use Rattle.std.proofs.Common.{◌≡◌, ◌++◌, ◌-◌}
 use Rattle.desk.specs.Application.{lines_told}
 use Rattle.desk.specs.Step.{step_in}
+use Rattle.desk.specs.Replies.{exit_of}
 use Rattle.desk.proofs.application.Application.step.Given as goal
 
 -- the text so far, with the lines of the rounds that are left, is the text with the lines of the step
@@ -8,4 +9,4 @@ abbrev pub invariant-loop-round : goal.invariant-loop-round
 invariant-loop-round g l =
     (l.text.items ++ lines_told (step_in (l.most - l._round) l.script.blocks l.line l.self).lines ≡ l.fn.text.items ++ lines_told (step_in l.most l.script.blocks l.line l.fn.self).lines)
     × ((step_in (l.most - l._round) l.script.blocks l.line l.self).after ≡ (step_in l.most l.script.blocks l.line l.fn.self).after)
-    × ((step_in (l.most - l._round) l.script.blocks l.line l.self).over ≡ (step_in l.most l.script.blocks l.line l.fn.self).over)
+    × (exit_of (step_in (l.most - l._round) l.script.blocks l.line l.self) ≡ exit_of (step_in l.most l.script.blocks l.line l.fn.self))

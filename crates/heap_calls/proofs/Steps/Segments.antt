@@ -1,0 +1,407 @@
+use Rattle.std.proofs.Common.{◌≡◌, ◌≢◌, ℕ, ◌≤◌, Bool, true, false, not, ◌&&◌, ◌==◌, List, ◌∷◌, ◌++◌, refl, sym}
+use Rattle.std.proofs.Common.{◌∙◌, ap, subst, cond, arith, Option, Some, None, Result, Ok, Err, slice_get}
+use Rattle.std.specs.Option.{option_map, ok_or}
+use Rattle.std.specs.Prelude.{is_some}
+use Rattle.mac_words.specs.declared.code.OsErr.{OsErr}
+use Rattle.mac_words.specs.declared.code.TheConstants.OsErr.{NIL_HANDLE, LOCKED}
+use Rattle.block_store.specs.declared.flags.Flags.{Flags}
+use Rattle.block_store.specs.Block.{Block, Free, Fixed, Masters, Relocatable, sizes, total, count, is_mover, is_masters}
+use Rattle.block_store.specs.Block.{is_relocatable, is_purgeable, is_fixed}
+use Rattle.block_store.specs.Run.{has}
+use Rattle.block_store.specs.Room.{Spot, spot}
+use Rattle.block_store.specs.Rest.{Site}
+use Rattle.block_store.proofs.Zone.Tidy.{spot-is, spot-passes}
+use Rattle.block_store.proofs.Zone.Totals.{total-append}
+use Rattle.block_store.proofs.Zone.Passing.{has-append, has-count}
+use Rattle.block_store.proofs.Zone.Keeping.{SeesNoFree, apart}
+use Rattle.block_store.proofs.Zone.Alike.{Alike, alike-then, stands-is, locks}
+use Rattle.block_store.proofs.Nonrelocatable.FixedCounts.{has-counts, not_fixed-relocatable}
+use Rattle.block_store.proofs.Regroup.Settling.{has-spot}
+use Rattle.heap_calls.specs.State.{State, Memory, Meaning, Handle, Pointer, Disposed}
+use Rattle.heap_calls.specs.Answer.{Answer, Held, refused, known_as, held_at, look_up, for_found, flagged, change_flags}
+use Rattle.heap_calls.specs.Answer.{h_unlock, hoisted}
+use Rattle.heap_calls.specs.Locked.{is_locked, locked_place}
+use Rattle.heap_calls.specs.Standing.{pointer_place}
+use Rattle.heap_calls.specs.Emptying.{may_be_emptied}
+use Rattle.heap_calls.specs.Owned.{resource_meant, resource_role_at}
+use Rattle.heap_calls.specs.Inside.{inside, held_high, loosened, has_block}
+use Rattle.heap_calls.proofs.Promises.Knowing.{Known, for_handle, look_up-spot, none-handle, known-less}
+use Rattle.heap_calls.proofs.Promises.KnownChanges.{known-flags, hoisted-le, hoisted-all}
+use Rattle.heap_calls.proofs.Promises.AlikeCalls.{Steady, LeavesFlags, never, steady-never, alike-flags}
+use Rattle.heap_calls.proofs.Promises.AlikeCalls.{alike-locked_high, flagged-number}
+use Rattle.heap_calls.proofs.Promises.LockedLaws.{steady-locked, loose-unlocked, other-flags, fewer}
+use Rattle.heap_calls.proofs.Promises.StandingLaws.{steady-fixed, flagged-fixed}
+use Rattle.heap_calls.proofs.Promises.EmptyingLaws.{masters}
+use Rattle.heap_calls.proofs.Steps.Place.{Rests}
+use Rattle.heap_calls.proofs.Tries.Elsewhere.{elsewhere}
+
+-- What the Segment Manager's two steps leave of a heap: a block that is held high, and one that is loosened.
+
+abbrev locking : Flags → Flags
+locking f = record f { locked = true }
+
+abbrev unlocking : Flags → Flags
+unlocking f = record f { locked = false }
+
+abbrev purging : Flags → Flags
+purging f = record f { purgeable = true }
+
+-- a heap with the block of a handle at the top of its run
+abbrev moved_high : ℕ → State → State
+moved_high h s = record s { zone = hoisted h s.zone }
+
+-- a heap with other flags of the block at a spot
+abbrev with_flags : (Flags → Flags) → Spot → State → State
+with_flags change at s = record s { zone = at.below ++ flagged change at.here ∷ at.above }
+
+-- The ways that they may go.
+
+-- other flags: there is no such block; or it has them
+flags-go : (P : State → Type 0) (change : Flags → Flags) (h : ℕ) (s : State)
+    → ((code : OsErr) → look_up (Some h) s ≡ Err code → P s)
+    → ((at : Spot) → spot (is_relocatable h) s.zone ≡ Some at → P (with_flags change at s))
+    → P (change_flags change (Some h) s).1
+flags-go P change h s missing done = by_held (look_up (Some h) s) (λ code e. missing code e)
+    (λ held is. (look_up-spot h s held is).0)
+  where
+    by_held : (r : Result Held OsErr) → ((code : OsErr) → r ≡ Err code → P s)
+        → ((held : Held) → r ≡ Ok held → spot (is_relocatable h) s.zone ≡ Some held.at)
+        → P (for_found {T = Unit {0}} r s (λ held. (Ok tt, with_flags change held.at s))).1
+    by_held (Err code) gone found = gone code refl
+    by_held (Ok held) gone found = done held.at (found held refl)
+
+-- a block held high: there is none; or it is locked; or it is moved and then locked
+held-goes : (P : State → Type 0) (h : ℕ) (s : State) → ((code : OsErr) → look_up (Some h) s ≡ Err code → P s)
+    → ((at : Spot) → spot (is_relocatable h) s.zone ≡ Some at → is_mover at.here ≡ false → P s)
+    → P (change_flags locking (Some h) (moved_high h s)).1
+    → P (held_high h s)
+held-goes P h s missing stands moves = by_held (look_up (Some h) s) (λ code e. missing code e) (look_up-spot h s)
+  where
+    moved : ℕ → Bool → Answer (Unit {0})
+    moved j t = cond t (Ok tt, moved_high j s) (refused LOCKED s)
+
+    by_mover : (j : ℕ) → j ≡ h → (at : Spot) → spot (is_relocatable h) s.zone ≡ Some at → (t : Bool)
+        → is_mover at.here ≡ t
+        → P (for_found (moved j t).0 s (λ (u : Unit {0}). change_flags locking (Some h) (moved j t).1)).1
+    by_mover j own at found true mover =
+        subst (λ (i : ℕ). P (change_flags locking (Some h) (moved_high i s)).1) (sym own) moves
+    by_mover j own at found false mover = stands at found mover
+
+    by_held : (r : Result Held OsErr) → ((code : OsErr) → r ≡ Err code → P s)
+        → ((held : Held) → r ≡ Ok held → (spot (is_relocatable h) s.zone ≡ Some held.at) × (held.number ≡ h))
+        → P (for_found (for_found {T = Unit {0}} r s (λ held. moved held.number (is_mover held.at.here))).0 s
+        (λ (u : Unit {0}). change_flags locking (Some h)
+        (for_found {T = Unit {0}} r s (λ held. moved held.number (is_mover held.at.here))).1)).1
+    by_held (Err code) gone found = gone code refl
+    by_held (Ok held) gone found =
+        let f = found held refl in
+        by_mover held.number f.1 held.at f.0 (is_mover held.at.here) refl
+
+-- What they leave known of each block's bytes.
+
+known-moved : (h : ℕ) (s : State) (bytes : ℕ → List ℕ) → Known s bytes → Known (moved_high h s) bytes
+known-moved h s bytes known = known-less s (hoisted h s.zone) bytes (λ of none. hoisted-le of none h s.zone) known
+
+pub held-known : (h : ℕ) (s : State) (bytes : ℕ → List ℕ) → Known s bytes → Known (held_high h s) bytes
+held-known h s bytes known =
+    held-goes (λ t. Known t bytes) h s (λ code e. known) (λ at found stands. known)
+    (known-flags locking (Some h) (moved_high h s) bytes (known-moved h s bytes known))
+
+pub loosened-known : (h : ℕ) (s : State) (bytes : ℕ → List ℕ) → Known s bytes → Known (loosened h s) bytes
+loosened-known h s bytes known =
+    known-flags purging (Some h) (h_unlock (Some h) s).1 bytes (known-flags unlocking (Some h) s bytes known)
+
+-- What stands still through them.
+
+module _ (seen : Block → Bool) (steady : Steady seen) (h : ℕ)
+  where
+    alike-loosened : ((zone : List Block) (change : Flags → Flags) → LeavesFlags seen zone h change) → (s : State)
+        → Alike seen s.zone (loosened h s).zone
+    alike-loosened leaves s =
+        let t = (h_unlock (Some h) s).1 in
+        alike-then seen steady.rigid s.zone t.zone (loosened h s).zone
+        (alike-flags seen steady unlocking h s (leaves s.zone unlocking))
+        (alike-flags seen steady purging h t (leaves t.zone purging))
+
+same-place : (seen : Block → Bool) (zone z : List Block) → Alike seen zone z
+    → option_map (λ (at : Spot). sizes at.below) (spot seen z)
+    ≡ option_map (λ (at : Spot). sizes at.below) (spot seen zone)
+same-place seen zone z alike = stands-is seen z ∙ sym alike.1 ∙ sym (stands-is seen zone)
+
+-- a locked block is where it was, unless it is the one that is loosened
+pub held-locked : (h : ℕ) (s : State) (bytes : ℕ → List ℕ) → Known s bytes → (k place : ℕ)
+    → locked_place k s.zone ≡ Some place → locked_place k (held_high h s).zone ≡ Some place
+held-locked h s bytes known k place is =
+    same-place (is_locked k) s.zone (held_high h s).zone
+    (alike-locked_high (is_locked k) (steady-locked k) h s (loose-unlocked k place s.zone known.once is)) ∙ is
+
+pub loosened-locked : (h k : ℕ) → (h == k) ≡ false → (s : State)
+    → locked_place k (loosened h s).zone ≡ locked_place k s.zone
+loosened-locked h k other s =
+    same-place (is_locked k) s.zone (loosened h s).zone
+    (alike-loosened (is_locked k) (steady-locked k) h (other-flags k h other) s)
+
+-- a pointer's block is where it was
+pub held-fixed : (h : ℕ) (s : State) (p : ℕ) → pointer_place p (held_high h s).zone ≡ pointer_place p s.zone
+held-fixed h s p =
+    same-place (is_fixed p) s.zone (held_high h s).zone
+    (alike-locked_high (is_fixed p) (steady-fixed p) h s (λ k loose b is. not_fixed-relocatable p k b is))
+
+pub loosened-fixed : (h : ℕ) (s : State) (p : ℕ) → pointer_place p (loosened h s).zone ≡ pointer_place p s.zone
+loosened-fixed h s p =
+    same-place (is_fixed p) s.zone (loosened h s).zone
+    (alike-loosened (is_fixed p) (steady-fixed p) h (λ zone change at found. flagged-fixed p change at.here) s)
+
+-- a zone has as many bytes as it had
+pub held-bytes : (h : ℕ) (s : State) → sizes (held_high h s).zone ≡ sizes s.zone
+held-bytes h s = sym (alike-locked_high never steady-never h s (λ k loose b is. refl)).0
+
+pub loosened-bytes : (h : ℕ) (s : State) → sizes (loosened h s).zone ≡ sizes s.zone
+loosened-bytes h s = sym (alike-loosened never steady-never h (λ zone change at found. refl) s).0
+
+-- Which blocks are there after them.
+
+-- a measure that sees neither Free blocks nor flags
+module _ (of : Block → ℕ) (none : SeesNoFree of) (flags : (change : Flags → Flags) (b : Block)
+    → of (flagged change b) ≡ of b)
+  where
+    flags-total : (change : Flags → Flags) (h : ℕ) (s : State)
+        → total of (change_flags change (Some h) s).1.zone ≡ total of s.zone
+    flags-total change h s =
+        flags-go (λ t. total of t.zone ≡ total of s.zone) change h s (λ code e. refl)
+        (λ at found. omega (
+          arith,
+          ap (total of) (spot-is (is_relocatable h) s.zone at found),
+          total-append of at.below (at.here ∷ at.above),
+          total-append of at.below (flagged change at.here ∷ at.above),
+          flags change at.here,
+        ))
+
+    held-total : (h : ℕ) (s : State) → total of (held_high h s).zone ≡ total of s.zone
+    held-total h s =
+        held-goes (λ t. total of t.zone ≡ total of s.zone) h s (λ code e. refl) (λ at found stands. refl)
+        (let less = hoisted-le of none h s.zone in
+        let more = hoisted-all of none h s.zone in
+        let flag = flags-total locking h (moved_high h s) in
+        omega arith)
+
+    loosened-total : (h : ℕ) (s : State) → total of (loosened h s).zone ≡ total of s.zone
+    loosened-total h s = flags-total purging h (h_unlock (Some h) s).1 ∙ flags-total unlocking h s
+
+-- 1 for a block of a handle
+abbrev one : ℕ → Block → ℕ
+one k b = cond (is_relocatable k b) 1 0
+
+one-flags : (k : ℕ) (change : Flags → Flags) (b : Block) → one k (flagged change b) ≡ one k b
+one-flags k change b = ap {B = ℕ} (λ (t : Bool). cond t 1 0) (flagged-number change k b)
+
+masters-flags : (change : Flags → Flags) (b : Block) → masters (flagged change b) ≡ masters b
+masters-flags change (Free n) = refl
+masters-flags change (Fixed id content) = refl
+masters-flags change Masters = refl
+masters-flags change (Relocatable id flags content) = refl
+
+-- a handle has a block as it had one
+pub held-has : (h : ℕ) (s : State) (k : ℕ)
+    → has (is_relocatable k) (held_high h s).zone ≡ has (is_relocatable k) s.zone
+held-has h s k = has-counts (is_relocatable k) s.zone (held_high h s).zone
+    (held-total (one k) (λ n. refl) (one-flags k) h s)
+
+pub loosened-has : (h : ℕ) (s : State) (k : ℕ)
+    → has (is_relocatable k) (loosened h s).zone ≡ has (is_relocatable k) s.zone
+loosened-has h s k = has-counts (is_relocatable k) s.zone (loosened h s).zone
+    (loosened-total (one k) (λ n. refl) (one-flags k) h s)
+
+-- there are as many blocks of master pointers
+pub held-masters : (h : ℕ) (s : State) → count is_masters (held_high h s).zone ≡ count is_masters s.zone
+held-masters h s = held-total masters (λ n. refl) masters-flags h s
+
+pub loosened-masters : (h : ℕ) (s : State) → count is_masters (loosened h s).zone ≡ count is_masters s.zone
+loosened-masters h s = loosened-total masters (λ n. refl) masters-flags h s
+
+-- What the numbers stand for after them.
+
+flags-names : (change : Flags → Flags) (h : ℕ) (s : State) → (change_flags change (Some h) s).1.names ≡ s.names
+flags-names change h s = flags-go (λ t. t.names ≡ s.names) change h s (λ code e. refl) (λ at found. refl)
+
+pub held-names : (h : ℕ) (s : State) → (held_high h s).names ≡ s.names
+held-names h s =
+    held-goes (λ t. t.names ≡ s.names) h s (λ code e. refl) (λ at found stands. refl)
+    (flags-names locking h (moved_high h s))
+
+pub loosened-names : (h : ℕ) (s : State) → (loosened h s).names ≡ s.names
+loosened-names h s = flags-names purging h (h_unlock (Some h) s).1 ∙ flags-names unlocking h s
+
+pub held-roles : (h : ℕ) (s : State) (k : ℕ) → resource_role_at k (held_high h s) ≡ resource_role_at k s
+held-roles h s k = ap (λ (ns : List Meaning). resource_meant (slice_get ns k)) (held-names h s)
+
+pub loosened-roles : (h : ℕ) (s : State) (k : ℕ) → resource_role_at k (loosened h s) ≡ resource_role_at k s
+loosened-roles h s k = ap (λ (ns : List Meaning). resource_meant (slice_get ns k)) (loosened-names h s)
+
+-- They don't hang on where the heap lies, and leave that, the code that MemError tells, what is busy, and both counts.
+
+pub inside-elsewhere : (change : State → State) (window : Site) (m : Memory)
+    → inside change (elsewhere window m) ≡ elsewhere window (inside change m)
+inside-elsewhere change window m = refl
+
+pub inside-rests : (change : State → State) (m : Memory) → Rests m (inside change m)
+inside-rests change m = record { busy = refl; code = refl; window = refl }
+
+pub inside-searches : (change : State → State) (m : Memory) → (inside change m).log.searches ≡ m.log.searches
+inside-searches change m = refl
+
+pub inside-moves : (change : State → State) (m : Memory) → (inside change m).moves ≡ m.moves
+inside-moves change m = refl
+
+pub held-elsewhere : (h : ℕ) (window : Site) (m : Memory)
+    → inside (held_high h) (elsewhere window m) ≡ elsewhere window (inside (held_high h) m)
+held-elsewhere h = inside-elsewhere (held_high h)
+
+pub loosened-elsewhere : (h : ℕ) (window : Site) (m : Memory)
+    → inside (loosened h) (elsewhere window m) ≡ elsewhere window (inside (loosened h) m)
+loosened-elsewhere h = inside-elsewhere (loosened h)
+
+-- What they come to.
+
+-- a handle with a block is found
+block-found : (h : ℕ) (s : State) (bytes : ℕ → List ℕ) → Known s bytes → has_block h s ≡ true → {code : OsErr}
+    → look_up (Some h) s ≢ Err code
+block-found h s bytes known there {code = code} =
+    by_name (slice_get s.names h) (named (for_handle (slice_get s.names h)) refl)
+  where
+    named : (t : Bool) → for_handle (slice_get s.names h) ≡ t → for_handle (slice_get s.names h) ≡ true
+    named true e = e
+    named false e =
+        let few = none-handle s bytes known h e in
+        let some = has-count (is_relocatable h) s.zone there in
+        absurd (omega arith)
+
+    by_spot : (o : Option Spot) → is_some o ≡ true
+        → ok_or {E = OsErr} (option_map (λ (at : Spot). let x : Held = record { number = h; at = at } in x) o)
+        NIL_HANDLE ≢ Err code
+    by_spot None some e = let f : false ≡ true = some in cc
+    by_spot (Some at) some e = cc
+
+    by_name : (o : Option Meaning) → for_handle o ≡ true → held_at (known_as h o) s ≢ Err code
+    by_name None is = let f : false ≡ true = is in cc
+    by_name (Some (Handle role)) is =
+        by_spot (spot (is_relocatable h) s.zone) (sym (has-spot (is_relocatable h) s.zone) ∙ there)
+    by_name (Some Pointer) is = let f : false ≡ true = is in cc
+    by_name (Some Disposed) is = let f : false ≡ true = is in cc
+
+-- a block that passes, in a zone
+has-here : (test : Block → Bool) (below : List Block) (b : Block) (above : List Block) → test b ≡ true
+    → has test (below ++ b ∷ above) ≡ true
+has-here test below b above passes = has-append test below (b ∷ above) (rw passes refl)
+
+has-place : (h : ℕ) (zone : List Block) → has (is_locked h) zone ≡ true → is_some (locked_place h zone) ≡ true
+has-place h zone there = mapped (spot (is_locked h) zone) ∙ sym (has-spot (is_locked h) zone) ∙ there
+  where
+    mapped : (o : Option Spot) → is_some (option_map (λ (at : Spot). sizes at.below) o) ≡ is_some o
+    mapped None = refl
+    mapped (Some at) = refl
+
+-- a block that is locked, and one that isn't a mover
+locked-now : (h : ℕ) (b : Block) → is_relocatable h b ≡ true → is_locked h (flagged locking b) ≡ true
+locked-now h (Free n) is = is
+locked-now h (Fixed id content) is = is
+locked-now h Masters is = is
+locked-now h (Relocatable id flags content) is = rw is refl
+
+locked-already : (h : ℕ) (b : Block) → is_relocatable h b ≡ true → is_mover b ≡ false → is_locked h b ≡ true
+locked-already h (Free n) is stands = is
+locked-already h (Fixed id content) is stands = is
+locked-already h Masters is stands = is
+locked-already h (Relocatable id flags content) is stands = cases flags.locked stands
+  where
+    cases : (t : Bool) → not t ≡ false → (id == h && t) ≡ true
+    cases true e = rw is refl
+    cases false e = let f : true ≡ false = e in cc
+
+-- the block of a handle that has one is locked once it was held high
+pub held-is_locked : (h : ℕ) (s : State) (bytes : ℕ → List ℕ) → Known s bytes → has_block h s ≡ true
+    → is_some (locked_place h (held_high h s).zone) ≡ true
+held-is_locked h s bytes known there =
+    has-place h (held_high h s).zone
+    (held-goes (λ t. has (is_locked h) t.zone ≡ true) h s
+    (λ code e. absurd (block-found h s bytes known there e))
+    (λ at found stands. subst (λ (z : List Block). has (is_locked h) z ≡ true)
+    (sym (spot-is (is_relocatable h) s.zone at found))
+    (has-here (is_locked h) at.below at.here at.above
+    (locked-already h at.here (spot-passes (is_relocatable h) s.zone at found) stands)))
+    (flags-go (λ t. has (is_locked h) t.zone ≡ true) locking h now
+    (λ code e. absurd (block-found h now bytes (known-moved h s bytes known) still e))
+    (λ at found. has-here (is_locked h) at.below (flagged locking at.here) at.above
+    (locked-now h at.here (spot-passes (is_relocatable h) now.zone at found)))))
+  where
+    now : State
+    now = moved_high h s
+
+    still : has_block h now ≡ true
+    still = has-counts (is_relocatable h) s.zone now.zone
+        (let less = hoisted-le (one h) (λ n. refl) h s.zone in
+        let more = hoisted-all (one h) (λ n. refl) h s.zone in
+        omega arith) ∙ there
+
+-- a block that isn't locked
+unlocked-now : (h : ℕ) (b : Block) → locks (is_locked h) (flagged unlocking b) ≡ 0
+unlocked-now h (Free n) = refl
+unlocked-now h (Fixed id content) = refl
+unlocked-now h Masters = refl
+unlocked-now h (Relocatable id flags content) = cases (id == h)
+  where
+    cases : (t : Bool) → cond {A = ℕ} (t && false) 1 0 ≡ 0
+    cases true = refl
+    cases false = refl
+
+-- no block of a handle is locked once it is unlocked
+none-locked : (h : ℕ) (s : State) (bytes : ℕ → List ℕ) → Known s bytes → has_block h s ≡ true
+    → total (locks (is_locked h)) (h_unlock (Some h) s).1.zone ≤ 0
+none-locked h s bytes known there =
+    flags-go (λ t. total (locks (is_locked h)) t.zone ≤ 0) unlocking h s
+    (λ code e. absurd (block-found h s bytes known there e))
+    (λ at found.
+    let rest = apart (is_relocatable h) s.zone at found (known.once h) in
+    let below = fewer h at.below in
+    let above = fewer h at.above in
+    omega (
+      arith,
+      total-append (locks (is_locked h)) at.below (flagged unlocking at.here ∷ at.above),
+      unlocked-now h at.here,
+    ))
+
+-- a block of a handle that isn't locked may be emptied once it is purgeable
+purgeable-now : (h : ℕ) (b : Block) → is_relocatable h b ≡ true → locks (is_locked h) b ≤ 0
+    → (is_relocatable h (flagged purging b) && is_purgeable (flagged purging b)) ≡ true
+purgeable-now h (Free n) is open_now = is
+purgeable-now h (Fixed id content) is open_now = is
+purgeable-now h Masters is open_now = is
+purgeable-now h (Relocatable id flags content) is open_now = cases (id == h) is flags.locked open_now
+  where
+    cases : (t : Bool) → t ≡ true → (l : Bool) → cond {A = ℕ} (t && l) 1 0 ≤ 0 → (t && (not l && true)) ≡ true
+    cases false e l le = e
+    cases true e true le = absurd (let f : 1 ≤ 0 = le in omega arith)
+    cases true e false le = refl
+
+-- the block of a handle that has one may be emptied once it was loosened
+pub loosened-may_be_emptied : (h : ℕ) (s : State) (bytes : ℕ → List ℕ) → Known s bytes → has_block h s ≡ true
+    → may_be_emptied h (loosened h s).zone ≡ true
+loosened-may_be_emptied h s bytes known there =
+    flags-go (λ t. may_be_emptied h t.zone ≡ true) purging h now
+    (λ code e. absurd (block-found h now bytes (known-flags unlocking (Some h) s bytes known) still e))
+    (λ at found.
+    let none = none-locked h s bytes known there in
+    has-here (λ b. is_relocatable h b && is_purgeable b) at.below (flagged purging at.here) at.above
+    (purgeable-now h at.here (spot-passes (is_relocatable h) now.zone at found)
+    (omega (
+      arith,
+      ap (total (locks (is_locked h))) (spot-is (is_relocatable h) now.zone at found),
+      total-append (locks (is_locked h)) at.below (at.here ∷ at.above),
+    ))))
+  where
+    now : State
+    now = (h_unlock (Some h) s).1
+
+    still : has_block h now ≡ true
+    still = has-counts (is_relocatable h) s.zone now.zone
+        (flags-total (one h) (λ n. refl) (one-flags h) unlocking h s) ∙ there

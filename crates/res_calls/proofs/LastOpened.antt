@@ -1,0 +1,198 @@
+use Rattle.std.proofs.Common.{◌≡◌, ◌<◌, ℤ, pos, Bool, true, false, true≢false, not}
+use Rattle.std.proofs.Common.{Option, Some, None, List, [], ◌∷◌, length, refl, sym, ◌∙◌, ap, subst, cond, arith}
+use Rattle.std.proofs.lemmas.Bool.{not-true}
+use Rattle.std.proofs.lemmas.Bool.Decides.{Decides-int_eq}
+use Rattle.std.specs.Ordering.{int_eq}
+use Rattle.mac_words.specs.declared.code.OsErr.{OsErr}
+use Rattle.mac_words.specs.declared.code.TheConstants.OsErr.{NO_ERR, DISK_FULL}
+use Rattle.heap_calls.specs.State.{State, Memory}
+use Rattle.res_map.specs.Split.{Split}
+use Rattle.res_calls.specs.Files.{OpenFile, Resources}
+use Rattle.res_calls.specs.Fetch.{Managers, is_system}
+use Rattle.res_calls.specs.Given.{managers}
+use Rattle.res_calls.specs.Leaving.{Left, update_code, updated_or, left_file, last_opened, first_code, leave, leave_files}
+use Rattle.res_calls.specs.Places.{at_index, has_own, left_last, left_last_of, IsLastUpdated, IsLastClosed}
+use Rattle.res_calls.specs.Rows.{handles_of, closed, closed_file}
+use Rattle.res_calls.specs.Sound.{Sound}
+use Rattle.res_calls.specs.Update.{update, updated_map, rewritten}
+use Rattle.res_calls.proofs.Keeping.{update-comes}
+use Rattle.res_calls.proofs.LettingGo.{updated-handles}
+use Rattle.res_calls.proofs.Soundness.Changes.{sound-closed, sound-closed-written}
+
+-- The last opened file is updated and closed, and so are those before it, as an application leaves.
+
+-- an update of it: done, or refused and nothing changed
+pub last_updated : (m : Memory) (chain : List OpenFile) (before after : Resources)
+    → ((s : Split OpenFile) → at_index 0 chain ≡ Some s → update m.heap s before ≡ Some after)
+    → IsLastUpdated m chain NO_ERR before after
+last_updated m [] before after each = tt
+last_updated m (f ∷ older) before after each = let is = each (last_opened f older) refl in
+    (sym (ap update_code is), sym (ap (λ (o : Option Resources). updated_or o before) is))
+
+pub last_refused : (m : Memory) (chain : List OpenFile) (code : OsErr) (before after : Resources)
+    → ((s : Split OpenFile) → at_index 0 chain ≡ Some s → (code ≡ DISK_FULL) × (update m.heap s before ≡ None))
+    → after ≡ before → IsLastUpdated m chain code before after
+last_refused m [] code before after each same = tt
+last_refused m (f ∷ older) code before after each same = let is = each (last_opened f older) refl in (
+  is.0 ∙ sym (ap update_code is.1),
+  same ∙ sym (ap (λ (o : Option Resources). updated_or o before) is.1),
+)
+
+-- it stands in its place afterwards, with its number and its handles
+record Stays (f : OpenFile) (older : List OpenFile) (r : Resources) : Type 0 where
+  file : OpenFile
+  chain : r.chain ≡ file ∷ older
+  number : file.number ≡ f.number
+  handles : handles_of file.map.references ≡ handles_of f.map.references
+
+stays : (heap : State) (f : OpenFile) (older : List OpenFile) (r : Resources) → r.chain ≡ f ∷ older
+    → Stays f older (updated_or (update heap (last_opened f older) r) r)
+stays heap f older r is = by_update (update heap (last_opened f older) r)
+    (λ q. update-comes (Stays f older) heap (last_opened f older) r q same written_so)
+  where
+    same : Stays f older r
+    same = record { file = f; chain = is; number = refl; handles = refl }
+
+    written_so : Stays f older (rewritten heap (last_opened f older) r)
+    written_so = record {
+      file = record f { map = updated_map heap f.map; touched = false };
+      chain = refl;
+      number = refl;
+      handles = updated-handles heap f.map.references;
+    }
+
+    by_update : (o : Option Resources) → ((q : Resources) → o ≡ Some q → Stays f older q)
+        → Stays f older (updated_or o r)
+    by_update None each = same
+    by_update (Some q) each = each q refl
+
+-- then it is closed
+closed-stays : (f : OpenFile) (older : List OpenFile) (m : Memory) (r : Resources) (t : Stays f older r)
+    (s : Managers) → s.memory ≡ m
+    → closed_file (last_opened t.file older) r (managers r m) ≡ closed_file (last_opened f older) r s
+closed-stays f older m r t s same = rw (t.number, t.handles, same) refl
+
+last_of : (chain : List OpenFile) (before after : Resources) (m : Memory) (code : OsErr) (left : Managers)
+    → before.chain ≡ chain → has_own chain ≡ true → IsLastUpdated m chain code before after
+    → IsLastClosed after.chain (managers after m) left
+    → (code ≡ (left_last_of chain (managers before m)).code) × (left ≡ (left_last_of chain (managers before m)).after)
+last_of [] before after m code left is own updated let_go = cc
+last_of (f ∷ older) before after m code left is own updated let_go =
+    let there : Stays f older after = subst (Stays f older) (sym updated.1) (stays m.heap f older before is) in
+    let gone : closed_file (last_opened there.file older) after (managers after m) ≡ left =
+    subst (λ (chain : List OpenFile). IsLastClosed chain (managers after m) left) there.chain let_go in (
+      updated.0,
+      sym gone ∙ closed-stays f older m after there (managers before m) refl
+          ∙ ap (λ (r : Resources). closed_file (last_opened f older) r (managers before m)) updated.1,
+    )
+
+pub last_left : (before now after : Resources) (m : Memory) (code : OsErr) (left : Managers)
+    → before ≡ now → has_own now.chain ≡ true → IsLastUpdated m before.chain code before after
+    → IsLastClosed after.chain (managers after m) left
+    → (code ≡ (left_last (managers now m)).code) × (left ≡ (left_last (managers now m)).after)
+last_left before now after m code left is own updated let_go =
+    subst (λ (r : Resources). (code ≡ (left_last (managers r m)).code) × (left ≡ (left_last (managers r m)).after)) is
+    (last_of before.chain before after m code left refl
+    (ap (λ (r : Resources). has_own r.chain) is ∙ own) updated let_go)
+
+-- what holds of the open files holds after it
+pub sound_left_file : (f : OpenFile) (older : List OpenFile) (s : Managers) → s.resources.chain ≡ f ∷ older
+    → is_system f ≡ false → Sound s.resources → Sound (left_file (last_opened f older) s).resources
+sound_left_file f older s is own sound = by_update (update s.memory.heap (last_opened f older) s.resources)
+    (λ q. update-comes (λ r. Sound (closed (last_opened f older) r)) s.memory.heap (last_opened f older) s.resources q
+    closes (sound-closed-written s.memory.heap s.resources (last_opened f older) closes))
+  where
+    closes : Sound (closed (last_opened f older) s.resources)
+    closes = sound-closed s.resources (last_opened f older) (sym is) own sound
+
+    by_update : (o : Option Resources)
+        → ((q : Resources) → o ≡ Some q → Sound (closed (last_opened f older) q))
+        → Sound (closed (last_opened f older) (updated_or o s.resources))
+    by_update None each = closes
+    by_update (Some q) each = each q refl
+
+sound_last_of : (chain : List OpenFile) (s : Managers) → s.resources.chain ≡ chain → has_own chain ≡ true
+    → Sound s.resources → Sound (left_last_of chain s).after.resources
+sound_last_of [] s is own sound = sound
+sound_last_of (f ∷ older) s is own sound = sound_left_file f older s is (not-true (is_system f) own) sound
+
+pub sound_left_last : (before now after : Resources) (m : Memory) (code : OsErr) (left : Managers)
+    → before ≡ now → has_own now.chain ≡ true → IsLastUpdated m before.chain code before after
+    → IsLastClosed after.chain (managers after m) left → Sound before → Sound left.resources
+sound_left_last before now after m code left is own updated let_go sound =
+    let parts = last_left before now after m code left is own updated let_go in
+    subst (λ (s : Managers). Sound s.resources) (sym parts.1)
+    (sound_last_of now.chain (managers now m) refl own (subst Sound is sound))
+
+-- files are left one after the other
+pub next_code : (chain : List OpenFile) (s : Managers) → has_own chain ≡ true → (leave_files chain s).code
+    ≡ first_code (left_last_of chain s).code (leave (left_last_of chain s).after).code
+next_code [] s own = cc
+next_code (f ∷ older) s own = rw (not-true (is_system f) own) refl
+
+pub next_after : (chain : List OpenFile) (s : Managers) → has_own chain ≡ true
+    → (leave_files chain s).after ≡ (leave (left_last_of chain s).after).after
+next_after [] s own = cc
+next_after (f ∷ older) s own = rw (not-true (is_system f) own) refl
+
+pub no_more : (chain : List OpenFile) (s : Managers) → has_own chain ≡ false
+    → leave_files chain s ≡ (let left : Left = record { code = NO_ERR; after = s } in left)
+no_more [] s none = refl
+no_more (f ∷ older) s none = rw (by_number (is_system f) none) refl
+  where
+    by_number : (t : Bool) → not t ≡ false → t ≡ true
+    by_number true e = refl
+    by_number false e = absurd (true≢false e)
+
+-- the first code of three
+code-grouped : (a b c : OsErr) → first_code (first_code a b) c ≡ first_code a (first_code b c)
+code-grouped a b c = by_first (int_eq a.0 (pos 0)) refl
+  where
+    by_first : (t : Bool) → int_eq a.0 (pos 0) ≡ t
+        → first_code (cond t b a) c ≡ cond t (first_code b c) a
+    by_first true e = refl
+    by_first false e = rw e refl
+
+code-alone : (a : OsErr) → first_code a NO_ERR ≡ a
+code-alone a = by_first (int_eq a.0 (pos 0)) refl
+  where
+    by_first : (t : Bool) → int_eq a.0 (pos 0) ≡ t → cond t NO_ERR a ≡ a
+    by_first true e = ap (λ (z : ℤ). (let c : OsErr = record { 0 = z } in c)) (sym ((Decides-int_eq a.0 (pos 0)).0 e))
+    by_first false e = refl
+
+-- the code so far and the code of the rest is the code of all, and the rest is left as all is
+pub record Leaves (so_far : OsErr) (now start : Managers) : Type 0 where
+  pub code : first_code so_far (leave now).code ≡ (leave start).code
+  pub after : (leave now).after ≡ (leave start).after
+
+pub leaves_next : (code next : OsErr) (now later start : Managers) → has_own now.resources.chain ≡ true
+    → next ≡ (left_last now).code → later ≡ (left_last now).after → Leaves code now start
+    → Leaves (first_code code next) later start
+leaves_next code next now later start own told left so = record {
+  code = code-grouped code next (leave later).code
+      ∙ ap (first_code code) (sym (next_code now.resources.chain now own
+      ∙ ap (λ (c : OsErr). first_code c (leave (left_last now).after).code) (sym told)
+      ∙ ap (λ (s : Managers). first_code next (leave s).code) (sym left)))
+      ∙ so.code;
+  after = ap (λ (s : Managers). (leave s).after) left ∙ sym (next_after now.resources.chain now own) ∙ so.after;
+}
+
+pub leaves_all : (code : OsErr) (now start : Managers) → has_own now.resources.chain ≡ false
+    → Leaves code now start → (code ≡ (leave start).code) × (now ≡ (leave start).after)
+leaves_all code now start none so =
+    let last = no_more now.resources.chain now none in (
+      sym (code-alone code) ∙ ap (first_code code) (sym (ap (λ (l : Left). l.code) last)) ∙ so.code,
+      sym (ap (λ (l : Left). l.after) last) ∙ so.after,
+    )
+
+-- each time there is one file fewer
+pub one_fewer : (now later : Managers) → has_own now.resources.chain ≡ true → later ≡ (left_last now).after
+    → length later.resources.chain < length now.resources.chain
+one_fewer now later own left = by_chain now.resources.chain own
+    (ap (λ (s : Managers). length s.resources.chain) left)
+  where
+    by_chain : (chain : List OpenFile) → has_own chain ≡ true
+        → length later.resources.chain ≡ length (left_last_of chain now).after.resources.chain
+        → length later.resources.chain < length chain
+    by_chain [] own e = cc
+    by_chain (f ∷ older) own e = omega (arith, e)

@@ -1,0 +1,118 @@
+use Rattle.std.proofs.Common.{◌≡◌, ◌≤◌, ◌<◌, ◌+◌, ◌^◌, ℕ, Bool, true, false, Some, Err, List, [], length, sym, ◌∙◌, subst}
+use Rattle.mac_words.specs.declared.code.OsErr.{OsErr}
+use Rattle.block_store.specs.Block.{sizes, count, is_masters, is_relocatable}
+use Rattle.block_store.specs.Run.{has}
+use Rattle.block_store.specs.Rest.{counted}
+use Rattle.heap_calls.specs.State.{Memory}
+use Rattle.heap_calls.specs.Staying.{staying}
+use Rattle.heap_calls.specs.Locked.{locked_place}
+use Rattle.heap_calls.specs.Standing.{pointer_place}
+use Rattle.heap_calls.specs.Emptying.{may_be_emptied}
+use Rattle.heap_calls.specs.Path.{Step, walk, put_reads, lets_of}
+use Rattle.heap_calls.proofs.Promises.Knowing.{Known}
+use Rattle.heap_calls.proofs.Steps.Knowledge.{steps-known}
+use Rattle.heap_calls.proofs.Steps.Standstill.{steps-locked, steps-fixed, steps-bytes}
+use Rattle.heap_calls.proofs.Steps.Survival.{steps-masters, steps-purgeable}
+use Rattle.heap_calls.proofs.Steps.FewLooks.{steps-fits}
+use Rattle.heap_calls.proofs.Steps.Place.{steps-busy, steps-code, steps-window}
+use Rattle.res_calls.specs.Fetch.{Managers, Answer, Reads}
+use Rattle.res_calls.proofs.Walks.Going.{Goes}
+use Rattle.res_calls.proofs.Walks.Letting.{LookFew}
+use Rattle.res_calls.proofs.Walks.Laws.{Left, left-walk, no_more-walk}
+
+-- The laws of an answer that goes by steps.
+
+-- what holds after the steps
+of-goes : {T : Type 0} {w : Bool} (P : Memory → Type 0) (steps : List Step) (s : Managers) (a : Answer T)
+    → Goes w steps s a → P (walk steps s.memory) → P a.after.memory
+of-goes P steps s a goes holds = subst P (sym goes.heap) holds
+
+-- each block holds what was last put into it, or read
+pub goes-known : {T : Type 0} {w : Bool} (steps : List Step) (s : Managers) (a : Answer T) (bytes : ℕ → List ℕ)
+    → Goes w steps s a → Known s.memory.heap bytes → Known a.after.memory.heap (put_reads a.reads bytes)
+goes-known steps s a bytes goes known =
+    of-goes (λ m. Known m.heap (put_reads a.reads bytes)) steps s a goes
+    (subst (λ (read : Reads). Known (walk steps s.memory).heap (put_reads read bytes)) (sym goes.read)
+    (steps-known steps s.memory bytes known))
+
+-- locked blocks stay, but for those that are let go, and pointers' blocks
+pub goes-locked : {T : Type 0} {w : Bool} (steps : List Step) (s : Managers) (a : Answer T) (bytes : ℕ → List ℕ)
+    → Goes w steps s a → Known s.memory.heap bytes → (h place : ℕ) → lets_of steps h ≡ false
+    → locked_place h s.memory.heap.zone ≡ Some place → locked_place h a.after.memory.heap.zone ≡ Some place
+goes-locked steps s a bytes goes known h place keeps is =
+    of-goes (λ m. locked_place h m.heap.zone ≡ Some place) steps s a goes
+    (steps-locked steps s.memory bytes known h place keeps is)
+
+pub goes-fixed : {T : Type 0} {w : Bool} (steps : List Step) (s : Managers) (a : Answer T)
+    → Goes w steps s a → (p place : ℕ) → pointer_place p s.memory.heap.zone ≡ Some place
+    → pointer_place p a.after.memory.heap.zone ≡ Some place
+goes-fixed steps s a goes p place is = of-goes (λ m. pointer_place p m.heap.zone ≡ Some place) steps s a goes
+    (steps-fixed steps s.memory p ∙ is)
+
+-- only blocks that may be emptied are
+pub goes-purgeable : {T : Type 0} {w : Bool} (steps : List Step) (s : Managers) (a : Answer T)
+    → Goes w steps s a → (h : ℕ) → lets_of steps h ≡ false → has (is_relocatable h) s.memory.heap.zone ≡ true
+    → has (is_relocatable h) a.after.memory.heap.zone ≡ false → may_be_emptied h s.memory.heap.zone ≡ true
+goes-purgeable steps s a goes h keeps before after =
+    steps-purgeable steps s.memory h keeps before
+    (subst (λ (m : Memory). has (is_relocatable h) m.heap.zone ≡ false) goes.heap after)
+
+-- the zone keeps its size, and its blocks of master pointers
+pub goes-bytes : {T : Type 0} {w : Bool} (steps : List Step) (s : Managers) (a : Answer T) → Goes w steps s a
+    → sizes a.after.memory.heap.zone ≡ sizes s.memory.heap.zone
+goes-bytes steps s a goes = of-goes (λ m. sizes m.heap.zone ≡ sizes s.memory.heap.zone) steps s a goes
+    (steps-bytes steps s.memory)
+
+pub goes-masters : {T : Type 0} {w : Bool} (steps : List Step) (s : Managers) (a : Answer T) → Goes w steps s a
+    → count is_masters s.memory.heap.zone ≤ count is_masters a.after.memory.heap.zone
+goes-masters steps s a goes =
+    of-goes (λ m. count is_masters s.memory.heap.zone ≤ count is_masters m.heap.zone) steps s a goes
+    (steps-masters steps s.memory)
+
+-- where its steps look few times it does, and the count of looks always fits
+pub goes-looks : {T : Type 0} {w : Bool} (steps : List Step) (s : Managers) (a : Answer T) → Goes w steps s a
+    → LookFew steps s.memory → 0 < count is_masters s.memory.heap.zone → s.memory.log.searches < 2 ^ 64
+    → (n : ℕ) × (n ≤ length s.memory.heap.zone + 1)
+    × (a.after.memory.log.searches ≡ counted s.memory.log.searches n)
+goes-looks steps s a goes few masters fits = of-goes
+    (λ m. (n : ℕ) × (n ≤ length s.memory.heap.zone + 1) × (m.log.searches ≡ counted s.memory.log.searches n))
+    steps s a goes (few masters fits)
+
+pub goes-fits : {T : Type 0} {w : Bool} (steps : List Step) (s : Managers) (a : Answer T) → Goes w steps s a
+    → 0 < count is_masters s.memory.heap.zone → s.memory.log.searches < 2 ^ 64
+    → a.after.memory.log.searches < 2 ^ 64
+goes-fits steps s a goes masters fits = of-goes (λ m. m.log.searches < 2 ^ 64) steps s a goes
+    (steps-fits steps s.memory masters fits)
+
+-- a refused one read nothing and left the resources; it leaves the heap, but that a block of slots may stay that was
+-- made for it, and no more stays than before it
+pub goes-unread : {T : Type 0} {w : Bool} (steps : List Step) (s : Managers) (a : Answer T) → Goes w steps s a
+    → (code : OsErr) → a.reply ≡ Err code → a.reads ≡ []
+goes-unread steps s a goes code is = (goes.refuses code is).0
+
+pub goes-refused : {T : Type 0} {w : Bool} (steps : List Step) (s : Managers) (a : Answer T) → Goes w steps s a
+    → (code : OsErr) → a.reply ≡ Err code
+    → Left s.memory.heap a.after.memory.heap × (a.after.resources ≡ s.resources)
+goes-refused steps s a goes code is = let left = goes.refuses code is in (
+  of-goes (λ m. Left s.memory.heap m.heap) steps s a goes (left-walk steps s.memory code left.2),
+  left.1,
+)
+
+pub goes-no_more : {T : Type 0} {w : Bool} (steps : List Step) (s : Managers) (a : Answer T) → Goes w steps s a
+    → (code : OsErr) → a.reply ≡ Err code → staying a.after.memory.heap.zone ≤ staying s.memory.heap.zone
+goes-no_more steps s a goes code is =
+    of-goes (λ m. staying m.heap.zone ≤ staying s.memory.heap.zone) steps s a goes
+    (no_more-walk steps s.memory code (goes.refuses code is).2)
+
+-- it changes neither what is busy, nor the code that MemError tells, nor where the heap lies
+pub goes-busy : {T : Type 0} {w : Bool} (steps : List Step) (s : Managers) (a : Answer T) → Goes w steps s a
+    → a.after.memory.log.busy ≡ s.memory.log.busy
+goes-busy steps s a goes = of-goes (λ m. m.log.busy ≡ s.memory.log.busy) steps s a goes (steps-busy steps s.memory)
+
+pub goes-code : {T : Type 0} {w : Bool} (steps : List Step) (s : Managers) (a : Answer T) → Goes w steps s a
+    → a.after.memory.log.code ≡ s.memory.log.code
+goes-code steps s a goes = of-goes (λ m. m.log.code ≡ s.memory.log.code) steps s a goes (steps-code steps s.memory)
+
+pub goes-window : {T : Type 0} {w : Bool} (steps : List Step) (s : Managers) (a : Answer T) → Goes w steps s a
+    → a.after.memory.window ≡ s.memory.window
+goes-window steps s a goes = of-goes (λ m. m.window ≡ s.memory.window) steps s a goes (steps-window steps s.memory)

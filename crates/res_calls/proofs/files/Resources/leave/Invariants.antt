@@ -1,0 +1,11 @@
+use Rattle.std.proofs.Common.{length}
+use Rattle.res_calls.specs.Given.{managers}
+use Rattle.res_calls.proofs.LastOpened.{Leaves}
+use Rattle.res_calls.proofs.files.Resources.leave.Given as goal
+
+-- the code so far and the code of the rest is the code of all, and the rest is left as all is
+abbrev pub invariant-loop-alloc : goal.invariant-loop-alloc
+invariant-loop-alloc g l = Leaves l.code (managers l.self l.heap) (managers l.fn.self l.fn.heap)
+
+abbrev pub decreases-loop-alloc : goal.decreases-loop-alloc
+decreases-loop-alloc g l = length l.self.chain

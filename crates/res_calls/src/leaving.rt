@@ -1,0 +1,114 @@
+//! An application leaves: its open files are updated and closed.
+//!
+//! *More Macintosh Toolbox*, chapter 1, "Closing Resource Forks"; *Processes*, chapter 2, "Terminating a Process".
+
+ghost use Rattle.std.specs.Prelude.{◌≡◌, ◌<◌, map, length, IfOk, OnOk, OnErr, true, List};
+ghost use Rattle.res_calls.specs.Files.{Resources as ResourcesValue};
+ghost use Rattle.res_calls.specs.Given.{managers};
+ghost use Rattle.res_calls.specs.Leaving as leaving;
+ghost use Rattle.res_calls.specs.Places.{has_own, left_last, standing, IsLastUpdated, IsLastClosed};
+ghost use Rattle.res_calls.specs.Updating.{stored_in};
+ghost use Rattle.res_calls.specs.declared.files.File.{File as StoredFile};
+ghost use Rattle.res_calls.specs.View.{view_file, view_open};
+
+use crate::closing::{current_after, release_all, take_out};
+use crate::files::{File, OpenFile, Resources};
+use crate::updating::update_at;
+use block_store::BlockStore;
+use heap_calls::{Heap, Refusal};
+use mac_words::OsErr;
+use std::alloc::{AllocError, Global};
+
+/// Whether a file is open besides the System's.
+fn is_own_open(chain: &[OpenFile]) -> bool
+    ensures { result ≡ has_own (map view_open chain.now) }
+{
+    match chain {
+        [] => false,
+        [last, ..] => last.number != 0,
+    }
+}
+
+/// The first of two codes that isn't 0.
+fn first_code(first: OsErr, later: OsErr) -> OsErr
+    ensures { result ≡ leaving.first_code first later }
+{
+    if first.0 == 0 { later } else { first }
+}
+
+/// Updates the last opened file: the code of that. Where its content doesn't fit the format it stays as it is.
+fn update_last<S: BlockStore>(
+    alloc: Global,
+    heap: &Heap<S>,
+    files: &mut Vec<File>,
+    chain: &mut Vec<OpenFile>,
+) -> Result<OsErr, AllocError>
+    requires { 0 < length chain.old.items }
+    ensures answer { IfOk result (λ code. (r : ResourcesValue) → IsLastUpdated heap.now
+        (map view_open chain.old.items) code (stored_in files.old.items chain.old.items r)
+        (stored_in files.new.items chain.new.items r)) }
+    ensures files { OnErr result (map view_file files.new.items ≡ map view_file files.old.items) }
+    ensures chain { OnErr result (map view_open chain.new.items ≡ map view_open chain.old.items) }
+    ensures length { length chain.new.items ≡ length chain.old.items }
+{
+    match update_at(alloc, heap, files, chain, 0) {
+        Ok(()) => Ok(OsErr::NO_ERR),
+        Err(Refusal::Code(code)) => Ok(code),
+        Err(Refusal::HostMemory) => Err(AllocError),
+    }
+}
+
+/// Closes the last opened file as it is: the number of the current file then.
+fn close_last<S: BlockStore>(heap: &mut Heap<S>, chain: &mut Vec<OpenFile>, current: u32) -> u32
+    requires { 0 < length chain.old.items }
+    ensures { (files : List StoredFile) (r : ResourcesValue) → IsLastClosed (map view_open chain.old.items)
+        (managers (standing files chain.old.items current r) heap.old)
+        (managers (standing files chain.new.items result r) heap.new) }
+{
+    let removed = take_out(chain, 0);
+    release_all(heap, &removed.file.map);
+    current_after(current, removed.file.number, removed.older)
+}
+
+impl Resources {
+    /// The application leaves: its open files are updated and closed, the last opened first; the System's stays open.
+    /// The first code that isn't 0, or 0. A file whose content doesn't fit the format (-34) keeps its fork, and is
+    /// closed all the same. Where the host has no memory the application can only be let go.
+    pub fn leave<S: BlockStore>(
+        &mut self,
+        alloc: Global,
+        heap: &mut Heap<S>,
+    ) -> Result<OsErr, AllocError>
+        ensures code { IfOk result (λ code. code ≡ (leaving.leave (managers self.old heap.old)).code) }
+        ensures after { OnOk result (managers self.new heap.new ≡ (leaving.leave (managers self.old heap.old)).after) }
+    {
+        let mut code = OsErr::NO_ERR;
+        while self.has_own() {
+            let next = self.leave_last(alloc, heap)?;
+            code = first_code(code, next);
+        }
+        Ok(code)
+    }
+
+    /// Whether a file is open besides the System's.
+    fn has_own(&self) -> bool
+        ensures { result ≡ has_own self.now.chain }
+    {
+        is_own_open(&self.chain)
+    }
+
+    /// Updates the last opened file and closes it: the code of the update.
+    fn leave_last<S: BlockStore>(
+        &mut self,
+        alloc: Global,
+        heap: &mut Heap<S>,
+    ) -> Result<OsErr, AllocError>
+        requires { has_own self.old.chain ≡ true }
+        ensures code { IfOk result (λ code. code ≡ (left_last (managers self.old heap.old)).code) }
+        ensures after { OnOk result (managers self.new heap.new ≡ (left_last (managers self.old heap.old)).after) }
+    {
+        let code = update_last(alloc, heap, &mut self.files, &mut self.chain)?;
+        self.current = close_last(heap, &mut self.chain, self.current);
+        Ok(code)
+    }
+}

@@ -1,0 +1,83 @@
+//! Resources of the application's own fork.
+//!
+//! *Processes*, chapter 7, "The Segment Manager".
+
+ghost use Rattle.std.specs.Prelude.{◌≡◌, ◌⊎◌, IsTrue, is_some, option_map};
+ghost use Rattle.byteorder.specs.Endian.{big_number};
+ghost use Rattle.heap_calls.specs.Inner.Given.{KeepsNames};
+ghost use Rattle.res_map.specs.View.{view_entry};
+ghost use Rattle.res_calls.specs.Files.{Found};
+ghost use Rattle.res_calls.specs.Own as own;
+ghost use Rattle.res_calls.specs.Given.{IsFetched, managers};
+ghost use Rattle.res_calls.specs.Places.{WantsHost, found_from};
+
+use crate::fetched::{Fetched, Unread};
+use crate::files::Resources;
+use crate::find::{Spot, Wanted, Within, entry_at};
+use block_store::BlockStore;
+use heap_calls::Heap;
+use mac_words::OsType;
+use res_map::Entry;
+
+impl Resources {
+    /// The first reference of a type and ID in the application's own file.
+    fn find_own(&self, ty: OsType, id: i16) -> Option<Spot>
+        ensures found { found_from result self.now.chain ≡ own.find_own (big_number 4 ty.0) id self.now }
+        ensures placed { is_some (found_from result self.now.chain) ≡ is_some result }
+    {
+        self.find(Within::Own, Wanted::Id(ty, id))
+    }
+
+    /// The same, as it is lent.
+    fn own_entry(&self, ty: OsType, id: i16) -> Option<Entry<'_>>
+        ensures { option_map view_entry result ≡ option_map (λ (f : Found). f.reference.here)
+            (own.find_own (big_number 4 ty.0) id self.now) }
+    {
+        match self.find_own(ty, id) {
+            None => None,
+            Some(at) => Some(entry_at(&self.chain, at)),
+        }
+    }
+
+    /// The bytes that are stored of a resource of the application's own fork, by its type and ID: the first there is.
+    /// None where that fork isn't open, or has no such resource.
+    #[tactic(auto, using(crate::proofs::OwnFork::no_datum, crate::proofs::OwnFork::datum_lent))]
+    pub fn own_datum(&self, ty: OsType, id: i16) -> Option<&[u8]>
+        ensures { option_map (λ b. b.now) result ≡ own.own_datum (big_number 4 ty.0) id self.now }
+    {
+        match self.own_entry(ty, id) {
+            None => None,
+            Some(entry) => Some(entry.stored.datum),
+        }
+    }
+
+    /// The handle of such a resource, if it has one.
+    #[tactic(auto, using(crate::proofs::OwnFork::no_handle, crate::proofs::OwnFork::handle_lent))]
+    pub fn own_handle(&self, ty: OsType, id: i16) -> Option<usize>
+        ensures { result ≡ own.own_handle (big_number 4 ty.0) id self.now }
+    {
+        match self.own_entry(ty, id) {
+            None => None,
+            Some(entry) => entry.handle,
+        }
+    }
+
+    /// Fetches a resource of the application's own fork, under whatever number that is open and whatever the current
+    /// file is: the first of its type and ID. It is read whether loading is on or not. -192 where there is none, -108
+    /// where there is no room for it; what `ResError` tells stays.
+    pub fn fetch_own<S: BlockStore>(
+        &mut self,
+        heap: &mut Heap<S>,
+        ty: OsType,
+        id: i16,
+    ) -> Result<Fetched, Unread>
+        ensures answer { IsFetched (own.fetch_own (big_number 4 ty.0) id (managers self.old heap.old)) result
+            (managers self.new heap.new) }
+        ensures left { WantsHost result → self.new ≡ self.old }
+        ensures host { WantsHost result → IsTrue S.TAKES_HOST ⊎ (heap.new ≡ heap.old) }
+        ensures kept { WantsHost result → KeepsNames heap.old heap.new }
+    {
+        let found = self.find_own(ty, id);
+        self.fetch_found(heap, found, true)
+    }
+}

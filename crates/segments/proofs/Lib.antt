@@ -1,0 +1,4 @@
+mod Worked
+pub mod Marking
+pub mod Loading
+pub mod Laws

@@ -1,0 +1,18 @@
+use Rattle.std.proofs.Common.{◌≡◌, pos, false, rules}
+use Rattle.std.specs.Ordering.{int_eq}
+use Rattle.std.specs.Int.{w16}
+use Rattle.std.proofs.lemmas.Int.{to_z-of_z}
+use Rattle.res_calls.specs.Given.{managers, seen_fetched}
+use Rattle.segments.specs.Given.{program}
+use Rattle.segments.proofs.Loading.{loaded_answer}
+use Rattle.segments.proofs.table.JumpTable.load.Goals as goal
+
+pub returns-clause-answer : goal.returns-clause-answer
+returns-clause-answer g c =
+    let segment = to_z-of_z w16 c.args.segment c.ranges.segment in
+    let some : int_eq c.args.segment (pos 0) ≡ false = search rules in
+    loaded_answer c.args.segment (program c.args.self.now c.args.resources.now c.args.heap.now) c.in-Some.datum.now
+    (seen_fetched c.in-Ok.fetched) c.in-Some-named.named (managers c.fetch_own.new.self c.fetch_own.new.heap)
+    c.load_entries.new.self c.hold_high.new.self some
+    (rw segment at c.in-Some.ensures) (rw segment at c.in-Ok.ensures.answer.0) (rw segment at c.in-Ok.ensures.answer.1)
+    (rw segment at c.in-Some-named.ensures.named) c.load_entries.ensures c.hold_high.ensures

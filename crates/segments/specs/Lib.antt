@@ -1,0 +1,5 @@
+pub mod Table
+pub mod Calls
+pub mod Asked
+pub mod View
+pub mod Given

@@ -1,0 +1,201 @@
+//! The calls that load and unload segments.
+//!
+//! *Inside Macintosh: Processes*, chapter 7, "Segment Manager Routines".
+
+ghost use Rattle.std.specs.Prelude.{◌≡◌, ◌⊎◌, ◌↔◌, ℕ, ℤ, List, IsTrue, Ok, Err, if◌then◌else◌};
+ghost use Rattle.heap_calls.specs.Inner.Given.{KeepsNames};
+ghost use Rattle.res_calls.specs.Fetch.{Managers};
+ghost use Rattle.res_calls.specs.Files.{Resources as ResourcesValue};
+ghost use Rattle.res_calls.specs.Given.{managers, IsUnread};
+ghost use Rattle.res_calls.specs.Rows.{bars};
+ghost use Rattle.segments.specs.Calls.{load_seg, load_by, unload_seg, call_entry, call_loading, call_loaded};
+ghost use Rattle.segments.specs.Calls.{is_there, let_loose};
+ghost use Rattle.segments.specs.Given.{program, Fetch, IsUnloaded, IsLoaded, IsCalled, WantsHost, done_if};
+ghost use Rattle.segments.specs.Table.{Entry};
+
+use crate::loaded::{Called, Unloaded};
+use crate::table::JumpTable;
+use block_store::BlockStore;
+use heap_calls::{Heap, Refusal};
+use mac_words::{OsErr, OsType};
+use res_calls::{Resources, Unread};
+
+/// The type of segments.
+const CODE: OsType = OsType(*b"CODE");
+
+/// A segment that wasn't fetched.
+fn unfetched(unread: Unread) -> Unloaded
+    ensures answer { (n : ℤ) (code : List ℕ) (a : Fetch) (table : List Entry) (after : Managers)
+        → IsUnread a unread.refusal unread.reading after
+        → IsUnloaded (load_by n code a.reply a table) result.refusal result.reading result.wants_room
+        (record { managers = after; table = table }) }
+    ensures host { result.refusal ≡ Refusal.HostMemory ↔ unread.refusal ≡ Refusal.HostMemory }
+{
+    match unread.refusal {
+        Refusal::Code(code) => Unloaded {
+            refusal: Refusal::Code(OsErr::SYSTEM_ERROR),
+            reading: unread.reading,
+            wants_room: code == OsErr::MEM_FULL,
+        },
+        Refusal::HostMemory => Unloaded {
+            refusal: Refusal::HostMemory,
+            reading: unread.reading,
+            wants_room: false,
+        },
+    }
+}
+
+impl JumpTable {
+    /// `LoadSeg`: fetches 'CODE' of this ID from the application's own fork, whatever the current file is and whether
+    /// loading is on or not, moves its block high and locks it, and loads the entries that it names. Whether it was
+    /// read.
+    ///
+    /// It is refused with system error 15 where the fork isn't open, the segment is 0, there is no such resource or no
+    /// room for it, it has fewer than 4 bytes or is of the far model, the offset of its first entry is no multiple of
+    /// 8, or the entries that it names aren't all in the table and its own. A want of host memory leaves the table and
+    /// the resources as they were, and the heap too over a store that takes none.
+    pub fn load<S: BlockStore>(
+        &mut self,
+        heap: &mut Heap<S>,
+        resources: &mut Resources,
+        segment: i16,
+    ) -> Result<bool, Unloaded>
+        ensures answer { IsLoaded (load_seg segment (program self.old resources.old heap.old)) result
+            (program self.new resources.new heap.new) }
+        ensures table { WantsHost result → self.new ≡ self.old }
+        ensures left { WantsHost result → resources.new ≡ resources.old }
+        ensures host { WantsHost result → IsTrue S.TAKES_HOST ⊎ (heap.new ≡ heap.old) }
+        ensures kept { WantsHost result → KeepsNames heap.old heap.new }
+    {
+        if segment == 0 {
+            return Err(Unloaded::with_code(OsErr::SYSTEM_ERROR));
+        }
+        let Some(datum) = resources.own_datum(CODE, segment) else {
+            return Err(Unloaded::with_code(OsErr::SYSTEM_ERROR));
+        };
+        let named = self.named_by(datum, segment);
+        let fetched = match resources.fetch_own(heap, CODE, segment) {
+            Ok(fetched) => fetched,
+            Err(unread) => return Err(unfetched(unread)),
+        };
+        let Some(named) = named else {
+            return Err(Unloaded::with_code(OsErr::SYSTEM_ERROR));
+        };
+        heap.hold_high(fetched.handle);
+        self.load_entries(named);
+        Ok(fetched.read)
+    }
+
+    /// `UnloadSeg`: unlocks a segment's block, if it has one, and lets it be emptied, and unloads all its entries.
+    /// -117 where its handle is busy.
+    pub fn unload<S: BlockStore>(
+        &mut self,
+        heap: &mut Heap<S>,
+        resources: &Resources,
+        segment: i16,
+    ) -> Result<(), OsErr>
+        ensures reply { (unload_seg segment (program self.old resources.now heap.old)).reply ≡ result }
+        ensures after { (unload_seg segment (program self.old resources.now heap.old)).after
+            ≡ program self.new resources.now heap.new }
+    {
+        let handle = resources.own_handle(CODE, segment);
+        loosen_idle(heap, handle)?;
+        self.unload_entries(segment);
+        Ok(())
+    }
+
+    /// `CallEntry`: calls the routine of an entry, counted from 0, and loads its segment first where the entry is
+    /// unloaded, as `load` does. -30001 where there is no such entry, or where it is loaded and its segment's block is
+    /// gone all the same; system error 15 where it belongs to no segment.
+    pub fn call<S: BlockStore>(
+        &mut self,
+        heap: &mut Heap<S>,
+        resources: &mut Resources,
+        index: u32,
+    ) -> Result<Called, Unloaded>
+        ensures answer { IsCalled (call_entry index (program self.old resources.old heap.old)) result
+            (program self.new resources.new heap.new) }
+        ensures table { WantsHost result → self.new ≡ self.old }
+        ensures left { WantsHost result → resources.new ≡ resources.old }
+        ensures host { WantsHost result → IsTrue S.TAKES_HOST ⊎ (heap.new ≡ heap.old) }
+        ensures kept { WantsHost result → KeepsNames heap.old heap.new }
+    {
+        let Some(entry) = self.entry(index) else {
+            return Err(Unloaded::with_code(OsErr::PROFILE));
+        };
+        let Some(segment) = entry.segment else {
+            return Err(Unloaded::with_code(OsErr::SYSTEM_ERROR));
+        };
+        if entry.loaded {
+            call_loaded(heap, resources, segment)
+        } else {
+            self.call_loading(heap, resources, segment)
+        }
+    }
+
+    /// Calls a routine whose segment is loaded for it.
+    fn call_loading<S: BlockStore>(
+        &mut self,
+        heap: &mut Heap<S>,
+        resources: &mut Resources,
+        segment: i16,
+    ) -> Result<Called, Unloaded>
+        ensures answer { IsCalled (call_loading segment (load_seg segment (program self.old resources.old heap.old)))
+            result (program self.new resources.new heap.new) }
+        ensures table { WantsHost result → self.new ≡ self.old }
+        ensures left { WantsHost result → resources.new ≡ resources.old }
+        ensures host { WantsHost result → IsTrue S.TAKES_HOST ⊎ (heap.new ≡ heap.old) }
+        ensures kept { WantsHost result → KeepsNames heap.old heap.new }
+    {
+        match self.load(heap, resources, segment) {
+            Ok(read) => Ok(Called { segment, read }),
+            Err(unloaded) => Err(unloaded),
+        }
+    }
+}
+
+/// Calls a routine of a loaded segment.
+fn call_loaded<S: BlockStore>(
+    heap: &Heap<S>,
+    resources: &Resources,
+    segment: i16,
+) -> Result<Called, Unloaded>
+    ensures answer { (table : List Entry) → IsCalled (call_loaded segment (program table resources.now heap.now)) result
+        (program table resources.now heap.now) }
+    ensures host { ¬ (WantsHost result) }
+{
+    if is_there(heap, resources.own_handle(CODE, segment)) {
+        Ok(Called {
+            segment,
+            read: false,
+        })
+    } else {
+        Err(Unloaded::with_code(OsErr::PROFILE))
+    }
+}
+
+/// Whether there is a handle, and it has a block.
+fn is_there<S: BlockStore>(heap: &Heap<S>, handle: Option<usize>) -> bool
+    ensures { (r : ResourcesValue) → result ≡ is_there handle (managers r heap.now) }
+{
+    match handle {
+        None => false,
+        Some(number) => heap.bytes(number).is_some(),
+    }
+}
+
+/// Unlocks the block of a handle, if there is one, and lets it be emptied; -117 where the handle is busy.
+fn loosen_idle<S: BlockStore>(heap: &mut Heap<S>, handle: Option<usize>) -> Result<(), OsErr>
+    ensures reply { result ≡ done_if (bars handle heap.old) }
+    ensures after { (r : ResourcesValue) → managers r heap.new
+        ≡ (if bars handle heap.old then managers r heap.old else let_loose handle (managers r heap.old)) }
+{
+    let Some(number) = handle else {
+        return Ok(());
+    };
+    if heap.is_busy(number) {
+        return Err(OsErr::LOCKED);
+    }
+    heap.loosen(number);
+    Ok(())
+}

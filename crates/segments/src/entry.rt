@@ -1,0 +1,10 @@
+//! Entries of a jump table.
+
+/// An entry of a jump table.
+#[derive(Clone, Copy, Debug, PartialEq, Eq)]
+pub(crate) struct Entry {
+    /// Its segment, if it belongs to one.
+    pub(crate) segment: Option<i16>,
+    /// Whether it is loaded.
+    pub(crate) loaded: bool,
+}

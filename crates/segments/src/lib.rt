@@ -1,0 +1,14 @@
+//! Segments: the jump table of an application, and the calls that load and unload its segments.
+#![tactic(auto)]
+
+mod calls;
+mod entries;
+mod entry;
+mod loaded;
+mod table;
+
+pub use loaded::{Called, Shown, Unloaded};
+pub use table::JumpTable;
+
+#[cfg(test)]
+mod tests;

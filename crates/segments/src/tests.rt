@@ -1,0 +1,520 @@
+//! Segments are loaded, called and unloaded over a list of blocks.
+
+ghost use Rattle.std.specs.Prelude.{◌≡◌, ◌<◌, [], length};
+
+use crate::{Called, JumpTable, Shown, Unloaded};
+use arrayvec::ArrayVec;
+use block_store::ListStore;
+use fork_format::{Content, Group, Ref, write_fork};
+use heap_calls::{Heap, Refusal};
+use mac_words::{Attrs, FileName, OsErr, OsType};
+use res_calls::{File, Resources, Unread};
+use std::alloc::Global;
+use std::process::Abort;
+use std::test::Fail;
+
+const CODE: OsType = OsType(*b"CODE");
+
+/// 'CODE' 0 with two entries of segment 1.
+const TWO_ENTRIES: &[u8] =
+    b"\0\0\0\0\0\0\0\0\0\0\0\x10\0\0\0\x20\0\0\x3f\x3c\0\x01\xa9\xf0\0\x04\x3f\x3c\0\x01\xa9\xf0";
+
+/// 'CODE' 1 that names both, and returns twice.
+const BOTH: &[u8] = b"\0\0\0\x02\x4e\x75\x4e\x75";
+
+/// A call, with the numbers of handles.
+#[derive(Clone, Copy, Debug)]
+enum Line {
+    Load(i16),
+    Unload(i16),
+    CallEntry(u32),
+    ShowEntry(u32),
+    Get(i16),
+    Where(usize),
+    Unlock(usize),
+    Empty(usize),
+    PurgeAll,
+    Busy(usize),
+    SetLoad(bool),
+    UseFile(u32),
+    CloseFile(u32),
+    OpenOwn,
+    OpenOther,
+}
+
+/// What it came to.
+#[derive(Clone, Copy, Debug, PartialEq, Eq)]
+enum Told {
+    Done,
+    Number(u32),
+    Fetched(usize, bool),
+    Entry(i16, bool),
+    Refused(OsErr),
+    HostMemory,
+}
+
+/// An application.
+#[derive(Drop)]
+struct App {
+    heap: Heap<ListStore>,
+    resources: Resources,
+    table: JumpTable,
+}
+
+fn refused(refusal: Refusal) -> Told {
+    match refusal {
+        Refusal::Code(code) => Told::Refused(code),
+        Refusal::HostMemory => Told::HostMemory,
+    }
+}
+
+fn done(answer: Result<(), Refusal>) -> Told {
+    match answer {
+        Ok(()) => Told::Done,
+        Err(refusal) => refused(refusal),
+    }
+}
+
+fn number(answer: Result<u32, Refusal>) -> Told {
+    match answer {
+        Ok(number) => Told::Number(number),
+        Err(refusal) => refused(refusal),
+    }
+}
+
+fn loaded(answer: Result<bool, Unloaded>) -> Told {
+    match answer {
+        Ok(read) => Told::Number(u32::from(read)),
+        Err(unloaded) => refused(unloaded.refusal),
+    }
+}
+
+fn called(answer: Result<Called, Unloaded>) -> Told {
+    match answer {
+        Ok(called) => Told::Entry(called.segment, called.read),
+        Err(unloaded) => refused(unloaded.refusal),
+    }
+}
+
+fn shown(answer: Result<Shown, OsErr>) -> Told {
+    match answer {
+        Ok(shown) => Told::Entry(shown.segment, shown.loaded),
+        Err(code) => Told::Refused(code),
+    }
+}
+
+fn unloaded(answer: Result<(), OsErr>) -> Told {
+    match answer {
+        Ok(()) => Told::Done,
+        Err(code) => Told::Refused(code),
+    }
+}
+
+impl App {
+    /// Gets 'CODE' of this ID from the current file and those opened before it.
+    fn get(&mut self, id: i16) -> Told {
+        match self.resources.get_resource(&mut self.heap, CODE, id) {
+            Ok(fetched) => Told::Fetched(fetched.handle, fetched.read),
+            Err(Unread { refusal, .. }) => refused(refusal),
+        }
+    }
+
+    fn open(&mut self, alloc: Global, name: &[u8]) -> Told {
+        number(
+            self.resources
+                .open_res_file(alloc, &mut self.heap, &name_of(name)),
+        )
+    }
+
+    fn busy(&mut self, number: usize) -> Told {
+        self.heap.set_busy(number, true);
+        Told::Done
+    }
+
+    fn set_load(&mut self, on: bool) -> Told {
+        self.resources.set_res_load(on);
+        Told::Done
+    }
+
+    fn close(&mut self, alloc: Global, number: u32) -> Told {
+        done(self.resources.close_res_file(alloc, &mut self.heap, number))
+    }
+
+    fn load(&mut self, segment: i16) -> Told {
+        loaded(
+            self.table
+                .load(&mut self.heap, &mut self.resources, segment),
+        )
+    }
+
+    fn unload(&mut self, segment: i16) -> Told {
+        unloaded(self.table.unload(&mut self.heap, &self.resources, segment))
+    }
+
+    fn call(&mut self, index: u32) -> Told {
+        called(self.table.call(&mut self.heap, &mut self.resources, index))
+    }
+
+    /// Makes a call of the Segment Manager or of the Resource Manager.
+    fn tell(&mut self, alloc: Global, line: Line) -> Told {
+        match line {
+            Line::Load(segment) => self.load(segment),
+            Line::Unload(segment) => self.unload(segment),
+            Line::CallEntry(index) => self.call(index),
+            Line::ShowEntry(index) => shown(self.table.show(index)),
+            Line::Get(id) => self.get(id),
+            Line::SetLoad(on) => self.set_load(on),
+            Line::UseFile(number) => done(self.resources.use_res_file(number)),
+            Line::CloseFile(number) => self.close(alloc, number),
+            Line::OpenOwn => self.open(alloc, b"App"),
+            Line::OpenOther => self.open(alloc, b"Doc"),
+            other => self.tell_heap(other),
+        }
+    }
+
+    /// Makes a call of the Memory Manager.
+    fn tell_heap(&mut self, line: Line) -> Told {
+        match line {
+            Line::Where(handle) => number(self.heap.place_of(Some(handle))),
+            Line::Unlock(handle) => done(self.heap.h_unlock(Some(handle))),
+            Line::Empty(handle) => done(self.heap.empty_handle(Some(handle))),
+            Line::PurgeAll => done(self.heap.purge_mem(4096)),
+            Line::Busy(handle) => self.busy(handle),
+            _ => Told::Done,
+        }
+    }
+}
+
+/// The name of a file.
+fn name_of(bytes: &[u8]) -> FileName {
+    let mut name = ArrayVec::new();
+    for byte in bytes {
+        let _full = name.try_push(*byte).is_err();
+    }
+    FileName(name)
+}
+
+/// A 'CODE' of this ID.
+fn code(id: i16, datum: &[u8]) -> Ref<'_> {
+    Ref {
+        id,
+        name: None,
+        attrs: Attrs(0),
+        datum,
+    }
+}
+
+/// A content of no resources.
+fn nothing<'b>(alloc: Global) -> Content<'b>
+    ensures { result.groups.items ≡ [] }
+{
+    Content {
+        area: [0; 240],
+        attrs: 0,
+        groups: Vec::new(alloc),
+    }
+}
+
+/// The fork of these 'CODE's.
+fn fork_of(alloc: Global, codes: &[Ref<'_>]) -> Result<Vec<u8>, Fail> {
+    let refs = Vec::from_slice(alloc, codes)?;
+    let mut content = nothing(alloc);
+    if !codes.is_empty() {
+        content.groups.push(Group { ty: CODE, refs })?;
+    }
+    match write_fork(alloc, &content) {
+        Ok(fork) => Ok(fork),
+        Err(_) => Err(Fail::new("a content that doesn't fit")),
+    }
+}
+
+fn file_of(name: &[u8], fork: Vec<u8>) -> File {
+    File {
+        name: name_of(name),
+        fork,
+        written: false,
+    }
+}
+
+/// The resources of an application with these 'CODE's, beside a document with a 'CODE' 1 of its own.
+fn resources_of(alloc: Global, codes: &[Ref<'_>]) -> Result<Resources, Fail> {
+    let mut files = Vec::new(alloc);
+    files.push(file_of(b"App", fork_of(alloc, codes)?))?;
+    files.push(file_of(b"Doc", fork_of(alloc, &[code(1, b"other")])?))?;
+    launched_with(alloc, files)
+}
+
+fn launched_with(alloc: Global, files: Vec<File>) -> Result<Resources, Fail>
+    requires { 0 < length files.items }
+{
+    let system = nothing(alloc);
+    match Resources::new(alloc, files, &system) {
+        Ok(resources) => Ok(resources),
+        Err(_) => Err(Fail::new("the application's fork is not read")),
+    }
+}
+
+/// An application with these 'CODE's in a zone of 1024 bytes.
+fn app_of(alloc: Global, codes: &[Ref<'_>]) -> Result<App, Fail> {
+    let resources = resources_of(alloc, codes)?;
+    let table = JumpTable::read(alloc, resources.own_datum(CODE, 0))?;
+    let store = ListStore::new(alloc, 1024)?;
+    Ok(App {
+        heap: Heap::new(alloc, store),
+        resources,
+        table,
+    })
+}
+
+/// Makes calls one after another, each of which is to tell this.
+fn tells(
+    rt: &impl Abort,
+    alloc: Global,
+    codes: &[Ref<'_>],
+    lines: &[(Line, Told)],
+) -> Result<(), Fail> {
+    let mut app = app_of(alloc, codes)?;
+    for (line, told) in lines {
+        assert_eq!(rt; app.tell(alloc, *line), *told);
+    }
+    Ok(())
+}
+
+/// 'CODE' 0 with an entry, whose table says that it has so many bytes (below 256).
+fn one_entry(alloc: Global, told: u8, entry: &[u8]) -> Result<Vec<u8>, Fail> {
+    let mut bytes = Vec::from_slice(alloc, b"\0\0\0\0\0\0\0\0\0\0\0")?;
+    bytes.push(told)?;
+    bytes.extend_from_slice(b"\0\0\0\x20")?;
+    bytes.extend_from_slice(entry)?;
+    Ok(bytes)
+}
+
+/// An entry of segment 1.
+const FIRST: &[u8] = b"\0\0\x3f\x3c\0\x01\xa9\xf0";
+
+const FATAL: Told = Told::Refused(OsErr::SYSTEM_ERROR);
+
+const NONE: Told = Told::Refused(OsErr::PROFILE);
+
+#[test]
+fn a_segment_is_loaded_unloaded_and_called(rt: HostRuntime) -> Result<(), Fail> {
+    let lines = [
+        (Line::ShowEntry(0), Told::Entry(1, false)),
+        (Line::Load(1), Told::Number(1)),
+        (Line::Load(1), Told::Number(0)),
+        (Line::Get(1), Told::Fetched(0, false)),
+        (Line::Where(0), Told::Number(1008)),
+        (Line::ShowEntry(0), Told::Entry(1, true)),
+        (Line::Unload(1), Told::Done),
+        (Line::ShowEntry(0), Told::Entry(1, false)),
+        (Line::PurgeAll, Told::Refused(OsErr::MEM_FULL)),
+        (Line::CallEntry(1), Told::Entry(1, true)),
+        (Line::CallEntry(0), Told::Entry(1, false)),
+        (Line::CallEntry(2), NONE),
+        (Line::Load(2), FATAL),
+    ];
+    tells(
+        &rt,
+        rt.alloc(),
+        &[code(0, TWO_ENTRIES), code(1, BOTH)],
+        &lines,
+    )
+}
+
+#[test]
+fn an_application_without_segments_loads_none(rt: HostRuntime) -> Result<(), Fail> {
+    let lines = [
+        (Line::Load(1), FATAL),
+        (Line::CallEntry(0), NONE),
+        (Line::ShowEntry(0), NONE),
+        (Line::Unload(1), Told::Done),
+    ];
+    tells(&rt, rt.alloc(), &[], &lines)
+}
+
+#[test]
+fn a_loaded_segment_without_a_block_is_not_called(rt: HostRuntime) -> Result<(), Fail> {
+    let lines = [
+        (Line::Load(1), Told::Number(1)),
+        (Line::Unlock(0), Told::Done),
+        (Line::Empty(0), Told::Done),
+        (Line::CallEntry(0), NONE),
+        (Line::ShowEntry(0), Told::Entry(1, true)),
+        (Line::Load(1), Told::Number(1)),
+        (Line::CallEntry(0), Told::Entry(1, false)),
+    ];
+    tells(
+        &rt,
+        rt.alloc(),
+        &[code(0, TWO_ENTRIES), code(1, BOTH)],
+        &lines,
+    )
+}
+
+#[test]
+fn a_busy_segment_is_not_unloaded(rt: HostRuntime) -> Result<(), Fail> {
+    let lines = [
+        (Line::Load(1), Told::Number(1)),
+        (Line::Busy(0), Told::Done),
+        (Line::Unload(1), Told::Refused(OsErr::LOCKED)),
+        (Line::ShowEntry(1), Told::Entry(1, true)),
+    ];
+    tells(
+        &rt,
+        rt.alloc(),
+        &[code(0, TWO_ENTRIES), code(1, BOTH)],
+        &lines,
+    )
+}
+
+#[test]
+fn a_table_has_no_more_entries_than_its_resource(rt: HostRuntime) -> Result<(), Fail> {
+    let alloc = rt.alloc();
+    let lines = [
+        (Line::ShowEntry(0), Told::Entry(1, false)),
+        (Line::ShowEntry(1), NONE),
+    ];
+    let long = one_entry(alloc, 255, FIRST)?;
+    tells(&rt, alloc, &[code(0, &long)], &lines)?;
+    // Nor more than it says.
+    let mut two = one_entry(alloc, 15, FIRST)?;
+    two.extend_from_slice(FIRST)?;
+    tells(&rt, alloc, &[code(0, &two)], &lines)
+}
+
+#[test]
+fn fewer_than_sixteen_bytes_hold_no_entry(rt: HostRuntime) -> Result<(), Fail> {
+    let lines = [(Line::ShowEntry(0), NONE), (Line::Load(1), FATAL)];
+    tells(
+        &rt,
+        rt.alloc(),
+        &[code(0, &TWO_ENTRIES[..15]), code(1, BOTH)],
+        &lines,
+    )
+}
+
+#[test]
+fn an_entry_of_another_form_belongs_to_no_segment(rt: HostRuntime) -> Result<(), Fail> {
+    let alloc = rt.alloc();
+    let lines = [
+        (Line::ShowEntry(0), NONE),
+        (Line::CallEntry(0), FATAL),
+        (Line::Load(1), FATAL),
+    ];
+    for entry in [b"\0\0\x3f\x3d\0\x01\xa9\xf0", b"\0\0\x3f\x3c\0\x01\xa9\xf1"] {
+        let table = one_entry(alloc, 8, entry)?;
+        tells(
+            &rt,
+            alloc,
+            &[code(0, &table), code(1, b"\0\0\0\x01")],
+            &lines,
+        )?;
+    }
+    Ok(())
+}
+
+#[test]
+fn a_negative_segment_is_an_ordinary_one(rt: HostRuntime) -> Result<(), Fail> {
+    let alloc = rt.alloc();
+    let lines = [
+        (Line::CallEntry(0), Told::Entry(-2, true)),
+        (Line::ShowEntry(0), Told::Entry(-2, true)),
+        (Line::Unload(-2), Told::Done),
+        (Line::ShowEntry(0), Told::Entry(-2, false)),
+    ];
+    let table = one_entry(alloc, 8, b"\0\0\x3f\x3c\xff\xfe\xa9\xf0")?;
+    tells(
+        &rt,
+        alloc,
+        &[code(0, &table), code(-2, b"\0\0\0\x01")],
+        &lines,
+    )
+}
+
+#[test]
+fn a_segment_is_loaded_with_the_entries_that_are_its_own(rt: HostRuntime) -> Result<(), Fail> {
+    let alloc = rt.alloc();
+    let table = one_entry(alloc, 8, FIRST)?;
+    let codes = [
+        code(0, &table),
+        code(1, b"\0\0\0\x02"),
+        code(2, b"\0\0\0\x01"),
+        code(3, b"\0\x50\0\0"),
+        code(4, b"\xff\xff\0\0"),
+        code(5, b"\0\x04\0\0"),
+        code(6, b"\0\0\0"),
+    ];
+    let lines = [
+        // It names an entry behind the table.
+        (Line::Load(1), FATAL),
+        // The entry is another segment's.
+        (Line::Load(2), FATAL),
+        // It names none, wherever that would stand.
+        (Line::Load(3), Told::Number(1)),
+        // It is of the far model; its offset is no multiple of 8; it is too short.
+        (Line::Load(4), FATAL),
+        (Line::Load(5), FATAL),
+        (Line::Load(6), FATAL),
+        (Line::Load(0), FATAL),
+        (Line::ShowEntry(0), Told::Entry(1, false)),
+    ];
+    tells(&rt, alloc, &codes, &lines)
+}
+
+#[test]
+fn segments_come_from_the_own_fork(rt: HostRuntime) -> Result<(), Fail> {
+    let lines = [
+        (Line::OpenOther, Told::Number(3)),
+        (Line::SetLoad(false), Told::Done),
+        (Line::Load(1), Told::Number(1)),
+        // The document's is another one.
+        (Line::Get(1), Told::Fetched(1, false)),
+        (Line::UseFile(0), Told::Done),
+        (Line::Load(1), Told::Number(0)),
+        (Line::CloseFile(2), Told::Done),
+        (Line::CallEntry(0), NONE),
+        (Line::ShowEntry(0), Told::Entry(1, true)),
+        (Line::Load(1), FATAL),
+        (Line::OpenOwn, Told::Number(4)),
+        (Line::CallEntry(0), NONE),
+        (Line::Load(1), Told::Number(1)),
+        (Line::CallEntry(0), Told::Entry(1, false)),
+    ];
+    tells(
+        &rt,
+        rt.alloc(),
+        &[code(0, TWO_ENTRIES), code(1, BOTH)],
+        &lines,
+    )
+}
+
+#[test]
+fn a_segment_without_room_wants_room(rt: HostRuntime) -> Result<(), Fail> {
+    let alloc = rt.alloc();
+    let mut long = Vec::from_slice(alloc, BOTH)?;
+    long.extend_from_slice(&[0; 600])?;
+    let mut app = app_of(alloc, &[code(0, TWO_ENTRIES), code(1, &long)])?;
+    let full = |reading: Option<usize>| {
+        Err(Unloaded {
+            refusal: Refusal::Code(OsErr::SYSTEM_ERROR),
+            reading,
+            wants_room: true,
+        })
+    };
+    assert_eq!(rt; app.heap.new_handle(400), Ok(0));
+    assert_eq!(rt;
+        app.table.load(&mut app.heap, &mut app.resources, 1),
+        full(None)
+    );
+    assert_eq!(rt; app.heap.dispose_handle(Some(0)), Ok(()));
+    assert_eq!(rt; app.load(1), Told::Number(1));
+    assert_eq!(rt; app.unload(1), Told::Done);
+    assert_eq!(rt; app.heap.empty_handle(Some(1)), Ok(()));
+    assert_eq!(rt; app.heap.new_handle(400), Ok(2));
+    assert_eq!(rt;
+        app.table.load(&mut app.heap, &mut app.resources, 1),
+        full(Some(1))
+    );
+    assert_eq!(rt; app.call(0), FATAL);
+    Ok(())
+}
