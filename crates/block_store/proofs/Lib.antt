@@ -6,3 +6,4 @@ pub mod Emptied
 pub mod Content
 pub mod Nonrelocatable
 pub mod SlotLists
+pub mod Walks

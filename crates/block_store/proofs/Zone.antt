@@ -12,3 +12,6 @@ pub mod Keeping
 pub mod Absence
 pub mod Alike
 pub mod Surviving
+pub mod Edges
+pub mod Joining
+pub mod Parted

@@ -4,9 +4,9 @@ use native.Mathlib.Nat.{ℕ_set}
 use Rattle.std.specs.Option.{option_map}
 use Rattle.mac_words.specs.Size.{padded}
 use Rattle.block_store.specs.declared.measures.TheConstants.{MASTERS_SIZE, UNIT}
-use Rattle.block_store.specs.Block.{Block, Free, Fixed, Masters, Relocatable, count, sizes, free_of, free_sum, is_room}
-use Rattle.block_store.specs.Block.{is_relocatable}
-use Rattle.block_store.specs.Run.{Stretch, RunSpot, segments, runs, joined, run_raised, run_at, has, settle}
+use Rattle.block_store.specs.Block.{Block, Free, Fixed, Masters, Relocatable, count, size, sizes, free_of, free_sum}
+use Rattle.block_store.specs.Block.{is_room, is_relocatable}
+use Rattle.block_store.specs.Run.{Stretch, RunSpot, segments, runs, joined, has, settle}
 use Rattle.block_store.specs.Room.{spot}
 use Rattle.block_store.specs.Rest.{falling}
 
@@ -31,21 +31,14 @@ abbrev pub beyond : List Stretch → List Block
 beyond [] = []
 beyond (p ∷ parts) = p.barrier ∷ joined p.run parts
 
--- the run of an index, counted from 0 at a run with parts above it
-abbrev pub nth_run_of : ℕ → List Block → List Stretch → Option RunSpot
-nth_run_of zero run parts = Some (record { below = []; run = run; above = beyond parts })
-nth_run_of (suc i) run [] = None
-nth_run_of (suc i) run (p ∷ parts) = option_map (run_raised (run ++ p.barrier ∷ [])) (nth_run_of i p.run parts)
+-- the place behind the first of the blocks that begin at a place; none where there is none
+abbrev pub place_behind : ℕ → List Block → Option ℕ
+place_behind place [] = None
+place_behind place (b ∷ above) = Some (place + size b)
 
--- the run of an index, counted from 0 at the lowest
-abbrev pub nth_run : ℕ → List Block → Option RunSpot
-nth_run i zone = nth_run_of i (segments zone).first (segments zone).rest
-
--- the place of the run of an index, if there is one
-abbrev pub FindsRun : ℕ → List Block → Option ℕ → Type 0
-FindsRun i zone None = nth_run i zone ≡ None
-FindsRun i zone (Some place) = (r : RunSpot) × (nth_run i zone ≡ Some r) × (run_at place zone ≡ Some r)
-    × (sizes r.below ≡ place)
+-- the place of the run above a run: behind the block that ends it
+abbrev pub next_run : RunSpot → Option ℕ
+next_run r = place_behind (sizes r.below + sizes r.run) r.above
 
 -- a run and the parts above it, of which the k lowest runs are settled
 abbrev pub settled_runs : ℕ → List Block → List Stretch → List Block

@@ -9,3 +9,4 @@ pub mod Sparing
 pub mod Rest
 pub mod Seen
 pub mod Compact
+pub mod Walk

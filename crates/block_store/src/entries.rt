@@ -55,22 +55,6 @@ pub fn is_of_slot(entry: &StoredBlock, number: u32) -> bool
     }
 }
 
-/// The place of the block that a slot leads to.
-#[tactic(auto, using(crate::proofs::Zone::Listing::entry_fits))]
-pub fn find_slot(entries: &[StoredBlock], number: u32) -> Option<u32>
-    requires { sizes (blocks_of entries.now) < 2 ^ 32 }
-    ensures { result ≡ option_map (λ s. sizes s.below) (spot (is_relocatable number) (blocks_of entries.now)) }
-{
-    let mut place = 0;
-    for entry in entries {
-        if is_of_slot(entry, number) {
-            return Some(place);
-        }
-        place += entry_size(entry);
-    }
-    None
-}
-
 /// The index of the entry at a place.
 pub fn index_at(entries: &[StoredBlock], place: u32) -> Option<usize>
     requires { sizes (blocks_of entries.now) < 2 ^ 32 }

@@ -3,7 +3,7 @@
 ghost use Rattle.std.specs.Prelude.{◌≤◌};
 
 use super::{BlockStore, ListStore, Seen, Sparing};
-use crate::tests::{make, put, shown};
+use crate::tests::{block_at, make, place, put, release, shown};
 use std::alloc::AllocError;
 use std::test::Fail;
 
@@ -21,6 +21,9 @@ fn make_fixed(store: &mut ListStore, size: u32) -> Result<Option<u32>, AllocErro
 
 // Frees the block at a place, where it is a Fixed one.
 fn free_fixed(store: &mut ListStore, place: u32) -> bool {
+    if !store.is_edge(place) {
+        return false;
+    }
     let Some(Seen::Fixed(_)) = store.block_at(place) else {
         return false;
     };
@@ -39,6 +42,9 @@ fn make_masters(store: &mut ListStore) -> Result<bool, AllocError> {
 
 // Copies the first bytes of a slot's block into another's, where both have so many.
 fn copy(store: &mut ListStore, source: u32, bytes: u32, number: u32, from: u32) -> bool {
+    if !store.is_handle(source) || !store.is_handle(number) {
+        return false;
+    }
     let Some(first) = store.place_of(source) else {
         return false;
     };
@@ -62,18 +68,18 @@ fn fixed_blocks_stay(rt: HostRuntime) -> Result<(), Fail> {
     let c = make_fixed(&mut store, 5)?.expect(&rt, "room for a block");
     assert_eq!(rt; b, 400);
     assert_eq!(rt; c, 464);
-    assert_eq!(rt; store.block_at(b), Some(Seen::Fixed(40)));
+    assert_eq!(rt; block_at(&store, b), Some(Seen::Fixed(40)));
     assert_eq!(rt; store.free_bytes(), 528);
-    store.release(a);
-    assert_eq!(rt; store.block_at(b), Some(Seen::Fixed(40)));
-    assert_eq!(rt; store.block_at(c), Some(Seen::Fixed(5)));
+    release(&mut store, a);
+    assert_eq!(rt; block_at(&store, b), Some(Seen::Fixed(40)));
+    assert_eq!(rt; block_at(&store, c), Some(Seen::Fixed(5)));
     assert!(rt; !free_fixed(&mut store, 272));
     assert!(rt; !free_fixed(&mut store, 416));
     assert!(rt; free_fixed(&mut store, b));
     assert!(rt; !free_fixed(&mut store, b));
-    assert_eq!(rt; store.block_at(272), Some(Seen::Free(192)));
+    assert_eq!(rt; block_at(&store, 272), Some(Seen::Free(192)));
     assert!(rt; free_fixed(&mut store, c));
-    assert_eq!(rt; store.block_at(272), Some(Seen::Free(752)));
+    assert_eq!(rt; block_at(&store, 272), Some(Seen::Free(752)));
     assert_eq!(rt; make_fixed(&mut store, 737)?, None);
     assert_eq!(rt; make_fixed(&mut store, 736)?, Some(272));
     assert_eq!(rt; store.free_bytes(), 0);
@@ -89,8 +95,8 @@ fn slots_are_added(rt: HostRuntime) -> Result<(), Fail> {
     }
     assert_eq!(rt; store.take_slot(), None);
     assert!(rt; make_masters(&mut store)?);
-    assert_eq!(rt; store.block_at(288), Some(Seen::Masters));
-    assert_eq!(rt; store.place_of(a), Some(272));
+    assert_eq!(rt; block_at(&store, 288), Some(Seen::Masters));
+    assert_eq!(rt; place(&store, a), Some(272));
     for _ in 0..64 {
         assert!(rt; store.take_slot().is_some());
     }

@@ -9,7 +9,12 @@ mod fixed;
 mod fixed_tests;
 mod flags;
 mod list_store;
+mod list_walk;
+mod list_zones;
 mod looking;
+mod maker;
+#[cfg(test)]
+mod maker_tests;
 mod measures;
 mod packing;
 mod purged_sums;
@@ -27,9 +32,23 @@ mod store;
 mod stretch;
 #[cfg(test)]
 mod tests;
+mod walk;
 
 pub use flags::Flags;
 pub use list_store::ListStore;
+pub use list_zones::ListZones;
+pub use looking::{next_purgeable_in, place_in, room_above_in};
+pub use maker::ZoneMaker;
 pub use measures::{GREATEST_ZONE, HEADER_SIZE, LEAST_ZONE, MASTERS_SIZE, SLOTS_A_BLOCK, UNIT};
+pub use purged_sums::{free_after_in, largest_after_in};
+pub use run_search::{find_run_in, run_of_in};
+pub use runs::{
+    largest_free_in, largest_run_in, next_run_in, purgeable_in_run_in, run_bytes_in,
+    run_has_free_in,
+};
 pub use sparing::{Seen, Sparing};
 pub use store::BlockStore;
+pub use stretch::find_free_in;
+pub use walk::{
+    Walk, free_of_seen, is_counted_free, is_in_run, is_of, may_be_emptied, may_go_now, size_of_seen,
+};

@@ -1,10 +1,11 @@
 //! A store that keeps its blocks in a list.
 
-ghost use Rattle.std.specs.Prelude.{◌≡◌, ℕ, ◌*◌, ◌≤◌, ◌<◌, ◌%◌, length, false, IfOk};
+ghost use Rattle.std.specs.Prelude.{◌≡◌, ℕ, ◌*◌, ◌≤◌, ◌<◌, ◌%◌, length, false, IfOk, IsTrue};
 ghost use denote.RawPtr.{null_ptr};
 ghost use Rattle.std.specs.Option.{option_map};
 ghost use Rattle.block_store.specs.Block.{sizes, free_sum, count, is_masters, is_relocatable, tidy, fresh};
 ghost use Rattle.block_store.specs.Run.{has, run_at};
+ghost use Rattle.block_store.specs.Find.{IsEdge};
 ghost use Rattle.block_store.specs.Slot.{is_used};
 ghost use Rattle.block_store.specs.Compact.{Aligned, Aligned-prop, Placed, Placed-prop};
 ghost use Rattle.block_store.specs.Inner.ListStore.{blocks_of, slots_of};
@@ -12,24 +13,27 @@ ghost use Rattle.block_store.specs.declared.measures.TheConstants.{GREATEST_ZONE
 
 use crate::copying::copy_at;
 use crate::entries::{
-    StoredBlock, fill, find_slot, free_slot, free_total, index_at, tidy_entries, write_at, zeros,
+    StoredBlock, fill, free_slot, free_total, index_at, tidy_entries, write_at, zeros,
 };
 use crate::fixed::{free_place, put_masters};
 use crate::flags::Flags;
-use crate::looking::{find_purgeable, look_at, room_follows};
+use crate::list_walk::{has_free_above, look_at, purgeable_above, run_above, walk_over};
+use crate::looking::{next_purgeable_in, place_in, room_above_in};
 use crate::measures::{GREATEST_ZONE, LEAST_ZONE, MASTERS_SIZE, SLOTS_A_BLOCK, UNIT};
 use crate::packing::{hoist_slot, raise_run, settle_run};
 #[cfg(test)]
 use crate::packing::{run_bytes, run_holds};
-use crate::purged_sums::{purged_free, purged_largest};
+use crate::purged_sums::{free_after_in, largest_after_in};
 use crate::purging::{flag_at, purge_above, purge_entries};
-use crate::run_search::search_runs;
-use crate::runs::{has_free_above, most_free, most_free_of_runs, place_of_run, purgeable_above};
+use crate::run_search::{find_run_in, run_of_in};
+use crate::runs::{largest_free_in, largest_run_in};
 use crate::sizing::{move_slot, resize_at};
+#[cfg(test)]
+use crate::slots::is_taken;
 use crate::slots::{SlotEntry, first_unused, has_flag};
 use crate::sparing::{Seen, Sparing};
 use crate::store::BlockStore;
-use crate::stretch::find_room;
+use crate::stretch::find_free_in;
 use std::alloc::{AllocError, Global};
 
 /// A store that keeps its blocks in a list, from bottom to top, and its slots in another, where a slot is
@@ -99,6 +103,24 @@ impl ListStore {
     {
         run_holds(&self.blocks, place, number)
     }
+
+    /// Whether a number is the slot of a handle.
+    pub fn is_handle(&self, number: u32) -> bool
+        ensures { result ≡ is_used ((⟦<ListStore as BlockStore>⟧.rest self.now).slots number) }
+    {
+        is_taken(&self.slots, number)
+    }
+
+    /// Whether a block begins at a place, or the zone ends there.
+    #[tactic(auto, using(crate::proofs::Plain::Options::some_mapped))]
+    pub fn is_edge(&self, place: u32) -> bool
+        ensures { IsTrue result → IsEdge place (⟦<ListStore as BlockStore>⟧.zone self.now) }
+    {
+        match look_at(&self.blocks, place) {
+            Some(_) => true,
+            None => place == self.bytes,
+        }
+    }
 }
 
 impl BlockStore for ListStore {
@@ -139,35 +161,35 @@ impl BlockStore for ListStore {
     }
 
     fn largest_free(&self) -> u32 {
-        most_free(&self.blocks)
+        largest_free_in(&mut walk_over(&self.blocks))
     }
 
     fn largest_run(&self) -> u32 {
-        most_free_of_runs(&self.blocks)
+        largest_run_in(&mut walk_over(&self.blocks))
     }
 
     fn place_of(&self, number: u32) -> Option<u32> {
-        find_slot(&self.blocks, number)
+        place_in(&mut walk_over(&self.blocks), number)
     }
 
     fn find_free(&self, bytes: u32, purges: u32, sparing: Sparing) -> Option<u32> {
-        find_room(&self.blocks, bytes, purges, sparing)
+        find_free_in(&mut walk_over(&self.blocks), bytes, purges, sparing)
     }
 
     fn next_purgeable(&self, purges: u32, sparing: Sparing) -> Option<u32> {
-        find_purgeable(&self.blocks, purges, sparing)
+        next_purgeable_in(&mut walk_over(&self.blocks), purges, sparing)
     }
 
     fn room_above(&self, number: u32, bytes: u32, purges: u32, sparing: Sparing) -> bool {
-        room_follows(&self.blocks, number, bytes, purges, sparing)
+        room_above_in(&mut walk_over(&self.blocks), number, bytes, purges, sparing)
     }
 
     fn free_after(&self, purges: u32, sparing: Sparing) -> u32 {
-        purged_free(&self.blocks, purges, sparing)
+        free_after_in(&mut walk_over(&self.blocks), purges, sparing)
     }
 
     fn largest_after(&self, purges: u32, sparing: Sparing) -> u32 {
-        purged_largest(&self.blocks, purges, sparing)
+        largest_after_in(&mut walk_over(&self.blocks), purges, sparing)
     }
 
     fn purge(&mut self, purges: u32, sparing: Sparing) {
@@ -179,15 +201,15 @@ impl BlockStore for ListStore {
     }
 
     fn find_run(&self, bytes: u32, purges: u32, sparing: Sparing) -> Option<u32> {
-        search_runs(&self.blocks, None, bytes, purges, sparing)
+        find_run_in(&mut walk_over(&self.blocks), bytes, purges, sparing)
     }
 
-    fn nth_run(&self, index: u32) -> Option<u32> {
-        place_of_run(&self.blocks, index)
+    fn next_run(&self, run: u32) -> Option<u32> {
+        run_above(&self.blocks, run)
     }
 
     fn run_of(&self, number: u32, bytes: u32, purges: u32, sparing: Sparing) -> Option<u32> {
-        search_runs(&self.blocks, Some(number), bytes, purges, sparing)
+        run_of_in(&mut walk_over(&self.blocks), number, bytes, purges, sparing)
     }
 
     fn run_after(&self, place: u32, bytes: u32, purges: u32, sparing: Sparing) -> bool {

@@ -1,95 +1,89 @@
-//! Looks at a list of blocks, some of which would be emptied.
+//! Looks at the blocks of a zone, some of which would be emptied.
 
-ghost use Rattle.std.specs.Prelude.{◌≡◌, ◌+◌, ◌≤◌, ◌<◌, ◌^◌, length, drop, is_some, IfSome};
+ghost use Rattle.std.specs.Prelude.{◌≡◌, ◌≤◌, ◌<◌, ◌^◌, is_some, IfSome};
 ghost use Rattle.std.specs.Option.{option_map};
-ghost use Rattle.block_store.specs.Block.{size, sizes, is_relocatable};
-ghost use Rattle.block_store.specs.Room.{spot, spot_at, may_go, emptied};
+ghost use Rattle.block_store.specs.Block.{Block, sizes, is_relocatable, tidy};
+ghost use Rattle.block_store.specs.Room.{spot, may_go, emptied};
 ghost use Rattle.block_store.specs.Grow.{taken};
+ghost use Rattle.block_store.specs.Find.{FindsLowest};
 ghost use Rattle.block_store.specs.Sparing.{spared, opened, purged};
 ghost use Rattle.block_store.specs.Seen.{seen};
-ghost use Rattle.block_store.specs.Inner.ListStore.{block_of, blocks_of};
 ghost use Rattle.block_store.specs.Inner.Stretch.{opened_block};
 ghost use Rattle.block_store.specs.Inner.Purging.{left_past, leading_free};
 
-use crate::entries::{StoredBlock, entry_size, index_at, is_of_slot};
 use crate::sparing::{Seen, Sparing};
-use crate::stretch::{counts_free, may_empty, suffices};
+use crate::stretch::suffices;
+use crate::walk::{Walk, is_counted_free, is_of, may_be_emptied, size_of_seen};
 
-/// An entry's block without its bytes.
-fn look(entry: &StoredBlock) -> Seen
-    requires { size (block_of entry.now) < 2 ^ 32 }
-    ensures { result ≡ seen (block_of entry.now) }
+/// The place of the block that a slot leads to.
+pub fn place_in<W: Walk>(walk: &mut W, number: u32) -> Option<u32>
+    requires small { sizes (W.rest walk.old) < 2 ^ 32 }
+    requires apart { tidy (W.rest walk.old) ≡ W.rest walk.old }
+    ensures { FindsLowest (is_relocatable number) (W.rest walk.old) result }
 {
-    match entry {
-        StoredBlock::Free(n) => Seen::Free(*n),
-        StoredBlock::Fixed(_, content) => Seen::Fixed(content.len() as u32),
-        StoredBlock::Masters => Seen::Masters,
-        StoredBlock::Relocatable(slot, flags, content) => {
-            Seen::Relocatable(*slot, *flags, content.len() as u32)
+    let mut below = 0;
+    while let Some(block) = walk.next_block() {
+        if is_of(block, number) {
+            return Some(below);
         }
+        below += size_of_seen(block);
     }
+    None
 }
 
-/// The block at a place, without its bytes.
-pub fn look_at(entries: &[StoredBlock], place: u32) -> Option<Seen>
-    requires { sizes (blocks_of entries.now) < 2 ^ 32 }
-    ensures { result ≡ option_map (λ s. seen s.here) (spot_at place (blocks_of entries.now)) }
-{
-    let i = index_at(entries, place)?;
-    Some(look(&entries[i]))
-}
-
-/// The place of the lowest block that may be emptied, after so many purges.
-#[tactic(auto, using(crate::proofs::Zone::Listing::entry_fits))]
-pub fn find_purgeable(entries: &[StoredBlock], purges: u32, sparing: Sparing) -> Option<u32>
-    requires { sizes (blocks_of entries.now) < 2 ^ 32 }
+/// The place of the lowest block that may be emptied, in the zone before the purges.
+fn find_purgeable_in<W: Walk>(walk: &mut W, purges: u32, sparing: Sparing) -> Option<u32>
+    requires { sizes (W.rest walk.old) < 2 ^ 32 }
     ensures { result ≡ option_map (λ s. sizes s.below)
-        (spot (may_go (spared sparing)) (purged purges sparing (blocks_of entries.now))) }
+        (spot (may_go (spared sparing)) (purged purges sparing (W.rest walk.old))) }
 {
     let mut left = purges;
     let mut place = 0;
-    for entry in entries {
-        if may_empty(entry, sparing) {
+    while let Some(block) = walk.next_block() {
+        if may_be_emptied(block, sparing) {
             if left == 0 {
                 return Some(place);
             }
             left -= 1;
         }
-        place += entry_size(entry);
+        place += size_of_seen(block);
     }
     None
 }
 
-/// The purges left after an entry whose block is Free or is emptied; none where it stays.
-pub fn left_after(entry: &StoredBlock, left: u32, sparing: Sparing) -> Option<u32>
-    ensures { result ≡ left_past (spared sparing) left (opened_block sparing (block_of entry.now)) }
+/// The place of the lowest block that may be emptied, after so many purges.
+pub fn next_purgeable_in<W: Walk>(walk: &mut W, purges: u32, sparing: Sparing) -> Option<u32>
+    requires { sizes (W.rest walk.old) < 2 ^ 32 }
+    ensures { FindsLowest (may_go (spared sparing)) (purged purges sparing (W.rest walk.old)) result }
 {
-    if left > 0 && may_empty(entry, sparing) {
+    find_purgeable_in(walk, purges, sparing)
+}
+
+/// The purges left after a block that is Free or is emptied; none where it stays.
+pub fn left_after(block: Seen, left: u32, sparing: Sparing) -> Option<u32>
+    ensures { (b : Block) → seen b ≡ block → result ≡ left_past (spared sparing) left (opened_block sparing b) }
+{
+    if left > 0 && may_be_emptied(block, sparing) {
         Some(left - 1)
-    } else if counts_free(entry, sparing) {
+    } else if is_counted_free(block, sparing) {
         Some(left)
     } else {
         None
     }
 }
 
-/// The index above the block of a slot, where it stays after so many purges, and the purges left there.
-fn above_slot(
-    entries: &[StoredBlock],
-    number: u32,
-    purges: u32,
-    sparing: Sparing,
-) -> Option<(usize, u32)>
-    ensures within { IfSome result (λ r. r.0 ≤ length entries.now) }
+/// Goes on behind the block of a slot, where it stays after so many purges; the purges left there.
+fn go_behind<W: Walk>(walk: &mut W, number: u32, purges: u32, sparing: Sparing) -> Option<u32>
     ensures above { option_map (λ s. s.above)
-        (spot (is_relocatable number) (emptied purges (spared sparing) (opened sparing (blocks_of entries.now))))
-        ≡ option_map (λ r. emptied r.1 (spared sparing) (opened sparing (drop r.0 (blocks_of entries.now)))) result }
+        (spot (is_relocatable number) (emptied purges (spared sparing) (opened sparing (W.rest walk.old))))
+        ≡ option_map (λ left. emptied left (spared sparing) (opened sparing (W.rest walk.new))) result }
+    ensures less { sizes (W.rest walk.new) ≤ sizes (W.rest walk.old) }
 {
     let mut left = purges;
-    for (i, entry) in entries.iter().enumerate() {
-        let next = left_after(entry, left, sparing);
-        if next.is_none() && is_of_slot(entry, number) {
-            return Some((i + 1, left));
+    while let Some(block) = walk.next_block() {
+        let next = left_after(block, left, sparing);
+        if next.is_none() && is_of(block, number) {
+            return Some(left);
         }
         left = next.unwrap_or(left);
     }
@@ -97,37 +91,36 @@ fn above_slot(
 }
 
 /// The bytes of the Free blocks that come first, after so many purges.
-#[tactic(auto, using(crate::proofs::Zone::Listing::entry_fits))]
-fn free_first(entries: &[StoredBlock], purges: u32, sparing: Sparing) -> u32
-    requires { sizes (blocks_of entries.now) < 2 ^ 32 }
-    ensures { result ≡ leading_free (spared sparing) purges (opened sparing (blocks_of entries.now)) }
+fn free_first_in<W: Walk>(walk: &mut W, purges: u32, sparing: Sparing) -> u32
+    requires { sizes (W.rest walk.old) < 2 ^ 32 }
+    ensures { result ≡ leading_free (spared sparing) purges (opened sparing (W.rest walk.old)) }
 {
     let mut left = purges;
     let mut total = 0;
-    for entry in entries {
-        let Some(next) = left_after(entry, left, sparing) else {
+    while let Some(block) = walk.next_block() {
+        let Some(next) = left_after(block, left, sparing) else {
             return total;
         };
         left = next;
-        total += entry_size(entry);
+        total += size_of_seen(block);
     }
     total
 }
 
 /// Whether so many Free bytes follow the block of a slot, after so many purges.
-pub fn room_follows(
-    entries: &[StoredBlock],
+pub fn room_above_in<W: Walk>(
+    walk: &mut W,
     number: u32,
     bytes: u32,
     purges: u32,
     sparing: Sparing,
 ) -> bool
-    requires { sizes (blocks_of entries.now) < 2 ^ 32 }
-    ensures { IfSome (spot (is_relocatable number) (purged purges sparing (blocks_of entries.now))) (λ s.
+    requires { sizes (W.rest walk.old) < 2 ^ 32 }
+    ensures { IfSome (spot (is_relocatable number) (purged purges sparing (W.rest walk.old))) (λ s.
         result ≡ is_some (taken bytes s.above)) }
 {
-    let Some((i, left)) = above_slot(entries, number, purges, sparing) else {
+    let Some(left) = go_behind(walk, number, purges, sparing) else {
         return false;
     };
-    suffices(free_first(&entries[i..], left, sparing), bytes)
+    suffices(free_first_in(walk, left, sparing), bytes)
 }

@@ -34,7 +34,7 @@ fn is_free_entry(entry: &StoredBlock) -> bool
 }
 
 /// The index at the bottom of the run at a place.
-fn run_start(entries: &[StoredBlock], place: u32) -> Option<usize>
+pub fn run_start(entries: &[StoredBlock], place: u32) -> Option<usize>
     requires { sizes (blocks_of entries.now) < 2 ^ 32 }
     ensures { MatchOption result (run_at place (blocks_of entries.now) ≡ None)
         (λ i. (i ≤ length entries.now)

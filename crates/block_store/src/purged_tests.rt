@@ -2,7 +2,8 @@
 
 use super::{BlockStore, Flags, ListStore, Sparing};
 use crate::entries::StoredBlock;
-use crate::purged_sums::{purged_free, purged_largest};
+use crate::list_walk::walk_over;
+use crate::purged_sums::{free_after_in, largest_after_in};
 use crate::tests::make;
 use std::test::Fail;
 
@@ -19,6 +20,9 @@ const LOCKED: Flags = Flags {
 
 // Sets the flags of a slot's block.
 fn flag(store: &mut ListStore, number: u32, flags: Flags) {
+    if !store.is_handle(number) {
+        return;
+    }
     if let Some(place) = store.place_of(number) {
         store.set_flags(place, flags);
     }
@@ -52,19 +56,19 @@ fn neighbours_that_would_be_emptied_are_one_stretch(rt: HostRuntime) -> Result<(
         (3, Sparing::Freed(5), 144, 80),
     ] {
         assert_eq!(rt;
-            purged_free(&entries, purges, sparing),
+            free_after_in(&mut walk_over(&entries), purges, sparing),
             free,
             "after {purges} purges"
         );
         assert_eq!(rt;
-            purged_largest(&entries, purges, sparing),
+            largest_after_in(&mut walk_over(&entries), purges, sparing),
             largest,
             "after {purges} purges"
         );
     }
-    assert_eq!(rt; purged_free(&[], 1, Sparing::Nothing), 0);
+    assert_eq!(rt; free_after_in(&mut walk_over(&[]), 1, Sparing::Nothing), 0);
     assert_eq!(rt;
-        purged_largest(&[StoredBlock::Masters], 1, Sparing::Nothing),
+        largest_after_in(&mut walk_over(&[StoredBlock::Masters]), 1, Sparing::Nothing),
         0
     );
     Ok(())

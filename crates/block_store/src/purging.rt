@@ -2,15 +2,27 @@
 
 ghost use Rattle.std.specs.Prelude.{◌≡◌, ◌+◌, ◌≤◌, ◌<◌, ◌^◌, ◌∷◌, ◌++◌, take, drop, length, vec_len, IsSome, IfSome};
 ghost use Rattle.block_store.specs.Block.{sizes, tidy};
-ghost use Rattle.block_store.specs.Room.{spot_at, emptied};
+ghost use Rattle.block_store.specs.Room.{spot_at, may_go, emptied};
 ghost use Rattle.block_store.specs.Sparing.{spared, opened, purged};
 ghost use Rattle.block_store.specs.Seen.{with_flags};
 ghost use Rattle.block_store.specs.Inner.ListStore.{block_of, blocks_of};
 
 use crate::entries::{StoredBlock, entry_size, free_slot, index_at, tidy_entries};
 use crate::flags::Flags;
-use crate::runs::may_go_now;
 use crate::sparing::Sparing;
+use crate::walk::is_spared;
+
+/// Whether an entry's block may be emptied as it stands.
+fn may_go_at(entry: &StoredBlock, sparing: Sparing) -> bool
+    ensures { result ≡ may_go (spared sparing) (block_of entry.now) }
+{
+    match entry {
+        StoredBlock::Relocatable(slot, flags, _) => {
+            !flags.locked && flags.purgeable && !is_spared(*slot, sparing)
+        }
+        _ => false,
+    }
+}
 
 /// Makes the entry at an index Free where purges are left and it may be emptied; the purges left above it.
 fn empty_at(entries: &mut Vec<StoredBlock>, i: usize, left: u32, sparing: Sparing) -> u32
@@ -23,7 +35,7 @@ fn empty_at(entries: &mut Vec<StoredBlock>, i: usize, left: u32, sparing: Sparin
     ensures many { length entries.new.items ≡ length entries.old.items }
 {
     let entry = &entries[i];
-    if left > 0 && may_go_now(entry, sparing) {
+    if left > 0 && may_go_at(entry, sparing) {
         let bytes = entry_size(entry);
         entries[i] = StoredBlock::Free(bytes);
         left - 1

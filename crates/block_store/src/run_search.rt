@@ -1,17 +1,17 @@
-//! The search for a run in a list of blocks, some of which would be emptied.
+//! The search for a run among blocks, some of which would be emptied.
 
-ghost use Rattle.std.specs.Prelude.{◌≡◌, ◌+◌, ◌≤◌, ◌<◌, ◌^◌, ◌&&◌, ◌∷◌, List, not, nat_le, IfSome};
+ghost use Rattle.std.specs.Prelude.{◌≡◌, ◌+◌, ◌≤◌, ◌<◌, ◌^◌, ◌&&◌, ◌∷◌, List, nat_le, IfSome};
 ghost use Rattle.std.specs.Option.{option_map};
-ghost use Rattle.block_store.specs.Block.{Block, size, sizes};
-ghost use Rattle.block_store.specs.Run.{in_run, run_spot};
+ghost use Rattle.block_store.specs.Block.{Block, sizes, is_relocatable};
+ghost use Rattle.block_store.specs.Run.{run_spot, has, has_free};
+ghost use Rattle.block_store.specs.Find.{FindsLowestRun};
 ghost use Rattle.block_store.specs.Sparing.{spared, opened, purged};
-ghost use Rattle.block_store.specs.Inner.ListStore.{block_of, blocks_of};
+ghost use Rattle.block_store.specs.Seen.{seen};
+ghost use Rattle.block_store.specs.Walk.{seen_size};
 ghost use Rattle.block_store.specs.Inner.RunScan.{is_wanted, suits, scan_runs, after_runs};
 
-use crate::entries::{StoredBlock, entry_size};
-use crate::packing::is_loose;
-use crate::sparing::Sparing;
-use crate::stretch::{counts_free, may_empty};
+use crate::sparing::{Seen, Sparing};
+use crate::walk::{Walk, is_counted_free, is_in_run, may_be_emptied, size_of_seen};
 
 /// How far a search is: the purges left, where the run began, its Free bytes so far, whether it has the
 /// block that it must have, and the place.
@@ -24,19 +24,12 @@ pub struct RunScan {
     pub place: u32,
 }
 
-/// Whether an entry's block ends a run.
-pub fn ends_run(entry: &StoredBlock) -> bool
-    ensures { result ≡ not (in_run (block_of entry.now)) }
+/// Whether a block is the one that a run must have.
+fn is_block_wanted(block: Seen, number: Option<u32>) -> bool
+    ensures { (b : Block) → seen b ≡ block → result ≡ is_wanted number b }
 {
-    !is_loose(entry)
-}
-
-/// Whether an entry's block is the one that a run must have.
-fn is_entry_wanted(entry: &StoredBlock, number: Option<u32>) -> bool
-    ensures { result ≡ is_wanted number (block_of entry.now) }
-{
-    match (entry, number) {
-        (StoredBlock::Relocatable(slot, _, _), Some(number)) => *slot == number,
+    match (block, number) {
+        (Seen::Relocatable(slot, _, _), Some(number)) => slot == number,
         _ => false,
     }
 }
@@ -48,37 +41,37 @@ fn is_enough(scan: RunScan, bytes: u32) -> bool
     scan.met && bytes <= scan.free
 }
 
-/// The search after an entry; none where the run is the one.
+/// The search after a block; none where the run is the one.
 fn scan_run(
-    entry: &StoredBlock,
+    block: Seen,
     number: Option<u32>,
     bytes: u32,
     scan: RunScan,
     sparing: Sparing,
 ) -> Option<RunScan>
-    requires room { scan.place + size (block_of entry.now) < 2 ^ 32 }
+    requires room { scan.place + seen_size block < 2 ^ 32 }
     requires free { scan.free ≤ scan.place }
-    ensures scan { (above : List Block)
+    ensures scan { (b : Block) (above : List Block) → seen b ≡ block
         → scan_runs number bytes (spared sparing) scan.left scan.start scan.free scan.met scan.place
-        (opened sparing (block_of entry.now ∷ above))
+        (opened sparing (b ∷ above))
         ≡ after_runs number bytes (spared sparing) scan.start result (opened sparing above) }
-    ensures place { IfSome result (λ s. s.place ≡ scan.place + size (block_of entry.now)) }
+    ensures place { IfSome result (λ s. s.place ≡ scan.place + seen_size block) }
     ensures free { IfSome result (λ s. s.free ≤ s.place) }
 {
-    let size = entry_size(entry);
+    let size = size_of_seen(block);
     let mut next = scan;
     next.place += size;
-    if scan.left > 0 && may_empty(entry, sparing) {
+    if scan.left > 0 && may_be_emptied(block, sparing) {
         next.left -= 1;
         next.free += size;
         return Some(next);
     }
-    if counts_free(entry, sparing) {
+    if is_counted_free(block, sparing) {
         next.free += size;
         return Some(next);
     }
-    if !ends_run(entry) {
-        next.met = scan.met || is_entry_wanted(entry, number);
+    if is_in_run(block) {
+        next.met = scan.met || is_block_wanted(block, number);
         return Some(next);
     }
     if is_enough(scan, bytes) {
@@ -92,17 +85,16 @@ fn scan_run(
 
 /// The place of the lowest run that has so many Free bytes after so many purges, and the block of a slot
 /// where one is given.
-#[tactic(auto, using(crate::proofs::Zone::Listing::entry_fits))]
-pub fn search_runs(
-    entries: &[StoredBlock],
+pub fn search_runs_in<W: Walk>(
+    walk: &mut W,
     number: Option<u32>,
     bytes: u32,
     purges: u32,
     sparing: Sparing,
 ) -> Option<u32>
-    requires { sizes (blocks_of entries.now) < 2 ^ 32 }
+    requires { sizes (W.rest walk.old) < 2 ^ 32 }
     ensures { result ≡ option_map (λ r. sizes r.below)
-        (run_spot (suits number bytes) (purged purges sparing (blocks_of entries.now))) }
+        (run_spot (suits number bytes) (purged purges sparing (W.rest walk.old))) }
 {
     let mut scan = RunScan {
         left: purges,
@@ -111,11 +103,34 @@ pub fn search_runs(
         met: number.is_none(),
         place: 0,
     };
-    for entry in entries {
-        let Some(next) = scan_run(entry, number, bytes, scan, sparing) else {
+    while let Some(block) = walk.next_block() {
+        let Some(next) = scan_run(block, number, bytes, scan, sparing) else {
             return Some(scan.start);
         };
         scan = next;
     }
     is_enough(scan, bytes).then_some(scan.start)
+}
+
+/// The lowest run with at least so many Free bytes, after so many purges.
+pub fn find_run_in<W: Walk>(walk: &mut W, bytes: u32, purges: u32, sparing: Sparing) -> Option<u32>
+    requires { sizes (W.rest walk.old) < 2 ^ 32 }
+    ensures { FindsLowestRun (has_free bytes) (purged purges sparing (W.rest walk.old)) result }
+{
+    search_runs_in(walk, None, bytes, purges, sparing)
+}
+
+/// The run of the block of a slot, if it has so many Free bytes after so many purges.
+pub fn run_of_in<W: Walk>(
+    walk: &mut W,
+    number: u32,
+    bytes: u32,
+    purges: u32,
+    sparing: Sparing,
+) -> Option<u32>
+    requires { sizes (W.rest walk.old) < 2 ^ 32 }
+    ensures { FindsLowestRun (λ run. has (is_relocatable number) run && has_free bytes run)
+        (purged purges sparing (W.rest walk.old)) result }
+{
+    search_runs_in(walk, Some(number), bytes, purges, sparing)
 }

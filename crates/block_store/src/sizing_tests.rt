@@ -4,7 +4,7 @@ ghost use Rattle.std.specs.Prelude.{◌≡◌, ◌≤◌};
 ghost use Rattle.mac_words.specs.Size.{padded};
 
 use super::{BlockStore, ListStore, Sparing};
-use crate::tests::{make, put, shown};
+use crate::tests::{make, place, put, release, shown};
 use std::alloc::AllocError;
 use std::test::Fail;
 
@@ -18,6 +18,9 @@ fn taken(bytes: u32) -> u32
 
 // Gives a slot's block fewer bytes, or as many as it has.
 fn cut(store: &mut ListStore, number: u32, bytes: u32) -> Result<bool, AllocError> {
+    if !store.is_handle(number) {
+        return Ok(false);
+    }
     let Some(place) = store.place_of(number) else {
         return Ok(false);
     };
@@ -32,6 +35,9 @@ fn cut(store: &mut ListStore, number: u32, bytes: u32) -> Result<bool, AllocErro
 fn grown(store: &mut ListStore, number: u32, was: u32, bytes: u32) -> Result<bool, AllocError>
     requires { was ≤ bytes × bytes ≤ 1024 }
 {
+    if !store.is_handle(number) {
+        return Ok(false);
+    }
     let Some(place) = store.place_of(number) else {
         return Ok(false);
     };
@@ -55,7 +61,7 @@ fn grown(store: &mut ListStore, number: u32, was: u32, bytes: u32) -> Result<boo
 fn moved(store: &mut ListStore, number: u32, bytes: u32) -> Result<bool, AllocError>
     requires { bytes ≤ 1024 }
 {
-    if store.place_of(number).is_none() {
+    if !store.is_handle(number) || store.place_of(number).is_none() {
         return Ok(false);
     }
     let Some(place) = store.find_free(taken(bytes), 0, Sparing::Nothing) else {
@@ -76,8 +82,8 @@ fn a_block_is_cut_where_it_stands(rt: HostRuntime) -> Result<(), Fail> {
     assert_eq!(rt; store.find_free(1, 0, Sparing::Nothing), Some(336));
     assert!(rt; cut(&mut store, a, 3)?);
     assert_eq!(rt; shown(&store, a), Some(b"Mac".as_slice()));
-    assert_eq!(rt; store.place_of(a), Some(272));
-    assert_eq!(rt; store.place_of(b), Some(400));
+    assert_eq!(rt; place(&store, a), Some(272));
+    assert_eq!(rt; place(&store, b), Some(400));
     assert_eq!(rt; store.free_bytes(), 688);
     assert_eq!(rt; store.find_free(97, 0, Sparing::Nothing), Some(432));
     assert!(rt; !cut(&mut store, a, 4)?);
@@ -95,14 +101,14 @@ fn a_block_moves_at_another_size(rt: HostRuntime) -> Result<(), Fail> {
     assert!(rt; put(&mut store, a, 0, b"Disk"));
     assert!(rt; put(&mut store, b, 0, b"Finder"));
     assert!(rt; moved(&mut store, a, 6)?);
-    assert_eq!(rt; store.place_of(a), Some(352));
+    assert_eq!(rt; place(&store, a), Some(352));
     assert_eq!(rt;
         shown(&store, a),
         Some([68, 105, 115, 107, 0, 0].as_slice())
     );
     assert_eq!(rt; store.free_bytes(), 672);
     assert!(rt; moved(&mut store, b, 3)?);
-    assert_eq!(rt; store.place_of(b), Some(272));
+    assert_eq!(rt; place(&store, b), Some(272));
     assert_eq!(rt; shown(&store, b), Some(b"Fin".as_slice()));
     assert_eq!(rt; store.free_bytes(), 688);
     assert_eq!(rt; store.find_free(48, 0, Sparing::Nothing), Some(304));
@@ -118,13 +124,13 @@ fn a_block_grows_into_the_free_one_above(rt: HostRuntime) -> Result<(), Fail> {
     let c = make(&mut store, 1)?.expect(&rt, "room for a block");
     assert!(rt; put(&mut store, a, 0, b"Disk"));
     assert!(rt; !grown(&mut store, a, 4, 17)?);
-    store.release(b);
+    release(&mut store, b);
     assert!(rt; grown(&mut store, a, 4, 17)?);
     assert_eq!(rt; store.free_bytes(), 672);
     assert_eq!(rt; store.find_free(1, 0, Sparing::Nothing), Some(320));
     assert!(rt; grown(&mut store, a, 17, 64)?);
-    assert_eq!(rt; store.place_of(a), Some(272));
-    assert_eq!(rt; store.place_of(c), Some(352));
+    assert_eq!(rt; place(&store, a), Some(272));
+    assert_eq!(rt; place(&store, c), Some(352));
     assert_eq!(rt; store.free_bytes(), 640);
     assert_eq!(rt; store.find_free(1, 0, Sparing::Nothing), Some(384));
     let bytes = shown(&store, a).expect(&rt, "a block");
@@ -148,12 +154,12 @@ fn a_refused_size_changes_no_block(rt: HostRuntime) -> Result<(), Fail> {
         assert!(rt; grown(&mut store, a, 4, 40)?);
     }
     if moved(&mut store, a, 6).is_err() {
-        assert_eq!(rt; store.place_of(a), Some(272));
+        assert_eq!(rt; place(&store, a), Some(272));
         assert_eq!(rt; store.free_bytes(), 688);
         assert!(rt; moved(&mut store, a, 6)?);
     }
     if cut(&mut store, a, 2).is_err() {
-        assert_eq!(rt; store.place_of(a), Some(336));
+        assert_eq!(rt; place(&store, a), Some(336));
         assert_eq!(rt; store.free_bytes(), 720);
         assert!(rt; cut(&mut store, a, 2)?);
     }

@@ -12,8 +12,8 @@ ghost use Rattle.windows.specs.Writes.{written};
 ghost use Rattle.block_store.specs.Run.{has, has_free, settle, low, high, with_run, run_at, segments};
 ghost use Rattle.block_store.specs.Room.{spot, spot_at, filled, may_go, emptied, count_of};
 ghost use Rattle.block_store.specs.Grow.{freed, grow_up, taken};
-ghost use Rattle.block_store.specs.Find.{FindsLowest, FindsLowestRun};
-ghost use Rattle.block_store.specs.Compact.{largest_free, largest_run, FindsRun, NoneRises, lowered, Aligned, Placed};
+ghost use Rattle.block_store.specs.Find.{FindsLowest, FindsLowestRun, IsEdge};
+ghost use Rattle.block_store.specs.Compact.{largest_free, largest_run, next_run, NoneRises, lowered, Aligned, Placed};
 ghost use Rattle.block_store.specs.Slot.{Unused, Used, is_used, is_resource};
 ghost use Rattle.block_store.specs.Sparing.{purged, spared};
 ghost use Rattle.block_store.specs.Rest.{Rest, IsRest, with_slot, with_moves, falling};
@@ -62,12 +62,14 @@ pub trait BlockStore {
     fn moves(&self) -> u64
         ensures { result ≡ (rest self.now).moves };
 
-    /// The block at a place, if one begins there.
+    /// The block at a place where one begins; none at the zone's end.
     fn block_at(&self, place: u32) -> Option<Seen>
+        requires { IsEdge place (zone self.now) }
         ensures { result ≡ option_map (λ s. seen s.here) (spot_at place (zone self.now)) };
 
-    /// The place of the block that a slot leads to.
+    /// The place of the block that a handle's slot leads to; none where the handle is emptied.
     fn place_of(&self, number: u32) -> Option<u32>
+        requires { IsTrue (is_used ((rest self.now).slots number)) }
         ensures { FindsLowest (is_relocatable number) (zone self.now) result };
 
     /// The place of the lowest Free block of at least so many bytes, after so many purges.
@@ -78,9 +80,10 @@ pub trait BlockStore {
     fn find_run(&self, bytes: u32, purges: u32, sparing: Sparing) -> Option<u32>
         ensures { FindsLowestRun (has_free bytes) (purged purges sparing (zone self.now)) result };
 
-    /// The run of an index, counted from 0 at the lowest.
-    fn nth_run(&self, index: u32) -> Option<u32>
-        ensures { FindsRun index (zone self.now) result };
+    /// The run above a run; none above the highest. The lowest run is at place 0.
+    fn next_run(&self, run: u32) -> Option<u32>
+        requires { IsSome (run_at run (zone self.now)) }
+        ensures { IfSome (run_at run (zone self.now)) (λ r. result ≡ next_run r) };
 
     /// The place of the block that is emptied next, after so many purges.
     fn next_purgeable(&self, purges: u32, sparing: Sparing) -> Option<u32>
@@ -145,6 +148,7 @@ pub trait BlockStore {
     fn raise(&mut self, run: u32, bytes: u32) -> Result<(), AllocError>
         requires run { IsSomeAnd (run_at run (zone self.old)) (λ r. IsTrue (has_free bytes r.run)) }
         requires even { bytes % UNIT ≡ 0 }
+        requires some { 0 < bytes }
         ensures ok { OnOk result
             (IfSome (run_at run (zone self.old)) (λ r. zone self.new ≡ tidy (with_run (low (Free bytes)) r))) }
         ensures rest { IsRest (rest self.old) (rest self.new) }
@@ -201,8 +205,9 @@ pub trait BlockStore {
         ensures zone { zone self.new ≡ tidy (freed (is_fixed place) (zone self.old)) }
         ensures rest { IsRest (rest self.old) (rest self.new) };
 
-    /// Makes the block that a slot leads to Free.
+    /// Makes the block that a handle's slot leads to Free; does nothing where the handle is emptied.
     fn release(&mut self, number: u32)
+        requires { IsTrue (is_used ((rest self.old).slots number)) }
         ensures zone { zone self.new ≡ tidy (freed (is_relocatable number) (zone self.old)) }
         ensures rest { IsRest (rest self.old) (rest self.new) };
 
@@ -256,8 +261,9 @@ pub trait BlockStore {
         ensures rest { IsRest (with_slot number Unused ((rest self.old).unused + 1) (rest self.old)) (rest self.new) }
         ensures zone { zone self.new ≡ zone self.old };
 
-    /// Whether a number is the slot of a resource's handle: its resource flag is set.
+    /// Whether the resource flag of a handle's slot is set.
     fn is_resource(&self, number: u32) -> bool
+        requires { IsTrue (is_used ((rest self.now).slots number)) }
         ensures { result ≡ is_resource ((rest self.now).slots number) };
 
     /// Sets or clears the resource flag of a handle's slot, whether the handle has a block or is emptied.

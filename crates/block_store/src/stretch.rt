@@ -1,15 +1,17 @@
-//! The search for room in a list of blocks, some of which would be emptied.
+//! The search for room among blocks, some of which would be emptied.
 
-ghost use Rattle.std.specs.Prelude.{◌≡◌, ◌+◌, ◌≤◌, ◌<◌, ◌^◌, ◌&&◌, ◌∷◌, List, nat_lt, IfSome};
+ghost use Rattle.std.specs.Prelude.{◌≡◌, ◌+◌, ◌≤◌, ◌<◌, ◌^◌, ◌∷◌, List, IfSome};
 ghost use Rattle.std.specs.Option.{option_map};
-ghost use Rattle.block_store.specs.Block.{Block, size, sizes, is_room};
-ghost use Rattle.block_store.specs.Room.{spot, may_go};
+ghost use Rattle.block_store.specs.Block.{Block, sizes, is_room};
+ghost use Rattle.block_store.specs.Room.{spot};
+ghost use Rattle.block_store.specs.Find.{FindsLowest};
 ghost use Rattle.block_store.specs.Sparing.{spared, opened, purged};
-ghost use Rattle.block_store.specs.Inner.ListStore.{block_of, blocks_of};
-ghost use Rattle.block_store.specs.Inner.Stretch.{is_free, opened_block, names, is_enough, stretch, after_scan};
+ghost use Rattle.block_store.specs.Seen.{seen};
+ghost use Rattle.block_store.specs.Walk.{seen_size};
+ghost use Rattle.block_store.specs.Inner.Stretch.{is_enough, stretch, after_scan};
 
-use crate::entries::{StoredBlock, entry_size};
-use crate::sparing::Sparing;
+use crate::sparing::{Seen, Sparing};
+use crate::walk::{Walk, is_counted_free, may_be_emptied, size_of_seen};
 
 /// How far a search is: the purges left, where the stretch began, its bytes so far, and the place.
 #[derive(Clone, Copy, Debug, PartialEq, Eq)]
@@ -20,41 +22,6 @@ pub struct Scan {
     pub place: u32,
 }
 
-/// Whether an entry's block is Free, or counts as Free.
-pub fn counts_free(entry: &StoredBlock, sparing: Sparing) -> bool
-    ensures { result ≡ is_free (opened_block sparing (block_of entry.now)) }
-{
-    match (entry, sparing) {
-        (StoredBlock::Free(_), _) => true,
-        (StoredBlock::Relocatable(slot, _, _), Sparing::Freed(freed)) => *slot == freed,
-        _ => false,
-    }
-}
-
-/// Whether a call names a slot.
-fn is_named(slot: u32, sparing: Sparing) -> bool
-    ensures { result ≡ names sparing slot }
-{
-    match sparing {
-        Sparing::Nothing => false,
-        Sparing::One(one) => slot == one,
-        Sparing::Two(one, other) => slot == one || slot == other,
-        Sparing::Freed(freed) => slot == freed,
-    }
-}
-
-/// Whether an entry's block is emptied where purges are left.
-pub fn may_empty(entry: &StoredBlock, sparing: Sparing) -> bool
-    ensures { result ≡ may_go (spared sparing) (opened_block sparing (block_of entry.now)) }
-{
-    match entry {
-        StoredBlock::Relocatable(slot, flags, _) => {
-            !flags.locked && flags.purgeable && !is_named(*slot, sparing)
-        }
-        _ => false,
-    }
-}
-
 /// Whether a stretch is room for so many bytes.
 pub fn suffices(free: u32, bytes: u32) -> bool
     ensures { result ≡ is_enough bytes free }
@@ -62,19 +29,19 @@ pub fn suffices(free: u32, bytes: u32) -> bool
     free > 0 && bytes <= free
 }
 
-/// The search after an entry; none where the stretch is the one.
-fn scan_entry(entry: &StoredBlock, bytes: u32, scan: Scan, sparing: Sparing) -> Option<Scan>
-    requires room { scan.place + size (block_of entry.now) < 2 ^ 32 }
+/// The search after a block; none where the stretch is the one.
+fn scan_block(block: Seen, bytes: u32, scan: Scan, sparing: Sparing) -> Option<Scan>
+    requires room { scan.place + seen_size block < 2 ^ 32 }
     requires free { scan.free ≤ scan.place }
-    ensures scan { (above : List Block)
-        → stretch bytes (spared sparing) scan.left scan.start scan.free scan.place (opened sparing
-        (block_of entry.now ∷ above)) ≡ after_scan bytes (spared sparing) scan.start result (opened sparing above) }
-    ensures place { IfSome result (λ s. s.place ≡ scan.place + size (block_of entry.now)) }
+    ensures scan { (b : Block) (above : List Block) → seen b ≡ block
+        → stretch bytes (spared sparing) scan.left scan.start scan.free scan.place (opened sparing (b ∷ above))
+        ≡ after_scan bytes (spared sparing) scan.start result (opened sparing above) }
+    ensures place { IfSome result (λ s. s.place ≡ scan.place + seen_size block) }
     ensures free { IfSome result (λ s. s.free ≤ s.place) }
 {
-    let size = entry_size(entry);
+    let size = size_of_seen(block);
     let place = scan.place + size;
-    if scan.left > 0 && may_empty(entry, sparing) {
+    if scan.left > 0 && may_be_emptied(block, sparing) {
         return Some(Scan {
             left: scan.left - 1,
             start: scan.start,
@@ -82,7 +49,7 @@ fn scan_entry(entry: &StoredBlock, bytes: u32, scan: Scan, sparing: Sparing) -> 
             place,
         });
     }
-    if counts_free(entry, sparing) {
+    if is_counted_free(block, sparing) {
         return Some(Scan {
             left: scan.left,
             start: scan.start,
@@ -102,11 +69,10 @@ fn scan_entry(entry: &StoredBlock, bytes: u32, scan: Scan, sparing: Sparing) -> 
 }
 
 /// The place of the lowest stretch that is room for so many bytes, after so many purges.
-#[tactic(auto, using(crate::proofs::Zone::Listing::entry_fits))]
-pub fn find_room(entries: &[StoredBlock], bytes: u32, purges: u32, sparing: Sparing) -> Option<u32>
-    requires { sizes (blocks_of entries.now) < 2 ^ 32 }
+fn find_room_in<W: Walk>(walk: &mut W, bytes: u32, purges: u32, sparing: Sparing) -> Option<u32>
+    requires { sizes (W.rest walk.old) < 2 ^ 32 }
     ensures { result ≡ option_map (λ s. sizes s.below)
-        (spot (is_room bytes) (purged purges sparing (blocks_of entries.now))) }
+        (spot (is_room bytes) (purged purges sparing (W.rest walk.old))) }
 {
     let mut scan = Scan {
         left: purges,
@@ -114,11 +80,19 @@ pub fn find_room(entries: &[StoredBlock], bytes: u32, purges: u32, sparing: Spar
         free: 0,
         place: 0,
     };
-    for entry in entries {
-        let Some(next) = scan_entry(entry, bytes, scan, sparing) else {
+    while let Some(block) = walk.next_block() {
+        let Some(next) = scan_block(block, bytes, scan, sparing) else {
             return Some(scan.start);
         };
         scan = next;
     }
     suffices(scan.free, bytes).then_some(scan.start)
+}
+
+/// The place of the lowest Free block of at least so many bytes, after so many purges.
+pub fn find_free_in<W: Walk>(walk: &mut W, bytes: u32, purges: u32, sparing: Sparing) -> Option<u32>
+    requires { sizes (W.rest walk.old) < 2 ^ 32 }
+    ensures { FindsLowest (is_room bytes) (purged purges sparing (W.rest walk.old)) result }
+{
+    find_room_in(walk, bytes, purges, sparing)
 }

@@ -1,9 +1,10 @@
-ghost use Rattle.std.specs.Prelude.{◌≤◌};
+ghost use Rattle.std.specs.Prelude.{◌≤◌, ◌<◌};
 
 use super::{BlockStore, Flags, ListStore, Seen, Sparing};
 use crate::entries::StoredBlock;
-use crate::run_search::search_runs;
-use crate::runs::{has_free_above, most_free, most_free_of_runs, place_of_run, purgeable_above};
+use crate::list_walk::{has_free_above, purgeable_above, run_above, walk_over};
+use crate::run_search::search_runs_in;
+use crate::runs::{largest_free_in, largest_run_in};
 use std::alloc::AllocError;
 use std::test::Fail;
 
@@ -33,14 +34,51 @@ pub(crate) fn make(store: &mut ListStore, size: u32) -> Result<Option<u32>, Allo
     Ok(Some(number))
 }
 
+// The place of a slot's block, where the slot is a handle's.
+pub(crate) fn place(store: &ListStore, number: u32) -> Option<u32> {
+    if store.is_handle(number) {
+        store.place_of(number)
+    } else {
+        None
+    }
+}
+
+// Makes a slot's block Free, where the slot is a handle's.
+pub(crate) fn release(store: &mut ListStore, number: u32) {
+    if store.is_handle(number) {
+        store.release(number);
+    }
+}
+
+// The block at a place, where one begins there or the zone ends.
+pub(crate) fn block_at(store: &ListStore, place: u32) -> Option<Seen> {
+    if store.is_edge(place) {
+        store.block_at(place)
+    } else {
+        None
+    }
+}
+
+// The run above the run at a place, where there is one at the place.
+fn next_run(store: &ListStore, run: u32) -> Option<u32> {
+    store.run_bytes(run)?;
+    store.next_run(run)
+}
+
 // The bytes of a slot's block.
 pub(crate) fn shown(store: &ListStore, number: u32) -> Option<&[u8]> {
+    if !store.is_handle(number) {
+        return None;
+    }
     let place = store.place_of(number)?;
     Some(store.bytes(place))
 }
 
 // Writes bytes into a slot's block, where they have room there.
 pub(crate) fn put(store: &mut ListStore, number: u32, from: u32, bytes: &[u8]) -> bool {
+    if !store.is_handle(number) {
+        return false;
+    }
     let Some(place) = store.place_of(number) else {
         return false;
     };
@@ -54,6 +92,9 @@ pub(crate) fn put(store: &mut ListStore, number: u32, from: u32, bytes: &[u8]) -
 
 // Whether so many Free bytes are in the run above a slot's block.
 fn room_after(store: &ListStore, number: u32, bytes: u32) -> Option<bool> {
+    if !store.is_handle(number) {
+        return None;
+    }
     let place = store.place_of(number)?;
     Some(store.run_after(place, bytes, 0, Sparing::Nothing))
 }
@@ -65,7 +106,8 @@ fn take_and_give(store: &mut ListStore) -> Option<u32> {
     Some(number)
 }
 
-// The resource flag of a new slot, once it is set, once it is cleared, and once it is set and the slot given back.
+// The resource flag of a new slot, once it is set, once it is cleared, and once it is set and the slot given back
+// and taken again.
 fn resource_flags(store: &mut ListStore) -> Option<[bool; 4]> {
     let number = store.take_slot()?;
     let new = store.is_resource(number);
@@ -75,11 +117,15 @@ fn resource_flags(store: &mut ListStore) -> Option<[bool; 4]> {
     let cleared = store.is_resource(number);
     store.set_resource(number, true);
     store.give_slot(number);
-    Some([new, set, cleared, store.is_resource(number)])
+    let again = store.take_slot()?;
+    Some([new, set, cleared, store.is_resource(again)])
 }
 
 // Sets the flags of a slot's block.
 fn flag(store: &mut ListStore, number: u32, locked: bool, purgeable: bool) {
+    if !store.is_handle(number) {
+        return;
+    }
     if let Some(place) = store.place_of(number) {
         store.set_flags(place, Flags { locked, purgeable });
     }
@@ -87,6 +133,9 @@ fn flag(store: &mut ListStore, number: u32, locked: bool, purgeable: bool) {
 
 // Empties blocks above a slot's block.
 fn purge_above(store: &mut ListStore, number: u32, purges: u32, sparing: Sparing) {
+    if !store.is_handle(number) {
+        return;
+    }
     if let Some(place) = store.place_of(number) {
         store.purge_after(place, purges, sparing);
     }
@@ -97,7 +146,6 @@ fn resource_flag_is_set_and_cleared(rt: HostRuntime) -> Result<(), Fail> {
     let mut store = ListStore::new(rt.alloc(), 1024)?;
     let flags = resource_flags(&mut store);
     assert_eq!(rt; flags, Some([false, true, false, false]));
-    assert!(rt; !store.is_resource(64));
     assert_eq!(rt; store.free_bytes(), 752);
     Ok(())
 }
@@ -110,12 +158,12 @@ fn blocks_come_and_go(rt: HostRuntime) -> Result<(), Fail> {
     let a = make(&mut store, 100)?.expect(&rt, "room for a block");
     let b = make(&mut store, 3)?.expect(&rt, "room for a block");
     assert!(rt; a != b);
-    assert_eq!(rt; store.place_of(a), Some(272));
-    assert_eq!(rt; store.place_of(b), Some(400));
+    assert_eq!(rt; place(&store, a), Some(272));
+    assert_eq!(rt; place(&store, b), Some(400));
     assert_eq!(rt; store.free_bytes(), 592);
-    store.release(a);
-    assert_eq!(rt; store.place_of(a), None);
-    assert_eq!(rt; store.place_of(b), Some(400));
+    release(&mut store, a);
+    assert_eq!(rt; place(&store, a), None);
+    assert_eq!(rt; place(&store, b), Some(400));
     assert_eq!(rt; store.free_bytes(), 720);
     for (bytes, place) in [
         (0, Some(272)),
@@ -137,7 +185,7 @@ fn blocks_come_and_go(rt: HostRuntime) -> Result<(), Fail> {
     ] {
         assert_eq!(rt; store.find_free(bytes, 2, sparing), place, "for {bytes}");
     }
-    store.release(b);
+    release(&mut store, b);
     assert_eq!(rt; store.find_free(752, 0, Sparing::Nothing), Some(272));
     Ok(())
 }
@@ -147,12 +195,11 @@ fn runs_are_looked_at(rt: HostRuntime) -> Result<(), Fail> {
     let mut store = ListStore::new(rt.alloc(), 1024)?;
     let a = make(&mut store, 100)?.expect(&rt, "room for a block");
     let b = make(&mut store, 3)?.expect(&rt, "room for a block");
-    store.release(a);
+    release(&mut store, a);
     assert_eq!(rt; store.largest_free(), 592);
     assert_eq!(rt; store.largest_run(), 720);
-    assert_eq!(rt; store.nth_run(0), Some(0));
-    assert_eq!(rt; store.nth_run(1), Some(272));
-    assert_eq!(rt; store.nth_run(2), None);
+    assert_eq!(rt; next_run(&store, 0), Some(272));
+    assert_eq!(rt; next_run(&store, 272), None);
     for (bytes, sparing, place) in [
         (0, Sparing::Nothing, Some(0)),
         (1, Sparing::Nothing, Some(272)),
@@ -207,7 +254,7 @@ fn purges_give_runs_room(rt: HostRuntime) -> Result<(), Fail> {
         (Some(4), 0, 0, Sparing::Nothing, None),
     ] {
         assert_eq!(rt;
-            search_runs(&entries, number, bytes, purges, sparing),
+            search_runs_in(&mut walk_over(&entries), number, bytes, purges, sparing),
             place,
             "for {bytes}"
         );
@@ -225,11 +272,11 @@ fn runs_end_at_barriers(rt: HostRuntime) -> Result<(), Fail> {
         StoredBlock::Relocatable(4, LOCKED, Vec::new(rt.alloc())),
         StoredBlock::Free(48),
     ];
-    assert_eq!(rt; most_free(&entries), 48);
-    assert_eq!(rt; most_free_of_runs(&entries), 48);
-    for (index, place) in [(0, Some(0)), (1, Some(272)), (2, Some(352)), (3, None)] {
-        assert_eq!(rt; place_of_run(&entries, index), place, "for {index}");
-    }
+    assert_eq!(rt; largest_free_in(&mut walk_over(&entries)), 48);
+    assert_eq!(rt; largest_run_in(&mut walk_over(&entries)), 48);
+    assert_eq!(rt; run_above(&entries, 0), Some(272));
+    assert_eq!(rt; run_above(&entries, 272), Some(352));
+    assert_eq!(rt; run_above(&entries, 352), None);
     for (bytes, purges, sparing, has_room) in [
         (32, 0, Sparing::Nothing, true),
         (48, 1, Sparing::Nothing, true),
@@ -258,9 +305,9 @@ fn new_bytes_are_zero(rt: HostRuntime) -> Result<(), Fail> {
     assert_eq!(rt; shown(&store, a), Some([0, 0, 72, 105, 0].as_slice()));
     assert!(rt; put(&mut store, a, 5, b""));
     assert!(rt; !put(&mut store, a, 4, b"Hi"));
-    store.release(a);
+    release(&mut store, a);
     let b = make(&mut store, 5)?.expect(&rt, "room for a block");
-    assert_eq!(rt; store.place_of(b), Some(272));
+    assert_eq!(rt; place(&store, b), Some(272));
     assert_eq!(rt; shown(&store, b), Some([0, 0, 0, 0, 0].as_slice()));
     assert_eq!(rt; shown(&store, a), None);
     Ok(())
@@ -299,7 +346,8 @@ fn hoist(store: &mut ListStore, run: u32, number: u32) -> bool {
 
 // Packs the run at a place upward, where it has so many strides of 16 Free bytes.
 fn raise(store: &mut ListStore, run: u32, strides: u32) -> Result<bool, AllocError>
-    requires { strides ≤ 1024 }
+    requires some { 0 < strides }
+    requires few { strides ≤ 1024 }
 {
     let Some(free) = store.run_bytes(run) else {
         return Ok(false);
@@ -319,25 +367,25 @@ fn runs_are_packed(rt: HostRuntime) -> Result<(), Fail> {
     let c = make(&mut store, 3)?.expect(&rt, "room for a block");
     let d = make(&mut store, 4)?.expect(&rt, "room for a block");
     assert!(rt; put(&mut store, d, 0, b"last"));
-    store.release(a);
-    store.release(c);
+    release(&mut store, a);
+    release(&mut store, c);
     assert_eq!(rt; store.find_free(32, 0, Sparing::Nothing), Some(272));
     assert!(rt; !settle(&mut store, 304));
     assert!(rt; settle(&mut store, 272));
-    assert_eq!(rt; store.place_of(b), Some(272));
-    assert_eq!(rt; store.place_of(d), Some(304));
+    assert_eq!(rt; place(&store, b), Some(272));
+    assert_eq!(rt; place(&store, d), Some(304));
     assert_eq!(rt; shown(&store, d), Some(b"last".as_slice()));
     assert_eq!(rt; store.find_free(1, 0, Sparing::Nothing), Some(336));
     assert_eq!(rt; store.free_bytes(), 688);
     assert!(rt; hoist(&mut store, 272, b));
     assert!(rt; !hoist(&mut store, 272, a));
-    assert_eq!(rt; store.place_of(d), Some(272));
-    assert_eq!(rt; store.place_of(b), Some(992));
+    assert_eq!(rt; place(&store, d), Some(272));
+    assert_eq!(rt; place(&store, b), Some(992));
     assert_eq!(rt; store.find_free(688, 0, Sparing::Nothing), Some(304));
     assert!(rt; raise(&mut store, 272, 4)?);
     assert!(rt; !raise(&mut store, 272, 44)?);
-    assert_eq!(rt; store.place_of(d), Some(336));
-    assert_eq!(rt; store.place_of(b), Some(368));
+    assert_eq!(rt; place(&store, d), Some(336));
+    assert_eq!(rt; place(&store, b), Some(368));
     assert_eq!(rt; shown(&store, d), Some(b"last".as_slice()));
     assert_eq!(rt; store.find_free(64, 0, Sparing::Nothing), Some(272));
     assert_eq!(rt; store.find_free(624, 0, Sparing::Nothing), Some(400));
@@ -377,11 +425,10 @@ fn blocks_are_seen(rt: HostRuntime) -> Result<(), Fail> {
     for (place, seen) in [
         (0, Some(Seen::Masters)),
         (272, Some(Seen::Relocatable(a, locked, 100))),
-        (288, None),
         (400, Some(Seen::Free(624))),
         (1024, None),
     ] {
-        assert_eq!(rt; store.block_at(place), seen, "at {place}");
+        assert_eq!(rt; block_at(&store, place), seen, "at {place}");
     }
     assert!(rt; store.room_above(a, 624, 0, Sparing::Nothing));
     assert!(rt; !store.room_above(a, 625, 0, Sparing::Nothing));
@@ -420,17 +467,17 @@ fn blocks_are_emptied(rt: HostRuntime) -> Result<(), Fail> {
     assert!(rt; !store.room_above(a, 257, 2, Sparing::One(a)));
     assert!(rt; store.room_above(d, 240, 0, Sparing::Nothing));
     purge_above(&mut store, a, 1, Sparing::Nothing);
-    assert_eq!(rt; store.place_of(a), Some(272));
-    assert_eq!(rt; store.block_at(400), Some(Seen::Free(128)));
-    assert_eq!(rt; store.place_of(c), Some(528));
+    assert_eq!(rt; place(&store, a), Some(272));
+    assert_eq!(rt; block_at(&store, 400), Some(Seen::Free(128)));
+    assert_eq!(rt; place(&store, c), Some(528));
     store.purge(2, Sparing::One(a));
-    assert_eq!(rt; store.block_at(400), Some(Seen::Free(256)));
-    assert_eq!(rt; store.place_of(c), None);
-    assert_eq!(rt; store.place_of(d), Some(656));
+    assert_eq!(rt; block_at(&store, 400), Some(Seen::Free(256)));
+    assert_eq!(rt; place(&store, c), None);
+    assert_eq!(rt; place(&store, d), Some(656));
     store.purge(0, Sparing::Freed(d));
-    assert_eq!(rt; store.block_at(400), Some(Seen::Free(624)));
+    assert_eq!(rt; block_at(&store, 400), Some(Seen::Free(624)));
     store.purge(1, Sparing::Nothing);
-    assert_eq!(rt; store.block_at(272), Some(Seen::Free(752)));
+    assert_eq!(rt; block_at(&store, 272), Some(Seen::Free(752)));
     assert_eq!(rt; store.free_bytes(), 752);
     Ok(())
 }
@@ -448,13 +495,13 @@ fn refused_memory_raises_no_run(rt: HostRuntime) -> Result<(), Fail> {
         return Ok(());
     };
     if raise(&mut store, 272, 4).is_err() {
-        assert_eq!(rt; store.place_of(a), Some(272));
+        assert_eq!(rt; place(&store, a), Some(272));
         assert_eq!(rt; store.find_free(688, 0, Sparing::Nothing), Some(336));
         assert!(rt; raise(&mut store, 272, 4)?);
     }
-    assert_eq!(rt; store.place_of(a), Some(336));
-    assert_eq!(rt; store.place_of(b), Some(368));
+    assert_eq!(rt; place(&store, a), Some(336));
+    assert_eq!(rt; place(&store, b), Some(368));
     assert!(rt; settle(&mut store, 272));
-    assert_eq!(rt; store.place_of(b), Some(304));
+    assert_eq!(rt; place(&store, b), Some(304));
     Ok(())
 }

@@ -22,3 +22,4 @@ pub mod Inside
 pub mod Path
 pub mod Owned
 pub mod Contents
+pub mod Stored

@@ -55,15 +55,16 @@ pub fn compact<S: BlockStore>(store: &mut S, bytes: Option<u32>) -> u32
 {
     // The count of moves is known to fit its type once it is read.
     let _moves = store.moves();
-    let mut index = 0;
+    let mut run = 0;
     let mut stretches = 0;
     while !has_room(store, bytes, 0) {
-        let Some(run) = store.nth_run(index) else {
-            return stretches;
-        };
+        let above = store.next_run(run);
         stretches += u32::from(in_run(store.block_at(run)));
         store.settle(run);
-        index += 1;
+        let Some(next) = above else {
+            return stretches;
+        };
+        run = next;
     }
     stretches
 }

@@ -4,6 +4,7 @@ ghost use Rattle.std.specs.Prelude.{◌≡◌, ◌≤◌, ◌<◌, ◌-◌, ◌+
 ghost use Rattle.std.specs.Prelude.{IsSomeAnd, IfOk, OnOk, IsErr, IsTrue};
 ghost use Rattle.mac_words.specs.Size.{padded, phys as physical_size};
 ghost use Rattle.block_store.specs.Block.{size, sizes, resized};
+ghost use Rattle.block_store.specs.Find.{IsEdge};
 ghost use Rattle.block_store.specs.Run.{in_run, has_free, segments};
 ghost use Rattle.block_store.specs.Room.{spot_at, purge, count_of};
 ghost use Rattle.block_store.specs.Grow.{grow_fixed};
@@ -119,6 +120,7 @@ pub fn bytes_at<S: BlockStore>(store: &S, place: u32) -> u32
 
 /// Whether a Free block of at least so many bytes stands at a place.
 fn has_room_at<S: BlockStore>(store: &S, place: u32, bytes: u32) -> bool
+    requires { IsEdge place (S.zone store.now) }
     ensures { result ≡ room_at bytes (spot_at place (S.zone store.now)) }
 {
     match store.block_at(place) {
@@ -205,6 +207,7 @@ fn push_up<S: BlockStore>(
         (λ s. (purges ≤ count_of (spared sparing) (segments s.above).first)
         × (has_free bytes (purge purges (spared sparing) (segments s.above).first) ≡ true)) }
     requires even { bytes % 16 ≡ 0 }
+    requires some { 0 < bytes }
     ensures zone { OnOk result (IfSome (spot_at place (S.zone store.old))
         (λ s. S.zone store.new ≡ s.below ++ s.here ∷ pushed_up bytes purges (spared sparing) s.above)) }
     ensures fixed { KeepsFixed (S.zone store.old) (S.zone store.new) }

@@ -29,6 +29,7 @@ mod roles;
 mod search;
 mod segments;
 mod sizing;
+mod stored;
 
 pub use anchor::Anchor;
 pub use filling::Filling;

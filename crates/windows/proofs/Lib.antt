@@ -1,3 +1,4 @@
 pub mod Listed
+pub mod Ordered
 pub mod Pieces
 pub mod Written

@@ -32,3 +32,15 @@ without_window at n ws = remove ws (position_or_len (is_window at n) ws)
 abbrev pub InOrder : ℕ → List Window → ℕ → Type 0
 InOrder o [] n = o ≤ n
 InOrder o (w ∷ ws) n = (o ≤ w.at) × InOrder (w.at + w.len) ws n
+
+-- two windows have no byte in common
+abbrev pub Misses : Window → Window → Type 0
+Misses v w = (w.at + w.len ≤ v.at) ⊎ (v.at + v.len ≤ w.at)
+
+-- the windows with w put in
+abbrev pub put_in : Window → List Window → List Window
+put_in w ws = with_window w.at w.len ws
+
+-- the windows with w taken out
+abbrev pub taken_out : Window → List Window → List Window
+taken_out w ws = without_window w.at w.len ws

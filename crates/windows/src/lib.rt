@@ -1,6 +1,10 @@
 //! Windows of a memory: stretches of it that are lent out one by one, as each zone is given one. The words on
-//! windows stand here, so that every maker of zones cites the same ones.
+//! windows, and the list of those that are open, stand here, so that every maker of zones cites the same ones.
 #![tactic(auto)]
+
+mod list;
+
+pub use list::{MOST_WINDOWS, put_window, take_window};
 
 /// A stretch of a memory: `len` bytes from the place `at` on.
 #[derive(Clone, Copy, Debug, PartialEq, Eq, Drop)]

@@ -1,13 +1,11 @@
-use Rattle.std.proofs.Common.{◌≡◌, ℕ, ◌+◌, ◌-◌, ◌≤◌, ◌<◌, zero, suc, Bool, true, false, List, [], ◌∷◌, ◌++◌, length}
-use Rattle.std.proofs.Common.{take, drop, refl, sym, ◌∙◌, ap, cond, arith, Option, Some, None, nat_le, is_some}
-use Rattle.std.proofs.Common.{unwrap_or, get_or}
+use Rattle.std.proofs.Common.{◌≡◌, ℕ, ◌+◌, ◌-◌, zero, suc, Bool, true, false, List, [], ◌∷◌, ◌++◌}
+use Rattle.std.proofs.Common.{refl, sym, ◌∙◌, ap, cond, arith, Option, Some, None, nat_le, is_some}
+use Rattle.std.proofs.Common.{unwrap_or}
 use Rattle.std.proofs.lemmas.Option.{none-some, same_Some}
 use Rattle.std.proofs.lemmas.Bool.{cond-true, cond-false, lt-ltb}
 use Rattle.std.specs.Option.{option_map, IfSome}
-use Rattle.block_store.specs.Block.{Block, Free, Fixed, Masters, Relocatable, size, sizes, is_relocatable, free, add}
+use Rattle.block_store.specs.Block.{Block, Free, Fixed, Masters, Relocatable, size, sizes, free, add}
 use Rattle.block_store.specs.Block.{tidy}
-use Rattle.block_store.specs.declared.entries.StoredBlock.{StoredBlock}
-use Rattle.block_store.specs.Inner.ListStore.{block_of, blocks_of}
 use Rattle.block_store.specs.declared.sparing.Sparing.TheVariants as sparing
 use Rattle.block_store.specs.Room.{Spot, spot, may_go, emptied}
 use Rattle.block_store.specs.Grow.{taken}
@@ -16,9 +14,9 @@ use Rattle.block_store.specs.Inner.Stretch.{is_free, opened_block, is_enough}
 use Rattle.block_store.specs.Inner.Purging.{left_past, leading_free}
 use Rattle.block_store.specs.declared.sparing.Sparing.{Sparing}
 use Rattle.block_store.proofs.Zone.Apart.{Apart, apart-size, apart-tidy}
-use Rattle.block_store.proofs.Zone.Listing.{spot-here, spot-above, drop-blocks}
-use Rattle.block_store.proofs.Emptied.Stretches.{opened-more, size-opened, drop-none}
-use Rattle.block_store.proofs.Emptied.Purges.{emptied-free, emptied-kept, kept-not_free, opened-same}
+use Rattle.block_store.proofs.Zone.Listing.{spot-here, spot-above}
+use Rattle.block_store.proofs.Emptied.Stretches.{opened-more, size-opened}
+use Rattle.block_store.proofs.Emptied.Purges.{emptied-free, emptied-kept, kept-not_free}
 use Rattle.block_store.proofs.Zone.Tidy.{add-joined, told-past}
 
 -- Looks at blocks of which the lowest that may go are emptied.
@@ -150,11 +148,11 @@ top_free-other Masters bs e = refl
 top_free-other (Relocatable id flags content) bs e = refl
 
 -- the Free bytes that come first, one block on
-pub leading-more : (sp : Block → Bool) (k left : ℕ) (b : Block) (above : List Block) → left_past sp k b ≡ Some left
+leading-more : (sp : Block → Bool) (k left : ℕ) (b : Block) (above : List Block) → left_past sp k b ≡ Some left
     → leading_free sp k (b ∷ above) ≡ size b + leading_free sp left above
 leading-more sp k left b above e = ap (λ o. unwrap_or (option_map (λ left. size b + leading_free sp left above) o) 0) e
 
-pub leading-none : (sp : Block → Bool) (k : ℕ) (b : Block) (above : List Block) → left_past sp k b ≡ None
+leading-none : (sp : Block → Bool) (k : ℕ) (b : Block) (above : List Block) → left_past sp k b ≡ None
     → leading_free sp k (b ∷ above) ≡ 0
 leading-none sp k b above e = ap (λ o. unwrap_or (option_map (λ left. size b + leading_free sp left above) o) 0) e
 
@@ -212,122 +210,50 @@ follows-some test none bs above d r e is = cases (spot test (tidy bs))
     cases None e = tt
     cases (Some s) e = is ∙ ap (λ l. is_some (taken d l)) (sym (same_Some _ _ e))
 
--- the rest of the entries as a search begins to look at it
-pub opened-drop : (n : Sparing) (es : List StoredBlock) (i : ℕ) (e : StoredBlock) → i < length es → e ≡ get_or es i e
-    → opened n (drop i (blocks_of es)) ≡ opened_block n (block_of e) ∷ opened n (drop (i + 1) (blocks_of es))
-opened-drop n es i e within is = ap (opened n) (drop-blocks es i e within is)
-    ∙ opened-more n (block_of e) (drop (i + 1) (blocks_of es))
+-- no blocks, as a search begins to look at them
+pub opened-none : (n : Sparing) → opened n [] ≡ []
+opened-none sparing.Nothing = refl
+opened-none (sparing.One slot) = refl
+opened-none (sparing.Two slot other) = refl
+opened-none (sparing.Freed slot) = refl
 
-pub opened-end : (n : Sparing) (bs : List Block) (i : ℕ) → length bs ≤ i → opened n (drop i bs) ≡ []
-opened-end n bs i le = ap (opened n) (drop-none i bs le) ∙ ends n
-  where
-    ends : (n : Sparing) → opened n [] ≡ []
-    ends sparing.Nothing = refl
-    ends (sparing.One slot) = refl
-    ends (sparing.Two slot other) = refl
-    ends (sparing.Freed slot) = refl
+-- the search for the next block to go, one block on
+pub found-here : (n : Sparing) (b : Block) (above : List Block) (place left : ℕ)
+    → may_go (spared n) (opened_block n b) ≡ true → left ≡ 0
+    → next_from place (spared n) left (opened n (b ∷ above)) ≡ Some place
+found-here n b above place left goes none = ap (next_from place (spared n) left) (opened-more n b above)
+    ∙ next-here place (spared n) left (opened_block n b) (opened n above) goes none
 
--- the search for the next block to go, one entry on
-pub found-here : (n : Sparing) (es : List StoredBlock) (i : ℕ) (e : StoredBlock) (place left : ℕ) → i < length es
-    → e ≡ get_or es i e → may_go (spared n) (opened_block n (block_of e)) ≡ true → left ≡ 0
-    → next_from place (spared n) left (opened n (drop i (blocks_of es))) ≡ Some place
-found-here n es i e place left within is goes none = ap (next_from place (spared n) left)
-    (opened-drop n es i e within is) ∙ next-here place (spared n) left (opened_block n (block_of e)) _ goes none
+pub found-goes : (n : Sparing) (b : Block) (above : List Block) (place left size' left' : ℕ)
+    → may_go (spared n) (opened_block n b) ≡ true → (left ≡ 0 → ⊥) → size' ≡ size b → left' ≡ left - 1
+    → next_from (place + size') (spared n) left' (opened n above)
+    ≡ next_from place (spared n) left (opened n (b ∷ above))
+found-goes n b above place left size' left' goes some bytes less =
+    let rest = opened n above in
+    let c = opened_block n b in
+    ap (λ k. next_from (place + k) (spared n) left' rest) (bytes ∙ sym (size-opened n b))
+    ∙ ap (λ k. next_from (place + size c) (spared n) k rest) less
+    ∙ sym (ap (next_from place (spared n) left) (opened-more n b above)
+    ∙ next-goes place (spared n) left c rest goes some)
 
-pub found-goes : (n : Sparing) (es : List StoredBlock) (i : ℕ) (e : StoredBlock) (place left size' left' : ℕ)
-    → i < length es → e ≡ get_or es i e → may_go (spared n) (opened_block n (block_of e)) ≡ true → (left ≡ 0 → ⊥)
-    → size' ≡ size (block_of e) → left' ≡ left - 1 → next_from (place + size') (spared n) left'
-    (opened n (drop (i + 1) (blocks_of es))) ≡ next_from place (spared n) left (opened n (drop i (blocks_of es)))
-found-goes n es i e place left size' left' within is goes some bytes less =
-    let rest = opened n (drop (i + 1) (blocks_of es)) in
-    let b = opened_block n (block_of e) in
-    ap (λ k. next_from (place + k) (spared n) left' rest) (bytes ∙ sym (size-opened n (block_of e)))
-    ∙ ap (λ k. next_from (place + size b) (spared n) k rest) less
-    ∙ sym (ap (next_from place (spared n) left) (opened-drop n es i e within is)
-    ∙ next-goes place (spared n) left b rest goes some)
+pub found-stays : (n : Sparing) (b : Block) (above : List Block) (place left size' left' : ℕ)
+    → may_go (spared n) (opened_block n b) ≡ false → size' ≡ size b → left' ≡ left
+    → next_from (place + size') (spared n) left' (opened n above)
+    ≡ next_from place (spared n) left (opened n (b ∷ above))
+found-stays n b above place left size' left' stays bytes same =
+    let rest = opened n above in
+    let c = opened_block n b in
+    ap (λ k. next_from (place + k) (spared n) left' rest) (bytes ∙ sym (size-opened n b))
+    ∙ ap (λ k. next_from (place + size c) (spared n) k rest) same
+    ∙ sym (ap (next_from place (spared n) left) (opened-more n b above)
+    ∙ next-stays place (spared n) left c rest stays)
 
-pub found-stays : (n : Sparing) (es : List StoredBlock) (i : ℕ) (e : StoredBlock) (place left size' left' : ℕ)
-    → i < length es → e ≡ get_or es i e → may_go (spared n) (opened_block n (block_of e)) ≡ false
-    → size' ≡ size (block_of e) → left' ≡ left → next_from (place + size') (spared n) left'
-    (opened n (drop (i + 1) (blocks_of es))) ≡ next_from place (spared n) left (opened n (drop i (blocks_of es)))
-found-stays n es i e place left size' left' within is stays bytes same =
-    let rest = opened n (drop (i + 1) (blocks_of es)) in
-    let b = opened_block n (block_of e) in
-    ap (λ k. next_from (place + k) (spared n) left' rest) (bytes ∙ sym (size-opened n (block_of e)))
-    ∙ ap (λ k. next_from (place + size b) (spared n) k rest) same
-    ∙ sym (ap (next_from place (spared n) left) (opened-drop n es i e within is)
-    ∙ next-stays place (spared n) left b rest stays)
-
-pub found-end : (n : Sparing) (bs : List Block) (i place left : ℕ) → length bs ≤ i
-    → next_from place (spared n) left (opened n (drop i bs)) ≡ None
-found-end n bs i place left le = ap (next_from place (spared n) left) (opened-end n bs i le) ∙ ends left
+pub found-end : (n : Sparing) (bs : List Block) (place left : ℕ) → bs ≡ []
+    → next_from place (spared n) left (opened n bs) ≡ None
+found-end n bs place left none =
+    ap (λ l. next_from place (spared n) left (opened n l)) none
+    ∙ ap (next_from place (spared n) left) (opened-none n) ∙ ends left
   where
     ends : (left : ℕ) → next_from place (spared n) left [] ≡ None
     ends zero = refl
     ends (suc left) = refl
-
--- the search for the block of a slot, one entry on
-pub slot-here : (n : Sparing) (es : List StoredBlock) (i : ℕ) (e : StoredBlock) (number left : ℕ) (next : Option ℕ)
-    → i < length es → e ≡ get_or es i e → next ≡ left_past (spared n) left (opened_block n (block_of e))
-    → is_some next ≡ false
-    → is_relocatable number (block_of e) ≡ true → above_spot (is_relocatable number)
-    (emptied left (spared n) (opened n (drop i (blocks_of es))))
-    ≡ Some (emptied left (spared n) (opened n (drop (i + 1) (blocks_of es))))
-slot-here n es i e number left None within is next none here =
-    let b = opened_block n (block_of e) in
-    let rest = opened n (drop (i + 1) (blocks_of es)) in
-    let kept = sym next in
-    ap (λ l. above_spot (is_relocatable number) (emptied left (spared n) l)) (opened-drop n es i e within is)
-    ∙ ap (above_spot (is_relocatable number)) (emptied-kept (spared n) left b rest kept)
-    ∙ above_spot-here (is_relocatable number) b (emptied left (spared n) rest)
-    (ap (is_relocatable number) (opened-same n (block_of e) (kept-not_free (spared n) left b kept)) ∙ here)
-slot-here n es i e number left (Some k) within is next none here = let f : true ≡ false = none in cc
-
-pub slot-past : (n : Sparing) (es : List StoredBlock) (i : ℕ) (e : StoredBlock) (number left left' : ℕ)
-    (next : Option ℕ) → i < length es → e ≡ get_or es i e → next
-    ≡ left_past (spared n) left (opened_block n (block_of e))
-    → (is_some next ≡ false → is_relocatable number (block_of e) ≡ false) → left' ≡ unwrap_or next left
-    → above_spot (is_relocatable number) (emptied left' (spared n) (opened n (drop (i + 1) (blocks_of es))))
-    ≡ above_spot (is_relocatable number) (emptied left (spared n) (opened n (drop i (blocks_of es))))
-slot-past n es i e number left left' None within is next past same =
-    let b = opened_block n (block_of e) in
-    let rest = opened n (drop (i + 1) (blocks_of es)) in
-    let kept = sym next in
-    ap (λ k. above_spot (is_relocatable number) (emptied k (spared n) rest)) same
-    ∙ sym (ap (λ l. above_spot (is_relocatable number) (emptied left (spared n) l)) (opened-drop n es i e within is)
-    ∙ ap (above_spot (is_relocatable number)) (emptied-kept (spared n) left b rest kept)
-    ∙ above_spot-past (is_relocatable number) b (emptied left (spared n) rest)
-    (ap (is_relocatable number) (opened-same n (block_of e) (kept-not_free (spared n) left b kept)) ∙ past refl))
-slot-past n es i e number left left' (Some k) within is next past same =
-    let b = opened_block n (block_of e) in
-    let rest = opened n (drop (i + 1) (blocks_of es)) in
-    ap (λ k. above_spot (is_relocatable number) (emptied k (spared n) rest)) same
-    ∙ sym (ap (λ l. above_spot (is_relocatable number) (emptied left (spared n) l)) (opened-drop n es i e within is)
-    ∙ ap (above_spot (is_relocatable number)) (emptied-free (spared n) left k b rest (sym next))
-    ∙ above_spot-past (is_relocatable number) (Free (size b)) (emptied k (spared n) rest) refl)
-
-pub slot-end : (n : Sparing) (bs : List Block) (i left : ℕ) (test : Block → Bool) → length bs ≤ i
-    → above_spot test (emptied left (spared n) (opened n (drop i bs))) ≡ None
-slot-end n bs i left test le = ap (λ l. above_spot test (emptied left (spared n) l)) (opened-end n bs i le) ∙ ends left
-  where
-    ends : (left : ℕ) → above_spot test (emptied left (spared n) []) ≡ None
-    ends zero = refl
-    ends (suc left) = refl
-
-pub leading-end : (n : Sparing) (bs : List Block) (i left : ℕ) → length bs ≤ i
-    → leading_free (spared n) left (opened n (drop i bs)) ≡ 0
-leading-end n bs i left le = ap (leading_free (spared n) left) (opened-end n bs i le)
-
--- the rest of entries, as a slice gives it
-pub take-rest : (es : List StoredBlock) (i n : ℕ) → n ≡ length es - i → take n (drop i es) ≡ drop i es
-take-rest [] i zero same = sym (nothing i)
-  where
-    nothing : (i : ℕ) → drop {A = StoredBlock} i [] ≡ []
-    nothing zero = refl
-    nothing (suc i) = refl
-take-rest [] zero (suc n) same = refl
-take-rest [] (suc i) (suc n) same = refl
-take-rest (e ∷ es) zero zero same = absurd (let z : 0 ≡ suc (length es) - 0 = same in omega arith)
-take-rest (e ∷ es) zero (suc n) same = ap (λ l. e ∷ l) (take-rest es zero n
-    (let z : suc n ≡ suc (length es) - 0 = same in omega arith))
-take-rest (e ∷ es) (suc i) n same = take-rest es i n (let z : n ≡ suc (length es) - suc i = same in omega arith)

@@ -1,8 +1,7 @@
-use Rattle.std.proofs.Common.{◌≡◌, ℕ, ◌+◌, ◌-◌, ◌≤◌, ◌<◌, zero, suc, Bool, true, false, ◌&&◌, List, [], ◌∷◌, length}
-use Rattle.std.proofs.Common.{drop, refl, sym, ◌∙◌, ap, cond, arith, Option, Some, None, nat_le, nat_lt}
-use Rattle.std.proofs.lemmas.Bool.{cond-true, cond-false, lt-ltb}
+use Rattle.std.proofs.Common.{◌≡◌, ℕ, ◌+◌, ◌<◌, zero, suc, Bool, true, false, List, [], ◌∷◌, length}
+use Rattle.std.proofs.Common.{refl, sym, ◌∙◌, ap, cond, arith, Option, Some, None, nat_le}
+use Rattle.std.proofs.lemmas.Bool.{cond-true, lt-ltb}
 use Rattle.std.specs.Option.{option_map}
-use Rattle.std.specs.Bool.{then_some}
 use Rattle.block_store.specs.Block.{Block, Free, Fixed, Masters, Relocatable, size, sizes, is_room, is_relocatable, add}
 use Rattle.block_store.specs.Block.{tidy}
 use Rattle.block_store.specs.Room.{Spot, raised, spot, may_go, emptied}
@@ -159,48 +158,3 @@ size-opened (sparing.Freed slot) b = cases (is_relocatable slot b)
     cases : (t : Bool) → size (cond t (Free (size b)) b) ≡ size b
     cases true = refl
     cases false = refl
-
--- one block of a search
-pub stretch-goes : (p : ℕ) (sp : Block → Bool) (k start free place : ℕ) (b : Block) (above : List Block) → 0 < k
-    → may_go sp b ≡ true → stretch p sp k start free place (b ∷ above)
-    ≡ stretch p sp (k - 1) start (free + size b) (place + size b) above
-stretch-goes p sp zero start free place b above some e = absurd (let z : 0 < 0 = some in omega arith)
-stretch-goes p sp (suc k) start free place b above some e = cond-true (may_go sp b) _ _ e
-    ∙ ap (λ n. stretch p sp n start (free + size b) (place + size b) above) (let z : k ≡ suc k - 1 = omega arith in z)
-
-pub stretch-stays : (p : ℕ) (sp : Block → Bool) (k start free place : ℕ) (b : Block) (above : List Block)
-    → (nat_lt 0 k && may_go sp b) ≡ false
-    → stretch p sp k start free place (b ∷ above) ≡ cond (is_free b)
-    (stretch p sp k start (free + size b) (place + size b) above)
-    (cond (is_enough p free) (Some start) (stretch p sp k (place + size b) 0 (place + size b) above))
-stretch-stays p sp zero start free place b above e = refl
-stretch-stays p sp (suc k) start free place b above e = cond-false (may_go sp b) _ _
-    (failed (nat_lt 0 (suc k)) (may_go sp b) (lt-ltb 0 (suc k) (omega arith)) e)
-  where
-    failed : (t u : Bool) → t ≡ true → (t && u) ≡ false → u ≡ false
-    failed true u is e = e
-    failed false u is e = let f : false ≡ true = is in cc
-
-pub drop-none : (i : ℕ) (bs : List Block) → length bs ≤ i → drop i bs ≡ []
-drop-none zero [] le = refl
-drop-none (suc i) [] le = refl
-drop-none zero (b ∷ bs) le = absurd (let z : suc (length bs) ≤ 0 = le in omega arith)
-drop-none (suc i) (b ∷ bs) le = drop-none i bs (let z : suc (length bs) ≤ suc i = le in omega arith)
-
--- a search at its end
-pub stretch-end : (p : ℕ) (n : Sparing) (k start free place : ℕ) (bs : List Block) → bs ≡ []
-    → stretch p (spared n) k start free place (opened n bs) ≡ cond (is_enough p free) (Some start) None
-stretch-end p n k start free place bs none = ap (λ l. stretch p (spared n) k start free place (opened n l)) none
-    ∙ ends n
-  where
-    ends : (n : Sparing) → stretch p (spared n) k start free place (opened n [])
-        ≡ cond (is_enough p free) (Some start) None
-    ends sparing.Nothing = refl
-    ends (sparing.One slot) = refl
-    ends (sparing.Two slot other) = refl
-    ends (sparing.Freed slot) = refl
-
--- a value where a test holds, else none
-pub then_some-cond : {T : Type 0} (t : Bool) (x : T) → then_some t x ≡ cond t (Some x) None
-then_some-cond true x = refl
-then_some-cond false x = refl

@@ -1,5 +1,5 @@
 use Rattle.std.proofs.Common.{◌≡◌, ℕ, ◌+◌, zero, suc, Bool, true, false, ◌&&◌, ◌||◌, List, [], ◌∷◌, ◌++◌, refl, sym}
-use Rattle.std.proofs.Common.{◌∙◌, ap, cond, arith, Option, Some, None, nat_le, append_assoc}
+use Rattle.std.proofs.Common.{◌∙◌, ap, cond, arith, Option, Some, None, nat_le, append_assoc, is_some, not}
 use Rattle.std.proofs.lemmas.List.{append-nil}
 use Rattle.std.proofs.lemmas.List.Folds.{list_any-append}
 use Rattle.std.specs.Option.{option_map}
@@ -11,7 +11,6 @@ use Rattle.block_store.specs.Room.{may_go, emptied}
 use Rattle.block_store.specs.Sparing.{spared, opened, purged}
 use Rattle.block_store.specs.Inner.RunScan.{is_number, is_wanted, any_run, meets, suits, met_after, scan_runs}
 use Rattle.block_store.specs.declared.sparing.Sparing.{Sparing}
-use Rattle.block_store.specs.declared.sparing.Sparing.TheVariants as sparing
 use Rattle.block_store.proofs.Zone.Totals.{total-append}
 
 -- blocks that would be emptied count as those that are
@@ -187,20 +186,6 @@ scan-is w p n k zone =
     from_zero None = refl
     from_zero (Some r) = ap Some (let z : 0 + sizes r.below ≡ sizes r.below = omega arith in z)
 
--- a search at its end
-pub scan-end : (w : Option ℕ) (p : ℕ) (n : Sparing) (k start free : ℕ) (met : Bool) (place : ℕ) (bs : List Block)
-    → bs ≡ [] → scan_runs w p (spared n) k start free met place (opened n bs)
-    ≡ cond (met && nat_le p free) (Some start) None
-scan-end w p n k start free met place bs none = ap (λ l. scan_runs w p (spared n) k start free met place (opened n l))
-    none ∙ ends n
-  where
-    ends : (n : Sparing) → scan_runs w p (spared n) k start free met place (opened n [])
-        ≡ cond (met && nat_le p free) (Some start) None
-    ends sparing.Nothing = refl
-    ends (sparing.One slot) = refl
-    ends (sparing.Two slot other) = refl
-    ends (sparing.Freed slot) = refl
-
 -- the block of a slot, and any run
 wanted-is : (number : ℕ) (b : Block) → is_wanted (Some number) b ≡ is_relocatable number b
 wanted-is number (Free n) = refl
@@ -211,3 +196,10 @@ wanted-is number (Relocatable id flags content) = refl
 pub suits-slot : (number p : ℕ) → suits (Some number) p ≡ (λ run. has (is_relocatable number) run && has_free p run)
 suits-slot number p = ap {B = List Block → Bool} (λ (test : Block → Bool). λ (run : List Block). has test run
     && has_free p run) (λ i b. wanted-is number b i)
+
+-- a run need have no block where none is named
+pub any-none : (number : Option ℕ) (none : Bool) → is_some number ≡ not none → none ≡ any_run number
+any-none None true e = refl
+any-none None false e = e
+any-none (Some k) true e = e
+any-none (Some k) false e = refl

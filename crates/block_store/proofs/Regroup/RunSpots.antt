@@ -12,7 +12,7 @@ use Rattle.block_store.specs.Room.{Spot, raised, spot_at}
 use Rattle.block_store.specs.declared.entries.StoredBlock.{StoredBlock}
 use Rattle.block_store.specs.Inner.ListStore.{block_of, blocks_of, nth_spot}
 use Rattle.block_store.specs.Find.{FindsLowestRun}
-use Rattle.block_store.specs.Compact.{nth_run_of, nth_run, FindsRun}
+use Rattle.block_store.specs.Inner.NthRun.{nth_run_of, nth_run, FindsRun}
 use Rattle.block_store.proofs.Zone.Totals.{total-append}
 use Rattle.block_store.proofs.Plain.Options.{has_place}
 

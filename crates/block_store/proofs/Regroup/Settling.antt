@@ -12,7 +12,8 @@ use Rattle.block_store.specs.Run.{with_run, has, movers, settle}
 use Rattle.block_store.specs.Room.{Spot, raised, spot}
 use Rattle.block_store.specs.Find.{FindsLowest}
 use Rattle.block_store.specs.Rest.{Rest, IsRest, KeepsSlots, with_moves, counted, falling}
-use Rattle.block_store.specs.Compact.{beyond, nth_run_of, nth_run, FindsRun, settled_runs, settled, falls, has_room}
+use Rattle.block_store.specs.Compact.{beyond, settled_runs, settled, falls, has_room}
+use Rattle.block_store.specs.Inner.NthRun.{nth_run_of, nth_run, FindsRun}
 use Rattle.block_store.specs.Compact.{runs_settled}
 use Rattle.block_store.proofs.Zone.Apart.{Apart, tidy-apart, apart-tidied, barrier-alone, apart-above}
 use Rattle.block_store.proofs.Zone.Totals.{total-append}

@@ -15,7 +15,7 @@ longer b bs e = let n : length bs ≡ suc (length bs) = ap length e in omega ari
 pub two : (b c d : Block) (bs : List Block) → b ∷ bs ≡ c ∷ d ∷ bs → ⊥
 two b c d bs e = let n : suc (length bs) ≡ suc (suc (length bs)) = ap length e in omega arith
 
-more-apart : (k m : ℕ) → 0 < k → (bs : List Block) → add (Free m) bs ≡ Free m ∷ bs → add (Free k) bs ≡ Free k ∷ bs
+pub more-apart : (k m : ℕ) → 0 < k → (bs : List Block) → add (Free m) bs ≡ Free m ∷ bs → add (Free k) bs ≡ Free k ∷ bs
 more-apart zero m some bs e = absurd (let z : 0 < 0 = some in omega arith)
 more-apart (suc k) m some [] e = refl
 more-apart (suc k) zero some (Free l ∷ bs) e = absurd (longer (Free zero) (Free l ∷ bs) e)

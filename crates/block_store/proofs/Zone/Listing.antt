@@ -69,11 +69,6 @@ reached es i e within is = record {
   more = sizes-more es i e within is;
 }
 
--- what is known of the entries from an index on, told of the entry there and those above
-pub from-reached : {A : Type 0} (f : List Block → A) (whole : A) (es : List StoredBlock) (i : ℕ) (e : StoredBlock)
-    → Reached es i e → f (drop i (blocks_of es)) ≡ whole → f (block_of e ∷ drop (i + 1) (blocks_of es)) ≡ whole
-from-reached f whole es i e at known = ap f (sym at.blocks) ∙ known
-
 -- the place so far where the block passes, and where it doesn't
 pub spot-here : (t : Block → Bool) (place : ℕ) (b : Block) (above : List Block) → t b ≡ true
     → option_map (λ (s : Spot). place + sizes s.below) (spot t (b ∷ above)) ≡ Some place

@@ -11,7 +11,8 @@ use Rattle.block_store.specs.Run.{in_run, Stretch, RunSpot, run_raised, runs, se
 use Rattle.block_store.specs.Room.{Spot, raised, spot_at}
 use Rattle.block_store.specs.Seen.{seen}
 use Rattle.block_store.specs.declared.sparing.Seen.{Seen}
-use Rattle.block_store.specs.Compact.{beyond, nth_run, FindsRun, settled_runs, settled}
+use Rattle.block_store.specs.Compact.{beyond, settled_runs, settled}
+use Rattle.block_store.specs.Inner.NthRun.{nth_run, FindsRun}
 use Rattle.block_store.specs.Inner.Packing.{Loose}
 use Rattle.block_store.proofs.Regroup.Parts.{AreParts, in-parts}
 use Rattle.heap_calls.specs.Inner.Given.{seen_in_run}

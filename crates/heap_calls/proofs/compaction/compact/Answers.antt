@@ -1,139 +1,122 @@
-use Rattle.std.proofs.Common.{◌≡◌, ◌+◌, refl, sym, ◌∙◌, arith, inl, inr}
-use Rattle.block_store.specs.Run.{runs}
-use Rattle.block_store.specs.Compact.{runs_settled}
-use Rattle.block_store.proofs.Zone.Zones.{joined-segments}
-use Rattle.heap_calls.proofs.Numbering.Hoisting.{rest-same}
-use Rattle.block_store.proofs.Regroup.Settling.{settled-next, moves-next, keeps-next, next-within, next-past, none-next}
-use Rattle.block_store.proofs.Regroup.Settling.{settled-enough, zone-end, moves-end, runs-few}
-use Rattle.heap_calls.proofs.Room.Stretches.{stretches-end, stretches-next, stretches-le}
+use Rattle.std.proofs.Common.{◌+◌, refl, sym, ◌∙◌, arith}
+use Rattle.block_store.proofs.Regroup.NextRuns.{run-edge}
+use Rattle.heap_calls.proofs.Room.SettlingRuns.{Counts, IsCompacted, SettledTo, begins, few, one-more, goes-on, higher}
+use Rattle.heap_calls.proofs.Room.SettlingRuns.{ends-there, ends-above}
+use Rattle.heap_calls.proofs.compaction.compact.Given.{Over}
+use Rattle.heap_calls.proofs.compaction.compact.Goals.{After-from-stretches, After-settle, After-loop-bytes, In_default}
 use Rattle.heap_calls.proofs.compaction.compact.Goals as goal
 
 pub loop-bytes-init : goal.loop-bytes-init
-loop-bytes-init g c =
-    let start = g.S.BlockStore.zone c.args.store.now in
-    record {
-      within = omega arith;
-      zone = sym (joined-segments start);
-      moves = omega arith;
-      rest = rest-same (g.S.BlockStore.rest c.args.store.now);
-      stretches = refl;
-      none = λ j less. absurd (omega arith);
-    }
+loop-bytes-init g c = begins c.args.bytes (g.S.BlockStore.zone c.args.store.now) (g.S.BlockStore.rest c.args.store.now)
+    (omega arith)
 
-pub returns-in_default-clause-runs : goal.returns-in_default-clause-runs
-returns-in_default-clause-runs g c =
-    let start = g.S.BlockStore.zone c.args.store.now in
-    let zone = g.S.BlockStore.zone c.loop-bytes.store in
-    let k = c.loop-bytes.index in
-    let i = c.loop-bytes.invariant in
-    let all : k ≡ runs_settled c.args.bytes start = sym (settled-enough c.args.bytes start zone k i.zone i.within i.none
-    (inr (next-past k start zone i.zone c.in_default.ensures))) in
-    stretches-end c.loop-bytes.stretches (runs_settled c.args.bytes start) k (runs start) i.stretches all
+pub block_at-requires : goal.block_at-requires
+block_at-requires g c = run-edge c.loop-bytes.invariant.k c.loop-bytes.run (g.S.BlockStore.zone c.loop-bytes.store)
+    c.loop-bytes.invariant.found
 
-pub returns-in_default-clause-zone : goal.returns-in_default-clause-zone
-returns-in_default-clause-zone g c =
-    let start = g.S.BlockStore.zone c.args.store.now in
-    let zone = g.S.BlockStore.zone c.loop-bytes.store in
-    let k = c.loop-bytes.index in
-    let i = c.loop-bytes.invariant in
-    let all : k ≡ runs_settled c.args.bytes start = sym (settled-enough c.args.bytes start zone k i.zone i.within i.none
-    (inr (next-past k start zone i.zone c.in_default.ensures))) in
-    zone-end k (runs_settled c.args.bytes start) start zone i.zone all
-
-pub returns-in_default-clause-moves : goal.returns-in_default-clause-moves
-returns-in_default-clause-moves g c =
-    let start = g.S.BlockStore.zone c.args.store.now in
-    let zone = g.S.BlockStore.zone c.loop-bytes.store in
-    let k = c.loop-bytes.index in
-    let i = c.loop-bytes.invariant in
-    let all : k ≡ runs_settled c.args.bytes start = sym (settled-enough c.args.bytes start zone k i.zone i.within i.none
-    (inr (next-past k start zone i.zone c.in_default.ensures))) in
-    moves-end k (runs_settled c.args.bytes start) (g.S.BlockStore.rest c.args.store.now).moves
-    (g.S.BlockStore.rest c.loop-bytes.store).moves (runs start) i.moves all
-
-pub overflow_add-index : goal.overflow_add-index
-overflow_add-index g c =
-    let start = g.S.BlockStore.zone c.args.store.now in
-    let i = c.loop-bytes.invariant in
-    let within = next-within c.loop-bytes.index c.in-Some.run' start (g.S.BlockStore.zone c.loop-bytes.store) i.zone
-    c.in-Some.ensures in
-    let few = runs-few start in
-    let small = g.met.S.BlockStore.small c.args.store.now in
-    omega arith
+-- what the run counts
+counts : (g : Over) (c : After-from-stretches g) → Counts (g.S.BlockStore.zone c.loop-bytes.store) c.loop-bytes.run
+    c.from-stretches.result
+counts g c = record {
+  there = c.block_at.result;
+  begins = c.in_run.result;
+  there_is = c.block_at.ensures;
+  begins_is = c.in_run.ensures;
+  as_number = c.from-stretches.ensures;
+}
 
 pub overflow_add-stretches : goal.overflow_add-stretches
 overflow_add-stretches g c =
-    let start = g.S.BlockStore.zone c.args.store.now in
-    let zone = g.S.BlockStore.zone c.loop-bytes.store in
-    let k = c.loop-bytes.index in
-    let i = c.loop-bytes.invariant in
-    let found = c.in-Some.ensures in
-    let sum = stretches-next k c.in-Some.run' start zone c.block_at.result c.in_run.result c.from-stretches.result
-    c.loop-bytes.stretches (g.met.S.BlockStore.tidied c.loop-bytes.store) i.zone found c.block_at.ensures
-    c.in_run.ensures c.from-stretches.ensures i.stretches in
-    let within = next-within k c.in-Some.run' start zone i.zone found in
-    omega (arith, stretches-le (k + 1) (runs start), runs-few start, g.met.S.BlockStore.small c.args.store.now)
+    let start = c.args.store.now in
+    let store = c.loop-bytes.store in
+    omega (
+      arith,
+      few c.args.bytes (g.S.BlockStore.zone start) (g.S.BlockStore.rest start) (g.S.BlockStore.zone store)
+          (g.S.BlockStore.rest store) c.loop-bytes.run c.loop-bytes.stretches c.from-stretches.result
+          (g.met.S.BlockStore.tidied store) c.loop-bytes.invariant
+          (counts g (goal.at.overflow_add-stretches g c).After-from-stretches),
+      g.met.S.BlockStore.small start,
+    )
+
+-- one run more is settled
+more : (g : Over) (c : After-settle g) → SettledTo (c.loop-bytes.invariant.k + 1) c.args.bytes
+    (g.S.BlockStore.zone c.args.store.now) (g.S.BlockStore.rest c.args.store.now)
+    (g.S.BlockStore.zone c.settle.new.self) (g.S.BlockStore.rest c.settle.new.self)
+    (c.loop-bytes.stretches + c.from-stretches.result)
+more g c =
+    let start = c.args.store.now in
+    let store = c.loop-bytes.store in
+    let after = c.settle.new.self in
+    one-more c.args.bytes (g.S.BlockStore.zone start) (g.S.BlockStore.rest start) (g.S.BlockStore.zone store)
+    (g.S.BlockStore.rest store) c.loop-bytes.run c.loop-bytes.stretches c.from-stretches.result
+    (g.S.BlockStore.zone after) (g.S.BlockStore.rest after)
+    (g.met.S.BlockStore.tidied start) (g.met.S.BlockStore.tidied store)
+    (sym (c.has_room.ensures.now refl) ∙ c.loop-bytes-test.true) c.loop-bytes.invariant (counts g c.before.before)
+    c.settle.ensures.zone c.settle.ensures.rest
+
+-- all runs are settled
+ended : (g : Over) (c : In_default g) → IsCompacted c.args.bytes (g.S.BlockStore.zone c.args.store.now)
+    (g.S.BlockStore.rest c.args.store.now) (g.S.BlockStore.zone c.settle.new.self)
+    (g.S.BlockStore.rest c.settle.new.self) (c.loop-bytes.stretches + c.from-stretches.result)
+ended g c =
+    let start = c.args.store.now in
+    let store = c.loop-bytes.store in
+    let after = c.settle.new.self in
+    ends-above c.args.bytes (g.S.BlockStore.zone start) (g.S.BlockStore.rest start) (g.S.BlockStore.zone store)
+    (g.S.BlockStore.rest store) c.loop-bytes.run c.loop-bytes.stretches
+    (c.loop-bytes.stretches + c.from-stretches.result) (g.S.BlockStore.zone after) (g.S.BlockStore.rest after)
+    c.loop-bytes.invariant (more g c.before) c.in_default.ensures
+
+pub returns-in_default-clause-zone : goal.returns-in_default-clause-zone
+returns-in_default-clause-zone g c = (ended g (goal.at.returns-in_default-clause-zone g c).In_default).zone_is
+
+pub returns-in_default-clause-moves : goal.returns-in_default-clause-moves
+returns-in_default-clause-moves g c = (ended g (goal.at.returns-in_default-clause-moves g c).In_default).moves
+
+pub returns-in_default-clause-rest : goal.returns-in_default-clause-rest
+returns-in_default-clause-rest g c = (ended g (goal.at.returns-in_default-clause-rest g c).In_default).keeps
+
+pub returns-in_default-clause-runs : goal.returns-in_default-clause-runs
+returns-in_default-clause-runs g c = (ended g (goal.at.returns-in_default-clause-runs g c).In_default).count
 
 pub loop-bytes-smaller : goal.loop-bytes-smaller
 loop-bytes-smaller g c =
-    let start = g.S.BlockStore.zone c.args.store.now in
-    let i = c.loop-bytes.invariant in
-    let within = next-within c.loop-bytes.index c.in-Some.run' start (g.S.BlockStore.zone c.loop-bytes.store) i.zone
-    c.in-Some.ensures in
-    omega arith
+    let start = c.args.store.now in
+    let store = c.loop-bytes.store in
+    let above = higher c.args.bytes (g.S.BlockStore.zone start) (g.S.BlockStore.rest start)
+    (g.S.BlockStore.zone store) (g.S.BlockStore.rest store) c.loop-bytes.run c.loop-bytes.stretches c.in-Some.next
+    c.loop-bytes.invariant c.in-Some.ensures in
+    omega (arith, above.0, above.1)
 
 pub loop-bytes-preserved : goal.loop-bytes-preserved
 loop-bytes-preserved g c =
-    let start = g.S.BlockStore.zone c.args.store.now in
-    let zone = g.S.BlockStore.zone c.loop-bytes.store in
-    let zone' = g.S.BlockStore.zone c.settle.new.self in
-    let first = g.S.BlockStore.rest c.args.store.now in
-    let rest = g.S.BlockStore.rest c.loop-bytes.store in
-    let rest' = g.S.BlockStore.rest c.settle.new.self in
-    let k = c.loop-bytes.index in
-    let i = c.loop-bytes.invariant in
-    let found = c.in-Some.ensures in
-    let within = next-within k c.in-Some.run' start zone i.zone found in
-    record {
-      within = omega arith;
-      zone = settled-next k c.in-Some.run' start zone zone' (g.met.S.BlockStore.tidied c.args.store.now) i.zone found
-          c.settle.ensures.zone;
-      moves = moves-next k c.in-Some.run' start zone first rest rest' i.zone found c.settle.ensures.rest i.moves;
-      stretches = stretches-next k c.in-Some.run' start zone c.block_at.result c.in_run.result c.from-stretches.result
-          c.loop-bytes.stretches (g.met.S.BlockStore.tidied c.loop-bytes.store) i.zone found c.block_at.ensures
-          c.in_run.ensures c.from-stretches.ensures i.stretches;
-      rest = keeps-next c.in-Some.run' zone found.0 first rest rest' found.2 c.settle.ensures.rest i.rest;
-      none = none-next c.args.bytes start zone k i.zone (sym (c.has_room.ensures.now refl) ∙ c.loop-bytes-test.true)
-          i.none;
-    }
+    let start = c.args.store.now in
+    let store = c.loop-bytes.store in
+    let after = c.settle.new.self in
+    goes-on c.args.bytes (g.S.BlockStore.zone start) (g.S.BlockStore.rest start) (g.S.BlockStore.zone store)
+    (g.S.BlockStore.rest store) c.loop-bytes.run c.loop-bytes.stretches c.in-Some.next
+    (c.loop-bytes.stretches + c.from-stretches.result) (g.S.BlockStore.zone after) (g.S.BlockStore.rest after)
+    c.loop-bytes.invariant (more g (goal.at.loop-bytes-preserved g c).After-settle) c.in-Some.ensures
 
-pub returns-clause-runs : goal.returns-clause-runs
-returns-clause-runs g c =
-    let start = g.S.BlockStore.zone c.args.store.now in
-    let zone = g.S.BlockStore.zone c.loop-bytes.store in
-    let k = c.loop-bytes.index in
-    let i = c.loop-bytes.invariant in
-    let all : k ≡ runs_settled c.args.bytes start = sym (settled-enough c.args.bytes start zone k i.zone i.within i.none
-    (inl (sym (c.has_room.ensures.now refl) ∙ c.loop-bytes-test.false))) in
-    stretches-end c.loop-bytes.stretches (runs_settled c.args.bytes start) k (runs start) i.stretches all
+-- there is room
+served : (g : Over) (c : After-loop-bytes g) → IsCompacted c.args.bytes (g.S.BlockStore.zone c.args.store.now)
+    (g.S.BlockStore.rest c.args.store.now) (g.S.BlockStore.zone c.loop-bytes.store)
+    (g.S.BlockStore.rest c.loop-bytes.store) c.loop-bytes.stretches
+served g c =
+    let start = c.args.store.now in
+    let store = c.loop-bytes.store in
+    ends-there c.args.bytes (g.S.BlockStore.zone start) (g.S.BlockStore.rest start) (g.S.BlockStore.zone store)
+    (g.S.BlockStore.rest store) c.loop-bytes.run c.loop-bytes.stretches c.loop-bytes.invariant
+    (sym (c.has_room.ensures.now refl) ∙ c.loop-bytes-test.false)
 
 pub returns-clause-zone : goal.returns-clause-zone
-returns-clause-zone g c =
-    let start = g.S.BlockStore.zone c.args.store.now in
-    let zone = g.S.BlockStore.zone c.loop-bytes.store in
-    let k = c.loop-bytes.index in
-    let i = c.loop-bytes.invariant in
-    let all : k ≡ runs_settled c.args.bytes start = sym (settled-enough c.args.bytes start zone k i.zone i.within i.none
-    (inl (sym (c.has_room.ensures.now refl) ∙ c.loop-bytes-test.false))) in
-    zone-end k (runs_settled c.args.bytes start) start zone i.zone all
+returns-clause-zone g c = (served g c).zone_is
 
 pub returns-clause-moves : goal.returns-clause-moves
-returns-clause-moves g c =
-    let start = g.S.BlockStore.zone c.args.store.now in
-    let zone = g.S.BlockStore.zone c.loop-bytes.store in
-    let k = c.loop-bytes.index in
-    let i = c.loop-bytes.invariant in
-    let all : k ≡ runs_settled c.args.bytes start = sym (settled-enough c.args.bytes start zone k i.zone i.within i.none
-    (inl (sym (c.has_room.ensures.now refl) ∙ c.loop-bytes-test.false))) in
-    moves-end k (runs_settled c.args.bytes start) (g.S.BlockStore.rest c.args.store.now).moves
-    (g.S.BlockStore.rest c.loop-bytes.store).moves (runs start) i.moves all
+returns-clause-moves g c = (served g c).moves
+
+pub returns-clause-rest : goal.returns-clause-rest
+returns-clause-rest g c = (served g c).keeps
+
+pub returns-clause-runs : goal.returns-clause-runs
+returns-clause-runs g c = (served g c).count

@@ -1,5 +1,15 @@
+use Rattle.std.proofs.Common.{◌≡◌, length}
+use Rattle.block_store.proofs.Zone.Edges.{used-some}
+use Rattle.heap_calls.specs.Inner.NewBlock.{fresh_block}
 use Rattle.heap_calls.proofs.Filled.Replaced.{may-flag, is-replaced, fixed-replaced}
 use Rattle.heap_calls.proofs.filling.fill_new.Goals as goal
+
+pub place_of-requires : goal.place_of-requires
+place_of-requires g c =
+    let store = c.args.store.now in
+    used-some (g.S.BlockStore.rest store).slots (g.S.BlockStore.zone store) c.args.slot
+    (λ s. s.here ≡ fresh_block c.args.slot (length c.args.bytes.now)) (g.met.S.BlockStore.no_block store c.args.slot)
+    c.requires
 
 pub set_flags-requires : goal.set_flags-requires
 set_flags-requires g c =

@@ -1,6 +1,14 @@
+use Rattle.std.proofs.Common.{ap, is_some}
 use Rattle.block_store.specs.Block.{is_relocatable}
+use Rattle.block_store.proofs.Zone.Edges.{used-there}
 use Rattle.heap_calls.proofs.Sizes.Steady.{fixed-grown_up}
 use Rattle.heap_calls.proofs.growing.grow_up.Goals as goal
+
+pub place_of-requires : goal.place_of-requires
+place_of-requires g c =
+    let store = c.args.store.now in
+    used-there (g.S.BlockStore.rest store).slots (g.S.BlockStore.zone store) c.args.number
+    (g.met.S.BlockStore.no_block store c.args.number) (ap is_some c.requires.1)
 
 pub returns-clause-fixed : goal.returns-clause-fixed
 returns-clause-fixed g c =

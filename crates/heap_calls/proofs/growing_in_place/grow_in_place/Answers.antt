@@ -1,5 +1,5 @@
-use Rattle.std.proofs.Common.{◌≡◌, ◌-◌, ◌≤◌, ◌<◌, ◌++◌, ◌∷◌, ◌⊎◌, inr, ℕ, Bool, false, Option, Some, None, List, sym}
-use Rattle.std.proofs.Common.{◌∙◌, ap, subst, arith}
+use Rattle.std.proofs.Common.{◌≡◌, ◌+◌, ◌-◌, ◌≤◌, ◌<◌, ◌++◌, ◌∷◌, ◌⊎◌, inr, ℕ, Bool, false, Option, Some, None, List}
+use Rattle.std.proofs.Common.{sym, ◌∙◌, ap, subst, arith}
 use Rattle.std.specs.Option.{IfSome, IsSome}
 use Rattle.block_store.specs.Block.{Block, size, resized}
 use Rattle.block_store.specs.Run.{segments}
@@ -14,6 +14,8 @@ use Rattle.heap_calls.proofs.Sizes.GrowingInPlace.{grown-pushed, spot_at-above, 
 use Rattle.block_store.specs.Block.{is_fixed}
 use Rattle.block_store.specs.Run.{has}
 use Rattle.block_store.proofs.Plain.Options.{some_and}
+use Rattle.block_store.proofs.Zone.Edges.{edge-behind}
+use Rattle.block_store.specs.Find.{IsEdge}
 use Rattle.heap_calls.proofs.Numbering.Changing.{fixed-at}
 use Rattle.heap_calls.proofs.Room.Staying.{fixed-grow_fixed, alike-resized}
 use Rattle.heap_calls.proofs.growing_in_place.grow_in_place.Goals as goal
@@ -28,6 +30,15 @@ overflow_add-place g c =
     let is = spot_if (spot_at c.args.place zone) still.0 (λ s. c.bytes_at-taken.result ≡ size s.here) still.1
     c.bytes_at-taken.ensures in
     omega (arith, is, spot-small c.args.place zone still.0 still.1, g.met.S.BlockStore.small c.args.store.now)
+
+pub has_room_at-requires : goal.has_room_at-requires
+has_room_at-requires g c =
+    let place = c.args.place in
+    let zone = g.S.BlockStore.zone c.args.store.now in
+    let still = some_and (spot_at place zone) _ c.requires.still in
+    let is = spot_if (spot_at place zone) still.0 (λ s. c.bytes_at-taken.result ≡ size s.here) still.1
+    c.bytes_at-taken.ensures in
+    subst (λ (n : ℕ). IsEdge (place + n) zone) (sym is) (edge-behind place zone still.0 still.1)
 
 -- what resizing asks of a spot
 abbrev Resizes : ℕ → Spot → Type 0

@@ -1,18 +1,11 @@
-use Rattle.std.proofs.Common.{◌∙◌, ap}
-use Rattle.std.specs.Option.{option_map}
-use Rattle.block_store.specs.Block.{sizes}
-use Rattle.block_store.specs.Room.{Spot, spot, may_go, emptied}
-use Rattle.block_store.specs.Sparing.{purged, opened, spared}
+use Rattle.std.proofs.Common.{◌∙◌, ap, subst}
+use Rattle.block_store.specs.Room.{may_go}
+use Rattle.block_store.specs.Find.{FindsLowest}
+use Rattle.block_store.specs.Sparing.{purged, spared}
 use Rattle.block_store.specs.Inner.ListStore.{blocks_of}
-use Rattle.block_store.proofs.Zone.Apart.{apart-tidy}
-use Rattle.block_store.proofs.Zone.Spots.{finds}
 use Rattle.block_store.proofs.list_store.ListStoreBlockStore.next_purgeable.Goals as goal
 
 pub returns : goal.returns
 returns c =
-    let zone = blocks_of c.args.self.now.blocks.items in
-    let goes = may_go (spared c.args.sparing) in
-    finds goes (purged c.args.purges c.args.sparing zone) c.find_purgeable.result
-    (apart-tidy (emptied c.args.purges (spared c.args.sparing) (opened c.args.sparing zone)))
-    (c.find_purgeable.ensures ∙ ap (λ l. option_map (λ (s : Spot). sizes s.below)
-    (spot goes (purged c.args.purges c.args.sparing (blocks_of l)))) c.deref.ensures.value)
+    subst (λ z. FindsLowest (may_go (spared c.args.sparing)) (purged c.args.purges c.args.sparing z)
+    c.next_purgeable_in.result) (c.walk_over.ensures ∙ ap blocks_of c.deref.ensures.value) c.next_purgeable_in.ensures

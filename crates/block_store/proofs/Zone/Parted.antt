@@ -1,0 +1,79 @@
+use Rattle.std.proofs.Common.{◌≡◌, ◌+◌, ◌-◌, zero, suc, true, false, ◌==◌, List, [], ◌∷◌, ◌++◌, refl}
+use Rattle.std.proofs.Common.{◌∙◌, ap, arith, Some, nat_le}
+use Rattle.std.proofs.lemmas.Bool.{cond-true, cond-false}
+use Rattle.std.proofs.lemmas.Bool.Decides.{nat_tests}
+use Rattle.std.specs.Option.{option_map}
+use Rattle.block_store.specs.Block.{Block, Free, Fixed, Masters, Relocatable, size, sizes, add, tidy}
+use Rattle.block_store.specs.Room.{raised, spot_at}
+use Rattle.block_store.specs.Inner.Stretch.{is_free}
+use Rattle.block_store.proofs.Zone.Apart.{Apart, apart-above, apart-next, apart-size, apart-tidied, longer, tidy-apart}
+
+-- A zone parted by a block that isn't Free.
+
+-- such a block joins with none above it
+add-solid : (b : Block) (bs : List Block) → is_free b ≡ false → add b bs ≡ b ∷ bs
+add-solid (Free n) bs e = let f : true ≡ false = e in cc
+add-solid (Fixed id content) bs e = refl
+add-solid Masters bs e = refl
+add-solid (Relocatable id flags content) bs e = refl
+
+-- and nothing below it joins with what is above it
+add-before : (c : Block) (below : List Block) (b : Block) (above : List Block) → is_free b ≡ false
+    → add c (below ++ b ∷ above) ≡ add c below ++ b ∷ above
+add-before (Free zero) below b above e = refl
+add-before (Free (suc n)) [] (Free m) above e = let f : true ≡ false = e in cc
+add-before (Free (suc n)) [] (Fixed id content) above e = refl
+add-before (Free (suc n)) [] Masters above e = refl
+add-before (Free (suc n)) [] (Relocatable id flags content) above e = refl
+add-before (Free (suc n)) (Free m ∷ below) b above e = refl
+add-before (Free (suc n)) (Fixed id content ∷ below) b above e = refl
+add-before (Free (suc n)) (Masters ∷ below) b above e = refl
+add-before (Free (suc n)) (Relocatable id flags content ∷ below) b above e = refl
+add-before (Fixed id content) below b above e = refl
+add-before Masters below b above e = refl
+add-before (Relocatable id flags content) below b above e = refl
+
+-- what is below such a block and what is above it are tidied by themselves
+pub tidy-parted : (below : List Block) (b : Block) (above : List Block) → is_free b ≡ false
+    → tidy (below ++ b ∷ above) ≡ tidy below ++ b ∷ tidy above
+tidy-parted [] b above e = add-solid b (tidy above) e
+tidy-parted (c ∷ below) b above e = ap (add c) (tidy-parted below b above e)
+    ∙ add-before c (tidy below) b (tidy above) e
+
+-- blocks below others stand apart by themselves
+pub apart-below : (below above : List Block) → Apart (below ++ above) → Apart below
+apart-below [] above a = tt
+apart-below (c ∷ []) above a = (alone c above a.0, tt)
+  where
+    alone : (c : Block) (bs : List Block) → add c bs ≡ c ∷ bs → add c [] ≡ c ∷ []
+    alone (Free zero) bs e = absurd (longer (Free zero) bs e)
+    alone (Free (suc n)) bs e = refl
+    alone (Fixed id content) bs e = refl
+    alone Masters bs e = refl
+    alone (Relocatable id flags content) bs e = refl
+apart-below (c ∷ d ∷ below) above a = (
+  apart-next c d (below ++ above) below a.0,
+  apart-below (d ∷ below) above a.1,
+)
+
+-- the block that stands above others is the one at the place where those end
+pub spot_at-parted : (below : List Block) (b : Block) (above : List Block) → Apart (below ++ b ∷ above)
+    → spot_at (sizes below) (below ++ b ∷ above) ≡ Some (record { below = below; here = b; above = above })
+spot_at-parted [] b above a = refl
+spot_at-parted (c ∷ below) b above a =
+    let big = apart-size c (below ++ b ∷ above) a.0 in
+    let n : sizes (c ∷ below) ≡ size c + sizes below = refl in
+    cond-false (sizes (c ∷ below) == 0) _ _ (grind (arith, nat_tests))
+    ∙ cond-true (nat_le (size c) (sizes (c ∷ below))) _ _ (grind (arith, nat_tests))
+    ∙ ap (λ k. option_map (raised c) (spot_at k (below ++ b ∷ above)))
+    (let z : sizes (c ∷ below) - size c ≡ sizes below = omega arith in z)
+    ∙ ap (option_map (raised c)) (spot_at-parted below b above a.1)
+
+-- a block that isn't Free in place of another such
+pub tidy-renamed : (below : List Block) (b c : Block) (above : List Block) → is_free b ≡ false → is_free c ≡ false
+    → tidy (below ++ b ∷ above) ≡ below ++ b ∷ above → tidy (below ++ c ∷ above) ≡ below ++ c ∷ above
+tidy-renamed below b c above e f t =
+    let a = apart-tidied (below ++ b ∷ above) t in
+    tidy-parted below c above f
+    ∙ (λ i. tidy-apart below (apart-below below (b ∷ above) a) i ++ c ∷ tidy-apart above
+    (apart-above below (b ∷ above) a).1 i)

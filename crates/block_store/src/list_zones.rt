@@ -1,0 +1,78 @@
+//! A memory whose zones are kept in lists.
+
+ghost use Rattle.std.specs.Prelude.{◌≡◌, ◌≤◌, ◌%◌, [], IfOk, vec_capacity};
+ghost use Rattle.windows.specs.declared.list.TheConstants.{MOST_WINDOWS};
+ghost use Rattle.block_store.specs.declared.measures.TheConstants.{GREATEST_ZONE};
+
+use crate::list_store::ListStore;
+use crate::maker::ZoneMaker;
+use crate::measures::{GREATEST_ZONE, UNIT};
+use std::alloc::{AllocError, Global};
+use windows::{MOST_WINDOWS, Window, put_window, take_window};
+
+/// A memory of which only the length and the open windows are noted: each zone is a `ListStore`, which keeps its
+/// bytes elsewhere.
+#[derive(Drop)]
+pub struct ListZones {
+    alloc: Global,
+    memory: u32,
+    windows: Vec<Window>,
+    ghost small: { memory ≤ GREATEST_ZONE },
+    ghost room: { MOST_WINDOWS ≤ vec_capacity windows },
+}
+
+impl ListZones {
+    /// A memory of `len` bytes with no zone in it. The room for the list of open windows is taken here.
+    ///
+    /// # Errors
+    ///
+    /// Where the host has no memory.
+    pub fn new(alloc: Global, len: u32) -> Result<ListZones, AllocError>
+        requires multiple { len % UNIT ≡ 0 }
+        requires some { UNIT ≤ len }
+        requires small { len ≤ GREATEST_ZONE }
+        ensures memory { IfOk result (λ z. ⟦<ListZones as ZoneMaker>⟧.memory z ≡ len) }
+        ensures none { IfOk result (λ z. ⟦<ListZones as ZoneMaker>⟧.windows z ≡ []) }
+    {
+        let windows = Vec::with_capacity(alloc, MOST_WINDOWS)?;
+        Ok(ListZones {
+            alloc,
+            memory: len,
+            windows,
+        })
+    }
+
+    /// The windows that are open, in the order of their places.
+    pub fn open_windows(&self) -> &[Window]
+        ensures { result.now ≡ ⟦<ListZones as ZoneMaker>⟧.windows self.now }
+    {
+        &self.windows
+    }
+}
+
+impl ZoneMaker for ListZones {
+    type Store = ListStore;
+
+    ghost use Rattle.std.specs.Prelude.{◌≡◌};
+
+    ghost memory = { λ z. z.memory };
+
+    ghost windows = { λ z. z.windows.items };
+
+    ghost made = { λ z w site. site.window.len ≡ w.len };
+
+    ghost left = { λ z w blocks. Unit {0} };
+
+    fn open(&mut self, window: Window) -> Result<ListStore, AllocError> {
+        let store = ListStore::new(self.alloc, window.len)?;
+        put_window(&mut self.windows, window);
+        Ok(store)
+    }
+
+    fn close(&mut self, window: Window, store: ListStore) {
+        drop(store);
+        take_window(&mut self.windows, window);
+    }
+
+    ghost small = { λ z. z.small };
+}

@@ -1,0 +1,77 @@
+//! The contract of a memory in which zones are opened and closed.
+
+ghost use Rattle.std.specs.Prelude.{◌≡◌, ℕ, ◌+◌, ◌≤◌, ◌<◌, ◌%◌, List, length, false, IsTrue, IsErr, IfOk};
+ghost use Rattle.std.specs.Prelude.{OnOk, OnErr};
+ghost use Rattle.std.specs.List.{Contains};
+ghost use Rattle.windows.specs.declared.Window.{Window};
+ghost use Rattle.windows.specs.declared.list.TheConstants.{MOST_WINDOWS};
+ghost use Rattle.windows.specs.Windows.{IsApart, Misses, with_window, without_window};
+ghost use Rattle.block_store.specs.Block.{Block, fresh};
+ghost use Rattle.block_store.specs.Slot.{is_used};
+ghost use Rattle.block_store.specs.Rest.{Site};
+ghost use Rattle.block_store.specs.declared.measures.TheConstants.{GREATEST_ZONE, LEAST_ZONE, SLOTS_A_BLOCK, UNIT};
+
+use crate::store::BlockStore;
+use std::alloc::AllocError;
+use windows::Window;
+
+/// A memory in which zones are opened and closed. Each lies in a window of its own, as each application has a
+/// partition of its own, and no byte of the memory is in two of them. At most `MOST_WINDOWS` are open at a time.
+///
+/// *Inside Macintosh: Processes*, chapter 1.
+pub trait ZoneMaker {
+    type Store: BlockStore;
+
+    /// How many bytes the memory has.
+    ghost memory: { Self → ℕ };
+
+    /// The windows that are open, in the order of their places.
+    ghost windows: { Self → List Window };
+
+    /// A store that lies at this site has its zone in this window of this memory.
+    ghost made: { Self → Window → Site → Type 0 };
+
+    /// The bytes in a window are those of a zone of these blocks. It says nothing where the memory has no bytes.
+    ghost left: { Self → Window → List Block → Type 0 };
+
+    /// A fresh zone in a window: a block of 64 master pointers, and the rest Free.
+    ///
+    /// # Errors
+    ///
+    /// Where the host has no memory. Nothing is changed then.
+    fn open(&mut self, window: Window) -> Result<Self::Store, AllocError>
+        requires multiples { (window.at % UNIT ≡ 0) × (window.len % UNIT ≡ 0) }
+        requires large { LEAST_ZONE ≤ window.len }
+        requires inside { window.at + window.len ≤ memory self.old }
+        requires apart { IsApart window.at window.len (windows self.old) }
+        requires few { length (windows self.old) < MOST_WINDOWS }
+        ensures zone { IfOk result (λ s. Self.Store.zone s ≡ fresh window.len) }
+        ensures no_handle { IfOk result (λ s. (number : ℕ) → is_used ((Self.Store.rest s).slots number) ≡ false) }
+        ensures unused { IfOk result (λ s. (Self.Store.rest s).unused ≡ SLOTS_A_BLOCK) }
+        ensures all { IfOk result (λ s. (Self.Store.rest s).all ≡ SLOTS_A_BLOCK) }
+        ensures moves { IfOk result (λ s. (Self.Store.rest s).moves ≡ 0) }
+        ensures made { IfOk result (λ s. made self.new window (Self.Store.rest s).window) }
+        ensures opened { OnOk result (windows self.new ≡ with_window window.at window.len (windows self.old)) }
+        ensures err { OnErr result (windows self.new ≡ windows self.old) }
+        ensures host { IsErr result → IsTrue Self.Store.TAKES_HOST }
+        ensures memory { memory self.new ≡ memory self.old }
+        ensures kept { (w : Window) (site : Site) → made self.old w site → made self.new w site }
+        ensures left { (w : Window) (blocks : List Block) →
+            Misses w window → left self.old w blocks → left self.new w blocks }
+        ensures same { IsErr result →
+            (w : Window) (blocks : List Block) → left self.old w blocks → left self.new w blocks };
+
+    /// Closes the zone of a window. Its bytes stay as they are until a window that meets it is opened.
+    fn close(&mut self, window: Window, store: Self::Store)
+        requires made { made self.old window (Self.Store.rest store).window }
+        requires open { Contains (windows self.old) window }
+        ensures closed { windows self.new ≡ without_window window.at window.len (windows self.old) }
+        ensures memory { memory self.new ≡ memory self.old }
+        ensures kept { (w : Window) (site : Site) → made self.old w site → made self.new w site }
+        ensures lies { left self.new window (Self.Store.zone store) }
+        ensures left { (w : Window) (blocks : List Block) →
+            Misses w window → left self.old w blocks → left self.new w blocks };
+
+    /// A memory has at most 2^27 bytes.
+    ghost small: { (maker : Self) → memory maker ≤ GREATEST_ZONE };
+}

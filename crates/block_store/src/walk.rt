@@ -1,0 +1,126 @@
+//! Walks over the blocks of a zone, whatever it lies in, and what is told of one block.
+
+ghost use Rattle.std.specs.Prelude.{◌≡◌, ◌<◌, ◌^◌, List, []};
+ghost use Rattle.block_store.specs.Block.{Block, Relocatable, free_of, is_relocatable, no_flags};
+ghost use Rattle.block_store.specs.Run.{in_run};
+ghost use Rattle.block_store.specs.Room.{may_go};
+ghost use Rattle.block_store.specs.Sparing.{spared};
+ghost use Rattle.block_store.specs.Seen.{seen};
+ghost use Rattle.block_store.specs.Inner.Stretch.{is_free, names, opened_block};
+ghost use Rattle.block_store.specs.Walk.{Tells, seen_size};
+
+use crate::entries::padded_size;
+use crate::measures::MASTERS_SIZE;
+use crate::sparing::{Seen, Sparing};
+
+/// What tells the blocks of a zone one after another, without their bytes.
+pub trait Walk {
+    /// The blocks that are still to come.
+    ghost rest: { Self → List Block };
+
+    /// The next block; none behind the last.
+    fn next_block(&mut self) -> Option<Seen>
+        ensures { Tells (rest self.old) result (rest self.new) };
+}
+
+/// The bytes that a block takes.
+pub fn size_of_seen(block: Seen) -> u32
+    requires { seen_size block < 2 ^ 32 }
+    ensures { result ≡ seen_size block }
+{
+    match block {
+        Seen::Free(n) => n,
+        Seen::Fixed(n) => padded_size(n as usize),
+        Seen::Masters => MASTERS_SIZE,
+        Seen::Relocatable(_, _, n) => padded_size(n as usize),
+    }
+}
+
+/// The Free bytes of a block.
+pub fn free_of_seen(block: Seen) -> u32
+    ensures { (b : Block) → seen b ≡ block → result ≡ free_of b }
+{
+    match block {
+        Seen::Free(n) => n,
+        _ => 0,
+    }
+}
+
+/// Whether a slot leads to a block.
+pub fn is_of(block: Seen, number: u32) -> bool
+    ensures { (b : Block) → seen b ≡ block → result ≡ is_relocatable number b }
+{
+    match block {
+        Seen::Relocatable(slot, _, _) => slot == number,
+        _ => false,
+    }
+}
+
+/// Whether a run may have a block.
+pub fn is_in_run(block: Seen) -> bool
+    ensures { (b : Block) → seen b ≡ block → result ≡ in_run b }
+{
+    match block {
+        Seen::Free(_) => true,
+        Seen::Relocatable(_, flags, _) => !flags.locked,
+        _ => false,
+    }
+}
+
+/// Whether a block is Free, or counts as Free.
+pub fn is_counted_free(block: Seen, sparing: Sparing) -> bool
+    ensures { (b : Block) → seen b ≡ block → result ≡ is_free (opened_block sparing b) }
+{
+    match (block, sparing) {
+        (Seen::Free(_), _) => true,
+        (Seen::Relocatable(slot, _, _), Sparing::Freed(freed)) => slot == freed,
+        _ => false,
+    }
+}
+
+/// Whether a call names a slot.
+fn is_named(slot: u32, sparing: Sparing) -> bool
+    ensures { result ≡ names sparing slot }
+{
+    match sparing {
+        Sparing::Nothing => false,
+        Sparing::One(one) => slot == one,
+        Sparing::Two(one, other) => slot == one || slot == other,
+        Sparing::Freed(freed) => slot == freed,
+    }
+}
+
+/// Whether a block is emptied where purges are left.
+pub fn may_be_emptied(block: Seen, sparing: Sparing) -> bool
+    ensures { (b : Block) → seen b ≡ block → result ≡ may_go (spared sparing) (opened_block sparing b) }
+{
+    match block {
+        Seen::Relocatable(slot, flags, _) => {
+            !flags.locked && flags.purgeable && !is_named(slot, sparing)
+        }
+        _ => false,
+    }
+}
+
+/// Whether a search spares the block of a slot.
+pub fn is_spared(slot: u32, sparing: Sparing) -> bool
+    ensures { result ≡ spared sparing (Relocatable slot no_flags []) }
+{
+    match sparing {
+        Sparing::One(one) => slot == one,
+        Sparing::Two(one, other) => slot == one || slot == other,
+        _ => false,
+    }
+}
+
+/// Whether a block may be emptied as it stands.
+pub fn may_go_now(block: Seen, sparing: Sparing) -> bool
+    ensures { (b : Block) → seen b ≡ block → result ≡ may_go (spared sparing) b }
+{
+    match block {
+        Seen::Relocatable(slot, flags, _) => {
+            !flags.locked && flags.purgeable && !is_spared(slot, sparing)
+        }
+        _ => false,
+    }
+}
