@@ -24,13 +24,23 @@ pub use run::run_script;
 pub use turns::up_to_wait;
 
 #[cfg(test)]
+mod both;
+#[cfg(test)]
 mod changing_tests;
 #[cfg(test)]
 mod disk;
 #[cfg(test)]
 mod ending_tests;
 #[cfg(test)]
+mod examples_tests;
+#[cfg(test)]
+mod generated_tests;
+#[cfg(test)]
 mod grow_tests;
+#[cfg(test)]
+mod housed;
+#[cfg(test)]
+mod image;
 #[cfg(test)]
 mod resource_tests;
 #[cfg(test)]

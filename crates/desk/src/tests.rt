@@ -2,15 +2,14 @@
 
 ghost use Rattle.std.specs.Prelude.{◌≡◌, ◌%◌, ◌≤◌};
 
+use crate::both::both_leave;
 use crate::disk::Texts;
-use crate::run_script;
-use script_text::read_script;
 use std::alloc::Global;
 use std::process::Abort;
 use std::test::Fail;
 
 /// Runs a script of these calls in a partition of so many bytes. Each call stands with the code that answers it, and
-/// with the values behind the code.
+/// with the values behind the code. Both stores of blocks answer so.
 pub fn play(rt: &impl Abort, alloc: Global, size: u32, rows: &[(&str, &str)]) -> Result<(), Fail>
     requires even { size % 16 ≡ 0 }
     requires low { 512 ≤ size }
@@ -18,14 +17,13 @@ pub fn play(rt: &impl Abort, alloc: Global, size: u32, rows: &[(&str, &str)]) ->
 {
     let mut texts = Texts::of_rows(alloc, size, rows)?;
     texts.transcript.push_str("end 0\n")?;
-    match read_script(alloc, texts.script.as_bytes()) {
-        Ok(script) => {
-            let transcript = run_script(alloc, size, &script)?;
-            assert_eq!(rt; transcript.as_slice(), texts.transcript.as_bytes());
-            Ok(())
-        }
-        Err(_) => Err(Fail::new("a faulty script")),
-    }
+    both_leave(
+        rt,
+        alloc,
+        size,
+        texts.script.as_bytes(),
+        texts.transcript.as_bytes(),
+    )
 }
 
 /// The answer to a `Show` of bytes that begin with these digits and go on with so many zeros.

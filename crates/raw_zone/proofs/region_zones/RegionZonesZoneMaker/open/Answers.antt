@@ -1,0 +1,9 @@
+use Rattle.std.proofs.Common.{rules, ℕ}
+use Rattle.std.proofs.lemmas.List.{length-replicate}
+use Rattle.zone_bytes.proofs.Regions.Kept.{lies-kept}
+use Rattle.raw_zone.proofs.region_zones.RegionZonesZoneMaker.open.Goals as goal
+
+pub returns-clause-left : goal.returns-clause-left
+returns-clause-left c =
+    lies-kept c.args.window.at _ c.args.self.now.region.bytes c.cut-part.new.self.bytes c.args.window (search rules)
+    (length-replicate {A = ℕ} c.args.window.len 0) c.requires.inside c.cut-part.ensures.bytes

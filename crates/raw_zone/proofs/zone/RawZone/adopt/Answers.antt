@@ -1,0 +1,115 @@
+use Rattle.std.proofs.Common.{◌≡◌, ◌∙◌, ◌++◌, ◌∷◌, true, false, ℕ, IsTrue, ap, sym, subst, arith}
+use Rattle.std.specs.Option.{IfSome, IsSomeAnd}
+use Rattle.block_store.specs.Block.{Relocatable, is_fixed, is_relocatable, is_masters, content_of, count, free_sum}
+use Rattle.block_store.specs.Run.{has}
+use Rattle.block_store.specs.Room.{spot_at}
+use Rattle.block_store.specs.Slot.{is_used}
+use Rattle.block_store.specs.Rest.{IsRest}
+use Rattle.zone_bytes.specs.Decode.{zone_in}
+use Rattle.zone_bytes.specs.Table.{slot_in}
+use Rattle.zone_bytes.specs.Beside.{rest_in}
+use Rattle.raw_zone.specs.Held.{Held}
+use Rattle.raw_zone.specs.Raw.{held}
+use Rattle.raw_zone.specs.Parted.{zone_of, rest_of}
+use Rattle.zone_bytes.proofs.Places.AtPlace.{way-at, inside, some-here}
+use Rattle.zone_bytes.proofs.Places.Options.{if-spot, one-spot}
+use Rattle.zone_bytes.proofs.Laws.Lawful.{Made, rest-made, kept-made}
+use Rattle.zone_bytes.proofs.Blocks.Adopted.{FixedAt, fixed-at, adopt-reads-in, adopted-at, masters-adopted}
+use Rattle.zone_bytes.proofs.Blocks.Adopted.{free-adopted}
+use Rattle.raw_zone.proofs.zone.RawZone.adopt.Goals as goal
+
+-- what is asked, of the zone inside
+record Asked (z : Held) (place number : ℕ) : Type 0 where
+  fixed : FixedAt z.part.bytes place
+  used : IsTrue (is_used ((rest_of z).slots number))
+  no_block : has (is_relocatable number) (zone_of z) ≡ false
+
+asked : (z view : Held) (place number : ℕ) → z ≡ view
+    → IsSomeAnd (spot_at place (zone_of view)) (λ s. is_fixed place s.here ≡ true)
+    → IsTrue (is_used ((rest_of view).slots number)) → has (is_relocatable number) (zone_of view) ≡ false
+    → Asked z place number
+asked z view place number e block used none = record {
+  fixed = fixed-at z.part.bytes place
+      (subst (λ v. IsSomeAnd (spot_at place (zone_of v)) (λ s. is_fixed place s.here ≡ true)) (sym e) block);
+  used = subst (λ v. IsTrue (is_used ((rest_of v).slots number))) (sym e) used;
+  no_block = subst (λ v. has (is_relocatable number) (zone_of v) ≡ false) (sym e) none;
+}
+
+pub adopt-requires-clause-way : goal.adopt-requires-clause-way
+adopt-requires-clause-way c =
+    let i = c.self.inside in
+    let q = c.requires in
+    let asks = asked (held i) c.args.self.now c.args.place c.args.number c.self.view_is q.block q.used q.no_block in
+    let a = asks.fixed in
+    way-at i.part.bytes i.first i.unused c.self.invariant.sound c.args.place a.s a.is
+
+pub adopt-requires-clause-some : goal.adopt-requires-clause-some
+adopt-requires-clause-some c =
+    let i = c.self.inside in
+    let q = c.requires in
+    let asks = asked (held i) c.args.self.now c.args.place c.args.number c.self.view_is q.block q.used q.no_block in
+    let a = asks.fixed in
+    let n = inside i.part.bytes i.first i.unused c.self.invariant.sound c.args.place a.s a.is in
+    let m = some-here i.part.bytes i.first i.unused c.self.invariant.sound c.args.place a.s a.is in
+    omega (arith, n, m)
+
+pub adopt-requires-clause-slot : goal.adopt-requires-clause-slot
+adopt-requires-clause-slot c =
+    let i = c.self.inside in
+    let q = c.requires in
+    let a = asked (held i) c.args.self.now c.args.place c.args.number c.self.view_is q.block q.used q.no_block in
+    adopt-reads-in i.part.bytes i.first i.unused c.self.invariant.sound c.args.place a.fixed c.args.number c.args.flags
+    a.used a.no_block
+
+pub invariant_of-self-inside : goal.invariant_of-self-inside
+invariant_of-self-inside c =
+    let i = c.self.inside in
+    let q = c.requires in
+    let a = asked (held i) c.args.self.now c.args.place c.args.number c.self.view_is q.block q.used q.no_block in (
+      (adopted-at i.part.bytes i.first i.unused c.self.invariant.sound c.args.place a.fixed c.args.number c.args.flags
+          a.used a.no_block c.adopt.new.part.bytes c.adopt.ensures.bytes).lawful,
+      tt,
+    )
+
+done : (c : goal.After-self-1) → (a : FixedAt c.self.inside.part.bytes c.args.place)
+    × Made c.adopt.new.part.bytes c.self.inside.first c.self.inside.unused
+    (a.s.below ++ Relocatable c.args.number c.args.flags a.content ∷ a.s.above) (slot_in c.self.inside.part.bytes)
+done c =
+    let i = c.self.inside in
+    let q = c.requires in
+    let a = asked (held i) c.args.self.now c.args.place c.args.number c.self.view_is q.block q.used q.no_block in (
+      a.fixed,
+      adopted-at i.part.bytes i.first i.unused c.self.invariant.sound c.args.place a.fixed c.args.number c.args.flags
+          a.used a.no_block c.adopt.new.part.bytes c.adopt.ensures.bytes,
+    )
+
+pub invariant_of-self : goal.invariant_of-self
+invariant_of-self c =
+    let d = done c in
+    let a = d.0 in
+    kept-made _ _ _ _ _ _ d.1 (c.self.invariant.free_is ∙ ap free_sum a.whole
+    ∙ sym (free-adopted a.s.below a.id c.args.number c.args.flags a.content a.s.above))
+
+pub returns-clause-zone : goal.returns-clause-zone
+returns-clause-zone c =
+    let xs = c.self.inside.part.bytes in
+    let d = done c in
+    let a = d.0 in
+    subst (λ v. IfSome (spot_at c.args.place (zone_of v)) (λ s. zone_in c.adopt.new.part.bytes
+    ≡ s.below ++ Relocatable c.args.number c.args.flags (content_of s.here) ∷ s.above)) c.self.view_is
+    (if-spot (spot_at c.args.place (zone_in xs)) (λ s. zone_in c.adopt.new.part.bytes
+    ≡ s.below ++ Relocatable c.args.number c.args.flags (content_of s.here) ∷ s.above) (λ s e.
+    subst (λ s. zone_in c.adopt.new.part.bytes
+    ≡ s.below ++ Relocatable c.args.number c.args.flags (content_of s.here) ∷ s.above)
+    (one-spot (spot_at c.args.place (zone_in xs)) a.s s a.is e)
+    (d.1.zone ∙ ap (λ b. a.s.below ++ Relocatable c.args.number c.args.flags (content_of b) ∷ a.s.above) (sym a.here))))
+
+pub returns-clause-rest : goal.returns-clause-rest
+returns-clause-rest c =
+    let i = c.self.inside in
+    let d = done c in
+    let a = d.0 in
+    subst (λ v. IsRest (rest_of v) (rest_in c.adopt.new.part i.unused i.moves)) c.self.view_is
+    (rest-made i.part c.adopt.new.part (slot_in i.part.bytes) i.unused i.moves d.1.slots
+    (ap (count is_masters) d.1.zone ∙ masters-adopted a.s.below a.id c.args.number c.args.flags a.content a.s.above
+    ∙ ap (count is_masters) (sym a.whole)) c.adopt.ensures.same)

@@ -1,0 +1,52 @@
+use Rattle.std.proofs.Common.{◌≡◌, ℕ, Some, sym, subst}
+use Rattle.std.specs.Option.{IfSome, IsSome}
+use Rattle.block_store.specs.Block.{is_relocatable}
+use Rattle.block_store.specs.Room.{Spot, spot}
+use Rattle.block_store.specs.Find.{FindsLowest}
+use Rattle.block_store.specs.Seen.{seen}
+use Rattle.block_store.specs.declared.sparing.Seen.TheVariants as see
+use Rattle.zone_bytes.specs.Decode.{zone_in}
+use Rattle.raw_zone.specs.Held.{Held}
+use Rattle.raw_zone.specs.Raw.{held}
+use Rattle.raw_zone.specs.Parted.{zone_of}
+use Rattle.zone_bytes.proofs.Places.Options.{a-spot, if-spot}
+use Rattle.zone_bytes.proofs.Places.LedTo.{led-slot, leads-here, led-found, led-told}
+use Rattle.raw_zone.proofs.zone.RawZone.block_of.Goals as goal
+
+-- the block that the slot leads to
+led : (old : Held) (view : Held) (number : ℕ) → old ≡ view → IsSome (spot (is_relocatable number) (zone_of view))
+    → (s : Spot) × (spot (is_relocatable number) (zone_of old) ≡ Some s)
+led old view number e some = a-spot (spot (is_relocatable number) (zone_of old))
+    (subst (λ v. IsSome (spot (is_relocatable number) (zone_of v))) (sym e) some)
+
+pub block_of_slot-requires-clause-slot : goal.block_of_slot-requires-clause-slot
+block_of_slot-requires-clause-slot c =
+    let i = c.self.inside in
+    let a = led (held i) c.args.self.now c.args.number c.self.view_is c.requires in
+    led-slot i.part.bytes i.first i.unused c.self.invariant.sound c.args.number a.0 a.1
+
+pub block_of_slot-requires-clause-leads : goal.block_of_slot-requires-clause-leads
+block_of_slot-requires-clause-leads c =
+    let i = c.self.inside in
+    let a = led (held i) c.args.self.now c.args.number c.self.view_is c.requires in
+    leads-here i.part.bytes i.first i.unused c.self.invariant.sound c.args.number a.0 a.1
+
+pub returns-clause-place : goal.returns-clause-place
+returns-clause-place c =
+    let i = c.self.inside in
+    let a = led (held i) c.args.self.now c.args.number c.self.view_is c.requires in
+    subst (λ v. FindsLowest (is_relocatable c.args.number) (zone_of v) (Some c.block_of_slot.result.place))
+    c.self.view_is (led-found i.part.bytes i.first i.unused c.self.invariant.sound c.args.number a.0 a.1
+    c.block_of_slot.result.place
+    c.block_of_slot.ensures.place)
+
+pub returns-clause-block : goal.returns-clause-block
+returns-clause-block c =
+    let i = c.self.inside in
+    let r = c.block_of_slot.result in
+    subst (λ v. IfSome (spot (is_relocatable c.args.number) (zone_of v)) (λ s.
+    seen s.here ≡ see.Relocatable c.args.number r.flags r.length)) c.self.view_is
+    (if-spot (spot (is_relocatable c.args.number) (zone_in i.part.bytes))
+    (λ s. seen s.here ≡ see.Relocatable c.args.number r.flags r.length) (λ s e.
+    led-told i.part.bytes i.first i.unused c.self.invariant.sound c.args.number s e r.flags r.length
+    c.block_of_slot.ensures.block))

@@ -1,0 +1,97 @@
+use Rattle.std.proofs.Common.{◌≡◌, ◌+◌, ◌*◌, ◌++◌, ℕ, IsTrue, ap, sym, subst, arith}
+use Rattle.std.specs.Option.{IfSome, IsSomeAnd}
+use Rattle.block_store.specs.Block.{Masters, is_room, count, is_masters, free_sum}
+use Rattle.block_store.specs.Room.{spot_at, filled}
+use Rattle.block_store.specs.Slot.{is_used}
+use Rattle.zone_bytes.specs.Decode.{zone_in}
+use Rattle.zone_bytes.specs.Table.{Lays, slot_in}
+use Rattle.zone_bytes.specs.Mastering.{slots_at, with_slots}
+use Rattle.zone_bytes.proofs.Laws.Lawful.{Made, kept-made}
+use Rattle.zone_bytes.proofs.Places.Options.{the-if}
+use Rattle.zone_bytes.proofs.SlotTable.Slotted.{count-small}
+use Rattle.zone_bytes.proofs.Placed.FixedCarved.{Roomy, roomy, free-roomy}
+use Rattle.zone_bytes.proofs.Placed.MastersCarved.{masters-made, masters-free, masters-all, masters-zone, masters-slots}
+use Rattle.raw_zone.specs.Parted.{zone_of, rest_of}
+use Rattle.raw_zone.proofs.zone.RawZoneBlockStore.add_masters.Goals as goal
+use Rattle.raw_zone.proofs.zone.RawZoneBlockStore.add_masters.Goals.{After-add_masters}
+
+-- the Free block at the place
+there : (c : After-add_masters) → Roomy c.self.inside.part.bytes c.args.place 272
+there c =
+    roomy c.self.inside.part.bytes c.self.inside.first c.self.inside.unused c.args.place 272 c.self.invariant.sound
+    (subst (λ v. IsSomeAnd (spot_at c.args.place (zone_of v)) (λ s. IsTrue (is_room 272 s.here))) (sym c.self.view_is)
+    c.requires)
+
+laid : (c : After-add_masters) → Lays c.add_masters.new.part.bytes (filled Masters (there c).s)
+    (with_slots c.args.place (slot_in c.self.inside.part.bytes)) (slots_at c.args.place
+    ++ c.self.invariant.sound.unused)
+laid c = the-if _ _ (there c).s (there c).is (c.add_masters.ensures.lays c.self.inside.unused c.self.invariant.sound)
+
+done : (c : After-add_masters) → Made c.add_masters.new.part.bytes (c.args.place + 16) (c.self.inside.unused + 64)
+    (filled Masters (there c).s) (with_slots c.args.place (slot_in c.self.inside.part.bytes))
+done c =
+    masters-made c.self.inside.part.bytes c.add_masters.new.part.bytes c.self.inside.first c.self.inside.unused
+    c.args.place
+    c.self.invariant.sound (there c) (laid c)
+
+pub overflow_add-self : goal.overflow_add-self
+overflow_add-self c =
+    let r = there c in
+    let i = r.at.inside in
+    let g = r.at.some in
+    let m = r.at.small in
+    omega (arith, i, g, m)
+
+pub overflow_add-self-2 : goal.overflow_add-self-2
+overflow_add-self-2 c =
+    let b = count-small c.self.inside.part.bytes c.self.inside.first c.self.inside.unused c.self.invariant.sound in
+    omega (arith, b)
+
+pub overflow_sub-self : goal.overflow_sub-self
+overflow_sub-self c =
+    let q = free-roomy c.self.inside.part.bytes c.args.place 272 (there
+    (goal.at.overflow_sub-self c).After-add_masters) in
+    let f = c.self.invariant.free_is in
+    omega (arith, q, f)
+
+pub invariant_of-self-inside : goal.invariant_of-self-inside
+invariant_of-self-inside c = ((done (goal.at.invariant_of-self-inside c).After-add_masters).lawful, tt)
+
+pub invariant_of-self : goal.invariant_of-self
+invariant_of-self c =
+    let a = (goal.at.invariant_of-self c).After-add_masters in
+    let m = done a in
+    let q = masters-free c.self.inside.part.bytes c.add_masters.new.part.bytes c.self.inside.first c.self.inside.unused
+    c.args.place c.self.invariant.sound (there a) (laid a) in
+    let z = ap free_sum m.zone in
+    let f = c.self.invariant.free_is in
+    kept-made _ _ _ _ _ _ m (omega (arith, q, z, f))
+
+pub returns-clause-ok : goal.returns-clause-ok
+returns-clause-ok c =
+    let a = (goal.at.returns-clause-ok c).After-add_masters in
+    subst (λ v. IfSome (spot_at c.args.place (zone_of v))
+    (λ s. zone_in c.add_masters.new.part.bytes ≡ filled Masters s))
+    c.self.view_is
+    (masters-zone c.self.inside.part.bytes c.add_masters.new.part.bytes c.self.inside.first c.self.inside.unused
+    c.args.place
+    c.self.invariant.sound (there a) (laid a))
+
+pub returns-clause-all : goal.returns-clause-all
+returns-clause-all c =
+    let a = (goal.at.returns-clause-all c).After-add_masters in
+    subst (λ v. 64 * count is_masters (zone_in c.add_masters.new.part.bytes) ≡ 64 * count is_masters (zone_of v) + 64)
+    c.self.view_is
+    (masters-all c.self.inside.part.bytes c.add_masters.new.part.bytes c.self.inside.first c.self.inside.unused
+    c.args.place
+    c.self.invariant.sound (there a) (laid a))
+
+pub returns-clause-slots : goal.returns-clause-slots
+returns-clause-slots c =
+    let a = (goal.at.returns-clause-slots c).After-add_masters in
+    subst (λ v. (k : ℕ) → IsTrue (is_used ((rest_of v).slots k))
+    → slot_in c.add_masters.new.part.bytes k ≡ (rest_of v).slots k)
+    c.self.view_is
+    (masters-slots c.self.inside.part.bytes c.add_masters.new.part.bytes c.self.inside.first c.self.inside.unused
+    c.args.place
+    c.self.invariant.sound (there a) (laid a))

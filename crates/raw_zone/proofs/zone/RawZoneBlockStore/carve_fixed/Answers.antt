@@ -1,0 +1,93 @@
+use Rattle.std.proofs.Common.{◌≡◌, IsTrue, ap, sym, subst, arith, replicate}
+use Rattle.std.specs.Option.{IfSome, IsSomeAnd}
+use Rattle.mac_words.specs.Size.{padded}
+use Rattle.block_store.specs.Block.{Fixed, is_room, size, free_sum}
+use Rattle.block_store.specs.Room.{spot_at, filled}
+use Rattle.block_store.specs.Rest.{IsRest}
+use Rattle.zone_bytes.specs.Decode.{zone_in}
+use Rattle.zone_bytes.specs.Table.{slot_in}
+use Rattle.zone_bytes.specs.Beside.{rest_in}
+use Rattle.zone_bytes.proofs.Laws.Lawful.{Made, rest-made, kept-made}
+use Rattle.zone_bytes.proofs.Places.Options.{the-if}
+use Rattle.zone_bytes.proofs.Placed.FixedCarved.{Roomy, roomy, fixed-made, fixed-free, fixed-masters, fixed-zone}
+use Rattle.zone_bytes.proofs.Placed.FixedCarved.{free-roomy}
+use Rattle.raw_zone.specs.Parted.{zone_of, rest_of}
+use Rattle.raw_zone.proofs.zone.RawZoneBlockStore.carve_fixed.Goals as goal
+use Rattle.raw_zone.proofs.zone.RawZoneBlockStore.carve_fixed.Goals.{After-carve_fixed}
+
+-- the Free block at the place
+there : (c : After-carve_fixed) → Roomy c.self.inside.part.bytes c.args.place (padded c.args.size)
+there c =
+    roomy c.self.inside.part.bytes c.self.inside.first c.self.inside.unused c.args.place (padded c.args.size)
+    c.self.invariant.sound
+    (subst (λ v. IsSomeAnd (spot_at c.args.place (zone_of v)) (λ s. IsTrue (is_room (padded c.args.size) s.here)))
+    (sym c.self.view_is) c.requires)
+
+done : (c : After-carve_fixed) → Made c.carve_fixed.new.part.bytes c.self.inside.first c.self.inside.unused
+    (filled (Fixed c.args.place (replicate c.args.size 0)) (there c).s) (slot_in c.self.inside.part.bytes)
+done c =
+    let r = there c in
+    fixed-made c.self.inside.part.bytes c.carve_fixed.new.part.bytes c.self.inside.first c.self.inside.unused
+    c.args.place
+    c.args.size c.self.invariant.sound r
+    (the-if _ _ r.s r.is (c.carve_fixed.ensures.lays c.self.inside.first c.self.inside.unused c.self.invariant.sound))
+
+pub padded_size-requires : goal.padded_size-requires
+padded_size-requires c =
+    let r = there c in
+    let l = ap size r.here in
+    let f = r.room in
+    let i = r.at.inside in
+    let m = r.at.small in
+    omega (arith, l, f, i, m)
+
+pub overflow_sub-self : goal.overflow_sub-self
+overflow_sub-self c =
+    let r = there (goal.at.overflow_sub-self c).After-carve_fixed in
+    let q = free-roomy c.self.inside.part.bytes c.args.place (padded c.args.size) r in
+    let f = c.self.invariant.free_is in
+    let p = c.padded_size.ensures in
+    omega (arith, q, f, p)
+
+pub invariant_of-self-inside : goal.invariant_of-self-inside
+invariant_of-self-inside c = ((done (goal.at.invariant_of-self-inside c).After-carve_fixed).lawful, tt)
+
+pub invariant_of-self : goal.invariant_of-self
+invariant_of-self c =
+    let r = there (goal.at.invariant_of-self c).After-carve_fixed in
+    let m = done (goal.at.invariant_of-self c).After-carve_fixed in
+    let q = fixed-free c.self.inside.part.bytes c.carve_fixed.new.part.bytes c.self.inside.first c.self.inside.unused
+    c.args.place
+    c.args.size c.self.invariant.sound r
+    (the-if _ _ r.s r.is (c.carve_fixed.ensures.lays c.self.inside.first c.self.inside.unused
+    c.self.invariant.sound)) in
+    let z = ap free_sum m.zone in
+    let f = c.self.invariant.free_is in
+    let p = c.padded_size.ensures in
+    kept-made _ _ _ _ _ _ m (omega (arith, q, z, f, p))
+
+pub returns-clause-ok : goal.returns-clause-ok
+returns-clause-ok c =
+    subst (λ v. IfSome (spot_at c.args.place (zone_of v)) (λ s. zone_in c.carve_fixed.new.part.bytes ≡ filled
+    (Fixed c.args.place (replicate c.args.size 0)) s))
+    c.self.view_is
+    (fixed-zone c.self.inside.part.bytes c.carve_fixed.new.part.bytes c.self.inside.first c.self.inside.unused
+    c.args.place
+    c.args.size c.self.invariant.sound (there (goal.at.returns-clause-ok c).After-carve_fixed)
+    (the-if _ _ (there (goal.at.returns-clause-ok c).After-carve_fixed).s (there
+    (goal.at.returns-clause-ok c).After-carve_fixed).is
+    (c.carve_fixed.ensures.lays c.self.inside.first c.self.inside.unused c.self.invariant.sound)))
+
+pub returns-clause-rest : goal.returns-clause-rest
+returns-clause-rest c =
+    subst (λ v. IsRest (rest_of v) (rest_in c.carve_fixed.new.part c.self.inside.unused c.self.inside.moves))
+    c.self.view_is
+    (rest-made c.self.inside.part c.carve_fixed.new.part (slot_in c.self.inside.part.bytes) c.self.inside.unused
+    c.self.inside.moves (done (goal.at.returns-clause-rest c).After-carve_fixed).slots
+    (fixed-masters c.self.inside.part.bytes c.carve_fixed.new.part.bytes c.self.inside.first c.self.inside.unused
+    c.args.place
+    c.args.size c.self.invariant.sound (there (goal.at.returns-clause-rest c).After-carve_fixed)
+    (the-if _ _ (there (goal.at.returns-clause-rest c).After-carve_fixed).s (there
+    (goal.at.returns-clause-rest c).After-carve_fixed).is
+    (c.carve_fixed.ensures.lays c.self.inside.first c.self.inside.unused c.self.invariant.sound)))
+    c.carve_fixed.ensures.same)

@@ -1,0 +1,144 @@
+use Rattle.std.proofs.Common.{◌≡◌, ◌∙◌, ◌+◌, ◌≤◌, ◌∷◌, ◌++◌, Some, length, take, ap, sym, subst, arith}
+use Rattle.std.specs.Option.{IfSome, IsSomeAnd}
+use Rattle.windows.specs.Writes.{written}
+use Rattle.block_store.specs.Block.{content_of, with_content}
+use Rattle.block_store.specs.Room.{Spot, spot_at}
+use Rattle.block_store.specs.Rest.{IsRest}
+use Rattle.zone_bytes.specs.Decode.{zone_in}
+use Rattle.zone_bytes.specs.Table.{slot_in}
+use Rattle.zone_bytes.specs.Beside.{rest_in}
+use Rattle.zone_bytes.proofs.Places.Options.{if-spot, the-spot, one-spot}
+use Rattle.zone_bytes.proofs.Laws.Lawful.{rest-made}
+use Rattle.zone_bytes.proofs.Placed.Standing.{standing}
+use Rattle.zone_bytes.proofs.Placed.Copied.{holds-inside, copied, copied-kept, copied-masters}
+use Rattle.raw_zone.specs.Parted.{zone_of, rest_of}
+use Rattle.raw_zone.proofs.zone.RawZoneBlockStore.copy.Goals as goal
+use Rattle.raw_zone.proofs.zone.RawZoneBlockStore.copy.Goals.{After-move_bytes}
+
+pub overflow_add-source : goal.overflow_add-source
+overflow_add-source c =
+    let a = the-spot (spot_at c.args.source (zone_in c.self.inside.part.bytes)) (λ s. c.args.bytes ≤ length
+    (content_of s.here))
+    (subst (λ v. IsSomeAnd (spot_at c.args.source (zone_of v)) (λ s. c.args.bytes ≤ length (content_of s.here)))
+    (sym c.self.view_is) c.requires.source) in
+    let s = standing c.self.inside.part.bytes c.self.inside.first c.self.inside.unused c.args.source
+    c.self.invariant.sound a.0 a.1 in
+    let i = s.inside in
+    let g = s.some in
+    let m = s.small in
+    omega (arith, i, g, m)
+
+pub overflow_add-place : goal.overflow_add-place
+overflow_add-place c =
+    let a = the-spot (spot_at c.args.place (zone_in c.self.inside.part.bytes))
+    (λ s. c.args.from + c.args.bytes ≤ length (content_of s.here))
+    (subst (λ v. IsSomeAnd (spot_at c.args.place (zone_of v)) (λ s. c.args.from + c.args.bytes ≤ length
+    (content_of s.here))) (sym c.self.view_is) c.requires.within) in
+    let s = standing c.self.inside.part.bytes c.self.inside.first c.self.inside.unused c.args.place
+    c.self.invariant.sound a.0 a.1 in
+    let i = s.inside in
+    let g = s.some in
+    let m = s.small in
+    omega (arith, i, g, m)
+
+pub overflow_add-place-2 : goal.overflow_add-place-2
+overflow_add-place-2 c =
+    let a = the-spot (spot_at c.args.place (zone_in c.self.inside.part.bytes))
+    (λ s. c.args.from + c.args.bytes ≤ length (content_of s.here))
+    (subst (λ v. IsSomeAnd (spot_at c.args.place (zone_of v)) (λ s. c.args.from + c.args.bytes ≤ length
+    (content_of s.here))) (sym c.self.view_is) c.requires.within) in
+    let s = standing c.self.inside.part.bytes c.self.inside.first c.self.inside.unused c.args.place
+    c.self.invariant.sound a.0 a.1 in
+    let h = holds-inside c.self.inside.part.bytes c.args.place (c.args.from + c.args.bytes) a.0 s a.2 in
+    let m = s.small in
+    omega (arith, h, m)
+
+pub move_bytes-requires-clause-from : goal.move_bytes-requires-clause-from
+move_bytes-requires-clause-from c =
+    let a = the-spot (spot_at c.args.source (zone_in c.self.inside.part.bytes)) (λ s. c.args.bytes ≤ length
+    (content_of s.here))
+    (subst (λ v. IsSomeAnd (spot_at c.args.source (zone_of v)) (λ s. c.args.bytes ≤ length (content_of s.here)))
+    (sym c.self.view_is) c.requires.source) in
+    holds-inside c.self.inside.part.bytes c.args.source c.args.bytes a.0
+    (standing c.self.inside.part.bytes c.self.inside.first c.self.inside.unused c.args.source c.self.invariant.sound
+    a.0 a.1) a.2
+
+pub move_bytes-requires-clause-to : goal.move_bytes-requires-clause-to
+move_bytes-requires-clause-to c =
+    let a = the-spot (spot_at c.args.place (zone_in c.self.inside.part.bytes))
+    (λ s. c.args.from + c.args.bytes ≤ length (content_of s.here))
+    (subst (λ v. IsSomeAnd (spot_at c.args.place (zone_of v)) (λ s. c.args.from + c.args.bytes ≤ length
+    (content_of s.here))) (sym c.self.view_is) c.requires.within) in
+    let s = standing c.self.inside.part.bytes c.self.inside.first c.self.inside.unused c.args.place
+    c.self.invariant.sound a.0 a.1 in
+    let h = holds-inside c.self.inside.part.bytes c.args.place (c.args.from + c.args.bytes) a.0 s a.2 in
+    omega (arith, h)
+
+-- the block that is read, and the one that is written
+source-of : (c : After-move_bytes) → (s : Spot) × (spot_at c.args.source (zone_in c.self.inside.part.bytes) ≡ Some s)
+    × (c.args.bytes ≤ length (content_of s.here))
+source-of c = the-spot (spot_at c.args.source (zone_in c.self.inside.part.bytes)) (λ s. c.args.bytes ≤ length
+    (content_of s.here))
+    (subst (λ v. IsSomeAnd (spot_at c.args.source (zone_of v)) (λ s. c.args.bytes ≤ length (content_of s.here)))
+    (sym c.self.view_is) c.requires.source)
+
+target-of : (c : After-move_bytes) → (s : Spot) × (spot_at c.args.place (zone_in c.self.inside.part.bytes) ≡ Some s)
+    × (c.args.from + c.args.bytes ≤ length (content_of s.here))
+target-of c = the-spot (spot_at c.args.place (zone_in c.self.inside.part.bytes))
+    (λ s. c.args.from + c.args.bytes ≤ length (content_of s.here))
+    (subst (λ v. IsSomeAnd (spot_at c.args.place (zone_of v)) (λ s. c.args.from + c.args.bytes ≤ length
+    (content_of s.here))) (sym c.self.view_is) c.requires.within)
+
+pub invariant_of-self-inside : goal.invariant_of-self-inside
+invariant_of-self-inside c =
+    let t = source-of c in
+    let s = target-of c in
+    let m = copied c.self.inside.part.bytes c.self.inside.first c.self.inside.unused c.args.source c.args.bytes
+    c.args.place
+    c.args.from c.self.invariant.sound t.0 s.0 t.1 s.1 t.2 s.2 in
+    (rw c.move_bytes.ensures.bytes m.lawful, tt)
+
+pub invariant_of-self : goal.invariant_of-self
+invariant_of-self c =
+    let t = source-of (goal.at.invariant_of-self c).After-move_bytes in
+    let s = target-of (goal.at.invariant_of-self c).After-move_bytes in
+    rw c.move_bytes.ensures.bytes (copied-kept c.self.inside.part.bytes c.self.inside.first c.self.inside.unused
+    c.args.source
+    c.args.bytes c.args.place c.args.from c.self.invariant.sound t.0 s.0 t.1 s.1 t.2 s.2 c.self.inside.free
+    c.self.invariant.free_is)
+
+pub returns-clause-zone : goal.returns-clause-zone
+returns-clause-zone c =
+    let xs = c.self.inside.part.bytes in
+    let t1 = source-of (goal.at.returns-clause-zone c).After-move_bytes in
+    let s1 = target-of (goal.at.returns-clause-zone c).After-move_bytes in
+    subst (λ v. IfSome (spot_at c.args.source (zone_of v)) (λ t. IfSome (spot_at c.args.place (zone_of v)) (λ s.
+    zone_in c.move_bytes.new.part.bytes
+    ≡ s.below ++ with_content (written c.args.from (take c.args.bytes (content_of t.here))
+    (content_of s.here)) s.here ∷ s.above)))
+    c.self.view_is
+    (if-spot (spot_at c.args.source (zone_in xs)) _ (λ t e. if-spot (spot_at c.args.place (zone_in xs)) _ (λ s f.
+    ap zone_in c.move_bytes.ensures.bytes
+    ∙ (copied xs c.self.inside.first c.self.inside.unused c.args.source c.args.bytes c.args.place c.args.from
+    c.self.invariant.sound t s e f
+    (subst (λ q. c.args.bytes ≤ length (content_of q.here)) (one-spot (spot_at c.args.source
+    (zone_in xs)) t1.0 t t1.1 e) t1.2)
+    (subst (λ q. c.args.from + c.args.bytes ≤ length (content_of q.here)) (one-spot (spot_at c.args.place
+    (zone_in xs)) s1.0 s s1.1 f) s1.2)).zone)))
+
+pub returns-clause-rest : goal.returns-clause-rest
+returns-clause-rest c =
+    let t = source-of (goal.at.returns-clause-rest c).After-move_bytes in
+    let s = target-of (goal.at.returns-clause-rest c).After-move_bytes in
+    let m = copied c.self.inside.part.bytes c.self.inside.first c.self.inside.unused c.args.source c.args.bytes
+    c.args.place
+    c.args.from c.self.invariant.sound t.0 s.0 t.1 s.1 t.2 s.2 in
+    subst (λ v. IsRest (rest_of v) (rest_in c.move_bytes.new.part c.self.inside.unused c.self.inside.moves))
+    c.self.view_is
+    (rest-made c.self.inside.part c.move_bytes.new.part
+    (slot_in c.self.inside.part.bytes) c.self.inside.unused c.self.inside.moves
+    (rw c.move_bytes.ensures.bytes m.slots)
+    (rw c.move_bytes.ensures.bytes (copied-masters c.self.inside.part.bytes c.self.inside.first c.self.inside.unused
+    c.args.source
+    c.args.bytes c.args.place c.args.from c.self.invariant.sound t.0 s.0 t.1 s.1 t.2 s.2))
+    c.move_bytes.ensures.same)

@@ -1,0 +1,5 @@
+use Rattle.zone_bytes.specs.Placing.{hoist_at}
+use Rattle.raw_zone.proofs.zone.RawZoneBlockStore.hoist.Given as goal
+
+abbrev pub ghost-hoist_block : goal.ghost-hoist_block
+ghost-hoist_block a = hoist_at a.part.now.bytes a.place

@@ -1,0 +1,9 @@
+use Rattle.std.proofs.Common.{sym, ap, ◌∙◌}
+use Rattle.raw_zone.specs.Parted.{zone_of}
+use Rattle.block_store.specs.Block.{sizes}
+use Rattle.zone_bytes.proofs.Laws.Lawful.{sizes-length}
+use Rattle.raw_zone.proofs.zone.RawZoneBlockStore.len.Goals as goal
+
+pub returns : goal.returns
+returns c = let i = c.self.invariant.sound in c.len.ensures.count ∙ sym (sizes-length _ _ _ _ i.lays)
+    ∙ ap (λ v. sizes (zone_of v)) c.self.view_is

@@ -1,0 +1,23 @@
+use Rattle.std.proofs.Common.{◌∙◌, ap, sym, subst, ◌<◌, ◌^◌}
+use Rattle.block_store.specs.Block.{sizes}
+use Rattle.block_store.specs.Find.{FindsLowest}
+use Rattle.block_store.specs.Room.{may_go}
+use Rattle.block_store.specs.Sparing.{purged, spared}
+use Rattle.raw_zone.specs.Parted.{zone_of}
+use Rattle.zone_bytes.proofs.Places.AtPlace.{left-zone, on-way, sizes-fit}
+use Rattle.raw_zone.proofs.zone.RawZoneBlockStore.next_purgeable.Goals as goal
+
+pub walk_from-requires : goal.walk_from-requires
+walk_from-requires c = let z = c.self.inside in on-way z.part.bytes z.first z.unused c.self.invariant.sound
+
+pub next_purgeable_in-requires : goal.next_purgeable_in-requires
+next_purgeable_in-requires c =
+    let z = c.self.inside in
+    subst (λ l. sizes l < 2 ^ 32) (sym c.walk_from.ensures)
+    (sizes-fit z.part.bytes z.first z.unused c.self.invariant.sound)
+
+pub returns : goal.returns
+returns c =
+    subst (λ l. FindsLowest (may_go (spared c.args.sparing))
+    (purged c.args.purges c.args.sparing l) c.next_purgeable_in.result)
+    (c.walk_from.ensures ∙ left-zone c.self.inside.part.bytes ∙ ap zone_of c.self.view_is) c.next_purgeable_in.ensures

@@ -1,0 +1,84 @@
+use Rattle.std.proofs.Common.{◌≡◌, ◌<◌, ◌≤◌, Some, sym, ap, ◌∙◌, subst}
+use Rattle.std.specs.Option.{IfSome, IsSomeAnd}
+use Rattle.block_store.specs.Block.{count, is_masters, resized, size}
+use Rattle.block_store.specs.Room.{Spot, spot_at, filled}
+use Rattle.block_store.specs.Grow.{grow_up}
+use Rattle.block_store.specs.Rest.{IsRest}
+use Rattle.zone_bytes.specs.Decode.{zone_in}
+use Rattle.zone_bytes.specs.Table.{slot_in}
+use Rattle.zone_bytes.specs.Beside.{rest_in}
+use Rattle.zone_bytes.proofs.Laws.Lawful.{rest-made}
+use Rattle.zone_bytes.proofs.Placed.Standing.{Standing}
+use Rattle.zone_bytes.proofs.Placed.Sizes.{HasRoom, room-at}
+use Rattle.zone_bytes.proofs.Placed.Resized.{resize-made, cut-zone, grown-zone}
+use Rattle.raw_zone.specs.Parted.{zone_of, rest_of}
+use Rattle.raw_zone.proofs.zone.RawZoneBlockStore.resize.Goals as goal
+use Rattle.raw_zone.proofs.zone.RawZoneBlockStore.resize.Goals.{After-resize_block-self-inside}
+
+-- the block at the place
+there : (c : After-resize_block-self-inside)
+    → (s : Spot) × (spot_at c.args.place (zone_in c.self.inside.part.bytes) ≡ Some s)
+    × HasRoom c.args.bytes s × Standing c.self.inside.part.bytes c.args.place s
+there c =
+    room-at c.self.inside.part.bytes c.self.inside.first c.self.inside.unused c.args.place c.args.bytes
+    c.self.invariant.sound
+    (subst (λ v. IsSomeAnd (spot_at c.args.place (zone_of v)) (λ s. HasRoom c.args.bytes s))
+    (sym c.self.view_is) c.requires)
+
+pub invariant_of-self-inside : goal.invariant_of-self-inside
+invariant_of-self-inside c =
+    let a = there c in (
+      (resize-made c.self.inside.part.bytes c.resize_block-self-inside.new.part.bytes c.self.inside.first
+          c.self.inside.unused
+          c.args.place c.args.bytes c.self.invariant.sound a.0 a.1 a.3 a.2 c.resize_block-self-inside.ensures.cut
+          c.resize_block-self-inside.ensures.grown).made.lawful,
+      tt,
+    )
+
+pub invariant_of-self : goal.invariant_of-self
+invariant_of-self c =
+    let a = there (goal.at.invariant_of-self c).After-resize_block-self-inside in
+    record {
+      sound = (resize-made c.self.inside.part.bytes c.resize_block-self-inside.new.part.bytes c.self.inside.first
+          c.self.inside.unused
+          c.args.place c.args.bytes c.self.invariant.sound a.0 a.1 a.3 a.2 c.resize_block-self-inside.ensures.cut
+          c.resize_block-self-inside.ensures.grown).made.sound;
+      free_is = c.resize_block-self-inside.ensures.free;
+    }
+
+pub returns-clause-cut : goal.returns-clause-cut
+returns-clause-cut c =
+    let a = there (goal.at.returns-clause-cut c).After-resize_block-self-inside in
+    subst (λ v. IfSome (spot_at c.args.place (zone_of v)) (λ s. size (resized c.args.bytes s.here) ≤ size s.here
+    → zone_in c.resize_block-self-inside.new.part.bytes ≡ filled (resized c.args.bytes s.here) s))
+    c.self.view_is
+    (cut-zone c.self.inside.part.bytes c.resize_block-self-inside.new.part.bytes c.self.inside.first
+    c.self.inside.unused
+    c.args.place c.args.bytes c.self.invariant.sound a.0 a.1 a.3 a.2 c.resize_block-self-inside.ensures.cut
+    c.resize_block-self-inside.ensures.grown)
+
+pub returns-clause-grown : goal.returns-clause-grown
+returns-clause-grown c =
+    let a = there (goal.at.returns-clause-grown c).After-resize_block-self-inside in
+    subst (λ v. IfSome (spot_at c.args.place (zone_of v)) (λ s. size s.here < size (resized c.args.bytes s.here)
+    → IfSome (grow_up (resized c.args.bytes s.here) s)
+    (λ after. zone_in c.resize_block-self-inside.new.part.bytes ≡ after)))
+    c.self.view_is
+    (grown-zone c.self.inside.part.bytes c.resize_block-self-inside.new.part.bytes c.self.inside.first
+    c.self.inside.unused
+    c.args.place c.args.bytes c.self.invariant.sound a.0 a.1 a.3 a.2 c.resize_block-self-inside.ensures.cut
+    c.resize_block-self-inside.ensures.grown)
+
+pub returns-clause-rest : goal.returns-clause-rest
+returns-clause-rest c =
+    let a = there (goal.at.returns-clause-rest c).After-resize_block-self-inside in
+    let r = resize-made c.self.inside.part.bytes c.resize_block-self-inside.new.part.bytes c.self.inside.first
+    c.self.inside.unused
+    c.args.place c.args.bytes c.self.invariant.sound a.0 a.1 a.3 a.2 c.resize_block-self-inside.ensures.cut
+    c.resize_block-self-inside.ensures.grown in
+    subst (λ v. IsRest (rest_of v) (rest_in c.resize_block-self-inside.new.part c.self.inside.unused
+    c.self.inside.moves))
+    c.self.view_is
+    (rest-made c.self.inside.part c.resize_block-self-inside.new.part (slot_in c.self.inside.part.bytes)
+    c.self.inside.unused c.self.inside.moves r.made.slots (ap (count is_masters) r.made.zone ∙ r.masters)
+    c.resize_block-self-inside.ensures.same)

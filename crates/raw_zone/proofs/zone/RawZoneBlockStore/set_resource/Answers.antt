@@ -1,0 +1,49 @@
+use Rattle.std.proofs.Common.{IsTrue, sym, ap, ◌∙◌, subst}
+use Rattle.block_store.specs.Block.{count, is_masters}
+use Rattle.block_store.specs.Slot.{Used, set_slot, is_used}
+use Rattle.block_store.specs.Rest.{IsRest, with_slot}
+use Rattle.zone_bytes.specs.Decode.{zone_in}
+use Rattle.zone_bytes.specs.Beside.{rest_in}
+use Rattle.zone_bytes.specs.Table.{slot_in}
+use Rattle.zone_bytes.proofs.Laws.Lawful.{Made, rest-made, kept-made}
+use Rattle.zone_bytes.proofs.SlotTable.Handled.{a-handle, marked-made}
+use Rattle.raw_zone.specs.Parted.{zone_of, rest_of}
+use Rattle.raw_zone.proofs.zone.RawZoneBlockStore.set_resource.Goals as goal
+
+pub mark_slot-requires : goal.mark_slot-requires
+mark_slot-requires c =
+    let z = c.self.inside in
+    a-handle z.part.bytes z.first z.unused c.self.invariant.sound c.args.number
+    (subst (λ v. IsTrue (is_used ((rest_of v).slots c.args.number))) (sym c.self.view_is) c.requires)
+
+done : (c : goal.After-self-1) → Made c.mark_slot.new.part.bytes c.self.inside.first c.self.inside.unused
+    (zone_in c.self.inside.part.bytes)
+    (set_slot (slot_in c.self.inside.part.bytes) c.args.number (Used c.args.resource))
+done c =
+    let z = c.self.inside in
+    marked-made z.part.bytes z.first z.unused c.self.invariant.sound c.args.number
+    (subst (λ v. IsTrue (is_used ((rest_of v).slots c.args.number))) (sym c.self.view_is) c.requires)
+    c.args.resource c.mark_slot.new.part.bytes c.mark_slot.ensures.lays
+
+pub invariant_of-self-inside : goal.invariant_of-self-inside
+invariant_of-self-inside c =
+    let z = c.self.inside in
+    let m = marked-made z.part.bytes z.first z.unused c.self.invariant.sound c.args.number
+    (subst (λ v. IsTrue (is_used ((rest_of v).slots c.args.number))) (sym c.self.view_is) c.requires)
+    c.args.resource c.mark_slot.new.part.bytes c.mark_slot.ensures.lays in
+    (m.lawful, tt)
+
+pub invariant_of-self : goal.invariant_of-self
+invariant_of-self c = kept-made _ _ _ _ _ _ (done c) c.self.invariant.free_is
+
+pub returns-clause-rest : goal.returns-clause-rest
+returns-clause-rest c =
+    let m = done c in
+    subst (λ v. IsRest (with_slot c.args.number (Used c.args.resource) v.unused (rest_of v))
+    (rest_in c.mark_slot.new.part c.self.inside.unused c.self.inside.moves)) c.self.view_is
+    (rest-made c.self.inside.part c.mark_slot.new.part
+    (set_slot (slot_in c.self.inside.part.bytes) c.args.number (Used c.args.resource)) c.self.inside.unused
+    c.self.inside.moves m.slots (ap (count is_masters) m.zone) c.mark_slot.ensures.same)
+
+pub returns-clause-zone : goal.returns-clause-zone
+returns-clause-zone c = (done c).zone ∙ ap zone_of c.self.view_is

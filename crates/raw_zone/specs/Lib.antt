@@ -1,0 +1,4 @@
+pub mod Held
+pub mod Raw
+pub mod Parted
+pub mod Making

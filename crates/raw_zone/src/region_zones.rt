@@ -1,0 +1,66 @@
+//! Zones in the parts of one region.
+
+ghost use Rattle.std.specs.Prelude.{◌≡◌, ◌≤◌, length};
+ghost use Rattle.block_store.specs.declared.measures.TheConstants.{GREATEST_ZONE};
+
+use crate::zone::RawZone;
+use block_store::{GREATEST_ZONE, ZoneMaker};
+use raw_region::Region;
+use std::alloc::AllocError;
+use windows::Window;
+
+/// A region in whose parts zones are opened. What a zone leaves in its window when it is closed stays there until a
+/// window that meets it is opened.
+///
+/// *Inside Macintosh: Processes*, chapter 1, and *Memory*, chapter 1, "Organization of Memory".
+pub struct RegionZones {
+    region: Region,
+    ghost small: { length region.bytes ≤ GREATEST_ZONE },
+}
+
+impl RegionZones {
+    /// A region whose zones are to be opened.
+    pub fn new(region: Region) -> RegionZones
+        requires { length region.bytes ≤ GREATEST_ZONE }
+        ensures { result.region ≡ region }
+    {
+        RegionZones { region }
+    }
+
+    /// The region as it is. Parts whose zones are open are still out.
+    pub fn into_region(self) -> Region
+        ensures { result ≡ self.region }
+    {
+        let RegionZones { region } = self;
+        region
+    }
+}
+
+impl ZoneMaker for RegionZones {
+    type Store = RawZone;
+
+    ghost use Rattle.std.specs.Prelude.{length};
+    ghost use Rattle.zone_bytes.specs.Laid.{LiesThere};
+    ghost use Rattle.raw_zone.specs.Making.{LiesIn};
+
+    ghost memory = { λ z. length z.region.bytes };
+
+    ghost windows = { λ z. z.region.out };
+
+    ghost made = { λ z w site. LiesIn z.region w site };
+
+    ghost left = { λ z w blocks. LiesThere z.region.bytes w blocks };
+
+    fn open(&mut self, window: Window) -> Result<RawZone, AllocError> {
+        let part = self.region.cut(window.at as usize, window.len as usize);
+        Ok(RawZone::new(part))
+    }
+
+    fn close(&mut self, window: Window, store: RawZone) {
+        let _out = self.region.count_out();
+        let _window = window;
+        self.region.join(store.into_part());
+    }
+
+    ghost small = { λ z. z.small };
+}

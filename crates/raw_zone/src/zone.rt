@@ -1,0 +1,378 @@
+//! A zone in the bytes of a part.
+
+ghost use Rattle.zone_bytes.specs.Lawful.{IsLawful};
+
+use block_store::{
+    BlockStore, Flags, GREATEST_ZONE, HEADER_SIZE, LEAST_ZONE, MASTERS_SIZE, SLOTS_A_BLOCK, Seen,
+    Sparing, UNIT, Walk, find_free_in, find_run_in, free_after_in, largest_after_in,
+    largest_free_in, largest_run_in, next_purgeable_in, next_run_in, purgeable_in_run_in,
+    room_above_in, run_bytes_in, run_has_free_in, run_of_in,
+};
+use raw_region::Part;
+use std::alloc::AllocError;
+use std::marker::Model;
+use zone_bytes::{
+    PackedRun, SlotBlock, add_masters, block_of_slot, carve, carve_fixed, content_at, flag_at,
+    free_block, free_slot, hoist_block, kept_flags, make_fresh, mark_slot, move_bytes, padded_size,
+    purge_above, purge_from, put_bytes, raise_run, read_header, read_word, resize_block,
+    settle_run, slot_place, slot_resource, walk_above, walk_from,
+};
+
+/// A zone in the bytes of a part: each block begins with its header, and the slots lie in the blocks of master
+/// pointers. The slots of no handle are one list, threaded through their words; beside the part stand its first
+/// one, how many there are, and the count of Free bytes.
+///
+/// *Inside Macintosh: Memory*, chapter 2, "Organization of Memory".
+pub struct RawZone {
+    part: Part,
+    first: u32,
+    unused: u32,
+    free: u32,
+    moves: u64,
+    ghost lawful: { ∥ IsLawful part.bytes ∥₁ },
+}
+
+impl Model for RawZone {
+    ghost use Rattle.raw_zone.specs.Held.{Held};
+
+    ghost Value = { Held };
+
+    ghost use Rattle.raw_zone.specs.Raw.{held, IsRawZone};
+
+    ghost view = { held };
+
+    ghost invariant = { IsRawZone };
+}
+
+impl RawZone {
+    ghost use Rattle.std.specs.Prelude.{◌≡◌, ◌≤◌, ◌%◌, ℕ, false, length, ◌+◌, IsSome, IfSome, ◌∷◌, ◌++◌, true, Some};
+    ghost use Rattle.std.specs.Prelude.{IsTrue, IsSomeAnd};
+    ghost use Rattle.block_store.specs.Block.{fresh, sizes, tidy, Relocatable, content_of, is_fixed, is_relocatable};
+    ghost use Rattle.block_store.specs.Slot.{is_used};
+    ghost use Rattle.zone_bytes.specs.Laid.{LaysOut};
+    ghost use Rattle.block_store.specs.declared.measures.TheConstants.{GREATEST_ZONE, LEAST_ZONE, SLOTS_A_BLOCK};
+    ghost use Rattle.block_store.specs.declared.measures.TheConstants.{UNIT};
+    ghost use Rattle.block_store.specs.Run.{movers, settle, run_at, with_run, has};
+    ghost use Rattle.block_store.specs.Rest.{IsRest, falling};
+    ghost use Rattle.raw_zone.specs.Parted.{zone_of, rest_of};
+    ghost use Rattle.block_store.specs.Room.{spot, spot_at};
+    ghost use Rattle.block_store.specs.Find.{FindsLowest};
+    ghost use Rattle.block_store.specs.Seen.{seen};
+    ghost use Rattle.block_store.specs.declared.sparing.Seen.TheVariants as see;
+
+    /// A fresh zone, whatever the bytes were: a block of 64 master pointers, and the rest Free.
+    ///
+    /// *Inside Macintosh: Memory*, chapter 2, "Heap Zones".
+    pub fn new(mut part: Part) -> RawZone
+        requires even { length part.bytes % UNIT ≡ 0 }
+        requires low { LEAST_ZONE ≤ length part.bytes }
+        requires high { length part.bytes ≤ GREATEST_ZONE }
+        ensures zone { ⟦<RawZone as BlockStore>⟧.zone result ≡ fresh (length part.bytes) }
+        ensures no_handle { (number : ℕ) → is_used ((⟦<RawZone as BlockStore>⟧.rest result).slots number) ≡ false }
+        ensures unused { (⟦<RawZone as BlockStore>⟧.rest result).unused ≡ SLOTS_A_BLOCK }
+        ensures all { (⟦<RawZone as BlockStore>⟧.rest result).all ≡ SLOTS_A_BLOCK }
+        ensures moves { (⟦<RawZone as BlockStore>⟧.rest result).moves ≡ 0 }
+        ensures window { (⟦<RawZone as BlockStore>⟧.rest result).window
+            ≡ record { home = part.home; window = record { at = part.at; len = length part.bytes } } }
+    {
+        let end = part.len() as u32;
+        make_fresh(&mut part, end);
+        RawZone {
+            part,
+            first: HEADER_SIZE,
+            unused: SLOTS_A_BLOCK as u32,
+            free: end - MASTERS_SIZE,
+            moves: 0,
+        }
+    }
+
+    /// The zone's bytes as they lie in memory: headers, contents and master pointers.
+    ///
+    /// *Inside Macintosh: Memory*, chapter 2, "Memory Blocks".
+    pub fn image(&self) -> &[u8]
+        ensures bytes { result.now ≡ self.now.part.bytes }
+        ensures laid { LaysOut result.now (⟦<RawZone as BlockStore>⟧.zone self.now)
+            (⟦<RawZone as BlockStore>⟧.rest self.now).slots }
+    {
+        self.part.bytes()
+    }
+
+    /// The part in which it lay, with its bytes as they are.
+    pub fn into_part(self) -> Part
+        ensures part { result ≡ self.part }
+        ensures laid { LaysOut result.bytes (⟦<RawZone as BlockStore>⟧.zone self)
+            (⟦<RawZone as BlockStore>⟧.rest self).slots }
+    {
+        let RawZone {
+            part,
+            first: _first,
+            unused: _unused,
+            free: _free,
+            moves: _moves,
+        } = self;
+        part
+    }
+
+    /// Packs the run at a place, and counts nothing.
+    fn pack(&mut self, run: u32) -> PackedRun
+        requires { IsSome (run_at run (zone_of self.old)) }
+        ensures zone { IfSome (run_at run (zone_of self.old)) (λ r. zone_of self.new ≡ tidy (with_run settle r)) }
+        ensures rest { IsRest (rest_of self.old) (rest_of self.new) }
+        ensures lowered { IfSome (run_at run (zone_of self.old)) (λ r. result.lowered ≡ falling r.run) }
+        ensures top { IfSome (run_at run (zone_of self.old)) (λ r. result.top ≡ run + sizes (movers r.run)) }
+        ensures stop { IfSome (run_at run (zone_of self.old)) (λ r. result.stop ≡ run + sizes r.run) }
+    {
+        let stop = run + run_bytes_in(&mut walk_from(&self.part, run));
+        settle_run(&mut self.part, run, stop)
+    }
+
+    /// The block that a handle's slot leads to.
+    fn block_of(&self, number: u32) -> SlotBlock
+        requires { IsSome (spot (is_relocatable number) (zone_of self.now)) }
+        ensures place { FindsLowest (is_relocatable number) (zone_of self.now) (Some result.place) }
+        ensures block { IfSome (spot (is_relocatable number) (zone_of self.now)) (λ s.
+            seen s.here ≡ see.Relocatable number result.flags result.length) }
+    {
+        block_of_slot(&self.part, number)
+    }
+
+    /// Makes the Fixed block at a place the block of an emptied handle's slot.
+    fn adopt(&mut self, place: u32, number: u32, flags: Flags)
+        requires block { IsSomeAnd (spot_at place (zone_of self.old)) (λ s. is_fixed place s.here ≡ true) }
+        requires used { IsTrue (is_used ((rest_of self.old).slots number)) }
+        requires no_block { has (is_relocatable number) (zone_of self.old) ≡ false }
+        ensures zone { IfSome (spot_at place (zone_of self.old)) (λ s.
+            zone_of self.new ≡ s.below ++ Relocatable number flags (content_of s.here) ∷ s.above) }
+        ensures rest { IsRest (rest_of self.old) (rest_of self.new) }
+    {
+        zone_bytes::adopt(&mut self.part, place, number, flags);
+    }
+}
+
+impl BlockStore for RawZone {
+    ghost use Rattle.std.specs.Prelude.{false, refl};
+    ghost use Rattle.raw_zone.specs.Parted.{zone_of, rest_of, zone-small, zone-no_block, zone-once};
+    ghost use Rattle.raw_zone.specs.Parted.{zone-tidied, zone-aligned, zone-placed};
+
+    const TAKES_HOST: bool = false;
+
+    ghost TAKES_HOST = { false };
+
+    ghost zone = { zone_of };
+
+    ghost rest = { rest_of };
+
+    fn len(&self) -> u32 {
+        self.part.len() as u32
+    }
+
+    fn free_bytes(&self) -> u32 {
+        self.free
+    }
+
+    fn largest_free(&self) -> u32 {
+        largest_free_in(&mut walk_from(&self.part, 0))
+    }
+
+    fn largest_run(&self) -> u32 {
+        largest_run_in(&mut walk_from(&self.part, 0))
+    }
+
+    fn moves(&self) -> u64 {
+        self.moves
+    }
+
+    fn block_at(&self, place: u32) -> Option<Seen> {
+        walk_from(&self.part, place).next_block()
+    }
+
+    fn place_of(&self, number: u32) -> Option<u32> {
+        slot_place(&self.part, number)
+    }
+
+    fn find_free(&self, bytes: u32, purges: u32, sparing: Sparing) -> Option<u32> {
+        find_free_in(&mut walk_from(&self.part, 0), bytes, purges, sparing)
+    }
+
+    fn find_run(&self, bytes: u32, purges: u32, sparing: Sparing) -> Option<u32> {
+        find_run_in(&mut walk_from(&self.part, 0), bytes, purges, sparing)
+    }
+
+    fn next_run(&self, run: u32) -> Option<u32> {
+        match next_run_in(&mut walk_from(&self.part, run)) {
+            Some(bytes) => Some(run + bytes),
+            None => None,
+        }
+    }
+
+    fn next_purgeable(&self, purges: u32, sparing: Sparing) -> Option<u32> {
+        next_purgeable_in(&mut walk_from(&self.part, 0), purges, sparing)
+    }
+
+    fn room_above(&self, number: u32, bytes: u32, purges: u32, sparing: Sparing) -> bool {
+        room_above_in(
+            &mut walk_from(&self.part, 0),
+            number,
+            bytes,
+            purges,
+            sparing,
+        )
+    }
+
+    fn run_of(&self, number: u32, bytes: u32, purges: u32, sparing: Sparing) -> Option<u32> {
+        run_of_in(
+            &mut walk_from(&self.part, 0),
+            number,
+            bytes,
+            purges,
+            sparing,
+        )
+    }
+
+    fn free_after(&self, purges: u32, sparing: Sparing) -> u32 {
+        free_after_in(&mut walk_from(&self.part, 0), purges, sparing)
+    }
+
+    fn largest_after(&self, purges: u32, sparing: Sparing) -> u32 {
+        largest_after_in(&mut walk_from(&self.part, 0), purges, sparing)
+    }
+
+    fn purge(&mut self, purges: u32, sparing: Sparing) {
+        self.free += purge_from(&mut self.part, 0, 0, purges, sparing);
+    }
+
+    fn run_after(&self, place: u32, bytes: u32, purges: u32, sparing: Sparing) -> bool {
+        run_has_free_in(&mut walk_above(&self.part, place), bytes, purges, sparing)
+    }
+
+    fn purgeable_after(&self, place: u32, sparing: Sparing) -> u32 {
+        purgeable_in_run_in(&mut walk_above(&self.part, place), sparing)
+    }
+
+    fn purge_after(&mut self, place: u32, purges: u32, sparing: Sparing) {
+        self.free += purge_above(&mut self.part, place, purges, sparing);
+    }
+
+    fn settle(&mut self, run: u32) {
+        let packed = self.pack(run);
+        self.moves = self.moves.saturating_add(u64::from(packed.lowered));
+    }
+
+    fn raise(&mut self, run: u32, bytes: u32) -> Result<(), AllocError> {
+        let packed = self.pack(run);
+        if run < packed.top {
+            raise_run(&mut self.part, run, packed.top, packed.stop, bytes);
+        }
+        Ok(())
+    }
+
+    fn hoist(&mut self, run: u32, number: u32) {
+        let packed = self.pack(run);
+        let place = read_word(&self.part, number);
+        hoist_block(&mut self.part, place, packed.stop);
+    }
+
+    fn carve(&mut self, place: u32, number: u32, size: u32) -> Result<(), AllocError> {
+        let free = read_header(&self.part, place).size;
+        let flags = kept_flags(&self.part, number);
+        carve(&mut self.part, place, place + free, number, size, flags);
+        self.free -= padded_size(size);
+        Ok(())
+    }
+
+    fn carve_fixed(&mut self, place: u32, size: u32) -> Result<(), AllocError> {
+        carve_fixed(&mut self.part, place, size);
+        self.free -= padded_size(size);
+        Ok(())
+    }
+
+    fn add_masters(&mut self, place: u32) -> Result<(), AllocError> {
+        add_masters(&mut self.part, place, self.first);
+        self.first = place + HEADER_SIZE;
+        self.unused += SLOTS_A_BLOCK as u32;
+        self.free -= MASTERS_SIZE;
+        Ok(())
+    }
+
+    fn free_at(&mut self, place: u32) {
+        self.free += free_block(&mut self.part, place);
+    }
+
+    fn release(&mut self, number: u32) {
+        self.free += free_slot(&mut self.part, number);
+    }
+
+    fn resize(&mut self, place: u32, bytes: u32) -> Result<(), AllocError> {
+        self.free = resize_block(&mut self.part, place, bytes, self.free);
+        Ok(())
+    }
+
+    fn move_to(&mut self, place: u32, number: u32, bytes: u32) -> Result<(), AllocError> {
+        self.carve_fixed(place, bytes)?;
+        let old = self.block_of(number);
+        self.copy(old.place, old.length.min(bytes), place, 0);
+        self.release(number);
+        self.adopt(place, number, old.flags);
+        Ok(())
+    }
+
+    fn set_flags(&mut self, place: u32, flags: Flags) {
+        flag_at(&mut self.part, place, flags);
+    }
+
+    fn take_slot(&mut self) -> Option<u32> {
+        if self.unused == 0 {
+            return None;
+        }
+        let slot = self.first;
+        self.first = zone_bytes::take_slot(&mut self.part, slot);
+        self.unused -= 1;
+        Some(slot)
+    }
+
+    fn give_slot(&mut self, number: u32) {
+        let first = self.first;
+        zone_bytes::give_slot(&mut self.part, number, first);
+        self.first = number;
+        self.unused += 1;
+    }
+
+    fn is_resource(&self, number: u32) -> bool {
+        slot_resource(&self.part, number)
+    }
+
+    fn set_resource(&mut self, number: u32, resource: bool) {
+        mark_slot(&mut self.part, number, resource);
+    }
+
+    fn bytes(&self, place: u32) -> &[u8] {
+        content_at(&self.part, place)
+    }
+
+    fn write(&mut self, place: u32, from: u32, bytes: &[u8]) {
+        put_bytes(&mut self.part, place + HEADER_SIZE + from, bytes);
+    }
+
+    fn copy(&mut self, source: u32, bytes: u32, place: u32, from: u32) {
+        move_bytes(
+            &mut self.part,
+            source + HEADER_SIZE,
+            place + HEADER_SIZE + from,
+            bytes,
+        );
+    }
+
+    ghost small = { zone-small };
+
+    ghost masters = { λ _. refl };
+
+    ghost no_block = { zone-no_block };
+
+    ghost once = { zone-once };
+
+    ghost tidied = { zone-tidied };
+
+    ghost aligned = { zone-aligned };
+
+    ghost placed = { zone-placed };
+}

@@ -1,0 +1,2 @@
+pub mod FreshSlots
+pub mod FreshZone

@@ -1,0 +1,11 @@
+pub mod Ways
+pub mod FreeTags
+pub mod Below
+pub mod Freed
+pub mod Above
+pub mod Released
+pub mod ByName
+pub mod Handles
+pub mod FixedFreed
+pub mod Passing
+pub mod PurgeStarts

@@ -1,0 +1,115 @@
+-- Free bytes that are made one with a Free block above them.
+use Rattle.std.proofs.Common.{◌≡◌, ℕ, false, ◌+◌, ◌-◌, ◌<◌, ◌≤◌, List, [], ◌∷◌, ◌++◌, length, sym, refl, ap, ◌∙◌}
+use Rattle.std.proofs.Common.{subst, arith, append_assoc}
+use Rattle.block_store.specs.Block.{Block, Free, Fixed, Masters, Relocatable, size, sizes, free, add, is_masters}
+use Rattle.block_store.specs.Inner.Stretch.{is_free}
+use Rattle.block_store.proofs.Zone.Joining.{add-alone, add-free, add-other}
+use Rattle.zone_bytes.specs.Layout.{kind}
+use Rattle.zone_bytes.specs.Table.{Lays}
+use Rattle.zone_bytes.specs.Joining.{Freeing, MayFree, Joining, MayJoin}
+use Rattle.zone_bytes.proofs.Tiles.Tiling.{span-append}
+use Rattle.zone_bytes.proofs.Tiles.Keeping.{span-free}
+use Rattle.zone_bytes.proofs.Runs.Settled.{free-some}
+use Rattle.zone_bytes.proofs.Joined.Ways.{inside, Read, read}
+
+pub free-is : (b : Block) → kind b ≡ 0 → b ≡ Free (size b)
+free-is (Free n) k = refl
+free-is (Fixed id content) k = absurd (let z : 1 ≡ 0 = k in omega (arith, z))
+free-is Masters k = absurd (let z : 2 ≡ 0 = k in omega (arith, z))
+free-is (Relocatable slot flags content) k = absurd (let z : 3 ≡ 0 = k in omega (arith, z))
+
+pub not_free-is : (b : Block) → 0 < kind b → is_free b ≡ false
+not_free-is (Free n) k = absurd (let z : 0 < 0 = k in omega (arith, z))
+not_free-is (Fixed id content) k = refl
+not_free-is Masters k = refl
+not_free-is (Relocatable slot flags content) k = refl
+
+module _ (j : Joining) (start at : ℕ) (xs : List ℕ) (m : MayJoin j start at xs) where
+  here-laid : Lays xs ((j.below ++ free (at - start)) ++ j.above) j.slots j.unused
+  here-laid = subst (λ k. Lays xs k j.slots j.unused) (sym (append_assoc j.below (free (at - start)) j.above)) m.lays
+
+  here-low : sizes (j.below ++ free (at - start)) ≡ at
+  here-low =
+      let a = span-append j.below (free (at - start)) in
+      let b = span-free (at - start) in
+      let l = m.low in
+      let s = m.some in
+      omega (arith, a, b, l, s)
+
+  some : 0 < at - start
+  some = let s = m.some in omega (arith, s)
+
+  -- the block above
+  pub record Next : Type 0 where
+    pub here : Block
+    pub above : List Block
+    pub is : j.above ≡ here ∷ above
+    pub tells : Read xs here at
+
+  pub next : at < length xs → Next
+  next l = of j.above refl
+    where
+      of : (above : List Block) → j.above ≡ above → Next
+      of [] e = let n = inside xs (j.below ++ free (at - start)) j.above j.slots j.unused here-laid at here-low in
+          let z = ap sizes e in absurd (omega (arith, n, z, l))
+      of (b ∷ above) e = record {
+        here = b;
+        above = above;
+        is = e;
+        tells = read xs (j.below ++ free (at - start)) b above j.slots j.unused
+            (subst (λ k. Lays xs ((j.below ++ free (at - start)) ++ k) j.slots j.unused) e here-laid) at here-low;
+      }
+
+  alone : add (Free (at - start)) j.above ≡ Free (at - start) ∷ j.above
+      → Lays xs (j.below ++ add (Free (at - start)) j.above) j.slots j.unused
+  alone e = subst (λ k. Lays xs (j.below ++ k) j.slots j.unused)
+      (ap (λ k. k ++ j.above) (free-some (at - start) some) ∙ sym e) m.lays
+
+  -- no block above
+  pub joined-none : length xs ≤ at → Lays xs (j.below ++ add (Free (at - start)) j.above) j.slots j.unused
+  joined-none l = alone (of j.above refl)
+    where
+      of : (above : List Block) → j.above ≡ above → add (Free (at - start)) above ≡ Free (at - start) ∷ above
+      of [] e = add-alone (at - start) some
+      of (b ∷ above) e =
+          let r = read xs (j.below ++ free (at - start)) b above j.slots j.unused
+          (subst (λ k. Lays xs ((j.below ++ free (at - start)) ++ k) j.slots j.unused) e here-laid) at here-low in
+          let i = r.inside in
+          let s = r.some in
+          absurd (omega (arith, i, s, l))
+
+  -- a block above that isn't Free
+  pub joined-other : (l : at < length xs) → 0 < kind (next l).here
+      → Lays xs (j.below ++ add (Free (at - start)) j.above) j.slots j.unused
+  joined-other l k =
+      let n = next l in
+      alone (ap (add (Free (at - start))) n.is ∙ add-other (at - start) n.here n.above some (not_free-is n.here k)
+      ∙ ap (λ q. Free (at - start) ∷ q) (sym n.is))
+
+  module _ (l : at < length xs) (k : kind (next l).here ≡ 0) where
+    abbrev pub one : Freeing
+    one = record { below = j.below; here = (next l).here; above = (next l).above; slots = j.slots; unused = j.unused }
+
+    pub may-free : MayFree one start at xs
+    may-free = record {
+      lays = subst (λ q. Lays xs (j.below ++ (free (at - start) ++ q)) j.slots j.unused) (next l).is m.lays;
+      low = m.low;
+      up = (let s = m.some in omega (arith, s));
+      plain = ap is_masters (free-is (next l).here k);
+    }
+
+    -- a Free block above
+    pub joined-two : (new : List ℕ)
+        → ((f : Freeing) → MayFree f start at xs
+        → Lays new (f.below ++ (free (at + size f.here - start) ++ f.above)) f.slots f.unused)
+        → Lays new (j.below ++ add (Free (at - start)) j.above) j.slots j.unused
+    joined-two new made =
+        let n = next l in
+        let s = m.some in
+        let e : at + size n.here - start ≡ at - start + size n.here = omega (arith, s) in
+        let f : free (at + size n.here - start) ≡ Free (at - start + size n.here) ∷ [] = ap free e
+        ∙ free-some (at - start + size n.here) (omega (arith, s)) in
+        let g : add (Free (at - start)) j.above ≡ Free (at - start + size n.here) ∷ n.above =
+        ap (add (Free (at - start))) (n.is ∙ ap (λ b. b ∷ n.above) (free-is n.here k))
+        ∙ add-free (at - start) (size n.here) n.above some in
+        subst (λ q. Lays new (j.below ++ q) j.slots j.unused) (ap (λ q. q ++ n.above) f ∙ sym g) (made one may-free)

@@ -1,0 +1,108 @@
+-- A walk to a place, which keeps where the last Free block began.
+use Rattle.std.proofs.Common.{◌≡◌, ℕ, ◌+◌, ◌-◌, ◌%◌, ◌<◌, ◌≤◌, List, [], ◌∷◌, ◌++◌, length, sym, refl, ap, ◌∙◌, subst}
+use Rattle.std.proofs.Common.{arith}
+use Rattle.heap_words.specs.Words.{word_at}
+use Rattle.block_store.specs.Block.{Block, Free, Fixed, Masters, Relocatable, size, sizes, free_of}
+use Rattle.block_store.specs.Inner.Joining.{last_free}
+use Rattle.zone_bytes.specs.Layout.{kind}
+use Rattle.zone_bytes.specs.Walking.{Walk}
+use Rattle.zone_bytes.specs.Stepping.{left_in, IsOnWay}
+use Rattle.zone_bytes.proofs.Places.Stepped.{Stepped, stepped, left-is}
+use Rattle.zone_bytes.proofs.Places.HeaderTells.{here-on, size-at}
+
+-- what is left of blocks that end at a place, of which the last so far is Free from `start` to `at`
+pub record Left (xs : List ℕ) (place at start : ℕ) (below above : List Block) : Type 0 where
+  pub rest : List Block
+  pub is : left_in at xs ≡ rest ++ above
+  pub up : at + sizes rest ≡ place
+  pub last : last_free (at - start) rest ≡ last_free 0 below
+
+pub record Below (xs : List ℕ) (place at start : ℕ) : Type 0 where
+  pub way : IsOnWay at xs
+  pub ordered : (start ≤ at) × (at ≤ length xs)
+  pub left : (below above : List Block) → left_in 0 xs ≡ below ++ above → sizes below ≡ place
+      → Left xs place at start below above
+
+pub below-start : (xs : List ℕ) (place : ℕ) → IsOnWay 0 xs → Below xs place 0 0
+below-start xs place w = record {
+  way = w;
+  ordered = (omega arith, omega arith);
+  left = λ below above e l. record { rest = below; is = e; up = omega (arith, l); last = refl };
+}
+
+some-block : (at : ℕ) (xs : List ℕ) (w : IsOnWay at xs) (b : Block) (blocks : List Block)
+    → left_in at xs ≡ b ∷ blocks → 16 ≤ size b
+some-block at xs w b blocks e = next w.rest w.walk (sym (left-is at xs w) ∙ e)
+  where
+    next : (rest : List Block) → Walk w.resource at xs rest → rest ≡ b ∷ blocks → 16 ≤ size b
+    next [] v q = absurd (let f : [] ≡ b ∷ blocks = q in cc)
+    next (c ∷ rest) v q = let s = v.high.0.some in let f : c ≡ b = cc in subst (λ d. 16 ≤ size d) f s
+
+free-kind : (b : Block) → kind b ≡ 0 → free_of b ≡ size b
+free-kind (Free n) k = refl
+free-kind (Fixed id content) k = absurd (let z : 1 ≡ 0 = k in omega (arith, z))
+free-kind Masters k = absurd (let z : 2 ≡ 0 = k in omega (arith, z))
+free-kind (Relocatable slot flags content) k = absurd (let z : 3 ≡ 0 = k in omega (arith, z))
+
+free-other : (b : Block) → 0 < kind b → free_of b ≡ 0
+free-other (Free n) k = absurd (let z : 0 < 0 = k in omega (arith, z))
+free-other (Fixed id content) k = refl
+free-other Masters k = refl
+free-other (Relocatable slot flags content) k = refl
+
+module _ (xs : List ℕ) (place at start : ℕ) (b : Below xs place at start) where
+  pub below-done : place ≤ at → (below above : List Block) → left_in 0 xs ≡ below ++ above → sizes below ≡ place
+      → start + last_free 0 below ≡ place
+  below-done l below above e s =
+      next (b.left below above e s).rest (b.left below above e s).is (b.left below above e s).up
+      (b.left below above e s).last
+    where
+      next : (rest : List Block) → left_in at xs ≡ rest ++ above → at + sizes rest ≡ place
+          → last_free (at - start) rest ≡ last_free 0 below → start + last_free 0 below ≡ place
+      next [] q u k = let o = b.ordered in omega (arith, u, k, o)
+      next (c ∷ rest) q u k = let m = some-block at xs b.way c (rest ++ above) q in absurd (omega (arith, u, m, l))
+
+  -- one block more
+  module _ (l : at < place) (n t : ℕ) (e : n + t ≡ word_at at xs) (k : n % 16 ≡ 0) (m : t ≤ 3) (i : at < length xs)
+    where
+      step : Stepped at xs n t
+      step = stepped at xs b.way i n t e k m
+
+      pub below-inside : at + n ≤ length xs
+      below-inside = let u = step.way.walk.up in omega (arith, u)
+
+      -- the block's Free bytes
+      tells : (c : Block) (blocks : List Block) → left_in at xs ≡ c ∷ blocks → (n ≡ size c) × (t ≡ kind c)
+      tells c blocks q =
+          let o = here-on at xs b.way i n t e k m in
+          let f : o.here ≡ c = (let p = sym o.is ∙ q in cc) in
+          (size-at at xs b.way i n t e k m c blocks q, o.tag ∙ ap kind f)
+
+      pub below-next : (now : ℕ) → now ≤ at + n → ((c : Block) → n ≡ size c → t ≡ kind c → at + n - now ≡ free_of c)
+          → Below xs place (at + n) now
+      below-next now w g = record {
+        way = step.way;
+        ordered = (w, below-inside);
+        left = λ below above q s. let d = b.left below above q s in next d.rest below above d.is d.up d.last;
+      }
+        where
+          next : (rest below above : List Block) → left_in at xs ≡ rest ++ above → at + sizes rest ≡ place
+              → last_free (at - start) rest ≡ last_free 0 below → Left xs place (at + n) now below above
+          next [] below above q u v = absurd (omega (arith, u, l))
+          next (c ∷ rest) below above q u v =
+              let f = tells c (rest ++ above) q in
+              let s : step.here ∷ left_in (at + n) xs ≡ c ∷ (rest ++ above) = sym step.is ∙ q in
+              let z = f.0 in
+              record {
+                rest = rest;
+                is = (let r : left_in (at + n) xs ≡ rest ++ above = cc in r);
+                up = omega (arith, u, z);
+                last = ap (λ j. last_free j rest) (g c f.0 f.1) ∙ v;
+              }
+
+      pub below-free : t ≡ 0 → Below xs place (at + n) at
+      below-free z = below-next at (omega arith) (λ c p q. let f = free-kind c (sym q ∙ z) in omega (arith, p, f))
+
+      pub below-other : 0 < t → Below xs place (at + n) (at + n)
+      below-other z = below-next (at + n) (omega arith) (λ c p q. let f = free-other c (subst (λ j. 0 < j) q z) in
+          omega (arith, f))

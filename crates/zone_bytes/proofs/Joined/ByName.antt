@@ -1,0 +1,189 @@
+-- The block that a handle's slot leads to.
+use Rattle.std.proofs.Common.{◌≡◌, ℕ, Bool, true, false, cond, ◌+◌, ◌%◌, ◌<◌, ◌≤◌, ◌⊎◌, inl, inr, List, [], ◌∷◌}
+use Rattle.std.proofs.Common.{◌++◌, length, take, sym, refl, ap, ◌∙◌, subst, arith}
+use Rattle.std.proofs.lemmas.Bool.Decides.{eqb_tells}
+use Rattle.std.proofs.lemmas.List.{map-append}
+use Rattle.windows.specs.Writes.{piece}
+use Rattle.heap_words.specs.Words.{word, word_at}
+use Rattle.heap_words.proofs.Words.{read_back}
+use Rattle.block_store.specs.declared.flags.Flags.{Flags}
+use Rattle.block_store.specs.Block.{Block, Free, Fixed, Masters, Relocatable, size, sizes, tidy, free_of, free_sum}
+use Rattle.block_store.specs.Block.{is_relocatable}
+use Rattle.block_store.specs.Grow.{freed}
+use Rattle.block_store.specs.Slot.{is_resource}
+use Rattle.block_store.proofs.Zone.Tidy.{total-tidy}
+use Rattle.block_store.proofs.Zone.Totals.{total-append}
+use Rattle.zone_bytes.specs.Layout.{head_of, Tiles, IsSlot, names, Leads, Apart, Each, Pairs}
+use Rattle.zone_bytes.specs.Joining.{Freeing, MayRelease, HasHandle}
+use Rattle.zone_bytes.specs.Table.{Has, Table, Says, Lays, emptied_word}
+use Rattle.zone_bytes.proofs.Tiles.Tiling.{span-append, length-tiles, tiles-split}
+use Rattle.zone_bytes.proofs.Tiles.Leading.{names-append, pairs-before, pairs-after}
+use Rattle.zone_bytes.proofs.SlotTable.Tables.{apart-other, slot-in}
+use Rattle.zone_bytes.proofs.Runs.Packed.{span-whole}
+
+-- the block of a name, in blocks that begin at o
+pub record Named (o slot : ℕ) (blocks : List Block) (xs : List ℕ) : Type 0 where
+  pub below : List Block
+  pub flags : Flags
+  pub content : List ℕ
+  pub above : List Block
+  pub is : blocks ≡ below ++ Relocatable slot flags content ∷ above
+  pub leads : piece slot 4 xs ≡ word (o + sizes below)
+
+named-more : (o slot : ℕ) (b : Block) (blocks : List Block) (xs : List ℕ) → Named (o + size b) slot blocks xs
+    → Named o slot (b ∷ blocks) xs
+named-more o slot b blocks xs n = record {
+  below = b ∷ n.below;
+  flags = n.flags;
+  content = n.content;
+  above = n.above;
+  is = ap (λ k. b ∷ k) n.is;
+  leads = n.leads ∙ (let e : o + size b + sizes n.below ≡ o + (size b + sizes n.below) = omega arith in ap word e);
+}
+
+named : (o slot : ℕ) (blocks : List Block) (xs : List ℕ) → Leads o blocks xs → Has (names blocks) slot
+    → Named o slot blocks xs
+named o slot [] xs l h = absurd h
+named o slot (Free n ∷ blocks) xs l h = named-more o slot (Free n) blocks xs (named (o + n) slot blocks xs l.1 h)
+named o slot (Fixed id content ∷ blocks) xs l h =
+    named-more o slot (Fixed id content) blocks xs (named (o + size (Fixed id content)) slot blocks xs l.1 h)
+named o slot (Masters ∷ blocks) xs l h = named-more o slot Masters blocks xs (named (o + 272) slot blocks xs l.1 h)
+named o slot (Relocatable id flags content ∷ blocks) xs l (inl e) = record {
+  below = [];
+  flags = flags;
+  content = content;
+  above = blocks;
+  is = ap (λ s. Relocatable s flags content ∷ blocks) e;
+  leads = subst (λ s. piece s 4 xs ≡ word o) e l.0 ∙ (let z : o ≡ o + 0 = omega arith in ap word z);
+}
+named o slot (Relocatable id flags content ∷ blocks) xs l (inr h) =
+    named-more o slot (Relocatable id flags content) blocks xs
+    (named (o + size (Relocatable id flags content)) slot blocks xs l.1 h)
+
+-- no block has the name
+pub freed-none : (slot : ℕ) (blocks : List Block) → Each (Apart slot) (names blocks)
+    → freed (is_relocatable slot) blocks ≡ blocks
+freed-none slot [] a = refl
+freed-none slot (Free n ∷ blocks) a = ap (λ k. Free n ∷ k) (freed-none slot blocks a)
+freed-none slot (Fixed id content ∷ blocks) a = ap (λ k. Fixed id content ∷ k) (freed-none slot blocks a)
+freed-none slot (Masters ∷ blocks) a = ap (λ k. Masters ∷ k) (freed-none slot blocks a)
+freed-none slot (Relocatable id flags content ∷ blocks) a = elim (eqb_tells id slot) [
+  | inl t ↦ absurd (apart-other slot id a.0 (sym t.1))
+  | inr t ↦
+      ap (λ v. cond v (Free (size (Relocatable id flags content))) (Relocatable id flags content) ∷ freed
+      (is_relocatable slot) blocks) t.0
+      ∙ ap (λ k. Relocatable id flags content ∷ k) (freed-none slot blocks a.1)
+]
+
+-- one block has it
+pub freed-one : (slot : ℕ) (below : List Block) (flags : Flags) (content : List ℕ) (above : List Block)
+    → Each (Apart slot) (names below) → Each (Apart slot) (names above)
+    → freed (is_relocatable slot) (below ++ Relocatable slot flags content ∷ above) ≡ below ++ Free
+    (size (Relocatable slot flags content)) ∷ above
+freed-one slot below flags content above a b =
+    map-append (λ c. cond (is_relocatable slot c) (Free (size c)) c) below (Relocatable slot flags content ∷ above)
+    ∙ ap (λ k. k ++ freed (is_relocatable slot) (Relocatable slot flags content ∷ above)) (freed-none slot below a)
+    ∙ ap (λ k. below ++ k) (elim (eqb_tells slot slot) [
+      | inl t ↦
+          ap (λ v. cond v (Free (size (Relocatable slot flags content))) (Relocatable slot flags content) ∷ freed
+          (is_relocatable slot) above) t.0
+          ∙ ap (λ k. Free (size (Relocatable slot flags content)) ∷ k) (freed-none slot above b)
+      | inr t ↦ absurd (t.1 refl)
+    ])
+
+-- a block that held bytes becomes Free
+pub free-more : (below : List Block) (b : Block) (above : List Block) → free_of b ≡ 0
+    → free_sum (tidy (below ++ Free (size b) ∷ above)) ≡ free_sum (below ++ b ∷ above) + size b
+free-more below b above e =
+    let t = total-tidy free_of (λ n m. refl) (below ++ Free (size b) ∷ above) in
+    let u = total-append free_of below (Free (size b) ∷ above) in
+    let v = total-append free_of below (b ∷ above) in
+    omega (arith, t, u, v, e)
+
+emptied-odd : (r : Bool) → emptied_word r % 16 ≡ 2
+emptied-odd true = refl
+emptied-odd false = refl
+
+emptied-fits : (r : Bool) → emptied_word r < 4294967296
+emptied-fits true = omega arith
+emptied-fits false = omega arith
+
+module _ (t : Table) (slot : ℕ) (xs : List ℕ) (h : HasHandle t slot xs) where
+  said : IsSlot slot
+      t.blocks × (Has (names t.blocks)
+      slot ⊎ (Each (Apart slot) (names t.blocks) × (piece slot 4 xs ≡ word (emptied_word h.resource))))
+  said = subst (λ st. Says t.blocks xs t.unused slot st) h.used (h.lays.says slot)
+
+  pub handle-fits : (slot % 4 ≡ 0) × (slot + 4 ≤ length xs)
+  handle-fits = slot-in xs t.blocks t.slots t.unused h.lays slot said.0
+
+  -- the handle has a block
+  pub record Found : Type 0 where
+    pub block : Named 0 slot t.blocks xs
+    pub place : word_at slot xs ≡ sizes block.below
+    pub whole : word_at slot xs % 16 ≡ 0
+
+  found : Has (names t.blocks) slot → Found
+  found k =
+      let n = named 0 slot t.blocks xs h.lays.lies.leads k in
+      let head = head_of (λ s. is_resource (t.slots s)) in
+      let above : List Block = Relocatable slot n.flags n.content ∷ n.above in
+      let laid = subst (Tiles head xs) n.is h.lays.lies.tiles in
+      let s = tiles-split head xs n.below above laid in
+      let w = span-whole head (take (sizes n.below) xs) n.below s.0 in
+      let l = length-tiles head xs (n.below ++ above) laid in
+      let a = span-append n.below above in
+      let m = h.lays.small in
+      let r = read_back slot (0 + sizes n.below) xs (omega (arith, l, a, m)) n.leads in
+      record { block = n; place = omega (arith, r); whole = omega (arith, r, w) }
+
+  pub leads : word_at slot xs % 16 ≡ 0 → Found
+  leads e = elim said.1 [
+    | inl k ↦ found k
+    | inr k ↦ (let r = read_back slot (emptied_word h.resource) xs (emptied-fits h.resource) k.1 in let o =
+        emptied-odd h.resource in absurd (omega (arith, r, o, e)))
+  ]
+
+  -- the handle is emptied
+  pub emptied : (word_at slot xs % 16 ≡ 0 → ⊥) → Each (Apart slot) (names t.blocks)
+  emptied n = elim said.1 [ inl k ↦ absurd (n (found k).whole) | inr k ↦ k.0 ]
+
+  pub emptied-is : (word_at slot xs % 16 ≡ 0 → ⊥) → tidy (freed (is_relocatable slot) t.blocks) ≡ t.blocks
+  emptied-is n = ap tidy (freed-none slot t.blocks (emptied n)) ∙ h.tidied
+
+  module _ (f : Found) where
+    abbrev pub leading : Freeing
+    leading = record {
+      below = f.block.below;
+      here = Relocatable slot f.block.flags f.block.content;
+      above =
+          f.block.above;
+      slots = t.slots;
+      unused = t.unused;
+    }
+
+    pub may-release : (w : ℕ) → w ≡ word_at slot xs → MayRelease leading w xs
+    may-release w e = record {
+      lays = subst (λ k. Lays xs k t.slots t.unused) f.block.is h.lays;
+      low = sym (e ∙ f.place);
+      plain = refl;
+      tidied = sym (ap tidy f.block.is) ∙ h.tidied ∙ f.block.is;
+    }
+
+    pub leading-is : tidy (freed (is_relocatable slot) t.blocks) ≡ tidy
+        (f.block.below ++ Free (size (Relocatable slot f.block.flags f.block.content)) ∷ f.block.above)
+    leading-is =
+        let p = subst (Pairs Apart) (ap names f.block.is
+        ∙ names-append f.block.below (Relocatable slot f.block.flags f.block.content ∷ f.block.above))
+        h.lays.has_slots.apart in
+        ap tidy (ap (freed (is_relocatable slot)) f.block.is
+        ∙ freed-one slot f.block.below f.block.flags f.block.content f.block.above
+        (pairs-before slot (names f.block.below) (names f.block.above) p)
+        (pairs-after slot (names f.block.below) (names f.block.above) p))
+
+    pub leading-free : (n : ℕ) → n ≡ size (Relocatable slot f.block.flags f.block.content)
+        → free_sum (tidy (freed (is_relocatable slot) t.blocks)) ≡ free_sum t.blocks + n
+    leading-free n e =
+        ap free_sum leading-is
+        ∙ free-more f.block.below (Relocatable slot f.block.flags f.block.content) f.block.above refl
+        ∙ (λ i. free_sum (sym f.block.is i) + sym e i)

@@ -1,0 +1,287 @@
+-- A block that is made one with the Free bytes below it.
+use Rattle.std.proofs.Common.{◌≡◌, ℕ, Bool, ◌+◌, ◌-◌, ◌%◌, ◌<◌, ◌≤◌, ◌⊎◌, inl, inr, nat_le, List, [], ◌∷◌}
+use Rattle.std.proofs.Common.{◌++◌, length, drop, sym, refl, ap, ◌∙◌, subst, arith, append_assoc}
+use Rattle.windows.specs.Writes.{written, piece}
+use Rattle.windows.proofs.Pieces.{length-written, piece-written}
+use Rattle.heap_words.specs.Words.{word, word_at}
+use Rattle.heap_words.proofs.Words.{length-word, read_back}
+use Rattle.block_store.specs.declared.flags.Flags.{Flags}
+use Rattle.block_store.specs.Block.{Block, Free, Fixed, Masters, Relocatable, size, sizes, free}
+use Rattle.block_store.specs.Slot.{Slot, NoSlot, Unused, Used, is_resource}
+use Rattle.zone_bytes.specs.Layout.{kind, flag_word, head_of, Tile, IsSlot, names, names_of, Apart, Each, Pairs}
+use Rattle.zone_bytes.specs.Layout.{ArePlaced}
+use Rattle.zone_bytes.specs.Settling.{Lies, HasSlots}
+use Rattle.zone_bytes.specs.Splicing.{Splice, SameOutside, IsSplice}
+use Rattle.zone_bytes.specs.Joining.{Freeing, MayFree}
+use Rattle.zone_bytes.specs.Table.{Has, IsUsed, Lays, emptied_word}
+use Rattle.zone_bytes.proofs.Tiles.Tiling.{span-append, length-tiles, slot-inside, slot-split, tiles-slot}
+use Rattle.zone_bytes.proofs.Tiles.Leading.{each-right, each-map, each-append, names-append, pairs-before}
+use Rattle.zone_bytes.proofs.Tiles.Leading.{pairs-after, piece-clear, leads-written}
+use Rattle.zone_bytes.proofs.Tiles.Keeping.{lays-kept, names-free, span-free, each-free, slot-run, placed-append}
+use Rattle.zone_bytes.proofs.Tiles.Keeping.{placed-left, placed-right}
+use Rattle.zone_bytes.proofs.Tiles.Changing.{lays-removed}
+use Rattle.zone_bytes.proofs.Tiles.Replaced.{zone, is-splice}
+use Rattle.zone_bytes.proofs.Tiles.Splices.{piece-outside}
+use Rattle.zone_bytes.proofs.Tiles.Spelling.{resource-bit}
+use Rattle.zone_bytes.proofs.Tiles.Heads.{slot-reads}
+use Rattle.zone_bytes.proofs.Tiles.Decoding.{says, flag_word-small}
+use Rattle.zone_bytes.proofs.Places.Stepped.{word-at}
+use Rattle.zone_bytes.proofs.SlotTable.Tables.{apart-clear}
+use Rattle.zone_bytes.proofs.Runs.Packed.{length-masters, run-no_slot, slot-even}
+use Rattle.zone_bytes.proofs.Runs.Settled.{free-some}
+use Rattle.zone_bytes.proofs.Blocks.Carves.{outside, slot-kept}
+use Rattle.zone_bytes.proofs.Blocks.InPlace.{no-slots}
+use Rattle.zone_bytes.proofs.Joined.Ways.{Read, read, tile-at}
+
+-- one of a list is left out
+each-drop : (P : ℕ → Type 0) (xs : List ℕ) (s : ℕ) (ys : List ℕ) → Each P (xs ++ s ∷ ys) → Each P (xs ++ ys)
+each-drop P [] s ys h = h.1
+each-drop P (x ∷ xs) s ys h = (h.0, each-drop P xs s ys h.1)
+
+pairs-drop : (xs : List ℕ) (s : ℕ) (ys : List ℕ) → Pairs Apart (xs ++ s ∷ ys) → Pairs Apart (xs ++ ys)
+pairs-drop [] s ys h = h.1
+pairs-drop (x ∷ xs) s ys h = (each-drop (Apart x) xs s ys h.0, pairs-drop xs s ys h.1)
+
+has-drop : (xs : List ℕ) (s : ℕ) (ys : List ℕ) (t : ℕ) → Has (xs ++ s ∷ ys) t → (t ≡ s) ⊎ Has (xs ++ ys) t
+has-drop [] s ys t (inl e) = inl (sym e)
+has-drop [] s ys t (inr k) = inr k
+has-drop (x ∷ xs) s ys t (inl e) = inr (inl e)
+has-drop (x ∷ xs) s ys t (inr k) = elim (has-drop xs s ys t k) [ inl e ↦ inl e | inr j ↦ inr (inr j) ]
+
+used-is : (st : Slot) → IsUsed st → st ≡ Used (is_resource st)
+used-is NoSlot u = absurd u
+used-is Unused u = absurd u
+used-is (Used r) u = refl
+
+module _ (f : Freeing) (start at : ℕ) (xs : List ℕ) (m : MayFree f start at xs) where
+  abbrev resource : ℕ → Bool
+  resource = λ s. is_resource (f.slots s)
+
+  abbrev gap : List Block
+  gap = free (at - start)
+
+  -- the block and the Free bytes below it
+  abbrev joined : List Block
+  joined = gap ++ f.here ∷ []
+
+  abbrev all : List Block
+  all = f.below ++ (joined ++ f.above)
+
+  laid : Lays xs all f.slots f.unused
+  laid = subst (λ k. Lays xs (f.below ++ k) f.slots f.unused) (sym (append_assoc gap (f.here ∷ []) f.above)) m.lays
+
+  here-laid : Lays xs ((f.below ++ gap) ++ f.here ∷ f.above) f.slots f.unused
+  here-laid = subst (λ k. Lays xs k f.slots f.unused) (sym (append_assoc f.below gap (f.here ∷ f.above))) m.lays
+
+  here-low : sizes (f.below ++ gap) ≡ at
+  here-low =
+      let a = span-append f.below gap in
+      let b = span-free (at - start) in
+      let l = m.low in
+      let u = m.up in
+      omega (arith, a, b, l, u)
+
+  pub here-read : Read xs f.here at
+  here-read = read xs (f.below ++ gap) f.here f.above f.slots f.unused here-laid at here-low
+
+  span-joined : start + sizes joined ≡ at + size f.here
+  span-joined =
+      let a = span-append gap (f.here ∷ []) in
+      let b = span-free (at - start) in
+      let u = m.up in
+      omega (arith, a, b, u)
+
+  none : (s : ℕ) → IsSlot s joined → ⊥
+  none s i = elim (slot-split s gap (f.here ∷ []) i) [
+    | inl j ↦ run-no_slot s gap (each-free (at - start)) j
+    | inr j ↦ no-slots f.here m.plain (s - sizes gap) j.1
+  ]
+
+  -- what the header of a relocatable block tells of its slot
+  pub record Led : Type 0 where
+    pub named : names_of f.here ≡ word_at (at + 8) xs ∷ []
+    pub flag : nat_le 32 (word_at (at + 12) xs % 64) ≡ is_resource (f.slots (word_at (at + 8) xs))
+
+  named-here : (slot : ℕ) → names_of f.here ≡ slot ∷ [] → names all ≡ names f.below ++ slot ∷ names f.above
+  named-here slot n = names-append f.below (joined ++ f.above) ∙ ap (λ k. names f.below ++ k)
+      (names-append joined f.above
+      ∙ ap (λ k. k ++ names f.above) (names-append gap (f.here ∷ [])
+      ∙ ap (λ k. k ++ (names_of f.here ++ [])) (names-free (at - start)) ∙ ap (λ k. k ++ []) n))
+
+  led-by : (slot : ℕ) (flags : Flags) (content : List ℕ) → f.here ≡ Relocatable slot flags content → Led
+  unfolding head_of
+  led-by slot flags content e =
+      let b : Block = Relocatable slot flags content in
+      let t = subst (λ c. Tile (head_of resource c) (size c) (drop at xs)) e
+      (tile-at xs (f.below ++ gap) f.here f.above f.slots f.unused here-laid at here-low) in
+      let y = size b in
+      let small = m.lays.small in
+      let q = says y (y + 3) (length content) slot (flag_word flags (resource slot)) content (drop at xs) t in
+      let g = flag_word-small flags (resource slot) in
+      let i = each-right (λ s. IsSlot s all) (names f.below) (slot ∷ names f.above)
+      (subst (Each (λ s. IsSlot s all)) (named-here slot (ap names_of e)) laid.has_slots.slots) in
+      let j = slot-inside slot all i.0 in
+      let l = length-tiles (head_of resource) xs all laid.lies.tiles in
+      let v = slot-reads resource xs at small slot flags content (omega (arith, j, l, small)) t in
+      let w = read_back (at + 12) (flag_word flags (resource slot)) xs (omega (arith, g)) (word-at at 12 xs ∙ q.2) in
+      record {
+        named = ap names_of e ∙ ap (λ s. s ∷ []) (sym v);
+        flag = ap (λ n. nat_le 32 (n % 64)) w ∙ resource-bit flags (resource slot) ∙ ap resource (sym v);
+      }
+
+  pub led : kind f.here ≡ 3 → Led
+  led k = of-kind f.here refl k
+    where
+      of-kind : (b : Block) → f.here ≡ b → kind b ≡ 3 → Led
+      of-kind (Free n) e k = absurd (let q : 0 ≡ 3 = k in omega (arith, q))
+      of-kind (Fixed id content) e k = absurd (let q : 1 ≡ 3 = k in omega (arith, q))
+      of-kind Masters e k = absurd (let q : 2 ≡ 3 = k in omega (arith, q))
+      of-kind (Relocatable slot flags content) e k = led-by slot flags content e
+
+  module _ (top : ℕ) (t : at + size f.here ≡ top) where
+    some : start < top
+    some = let s = here-read.some in let u = m.up in omega (arith, s, u, t)
+
+    abbrev z : Splice
+    z = zone xs f.below joined f.above f.slots f.unused laid start top m.low (span-joined ∙ t) some none
+
+    is : IsSplice z start top xs
+    is = is-splice xs f.below joined f.above f.slots f.unused laid start top m.low (span-joined ∙ t) some none
+
+    pub may-make : (z : Splice) × IsSplice z start top xs
+    may-make = (z, is)
+
+    module _ (mid : List ℕ) (made : (z : Splice) → IsSplice z start top xs
+        → Lies z.resource (z.below ++ (Free (top - start) ∷ [] ++ z.above)) mid) (out : SameOutside start top xs mid)
+      where
+        abbrev one : List Block
+        one = Free (top - start) ∷ []
+
+        abbrev now : List Block
+        now = f.below ++ (one ++ f.above)
+
+        now-is : now ≡ f.below ++ (free (at + size f.here - start) ++ f.above)
+        now-is = ap (λ n. f.below ++ (n ++ f.above)) (sym (free-some (top - start) (let s = some in omega (arith, s))))
+            ∙ ap (λ k. f.below ++ (free (k - start) ++ f.above)) (sym t)
+
+        lies : Lies resource now mid
+        lies = made z is
+
+        span-one : sizes one ≡ sizes joined
+        span-one = let e = span-joined in let s = some in omega (arith, e, s, t)
+
+        into : (s : ℕ) → IsSlot s all → IsSlot s now
+        into s i = slot-kept z start top xs is s one span-one i
+
+        back : (s : ℕ) → IsSlot s now → IsSlot s all
+        back s i = slot-run s f.below one joined f.above (refl, tt) (sym span-one) i
+
+        placed : ArePlaced 0 now
+        placed =
+            let p = placed-right 0 f.below (joined ++ f.above) laid.placed in
+            let q = placed-right (0 + sizes f.below) joined f.above p in
+            placed-append 0 f.below (one ++ f.above) (placed-left 0 f.below (joined ++ f.above) laid.placed)
+            (placed-append (0 + sizes f.below) one f.above (tt, tt)
+            (subst (λ k. ArePlaced (0 + sizes f.below + k) f.above) (sym span-one) q))
+
+        names-now : names now ≡ names f.below ++ names f.above
+        names-now = names-append f.below (one ++ f.above)
+
+        names-joined : names joined ≡ names_of f.here ++ []
+        names-joined = names-append gap (f.here ∷ []) ∙ ap (λ k. k ++ (names_of f.here ++ [])) (names-free (at - start))
+
+        names-all : names all ≡ names f.below ++ (names_of f.here ++ names f.above)
+        names-all = names-append f.below (joined ++ f.above) ∙ ap (λ k. names f.below ++ k)
+            (names-append joined f.above ∙ ap (λ k. k ++ names f.above) names-joined
+            ∙ append_assoc (names_of f.here) [] (names f.above))
+
+        outside-same : (s : ℕ) → IsSlot s all → piece s 4 mid ≡ piece s 4 xs
+        outside-same s i = piece-outside start top xs mid s out (outside z start top xs is s i)
+
+        -- a block that no handle led to
+        pub other-lays : names_of f.here ≡ []
+            → Lays mid (f.below ++ (free (at + size f.here - start) ++ f.above)) f.slots f.unused
+        other-lays e =
+            subst (λ k. Lays mid k f.slots f.unused) now-is
+            (lays-kept xs mid all now f.slots f.unused laid lies (names-now
+            ∙ sym (names-all ∙ ap (λ k. names f.below ++ (k ++ names f.above)) e))
+            into back placed (λ s i a. outside-same s i) out.kept)
+
+        -- a block that a handle led to
+        module _ (slot : ℕ) (n : names_of f.here ≡ slot ∷ []) where
+          names-slot : names all ≡ names f.below ++ slot ∷ names f.above
+          names-slot = named-here slot n
+
+          of-all : (P : ℕ → Type 0) → Each P (names all) → P slot
+          of-all P e = (each-right P (names f.below) (slot ∷ names f.above) (subst (Each P) names-slot e)).0
+
+          subset : (P : ℕ → Type 0) → Each P (names all) → Each P (names now)
+          subset P e =
+              subst (Each P) (sym names-now)
+              (each-drop P (names f.below) slot (names f.above) (subst (Each P) names-slot e))
+
+          fewer : (t : ℕ) → Has (names all) t → (t ≡ slot) ⊎ Has (names now) t
+          fewer t k = elim (has-drop (names f.below) slot (names f.above) t (subst (λ q. Has q t) names-slot k)) [
+            | inl e ↦ inl e
+            | inr j ↦ inr (subst (λ q. Has q t) (sym names-now) j)
+          ]
+
+          slot-is : IsSlot slot all
+          slot-is = of-all (λ s. IsSlot s all) laid.has_slots.slots
+
+          pairs : Pairs Apart (names f.below ++ slot ∷ names f.above)
+          pairs = subst (Pairs Apart) names-slot laid.has_slots.apart
+
+          far : Each (Apart slot) (names now)
+          far = subst (Each (Apart slot)) (sym names-now)
+              (each-append (Apart slot) (names f.below) (names f.above)
+              (pairs-before slot (names f.below) (names f.above) pairs)
+              (pairs-after slot (names f.below) (names f.above) pairs))
+
+          has : HasSlots now
+          has = record {
+            slots = each-map (λ s. IsSlot s all) (λ s. IsSlot s now) into (names now)
+                (subset (λ s. IsSlot s all) laid.has_slots.slots);
+            apart = subst (Pairs Apart) (sym names-now) (pairs-drop (names f.below) slot (names f.above) pairs);
+          }
+
+          used : f.slots slot ≡ Used (is_resource (f.slots slot))
+          used = used-is (f.slots slot) (of-all (λ s. IsUsed (f.slots s)) laid.used)
+
+          pub slot-fits : (slot % 4 ≡ 0) × (slot + 4 ≤ length mid)
+          slot-fits =
+              let i = slot-inside slot all slot-is in
+              let l = length-tiles (head_of resource) xs all laid.lies.tiles in
+              let k = out.kept in
+              (slot-even (head_of resource) xs slot all laid.lies.tiles slot-is, omega (arith, i, l, k))
+
+          pub slot-lays : (w : ℕ) → w ≡ emptied_word (is_resource (f.slots slot))
+              → Lays (written slot (word w) mid) (f.below ++ (free (at + size f.here - start) ++ f.above)) f.slots
+              f.unused
+          slot-lays w e =
+              let b = slot-fits in
+              let wl = length-word w in
+              let fits : slot ≤ length mid = omega (arith, b) in
+              subst (λ k. Lays (written slot (word w) mid) k f.slots f.unused) now-is
+              (lays-removed xs (written slot (word w) mid) all now f.slots f.unused laid
+              (record {
+                tiles = tiles-slot (head_of resource) (length-masters resource) mid (word w) slot now wl
+                    (into slot slot-is) lies.tiles;
+                leads = leads-written slot (word w) mid 0 now fits
+                    (each-map (Apart slot) _ (λ t p. apart-clear slot w t p) (names now) far) lies.leads;
+              })
+              has into back placed (length-written slot (word w) mid (omega (arith, b, wl)) ∙ out.kept)
+              slot (is_resource (f.slots slot)) used fewer subset far (piece-written slot (word w) mid 4 (sym wl) fits
+              ∙ ap word e)
+              (λ s i a. piece-clear slot (word w) mid s fits
+              (apart-clear slot w s (elim (of-all (Apart s) a) [ inl p ↦ inr p | inr p ↦ inl p ]))
+              ∙ outside-same s i))
+
+  pub none-led : kind f.here < 3 → names_of f.here ≡ []
+  none-led k = of-kind f.here k
+    where
+      of-kind : (b : Block) → kind b < 3 → names_of b ≡ []
+      of-kind (Free n) k = refl
+      of-kind (Fixed id content) k = refl
+      of-kind Masters k = refl
+      of-kind (Relocatable slot flags content) k = absurd (let q : 3 < 3 = k in omega (arith, q))

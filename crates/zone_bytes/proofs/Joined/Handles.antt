@@ -1,0 +1,85 @@
+-- The zone that bytes spell, where the block of a handle's slot is made Free.
+use Rattle.std.proofs.Common.{◌≡◌, ℕ, Bool, IsTrue, ◌+◌, ◌≤◌, List, sym, refl, ap, ◌∙◌, arith}
+use Rattle.std.proofs.lemmas.Bool.{false≢true}
+use Rattle.raw_region.specs.Memory.{Bytes}
+use Rattle.block_store.specs.Block.{Block, tidy, count, free_sum, is_masters, is_relocatable}
+use Rattle.block_store.specs.Grow.{freed}
+use Rattle.block_store.specs.Slot.{Slot, NoSlot, Unused, Used, is_used}
+use Rattle.block_store.specs.Rest.{IsRest}
+use Rattle.block_store.proofs.Zone.Apart.{tidy-tidy}
+use Rattle.block_store.proofs.Zone.Leading.{masters-released}
+use Rattle.zone_bytes.specs.Beside.{KeepsPlace, rest_in}
+use Rattle.zone_bytes.specs.Decode.{zone_in}
+use Rattle.zone_bytes.specs.Joining.{HasHandle}
+use Rattle.zone_bytes.specs.Lawful.{IsSound, IsKept}
+use Rattle.zone_bytes.specs.Table.{Table, Lays, slot_in}
+use Rattle.zone_bytes.proofs.Laws.Lawful.{Made, made, sizes-length, rest-made, kept-made}
+use Rattle.zone_bytes.proofs.Places.Walks.{free_span-le}
+
+used-state : (st : Slot) → IsTrue (is_used st) → (r : Bool) × (st ≡ Used r)
+used-state NoSlot u = absurd (false≢true u)
+used-state Unused u = absurd (false≢true u)
+used-state (Used r) u = (r, refl)
+
+-- the Free bytes are no more than a zone may have
+pub free-fits : (xs : List ℕ) (blocks : List Block) (slots : ℕ → Slot) (unused : List ℕ)
+    → Lays xs blocks slots unused → free_sum blocks ≤ 134217728
+free-fits xs blocks slots unused h =
+    let l = sizes-length xs blocks slots unused h in
+    let f = free_span-le blocks in
+    let m = h.small in
+    omega (arith, l, f, m)
+
+-- the zone has other blocks, of which so many bytes more are Free
+pub record Gained (xs new : List ℕ) (first number more : ℕ) (blocks : List Block) : Type 0 where
+  pub made : Made new first number blocks (slot_in xs)
+  pub sum : free_sum blocks ≡ free_sum (zone_in xs) + more
+  pub fits : free_sum blocks ≤ 134217728
+  pub masters : count is_masters blocks ≡ count is_masters (zone_in xs)
+
+pub gained : (xs new : List ℕ) (first number more : ℕ) (i : IsSound xs first number) (blocks : List Block)
+    → Lays new (tidy blocks) (slot_in xs) i.unused
+    → free_sum (tidy blocks) ≡ free_sum (zone_in xs) + more
+    → count is_masters (tidy blocks) ≡ count is_masters (zone_in xs) → Gained xs new first number more (tidy blocks)
+gained xs new first number more i blocks h s m = record {
+  made = made new (tidy blocks) (slot_in xs) i.unused h first number (tidy-tidy blocks) i.begins i.counted;
+  sum = s;
+  fits = free-fits new (tidy blocks) (slot_in xs) i.unused h;
+  masters = m;
+}
+
+module _ (xs new : List ℕ) (first number more : ℕ) (blocks : List Block) (g : Gained xs new first number more blocks)
+  where
+    module _ (free : ℕ) (e : free ≡ free_sum (zone_in xs)) where
+      pub gained-fits : free + more ≤ 134217728
+      gained-fits = let s = g.sum in let f = g.fits in omega (arith, s, f, e)
+
+      pub gained-kept : IsKept new first number (free + more)
+      gained-kept = kept-made new first number (free + more) blocks (slot_in xs) g.made
+          (ap (λ n. n + more) e ∙ sym g.sum)
+
+pub gained-rest : (old new : Bytes) (first number more : ℕ) (blocks : List Block)
+    → Gained old.bytes new.bytes first number more blocks → KeepsPlace old new
+    → (moves : ℕ) → IsRest (rest_in old number moves) (rest_in new number moves)
+gained-rest old new first number more blocks g k moves =
+    rest-made old new (slot_in old.bytes) number moves g.made.slots (ap (count is_masters) g.made.zone ∙ g.masters) k
+
+module _ (xs : List ℕ) (first number : ℕ) (i : IsSound xs first number) where
+  abbrev pub table-of : Table
+  table-of = record { blocks = zone_in xs; slots = slot_in xs; unused = i.unused }
+
+  module _ (slot : ℕ) (used : IsTrue (is_used (slot_in xs slot))) where
+    pub has-handle : HasHandle table-of slot xs
+    has-handle = let s = used-state (slot_in xs slot) used in
+        record { lays = i.lays; tidied = i.tidied; resource = s.0; used = s.1 }
+
+  -- the block of a handle's slot is made Free
+  pub released-gained : (slot : ℕ) (used : IsTrue (is_used (slot_in xs slot))) (new : List ℕ) (more : ℕ)
+      → ((t : Table) → HasHandle t slot xs → Lays new (tidy (freed (is_relocatable slot) t.blocks)) t.slots t.unused)
+      → ((t : Table) → HasHandle t slot xs
+      → free_sum (tidy (freed (is_relocatable slot) t.blocks)) ≡ free_sum t.blocks + more)
+      → Gained xs new first number more (tidy (freed (is_relocatable slot) (zone_in xs)))
+  released-gained slot used new more lays sum =
+      gained xs new first number more i (freed (is_relocatable slot) (zone_in xs))
+      (lays table-of (has-handle slot used)) (sum table-of (has-handle slot used))
+      (masters-released slot (zone_in xs))

@@ -1,0 +1,97 @@
+-- A walk that begins at a block of a zone that bytes lay.
+use Rattle.std.proofs.Common.{◌≡◌, ℕ, ◌+◌, ◌<◌, ◌≤◌, ◌^◌, ◌%◌, List, ◌∷◌, ◌++◌, length, take, drop, refl, ◌∙◌}
+use Rattle.std.proofs.Common.{subst, arith}
+use Rattle.heap_words.specs.Words.{word_at}
+use Rattle.block_store.specs.Block.{Block, size, sizes}
+use Rattle.block_store.specs.Slot.{Slot, is_resource}
+use Rattle.zone_bytes.specs.Layout.{kind, head_of, Tile, Tiles, IsSlot, names, Each, ArePlaced}
+use Rattle.zone_bytes.specs.Stepping.{left_in, IsOnWay}
+use Rattle.zone_bytes.specs.Table.{Lays}
+use Rattle.zone_bytes.proofs.Tiles.Tiling.{span-append, length-tiles, slot-inside, tiles-split}
+use Rattle.zone_bytes.proofs.Tiles.Leading.{each-map, each-right, names-append}
+use Rattle.zone_bytes.proofs.Tiles.Keeping.{placed-right}
+use Rattle.zone_bytes.proofs.Tiles.Heads.{first-reads, kind-small}
+use Rattle.zone_bytes.proofs.Runs.Packed.{span-whole}
+use Rattle.zone_bytes.proofs.Runs.Settled.{Next, same_parts}
+use Rattle.zone_bytes.proofs.Places.Stepped.{left-is, next-header}
+
+module _ (xs : List ℕ) (below above : List Block) (slots : ℕ
+    → Slot) (unused : List ℕ) (h : Lays xs (below ++ above) slots unused)
+    (place : ℕ) (low : sizes below ≡ place) where
+  abbrev all : List Block
+  all = below ++ above
+
+  abbrev head : Block → List ℕ
+  head = head_of (λ s. is_resource (slots s))
+
+  whole : length xs ≡ sizes all
+  whole = length-tiles head xs all h.lies.tiles
+
+  words : (blocks : List Block) → Each (λ s. IsSlot s all) (names blocks) → Each (λ s. s < 2 ^ 32) (names blocks)
+  words blocks e = each-map (λ s. IsSlot s all) (λ s. s < 2 ^ 32) (λ s j. let k = slot-inside s all j in let l =
+      whole in let m = h.small in omega (arith, k, l, m)) (names blocks) e
+
+  pub inside : place + sizes above ≡ length xs
+  inside = let a = span-append below above in let l = whole in omega (arith, a, l, low)
+
+  parted : (w : IsOnWay place xs) × (w.rest ≡ above)
+  parted =
+      let t = tiles-split head xs below above h.lies.tiles in
+      let n = inside in
+      let w = span-whole head (take (sizes below) xs) below t.0 in
+      let o : 0 + sizes below ≡ place = omega (arith, low) in (
+        record {
+          resource = λ s. is_resource (slots s);
+          rest = above;
+          walk = record {
+            high = subst (λ j. Tiles head (drop j xs) above) low t.1;
+            up = n;
+            whole =
+                omega (arith, w, low);
+          };
+          placed = subst (λ j. ArePlaced j above) o (placed-right 0 below above h.placed);
+          words = words above
+              (each-right (λ s. IsSlot s all) (names below) (names above)
+              (subst (Each (λ s. IsSlot s all)) (names-append below above) h.has_slots.slots));
+          small = h.small;
+        },
+        refl,
+      )
+
+  pub way : IsOnWay place xs
+  way = parted.0
+
+  pub left : left_in place xs ≡ above
+  left = left-is place xs parted.0 ∙ parted.1
+
+-- the block at a place, by its header
+pub record Read (xs : List ℕ) (b : Block) (place : ℕ) : Type 0 where
+  pub next : Next xs place
+  pub inside : place + size b ≤ length xs
+  pub some : 16 ≤ size b
+  pub whole : (place % 16 ≡ 0) × (size b % 16 ≡ 0)
+  pub says : (n t : ℕ) → n + t ≡ word_at place xs → n % 16 ≡ 0 → t ≤ 3 → (n ≡ size b) × (t ≡ kind b)
+
+module _ (xs : List ℕ) (below : List Block) (b : Block) (above : List Block) (slots : ℕ
+    → Slot) (unused : List ℕ) (h : Lays xs (below ++ b ∷ above) slots unused)
+    (place : ℕ) (low : sizes below ≡ place) where
+  pub tile-at : Tile (head_of (λ s. is_resource (slots s)) b) (size b) (drop place xs)
+  tile-at =
+      let t = tiles-split (head_of (λ s. is_resource (slots s))) xs below (b ∷ above) h.lies.tiles in
+      (subst (λ j. Tiles (head_of (λ s. is_resource (slots s))) (drop j xs) (b ∷ above)) low t.1).0
+
+  pub read : Read xs b place
+  read =
+      let t = tile-at in
+      let n = inside xs below (b ∷ above) slots unused h place low in
+      let w = way xs below (b ∷ above) slots unused h place low in
+      let s = t.some in
+      let v = w.walk.whole in
+      record {
+        next = next-header place xs w (omega (arith, n, s));
+        inside = omega (arith, n);
+        some = s;
+        whole = (v, t.whole);
+        says = λ n t1 e k l. same_parts n t1 (size b) (kind b) (e
+            ∙ first-reads (λ s. is_resource (slots s)) xs place h.small b t) k t.whole l (kind-small b);
+      }

@@ -1,0 +1,149 @@
+-- A zone that bytes lay keeps the laws of a store.
+use Rattle.std.proofs.Common.{◌≡◌, ℕ, false, cond, eqb, ◌||◌, ◌+◌, ◌*◌, ◌≤◌, inl, inr, List, [], ◌∷◌, length, drop}
+use Rattle.std.proofs.Common.{sym, refl, ap, ◌∙◌, subst, arith}
+use Rattle.std.proofs.lemmas.Bool.{false≢true}
+use Rattle.std.proofs.lemmas.Bool.Decides.{eqb_tells}
+use Rattle.mac_words.specs.Size.{padded}
+use Rattle.block_store.specs.Block.{Block, Free, Fixed, Masters, Relocatable, size, sizes, free_sum, count}
+use Rattle.block_store.specs.Block.{is_masters, is_relocatable, tidy}
+use Rattle.block_store.specs.Run.{has}
+use Rattle.block_store.specs.Slot.{Slot, NoSlot, Unused, Used, is_used}
+use Rattle.block_store.specs.Compact.{Aligned, Placed}
+use Rattle.zone_bytes.specs.Layout.{head_of, Tiles, names, Apart, Each, Pairs, ArePlaced}
+use Rattle.zone_bytes.specs.Decode.{zone_in}
+use Rattle.zone_bytes.specs.Table.{Lays, IsUsed, slot_in, first_of}
+use Rattle.zone_bytes.specs.Lawful.{IsLawful, IsSound, IsKept}
+use Rattle.block_store.specs.Rest.{IsRest}
+use Rattle.raw_region.specs.Memory.{Bytes}
+use Rattle.zone_bytes.specs.Beside.{rest_in}
+use Rattle.zone_bytes.proofs.Tiles.Tiling.{length-tiles}
+use Rattle.zone_bytes.proofs.Tiles.Spelling.{zone-of, slots-of}
+use Rattle.zone_bytes.proofs.Tiles.Zones.{respelled}
+
+-- a name that is not used is that of no block
+not-used : (st : Slot) → IsUsed st → is_used st ≡ false → ⊥
+not-used NoSlot u e = u
+not-used Unused u e = u
+not-used (Used r) u e = false≢true (sym e)
+
+pub none-named : (slots : ℕ → Slot) (blocks : List Block) → Each (λ s. IsUsed (slots s)) (names blocks) → (number : ℕ)
+    → is_used (slots number) ≡ false → has (is_relocatable number) blocks ≡ false
+none-named slots [] u number e = refl
+none-named slots (Free n ∷ blocks) u number e = none-named slots blocks u number e
+none-named slots (Fixed id content ∷ blocks) u number e = none-named slots blocks u number e
+none-named slots (Masters ∷ blocks) u number e = none-named slots blocks u number e
+none-named slots (Relocatable slot flags content ∷ blocks) u number e = elim (eqb_tells slot number) [
+  | inl t ↦ absurd (not-used (slots slot) u.0 (ap (λ k. is_used (slots k)) t.1 ∙ e))
+  | inr t ↦ ap (λ v. v || has (is_relocatable number) blocks) t.0 ∙ none-named slots blocks u.1 number e
+]
+
+-- no two blocks have one name
+pub count-apart : (number : ℕ) (blocks : List Block) → Each (Apart number) (names blocks)
+    → count (is_relocatable number) blocks ≡ 0
+count-apart number [] a = refl
+count-apart number (Free n ∷ blocks) a = let z = count-apart number blocks a in omega (arith, z)
+count-apart number (Fixed id content ∷ blocks) a = let z = count-apart number blocks a in omega (arith, z)
+count-apart number (Masters ∷ blocks) a = let z = count-apart number blocks a in omega (arith, z)
+count-apart number (Relocatable slot flags content ∷ blocks) a = elim (eqb_tells slot number) [
+  | inl t ↦ absurd (far a.0 t.1)
+  | inr t ↦ ap (λ v. cond {A = ℕ} v 1 0 + count (is_relocatable number) blocks) t.0
+      ∙ (let z = count-apart number blocks a.1 in omega (arith, z))
+]
+  where
+    far : Apart number slot → slot ≡ number → ⊥
+    far (inl h) e = omega (arith, h, e)
+    far (inr h) e = omega (arith, h, e)
+
+pub counted-once : (number : ℕ) (blocks : List Block) → Pairs Apart (names blocks)
+    → count (is_relocatable number) blocks ≤ 1
+counted-once number [] p = omega arith
+counted-once number (Free n ∷ blocks) p = let z = counted-once number blocks p in omega (arith, z)
+counted-once number (Fixed id content ∷ blocks) p = let z = counted-once number blocks p in omega (arith, z)
+counted-once number (Masters ∷ blocks) p = let z = counted-once number blocks p in omega (arith, z)
+counted-once number (Relocatable slot flags content ∷ blocks) p = elim (eqb_tells slot number) [
+  | inl t ↦
+      let e : cond {A = ℕ} (eqb slot number) 1 0 ≡ 1 = ap (λ v. cond {A = ℕ} v 1 0) t.0 in
+      let z = count-apart number blocks (subst (λ k. Each (Apart k) (names blocks)) t.1 p.0) in
+      omega (arith, e, z)
+  | inr t ↦
+      let e : cond {A = ℕ} (eqb slot number) 1 0 ≡ 0 = ap (λ v. cond {A = ℕ} v 1 0) t.0 in
+      let z = counted-once number blocks p.1 in
+      omega (arith, e, z)
+]
+
+pub aligned-tiles : (head : Block → List ℕ) (xs : List ℕ) (blocks : List Block) → Tiles head xs blocks → Aligned blocks
+aligned-tiles head xs [] t = tt
+aligned-tiles head xs (Free n ∷ blocks) t = (t.0.whole, aligned-tiles head (drop n xs) blocks t.1)
+aligned-tiles head xs (Fixed id content ∷ blocks) t =
+    (refl, aligned-tiles head (drop (size (Fixed id content)) xs) blocks t.1)
+aligned-tiles head xs (Masters ∷ blocks) t = (refl, aligned-tiles head (drop 272 xs) blocks t.1)
+aligned-tiles head xs (Relocatable slot flags content ∷ blocks) t =
+    (refl, aligned-tiles head (drop (size (Relocatable slot flags content)) xs) blocks t.1)
+
+pub placed-of : (o : ℕ) (blocks : List Block) → ArePlaced o blocks → Placed o blocks
+placed-of o [] p = tt
+placed-of o (Free n ∷ blocks) p = placed-of (o + n) blocks p.1
+placed-of o (Fixed id content ∷ blocks) p = (p.0, placed-of (o + padded (length content)) blocks p.1)
+placed-of o (Masters ∷ blocks) p = placed-of (o + 272) blocks p.1
+placed-of o (Relocatable slot flags content ∷ blocks) p = placed-of (o + padded (length content)) blocks p.1
+
+-- the bytes are those of a RawZone, with these blocks and slots
+pub record Made (xs : List ℕ) (first count : ℕ) (blocks : List Block) (table : ℕ → Slot) : Type 0 where
+  pub sound : IsSound xs first count
+  pub lawful : ∥ IsLawful xs ∥₁
+  pub zone : zone_in xs ≡ blocks
+  pub slots : (s : ℕ) → slot_in xs s ≡ table s
+
+module _ (xs : List ℕ) (blocks : List Block) (slots : ℕ → Slot) (unused : List ℕ)
+    (h : Lays xs blocks slots unused) where
+  pub sizes-length : sizes blocks ≡ length xs
+  sizes-length = sym (length-tiles (head_of _) xs blocks h.lies.tiles)
+
+  pub is-lawful : tidy blocks ≡ blocks → IsLawful xs
+  is-lawful t =
+      let z = zone-of xs blocks slots unused h in
+      let g = respelled xs blocks slots unused h in
+      record {
+        small = (let l = length-tiles (head_of _) xs (zone_in xs) g.lies.tiles in let m = h.small in
+            omega (arith, l, m));
+        no_block = λ number. none-named (slot_in xs) (zone_in xs) g.used number;
+        once = λ number. counted-once number (zone_in xs) g.has_slots.apart;
+        tidied = ap tidy z ∙ t ∙ sym z;
+        aligned = aligned-tiles (head_of _) xs (zone_in xs) g.lies.tiles;
+        placed = placed-of 0 (zone_in xs) g.placed;
+      }
+
+  pub made : (first count : ℕ) → tidy blocks ≡ blocks → first ≡ first_of unused → count ≡ length unused
+      → Made xs first count blocks slots
+  made first count t f k =
+      let z = zone-of xs blocks slots unused h in
+      record {
+        sound = record {
+          unused = unused;
+          lays = respelled xs blocks slots unused h;
+          begins = f;
+          counted = k;
+          tidied = ap tidy z ∙ t ∙ sym z;
+        };
+        lawful = ∣ is-lawful t ∣₁;
+        zone = z;
+        slots = slots-of xs blocks slots unused h;
+      }
+
+-- what a RawZone has beside its blocks, after a call
+pub rest-made : (old new : Bytes) (table : ℕ → Slot) (unused moves : ℕ) → ((s : ℕ) → slot_in new.bytes s ≡ table s)
+    → count is_masters (zone_in new.bytes) ≡ count is_masters (zone_in old.bytes)
+    → (new.home ≡ old.home) × (new.at ≡ old.at) × (length new.bytes ≡ length old.bytes)
+    → IsRest (record (rest_in old unused moves) { slots = table }) (rest_in new unused moves)
+rest-made old new table unused moves s k w = record {
+  slots = s;
+  unused = refl;
+  all = ap (λ n. 64 * n) k;
+  moves = refl;
+  window = λ i. record { home = w.0 i; window = record { at = w.1 i; len = w.2 i } };
+}
+
+-- the invariant of a zone in bytes, whose Free bytes are counted beside it
+pub kept-made : (xs : List ℕ) (first unused free : ℕ) (blocks : List Block) (table : ℕ → Slot)
+    → Made xs first unused blocks table → free ≡ free_sum blocks → IsKept xs first unused free
+kept-made xs first unused free blocks table m e = record { sound = m.sound; free_is = e ∙ sym (ap free_sum m.zone) }

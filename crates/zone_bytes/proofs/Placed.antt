@@ -1,0 +1,11 @@
+pub mod Laid
+pub mod Standing
+pub mod Stretched
+pub mod FixedCarved
+pub mod Copied
+pub mod Sizes
+pub mod FreeTags
+pub mod Resized
+pub mod Threads
+pub mod MoreSlots
+pub mod MastersCarved

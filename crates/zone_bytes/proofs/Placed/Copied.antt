@@ -1,0 +1,61 @@
+-- The first bytes of one block written into another.
+use Rattle.std.proofs.Common.{◌≡◌, ℕ, ◌+◌, ◌≤◌, Some, List, ◌∷◌, ◌++◌, length, take, drop, sym, ap, ◌∙◌, subst, arith}
+use Rattle.std.proofs.lemmas.List.{length-take-le, take-take}
+use Rattle.windows.specs.Writes.{written}
+use Rattle.block_store.specs.Block.{free_sum, count, is_masters, content_of, with_content}
+use Rattle.block_store.specs.Room.{Spot, spot_at}
+use Rattle.zone_bytes.specs.Decode.{zone_in}
+use Rattle.zone_bytes.specs.Table.{slot_in}
+use Rattle.zone_bytes.specs.Lawful.{IsSound, IsKept}
+use Rattle.zone_bytes.proofs.Blocks.Writes.{content-room, written-in, masters-kept, free-kept}
+use Rattle.zone_bytes.proofs.Laws.Lawful.{Made, kept-made}
+use Rattle.zone_bytes.proofs.Placed.Standing.{Standing, standing, held-piece, resource_in}
+
+-- a block at a place that holds so many bytes
+pub holds-inside : (xs : List ℕ) (place n : ℕ) (s : Spot) → Standing xs place s → n ≤ length (content_of s.here)
+    → place + 16 + n ≤ length xs
+holds-inside xs place n s a l =
+    let i = a.inside in
+    let r = content-room s.here a.some in
+    omega (arith, i, r, l)
+
+module _ (xs : List ℕ) (first unused source n place from : ℕ) (i : IsSound xs first unused) (t s : Spot)
+    (at : spot_at source (zone_in xs) ≡ Some t) (to : spot_at place (zone_in xs) ≡ Some s)
+    (l : n ≤ length (content_of t.here)) (w : from + n ≤ length (content_of s.here)) where
+  abbrev x : List ℕ
+  x = take n (content_of t.here)
+
+  abbrev new : List ℕ
+  new = written (place + 16 + from) (take n (drop (source + 16) xs)) xs
+
+  length-x : length x ≡ n
+  length-x = length-take-le n (content_of t.here) l
+
+  same : new ≡ written (place + 16 + from) x xs
+  same =
+      let a = standing xs first unused source i t at in
+      ap (λ q. written (place + 16 + from) q xs)
+      (sym (take-take n (length (content_of t.here)) (drop (source + 16) xs) l)
+      ∙ ap (take n) (held-piece (resource_in xs) t.here source xs a.tile))
+
+  pub copied : Made new first unused (s.below
+      ++ with_content (written from x (content_of s.here)) s.here ∷ s.above) (slot_in xs)
+  copied =
+      let a = standing xs first unused place i s to in
+      let k = length-x in
+      subst (λ ys. Made ys first unused (s.below
+      ++ with_content (written from x (content_of s.here)) s.here ∷ s.above) (slot_in xs))
+      (sym same) (written-in xs first unused i place from x s.below s.here s.above a.whole a.low (omega (arith, k, w)))
+
+  pub copied-kept : (free : ℕ) → free ≡ free_sum (zone_in xs) → IsKept new first unused free
+  copied-kept free f =
+      let a = standing xs first unused place i s to in
+      kept-made new first unused free (s.below ++ with_content (written from x
+      (content_of s.here)) s.here ∷ s.above) (slot_in xs)
+      copied (f ∙ ap free_sum a.whole ∙ sym (free-kept (written from x (content_of s.here)) s.below s.here s.above))
+
+  pub copied-masters : count is_masters (zone_in new) ≡ count is_masters (zone_in xs)
+  copied-masters =
+      let a = standing xs first unused place i s to in
+      ap (count is_masters) copied.zone ∙ masters-kept (written from x (content_of s.here)) s.below s.here s.above
+      ∙ ap (count is_masters) (sym a.whole)

@@ -1,0 +1,180 @@
+-- A new Fixed block at the lower end of a Free one.
+use Rattle.std.proofs.Common.{◌≡◌, ℕ, ◌+◌, ◌-◌, ◌≤◌, IsTrue, Some, List, [], ◌∷◌, ◌++◌, length, replicate}
+use Rattle.std.proofs.Common.{refl, sym, ap, ◌∙◌, subst, arith}
+use Rattle.std.proofs.lemmas.Bool.{false≢true}
+use Rattle.std.proofs.lemmas.List.{length-replicate}
+use Rattle.std.proofs.Math.Seq.{take-nil}
+use Rattle.std.specs.Option.{IfSome, IsSomeAnd}
+use Rattle.mac_words.specs.Size.{padded}
+use Rattle.heap_words.specs.Words.{header}
+use Rattle.heap_words.specs.Headers.{header_bytes}
+use Rattle.heap_words.specs.declared.header.Header.{Header}
+use Rattle.heap_words.specs.declared.header.Tag.TheVariants as tag
+use Rattle.block_store.specs.Block.{Block, Free, Fixed, Masters, Relocatable, size, sizes, free, free_of, free_sum}
+use Rattle.block_store.specs.Block.{count, is_masters}
+use Rattle.block_store.specs.Block.{is_room, resized_content, tidy}
+use Rattle.block_store.specs.Room.{Spot, spot_at, filled}
+use Rattle.block_store.proofs.Zone.Totals.{total-append}
+use Rattle.block_store.proofs.Zone.Apart.{Apart, apart-above}
+use Rattle.block_store.proofs.Zone.Apart.{tidy-tidy}
+use Rattle.block_store.proofs.Content.Sized.{Heading, unjoined-above, cut-sized, filled-free, filled-count}
+use Rattle.zone_bytes.proofs.Laws.Lawful.{Made, made}
+use Rattle.zone_bytes.specs.Layout.{head_of, names_of}
+use Rattle.zone_bytes.specs.Decode.{zone_in}
+use Rattle.zone_bytes.specs.Table.{Lays, slot_in}
+use Rattle.zone_bytes.specs.Lawful.{IsSound}
+use Rattle.zone_bytes.specs.Laying.{laid, MayLay}
+use Rattle.zone_bytes.proofs.Tiles.Spelling.{le-back}
+use Rattle.zone_bytes.proofs.Blocks.InPlace.{no-slots}
+use Rattle.zone_bytes.proofs.Places.Options.{the-spot, if-spot, one-spot}
+use Rattle.zone_bytes.proofs.Placed.Standing.{Standing, standing, resource_in}
+use Rattle.zone_bytes.proofs.Placed.Stretched.{laid-lays}
+
+-- a Free block with room, at a place
+pub record Roomy (xs : List ℕ) (place need : ℕ) : Type 0 where
+  pub s : Spot
+  pub is : spot_at place (zone_in xs) ≡ Some s
+  pub at : Standing xs place s
+  pub bytes : ℕ
+  pub here : s.here ≡ Free bytes
+  pub room : need ≤ bytes
+  pub head : Heading s.above 0 s.above
+
+pub roomy : (xs : List ℕ) (first count place need : ℕ) → IsSound xs first count
+    → IsSomeAnd (spot_at place (zone_in xs)) (λ s. IsTrue (is_room need s.here)) → Roomy xs place need
+roomy xs first count place need i h =
+    let a = the-spot (spot_at place (zone_in xs)) (λ s. IsTrue (is_room need s.here)) h in
+    let f = free-of a.0.here a.2 in
+    let st = standing xs first count place i a.0 a.1 in
+    record {
+      s = a.0;
+      is = a.1;
+      at = st;
+      bytes = f.0;
+      here = f.1;
+      room = f.2;
+      head = record {
+        is = refl;
+        unjoined = unjoined-above f.0 a.0.above
+            (subst (λ b. Apart (b ∷ a.0.above)) f.1
+            (apart-above a.0.below (a.0.here ∷ a.0.above) st.apart));
+      };
+    }
+  where
+    free-of : (b : Block) → IsTrue (is_room need b) → (n : ℕ) × (b ≡ Free n) × (need ≤ n)
+    free-of (Free n) h = (n, refl, le-back need n h)
+    free-of (Fixed id content) h = absurd (false≢true h)
+    free-of Masters h = absurd (false≢true h)
+    free-of (Relocatable id flags content) h = absurd (false≢true h)
+
+-- its bytes are among the Free ones
+pub free-roomy : (xs : List ℕ) (place need : ℕ) → Roomy xs place need → need ≤ free_sum (zone_in xs)
+free-roomy xs place need r =
+    let a = ap free_sum r.at.whole ∙ ap (λ b. free_sum (r.s.below ++ b ∷ r.s.above)) r.here in
+    let b = total-append free_of r.s.below (Free r.bytes ∷ r.s.above) in
+    let f = r.room in
+    omega (arith, a, b, f)
+
+module _ (xs : List ℕ) (place n top z : ℕ) (r : Roomy xs place (padded n)) (t : top ≡ place + size r.s.here)
+    (pz : z ≡ padded n) where
+  abbrev head : Header
+  head = record { size = z; tag = tag.Fixed; logical = n; slot = 0; flags = 0 }
+
+  abbrev new : Block
+  new = Fixed place (replicate n 0)
+
+  size-new : size new ≡ padded n
+  size-new = ap padded (length-replicate {A = ℕ} n 0)
+
+  pub may-lay : MayLay head place top 0 xs
+  may-lay =
+      let a = r.at in
+      let l = ap size r.here in
+      let f = r.room in
+      let i = a.inside in
+      let g = a.some in
+      let e = a.way.walk.whole in
+      let q = a.way_above.walk.whole in
+      record {
+        even = (e, omega (arith, t, q), omega (arith, pz));
+        inside = omega (arith, t, i);
+        small = a.small;
+        room = omega (arith, t, l, f, pz);
+        whole = omega (arith, pz);
+        fits = omega (arith, t, g);
+      }
+
+  head-is : header_bytes head ++ resized_content n [] ≡ head_of (resource_in xs) new
+  unfolding head_of
+  head-is =
+      let l = length-replicate {A = ℕ} n 0 in
+      let c : resized_content n [] ≡ replicate n 0 =
+      ap (λ q. q ++ replicate (n - 0) 0) (take-nil n)
+      ∙ (let y : n - 0 ≡ n = omega arith in ap (λ k. replicate k 0) y) in
+      let b : z ≡ padded (length (replicate {A = ℕ} n 0)) = pz ∙ sym size-new in
+      ap (λ q. header (z + 1) n 0 0 ++ q) c ∙ (λ j. header (b j + 1) (sym l j) 0 0 ++ replicate n 0)
+
+  module _ (first count : ℕ) (i : IsSound xs first count) where
+    pub fixed-lays : Lays (laid head place top 0 xs) (filled new r.s) (slot_in xs) i.unused
+    fixed-lays =
+        let a = r.at in
+        let g = a.some in
+        let l = ap size r.here in
+        let f = r.room in
+        let high : place + sizes (r.s.here ∷ []) ≡ top = omega (arith, t) in
+        let plain = no-slots r.s.here (ap is_masters r.here) in
+        let k : top - place - z ≡ size r.s.here + 0 - size new = let y = size-new in omega (arith, t, pz, y) in
+        subst (λ bs. Lays (laid head place top 0 xs) bs (slot_in xs) i.unused)
+        (ap (λ m. r.s.below ++ new ∷ (free m ++ r.s.above)) k
+        ∙ sym (cut-sized new refl r.s a.apart 0 r.s.above r.head (let y = size-new in omega (arith, y, l, f))))
+        (laid-lays xs first count i r.s.below (r.s.here ∷ []) r.s.above a.whole place top a.low high (omega (
+          arith,
+          t,
+          g,
+        )) plain
+        head 0 may-lay new refl (size-new ∙ sym pz) (sym (ap (λ b. names_of b ++ []) r.here)) refl head-is tt)
+
+    pub fixed-lays-if : IfSome (spot_at place (zone_in xs)) (λ s. Lays (laid head place top 0 xs) (filled new s)
+        (slot_in xs) i.unused)
+    fixed-lays-if = if-spot (spot_at place (zone_in xs)) (λ s. Lays (laid head place top 0 xs) (filled new s)
+        (slot_in xs) i.unused)
+        (λ s e. subst (λ q. Lays (laid head place top 0 xs) (filled new q) (slot_in xs) i.unused)
+        (one-spot (spot_at place (zone_in xs)) r.s s r.is e) fixed-lays)
+
+-- a tidy list of blocks that was laid
+pub tidy-made : (xs now : List ℕ) (first unused : ℕ) (i : IsSound xs first unused) (blocks : List Block)
+    → Lays now (tidy blocks) (slot_in xs) i.unused → Made now first unused (tidy blocks) (slot_in xs)
+tidy-made xs now first unused i blocks h =
+    made now (tidy blocks) (slot_in xs) i.unused h first unused (tidy-tidy blocks) i.begins i.counted
+
+-- the zone with the new block
+module _ (xs now : List ℕ) (first unused place n : ℕ) (i : IsSound xs first unused) (r : Roomy xs place (padded n))
+    (h : Lays now (filled (Fixed place (replicate n 0)) r.s) (slot_in xs) i.unused) where
+  abbrev block : Block
+  block = Fixed place (replicate n 0)
+
+  fits : size block ≤ r.bytes
+  fits = let l = ap padded (length-replicate {A = ℕ} n 0) in let f = r.room in omega (arith, l, f)
+
+  pub fixed-made : Made now first unused (filled block r.s) (slot_in xs)
+  fixed-made = tidy-made xs now first unused i (r.s.below ++ block ∷ Free (size r.s.here - size block) ∷ r.s.above) h
+
+  pub fixed-free : free_sum (zone_in now) + padded n ≡ free_sum (zone_in xs)
+  fixed-free =
+      let a = ap free_sum fixed-made.zone in
+      let b = filled-free block refl r.s r.bytes r.here fits in
+      let c = ap free_sum r.at.whole in
+      let l = ap padded (length-replicate {A = ℕ} n 0) in
+      omega (arith, a, b, c, l)
+
+  pub fixed-masters : count is_masters (zone_in now) ≡ count is_masters (zone_in xs)
+  fixed-masters =
+      let a = ap (count is_masters) fixed-made.zone in
+      let b = filled-count block refl r.s r.bytes r.here fits is_masters (λ n. refl) in
+      let c = ap (count is_masters) r.at.whole in
+      omega (arith, a, b, c)
+
+  pub fixed-zone : IfSome (spot_at place (zone_in xs)) (λ s. zone_in now ≡ filled block s)
+  fixed-zone = if-spot (spot_at place (zone_in xs)) (λ s. zone_in now ≡ filled block s)
+      (λ s e. subst (λ q. zone_in now ≡ filled block q) (one-spot (spot_at place
+      (zone_in xs)) r.s s r.is e) fixed-made.zone)

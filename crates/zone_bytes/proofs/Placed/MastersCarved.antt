@@ -1,0 +1,167 @@
+-- A new Masters block at the lower end of a Free one.
+use Rattle.std.proofs.Common.{◌≡◌, ℕ, IsTrue, ◌+◌, ◌-◌, ◌*◌, ◌<◌, ◌≤◌, ◌%◌, ◌⊎◌, inl, inr, List, [], ◌∷◌, ◌++◌, length}
+use Rattle.std.proofs.Common.{take}
+use Rattle.std.proofs.Common.{zero, suc, refl, sym, ap, ◌∙◌, subst, arith, length-append}
+use Rattle.std.proofs.lemmas.Bool.{false≢true}
+use Rattle.std.specs.Option.{IfSome}
+use Rattle.windows.specs.Writes.{piece}
+use Rattle.heap_words.specs.Words.{word, header}
+use Rattle.heap_words.specs.declared.header.Header.{Header}
+use Rattle.heap_words.specs.declared.header.Tag.TheVariants as tag
+use Rattle.block_store.specs.Block.{Block, Free, Masters, size, free, free_sum, count, is_masters}
+use Rattle.block_store.specs.Room.{spot_at, filled}
+use Rattle.block_store.specs.Slot.{Slot, NoSlot, Unused, Used, is_used}
+use Rattle.block_store.proofs.Zone.Apart.{tidy-tidy}
+use Rattle.block_store.proofs.Content.Sized.{cut-sized, filled-free, filled-count}
+use Rattle.zone_bytes.specs.Layout.{IsSlot}
+use Rattle.zone_bytes.specs.Splicing.{SameOutside}
+use Rattle.zone_bytes.specs.Fresh.{slots_from}
+use Rattle.zone_bytes.specs.Decode.{zone_in}
+use Rattle.zone_bytes.specs.Table.{Lays, Says, slot_in}
+use Rattle.zone_bytes.specs.Lawful.{IsSound}
+use Rattle.zone_bytes.specs.Laying.{laid, MayLay}
+use Rattle.zone_bytes.specs.Mastering.{slots_at, with_slots, Thread}
+use Rattle.zone_bytes.proofs.SlotTable.Taking.{first-small}
+use Rattle.zone_bytes.proofs.Laws.Lawful.{Made, made}
+use Rattle.zone_bytes.proofs.Places.Options.{if-spot, one-spot}
+use Rattle.zone_bytes.proofs.Placed.FixedCarved.{Roomy}
+use Rattle.zone_bytes.proofs.Placed.Laid.{laid-outside, laid-left, laid-first}
+use Rattle.zone_bytes.proofs.Placed.MoreSlots.{outside-within, piece-low, lays-masters, kept-slot}
+
+pub first-fits : (xs : List ℕ) (first unused : ℕ) (i : IsSound xs first unused) → first < 134217728
+first-fits xs first unused i =
+    let f = first-small (zone_in xs) (slot_in xs) i.unused xs i.unused i.lays i.lays.unused_slots in
+    let b = i.begins in
+    omega (arith, f, b)
+
+module _ (xs : List ℕ) (place top : ℕ) (r : Roomy xs place 272) (t : top ≡ place + size r.s.here) where
+  abbrev head : Header
+  head = record { size = 272; tag = tag.Masters; logical = 256; slot = 0; flags = 0 }
+
+  pub may-master : MayLay head place top 256 xs
+  may-master =
+      let a = r.at in
+      let l = ap size r.here in
+      let f = r.room in
+      let i = a.inside in
+      let e = a.way.walk.whole in
+      let q = a.way_above.walk.whole in
+      record {
+        even = (e, omega (arith, t, q), refl);
+        inside = omega (arith, t, i);
+        small = a.small;
+        room = omega (arith, t, l, f);
+        whole = omega arith;
+        fits = omega (arith, t, l, f);
+      }
+
+  abbrev mid : List ℕ
+  mid = laid head place top 256 xs
+
+  pub masters-inside : (place % 4 ≡ 0) × (place + 272 ≤ length mid)
+  masters-inside =
+      let a = r.at in
+      let l = ap size r.here in
+      let f = r.room in
+      let i = a.inside in
+      let e = a.way.walk.whole in
+      let k = (laid-outside head place top 256 xs may-master).kept in
+      (omega (arith, e), omega (arith, l, f, i, k))
+
+  module _ (first unused : ℕ) (i : IsSound xs first unused) (new : List ℕ) (thread : Thread first new (slots_at place))
+      (o : SameOutside (place + 16) (place + 272) mid new) where
+    same : SameOutside place top xs new
+    same =
+        let l = ap size r.here in
+        let f = r.room in
+        outside-within place top (place + 16) (place + 272) xs mid new (omega arith) (omega (arith, t, l, f))
+        (laid-outside head place top 256 xs may-master) o
+
+    top-is : top ≡ place + r.bytes
+    top-is = t ∙ ap (λ b. place + size b) r.here
+
+    begins : piece place 16 new ≡ header 274 256 0 0
+    begins = piece-low (place + 16) (place + 272) place 16 mid new (omega arith) o
+        ∙ laid-first head place top 256 xs may-master
+
+    left : (r.bytes - 272 ≡ 0) ⊎ ((0 < r.bytes - 272) × (piece (place + 272) 4 new ≡ word (r.bytes - 272)))
+    left =
+        let e : top - place - 272 ≡ r.bytes - 272 = let z = top-is in omega (arith, z) in
+        subst (λ k. (k ≡ 0) ⊎ ((0 < k) × (piece (place + 272) 4 new ≡ word k))) e
+        (elim (laid-left head place top 256 xs may-master) [
+          | inl z ↦ inl z
+          | inr z ↦ inr (z.0, ap (take 4) o.high ∙ z.1)
+        ])
+
+    was : Lays xs (r.s.below ++ (Free r.bytes ∷ [] ++ r.s.above)) (slot_in xs) i.unused
+    was = subst (λ z. Lays xs z (slot_in xs) i.unused) (r.at.whole ∙ ap (λ b. r.s.below ++ b ∷ r.s.above) r.here) i.lays
+
+    pub masters-lays : Lays new (filled Masters r.s) (with_slots place (slot_in xs)) (slots_at place ++ i.unused)
+    masters-lays =
+        let l = ap size r.here in
+        let f = r.room in
+        let k : r.bytes - 272 ≡ size r.s.here + 0 - 272 = omega (arith, l) in
+        subst (λ bs. Lays new bs (with_slots place (slot_in xs)) (slots_at place ++ i.unused))
+        (ap (λ m. r.s.below ++ Masters ∷ (free m ++ r.s.above)) k
+        ∙ sym (cut-sized Masters refl r.s r.at.apart 0 r.s.above r.head (omega (arith, l, f))))
+        (lays-masters xs r.s.below r.s.above r.bytes
+        (slot_in xs) i.unused was place top r.at.low top-is r.room new same begins left
+        (subst (λ k. Thread k new (slots_at place)) i.begins thread))
+
+    pub masters-lays-if : IfSome (spot_at place (zone_in xs)) (λ s.
+        Lays new (filled Masters s) (with_slots place (slot_in xs)) (slots_at place ++ i.unused))
+    masters-lays-if = if-spot (spot_at place (zone_in xs)) _
+        (λ s e. subst (λ q. Lays new (filled Masters q) (with_slots place (slot_in xs)) (slots_at place ++ i.unused))
+        (one-spot (spot_at place (zone_in xs)) r.s s r.is e) masters-lays)
+
+length-slots : (at n : ℕ) → length (slots_from at n) ≡ n
+length-slots at zero = refl
+length-slots at (suc n) = ap suc (length-slots (at + 4) n)
+
+-- a slot that is used is none of a block that was Free
+used-stays : (xs : List ℕ) (first unused place : ℕ) (i : IsSound xs first unused) (r : Roomy xs place 272) (k : ℕ)
+    → IsTrue (is_used (slot_in xs k)) → with_slots place (slot_in xs) k ≡ slot_in xs k
+used-stays xs first unused place i r k u =
+    let e = r.at.whole ∙ ap (λ b. r.s.below ++ b ∷ r.s.above) r.here in
+    let h = subst (λ z. Lays xs z (slot_in xs) i.unused) e i.lays in
+    kept-slot xs r.s.below r.s.above r.bytes (slot_in xs) i.unused h place (place + r.bytes) r.at.low refl r.room k
+    (is-slot (r.s.below ++ Free r.bytes ∷ r.s.above) (slot_in xs k) u (h.says k))
+  where
+    is-slot : (bs : List Block) (state : Slot) → IsTrue (is_used state) → Says bs xs i.unused k state → IsSlot k bs
+    is-slot bs NoSlot v q = absurd (false≢true v)
+    is-slot bs Unused v q = absurd (false≢true v)
+    is-slot bs (Used r) v q = q.0
+
+-- the zone with the new block
+module _ (xs now : List ℕ) (first unused place : ℕ) (i : IsSound xs first unused) (r : Roomy xs place 272)
+    (h : Lays now (filled Masters r.s) (with_slots place (slot_in xs)) (slots_at place ++ i.unused)) where
+  pub masters-made : Made now (place + 16) (unused + 64) (filled Masters r.s) (with_slots place (slot_in xs))
+  masters-made =
+      let a = length-append (slots_at place) i.unused in
+      let b = length-slots (place + 16) 64 in
+      let c = i.counted in
+      made now (filled Masters r.s) (with_slots place (slot_in xs)) (slots_at place
+      ++ i.unused) h (place + 16) (unused + 64)
+      (tidy-tidy (r.s.below ++ Masters ∷ Free (size r.s.here - 272) ∷ r.s.above)) refl (omega (arith, a, b, c))
+
+  pub masters-free : free_sum (zone_in now) + 272 ≡ free_sum (zone_in xs)
+  masters-free =
+      let a = ap free_sum masters-made.zone in
+      let b = filled-free Masters refl r.s r.bytes r.here r.room in
+      let c = ap free_sum r.at.whole in
+      omega (arith, a, b, c)
+
+  pub masters-all : 64 * count is_masters (zone_in now) ≡ 64 * count is_masters (zone_in xs) + 64
+  masters-all =
+      let a = ap (count is_masters) masters-made.zone in
+      let b = filled-count Masters refl r.s r.bytes r.here r.room is_masters (λ n. refl) in
+      let c = ap (count is_masters) r.at.whole in
+      omega (arith, a, b, c)
+
+  pub masters-zone : IfSome (spot_at place (zone_in xs)) (λ s. zone_in now ≡ filled Masters s)
+  masters-zone = if-spot (spot_at place (zone_in xs)) (λ s. zone_in now ≡ filled Masters s)
+      (λ s e. subst (λ q. zone_in now ≡ filled Masters q) (one-spot (spot_at place
+      (zone_in xs)) r.s s r.is e) masters-made.zone)
+
+  pub masters-slots : (k : ℕ) → IsTrue (is_used (slot_in xs k)) → slot_in now k ≡ slot_in xs k
+  masters-slots k u = masters-made.slots k ∙ used-stays xs first unused place i r k u

@@ -1,0 +1,291 @@
+-- A Masters block more in the bytes of a zone.
+use Rattle.std.proofs.Common.{◌≡◌, ℕ, Bool, true, false, cond, ◌+◌, ◌-◌, ◌*◌, ◌%◌, ◌<◌, ◌≤◌, ◌⊎◌, inl, inr}
+use Rattle.std.proofs.Common.{zero, suc, List, [], ◌∷◌, ◌++◌, take, drop, sym, refl, ap, ◌∙◌, subst, arith}
+use Rattle.std.proofs.lemmas.Bool.{false≢true}
+use Rattle.std.proofs.lemmas.Bool.Decides.{nat_tests}
+use Rattle.std.proofs.lemmas.List.{take-take, drop-drop, drop-take, length-drop}
+use Rattle.windows.specs.Writes.{piece}
+use Rattle.heap_words.specs.Words.{word, header}
+use Rattle.heap_words.proofs.Headers.{length-header}
+use Rattle.block_store.specs.Block.{Block, Free, Masters, sizes, free}
+use Rattle.block_store.specs.Slot.{Slot, NoSlot, Unused, Used, is_resource}
+use Rattle.zone_bytes.specs.Layout.{head_of, Tile, Tiles, IsSlot, names, Leads, Each, Pairs, Apart, ArePlaced}
+use Rattle.zone_bytes.specs.Settling.{Lies}
+use Rattle.zone_bytes.specs.Splicing.{SameOutside, Splice, IsSplice}
+use Rattle.zone_bytes.specs.Fresh.{slots_from}
+use Rattle.zone_bytes.specs.Table.{Has, Lays, Says, IsUsed, first_of}
+use Rattle.zone_bytes.specs.Mastering.{slots_at, is_slot_at, with_slots, Thread}
+use Rattle.zone_bytes.proofs.Tiles.Tiling.{slot-split, slot-append_left, slot-append_right}
+use Rattle.zone_bytes.proofs.Tiles.Leading.{Clear, each-append, each-map, names-append}
+use Rattle.zone_bytes.proofs.Tiles.Keeping.{chain-kept, names-free, span-free, placed-append, placed-left, placed-right}
+use Rattle.zone_bytes.proofs.Tiles.Splices.{piece-outside, tiles-splice, leads-splice}
+use Rattle.zone_bytes.proofs.Tiles.Replaced.{zone, is-splice}
+use Rattle.zone_bytes.proofs.SlotTable.Tables.{each-both, lies-agree}
+use Rattle.zone_bytes.proofs.FreshZones.FreshSlots.{has-slot, once-from}
+use Rattle.zone_bytes.proofs.Blocks.InPlace.{no-slots}
+use Rattle.zone_bytes.proofs.Blocks.Carves.{outside, clear, slot-kept, even}
+use Rattle.zone_bytes.proofs.Blocks.Carved.{free-slots, placed-free}
+use Rattle.zone_bytes.proofs.Placed.Stretched.{tiles-two, leads-free}
+use Rattle.zone_bytes.proofs.Placed.Threads.{thread-chain}
+
+-- a part of a stretch that was written anew
+pub outside-within : (lo hi a b : ℕ) (xs mid new : List ℕ) → lo ≤ a → b ≤ hi → SameOutside lo hi xs mid
+    → SameOutside a b mid new
+    → SameOutside lo hi xs new
+outside-within lo hi a b xs mid new l h s t =
+    let e : b + (hi - b) ≡ hi = omega (arith, h) in
+    let up : (ys : List ℕ) → drop hi ys ≡ drop (hi - b) (drop b ys) =
+    λ ys. ap (λ k. drop k ys) (sym e) ∙ sym (drop-drop (hi - b) b ys) in
+    record {
+      kept = t.kept ∙ s.kept;
+      ordered = s.ordered;
+      low = sym (take-take lo a new l) ∙ ap (take lo) t.low ∙ take-take lo a mid l ∙ s.low;
+      high = up new ∙ ap (drop (hi - b)) t.high ∙ sym (up mid) ∙ s.high;
+    }
+
+-- pieces below a stretch and above it
+pub piece-low : (a b i n : ℕ) (mid new : List ℕ) → i + n ≤ a → SameOutside a b mid new → piece i n new ≡ piece i n mid
+piece-low a b i n mid new l t =
+    let whole : (ys : List ℕ) → piece i n ys ≡ drop i (take (i + n) (take a ys)) =
+    λ ys. sym (ap (drop i) (take-take (i + n) a ys l) ∙ drop-take i n ys) in
+    whole new ∙ ap (λ k. drop i (take (i + n) k)) t.low ∙ sym (whole mid)
+
+-- the slots of a Masters block at a place
+slot-at : (place s : ℕ) → is_slot_at place s ≡ true → (place + 16 ≤ s) × (s + 4 ≤ place + 272) × (s % 4 ≡ 0)
+slot-at place s h = (grind (arith, nat_tests), grind (arith, nat_tests), grind (arith, nat_tests))
+
+at-slot : (place s : ℕ) → place + 16 ≤ s → s + 4 ≤ place + 272 → s % 4 ≡ 0 → is_slot_at place s ≡ true
+at-slot place s a b c = grind (arith, nat_tests)
+
+not-at : (place top s : ℕ) → place + 272 ≤ top → Clear place (top - place) s → is_slot_at place s ≡ false
+not-at place top s l c = go (is_slot_at place s) refl
+  where
+    go : (v : Bool) → is_slot_at place s ≡ v → is_slot_at place s ≡ false
+    go false e = e
+    go true e =
+        let b = slot-at place s e in
+        elim c [ inl h ↦ absurd (omega (arith, b, h)) | inr h ↦ absurd (omega (arith, b, h, l)) ]
+
+each-from : (P : ℕ → Type 0) (place at n : ℕ) → place + 16 ≤ at → at + 4 * n ≤ place + 272 → at % 4 ≡ 0
+    → ((s : ℕ) → place + 16 ≤ s → s + 4 ≤ place + 272 → s % 4 ≡ 0 → P s) → Each P (slots_from at n)
+each-from P place at zero l h e f = tt
+each-from P place at (suc n) l h e f = (
+  f at l (omega (arith, h)) e,
+  each-from P place (at + 4) n (omega (arith, l)) (omega (arith, h)) (omega (arith, e)) f,
+)
+
+each-at : (P : ℕ → Type 0) (place : ℕ) → place % 4 ≡ 0
+    → ((s : ℕ) → place + 16 ≤ s → s + 4 ≤ place + 272 → s % 4 ≡ 0 → P s) → Each P (slots_at place)
+each-at P place e f = each-from P place (place + 16) 64 (omega arith) (omega arith) (omega (arith, e)) f
+
+has-append : (s : ℕ) (xs ys : List ℕ) → Has xs s ⊎ Has ys s → Has (xs ++ ys) s
+has-append s [] ys (inl h) = absurd h
+has-append s [] ys (inr h) = h
+has-append s (x ∷ xs) ys (inl (inl e)) = inl e
+has-append s (x ∷ xs) ys (inl (inr h)) = inr (has-append s xs ys (inl h))
+has-append s (x ∷ xs) ys (inr h) = inr (has-append s xs ys (inr h))
+
+pairs-append : (xs ys : List ℕ) → Pairs Apart xs → Pairs Apart ys → Each (λ s. Each (Apart s) ys) xs
+    → Pairs Apart (xs ++ ys)
+pairs-append [] ys p q e = q
+pairs-append (x ∷ xs) ys p q e = (each-append (Apart x) xs ys p.0 e.0, pairs-append xs ys p.1 q e.1)
+
+module _ (xs : List ℕ) (below above : List Block) (n : ℕ) (slots : ℕ → Slot) (unused : List ℕ)
+    (h : Lays xs (below ++ (Free n ∷ [] ++ above)) slots unused) (place top : ℕ) (low : sizes below ≡ place)
+    (t : top ≡ place + n) (room : 272 ≤ n) where
+  abbrev all : List Block
+  all = below ++ (Free n ∷ [] ++ above)
+
+  abbrev left : ℕ
+  left = n - 272
+
+  abbrev put : List Block
+  put = Masters ∷ free left
+
+  abbrev pub with_masters : List Block
+  with_masters = below ++ (put ++ above)
+
+  abbrev resource : ℕ → Bool
+  resource = λ s. is_resource (slots s)
+
+  abbrev now : ℕ → Slot
+  now = with_slots place slots
+
+  high : place + sizes (Free n ∷ []) ≡ top
+  high = omega (arith, t)
+
+  rises : place < top
+  rises = omega (arith, t, room)
+
+  plain : (s : ℕ) → IsSlot s (Free n ∷ []) → ⊥
+  plain s j = no-slots (Free n) refl s j
+
+  abbrev z : Splice
+  z = zone xs below (Free n ∷ []) above slots unused h place top low high rises plain
+
+  st : IsSplice z place top xs
+  st = is-splice xs below (Free n ∷ []) above slots unused h place top low high rises plain
+
+  evens : (place % 16 ≡ 0) × (top % 16 ≡ 0)
+  evens = even z place top xs st
+
+  span : sizes put ≡ sizes (Free n ∷ [])
+  span = let k = span-free left in omega (arith, k, room)
+
+  -- the slots that were there stay
+  far : (s : ℕ) → IsSlot s all → is_slot_at place s ≡ false
+  far s i = not-at place top s (omega (arith, t, room)) (outside z place top xs st s i)
+
+  pub kept-slot : (s : ℕ) → IsSlot s all → now s ≡ slots s
+  kept-slot s i = ap (λ v. cond v Unused (slots s)) (far s i)
+
+  module _ (new : List ℕ) (same : SameOutside place top xs new) (first : piece place 16 new ≡ header 274 256 0 0)
+      (rest : (n - 272 ≡ 0) ⊎ ((0 < n - 272) × (piece (place + 272) 4 new ≡ word (n - 272))))
+      (thread : Thread (first_of unused) new (slots_at place)) where
+    masters-tile : Tile (head_of resource Masters) 272 (drop place new)
+    unfolding head_of
+    masters-tile =
+        let l = length-header 274 256 0 0 in
+        let k = same.kept in
+        let o = same.ordered in
+        let d = length-drop place new in
+        record {
+          fits = omega (arith, d, k, o, t, room);
+          whole = refl;
+          some = omega arith;
+          room = omega (arith, l);
+          begins = ap (λ j. take j (drop place new)) l ∙ first;
+        }
+
+    tiles : Tiles (head_of resource) (piece place (top - place) new) put
+    tiles =
+        let k = same.kept in
+        let o = same.ordered in
+        let e = evens in
+        tiles-two resource Masters left place (top - place) new (omega (arith, t, room)) (omega (arith, k, o))
+        (omega (arith, e, t)) masters-tile rest
+
+    lies : Lies resource with_masters new
+    lies =
+        let c = clear z place top xs st in
+        record {
+          tiles = tiles-splice (head_of resource) xs new below (Free n ∷ []) above put place top low high h.lies.tiles
+              same tiles;
+          leads = leads-splice xs new below (Free n ∷ []) above put place top low high span h.lies.leads same c.0 c.1
+              (tt, leads-free (place + 272) left new);
+        }
+
+    forth : (s : ℕ) → IsSlot s all → IsSlot s with_masters
+    forth s i = slot-kept z place top xs st s put span i
+
+    new-slot : (s : ℕ) → place + 16 ≤ s → s + 4 ≤ place + 272 → s % 4 ≡ 0 → IsSlot s with_masters
+    new-slot s a b c =
+        let e = evens in
+        slot-append_right s below (put ++ above) (omega (arith, low, a))
+        (inl (omega (arith, low, a), omega (arith, low, b, a), omega (arith, low, a, c, e)))
+
+    back : (s : ℕ) → IsSlot s with_masters → is_slot_at place s ≡ false → IsSlot s all
+    back s i f = elim (slot-split s below (put ++ above) i) [
+      | inl j ↦ slot-append_left s below (Free n ∷ above) j
+      | inr j ↦ elim (slot-split (s - sizes below) put above j.1) [
+        | inl k ↦ elim k [
+          | inl m ↦
+              let g = j.0 in
+              let e = evens in
+              let at = at-slot place s (omega (arith, m, low, g)) (omega (arith, m, low, g))
+              (omega (arith, m, low, g, e))
+              in
+              absurd (false≢true (sym f ∙ at))
+          | inr m ↦ absurd (free-slots left (s - sizes below - 272) m.1)
+        ]
+        | inr k ↦
+            let l = k.0 in
+            let f : s - sizes below - sizes put ≡ s - sizes below - sizes (Free n ∷ []) = ap
+            (λ q. s - sizes below - q) span in
+            slot-append_right s below (Free n ∷ above) j.0 (slot-append_right (s - sizes below) (Free n ∷ []) above
+            (omega (arith, span, l)) (subst (λ q. IsSlot q above) f k.1))
+      ]
+    ]
+
+    names-now : names with_masters ≡ names all
+    names-now =
+        names-append below (put ++ above)
+        ∙ ap (λ q. names below ++ q) (names-append (free left) above ∙ ap (λ q. q ++ names above) (names-free left))
+        ∙ sym (names-append below (Free n ∷ above))
+
+    kept-piece : (s : ℕ) → IsSlot s all → piece s 4 new ≡ piece s 4 xs
+    kept-piece s i = piece-outside place top xs new s same (outside z place top xs st s i)
+
+    each-named : (P : ℕ → Type 0) → Each P (names all) → Each P (names with_masters)
+    each-named P e = subst (Each P) (sym names-now) e
+
+    says-old : (s : ℕ) (state : Slot) → is_slot_at place s ≡ false → Says all xs unused s state
+        → Says with_masters new (slots_at place ++ unused) s state
+    says-old s NoSlot f q = λ i. q (back s i f)
+    says-old s Unused f q = (forth s q.0, has-append s (slots_at place) unused (inr q.1))
+    says-old s (Used r) f q = (
+      forth s q.0,
+      elim q.1 [
+        | inl k ↦ inl (subst (λ l. Has l s) (sym names-now) k)
+        | inr k ↦ inr (each-named (Apart s) k.0, kept-piece s q.0 ∙ k.1)
+      ],
+    )
+
+    says : (s : ℕ) → Says with_masters new (slots_at place ++ unused) s (now s)
+    says s = go (is_slot_at place s) refl
+      where
+        go : (v : Bool) → is_slot_at place s ≡ v → Says with_masters new (slots_at place ++ unused) s (now s)
+        go true e =
+            let b = slot-at place s e in
+            let v = evens in
+            subst (Says with_masters new (slots_at place ++ unused) s) (sym (ap (λ v. cond v Unused (slots s)) e)) (
+              new-slot s b.0 b.1 b.2,
+              has-append s (slots_at place) unused
+                  (inl (has-slot (place + 16) 64 s b.0 (omega (arith, b)) (omega (arith, v)) b.2)),
+            )
+        go false e =
+            subst (Says with_masters new (slots_at place ++ unused) s) (sym (ap (λ v. cond v Unused (slots s)) e))
+            (says-old s (slots s) e (h.says s))
+
+    pub lays-masters : Lays new with_masters now (slots_at place ++ unused)
+    lays-masters =
+        let e = evens in
+        let p = placed-right 0 below (Free n ∷ above) h.placed in
+        let q = placed-right (0 + sizes below) (Free n ∷ []) above p in
+        record {
+          lies = lies-agree resource (λ s. is_resource (now s)) new with_masters
+              (each-named (λ s. resource s ≡ is_resource (now s)) (each-map (λ s. IsSlot s all)
+              (λ s. resource s ≡ is_resource (now s)) (λ s i. sym (ap is_resource (kept-slot s i)))
+              (names all) h.has_slots.slots))
+              lies;
+          has_slots = record {
+            slots = each-named (λ s. IsSlot s with_masters)
+                (each-map (λ s. IsSlot s all) (λ s. IsSlot s with_masters) forth (names all) h.has_slots.slots);
+            apart = subst (Pairs Apart) (sym names-now) h.has_slots.apart;
+          };
+          placed = placed-append 0 below (put ++ above) (placed-left 0 below (Free n ∷ above) h.placed)
+              (placed-append (0 + sizes below) put above (tt, placed-free (0 + sizes below + 272) left)
+              (subst (λ k. ArePlaced (0 + sizes below + k) above) (sym span) q));
+          small = (let k = same.kept in let m = h.small in omega (arith, k, m));
+          used = each-named (λ s. IsUsed (now s)) (each-both (λ s. IsSlot s all) (λ s. IsUsed (slots s))
+              (λ s. IsUsed (now s))
+              (λ s i u. subst IsUsed (sym (kept-slot s i)) u) (names all) h.has_slots.slots h.used);
+          says = says;
+          chain = thread-chain (first_of unused) new (slots_at place) unused refl thread
+              (chain-kept xs new unused (each-map (λ s. IsSlot s all × (slots s ≡ Unused))
+              (λ s. piece s 4 new ≡ piece s 4 xs)
+              (λ s u. kept-piece s u.0) unused h.unused_slots) h.chain);
+          unused_slots = each-append (λ s. IsSlot s with_masters × (now s ≡ Unused)) (slots_at place) unused
+              (each-at (λ s. IsSlot s with_masters × (now s ≡ Unused)) place (omega (arith, e))
+              (λ s a b c. (new-slot s a b c, ap (λ v. cond v Unused (slots s)) (at-slot place s a b c))))
+              (each-map (λ s. IsSlot s all × (slots s ≡ Unused)) (λ s. IsSlot s with_masters × (now s ≡ Unused))
+              (λ s u. (forth s u.0, kept-slot s u.0 ∙ u.1)) unused h.unused_slots);
+          once = pairs-append (slots_at place) unused (once-from (place + 16) 64) h.once
+              (each-at (λ s. Each (Apart s) unused) place (omega (arith, e)) (λ s a b c.
+              each-map (λ u. IsSlot u all × (slots u ≡ Unused)) (Apart s) (λ u v. apart-from s u a b
+              (outside z place top xs st u v.0)) unused h.unused_slots));
+        }
+      where
+        apart-from : (s u : ℕ) → place + 16 ≤ s → s + 4 ≤ place + 272 → Clear place (top - place) u → Apart s u
+        apart-from s u a b (inl c) = inr (omega (arith, c, a))
+        apart-from s u a b (inr c) = inl (omega (arith, c, b, t, room))

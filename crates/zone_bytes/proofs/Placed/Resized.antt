@@ -1,0 +1,90 @@
+-- The zone in bytes after a block was given another size.
+use Rattle.std.proofs.Common.{◌≡◌, ℕ, ◌-◌, ◌<◌, ◌≤◌, ◌⊎◌, inl, inr, Some, List, ◌∷◌, ◌++◌, cond}
+use Rattle.std.proofs.Common.{refl, sym, ap, ◌∙◌, subst, arith}
+use Rattle.std.specs.Option.{IfSome}
+use Rattle.block_store.specs.Block.{Block, Free, size, count, is_masters, resized}
+use Rattle.block_store.specs.Room.{Spot, spot_at, filled}
+use Rattle.block_store.specs.Grow.{grow_up}
+use Rattle.block_store.proofs.Zone.Apart.{tidy-tidy}
+use Rattle.block_store.proofs.Zone.Tidy.{total-tidy}
+use Rattle.block_store.proofs.Zone.Totals.{total-append}
+use Rattle.block_store.proofs.Content.Resizing.{less_or_more, tidy-grown, count-grown, is_masters-resized}
+use Rattle.zone_bytes.specs.Decode.{zone_in}
+use Rattle.zone_bytes.specs.Table.{Lays, slot_in}
+use Rattle.zone_bytes.specs.Lawful.{IsSound}
+use Rattle.zone_bytes.proofs.Laws.Lawful.{Made, made}
+use Rattle.zone_bytes.proofs.Places.Options.{the-if, if-spot, one-spot}
+use Rattle.zone_bytes.proofs.Placed.Standing.{Standing}
+use Rattle.zone_bytes.proofs.Placed.Sizes.{HasRoom, some-blocks}
+
+-- the blocks afterwards, as the block was cut or has grown
+pub record Resized (xs now : List ℕ) (first unused n : ℕ) (s : Spot) : Type 0 where
+  pub blocks : List Block
+  pub made : Made now first unused blocks (slot_in xs)
+  pub masters : count is_masters blocks ≡ count is_masters (zone_in xs)
+  pub cut : size (resized n s.here) ≤ size s.here → blocks ≡ filled (resized n s.here) s
+  pub grown : size s.here < size (resized n s.here) → IfSome (grow_up (resized n s.here) s) (λ after. blocks ≡ after)
+
+masters-cut : (n : ℕ) (s : Spot) → count is_masters (filled (resized n s.here) s) ≡ count is_masters (s.below
+    ++ s.here ∷ s.above)
+masters-cut n s =
+    let of : Block → ℕ = λ b. cond (is_masters b) 1 0 in
+    let k = size s.here - size (resized n s.here) in
+    let a = total-tidy of (λ n m. refl) (s.below ++ resized n s.here ∷ Free k ∷ s.above) in
+    let b = total-append of s.below (resized n s.here ∷ Free k ∷ s.above) in
+    let c = total-append of s.below (s.here ∷ s.above) in
+    let d : of (resized n s.here) ≡ of s.here = ap (λ v. cond v 1 0) (is_masters-resized n s.here) in
+    omega (arith, a, b, c, d)
+
+module _ (xs now : List ℕ) (first unused place n : ℕ) (i : IsSound xs first unused) (s : Spot)
+    (e : spot_at place (zone_in xs) ≡ Some s) (at : Standing xs place s) (room : HasRoom n s)
+    (cut : (first unused : ℕ) (i : IsSound xs first unused) → IfSome (spot_at place (zone_in xs)) (λ s.
+    size (resized n s.here) ≤ size s.here → Lays now (filled (resized n s.here) s) (slot_in xs) i.unused))
+    (grown : (first unused : ℕ) (i : IsSound xs first unused) → IfSome (spot_at place (zone_in xs)) (λ s.
+    size s.here < size (resized n s.here) → IfSome (grow_up (resized n s.here) s) (λ after.
+    Lays now after (slot_in xs) i.unused))) where
+  abbrev new : Block
+  new = resized n s.here
+
+  pub resize-made : Resized xs now first unused n s
+  resize-made = go (less_or_more (size new) (size s.here))
+    where
+      go : (size new ≤ size s.here) ⊎ (size s.here < size new) → Resized xs now first unused n s
+      go (inl le) =
+          let h = the-if (spot_at place (zone_in xs)) _ s e (cut first unused i) le in
+          record {
+            blocks = filled new s;
+            made = made now (filled new s) (slot_in xs) i.unused h first unused
+                (tidy-tidy (s.below ++ new ∷ Free (size s.here - size new) ∷ s.above)) i.begins i.counted;
+            masters = masters-cut n s ∙ ap (count is_masters) (sym at.whole);
+            cut = λ l. refl;
+            grown = λ more. absurd (omega (arith, le, more));
+          }
+      go (inr more) =
+          let h = the-if (spot_at place (zone_in xs)) _ s e (grown first unused i) more in
+          let g = some-blocks (grow_up new s) (elim room [ inl le ↦ absurd (omega (arith, le, more)) | inr is ↦ is ]) in
+          let l : Lays now g.0 (slot_in xs) i.unused =
+          subst (λ o. IfSome o (λ after. Lays now after (slot_in xs) i.unused)) g.1 h in
+          record {
+            blocks = g.0;
+            made = made now g.0 (slot_in xs) i.unused l first unused
+                (tidy-grown n s g.0 more at.tidied g.1) i.begins i.counted;
+            masters = count-grown is_masters (λ m. refl) new s g.0 (is_masters-resized n s.here) g.1
+                ∙ ap (count is_masters) (sym at.whole);
+            cut = λ le. absurd (omega (arith, le, more));
+            grown = λ m. subst (λ o. IfSome o (λ after. g.0 ≡ after)) (sym g.1) refl;
+          }
+
+  pub cut-zone : IfSome (spot_at place (zone_in xs)) (λ s. size (resized n s.here) ≤ size s.here
+      → zone_in now ≡ filled (resized n s.here) s)
+  cut-zone = if-spot (spot_at place (zone_in xs)) _ (λ t q. subst (λ r. size (resized n r.here) ≤ size r.here
+      → zone_in now ≡ filled (resized n r.here) r) (one-spot (spot_at place (zone_in xs)) s t e q)
+      (λ le. resize-made.made.zone ∙ resize-made.cut le))
+
+  pub grown-zone : IfSome (spot_at place (zone_in xs)) (λ s. size s.here < size (resized n s.here)
+      → IfSome (grow_up (resized n s.here) s) (λ after. zone_in now ≡ after))
+  grown-zone = if-spot (spot_at place (zone_in xs)) _ (λ t q. subst (λ r. size r.here < size (resized n r.here)
+      → IfSome (grow_up (resized n r.here) r) (λ after. zone_in now ≡ after)) (one-spot (spot_at place
+      (zone_in xs)) s t e q)
+      (λ more. subst (λ bs. IfSome (grow_up new s) (λ after. bs ≡ after)) (sym resize-made.made.zone)
+      (resize-made.grown more)))

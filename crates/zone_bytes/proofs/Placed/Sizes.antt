@@ -1,0 +1,358 @@
+-- A block at another size, where it stands.
+use Rattle.std.proofs.Common.{◌≡◌, ℕ, Bool, true, false, ◌==◌, ◌+◌, ◌-◌, ◌%◌, ◌<◌, ◌≤◌, ◌^◌, ◌⊎◌, inl, inr, zero, suc}
+use Rattle.std.proofs.Common.{Option, Some, None}
+use Rattle.std.proofs.Common.{List, [], ◌∷◌, ◌++◌, length, drop, refl, sym, ap, ◌∙◌, subst, arith}
+use Rattle.std.proofs.lemmas.Bool.{false≢true}
+use Rattle.std.proofs.lemmas.List.{length-drop, append-nil}
+use Rattle.std.specs.Option.{IfSome, IsSome, IsSomeAnd}
+use Rattle.mac_words.specs.Size.{padded}
+use Rattle.windows.specs.Writes.{piece}
+use Rattle.heap_words.specs.Words.{word, word_at, header}
+use Rattle.heap_words.specs.Headers.{header_bytes, tag_number}
+use Rattle.heap_words.specs.declared.header.Header.{Header}
+use Rattle.heap_words.proofs.Words.{read_back}
+use Rattle.block_store.specs.Block.{Block, Free, Fixed, Masters, Relocatable, size, free, free_of, free_sum, is_masters}
+use Rattle.block_store.specs.Block.{content_of, resized, resized_content, tidy}
+use Rattle.block_store.specs.Room.{Spot, spot_at, filled}
+use Rattle.block_store.specs.Grow.{grow_up}
+use Rattle.block_store.specs.Inner.Stretch.{is_free}
+use Rattle.block_store.proofs.Zone.Apart.{Apart, longer, apart-above}
+use Rattle.block_store.proofs.Content.Resizing.{length-resized, grown-is}
+use Rattle.block_store.proofs.Content.Sized.{Heading, unjoined-above, cut-sized, grown-sized, free_sum-sized}
+use Rattle.block_store.proofs.Regroup.Packed.{tidy-below}
+use Rattle.block_store.proofs.Zone.Totals.{total-le}
+use Rattle.zone_bytes.proofs.Laws.Lawful.{sizes-length}
+use Rattle.zone_bytes.specs.Layout.{kind, flag_word, head_of, Tile, names_of, Each, IsPlaced}
+use Rattle.zone_bytes.specs.Walking.{Walk}
+use Rattle.zone_bytes.specs.Stepping.{left_in, IsOnWay}
+use Rattle.zone_bytes.specs.Decode.{zone_in}
+use Rattle.zone_bytes.specs.Table.{Lays, slot_in}
+use Rattle.zone_bytes.specs.Lawful.{IsSound}
+use Rattle.zone_bytes.specs.Laying.{laid, MayLay, free_first, past_free}
+use Rattle.zone_bytes.proofs.Tiles.Tags.{tag-small}
+use Rattle.zone_bytes.proofs.Tiles.Decoding.{says, flag_word-small}
+use Rattle.zone_bytes.proofs.Tiles.Heads.{length-head}
+use Rattle.zone_bytes.proofs.Tiles.Keeping.{names-free, span-free}
+use Rattle.zone_bytes.proofs.Tiles.Spelling.{zone-of}
+use Rattle.zone_bytes.proofs.Places.Stepped.{word-at, left-is}
+use Rattle.zone_bytes.proofs.Places.HeaderTells.{here-on, size-at, same-here}
+use Rattle.zone_bytes.proofs.Places.Options.{the-spot, if-spot, one-spot}
+use Rattle.zone_bytes.proofs.Blocks.InPlace.{leads-each}
+use Rattle.zone_bytes.proofs.Blocks.Writes.{content-room}
+use Rattle.zone_bytes.proofs.Placed.Standing.{Standing, standing, held-piece, resource_in}
+use Rattle.zone_bytes.proofs.Placed.Stretched.{laid-lays, no-slots-two}
+
+-- blocks that stand apart, parted into the Free one that comes first and the others
+pub headed-above : (above : List Block) → Apart above → Heading above (free_first above) (past_free above)
+headed-above [] a = record { is = refl; unjoined = refl }
+headed-above (Free zero ∷ above) a = absurd (longer (Free zero) above a.0)
+headed-above (Free (suc n) ∷ above) a = record { is = refl; unjoined = unjoined-above (suc n) above a }
+headed-above (Fixed id content ∷ above) a = record { is = refl; unjoined = refl }
+headed-above (Masters ∷ above) a = record { is = refl; unjoined = refl }
+headed-above (Relocatable id flags content ∷ above) a = record { is = refl; unjoined = refl }
+
+-- the Free bytes that come first lie in the bytes
+pub free-whole : (at : ℕ) (xs : List ℕ) (w : IsOnWay at xs) → (free_first (left_in at xs) % 16 ≡ 0)
+    × (at + free_first (left_in at xs) ≤ length xs)
+free-whole at xs w =
+    subst (λ l. (free_first l % 16 ≡ 0) × (at + free_first l ≤ length xs)) (sym (left-is at xs w)) (go w.rest w.walk)
+  where
+    go : (rest : List Block) → Walk w.resource at xs rest
+        → (free_first rest % 16 ≡ 0) × (at + free_first rest ≤ length xs)
+    go [] v = let u = v.up in (refl, omega (arith, u))
+    go (Free n ∷ rest) v = let u = v.up in (v.high.0.whole, omega (arith, u))
+    go (Fixed id content ∷ rest) v = let u = v.up in (refl, omega (arith, u))
+    go (Masters ∷ rest) v = let u = v.up in (refl, omega (arith, u))
+    go (Relocatable id flags content ∷ rest) v = let u = v.up in (refl, omega (arith, u))
+
+free-part : (b : Block) → free_of b ≤ size b
+free-part (Free n) = omega arith
+free-part (Fixed id content) = omega arith
+free-part Masters = omega arith
+free-part (Relocatable id flags content) = omega arith
+
+abbrev Holds : Block → Type 0
+Holds b = (kind b % 2 == 1) ≡ true
+
+-- what stays of a block that holds bytes
+record Same (n place : ℕ) (b : Block) : Type 0 where
+  no_masters : is_masters b ≡ false
+  held : is_free b ≡ false
+  solid : is_free (resized n b) ≡ false
+  still_none : is_masters (resized n b) ≡ false
+  names : names_of (resized n b) ≡ names_of b
+  placed : IsPlaced place b → IsPlaced place (resized n b)
+  size : size (resized n b) ≡ padded n
+
+same-of : (n place : ℕ) (b : Block) → Holds b → Same n place b
+same-of n place (Free m) k = absurd (false≢true k)
+same-of n place (Fixed id content) k =
+    record {
+      no_masters = refl;
+      held = refl;
+      solid = refl;
+      still_none = refl;
+      names = refl;
+      placed = λ p. p;
+      size =
+          ap padded (length-resized n content);
+    }
+same-of n place Masters k = absurd (false≢true k)
+same-of n place (Relocatable id flags content) k =
+    record {
+      no_masters = refl;
+      held = refl;
+      solid = refl;
+      still_none = refl;
+      names = refl;
+      placed = λ p. p;
+      size =
+          ap padded (length-resized n content);
+    }
+
+-- a block that holds none has one size
+pub unsized : (n : ℕ) (b : Block) → (kind b % 2 == 1) ≡ false → resized n b ≡ b
+unsized n (Free m) k = refl
+unsized n (Fixed id content) k = absurd (false≢true (sym k))
+unsized n Masters k = refl
+unsized n (Relocatable id flags content) k = absurd (false≢true (sym k))
+
+-- the header of a block at another size
+module _ (resource : ℕ → Bool) (n at : ℕ) (xs : List ℕ) (small : length xs ≤ 134217728) where
+  sized-head : (b : Block) → Tile (head_of resource b) (size b) (drop at xs)
+      → Each (λ s. s < 2 ^ 32) (names_of b) → Holds b
+      → (word_at (at + 4) xs ≡ length (content_of b))
+      × (header (padded n + kind b) n (word_at (at + 8) xs) (word_at (at + 12) xs) ++ resized_content n (content_of b)
+      ≡ head_of resource (resized n b))
+  unfolding head_of
+  sized-head (Free m) t w k = absurd (false≢true k)
+  sized-head (Fixed id content) t w k =
+      let z = size (Fixed id content) in
+      let q = says z (z + 1) (length content) 0 0 content (drop at xs) t in
+      let l = length-head (z + 1) (length content) 0 0 content in
+      let f = t.fits in let r = t.room in let d = length-drop at xs in
+      let c = read_back (at + 4) (length content) xs (omega (arith, f, r, l, d, small)) (word-at at 4 xs ∙ q.0) in
+      let v = read_back (at + 8) 0 xs (omega arith) (word-at at 8 xs ∙ q.1) in
+      let e = read_back (at + 12) 0 xs (omega arith) (word-at at 12 xs ∙ q.2) in
+      let x = resized_content n content in
+      let y = length-resized n content in
+      (c, (λ j. header (padded (sym y j) + 1) (sym y j) (v j) (e j) ++ x))
+  sized-head Masters t w k = absurd (false≢true k)
+  sized-head (Relocatable slot flags content) t w k =
+      let z = size (Relocatable slot flags content) in
+      let q = says z (z + 3) (length content) slot (flag_word flags (resource slot)) content (drop at xs) t in
+      let l = length-head (z + 3) (length content) slot (flag_word flags (resource slot)) content in
+      let f = t.fits in let r = t.room in let d = length-drop at xs in
+      let g = flag_word-small flags (resource slot) in
+      let c = read_back (at + 4) (length content) xs (omega (arith, f, r, l, d, small)) (word-at at 4 xs ∙ q.0) in
+      let v = read_back (at + 8) slot xs w.0 (word-at at 8 xs ∙ q.1) in
+      let e = read_back (at + 12) (flag_word flags (resource slot)) xs (omega (arith, g)) (word-at at 12 xs ∙ q.2) in
+      let x = resized_content n content in
+      let y = length-resized n content in
+      (c, (λ j. header (padded (sym y j) + 3) (sym y j) (v j) (e j) ++ x))
+
+-- the header that was read at a place
+pub record Read (header : Header) (place : ℕ) (xs : List ℕ) : Type 0 where
+  pub first : header.size + tag_number header.tag ≡ word_at place xs
+  pub even : header.size % 16 ≡ 0
+  pub long : header.logical ≡ word_at (place + 4) xs
+  pub named : header.slot ≡ word_at (place + 8) xs
+  pub marked : header.flags ≡ word_at (place + 12) xs
+
+pub if-blocks : (o : Option (List Block)) (P : List Block → Type 0) → ((l : List Block) → o ≡ Some l → P l) → IfSome o P
+if-blocks None P f = tt
+if-blocks (Some l) P f = f l refl
+
+pub some-blocks : (o : Option (List Block)) → IsSome o → (l : List Block) × (o ≡ Some l)
+some-blocks None h = absurd (false≢true h)
+some-blocks (Some l) h = (l, refl)
+
+abbrev pub HasRoom : ℕ → Spot → Type 0
+HasRoom n s = (size (resized n s.here) ≤ size s.here) ⊎ IsSome (grow_up (resized n s.here) s)
+
+module _ (xs : List ℕ) (place n : ℕ) (s : Spot) (at : Standing xs place s) (hd : Header) (r : Read hd place xs) where
+  below-end : place < length xs
+  below-end = let i = at.inside in let g = at.some in omega (arith, i, g)
+
+  pub size-is : hd.size ≡ size s.here
+  size-is = size-at place xs at.way below-end hd.size (tag_number hd.tag) r.first r.even
+      (tag-small hd.tag) s.here s.above at.left
+
+  pub kind-is : tag_number hd.tag ≡ kind s.here
+  kind-is =
+      let o = here-on place xs at.way below-end hd.size (tag_number hd.tag) r.first r.even (tag-small hd.tag) in
+      o.tag ∙ ap kind (same-here place xs (tag_number hd.tag) o s.here s.above at.left)
+
+  pub way-behind : IsOnWay (place + hd.size) xs
+  way-behind = subst (λ k. IsOnWay (place + k) xs) (sym size-is) at.way_above
+
+  pub free-behind : free_first (left_in (place + hd.size) xs) ≡ free_first s.above
+  free-behind = ap (λ k. free_first (left_in (place + k) xs)) size-is ∙ ap free_first at.left_above
+
+  heading : Heading s.above (free_first s.above) (past_free s.above)
+  heading = headed-above s.above (apart-above (s.here ∷ []) s.above (apart-above s.below (s.here ∷ s.above) at.apart))
+
+  module _ (odd : (tag_number hd.tag % 2 == 1) ≡ true) (room : HasRoom n s) (m z : ℕ)
+      (mb : m ≡ free_first (left_in (place + hd.size) xs)) (pz : z ≡ padded n) where
+    abbrev new : Block
+    new = resized n s.here
+
+    abbrev rest : List Block
+    rest = past_free s.above
+
+    abbrev sized-header : Header
+    sized-header = record { size = z; tag = hd.tag; logical = n; slot = hd.slot; flags = hd.flags }
+
+    holds : Holds s.here
+    holds = ap (λ k. k % 2 == 1) (sym kind-is) ∙ odd
+
+    same : Same n place s.here
+    same = same-of n place s.here holds
+
+    m-is : m ≡ free_first s.above
+    m-is = mb ∙ free-behind
+
+    heads : Heading s.above m rest
+    heads = subst (λ k. Heading s.above k rest) (sym m-is) heading
+
+    pub fits : padded n ≤ size s.here + m
+    fits = let y = same.size in elim room [
+      | inl le ↦ omega (arith, y, le)
+      | inr some ↦
+          let g = some-blocks (grow_up new s) some in
+          let is = grown-is new s g.0 g.1 in
+          let f = ap free_first is.2 in
+          let q = m-is in
+          let l = is.3 in
+          omega (arith, f, q, l, y)
+    ]
+
+    pub ends : (place + hd.size + m ≤ length xs) × ((place + hd.size + m) % 16 ≡ 0)
+    ends =
+        let w = free-whole (place + hd.size) xs way-behind in
+        let e = way-behind.walk.whole in
+        (omega (arith, w, mb), omega (arith, w, mb, e))
+
+    tells : (word_at (place + 4) xs ≡ length (content_of s.here))
+        × (header (padded n + kind s.here) n (word_at (place + 8) xs) (word_at (place + 12) xs)
+        ++ resized_content n (content_of s.here) ≡ head_of (resource_in xs) new)
+    tells = sized-head (resource_in xs) n place xs at.small s.here at.tile at.names holds
+
+    long-is : hd.logical ≡ length (content_of s.here)
+    long-is = r.long ∙ tells.0
+
+    pub may-size : MayLay sized-header place (place + hd.size + m) hd.logical xs
+    may-size =
+        let e = ends in
+        let w = at.way.walk.whole in
+        let c = content-room s.here at.some in
+        let l = long-is in
+        let y = size-is in
+        let f = fits in
+        record {
+          even = (w, e.1, omega (arith, pz));
+          inside = e.0;
+          small = at.small;
+          room = omega (arith, pz, f, y);
+          whole = omega (arith, pz);
+          fits = omega (arith, c, l, y);
+        }
+
+    head-is : header_bytes sized-header ++ resized_content n (piece (place + 16) hd.logical xs) ≡ head_of
+        (resource_in xs) new
+    head-is =
+        let c : piece (place + 16) hd.logical xs ≡ content_of s.here =
+        ap (λ k. piece (place + 16) k xs) long-is ∙ held-piece (resource_in xs) s.here place xs at.tile in
+        ap (λ q. header_bytes sized-header ++ resized_content n q) c
+        ∙ (λ j. header (pz j + kind-is j) n (r.named j) (r.marked j) ++ resized_content n (content_of s.here)) ∙ tells.1
+
+    module _ (first unused : ℕ) (i : IsSound xs first unused) where
+      abbrev now : List ℕ
+      now = laid sized-header place (place + hd.size + m) hd.logical xs
+
+      abbrev result : List Block
+      result = s.below ++ new ∷ (free (size s.here + m - size new) ++ rest)
+
+      sized-lays : Lays now result (slot_in xs) i.unused
+      sized-lays =
+          let g = at.some in
+          let y = size-is in
+          let f = span-free m in
+          let v = same.size in
+          let k : place + hd.size + m - place - z ≡ size s.here + m - size new = omega (arith, y, v, pz) in
+          subst (λ bs. Lays now bs (slot_in xs) i.unused) (ap (λ j. s.below ++ new ∷ (free j ++ rest)) k)
+          (laid-lays xs first unused i s.below (s.here ∷ free m) rest (at.whole ∙ ap (λ l. s.below
+          ++ s.here ∷ l) heads.is) place
+          (place + hd.size + m) at.low (omega (arith, y, f)) (omega (
+            arith,
+            g,
+            y,
+          )) (no-slots-two s.here m same.no_masters)
+          sized-header hd.logical may-size new same.still_none (v ∙ sym pz)
+          (same.names ∙ sym (ap (λ l. names_of s.here ++ l) (names-free m) ∙ append-nil (names_of s.here)))
+          (same.placed at.placed) head-is
+          (subst (Each (λ k. piece k 4 xs ≡ word place)) (sym same.names) (leads-each place s.here xs at.leads)))
+
+      pub cut-lays : size new ≤ size s.here → Lays now (filled new s) (slot_in xs) i.unused
+      cut-lays le = subst (λ bs. Lays now bs (slot_in xs) i.unused)
+          (sym (cut-sized new same.solid s at.apart m rest heads le)) sized-lays
+
+      pub grown-lays : size s.here < size new → IfSome (grow_up new s) (λ after. Lays now after (slot_in xs) i.unused)
+      grown-lays more = if-blocks (grow_up new s) (λ after. Lays now after (slot_in xs) i.unused)
+          (λ after e. subst (λ bs. Lays now bs (slot_in xs) i.unused)
+          (sym (grown-sized new same.solid s at.apart m rest heads after more e)) sized-lays)
+
+      pub free-sized : (count : ℕ) → count ≡ free_sum (zone_in xs)
+          → (z ≤ count + hd.size) × (count ≤ 134217728) × (count + hd.size - z ≡ free_sum (zone_in now))
+      free-sized count c =
+          let a = ap free_sum (zone-of now result (slot_in xs) i.unused sized-lays) in
+          let k = size s.here + m - size new in
+          let b = free_sum-sized s.below new k rest same.solid in
+          let d = ap free_sum at.whole ∙ ap (λ l. free_sum (s.below ++ s.here ∷ l)) heads.is
+          ∙ free_sum-sized s.below s.here m rest same.held in
+          let e = total-le free_of size free-part (zone_in xs) in
+          let l = sizes-length xs (zone_in xs) (slot_in xs) i.unused i.lays in
+          let t = at.small in
+          let f = fits in
+          let y = size-is in
+          let v = same.size in
+          (omega (arith, c, d, f, y, pz), omega (arith, c, e, l, t), omega (arith, a, b, c, d, f, y, v, pz))
+
+-- where a block holds no bytes, all stays
+module _ (xs : List ℕ) (place n : ℕ) (s : Spot) (at : Standing xs place s) (none : (kind s.here % 2 == 1) ≡ false)
+    (first unused : ℕ) (i : IsSound xs first unused) where
+  pub kept-cut : Lays xs (filled (resized n s.here) s) (slot_in xs) i.unused
+  kept-cut =
+      let z : size s.here - size s.here ≡ 0 = omega arith in
+      subst (λ bs. Lays xs bs (slot_in xs) i.unused)
+      (at.whole ∙ sym at.tidied ∙ tidy-below s.below (s.here ∷ s.above) (s.here ∷ Free 0 ∷ s.above) refl
+      ∙ ap (λ k. tidy (s.below ++ s.here ∷ Free k ∷ s.above)) (sym z)
+      ∙ ap (λ b. filled b s) (sym (unsized n s.here none))) i.lays
+
+  pub kept-grown : size s.here < size (resized n s.here)
+      → IfSome (grow_up (resized n s.here) s) (λ after. Lays xs after (slot_in xs) i.unused)
+  kept-grown more = absurd (let z = ap size (unsized n s.here none) in omega (arith, z, more))
+
+-- at the spot of a place
+module _ (xs now : List ℕ) (place n : ℕ) (s : Spot) (e : spot_at place (zone_in xs) ≡ Some s) (unused : List ℕ) where
+  pub cut-if : (size (resized n s.here) ≤ size s.here → Lays now (filled (resized n s.here) s) (slot_in xs) unused)
+      → IfSome (spot_at place (zone_in xs)) (λ s. size (resized n s.here) ≤ size s.here
+      → Lays now (filled (resized n s.here) s) (slot_in xs) unused)
+  cut-if f = if-spot (spot_at place (zone_in xs)) _ (λ t q. subst (λ r. size (resized n r.here) ≤ size r.here
+      → Lays now (filled (resized n r.here) r) (slot_in xs) unused) (one-spot (spot_at place (zone_in xs)) s t e q) f)
+
+  pub grown-if : (size s.here < size (resized n s.here)
+      → IfSome (grow_up (resized n s.here) s) (λ after. Lays now after (slot_in xs) unused))
+      → IfSome (spot_at place (zone_in xs)) (λ s. size s.here < size (resized n s.here)
+      → IfSome (grow_up (resized n s.here) s) (λ after. Lays now after (slot_in xs) unused))
+  grown-if f = if-spot (spot_at place (zone_in xs)) _ (λ t q. subst (λ r. size r.here < size (resized n r.here)
+      → IfSome (grow_up (resized n r.here) r) (λ after. Lays now after (slot_in xs) unused))
+      (one-spot (spot_at place (zone_in xs)) s t e q) f)
+
+-- the spot, and what is known of it
+pub room-at : (xs : List ℕ) (first unused place n : ℕ) → IsSound xs first unused
+    → IsSomeAnd (spot_at place (zone_in xs)) (λ s. HasRoom n s)
+    → (s : Spot) × (spot_at place (zone_in xs) ≡ Some s) × HasRoom n s × Standing xs place s
+room-at xs first unused place n i h =
+    let a = the-spot (spot_at place (zone_in xs)) (λ s. HasRoom n s) h in
+    (a.0, a.1, a.2, standing xs first unused place i a.0 a.1)

@@ -1,0 +1,107 @@
+-- What is known of the block at a place.
+use Rattle.std.proofs.Common.{◌≡◌, ℕ, ◌+◌, ◌<◌, ◌≤◌, ◌^◌, Bool, Some, List, [], ◌∷◌, ◌++◌, length, take, drop, refl}
+use Rattle.std.proofs.Common.{sym, ap, ◌∙◌}
+use Rattle.std.proofs.Common.{subst, arith}
+use Rattle.std.proofs.lemmas.List.{drop-drop}
+use Rattle.windows.specs.Writes.{piece}
+use Rattle.block_store.specs.Block.{Block, Free, Fixed, Masters, Relocatable, size, sizes, content_of, tidy}
+use Rattle.block_store.specs.Room.{Spot, spot_at}
+use Rattle.block_store.specs.Slot.{is_resource}
+use Rattle.block_store.proofs.Zone.Apart.{Apart, apart-tidied}
+use Rattle.zone_bytes.specs.Layout.{flag_word, head_of, Tile, Tiles, IsPlaced, ArePlaced, LeadsTo, Leads, IsSlot, names}
+use Rattle.zone_bytes.specs.Layout.{names_of, Each}
+use Rattle.zone_bytes.proofs.SlotTable.Tables.{slot-in}
+use Rattle.zone_bytes.specs.Decode.{zone_in}
+use Rattle.zone_bytes.specs.Table.{slot_in}
+use Rattle.zone_bytes.specs.Lawful.{IsSound}
+use Rattle.zone_bytes.specs.Stepping.{left_in, IsOnWay}
+use Rattle.zone_bytes.proofs.Tiles.Tiling.{tiles-split}
+use Rattle.zone_bytes.proofs.Tiles.Leading.{leads-right, each-map, each-left, each-right, names-append}
+use Rattle.zone_bytes.proofs.Tiles.Keeping.{placed-right}
+use Rattle.zone_bytes.proofs.Tiles.Decoding.{says}
+use Rattle.zone_bytes.proofs.Places.AtPlace.{whole, low, way-at, left-at, inside, some-here, way-above, left-above}
+
+-- the resource flags that bytes tell
+abbrev pub resource_in : List ℕ → ℕ → Bool
+resource_in xs = λ s. is_resource (slot_in xs s)
+
+pub record Standing (xs : List ℕ) (place : ℕ) (s : Spot) : Type 0 where
+  pub whole : zone_in xs ≡ s.below ++ s.here ∷ s.above
+  pub low : sizes s.below ≡ place
+  pub way : IsOnWay place xs
+  pub left : left_in place xs ≡ s.here ∷ s.above
+  pub way_above : IsOnWay (place + size s.here) xs
+  pub left_above : left_in (place + size s.here) xs ≡ s.above
+  pub inside : place + size s.here ≤ length xs
+  pub some : 16 ≤ size s.here
+  pub small : length xs ≤ 134217728
+  pub tile : Tile (head_of (resource_in xs) s.here) (size s.here) (drop place xs)
+  pub placed : IsPlaced place s.here
+  pub leads : LeadsTo place s.here xs
+  pub names : Each (λ k. k < 2 ^ 32) (names_of s.here)
+  pub tidied : tidy (s.below ++ s.here ∷ s.above) ≡ s.below ++ s.here ∷ s.above
+  pub apart : Apart (s.below ++ s.here ∷ s.above)
+
+pub standing : (xs : List ℕ) (first count place : ℕ) → IsSound xs first count → (s : Spot)
+    → spot_at place (zone_in xs) ≡ Some s
+    → Standing xs place s
+standing xs first count place i s e =
+    let all = whole xs first count i place s e in
+    let at = low xs first count i place s e in
+    let o : 0 + sizes s.below ≡ place = omega (arith, at) in
+    let t = tiles-split (head_of (resource_in xs)) xs s.below (s.here ∷ s.above)
+    (subst (Tiles (head_of (resource_in xs)) xs) all i.lays.lies.tiles) in
+    let y : tidy (s.below ++ s.here ∷ s.above) ≡ s.below ++ s.here ∷ s.above = sym (ap tidy all) ∙ i.tidied ∙ all in
+    let p = append_one s.below s.here s.above in
+    let q : sizes (s.below ++ s.here ∷ []) ≡ place + size s.here =
+    span-one s.below s.here ∙ ap (λ n. n + size s.here) at in
+    record {
+      whole = all;
+      low = at;
+      way = way-at xs first count i place s e;
+      left = left-at xs first count i place s e;
+      way_above = way-above xs first count i (s.below ++ s.here ∷ []) s.above (place + size s.here) (all ∙ p) q;
+      left_above = left-above xs first count i (s.below ++ s.here ∷ []) s.above (place + size s.here) (all ∙ p) q;
+      inside = inside xs first count i place s e;
+      some = some-here xs first count i place s e;
+      small = i.lays.small;
+      tile = subst (λ j. Tile (head_of (resource_in xs) s.here) (size s.here) (drop j xs)) at t.1.0;
+      placed = subst (λ j. IsPlaced j s.here) o
+          (placed-right 0 s.below (s.here ∷ s.above) (subst (λ z. ArePlaced 0 z) all i.lays.placed)).0;
+      leads = subst (λ j. LeadsTo j s.here xs) o
+          (leads-right xs 0 s.below (s.here ∷ s.above) (subst (λ z. Leads 0 z xs) all i.lays.lies.leads)).0;
+      names = each-map (λ k. IsSlot k (zone_in xs)) (λ k. k < 2 ^ 32)
+          (λ k j. let v = slot-in xs (zone_in xs) (slot_in xs) i.unused i.lays k j in let m = i.lays.small in omega
+          (arith, v, m))
+          (names_of s.here)
+          (each-left (λ k. IsSlot k (zone_in xs)) (names_of s.here) (names s.above) (each-right (λ k. IsSlot k
+          (zone_in xs))
+          (names s.below) (names (s.here ∷ s.above)) (subst (Each (λ k. IsSlot k (zone_in xs))) (ap names all
+          ∙ names-append s.below (s.here ∷ s.above)) i.lays.has_slots.slots)));
+      tidied = y;
+      apart = apart-tidied (s.below ++ s.here ∷ s.above) y;
+    }
+  where
+    append_one : (below : List Block) (b : Block) (above : List Block) → below ++ b ∷ above ≡ (below ++ b ∷ []) ++ above
+    append_one [] b above = refl
+    append_one (c ∷ below) b above = ap (λ l. c ∷ l) (append_one below b above)
+
+    span-one : (below : List Block) (b : Block) → sizes (below ++ b ∷ []) ≡ sizes below + size b
+    span-one [] b = omega arith
+    span-one (c ∷ below) b = let r = span-one below b in omega (arith, r)
+
+-- the content stands behind the header
+pub held-piece : (resource : ℕ → Bool) (b : Block) (at : ℕ) (xs : List ℕ)
+    → Tile (head_of resource b) (size b) (drop at xs)
+    → piece (at + 16) (length (content_of b)) xs ≡ content_of b
+unfolding head_of
+held-piece resource (Free n) at xs t = refl
+held-piece resource (Fixed id content) at xs t =
+    let z = size (Fixed id content) in
+    ap (take (length content)) (sym (drop-drop 16 at xs))
+    ∙ (says z (z + 1) (length content) 0 0 content (drop at xs) t).3
+held-piece resource Masters at xs t = refl
+held-piece resource (Relocatable slot flags content) at xs t =
+    let z = size (Relocatable slot flags content) in
+    ap (take (length content)) (sym (drop-drop 16 at xs))
+    ∙ (says z (z + 3) (length content) slot (flag_word flags (resource slot)) content (drop at xs) t).3

@@ -1,0 +1,7 @@
+pub mod Walks
+pub mod Stepped
+pub mod AtPlace
+pub mod HeaderTells
+pub mod Options
+pub mod Edges
+pub mod LedTo

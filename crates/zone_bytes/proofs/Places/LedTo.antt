@@ -1,0 +1,94 @@
+-- The block that a slot leads to.
+use Rattle.std.proofs.Common.{◌≡◌, ℕ, true, inl, inr, ◌+◌, ◌%◌, ◌≤◌, Some, List, ◌∷◌, ◌++◌}
+use Rattle.std.proofs.Common.{length, sym, ap, ◌∙◌, subst, arith}
+use Rattle.std.proofs.lemmas.Bool.{false≢true}
+use Rattle.std.proofs.lemmas.Bool.Decides.{eqb_tells}
+use Rattle.heap_words.specs.Words.{word, word_at}
+use Rattle.heap_words.proofs.Words.{read_back}
+use Rattle.block_store.specs.declared.flags.Flags.{Flags}
+use Rattle.block_store.specs.Block.{Block, Free, Fixed, Masters, Relocatable, sizes, is_relocatable}
+use Rattle.block_store.specs.Room.{Spot, spot, spot_at}
+use Rattle.block_store.specs.Find.{FindsLowest}
+use Rattle.block_store.specs.Seen.{seen}
+use Rattle.block_store.specs.declared.sparing.Seen.TheVariants as see
+use Rattle.block_store.proofs.Zone.Tidy.{spot-is, spot-passes}
+use Rattle.block_store.proofs.Zone.Apart.{apart-tidied}
+use Rattle.block_store.proofs.Zone.Spots.{spot_at-spot}
+use Rattle.zone_bytes.specs.Layout.{IsSlot, names, Leads, Each}
+use Rattle.zone_bytes.specs.Decode.{zone_in}
+use Rattle.zone_bytes.specs.Stepping.{left_in, IsOnWay}
+use Rattle.zone_bytes.specs.Table.{slot_in}
+use Rattle.zone_bytes.specs.Lawful.{IsSound}
+use Rattle.zone_bytes.specs.Adopting.{LeadsHere}
+use Rattle.zone_bytes.proofs.Tiles.Leading.{each-right, leads-right, names-append}
+use Rattle.zone_bytes.proofs.SlotTable.Tables.{slot-in}
+use Rattle.zone_bytes.proofs.Places.AtPlace.{way-at, left-at, inside}
+
+-- the block of a slot's name
+named : (number : ℕ) (b : Block) → is_relocatable number b ≡ true → (flags : Flags) × (content : List ℕ)
+    × (b ≡ Relocatable number flags content)
+named number (Free n) e = absurd (false≢true e)
+named number (Fixed id content) e = absurd (false≢true e)
+named number Masters e = absurd (false≢true e)
+named number (Relocatable id flags content) e = elim (eqb_tells id number) [
+  | inl t ↦ (flags, content, ap (λ k. Relocatable k flags content) t.1)
+  | inr t ↦ absurd (false≢true (sym t.0 ∙ e))
+]
+
+module _ (xs : List ℕ) (first count : ℕ) (i : IsSound xs first count) (number : ℕ) (s : Spot)
+    (e : spot (is_relocatable number) (zone_in xs) ≡ Some s) where
+  here : (flags : Flags) × (content : List ℕ) × (s.here ≡ Relocatable number flags content)
+  here = named number s.here (spot-passes (is_relocatable number) (zone_in xs) s e)
+
+  abbrev block : Block
+  block = Relocatable number here.0 here.1
+
+  whole : zone_in xs ≡ s.below ++ block ∷ s.above
+  whole = spot-is (is_relocatable number) (zone_in xs) s e ∙ ap (λ b. s.below ++ b ∷ s.above) here.2
+
+  pub led-at : spot_at (sizes s.below) (zone_in xs) ≡ Some s
+  led-at = spot_at-spot (is_relocatable number) (zone_in xs) s (apart-tidied (zone_in xs) i.tidied) e
+
+  is-slot : IsSlot number (zone_in xs)
+  is-slot = (each-right (λ s. IsSlot s (zone_in xs)) (names s.below) (names (block ∷ s.above))
+      (subst (Each (λ s. IsSlot s (zone_in xs))) (ap names whole ∙ names-append s.below (block ∷ s.above))
+      i.lays.has_slots.slots)).0
+
+  pub led-slot : (number % 4 ≡ 0) × (number + 4 ≤ length xs)
+  led-slot = slot-in xs (zone_in xs) (slot_in xs) i.unused i.lays number is-slot
+
+  pub led-place : word_at number xs ≡ sizes s.below
+  led-place =
+      let k = inside xs first count i (sizes s.below) s led-at in
+      let m = i.lays.small in
+      let l = leads-right xs 0 s.below (block ∷ s.above) (subst (λ z. Leads 0 z xs) whole i.lays.lies.leads) in
+      let o : 0 + sizes s.below ≡ sizes s.below = omega arith in
+      read_back number (sizes s.below) xs (omega (arith, k, m)) (l.0 ∙ ap word o)
+
+  led-left : left_in (word_at number xs) xs ≡ block ∷ s.above
+  led-left = ap (λ p. left_in p xs) led-place ∙ left-at xs first count i (sizes s.below) s led-at
+      ∙ ap (λ b. b ∷ s.above) here.2
+
+  pub leads-here : LeadsHere number xs
+  leads-here = record {
+    flags = here.0;
+    content = here.1;
+    above = s.above;
+    way = subst (λ p. IsOnWay p xs) (sym led-place) (way-at xs first count i (sizes s.below) s led-at);
+    is = led-left;
+  }
+
+  -- what a read of its place finds
+  pub led-found : (place : ℕ) → place ≡ word_at number xs
+      → FindsLowest (is_relocatable number) (zone_in xs) (Some place)
+  led-found place p =
+      let q = p ∙ led-place in
+      (s, e, subst (λ p. spot_at p (zone_in xs) ≡ Some s) (sym q) led-at, sym q)
+
+  -- what a read of its header tells
+  pub led-told : (flags : Flags) (n : ℕ) → ((f : Flags) (content : List ℕ) (above : List Block)
+      → left_in (word_at number xs) xs ≡ Relocatable number f content ∷ above → (flags ≡ f) × (n ≡ length content))
+      → seen s.here ≡ see.Relocatable number flags n
+  led-told flags n told =
+      let p = told here.0 here.1 s.above led-left in
+      ap seen here.2 ∙ (λ i. see.Relocatable number (sym p.0 i) (sym p.1 i))

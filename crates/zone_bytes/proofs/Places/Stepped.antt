@@ -1,0 +1,123 @@
+-- One step of a walk over the blocks that bytes spell.
+use Rattle.std.proofs.Common.{◌≡◌, ℕ, Bool, ◌+◌, ◌%◌, ◌<◌, ◌≤◌, ◌^◌, Some, None, List, [], ◌∷◌, length, take, drop}
+use Rattle.std.proofs.Common.{sym, refl, ap, ◌∙◌, subst, arith}
+use Rattle.std.proofs.lemmas.List.{length-drop, drop-drop}
+use Rattle.windows.specs.Writes.{piece}
+use Rattle.heap_words.specs.Words.{word_at}
+use Rattle.heap_words.proofs.Words.{read_back}
+use Rattle.block_store.specs.declared.sparing.Seen.{Seen}
+use Rattle.block_store.specs.declared.sparing.Seen.TheVariants as see
+use Rattle.block_store.specs.Block.{Block, Free, Fixed, Masters, Relocatable, size}
+use Rattle.block_store.specs.Seen.{seen}
+use Rattle.block_store.specs.Walk.{Tells}
+use Rattle.zone_bytes.specs.Layout.{kind, flag_word, head_of, Tile, Tiles, names, names_of, Each, ArePlaced}
+use Rattle.zone_bytes.specs.Decode.{flags_of}
+use Rattle.zone_bytes.specs.Walking.{Walk}
+use Rattle.zone_bytes.specs.Stepping.{header_seen, left_in, IsOnWay}
+use Rattle.zone_bytes.proofs.Tiles.Leading.{each-left, each-right}
+use Rattle.zone_bytes.proofs.Runs.Settled.{Next, same_parts}
+use Rattle.zone_bytes.proofs.Tiles.Heads.{length-head, first-reads, kind-small}
+use Rattle.zone_bytes.proofs.Tiles.Decoding.{says, flag_word-small, flags_of-word, blocks-back}
+use Rattle.zone_bytes.proofs.Places.Walks.{walk-next}
+
+-- a word of a tile, by its place in all the bytes
+pub word-at : (at k : ℕ) (xs : List ℕ) → piece (at + k) 4 xs ≡ piece k 4 (drop at xs)
+word-at at k xs = sym (ap (take 4) (drop-drop k at xs))
+
+module _ (resource : ℕ → Bool) (at : ℕ) (xs : List ℕ) (small : length xs ≤ 134217728) where
+  -- what a header tells is its block without its bytes
+  pub told-is : (b : Block) → Tile (head_of resource b) (size b) (drop at xs) → Each (λ s. s < 2 ^ 32) (names_of b)
+      → header_seen (kind b) (size b) (word_at (at + 4) xs) (word_at (at + 8) xs) (word_at (at + 12) xs) ≡ seen b
+  unfolding head_of
+  told-is (Free n) t w = refl
+  told-is (Fixed id content) t w =
+      let z = size (Fixed id content) in
+      let q = says z (z + 1) (length content) 0 0 content (drop at xs) t in
+      let l = length-head (z + 1) (length content) 0 0 content in
+      let f = t.fits in let r = t.room in let d = length-drop at xs in
+      ap see.Fixed (read_back (at + 4) (length content) xs (omega (arith, f, r, l, d, small)) (word-at at 4 xs ∙ q.0))
+  told-is Masters t w = refl
+  told-is (Relocatable slot flags content) t w =
+      let z = size (Relocatable slot flags content) in
+      let q = says z (z + 3) (length content) slot (flag_word flags (resource slot)) content (drop at xs) t in
+      let l = length-head (z + 3) (length content) slot (flag_word flags (resource slot)) content in
+      let f = t.fits in let r = t.room in let d = length-drop at xs in
+      let g = flag_word-small flags (resource slot) in
+      let c = read_back (at + 4) (length content) xs (omega (arith, f, r, l, d, small)) (word-at at 4 xs ∙ q.0) in
+      let v = read_back (at + 8) slot xs w.0 (word-at at 8 xs ∙ q.1) in
+      let e = read_back (at + 12) (flag_word flags (resource slot)) xs (omega (arith, g)) (word-at at 12 xs ∙ q.2) in
+      (λ i. see.Relocatable (v i) (flags_of (e i)) (c i))
+      ∙ (λ i. see.Relocatable slot (flags_of-word flags (resource slot) i) (length content))
+
+-- a step over the block whose header is of n bytes and a kind of number t
+pub record Stepped (at : ℕ) (xs : List ℕ) (n t : ℕ) : Type 0 where
+  pub here : Block
+  pub is : left_in at xs ≡ here ∷ left_in (at + n) xs
+  pub told : header_seen t n (word_at (at + 4) xs) (word_at (at + 8) xs) (word_at (at + 12) xs) ≡ seen here
+  pub way : IsOnWay (at + n) xs
+
+module _ (at : ℕ) (xs : List ℕ) (w : IsOnWay at xs) where
+  pub left-is : left_in at xs ≡ w.rest
+  left-is =
+      let d = length-drop at xs in
+      let s = w.small in
+      blocks-back w.resource (length xs) at w.rest (drop at xs) (omega (arith, d))
+      (omega (arith, d, s)) w.placed w.words w.walk.high
+
+  pub left-none : length xs ≤ at → left_in at xs ≡ []
+  left-none l = left-is ∙ none w.rest w.walk
+    where
+      none : (rest : List Block) → Walk w.resource at xs rest → rest ≡ []
+      none [] k = refl
+      none (b ∷ rest) k = let u = k.up in let s = k.high.0.some in absurd (omega (arith, u, s, l))
+
+  pub next-header : at < length xs → Next xs at
+  next-header l = walk-next w.resource xs w.small at w.rest w.walk l
+
+pub stepped-on : (resource : ℕ → Bool) (at : ℕ) (xs : List ℕ) (small : length xs ≤ 134217728) (rest : List Block)
+    → Walk resource at xs rest → ArePlaced at rest → Each (λ s. s < 2 ^ 32) (names rest)
+    → at < length xs → (n t : ℕ) → n + t ≡ word_at at xs → n % 16 ≡ 0 → t ≤ 3 → Stepped at xs n t
+stepped-on resource at xs small [] v p o l n t e h k = let u = v.up in absurd (omega (arith, u, l))
+stepped-on resource at xs small (b ∷ rest) v p o l n t e h k =
+    let P : ℕ → Type 0 = λ s. s < 2 ^ 32 in
+    let same = same_parts n t (size b) (kind b) (e ∙ first-reads resource xs at small b v.high.0) h v.high.0.whole k
+    (kind-small b) in
+    let bytes = same.0 in
+    let u = v.up in
+    let w = v.whole in
+    let now : IsOnWay at xs = record
+    { resource = resource; rest = b ∷ rest; walk = v; placed = p; words = o; small = small } in
+    let way : IsOnWay (at + n) xs = record {
+      resource = resource;
+      rest = rest;
+      walk = record {
+        high = subst (λ j. Tiles (head_of resource) (drop (at + j) xs) rest) (sym bytes)
+            (subst (λ j. Tiles (head_of resource) j rest) (drop-drop (size b) at xs) v.high.1);
+        up = omega (arith, u, bytes);
+        whole = omega (arith, w, h);
+      };
+      placed = subst (λ j. ArePlaced (at + j) rest) (sym bytes) p.1;
+      words = each-right P (names_of b) (names rest) o;
+      small = small;
+    } in
+    record {
+      here = b;
+      is = left-is at xs now ∙ ap (λ q. b ∷ q) (sym (left-is (at + n) xs way));
+      told = (λ i. header_seen (same.1 i) (bytes i) (word_at (at + 4) xs) (word_at (at + 8) xs)
+          (word_at (at + 12) xs)) ∙ told-is resource at xs small b v.high.0 (each-left P (names_of b) (names rest) o);
+      way = way;
+    }
+
+pub stepped : (at : ℕ) (xs : List ℕ) (w : IsOnWay at xs) → at < length xs → (n t : ℕ) → n + t ≡ word_at at xs
+    → n % 16 ≡ 0 → t ≤ 3 → Stepped at xs n t
+stepped at xs w l n t e h k = stepped-on w.resource at xs w.small w.rest w.walk w.placed w.words l n t e h k
+
+pub tells-step : (at : ℕ) (xs : List ℕ) (n t : ℕ) (s : Stepped at xs n t) (answer : Seen)
+    → answer ≡ header_seen t n (word_at (at + 4) xs) (word_at (at + 8) xs) (word_at (at + 12) xs)
+    → Tells (left_in at xs) (Some answer) (left_in (at + n) xs)
+tells-step at xs n t s answer e = subst (λ l. Tells l (Some answer) (left_in (at + n) xs)) (sym s.is)
+    (ap Some (e ∙ s.told), refl)
+
+pub tells-none : (at : ℕ) (xs : List ℕ) (w : IsOnWay at xs) → length xs ≤ at
+    → Tells (left_in at xs) None (left_in at xs)
+tells-none at xs w l = subst (λ k. Tells k None k) (sym (left-none at xs w l)) (refl, refl)

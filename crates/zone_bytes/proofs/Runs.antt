@@ -1,0 +1,13 @@
+pub mod Packed
+pub mod Settled
+pub mod Runs
+pub mod RunsAt
+pub mod Pointers
+pub mod Raises
+pub mod NextRuns
+pub mod Moved
+pub mod Hoists
+pub mod Changed
+pub mod PackedAt
+pub mod RaisedAt
+pub mod HoistedAt

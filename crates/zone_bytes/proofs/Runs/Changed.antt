@@ -1,0 +1,67 @@
+-- A run of a zone is changed.
+use Rattle.std.proofs.Common.{◌≡◌, ℕ, ◌+◌, Option, Some, None, cond, List, ◌++◌, refl, sym, ap, ◌∙◌, subst}
+use Rattle.std.proofs.Common.{append_assoc}
+use Rattle.std.specs.Option.{IfSome, IsSomeAnd}
+use Rattle.block_store.specs.Block.{Block, total, count, is_masters, free_of, free_sum, sizes, tidy}
+use Rattle.block_store.specs.Run.{RunSpot, run_at, with_run, settle}
+use Rattle.block_store.specs.Rest.{falling}
+use Rattle.block_store.specs.Slot.{Slot}
+use Rattle.block_store.specs.Inner.Packing.{Loose}
+use Rattle.block_store.proofs.Zone.Tidy.{Adds}
+use Rattle.block_store.proofs.Regroup.RunLists.{run_at-parts}
+use Rattle.block_store.proofs.Regroup.Packed.{settle-total}
+use Rattle.block_store.proofs.Regroup.Ends.{settled-tidy}
+use Rattle.block_store.proofs.Regroup.Lifted.{total-changed}
+use Rattle.zone_bytes.specs.Settling.{Settled}
+use Rattle.zone_bytes.specs.Decode.{zone_in}
+use Rattle.zone_bytes.specs.Table.{slot_in}
+use Rattle.zone_bytes.specs.Lawful.{IsSound}
+use Rattle.zone_bytes.specs.Placing.{lay_at}
+use Rattle.zone_bytes.proofs.Laws.Lawful.{Made}
+use Rattle.zone_bytes.proofs.Runs.RunsAt.{if-run, one-run, settle-made}
+
+pub if-one : (o : Option RunSpot) (P : RunSpot → Type 0) (r : RunSpot) → o ≡ Some r → P r → IfSome o P
+if-one o P r e p = if-run o P (λ q f. subst P (one-run o r q e f) p)
+
+pub the-packed : (o : Option RunSpot) (A P Q : RunSpot → Type 0) → IsSomeAnd o A → IfSome o P → IfSome o Q
+    → (r : RunSpot) × (o ≡ Some r) × A r × P r × Q r
+the-packed None A P Q a p q = absurd a
+the-packed (Some r) A P Q a p q = (r, refl, a, p, q)
+
+-- the bytes are those of the zone with the run at a place changed, and its Masters blocks and Free bytes stay
+pub record ChangedRun (change : List Block → List Block) (zone : List Block) (r : RunSpot) (new : List ℕ)
+    (first unused : ℕ) (table : ℕ → Slot) : Type 0 where
+  pub made : Made new first unused (tidy (with_run change r)) table
+  pub masters : count is_masters (zone_in new) ≡ count is_masters zone
+  pub free : free_sum (tidy (with_run change r)) ≡ free_sum zone
+
+pub changed-run : (change : List Block → List Block) (place : ℕ) (zone : List Block) (r : RunSpot)
+    → run_at place zone ≡ Some r
+    → ((of : Block → ℕ) → Adds of → Loose r.run → total of (change r.run) ≡ total of r.run)
+    → (new : List ℕ) (first unused : ℕ) (table : ℕ → Slot) → Made new first unused (tidy (with_run change r)) table
+    → ChangedRun change zone r new first unused table
+changed-run change place zone r e keeps new first unused table m =
+    let l = (run_at-parts place zone r e).loose in
+    let masters : Block → ℕ = λ b. cond (is_masters b) 1 0 in
+    record {
+      made = m;
+      masters = ap (count is_masters) m.zone ∙ total-changed masters (λ n k. refl) change place zone r e
+          (keeps masters (λ n k. refl) l);
+      free = total-changed free_of (λ n k. refl) change place zone r e (keeps free_of (λ n k. refl) l);
+    }
+
+-- a run is packed
+pub settled-run : (xs : List ℕ) (first unused : ℕ) (i : IsSound xs first unused) (place : ℕ) (r : RunSpot)
+    (e : run_at place (zone_in xs) ≡ Some r)
+    (stop : ℕ) → place + sizes r.run ≡ stop → (moves : ℕ) (new : List ℕ) → Settled (lay_at xs place) moves new
+    → ChangedRun settle (zone_in xs) r new first unused (slot_in xs) × (moves ≡ falling r.run)
+settled-run xs first unused i place r e stop t moves new d =
+    let m = settle-made xs first unused i place r e stop t moves new d in
+    let z : r.below ++ (settle r.run ++ r.above) ≡ tidy (with_run settle r) =
+    sym (settled-tidy place (zone_in xs) r i.tidied e)
+    ∙ ap tidy (sym (append_assoc r.below (settle r.run) r.above)) in (
+      changed-run settle place (zone_in xs) r e (λ of adds l. settle-total of adds r.run l) new first unused
+          (slot_in xs)
+          (subst (λ k. Made new first unused k (slot_in xs)) z m.0),
+      m.1,
+    )

@@ -1,0 +1,181 @@
+-- The block of a slot is moved to the top of its run, of a zone in bytes.
+use Rattle.std.proofs.Common.{◌≡◌, ℕ, true, cond, ◌+◌, ◌%◌, ◌≤◌, Some, List, [], ◌∷◌, ◌++◌, length, drop}
+use Rattle.std.proofs.Common.{refl, sym, ap, ◌∙◌, subst, arith, append_assoc}
+use Rattle.std.proofs.Math.Seq.{drop-append_seam}
+use Rattle.heap_words.specs.Words.{word_at}
+use Rattle.heap_words.proofs.Words.{read_back}
+use Rattle.block_store.specs.Block.{Block, sizes, count, is_relocatable, tidy}
+use Rattle.block_store.specs.Run.{RunSpot, has, movers, high, segments, with_run}
+use Rattle.block_store.specs.Room.{spot_at}
+use Rattle.block_store.specs.Slot.{is_resource}
+use Rattle.block_store.specs.Inner.Packing.{Loose}
+use Rattle.block_store.proofs.Zone.Apart.{apart-tidied}
+use Rattle.block_store.proofs.Zone.Totals.{total-append}
+use Rattle.block_store.proofs.Regroup.Ends.{first-run, run_at-ended}
+use Rattle.block_store.proofs.Regroup.Packed.{high-total}
+use Rattle.block_store.proofs.Regroup.Regrouping.{apart-high, tidy-change}
+use Rattle.block_store.proofs.Regroup.RunLists.{run_at-is}
+use Rattle.zone_bytes.specs.Layout.{IsSlot, names, Each}
+use Rattle.zone_bytes.specs.Settling.{InRun}
+use Rattle.zone_bytes.specs.Hoisting.{Hoist, MayHoist, Hoisted}
+use Rattle.zone_bytes.specs.Decode.{zone_in}
+use Rattle.zone_bytes.specs.Table.{Lays, slot_in}
+use Rattle.zone_bytes.specs.Placing.{hoist_from, hoist_at}
+use Rattle.zone_bytes.proofs.Tiles.Tiling.{span-append}
+use Rattle.zone_bytes.proofs.Tiles.Leading.{each-right, names-append, leads-right}
+use Rattle.zone_bytes.proofs.Tiles.Keeping.{lays-run, span-settle}
+use Rattle.zone_bytes.proofs.SlotTable.Tables.{slot-in}
+use Rattle.zone_bytes.proofs.Runs.Hoists.{in-now, same-span, same-names}
+use Rattle.zone_bytes.proofs.Laws.Lawful.{Made, made, sizes-length}
+use Rattle.block_store.proofs.Regroup.Lifted.{RunOf, run-of, spot_at-parts, settle-parts, high-parts, loose-block}
+use Rattle.block_store.proofs.Regroup.Lifted.{loose-over}
+use Rattle.block_store.proofs.Regroup.Lifted as lifted
+use Rattle.zone_bytes.proofs.Runs.Changed.{ChangedRun, changed-run}
+use Rattle.zone_bytes.proofs.Runs.PackedAt.{IsPacked, packed-zone, bottom, in-run, loose}
+
+each-loose : (run : List Block) → Loose run → Each InRun run
+each-loose [] l = tt
+each-loose (b ∷ run) l = (l.0, each-loose run l.1)
+
+module _ {xs : List ℕ} {first unused place top stop : ℕ} {old : List Block}
+    (k : IsPacked xs first unused place top stop old) (number : ℕ)
+    (had : has (is_relocatable number) k.spot.run ≡ true) where
+  abbrev r : RunSpot
+  r = k.spot
+
+  cut : RunOf number r.run
+  cut = run-of number r.run had
+
+  abbrev block : Block
+  block = lifted.block number r.run cut
+
+  abbrev over : List Block
+  over = lifted.over number r.run cut
+
+  abbrev beneath : List Block
+  beneath = r.below ++ movers cut.low
+
+  abbrev here : ℕ
+  here = sizes beneath
+
+  loose-run : Loose r.run
+  loose-run = loose k
+
+  packed-parts : zone_in xs ≡ beneath ++ block ∷ (over ++ r.above)
+  packed-parts =
+      packed-zone k
+      ∙ ap (λ l. r.below ++ (l ++ r.above)) (settle-parts number r.run cut loose-run)
+      ∙ ap (λ l. r.below ++ l) (append_assoc (movers cut.low) (block ∷ over) r.above)
+      ∙ sym (append_assoc r.below (movers cut.low) (block ∷ (over ++ r.above)))
+
+  laid-was : Lays xs (beneath ++ block ∷ (over ++ r.above)) (slot_in xs) k.sound.unused
+  laid-was = subst (λ l. Lays xs l (slot_in xs) k.sound.unused) packed-parts k.sound.lays
+
+  slot-here : IsSlot number (beneath ++ block ∷ (over ++ r.above))
+  slot-here =
+      let P : ℕ → Type 0 = λ s. IsSlot s (beneath ++ block ∷ (over ++ r.above)) in
+      (each-right P (names beneath) (number ∷ names (over ++ r.above))
+      (subst (Each P) (names-append beneath (block ∷ (over ++ r.above))) laid-was.has_slots.slots)).0
+
+  -- the slot's word may be read
+  pub slot-inside : (number % 4 ≡ 0) × (number + 4 ≤ length xs)
+  slot-inside = slot-in xs (beneath ++ block ∷ (over ++ r.above)) (slot_in xs) k.sound.unused laid-was number slot-here
+
+  small-here : here ≤ 134217728
+  small-here =
+      let l = sizes-length xs (beneath ++ block ∷ (over ++ r.above)) (slot_in xs) k.sound.unused laid-was in
+      let a = span-append beneath (block ∷ (over ++ r.above)) in
+      let m = laid-was.small in
+      omega (arith, l, a, m)
+
+  -- and tells where the block is
+  slot-tells : word_at number xs ≡ here
+  slot-tells =
+      let l = leads-right xs 0 beneath (block ∷ (over ++ r.above)) laid-was.lies.leads in
+      let z : 0 + here ≡ here = omega arith in
+      let s = small-here in
+      read_back number (0 + here) xs (omega (arith, s)) l.0 ∙ z
+
+  abbrev raw : Hoist
+  raw = record {
+    resource = λ s. is_resource (slot_in xs s);
+    below = beneath;
+    block = block;
+    over = over;
+    above = r.above;
+    bytes = xs;
+  }
+
+  hoist-is : hoist_at xs here ≡ raw
+  hoist-is =
+      let zone = beneath ++ block ∷ (over ++ r.above) in
+      let s : spot_at here (zone_in xs) ≡ Some (record { below = beneath; here = block; above = over ++ r.above }) =
+      ap (spot_at here) packed-parts ∙ spot_at-parts beneath block (over ++ r.above)
+      (apart-tidied zone (sym (ap tidy packed-parts) ∙ k.sound.tidied ∙ packed-parts)) in
+      let f = first-run over r.above (loose-over number r.run cut loose-run) (run_at-ended place old r k.is).stops in
+      let g : drop (length (segments (over ++ r.above)).first) (over ++ r.above) ≡ r.above =
+      ap (λ l. drop (length l) (over ++ r.above)) f ∙ drop-append_seam over r.above in
+      ap (hoist_from xs) s ∙ (λ j. record raw { over = f j; above = g j })
+
+  module _ (at : ℕ) (w : at ≡ word_at number xs) where
+    hoist-at : hoist_at xs at ≡ raw
+    hoist-at = ap (hoist_at xs) (w ∙ slot-tells) ∙ hoist-is
+
+    pub hoist-bytes : xs ≡ (hoist_at xs at).bytes
+    hoist-bytes = sym (ap (λ z. z.bytes) hoist-at)
+
+    may-move : MayHoist raw here stop
+    may-move =
+        let a = span-append r.below (movers cut.low) in
+        let b = span-append (movers cut.low) (block ∷ over) in
+        let c = ap sizes (settle-parts number r.run cut loose-run) in
+        let d = span-settle r.run (in-run k) in
+        let z = bottom k in
+        let s = k.stop_is in
+        record {
+          lies = laid-was.lies;
+          slots = laid-was.has_slots;
+          bottom = refl;
+          top = omega (arith, a, b, c, d, z, s);
+          in_run = each-loose (block ∷ over) (
+            loose-block number r.run cut loose-run,
+            loose-over number r.run cut
+                loose-run,
+          );
+          small = laid-was.small;
+        }
+
+    pub may-hoist : MayHoist (hoist_at xs at) at stop
+    may-hoist = subst (λ z. MayHoist z at stop) (sym hoist-at)
+        (subst (λ j. MayHoist raw j stop) (sym (w ∙ slot-tells)) may-move)
+
+    pub hoist-changed : ((name : ℕ) → count (is_relocatable name) old ≤ 1) → (new : List ℕ)
+        → Hoisted (hoist_at xs at) new
+        → ChangedRun (high (is_relocatable number)) old r new first unused (slot_in xs)
+    hoist-changed once new d =
+        let test = is_relocatable number in
+        let m = may-move in
+        let q = subst (λ z. Hoisted z new) hoist-at d in
+        let lays = lays-run xs new beneath (block ∷ over) (over ++ block ∷ []) r.above
+        (slot_in xs) k.sound.unused laid-was m.in_run
+        (in-now raw here stop m) (same-span raw here stop m) (same-names raw here stop m) q.lies q.others q.kept in
+        let ones : Block → ℕ = λ b. cond {A = ℕ} (test b) 1 0 in
+        let all : count test (r.below ++ (r.run ++ r.above)) ≡ count test old =
+        ap (count test) (run_at-is place old r k.is) in
+        let a : count test (r.below ++ (r.run ++ r.above)) ≡ count test r.below + count test (r.run ++ r.above) =
+        total-append ones r.below (r.run ++ r.above) in
+        let b : count test (r.run ++ r.above) ≡ count test r.run + count test r.above =
+        total-append ones r.run r.above in
+        let o = once number in
+        let shape : beneath ++ ((over ++ block ∷ []) ++ r.above) ≡ with_run (high test) r =
+        append_assoc r.below (movers cut.low) ((over ++ block ∷ []) ++ r.above)
+        ∙ ap (λ l. r.below ++ l) (sym (append_assoc (movers cut.low) (over ++ block ∷ []) r.above)
+        ∙ ap (λ l. l ++ r.above) (sym (high-parts number r.run cut (omega (arith, all, a, b, o)))))
+        ∙ sym (append_assoc r.below (high test r.run) r.above) in
+        let tidy-is = tidy-change place old r k.is k.tidied (high test r.run) (apart-high test (λ n. refl) r.run) in
+        changed-run (high test) place old r k.is (λ of adds l. high-total of adds number r.run l) new first unused
+        (slot_in xs)
+        (subst (λ z. Made new first unused z (slot_in xs)) (sym tidy-is)
+        (made new (with_run (high test) r) (slot_in xs) k.sound.unused
+        (subst (λ z. Lays new z (slot_in xs) k.sound.unused) shape lays)
+        first unused tidy-is k.sound.begins k.sound.counted))

@@ -1,0 +1,52 @@
+-- The run above a run of a RawZone.
+use Rattle.std.proofs.Common.{◌≡◌, ℕ, ◌+◌, ◌≤◌, Option, Some, None, List, ◌++◌, sym, ap, ◌∙◌, arith}
+use Rattle.std.specs.Option.{option_map}
+use Rattle.block_store.specs.Block.{Block, sizes}
+use Rattle.block_store.specs.Compact.{beyond, place_behind, next_run}
+use Rattle.block_store.specs.Run.{RunSpot, run_at, segments}
+use Rattle.block_store.proofs.Regroup.Behind.{beyond-first}
+use Rattle.block_store.proofs.Regroup.RunsAbove.{behind-more, behind-within}
+use Rattle.block_store.proofs.Regroup.Ends.{first-run, run_at-ended}
+use Rattle.zone_bytes.specs.Decode.{zone_in}
+use Rattle.zone_bytes.specs.Lawful.{IsSound}
+use Rattle.zone_bytes.specs.Stepping.{left_in}
+use Rattle.zone_bytes.proofs.Places.AtPlace.{left-above}
+use Rattle.zone_bytes.proofs.Runs.Runs.{run_at-splits}
+use Rattle.zone_bytes.proofs.Runs.RunsAt.{whole, in-run, left-fits, loose-each}
+use Rattle.zone_bytes.proofs.Tiles.Tiling.{span-append}
+
+-- the place behind the run that comes first, as a walk finds it
+abbrev pub BehindFirst : List Block → Option ℕ
+BehindFirst blocks = place_behind (sizes (segments blocks).first) (beyond (segments blocks).rest)
+
+module _ (xs : List ℕ) (first count : ℕ) (i : IsSound xs first count) (place : ℕ) (r : RunSpot)
+    (e : run_at place (zone_in xs) ≡ Some r) (walk : List Block) (w : walk ≡ left_in place xs) where
+  walk-is : walk ≡ r.run ++ r.above
+  walk-is = w ∙ left-above xs first count i r.below (r.run ++ r.above) place (whole xs first count i place r e)
+      (run_at-splits place (zone_in xs) r e).bottom
+
+  behind : BehindFirst walk ≡ place_behind (sizes r.run) r.above
+  behind =
+      let l = loose-each r.run (in-run xs first count i place r e) in
+      let s = (run_at-ended place (zone_in xs) r e).stops in
+      ap BehindFirst walk-is
+      ∙ (λ j. place_behind (sizes (first-run r.run r.above l s j)) (beyond-first r.run r.above l s j))
+
+  next-is : next_run r ≡ option_map (λ (d : ℕ). place + d) (BehindFirst walk)
+  next-is =
+      ap (λ n. place_behind (n + sizes r.run) r.above) (run_at-splits place (zone_in xs) r e).bottom
+      ∙ behind-more place (sizes r.run) r.above ∙ ap (option_map (λ (d : ℕ). place + d)) (sym behind)
+
+  pub next-none : None ≡ BehindFirst walk → None ≡ next_run r
+  next-none n = ap (option_map (λ (d : ℕ). place + d)) n ∙ sym next-is
+
+  pub next-some : (d : ℕ) → Some d ≡ BehindFirst walk → Some (place + d) ≡ next_run r
+  next-some d n = ap (option_map (λ (d : ℕ). place + d)) n ∙ sym next-is
+
+  pub next-fits : (d : ℕ) → Some d ≡ BehindFirst walk → place + d ≤ 134217728
+  next-fits d n =
+      let b = behind-within (sizes r.run) r.above d (sym (n ∙ behind)) in
+      let f = left-fits xs first count i place r e in
+      let l = ap sizes (sym w ∙ walk-is) in
+      let a = span-append r.run r.above in
+      omega (arith, b, f, l, a)

@@ -1,0 +1,427 @@
+-- A run whose relocatable blocks are being moved down.
+use Rattle.std.proofs.Common.{◌≡◌, ℕ, ◌+◌, ◌-◌, ◌%◌, ◌≤◌, ◌⊎◌, inl, inr, Bool, true, cond, nat_lt, List, [], ◌∷◌, ◌++◌}
+use Rattle.std.proofs.Common.{length, take, drop, sym, refl, ap, ◌∙◌, subst, arith, append_assoc}
+use Rattle.std.proofs.lemmas.List.{append-nil, length-take-le, length-drop, drop-drop}
+use Rattle.std.proofs.lemmas.Bool.{false≢true}
+use Rattle.windows.specs.Writes.{written, piece}
+use Rattle.heap_words.specs.Words.{word}
+use Rattle.heap_words.proofs.Words.{length-word}
+use Rattle.heap_words.proofs.Headers.{length-header}
+use Rattle.windows.proofs.Pieces.{length-written, take-written_at, take-written_below, take-written_above}
+use Rattle.windows.proofs.Pieces.{drop-written_above, drop-written_below, piece-written}
+use Rattle.block_store.specs.declared.flags.Flags.{Flags}
+use Rattle.block_store.specs.Block.{Block, Free, Fixed, Masters, Relocatable, size, is_mover, sizes}
+use Rattle.block_store.specs.Run.{movers}
+use Rattle.zone_bytes.specs.Layout.{head_of, Tiles, IsSlot, names, Leads, Apart, Each, Pairs}
+use Rattle.zone_bytes.specs.Settling.{falling_from, Lay, InRun, IsRun, SameOthers, PackingAt, Packing}
+use Rattle.zone_bytes.proofs.Tiles.Tiling.{span-append, slot-inside, slot-append_left, slot-append_right, slot-split}
+use Rattle.zone_bytes.proofs.Tiles.Tiling.{length-tiles, tile-take, tiles-append, tiles-one, tiles-split, tiles-slot}
+use Rattle.zone_bytes.proofs.Tiles.Leading.{each-left, each-right, each-map, pairs-before, pairs-after, names-append}
+use Rattle.zone_bytes.proofs.Tiles.Leading.{Clear, piece-clear, leads-append, leads-left, leads-right, leads-written}
+
+pub length-masters : (resource : ℕ → Bool) → length (head_of resource Masters) ≡ 16
+unfolding head_of
+length-masters resource = length-header 274 256 0 0
+
+-- a run has no Masters block
+pub run-no_slot : (s : ℕ) (run : List Block) → Each InRun run → IsSlot s run → ⊥
+run-no_slot s [] h i = i
+run-no_slot s (Free n ∷ run) h (inl i) = i
+run-no_slot s (Fixed id content ∷ run) h (inl i) = i
+run-no_slot s (Masters ∷ run) h (inl i) = false≢true h.0
+run-no_slot s (Relocatable slot flags content ∷ run) h (inl i) = i
+run-no_slot s (b ∷ run) h (inr i) = run-no_slot (s - size b) run h.1 i.1
+
+pub span-whole : (head : Block → List ℕ) (xs : List ℕ) (blocks : List Block) → Tiles head xs blocks
+    → sizes blocks % 16 ≡ 0
+span-whole head xs [] t = refl
+span-whole head xs (b ∷ blocks) t =
+    let r = span-whole head (drop (size b) xs) blocks t.1 in
+    let w = t.0.whole in
+    omega (arith, r, w)
+
+-- slots are at multiples of 4
+pub slot-even : (head : Block → List ℕ) (xs : List ℕ) (s : ℕ) (blocks : List Block) → Tiles head xs blocks
+    → IsSlot s blocks → s % 4 ≡ 0
+slot-even head xs s [] t i = absurd i
+slot-even head xs s (Free n ∷ blocks) t (inl i) = absurd i
+slot-even head xs s (Fixed id content ∷ blocks) t (inl i) = absurd i
+slot-even head xs s (Relocatable slot flags content ∷ blocks) t (inl i) = absurd i
+slot-even head xs s (Masters ∷ blocks) t (inl i) = i.2
+slot-even head xs s (b ∷ blocks) t (inr i) =
+    let r = slot-even head (drop (size b) xs) (s - size b) blocks t.1 i.1 in
+    let w = t.0.whole in
+    let l = i.0 in
+    omega (arith, r, w, l)
+
+pub movers-more : (b : Block) (rest : List Block) → is_mover b ≡ true → movers (b ∷ rest) ≡ b ∷ movers rest
+movers-more b rest h = ap (λ v. cond v (b ∷ movers rest) (movers rest)) h
+
+module _ (lay : Lay) (place stop : ℕ) (r : IsRun lay place stop) where
+  pub run-bounds : (place ≤ stop) × (stop + sizes lay.above ≡ length lay.bytes)
+  run-bounds =
+      let l = length-tiles (head_of lay.resource) lay.bytes (lay.below ++ (lay.run ++ lay.above)) r.lies.tiles in
+      let a = span-append lay.below (lay.run ++ lay.above) in
+      let b = span-append lay.run lay.above in
+      let p = r.bottom in
+      let t = r.top in
+      (omega arith, omega (arith, l, a, b, p, t))
+
+  -- a slot is below the run or above it
+  pub slot-spot : (s : ℕ) → IsSlot s (lay.below ++ (lay.run ++ lay.above))
+      → ((s + 4 ≤ place) × IsSlot s lay.below) ⊎ ((stop ≤ s) × IsSlot (s - stop) lay.above)
+  slot-spot s i = elim (slot-split s lay.below (lay.run ++ lay.above) i) [
+    | inl j ↦ inl (let k = slot-inside s lay.below j in let p = r.bottom in omega (arith, k, p), j)
+    | inr j ↦ elim (slot-split (s - sizes lay.below) lay.run lay.above j.1) [
+      | inl k ↦ absurd (run-no_slot (s - sizes lay.below) lay.run r.in_run k)
+      | inr k ↦
+          let p = r.bottom in
+          let t = r.top in
+          let e : s - sizes lay.below - sizes lay.run ≡ s - stop = omega (arith, p, t) in
+          inr (omega (arith, p, t, j.0, k.0), subst (λ q. IsSlot q lay.above) e k.1)
+    ]
+  ]
+
+  pub start : Packing lay stop place place 0 lay.bytes
+  start =
+      let head = head_of lay.resource in
+      let t = tiles-split head lay.bytes lay.below (lay.run ++ lay.above) r.lies.tiles in
+      let w = span-whole head (take (sizes lay.below) lay.bytes) lay.below t.0 in
+      let p = r.bottom in
+      let even : place % 16 ≡ 0 = omega (arith, w, p) in
+      let z : 0 ≡ place - place = omega arith in
+      let e : 0 + sizes lay.below ≡ place = omega (arith, p) in
+      record {
+        moved = [];
+        rest = lay.run;
+        state = record {
+          low = subst (λ k. Tiles head (take k lay.bytes) (lay.below ++ [])) p (rw append-nil t.0);
+          high = subst (λ k. Tiles head (drop k lay.bytes) (lay.run ++ lay.above)) p t.1;
+          order = refl;
+          free = refl;
+          down = omega arith;
+          up = r.top;
+          whole = (even, even);
+          kept = refl;
+          in_run = r.in_run;
+          lead_low = rw append-nil (leads-left lay.bytes 0 lay.below (lay.run ++ lay.above) r.lies.leads);
+          lead_high = subst (λ k. Leads k (lay.run ++ lay.above) lay.bytes) e
+              (leads-right lay.bytes 0 lay.below (lay.run ++ lay.above) r.lies.leads);
+          named = ap (λ q. names q ++ names (lay.run ++ lay.above)) (append-nil lay.below)
+              ∙ sym (names-append lay.below (lay.run ++ lay.above));
+          count = ap (λ k. 0 + falling_from k lay.run) (sym z)
+              ∙ (let f : 0 + falling_from 0 lay.run ≡ falling_from 0 lay.run = omega arith in f);
+          others = λ s i a. refl;
+        };
+      }
+
+  -- all slots are clear of a write inside the run
+  pub all-clear : (at n : ℕ) → place ≤ at → at + n ≤ stop
+      → Each (Clear at n) (names (lay.below ++ (lay.run ++ lay.above)))
+  all-clear at n l h =
+      let clear : (s : ℕ) → IsSlot s (lay.below ++ (lay.run ++ lay.above))
+      → Clear at n s = λ s i. elim (slot-spot s i) [
+        | inl j ↦ inl (let k = j.0 in omega (arith, k, l))
+        | inr j ↦ inr (let k = j.0 in omega (arith, k, h))
+      ] in
+      each-map (λ s. IsSlot s (lay.below ++ (lay.run ++ lay.above))) (Clear at n) clear
+      (names (lay.below ++ (lay.run ++ lay.above))) r.slots.slots
+
+  module _ (from to moves : ℕ) (xs : List ℕ) (moved : List Block) where
+    -- where the packed blocks end, and that the rest lies in the bytes
+    pub packed-bounds : (rest : List Block) → PackingAt lay stop from to moves xs moved rest
+        → (place ≤ to) × (from ≤ length xs) × (sizes (lay.below ++ moved) ≡ to)
+    packed-bounds rest q =
+        let b = run-bounds in
+        let u = q.up in
+        let k = q.kept in
+        let d = q.down in
+        let l = length-tiles (head_of lay.resource) (take to xs) (lay.below ++ moved) q.low in
+        let a = span-append lay.below moved in
+        let p = r.bottom in
+        let t = length-take-le to xs (omega (arith, b, u, k, d)) in
+        (omega (arith, l, a, p, t), omega (arith, b, u, k), omega (arith, l, t))
+
+    -- the next block is Free
+    pub step-free : (n : ℕ) (rest : List Block) → PackingAt lay stop from to moves xs moved (Free n ∷ rest)
+        → PackingAt lay stop (from + n) to moves xs moved rest
+    step-free n rest q =
+        let w = q.high.0.whole in
+        let v = q.whole in
+        let d = q.down in
+        let u = q.up in
+        let f = q.free in
+        let e : from - to + n ≡ from + n - to = omega (arith, d) in
+        record {
+          low = q.low;
+          high = subst (λ k. Tiles (head_of lay.resource) k (rest ++ lay.above)) (drop-drop n from xs) q.high.1;
+          order = q.order;
+          free = omega (arith, f);
+          down = omega (arith, d);
+          up = omega (arith, u);
+          whole = (omega (arith, w, v), v.1);
+          kept = q.kept;
+          in_run = q.in_run.1;
+          lead_low = q.lead_low;
+          lead_high = q.lead_high.1;
+          named = q.named;
+          count = (let c : moves + falling_from (from - to + n) rest ≡ falling_from 0 lay.run =
+              (let g : falling_from (from - to + n) rest ≡ 0 + falling_from (from - to + n) rest =
+              omega arith in ap (λ k. moves + k) g ∙ q.count) in subst
+              (λ k. moves + falling_from k rest ≡ falling_from 0 lay.run) e c);
+          others = q.others;
+        }
+
+    -- the next block is relocatable: it comes down, and its slot follows
+    module _ (slot : ℕ) (flags : Flags) (content : List ℕ) (rest : List Block)
+        (q : PackingAt lay stop from to moves xs moved (Relocatable slot flags content ∷ rest)) where
+      abbrev pub block : Block
+      block = Relocatable slot flags content
+
+      abbrev pub all : List Block
+      all = lay.below ++ (lay.run ++ lay.above)
+
+      abbrev pub slid : ℕ → List ℕ
+      slid n = written to (piece from n xs) xs
+
+      is-mover : is_mover block ≡ true
+      is-mover = q.in_run.0
+
+      -- the names with this block's slot in their middle
+      named : names (lay.below ++ moved) ++ slot ∷ names (rest ++ lay.above) ≡ names all
+      named = q.named
+
+      pub is-slot : IsSlot slot all
+      is-slot =
+          let P : ℕ → Type 0 = λ s. IsSlot s all in
+          (each-right P (names (lay.below ++ moved)) (slot ∷ names (rest ++ lay.above))
+          (subst (λ k. Each P k) (sym named) r.slots.slots)).0
+
+      apart : Each (Apart slot) (names (lay.below ++ moved)) × Each (Apart slot) (names (rest ++ lay.above))
+      apart =
+          let p = subst (λ k. Pairs Apart k) (sym named) r.slots.apart in (
+            pairs-before slot (names (lay.below ++ moved)) (names (rest ++ lay.above)) p,
+            pairs-after slot
+                (names (lay.below ++ moved)) (names (rest ++ lay.above)) p,
+          )
+
+      length-moved : length (piece from (size block) xs) ≡ size block
+      length-moved = length-take-le (size block) (drop from xs) q.high.0.fits
+
+      clear : Each (Clear to (length (piece from (size block) xs))) (names (lay.below ++ moved))
+          × Each (Clear to (length (piece from (size block) xs))) (names (rest ++ lay.above))
+      clear =
+          let l = length-moved in
+          let b = packed-bounds (block ∷ rest) q in
+          let d = q.down in
+          let u = q.up in
+          let P : ℕ → Type 0 = Clear to (length (piece from (size block) xs)) in
+          let c = subst (λ k. Each P k) (sym named) (all-clear to (length (piece from (size block) xs)) b.0
+          (omega (arith, l, d, u))) in (
+            each-left P (names (lay.below ++ moved)) (slot ∷ names (rest ++ lay.above)) c,
+            (each-right P (names (lay.below ++ moved)) (slot ∷ names (rest ++ lay.above)) c).1,
+          )
+
+      -- the bytes below, after the slide
+      slid-low : Tiles (head_of lay.resource) (take (to + size block) (slid (size block)))
+          (lay.below ++ (moved ++ block ∷ []))
+      slid-low =
+          let head = head_of lay.resource in
+          let l = length-moved in
+          let b = packed-bounds (block ∷ rest) q in
+          let d = q.down in
+          let e : take (to + size block) (slid (size block)) ≡ take to xs ++ piece from (size block) xs =
+          take-written_at to (piece from (size block) xs) xs (to + size block) (omega (arith, l))
+          (omega (arith, b, d)) in
+          let one = tiles-one head block (piece from (size block) xs) l
+          (tile-take head (head block) (size block) (size block) (drop from xs)
+          (omega arith) q.high.0.fits q.high.0) in
+          let both = tiles-append head (take to xs) (piece from (size block) xs) (lay.below ++ moved)
+          (block ∷ []) q.low one in
+          subst (λ k. Tiles head k (lay.below ++ (moved ++ block ∷ []))) (sym e)
+          (subst (λ k. Tiles head (take to xs ++ piece from (size block) xs) k)
+          (append_assoc lay.below moved (block ∷ [])) both)
+
+      -- the bytes above stay
+      slid-high : Tiles (head_of lay.resource) (drop (from + size block) (slid (size block))) (rest ++ lay.above)
+      slid-high =
+          let l = length-moved in
+          let b = packed-bounds (block ∷ rest) q in
+          let d = q.down in
+          let e = drop-written_above to (piece from (size block) xs) xs (from + size block) (omega (arith, l, d))
+          (omega (arith, b, d)) in
+          subst (λ k. Tiles (head_of lay.resource) k (rest ++ lay.above)) (drop-drop (size block) from xs
+          ∙ sym e) q.high.1
+
+      pub length-slid : length (slid (size block)) ≡ length xs
+      length-slid =
+          let l = length-moved in
+          let f = q.high.0.fits in
+          let n = length-drop from xs in
+          let b = packed-bounds (block ∷ rest) q in
+          let d = q.down in
+          length-written to (piece from (size block) xs) xs (omega (arith, l, f, n, b, d))
+
+      abbrev pub done : List ℕ
+      done = written slot (word to) (slid (size block))
+
+      done-low : Tiles (head_of lay.resource) (take (to + size block) done) (lay.below ++ (moved ++ block ∷ []))
+      done-low =
+          let head = head_of lay.resource in
+          let zs = slid (size block) in
+          let w = length-word to in
+          let n = length-slid in
+          let b = packed-bounds (block ∷ rest) q in
+          let u = q.up in
+          let d = q.down in
+          let rb = run-bounds in
+          let k = q.kept in
+          elim (slot-spot slot is-slot) [
+            | inl j ↦
+                let i = j.0 in
+                let e = take-written_above slot (word to) zs (to + size block) (omega (arith, i, w, b))
+                (omega (arith, n, u, d, rb, k)) in
+                let s = tiles-slot head (length-masters lay.resource) (take (to + size block) zs) (word to) slot
+                (lay.below ++ (moved ++ block ∷ [])) w
+                (slot-append_left slot lay.below (moved ++ block ∷ []) j.1) slid-low in
+                subst (λ k. Tiles head k (lay.below ++ (moved ++ block ∷ []))) (sym e) s
+            | inr j ↦
+                let i = j.0 in
+                let inside = slot-inside (slot - stop) lay.above j.1 in
+                let e = take-written_below slot (word to) zs (to + size block) (omega (arith, i, u, d))
+                (omega (arith, n, i, inside, rb, k)) in
+                subst (λ k. Tiles head k (lay.below ++ (moved ++ block ∷ []))) (sym e) slid-low
+          ]
+
+      done-high : Tiles (head_of lay.resource) (drop (from + size block) done) (rest ++ lay.above)
+      done-high =
+          let head = head_of lay.resource in
+          let zs = slid (size block) in
+          let w = length-word to in
+          let n = length-slid in
+          let b = packed-bounds (block ∷ rest) q in
+          let u = q.up in
+          let d = q.down in
+          let rb = run-bounds in
+          let k = q.kept in
+          elim (slot-spot slot is-slot) [
+            | inl j ↦
+                let i = j.0 in
+                let e = drop-written_above slot (word to) zs (from + size block) (omega (arith, i, w, b, d))
+                (omega (arith, i, n, b, d)) in
+                subst (λ k. Tiles head k (rest ++ lay.above)) (sym e) slid-high
+            | inr j ↦
+                let i = j.0 in
+                let inside = slot-inside (slot - stop) lay.above j.1 in
+                let m : slot - stop ≡ slot - (from + size block) - sizes rest = omega (arith, u) in
+                let e = drop-written_below slot (word to) zs (from + size block) (omega (arith, i, u))
+                (omega (arith, n, i, inside, rb, k)) in
+                let at = slot-append_right (slot - (from + size block)) rest lay.above (omega (arith, i, u))
+                (subst (λ k. IsSlot k lay.above) m j.1) in
+                let s = tiles-slot head (length-masters lay.resource) (drop (from + size block) zs) (word to)
+                (slot - (from + size block)) (rest ++ lay.above) w at slid-high in
+                subst (λ k. Tiles head k (rest ++ lay.above)) (sym e) s
+          ]
+
+      -- a slot that the write of this block's slot leaves
+      word-clear : (s : ℕ) → Apart slot s → Clear slot (length (word to)) s
+      word-clear s a = let w = length-word to in elim a [ inl i ↦ inr (omega (arith, w, i)) | inr i ↦ inl i ]
+
+      -- where the slots lead, after both writes
+      still-leads : (o : ℕ) (blocks : List Block) → Each (Apart slot) (names blocks)
+          → Each (Clear to (length (piece from (size block) xs))) (names blocks) → Leads o blocks xs
+          → Leads o blocks done
+      still-leads o blocks a c h =
+          let b = packed-bounds (block ∷ rest) q in
+          let d = q.down in
+          let n = length-slid in
+          let u = q.up in
+          let rb = run-bounds in
+          let k = q.kept in
+          let i = slot-inside slot all is-slot in
+          let g = span-append lay.below (lay.run ++ lay.above) in
+          let v = span-append lay.run lay.above in
+          let p = r.bottom in
+          let t = r.top in
+          leads-written slot (word to) (slid (size block)) o blocks (omega (arith, n, i, g, v, p, t, rb, k))
+          (each-map (Apart slot) (Clear slot (length (word to))) word-clear (names blocks) a)
+          (leads-written to (piece from (size block) xs) xs o blocks (omega (arith, b, d)) c h)
+
+      pub slot-length : slot + 4 ≤ length (slid (size block))
+      slot-length =
+          let n = length-slid in
+          let rb = run-bounds in
+          let k = q.kept in
+          let i = slot-inside slot all is-slot in
+          let g = span-append lay.below (lay.run ++ lay.above) in
+          let v = span-append lay.run lay.above in
+          let p = r.bottom in
+          let t = r.top in
+          omega (arith, n, i, g, v, p, t, rb, k)
+
+      others-done : SameOthers all lay.bytes done
+      others-done s i a =
+          let b = packed-bounds (block ∷ rest) q in
+          let d = q.down in
+          let u = q.up in
+          let l = length-moved in
+          let n = slot-length in
+          let mine : Apart s slot = (each-right (Apart s) (names (lay.below ++ moved))
+          (slot ∷ names (rest ++ lay.above)) (subst (λ k. Each (Apart s) k) (sym named) a)).0 in
+          let turned : Apart slot s = elim mine [ inl e ↦ inr e | inr e ↦ inl e ] in
+          let outside : Clear to (length (piece from (size block) xs)) s = elim (slot-spot s i) [
+            | inl j ↦ inl (let e = j.0 in omega (arith, e, b))
+            | inr j ↦ inr (let e = j.0 in omega (arith, e, l, d, u))
+          ] in
+          piece-clear slot (word to) (slid (size block)) s (omega (arith, n)) (word-clear s turned)
+          ∙ piece-clear to (piece from (size block) xs) xs s (omega (arith, b, d)) outside ∙ q.others s i a
+
+      pub step-move : PackingAt lay stop (from + size block) (to + size block)
+          (moves + cond (nat_lt 0 (from - to)) 1 0) done (moved ++ block ∷ []) rest
+      step-move =
+          let f = q.free in
+          let d = q.down in
+          let u = q.up in
+          let v = q.whole in
+          let w = q.high.0.whole in
+          let n = length-slid in
+          let b = packed-bounds (block ∷ rest) q in
+          let k = q.kept in
+          let wl = length-word to in
+          let sl = slot-length in
+          let word-in = length-written slot (word to) (slid (size block)) (omega (arith, sl, wl)) in
+          let e : 0 + sizes (lay.below ++ moved) ≡ to = omega (arith, b) in
+          let gap : from + size block - (to + size block) ≡ from - to + 0 = omega (arith, d) in
+          let here : piece slot 4 done ≡ word to = piece-written slot (word to) (slid (size block)) 4
+          (omega (arith, wl)) (omega (arith, sl)) in
+          let lead-here : Leads (0 + sizes (lay.below ++ moved)) (block ∷ []) done =
+          subst (λ o. Leads o (block ∷ []) done) (sym e) (here, tt) in
+          record {
+            low = done-low;
+            high = done-high;
+            order = append_assoc moved (block ∷ []) (movers rest)
+                ∙ ap (λ k. moved ++ k) (sym (movers-more block rest is-mover)) ∙ q.order;
+            free = omega (arith, f);
+            down = omega (arith, d);
+            up = omega (arith, u);
+            whole = (omega (arith, w, v), omega (arith, w, v));
+            kept = word-in ∙ n ∙ k;
+            in_run = q.in_run.1;
+            lead_low = subst (λ k. Leads 0 k done) (append_assoc lay.below moved (block ∷ []))
+                (leads-append done 0 (lay.below ++ moved) (block ∷ [])
+                (still-leads 0 (lay.below ++ moved) apart.0 clear.0 q.lead_low) lead-here);
+            lead_high = still-leads (from + size block) (rest ++ lay.above) apart.1 clear.1 q.lead_high.1;
+            named = (let g : names (lay.below ++ (moved ++ block ∷ [])) ≡ names (lay.below ++ moved) ++ slot ∷ [] =
+                ap names (sym (append_assoc lay.below moved (block ∷ [])))
+                ∙ names-append (lay.below ++ moved) (block ∷ []) in ap (λ k. k ++ names (rest ++ lay.above)) g
+                ∙ append_assoc (names (lay.below ++ moved)) (slot ∷ []) (names (rest ++ lay.above)) ∙ q.named);
+            count = (let one : cond (is_mover block) (cond (nat_lt 0 (from - to)) 1 0) 0 ≡ cond
+                (nat_lt 0 (from - to)) 1 0 = ap (λ m. cond m (cond (nat_lt 0 (from - to)) 1 0) 0) is-mover in
+                let all-of : moves + (cond (nat_lt 0 (from - to)) 1 0 + falling_from
+                (from - to + 0) rest) ≡ falling_from 0 lay.run =
+                ap (λ m. moves + (m + falling_from (from - to + 0) rest)) (sym one) ∙ q.count in
+                ap (λ k. moves + cond (nat_lt 0 (from - to)) 1 0 + falling_from k rest) gap
+                ∙ (let z : moves + cond (nat_lt 0 (from - to)) 1 0 + falling_from (from - to + 0) rest ≡ moves +
+                (cond (nat_lt 0 (from - to)) 1 0 + falling_from (from - to + 0) rest) = omega arith in z) ∙ all-of);
+            others = others-done;
+          }

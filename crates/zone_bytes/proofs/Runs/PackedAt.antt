@@ -1,0 +1,110 @@
+-- A zone in bytes, one of whose runs was packed.
+use Rattle.std.proofs.Common.{◌≡◌, ℕ, ◌+◌, Option, Some, None, List, ◌++◌, cond, refl, sym, ap, ◌∙◌, subst}
+use Rattle.std.proofs.Common.{append_assoc}
+use Rattle.std.specs.Option.{IfSome, IsSomeAnd}
+use Rattle.raw_region.specs.Memory.{Bytes}
+use Rattle.block_store.specs.Block.{Block, count, is_masters, is_mover, free, free_of, free_sum, sizes, tidy}
+use Rattle.block_store.specs.Run.{RunSpot, run_at, movers, settle, with_run}
+use Rattle.block_store.specs.Rest.{Rest, IsRest}
+use Rattle.block_store.specs.Slot.{Slot}
+use Rattle.block_store.specs.Inner.Packing.{Loose}
+use Rattle.block_store.proofs.Regroup.Ends.{settled-tidy}
+use Rattle.block_store.proofs.Regroup.Packed.{loose-append, settle-total}
+use Rattle.block_store.proofs.Regroup.Lifted.{total-changed}
+use Rattle.block_store.proofs.Regroup.Parts.{in-free}
+use Rattle.block_store.proofs.Regroup.Regrouping.{all-filter, run_at-change}
+use Rattle.block_store.proofs.Regroup.RunLists.{run_at-parts}
+use Rattle.zone_bytes.specs.Layout.{Each}
+use Rattle.zone_bytes.specs.Settling.{InRun}
+use Rattle.zone_bytes.specs.Decode.{zone_in}
+use Rattle.zone_bytes.specs.Table.{Lays, slot_in}
+use Rattle.zone_bytes.specs.Lawful.{IsSound, IsKept}
+use Rattle.zone_bytes.specs.Beside.{KeepsPlace, rest_in}
+use Rattle.zone_bytes.proofs.Laws.Lawful.{rest-made, kept-made}
+use Rattle.zone_bytes.proofs.Runs.Runs.{run_at-splits}
+use Rattle.zone_bytes.proofs.Runs.Changed.{ChangedRun}
+
+-- the zone that the bytes spell is `old` with its run from place to stop packed, whose Free block begins at top
+pub record IsPacked (xs : List ℕ) (first unused place top stop : ℕ) (old : List Block) : Type 0 where
+  pub sound : IsSound xs first unused
+  pub tidied : tidy old ≡ old
+  pub spot : RunSpot
+  pub is : run_at place old ≡ Some spot
+  pub zone : zone_in xs ≡ tidy (with_run settle spot)
+  pub top_is : top ≡ place + sizes (movers spot.run)
+  pub stop_is : stop ≡ place + sizes spot.run
+
+pub is-packed : (xs : List ℕ) (first unused place top stop : ℕ) (old : List Block) (A : RunSpot → Type 0)
+    → IsSound xs first unused → tidy old ≡ old → IsSomeAnd (run_at place old) A
+    → IfSome (run_at place old) (λ r. zone_in xs ≡ tidy (with_run settle r))
+    → IfSome (run_at place old) (λ r. top ≡ place + sizes (movers r.run))
+    → IfSome (run_at place old) (λ r. stop ≡ place + sizes r.run)
+    → (k : IsPacked xs first unused place top stop old) × A k.spot
+is-packed xs first unused place top stop old A i t a z m n = cases (run_at place old) refl a z m n
+  where
+    cases : (o : Option RunSpot) → run_at place old ≡ o → IsSomeAnd o A
+        → IfSome o (λ r. zone_in xs ≡ tidy (with_run settle r)) → IfSome o (λ r. top ≡ place + sizes (movers r.run))
+        → IfSome o (λ r. stop ≡ place + sizes r.run) → (k : IsPacked xs first unused place top stop old) × A k.spot
+    cases None e a z m n = absurd a
+    cases (Some r) e a z m n =
+        (record { sound = i; tidied = t; spot = r; is = e; zone = z; top_is = m; stop_is = n }, a)
+
+-- what stays, of what stayed
+rest-again : (a b c : Rest) → IsRest a b → IsRest b c → IsRest a c
+rest-again a b c p q = record {
+  slots = λ n. q.slots n ∙ p.slots n;
+  unused = q.unused ∙ p.unused;
+  all = q.all ∙ p.all;
+  moves = q.moves ∙ p.moves;
+  window = q.window ∙ p.window;
+}
+
+module _ {xs : List ℕ} {first unused place top stop : ℕ} {old : List Block}
+    (k : IsPacked xs first unused place top stop old) where
+  abbrev r : RunSpot
+  r = k.spot
+
+  pub packed-zone : zone_in xs ≡ r.below ++ (settle r.run ++ r.above)
+  packed-zone = k.zone ∙ ap tidy (append_assoc r.below (settle r.run) r.above) ∙ settled-tidy place old r k.tidied k.is
+
+  pub bottom : sizes r.below ≡ place
+  bottom = (run_at-splits place old r k.is).bottom
+
+  pub in-run : Each InRun r.run
+  in-run = (run_at-splits place old r k.is).in_run
+
+  pub loose : Loose r.run
+  loose = (run_at-parts place old r k.is).loose
+
+  pub laid : Lays xs (r.below ++ (settle r.run ++ r.above)) (slot_in xs) k.sound.unused
+  laid = subst (λ l. Lays xs l (slot_in xs) k.sound.unused) packed-zone k.sound.lays
+
+  -- the packed run stands where the run stood
+  pub packed-spot : run_at place (zone_in xs) ≡ Some (record r { run = settle r.run })
+  packed-spot =
+      ap (run_at place) (packed-zone ∙ sym (append_assoc r.below (settle r.run) r.above))
+      ∙ run_at-change place old r k.is (settle r.run)
+      (loose-append (movers r.run) (free (free_sum r.run)) (all-filter is_mover r.run loose) (in-free (free_sum r.run)))
+
+  masters-packed : count is_masters (zone_in xs) ≡ count is_masters old
+  masters-packed =
+      let masters : Block → ℕ = λ b. cond (is_masters b) 1 0 in
+      ap (count is_masters) k.zone
+      ∙ total-changed masters (λ n m. refl) settle place old r k.is (settle-total masters (λ n m. refl) r.run loose)
+
+  free-packed : free_sum (zone_in xs) ≡ free_sum old
+  free-packed = ap free_sum k.zone
+      ∙ total-changed free_of (λ n m. refl) settle place old r k.is (settle-total free_of (λ n m. refl) r.run loose)
+
+  -- after another change of the run
+  pub kept-changed : (change : List Block → List Block) (new : List ℕ) (table : ℕ → Slot) (n : ℕ)
+      → ChangedRun change old r new first unused table → n ≡ free_sum (zone_in xs) → IsKept new first unused n
+  kept-changed change new table n d e = kept-made _ _ _ _ _ _ d.made (e ∙ free-packed ∙ sym d.free)
+
+pub rest-changed : {first unused place top stop : ℕ} {old : List Block} (part after : Bytes)
+    (k : IsPacked part.bytes first unused place top stop old) (change : List Block → List Block) (before : Rest)
+    (moves : ℕ) → ChangedRun change old k.spot after.bytes first unused (slot_in part.bytes)
+    → IsRest before (rest_in part unused moves) → KeepsPlace part after → IsRest before (rest_in after unused moves)
+rest-changed {unused = unused} part after k change before moves d p same =
+    rest-again before (rest_in part unused moves) (rest_in after unused moves) p
+    (rest-made part after (slot_in part.bytes) unused moves d.made.slots (d.masters ∙ sym (masters-packed k)) same)

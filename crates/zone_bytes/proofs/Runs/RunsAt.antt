@@ -1,0 +1,135 @@
+-- The run at a place of a RawZone, and how it is settled.
+use Rattle.std.proofs.Common.{◌≡◌, ℕ, Bool, true, false, not, cond, nat_lt, zero, suc, ◌+◌, ◌<◌, ◌≤◌, Option, Some}
+use Rattle.std.proofs.Common.{None, List, [], ◌∷◌, ◌++◌, take, drop, sym, refl, ap, ◌∙◌, subst, arith}
+use Rattle.std.proofs.lemmas.Bool.{false≢true, lt-ltb}
+use Rattle.std.proofs.lemmas.Option.{same_Some}
+use Rattle.std.specs.Option.{IsSome, IfSome}
+use Rattle.block_store.specs.Block.{Block, Free, Fixed, Masters, Relocatable, size, sizes, count, is_mover, free_of}
+use Rattle.block_store.specs.Run.{segments, RunSpot, run_at, settle}
+use Rattle.block_store.specs.Inner.Packing.{Loose}
+use Rattle.block_store.specs.Rest.{falling}
+use Rattle.block_store.proofs.Regroup.Ends.{run_at-ended, first-run, settled-tidy}
+use Rattle.block_store.proofs.Regroup.RunLists.{run_at-is}
+use Rattle.zone_bytes.specs.Layout.{head_of, Tiles, Each}
+use Rattle.zone_bytes.specs.Settling.{InRun, IsRun, Settled, falling_from}
+use Rattle.zone_bytes.specs.Decode.{zone_in}
+use Rattle.zone_bytes.specs.Table.{slot_in}
+use Rattle.zone_bytes.specs.Lawful.{IsSound}
+use Rattle.zone_bytes.specs.Placing.{lay_from, lay_at}
+use Rattle.zone_bytes.specs.Stepping.{left_in, IsOnWay}
+use Rattle.zone_bytes.proofs.Tiles.Tiling.{tiles-split, span-append}
+use Rattle.zone_bytes.proofs.Runs.Runs.{run_at-splits}
+use Rattle.zone_bytes.proofs.Tiles.Zones.{is-run, after}
+use Rattle.zone_bytes.proofs.Places.AtPlace.{way-above, left-above}
+use Rattle.zone_bytes.proofs.Places.Stepped.{left-is}
+use Rattle.zone_bytes.proofs.Laws.Lawful.{Made, made}
+use Rattle.block_store.specs.Slot.{is_resource}
+
+pub a-run : (o : Option RunSpot) → IsSome o → (r : RunSpot) × (o ≡ Some r)
+a-run None h = absurd (false≢true h)
+a-run (Some r) h = (r, refl)
+
+pub if-run : (o : Option RunSpot) (P : RunSpot → Type 0) → ((r : RunSpot) → o ≡ Some r → P r) → IfSome o P
+if-run None P f = tt
+if-run (Some r) P f = f r refl
+
+pub one-run : (o : Option RunSpot) (r q : RunSpot) → o ≡ Some r → o ≡ Some q → r ≡ q
+one-run o r q e f = same_Some r q (sym e ∙ f)
+
+pub loose-each : (run : List Block) → Each InRun run → Loose run
+loose-each [] e = tt
+loose-each (b ∷ run) e = (e.0, loose-each run e.1)
+
+-- how many blocks come lower
+lowered-all : (gap : ℕ) (run : List Block) → 0 < gap → falling_from gap run ≡ count is_mover run
+lowered-all zero run h = absurd (omega (arith, h))
+lowered-all (suc gap) [] h = refl
+lowered-all (suc gap) (b ∷ run) h = step b (is_mover b) (lowered-all (suc gap + free_of b) run (omega arith))
+  where
+    step : (b : Block) (t : Bool) → falling_from (suc gap + free_of b) run ≡ count is_mover run
+        → (cond {A = ℕ} t (cond {A = ℕ} (nat_lt 0 (suc gap)) 1 0) 0) + falling_from
+        (suc gap + free_of b) run ≡ cond {A = ℕ} t 1 0 + count is_mover run
+    step b t e = ap (λ v. cond {A = ℕ} t (cond {A = ℕ} v 1 0) 0 + falling_from (suc gap + free_of b) run)
+        (lt-ltb 0 (suc gap) (omega arith)) ∙ ap (λ n. cond {A = ℕ} t 1 0 + n) e
+
+module _ (head : Block → List ℕ) where
+  pub lowered-falling : (xs : List ℕ) (run : List Block) → Tiles head xs run → Each InRun run
+      → falling_from 0 run ≡ falling run
+  lowered-falling xs [] t e = refl
+  lowered-falling xs (Free n ∷ run) t e = let s = t.0.some in let l =
+      lowered-all (0 + n) run (omega (arith, s)) in omega (arith, l)
+  lowered-falling xs (Fixed id content ∷ run) t e = absurd (false≢true e.0)
+  lowered-falling xs (Masters ∷ run) t e = absurd (false≢true e.0)
+  lowered-falling xs (Relocatable id flags content ∷ run) t e =
+      let l = lowered-falling (drop (size (Relocatable id flags content)) xs) run t.1 e.1 in
+      ap (λ v. v + falling_from 0 run) (none (not flags.locked))
+      ∙ (let q : 0 + falling_from 0 run ≡ falling run = omega (arith, l) in q)
+    where
+      none : (t : Bool) → cond {A = ℕ} t 0 0 ≡ 0
+      none true = refl
+      none false = refl
+
+module _ (xs : List ℕ) (first count : ℕ) (i : IsSound xs first count) (place : ℕ) (r : RunSpot)
+    (e : run_at place (zone_in xs) ≡ Some r) where
+  pub whole : zone_in xs ≡ r.below ++ (r.run ++ r.above)
+  whole = sym (run_at-is place (zone_in xs) r e)
+
+  bottom : sizes r.below ≡ place
+  bottom = (run_at-splits place (zone_in xs) r e).bottom
+
+  pub in-run : Each InRun r.run
+  in-run = (run_at-splits place (zone_in xs) r e).in_run
+
+  pub run-way : IsOnWay place xs
+  run-way = way-above xs first count i r.below (r.run ++ r.above) place whole bottom
+
+  pub run-left : (segments (left_in place xs)).first ≡ r.run
+  run-left = ap (λ l. (segments l).first) (left-above xs first count i r.below (r.run ++ r.above) place whole bottom)
+      ∙ first-run r.run r.above (loose-each r.run in-run) (run_at-ended place (zone_in xs) r e).stops
+
+  pub left-fits : place + sizes (left_in place xs) ≤ 134217728
+  left-fits =
+      let l = ap sizes (left-is place xs run-way) in
+      let u = run-way.walk.up in
+      let m = run-way.small in
+      omega (arith, l, u, m)
+
+  pub run-fits : place + sizes r.run ≤ 134217728
+  run-fits =
+      let l = ap sizes (left-above xs first count i r.below (r.run ++ r.above) place whole bottom) in
+      let a = span-append r.run r.above in
+      let f = left-fits in
+      omega (arith, l, a, f)
+
+  pub lay-is : lay_at xs place ≡ record {
+    resource = λ s. is_resource (slot_in xs s);
+    below = r.below;
+    run =
+        r.run;
+    above = r.above;
+    bytes = xs;
+  }
+  lay-is = ap (lay_from xs) e
+
+  pub lay-bytes : xs ≡ (lay_at xs place).bytes
+  lay-bytes = sym (ap (λ l. l.bytes) lay-is)
+
+  module _ (stop : ℕ) (t : place + sizes r.run ≡ stop) where
+    pub may-settle : IsRun (lay_at xs place) place stop
+    may-settle = subst (λ l. IsRun l place stop) (sym lay-is)
+        (is-run xs r i.unused place stop i.lays whole bottom t in-run)
+
+    pub settle-made : (moves : ℕ) (new : List ℕ) → Settled (lay_at xs place) moves new
+        → Made new first count (r.below ++ (settle r.run ++ r.above)) (slot_in xs) × (moves ≡ falling r.run)
+    settle-made moves new d =
+        let s = subst (λ l. Settled l moves new) lay-is d in
+        let tiles = tiles-split (head_of (λ s. is_resource (slot_in xs s))) xs r.below (r.run ++ r.above)
+        (subst (Tiles (head_of (λ s. is_resource (slot_in xs s))) xs) whole i.lays.lies.tiles) in
+        let run = tiles-split (head_of (λ s. is_resource (slot_in xs s)))
+        (drop (sizes r.below) xs) r.run r.above tiles.1 in (
+          made new (r.below ++ (settle r.run ++ r.above)) (slot_in xs) i.unused
+              (after xs r i.unused place stop i.lays whole bottom t in-run moves new s) first count
+              (settled-tidy place (zone_in xs) r i.tidied e) i.begins i.counted,
+          s.moved ∙ lowered-falling (head_of (λ s. is_resource (slot_in xs s)))
+              (take (sizes r.run) (drop (sizes r.below) xs)) r.run run.0 in-run,
+        )

@@ -1,0 +1,305 @@
+-- The next block of a run, and the end of the run.
+use Rattle.std.proofs.Common.{◌≡◌, ℕ, ◌+◌, ◌-◌, ◌%◌, ◌<◌, ◌≤◌, inl, inr, Bool, true, false, cond, nat_lt, zero, suc}
+use Rattle.std.proofs.Common.{List, [], ◌∷◌, ◌++◌, length, take, drop, sym, refl, ap, ◌∙◌, subst, arith, append_assoc}
+use Rattle.std.proofs.lemmas.List.{append-nil, length-take-le, length-drop, drop-drop, take-take, take-append-drop}
+use Rattle.std.proofs.lemmas.Bool.{false≢true}
+use Rattle.windows.specs.Writes.{written, piece}
+use Rattle.heap_words.specs.Words.{word, word_at}
+use Rattle.heap_words.proofs.Words.{length-word}
+use Rattle.windows.proofs.Pieces.{length-written, take-written_below, drop-written_above, piece-written}
+use Rattle.block_store.specs.Block.{Block, Free, Fixed, Masters, Relocatable, size, is_mover, free, free_of, free_sum}
+use Rattle.block_store.specs.Block.{sizes}
+use Rattle.block_store.specs.Run.{movers, settle}
+use Rattle.zone_bytes.specs.Layout.{head_of, Tile, Tiles, names, Leads, Each}
+use Rattle.zone_bytes.specs.Settling.{falling_from, Lay, IsRun, PackingAt, Packing, Settled}
+use Rattle.zone_bytes.proofs.Tiles.Tiling.{span-append, tiles-append, tiles-one, tiles-split}
+use Rattle.zone_bytes.proofs.Tiles.Heads.{first-reads, slot-reads, kind-small}
+use Rattle.zone_bytes.proofs.Tiles.Leading.{each-left, each-right, Clear, piece-clear, leads-append, leads-written}
+use Rattle.zone_bytes.proofs.Runs.Packed.{run-bounds, slot-spot, all-clear, packed-bounds, slot-even, is-slot}
+use Rattle.zone_bytes.proofs.Runs.Packed.{slot-length, length-slid, step-free, step-move}
+
+pub free_sum-span : (blocks : List Block) → free_sum blocks ≡ free_sum blocks
+free_sum-span blocks = refl
+
+pub free-some : (n : ℕ) → 0 < n → free n ≡ Free n ∷ []
+free-some zero h = absurd (omega arith)
+free-some (suc n) h = refl
+
+-- a word that is a multiple of 16 and a small number in two ways
+pub same_parts : (a b s k : ℕ) → a + b ≡ s + k → a % 16 ≡ 0 → s % 16 ≡ 0 → b ≤ 3 → k ≤ 3 → (a ≡ s) × (b ≡ k)
+same_parts a b s k e p q l m = (omega arith, omega arith)
+
+-- a Free block of n bytes stands where the word n comes first
+pub free-tile : (resource : ℕ → Bool) (n : ℕ) (ys : List ℕ) → length ys ≡ n → n % 16 ≡ 0 → 16 ≤ n → take 4 ys ≡ word n
+    → Tile (head_of resource (Free n)) n ys
+unfolding head_of
+free-tile resource n ys l w s b =
+    let f = length-word n in
+    record {
+      fits = omega (arith, l);
+      whole = w;
+      some = s;
+      room = omega (arith, f, s);
+      begins = ap (λ k. take k ys) f ∙ b;
+    }
+
+one-or-none : (v w : Bool) → cond v (cond w 1 0) 0 ≤ 1
+one-or-none true true = omega arith
+one-or-none true false = omega arith
+one-or-none false w = omega arith
+
+-- at most one move for each block
+pub lowered-span : (head : Block → List ℕ) (xs : List ℕ) (gap : ℕ) (run above : List Block)
+    → Tiles head xs (run ++ above) → falling_from gap run ≤ sizes run
+lowered-span head xs gap [] above t = omega arith
+lowered-span head xs gap (b ∷ run) above t =
+    let r = lowered-span head (drop (size b) xs) (gap + free_of b) run above t.1 in
+    let s = t.0.some in
+    let o = one-or-none (is_mover b) (nat_lt 0 gap) in
+    omega (arith, r, s, o)
+
+-- where there is a next block
+pub record Next (xs : List ℕ) (from : ℕ) : Type 0 where
+  pub even : from % 4 ≡ 0
+  pub fits : from + 16 ≤ length xs
+  pub tag : word_at from xs % 16 < 4
+  pub big : 16 ≤ word_at from xs
+
+-- the next block is relocatable
+pub record NextMover (lay : Lay) (stop from to moves : ℕ) (xs : List ℕ) (n slot : ℕ) : Type 0 where
+  pub inside : (from + n ≤ stop) × (stop ≤ length xs)
+  pub even : slot % 4 ≡ 0
+  pub slot_inside : slot + 4 ≤ length xs
+  pub leads : piece slot 4 xs ≡ word from
+  pub packing : (m : ℕ) → m ≡ cond (nat_lt 0 (from - to)) 1 0
+      → Packing lay stop (from + n) (to + n) (moves + m) (written slot (word to) (written to (piece from n xs) xs))
+
+module _ (lay : Lay) (place stop : ℕ) (r : IsRun lay place stop) (from to moves : ℕ) (xs : List ℕ) where
+  pub stop-inside : length xs ≡ length lay.bytes → (stop ≤ length xs) × (length xs ≤ 134217728)
+  stop-inside k =
+      let b = run-bounds lay place stop r in
+      let s = r.small in
+      (omega (arith, b, k), omega (arith, s, k))
+
+  next-at : (moved rest : List Block) → PackingAt lay stop from to moves xs moved rest → from < stop → Next xs from
+  next-at moved [] q l = let u = q.up in absurd (omega (arith, u, l))
+  next-at moved (b ∷ rest) q l =
+      let i = stop-inside q.kept in
+      let t = q.high.0 in
+      let f = t.fits in
+      let s = t.some in
+      let d = length-drop from xs in
+      let w = first-reads lay.resource xs from i.1 b t in
+      let v = q.whole in
+      let h = t.whole in
+      let k = kind-small b in
+      record {
+        even = omega (arith, v);
+        fits = omega (arith, f, s, d);
+        tag = omega (arith, w, h, k);
+        big =
+            omega (arith, w, s);
+      }
+
+  pub next : Packing lay stop from to moves xs → from < stop → Next xs from
+  next p l = next-at p.moved p.rest p.state l
+
+  next-free-at : (moved rest : List Block) → PackingAt lay stop from to moves xs moved rest → from < stop → (n t : ℕ)
+      → n + t ≡ word_at from xs → n % 16 ≡ 0 → t < 3 → Packing lay stop (from + n) to moves xs
+  next-free-at moved [] q l n t e w k = let u = q.up in absurd (omega (arith, u, l))
+  next-free-at moved (Free m ∷ rest) q l n t e w k =
+      let i = stop-inside q.kept in
+      let f = first-reads lay.resource xs from i.1 (Free m) q.high.0 in
+      let same = same_parts n t m 0 (e ∙ f) w q.high.0.whole (omega (arith, k)) (omega arith) in
+      record {
+        moved = moved;
+        rest = rest;
+        state = subst (λ j. PackingAt lay stop (from + j) to moves xs moved rest)
+            (sym same.0) (step-free lay place stop r from to moves xs moved m rest q);
+      }
+  next-free-at moved (Fixed id content ∷ rest) q l n t e w k = absurd (false≢true q.in_run.0)
+  next-free-at moved (Masters ∷ rest) q l n t e w k = absurd (false≢true q.in_run.0)
+  next-free-at moved (Relocatable slot flags content ∷ rest) q l n t e w k =
+      let i = stop-inside q.kept in
+      let f = first-reads lay.resource xs from i.1 (Relocatable slot flags content) q.high.0 in
+      let same = same_parts n t (size (Relocatable slot flags content)) 3 (e ∙ f) w q.high.0.whole (omega (arith, k))
+      (omega arith) in
+      absurd (let j = same.1 in omega (arith, j, k))
+
+  pub next-free : Packing lay stop from to moves xs → from < stop → (n t : ℕ) → n + t ≡ word_at from xs → n % 16 ≡ 0
+      → t < 3 → Packing lay stop (from + n) to moves xs
+  next-free p l n t e w k = next-free-at p.moved p.rest p.state l n t e w k
+
+  next-mover-at : (moved rest : List Block) → PackingAt lay stop from to moves xs moved rest → from < stop → (n t s : ℕ)
+      → n + t ≡ word_at from xs → n % 16 ≡ 0 → t ≡ 3 → s ≡ word_at (from + 8) xs
+      → NextMover lay stop from to moves xs n s
+  next-mover-at moved [] q l n t s e w k v = let u = q.up in absurd (omega (arith, u, l))
+  next-mover-at moved (Free m ∷ rest) q l n t s e w k v =
+      let i = stop-inside q.kept in
+      let f = first-reads lay.resource xs from i.1 (Free m) q.high.0 in
+      let same = same_parts n t m 0 (e ∙ f) w q.high.0.whole (omega (arith, k)) (omega arith) in
+      absurd (let j = same.1 in omega (arith, j, k))
+  next-mover-at moved (Fixed id content ∷ rest) q l n t s e w k v = absurd (false≢true q.in_run.0)
+  next-mover-at moved (Masters ∷ rest) q l n t s e w k v = absurd (false≢true q.in_run.0)
+  next-mover-at moved (Relocatable slot flags content ∷ rest) q l n t s e w k v =
+      let b : Block = Relocatable slot flags content in
+      let blocks = lay.below ++ (lay.run ++ lay.above) in
+      let i = stop-inside q.kept in
+      let f = first-reads lay.resource xs from i.1 b q.high.0 in
+      let same = same_parts n t (size b) 3 (e ∙ f) w q.high.0.whole (omega (arith, k)) (omega arith) in
+      let a = is-slot lay place stop r from to moves xs moved slot flags content rest q in
+      let sl = slot-length lay place stop r from to moves xs moved slot flags content rest q in
+      let ls = length-slid lay place stop r from to moves xs moved slot flags content rest q in
+      let mine = v ∙ slot-reads lay.resource xs from i.1 slot flags content (omega (arith, sl, ls, i)) q.high.0 in
+      let u = q.up in
+      let base : NextMover lay stop from to moves xs (size b) slot = record {
+        inside = (omega (arith, u), i.0);
+        even = slot-even (head_of lay.resource) lay.bytes slot blocks r.lies.tiles a;
+        slot_inside = omega (arith, sl, ls);
+        leads = q.lead_high.0;
+        packing = λ m h. record {
+          moved = moved ++ b ∷ [];
+          rest = rest;
+          state = subst (λ j. PackingAt lay stop (from + size b) (to + size b) (moves + j)
+              (written slot (word to) (written to (piece from (size b) xs) xs)) (moved ++ b ∷ []) rest) (sym h)
+              (step-move lay place stop r from to moves xs moved slot flags content rest q);
+        };
+      } in
+      subst (λ j. NextMover lay stop from to moves xs j s) (sym same.0)
+      (subst (λ j. NextMover lay stop from to moves xs (size b) j) (sym mine) base)
+
+  pub next-mover : Packing lay stop from to moves xs → from < stop → (n t s : ℕ) → n + t ≡ word_at from xs → n % 16 ≡ 0
+      → t ≡ 3 → s ≡ word_at (from + 8) xs → NextMover lay stop from to moves xs n s
+  next-mover p l n t s e w k v = next-mover-at p.moved p.rest p.state l n t s e w k v
+
+  -- at the end of the run the rest is nothing
+  done-at : (moved rest : List Block) → PackingAt lay stop from to moves xs moved rest → stop ≤ from
+      → PackingAt lay stop from to moves xs moved [] × (from ≡ stop)
+  done-at moved [] q l = let u = q.up in (q, omega (arith, u))
+  done-at moved (b ∷ rest) q l = let u = q.up in let s = q.high.0.some in absurd (omega (arith, u, s, l))
+
+  -- no Free bytes
+  finish-none-at : (moved : List Block) → PackingAt lay stop from to moves xs moved [] → from ≤ to
+      → Settled lay moves xs
+  finish-none-at moved q l =
+      let head = head_of lay.resource in
+      let f = q.free in
+      let d = q.down in
+      let b = packed-bounds lay place stop r from to moves xs moved [] q in
+      let g : free_sum lay.run ≡ 0 = (let k = free_sum-span lay.run in omega (arith, k, f, d, l)) in
+      let same : from ≡ to = omega (arith, d, l) in
+      let shape : settle lay.run ≡ moved = ap (λ k. movers lay.run ++ free k) g ∙ append-nil (movers lay.run)
+      ∙ sym q.order ∙ append-nil moved in
+      let blocks : lay.below ++ moved ++ lay.above ≡ lay.below ++ (settle lay.run ++ lay.above) =
+      append_assoc lay.below moved lay.above ∙ ap (λ k. lay.below ++ (k ++ lay.above)) (sym shape) in
+      let high = subst (λ k. Tiles head (drop k xs) lay.above) same q.high in
+      let tiles = tiles-append head (take to xs) (drop to xs) (lay.below ++ moved) lay.above q.low high in
+      let o : from ≡ 0 + sizes (lay.below ++ moved) = omega (arith, b, same) in
+      let leads = leads-append xs 0 (lay.below ++ moved) lay.above q.lead_low
+      (subst (λ k. Leads k lay.above xs) o q.lead_high) in
+      record {
+        lies = record {
+          tiles = subst (λ k. Tiles head k (lay.below ++ (settle lay.run ++ lay.above))) (take-append-drop to xs)
+              (subst (λ k. Tiles head (take to xs ++ drop to xs) k) blocks tiles);
+          leads = subst (λ k. Leads 0 k xs) blocks leads;
+        };
+        others = q.others;
+        moved = (let c = q.count in omega (arith, c));
+        kept = q.kept;
+      }
+
+  -- one Free block
+  finish-free-at : (moved : List Block) → PackingAt lay stop from to moves xs moved [] → from ≡ stop → to < from
+      → Settled lay moves (written to (word (from - to)) xs)
+  finish-free-at moved q e l =
+      let head = head_of lay.resource in
+      let f = q.free in
+      let v = q.whole in
+      let b = packed-bounds lay place stop r from to moves xs moved [] q in
+      let w = length-word (from - to) in
+      let g : free_sum lay.run ≡ from - to = (let k = free_sum-span lay.run in omega (arith, k, f)) in
+      let zs = written to (word (from - to)) xs in
+      let n = length-written to (word (from - to)) xs (omega (arith, w, b, v, l)) in
+      let gap : take (from - to) (drop to zs) ++ drop from zs ≡ drop to zs =
+      ap (λ k. take (from - to) (drop to zs) ++ k) (sym (drop-drop (from - to) to zs
+      ∙ ap (λ k. drop k zs) (let m : to + (from - to) ≡ from = omega (arith, l) in m)))
+      ∙ take-append-drop (from - to) (drop to zs) in
+      let len = length-take-le (from - to) (drop to zs) (let d = length-drop to zs in omega (arith, d, n, b)) in
+      let tile : Tile (head (Free (from - to))) (from - to) (take (from - to) (drop to zs)) =
+      free-tile lay.resource (from - to) (take (from - to) (drop to zs)) len (omega (arith, v))
+      (omega (arith, v, l)) (take-take 4 (from - to) (drop to zs) (omega (arith, v, l))
+      ∙ piece-written to (word (from - to)) xs 4 (sym w) (omega (arith, b, l))) in
+      let low : Tiles head (take to zs) (lay.below ++ moved) =
+      subst (λ k. Tiles head k (lay.below ++ moved))
+      (sym (take-written_below to (word (from - to)) xs to (omega arith) (omega (arith, b, l)))) q.low in
+      let high : Tiles head (drop from zs) lay.above = subst (λ k. Tiles head k lay.above)
+      (sym (drop-written_above to (word (from - to)) xs from (omega (arith, w, v, l)) (omega (arith, b, l))))
+      q.high in
+      let mid = tiles-one head (Free (from - to)) (take (from - to) (drop to zs)) len tile in
+      let some : free (free_sum lay.run) ≡ Free (from - to) ∷ [] = ap free g
+      ∙ free-some (from - to) (omega (arith, l)) in
+      let shape : settle lay.run ≡ moved ++ Free (from - to) ∷ [] = ap (λ k. movers lay.run ++ k) some
+      ∙ ap (λ k. k ++ Free (from - to) ∷ []) (sym q.order ∙ append-nil moved) in
+      let blocks : lay.below ++ moved ++ (Free (from - to) ∷ lay.above) ≡ lay.below ++ (settle lay.run ++ lay.above) =
+      append_assoc lay.below moved (Free (from - to) ∷ lay.above)
+      ∙ ap (λ k. lay.below ++ k) (sym (append_assoc moved (Free (from - to) ∷ []) lay.above))
+      ∙ ap (λ k. lay.below ++ (k ++ lay.above)) (sym shape) in
+      let tiles = tiles-append head (take to zs) (take (from - to) (drop to zs) ++ drop from zs) (lay.below ++ moved)
+      (Free (from - to) ∷ lay.above) low (tiles-append head (take (from - to) (drop to zs)) (drop from zs)
+      (Free (from - to) ∷ []) lay.above mid high) in
+      let bytes : take to zs ++ (take (from - to) (drop to zs) ++ drop from zs) ≡ zs = ap (λ k. take to zs ++ k) gap
+      ∙ take-append-drop to zs in
+      let c = all-clear lay place stop r to (length (word (from - to))) b.0 (omega (arith, w, v, l, e)) in
+      let cs = subst (λ k. Each (Clear to (length (word (from - to)))) k) (sym q.named) c in
+      let lead-low = leads-written to (word (from - to)) xs 0 (lay.below ++ moved) (omega (arith, b, l))
+      (each-left (Clear to (length (word (from - to)))) (names (lay.below ++ moved)) (names lay.above) cs)
+      q.lead_low in
+      let lead-high = leads-written to (word (from - to)) xs from lay.above (omega (arith, b, l))
+      (each-right (Clear to (length (word (from - to)))) (names (lay.below ++ moved)) (names lay.above) cs)
+      q.lead_high in
+      let o : from ≡ 0 + sizes (lay.below ++ moved) + (from - to) = omega (arith, b, l) in
+      let leads = leads-append zs 0 (lay.below ++ moved) (Free (from - to) ∷ lay.above) lead-low
+      (tt, subst (λ k. Leads k lay.above zs) o lead-high) in
+      record {
+        lies = record {
+          tiles = subst (λ k. Tiles head k (lay.below ++ (settle lay.run ++ lay.above))) bytes
+              (subst (λ k. Tiles head (take to zs ++ (take (from - to) (drop to zs) ++ drop from zs)) k) blocks tiles);
+          leads = subst (λ k. Leads 0 k zs) blocks leads;
+        };
+        others = λ s i a.
+            let outside : Clear to (length (word (from - to))) s = elim (slot-spot lay place stop r s i) [
+              | inl j ↦ inl (let h = j.0 in omega (arith, h, b))
+              | inr j ↦ inr (let h = j.0 in omega (arith, h, w, v, l, e))
+            ] in
+            piece-clear to (word (from - to)) xs s (omega (arith, b, l)) outside ∙ q.others s i a;
+        moved = (let c = q.count in omega (arith, c));
+        kept = n ∙ q.kept;
+      }
+
+  pub finish-none : Packing lay stop from to moves xs → stop ≤ from → from ≤ to → Settled lay moves xs
+  finish-none p l h = finish-none-at p.moved (done-at p.moved p.rest p.state l).0 h
+
+  pub finish-free : Packing lay stop from to moves xs → stop ≤ from → to < from
+      → Settled lay moves (written to (word (from - to)) xs)
+  finish-free p l h = let d = done-at p.moved p.rest p.state l in finish-free-at p.moved d.0 d.1 h
+
+  -- the packed blocks end where the Free block begins
+  pub packed-top : Packing lay stop from to moves xs → stop ≤ from → to ≡ place + sizes (movers lay.run)
+  packed-top p l =
+      let d = done-at p.moved p.rest p.state l in
+      let b = packed-bounds lay place stop r from to moves xs p.moved [] d.0 in
+      let a = span-append lay.below p.moved in
+      let o = ap sizes (sym (append-nil p.moved) ∙ d.0.order) in
+      let w = r.bottom in
+      omega (arith, b, a, o, w)
+
+  -- no more blocks come lower than there are bytes
+  pub moves-bound : Packing lay stop from to moves xs → moves ≤ 134217728
+  moves-bound p =
+      let c = p.state.count in
+      let b = run-bounds lay place stop r in
+      let s = r.small in
+      let t = tiles-split (head_of lay.resource) lay.bytes lay.below (lay.run ++ lay.above) r.lies.tiles in
+      let k = lowered-span (head_of lay.resource) (drop (sizes lay.below) lay.bytes) 0 lay.run lay.above t.1 in
+      let e = r.top in
+      omega (arith, c, k, b, s, e)

@@ -1,0 +1,43 @@
+-- The handles of a RawZone.
+use Rattle.std.proofs.Common.{◌≡◌, ℕ, Bool, IsTrue, Option, List}
+use Rattle.std.specs.Option.{option_map}
+use Rattle.block_store.specs.Block.{sizes, is_relocatable}
+use Rattle.block_store.specs.Find.{FindsLowest}
+use Rattle.block_store.specs.Room.{Spot, spot}
+use Rattle.block_store.specs.Slot.{Used, set_slot, is_used, is_resource}
+use Rattle.block_store.proofs.Zone.Apart.{apart-tidied}
+use Rattle.block_store.proofs.Zone.Spots.{finds}
+use Rattle.zone_bytes.specs.Decode.{zone_in}
+use Rattle.zone_bytes.specs.Lawful.{IsSound}
+use Rattle.zone_bytes.specs.Looking.{IsHandle}
+use Rattle.zone_bytes.specs.Table.{Table, Lays, slot_in}
+use Rattle.zone_bytes.proofs.Laws.Lawful.{Made, made}
+
+module _ (xs : List ℕ) (first count : ℕ) (i : IsSound xs first count) (number : ℕ)
+    (used : IsTrue (is_used (slot_in xs number))) where
+  abbrev table : Table
+  table = record { blocks = zone_in xs; slots = slot_in xs; unused = i.unused }
+
+  handle : IsHandle xs table number
+  handle = record { lays = i.lays; used = used }
+
+  pub a-handle : (t : Table) × IsHandle xs t number
+  a-handle = (table, handle)
+
+  -- the place that was read is that of the handle's block
+  pub place-found : (r : Option ℕ)
+      → ((t : Table) → IsHandle xs t number
+      → r ≡ option_map (λ (s : Spot). sizes s.below) (spot (is_relocatable number) t.blocks))
+      → FindsLowest (is_relocatable number) (zone_in xs) r
+  place-found r e = finds (is_relocatable number) (zone_in xs) r (apart-tidied (zone_in xs) i.tidied) (e table handle)
+
+  pub flag-read : (r : Bool) → ((t : Table) → IsHandle xs t number → r ≡ is_resource (t.slots number))
+      → r ≡ is_resource (slot_in xs number)
+  flag-read r e = e table handle
+
+  pub marked-made : (r : Bool) (new : List ℕ)
+      → ((t : Table) → IsHandle xs t number → Lays new t.blocks (set_slot t.slots number (Used r)) t.unused)
+      → Made new first count (zone_in xs) (set_slot (slot_in xs) number (Used r))
+  marked-made r new e =
+      made new (zone_in xs) (set_slot (slot_in xs) number (Used r)) i.unused
+      (e table handle) first count i.tidied i.begins i.counted

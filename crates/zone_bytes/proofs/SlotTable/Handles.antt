@@ -1,0 +1,230 @@
+-- What the slot of a handle says: the place of its block, or that the handle is emptied.
+use Rattle.std.proofs.Common.{◌≡◌, ℕ, Bool, true, false, IsTrue, cond, ◌+◌, ◌%◌, ◌==◌, ◌||◌, ◌≤◌, ◌<◌, ◌^◌, nat_le}
+use Rattle.std.proofs.Common.{◌⊎◌, inl, inr, Option, Some, None, List, [], ◌∷◌, ◌++◌, length, take, drop, sym, refl}
+use Rattle.std.proofs.Common.{ap, ◌∙◌, subst, arith}
+use Rattle.std.proofs.lemmas.Bool.{false≢true, ne_eqb}
+use Rattle.std.proofs.lemmas.Bool.Decides.{eqb_tells}
+use Rattle.std.proofs.lemmas.List.{length-drop}
+use Rattle.std.proofs.lemmas.Option.{none-some, same_Some}
+use Rattle.std.specs.Option.{option_map}
+use Rattle.windows.specs.Writes.{piece}
+use Rattle.heap_words.specs.Words.{word, word_at}
+use Rattle.heap_words.proofs.Words.{read_back}
+use Rattle.block_store.specs.declared.flags.Flags.{Flags}
+use Rattle.block_store.specs.Block.{Block, Free, Fixed, Masters, Relocatable, size, sizes, is_relocatable}
+use Rattle.block_store.specs.Room.{Spot, spot, raised}
+use Rattle.block_store.specs.Slot.{Slot, NoSlot, Unused, Used, is_used, is_resource}
+use Rattle.zone_bytes.specs.Layout.{flag_word, head_of, Tile, Tiles, IsSlot, names, Leads, Apart, Each}
+use Rattle.zone_bytes.specs.Looking.{place_of_word}
+use Rattle.zone_bytes.specs.Table.{Has, emptied_word, Says, Lays}
+use Rattle.zone_bytes.proofs.Places.Stepped.{word-at}
+use Rattle.zone_bytes.proofs.Runs.Packed.{span-whole}
+use Rattle.zone_bytes.proofs.SlotTable.Tables.{slot-in, apart-other}
+use Rattle.zone_bytes.proofs.Tiles.Decoding.{says, flag_word-small}
+use Rattle.zone_bytes.proofs.Tiles.Spelling.{resource-bit}
+use Rattle.zone_bytes.proofs.Tiles.Tiling.{tiles-split}
+
+pub used-is : (st : Slot) → IsTrue (is_used st) → (r : Bool) × (st ≡ Used r)
+used-is NoSlot u = absurd (false≢true u)
+used-is Unused u = absurd (false≢true u)
+used-is (Used r) u = (r, refl)
+
+-- the handle of s is emptied
+pub record IsEmptied (xs : List ℕ) (blocks : List Block) (s : ℕ) (r : Bool) : Type 0 where
+  pub apart : Each (Apart s) (names blocks)
+  pub leads : piece s 4 xs ≡ word (emptied_word r)
+
+-- the slot s leads to its block, one of blocks from o on
+pub record HasBlock (xs : List ℕ) (o : ℕ) (blocks : List Block) (s : ℕ) : Type 0 where
+  pub below : List Block
+  pub flags : Flags
+  pub content : List ℕ
+  pub above : List Block
+  pub whole : blocks ≡ below ++ Relocatable s flags content ∷ above
+  pub found : spot (is_relocatable s) blocks ≡ Some
+      (record { below = below; here = Relocatable s flags content; above = above })
+  pub leads : piece s 4 xs ≡ word (o + sizes below)
+
+-- the same, seen with one block more at the bottom
+behind : (xs : List ℕ) (o : ℕ) (b : Block) (blocks : List Block) (s : ℕ) → is_relocatable s b ≡ false
+    → HasBlock xs (o + size b) blocks s → HasBlock xs o (b ∷ blocks) s
+behind xs o b blocks s e k = record {
+  below = b ∷ k.below;
+  flags = k.flags;
+  content = k.content;
+  above = k.above;
+  whole = ap (λ l. b ∷ l) k.whole;
+  found = ap (λ v. cond v (Some (record { below = []; here = b; above = blocks }))
+      (option_map (raised b) (spot (is_relocatable s) blocks))) e ∙ ap (option_map (raised b)) k.found;
+  leads = k.leads ∙ ap word (let z : o + size b + sizes k.below ≡ o + (size b + sizes k.below) = omega arith in z);
+}
+
+pub has-block : (xs : List ℕ) (o : ℕ) (blocks : List Block) (s : ℕ) → Leads o blocks xs → Has (names blocks) s
+    → HasBlock xs o blocks s
+has-block xs o [] s l h = absurd h
+has-block xs o (Free n ∷ blocks) s l h = behind xs o (Free n) blocks s refl (has-block xs (o + n) blocks s l.1 h)
+has-block xs o (Fixed id content ∷ blocks) s l h =
+    behind xs o (Fixed id content) blocks s refl (has-block xs (o + size (Fixed id content)) blocks s l.1 h)
+has-block xs o (Masters ∷ blocks) s l h = behind xs o Masters blocks s refl (has-block xs (o + 272) blocks s l.1 h)
+has-block xs o (Relocatable id flags content ∷ blocks) s l h = elim (eqb_tells id s) [
+  | inl t ↦ subst (λ k. HasBlock xs o (Relocatable k flags content ∷ blocks) s) (sym t.1) (record {
+    below = [];
+    flags = flags;
+    content = content;
+    above = blocks;
+    whole = refl;
+    found = ap (λ v. cond v (Some (record { below = []; here = Relocatable s flags content; above = blocks }))
+        (option_map (raised (Relocatable s flags content)) (spot (is_relocatable s) blocks))) (self s);
+    leads = ap (λ k. piece k 4 xs) (sym t.1) ∙ l.0 ∙ ap word (let z : o ≡ o + 0 = omega arith in z);
+  })
+  | inr t ↦ behind xs o (Relocatable id flags content) blocks s t.0
+      (has-block xs (o + size (Relocatable id flags content)) blocks s l.1
+      (elim h [ inl e ↦ absurd (t.1 e) | inr k ↦ k ]))
+]
+  where
+    self : (s : ℕ) → (s == s) ≡ true
+    self s = elim (eqb_tells s s) [ inl t ↦ t.0 | inr t ↦ absurd (t.1 refl) ]
+
+-- no block has a name that is apart from all names
+no-spot : (s : ℕ) (blocks : List Block) → Each (Apart s) (names blocks) → spot (is_relocatable s) blocks ≡ None
+no-spot s [] a = refl
+no-spot s (Free n ∷ blocks) a = ap (option_map (raised (Free n))) (no-spot s blocks a)
+no-spot s (Fixed id content ∷ blocks) a = ap (option_map (raised (Fixed id content))) (no-spot s blocks a)
+no-spot s (Masters ∷ blocks) a = ap (option_map (raised Masters)) (no-spot s blocks a)
+no-spot s (Relocatable id flags content ∷ blocks) a = elim (eqb_tells id s) [
+  | inl t ↦ absurd (apart-other s id a.0 (sym t.1))
+  | inr t ↦ ap (λ v. cond v (Some (record { below = []; here = Relocatable id flags content; above = blocks }))
+      (option_map (raised (Relocatable id flags content)) (spot (is_relocatable s) blocks))) t.0
+      ∙ ap (option_map (raised (Relocatable id flags content))) (no-spot s blocks a.1)
+]
+
+-- the words of slots
+word-emptied : (r : Bool) → place_of_word (emptied_word r) ≡ None
+word-emptied true = refl
+word-emptied false = refl
+
+pub emptied-small : (r : Bool) → emptied_word r < 2 ^ 32
+emptied-small true = omega arith
+emptied-small false = omega arith
+
+emptied-tells : (r : Bool) → (emptied_word r == 18) ≡ r
+emptied-tells true = refl
+emptied-tells false = refl
+
+word-place : (w : ℕ) → w % 16 ≡ 0 → place_of_word w ≡ Some w
+word-place w e =
+    let a : (w == 2) ≡ false = ne_eqb w 2 (λ z. omega (arith, e, z)) in
+    let b : (w == 18) ≡ false = ne_eqb w 18 (λ z. omega (arith, e, z)) in
+    (λ i. cond (a i || b i) None (Some w))
+
+-- a block and its place
+pub record BlockHere (xs : List ℕ) (blocks : List Block) (resource : ℕ → Bool) (s place : ℕ) : Type 0 where
+  pub block : HasBlock xs 0 blocks s
+  pub low : sizes block.below ≡ place
+  pub even : place % 16 ≡ 0
+  pub tile : Tile (head_of resource (Relocatable s block.flags block.content))
+      (size (Relocatable s block.flags block.content)) (drop place xs)
+  pub fits : place + 16 ≤ length xs
+  pub flags_are : word_at (place + 12) xs ≡ flag_word block.flags (resource s)
+
+module _ (xs : List ℕ) (blocks : List Block) (slots : ℕ → Slot) (unused : List ℕ)
+    (h : Lays xs blocks slots unused) where
+  abbrev resource : ℕ → Bool
+  resource = λ t. is_resource (slots t)
+
+  pub block-here : (s : ℕ) (b : HasBlock xs 0 blocks s) → BlockHere xs blocks resource s (sizes b.below)
+  unfolding head_of
+  block-here s b =
+      let here : Block = Relocatable s b.flags b.content in
+      let z = size here in
+      let place = sizes b.below in
+      let t = tiles-split (head_of resource) xs b.below (here ∷ b.above)
+      (subst (Tiles (head_of resource) xs) b.whole h.lies.tiles) in
+      let w = span-whole (head_of resource) (take place xs) b.below t.0 in
+      let q = says z (z + 3) (length b.content) s (flag_word b.flags (resource s)) b.content (drop place xs) t.1.0 in
+      let g = flag_word-small b.flags (resource s) in
+      let f = t.1.0.fits in
+      let m = t.1.0.some in
+      let d = length-drop place xs in
+      record {
+        block = b;
+        low = refl;
+        even = w;
+        tile = t.1.0;
+        fits = omega (arith, f, m, d);
+        flags_are = read_back (place + 12) (flag_word b.flags (resource s)) xs (omega (arith, g))
+            (word-at place 12 xs ∙ q.2);
+      }
+
+  module _ (s : ℕ) (used : IsTrue (is_used (slots s))) where
+    pub flag : (r : Bool) × (slots s ≡ Used r)
+    flag = used-is (slots s) used
+
+    told : Says blocks xs unused s (Used flag.0)
+    told = subst (Says blocks xs unused s) flag.1 (h.says s)
+
+    pub handle-slot : IsSlot s blocks
+    handle-slot = told.0
+
+    pub handle-in : (s % 4 ≡ 0) × (s + 4 ≤ length xs)
+    handle-in = slot-in xs blocks slots unused h s told.0
+
+    state : IsEmptied xs blocks s flag.0 ⊎ HasBlock xs 0 blocks s
+    state = elim told.1 [
+      | inl k ↦ inr (has-block xs 0 blocks s h.lies.leads k)
+      | inr k ↦ inl (record { apart = k.0; leads = k.1 })
+    ]
+
+    emptied-reads : IsEmptied xs blocks s flag.0 → word_at s xs ≡ emptied_word flag.0
+    emptied-reads e = read_back s (emptied_word flag.0) xs (emptied-small flag.0) e.leads
+
+    block-reads : (b : HasBlock xs 0 blocks s) → word_at s xs ≡ sizes b.below
+    block-reads b =
+        let z : 0 + sizes b.below ≡ sizes b.below = omega arith in
+        let f = (block-here s b).fits in
+        let m = h.small in
+        read_back s (sizes b.below) xs (omega (arith, f, m)) (b.leads ∙ ap word z)
+
+    emptied-word : IsEmptied xs blocks s flag.0 → place_of_word (word_at s xs) ≡ None
+    emptied-word e = ap place_of_word (emptied-reads e) ∙ word-emptied flag.0
+
+    block-word : (b : HasBlock xs 0 blocks s) → place_of_word (word_at s xs) ≡ Some (sizes b.below)
+    block-word b = ap place_of_word (block-reads b) ∙ word-place (sizes b.below) (block-here s b).even
+
+    -- the slot's word is the place of its block
+    pub leads-is : place_of_word (word_at s xs) ≡ option_map (λ (q : Spot). sizes q.below)
+        (spot (is_relocatable s) blocks)
+    leads-is = elim state [
+      | inl e ↦ emptied-word e ∙ sym (ap (option_map (λ (q : Spot). sizes q.below)) (no-spot s blocks e.apart))
+      | inr b ↦ block-word b ∙ sym (ap (option_map (λ (q : Spot). sizes q.below)) b.found)
+    ]
+
+    pub here-of : (place : ℕ) → place_of_word (word_at s xs) ≡ Some place → BlockHere xs blocks resource s place
+    here-of place w = elim state [
+      | inl e ↦ absurd (none-some place (sym (emptied-word e) ∙ w))
+      | inr b ↦ subst (BlockHere xs blocks resource s) (same_Some (sizes b.below) place (sym (block-word b) ∙ w))
+          (block-here s b)
+    ]
+
+    pub gone-of : place_of_word (word_at s xs) ≡ None → IsEmptied xs blocks s flag.0
+    gone-of w = elim state [
+      | inl e ↦ e
+      | inr b ↦ absurd (none-some (sizes b.below) (sym w ∙ block-word b))
+    ]
+
+    flag-is : is_resource (slots s) ≡ flag.0
+    flag-is = ap is_resource flag.1
+
+    -- the resource flag, in the header and in the word of an emptied handle
+    pub resource-here : (place : ℕ) → place_of_word (word_at s xs) ≡ Some place
+        → nat_le 32 (word_at (place + 12) xs % 64) ≡ is_resource (slots s)
+    resource-here place w = let b = here-of place w in ap (λ n. nat_le 32 (n % 64)) b.flags_are
+        ∙ resource-bit b.block.flags (resource s)
+
+    pub resource-gone : place_of_word (word_at s xs) ≡ None → (word_at s xs == 18) ≡ is_resource (slots s)
+    resource-gone w = ap (λ n. n == 18) (emptied-reads (gone-of w)) ∙ emptied-tells flag.0 ∙ sym flag-is
+
+-- a slot's word, and where it leads, as they were read
+pub leads-read : (xs : List ℕ) (s w : ℕ) (place : Option ℕ) → w ≡ word_at s xs → place ≡ place_of_word w
+    → place_of_word (word_at s xs) ≡ place
+leads-read xs s w place e f = ap place_of_word (sym e) ∙ sym f

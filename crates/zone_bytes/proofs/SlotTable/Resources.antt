@@ -1,0 +1,251 @@
+-- A handle's resource flag is set or cleared.
+use Rattle.std.proofs.Common.{◌≡◌, ℕ, Bool, true, false, cond, ◌+◌, ◌-◌, ◌*◌, ◌/◌, ◌≤◌, inl, inr, List, [], ◌∷◌}
+use Rattle.std.proofs.Common.{◌++◌, length, take, drop, sym, refl, ap, ◌∙◌, subst, arith}
+use Rattle.std.proofs.lemmas.Bool.{cases_eq}
+use Rattle.std.proofs.lemmas.List.{length-drop, length-take-le, drop-drop}
+use Rattle.windows.specs.Writes.{written, piece}
+use Rattle.windows.proofs.Pieces.{piece-written, drop-written_below}
+use Rattle.heap_words.specs.Words.{word, header}
+use Rattle.heap_words.proofs.Words.{length-word}
+use Rattle.block_store.specs.declared.flags.Flags.{Flags}
+use Rattle.block_store.specs.Block.{Block, Relocatable, size, sizes}
+use Rattle.block_store.specs.Slot.{Slot, NoSlot, Unused, Used, set_slot, is_resource}
+use Rattle.zone_bytes.specs.Layout.{flag_word, head_of, Tile, Tiles, IsSlot, names, Apart, Each, Pairs, Leads}
+use Rattle.zone_bytes.specs.Settling.{Lies}
+use Rattle.zone_bytes.specs.Splicing.{Splice, SameOutside, IsSplice}
+use Rattle.zone_bytes.specs.Table.{Has, Says, IsUsed, Lays, emptied_word}
+use Rattle.zone_bytes.proofs.Blocks.Carves.{clear, outside}
+use Rattle.zone_bytes.proofs.Blocks.InPlace.{no-slots}
+use Rattle.zone_bytes.proofs.Blocks.Marked.{tile-flagged}
+use Rattle.zone_bytes.proofs.SlotTable.Handles.{BlockHere}
+use Rattle.zone_bytes.proofs.SlotTable.Tables.{tiles-agree, set-other, set-same, apart-of, slot-in, apart-other}
+use Rattle.zone_bytes.proofs.SlotTable.Tables.{chain-written, lays-written}
+use Rattle.zone_bytes.proofs.Tiles.Keeping.{chain-kept}
+use Rattle.zone_bytes.proofs.Tiles.Leading.{each-map, names-append, pairs-before, pairs-after}
+use Rattle.zone_bytes.proofs.Tiles.Replaced.{zone, is-splice}
+use Rattle.zone_bytes.proofs.Tiles.Splices.{outside-same, outside-written, piece-outside, leads-splice, tiles-joined}
+use Rattle.zone_bytes.proofs.Tiles.Tiling.{tiles-one, tile-take, tiles-split}
+
+-- the flags of a header with another resource flag
+pub flags-set : (flags : Flags) (was r : Bool) → flag_word flags was / 64 * 64 + cond {A = ℕ} r 32 0 ≡ flag_word flags r
+flags-set flags was r = ap (λ n. n + cond {A = ℕ} r 32 0) (others flags.locked flags.purgeable was)
+  where
+    others : (l p r : Bool)
+        → (cond {A = ℕ} l 128 0 + cond {A = ℕ} p 64 0 + cond {A = ℕ} r 32 0) / 64 * 64 ≡ cond {A = ℕ} l 128 0 + cond
+        {A = ℕ} p 64 0
+    others true true true = refl
+    others true true false = refl
+    others true false true = refl
+    others true false false = refl
+    others false true true = refl
+    others false true false = refl
+    others false false true = refl
+    others false false false = refl
+
+used-no-unused : (r : Bool) → Used r ≡ Unused → ⊥
+used-no-unused r e = cc
+
+module _ (xs : List ℕ) (blocks : List Block) (slots : ℕ → Slot) (unused : List ℕ) (h : Lays xs blocks slots unused)
+    (s : ℕ) (was r : Bool) (u : slots s ≡ Used was) where
+  abbrev now : ℕ → Slot
+  now = set_slot slots s (Used r)
+
+  is-slot : IsSlot s blocks
+  is-slot = (subst (Says blocks xs unused s) u (h.says s)).0
+
+  -- an unused slot is another, and stays unused
+  unused-still : (t : ℕ) → slots t ≡ Unused → now t ≡ Unused
+  unused-still t e = set-other slots s t (Used r) (λ k. used-no-unused was (sym u ∙ ap slots (sym k) ∙ e)) ∙ e
+
+  still-unused : Each (λ t. IsSlot t blocks × (now t ≡ Unused)) unused
+  still-unused = each-map (λ t. IsSlot t blocks × (slots t ≡ Unused)) (λ t. IsSlot t blocks × (now t ≡ Unused))
+      (λ t q. (q.0, unused-still t q.1)) unused h.unused_slots
+
+  apart-unused : Each (Apart s) unused
+  apart-unused = each-map (λ t. IsSlot t blocks × (slots t ≡ Unused)) (Apart s)
+      (λ t q. apart-of xs blocks slots unused h s t is-slot q.0 (λ e. used-no-unused was (sym u ∙ ap slots e ∙ q.1)))
+      unused h.unused_slots
+
+  -- the flag in the word of an emptied handle
+  pub lays-emptied : Each (Apart s) (names blocks) → Lays (written s (word (emptied_word r)) xs) blocks now unused
+  lays-emptied a =
+      let n = emptied_word r in
+      let b = slot-in xs blocks slots unused h s is-slot in
+      let w = length-word n in
+      lays-written xs blocks slots unused h s n (Used r) unused is-slot a (λ t d e k. k)
+      (is-slot, inr (a, piece-written s (word n) xs 4 (sym w) (omega (arith, b))))
+      (chain-written xs blocks slots unused h s n unused (omega (arith, b)) apart-unused h.chain)
+      still-unused h.once
+
+  -- the flag in a header
+  module _ (new : List ℕ) (lies : Lies (λ t. is_resource (now t)) blocks new) (mine : Has (names blocks) s)
+      (same : (t : ℕ) → IsSlot t blocks → piece t 4 new ≡ piece t 4 xs) (l : length new ≡ length xs) where
+    says-still : (t : ℕ) (st : Slot) → Says blocks xs unused t st → Says blocks new unused t st
+    says-still t NoSlot q = q
+    says-still t Unused q = q
+    says-still t (Used p) q = (q.0, elim q.1 [ inl k ↦ inl k | inr k ↦ inr (k.0, same t q.0 ∙ k.1) ])
+
+    used-still : (t : ℕ) → IsUsed (slots t) → IsUsed (now t)
+    used-still t k = elim (cases_eq t s) [
+      | inl e ↦ subst IsUsed (sym (set-same slots s t (Used r) e)) tt
+      | inr d ↦ subst IsUsed (sym (set-other slots s t (Used r) d)) k
+    ]
+
+    pub lays-flagged : Lays new blocks now unused
+    lays-flagged = record {
+      lies = lies;
+      has_slots = h.has_slots;
+      placed = h.placed;
+      small = (let m = h.small in omega (arith, l, m));
+      used = each-map (λ t. IsUsed (slots t)) (λ t. IsUsed (now t)) used-still (names blocks) h.used;
+      says = λ t. elim (cases_eq t s) [
+        | inl e ↦ subst (λ k. Says blocks new unused k (now k)) (sym e)
+            (subst (Says blocks new unused s) (sym (set-same slots s s (Used r) refl)) (is-slot, inl mine))
+        | inr d ↦ subst (Says blocks new unused t) (sym (set-other slots s t (Used r) d))
+            (says-still t (slots t) (h.says t))
+      ];
+      chain = chain-kept xs new unused
+          (each-map (λ t. IsSlot t blocks × (slots t ≡ Unused)) (λ t. piece t 4 new ≡ piece t 4 xs)
+          (λ t q. same t q.0) unused h.unused_slots) h.chain;
+      unused_slots = still-unused;
+      once = h.once;
+    }
+
+has-named : (s : ℕ) (below : List Block) (b : Block) (above : List Block) → Has (names (b ∷ above)) s
+    → Has (names (below ++ b ∷ above)) s
+has-named s below b above k = subst (λ l. Has l s) (sym (names-append below (b ∷ above))) (has-behind (names below) k)
+  where
+    has-behind : (ns : List ℕ) → Has (names (b ∷ above)) s → Has (ns ++ names (b ∷ above)) s
+    has-behind [] k = k
+    has-behind (n ∷ ns) k = inr (has-behind ns k)
+
+module _ (xs : List ℕ) (below : List Block) (s : ℕ) (flags : Flags) (content : List ℕ) (above : List Block)
+    (slots : ℕ → Slot) (unused : List ℕ) (was r : Bool) (u : slots s ≡ Used was) where
+  abbrev here : Block
+  here = Relocatable s flags content
+
+  abbrev all : List Block
+  all = below ++ (here ∷ [] ++ above)
+
+  abbrev place : ℕ
+  place = sizes below
+
+  abbrev top : ℕ
+  top = place + size here
+
+  abbrev marked : ℕ → Slot
+  marked = set_slot slots s (Used r)
+
+  abbrev old-head : Block → List ℕ
+  old-head = head_of (λ t. is_resource (slots t))
+
+  abbrev head : Block → List ℕ
+  head = head_of (λ t. is_resource (marked t))
+
+  abbrev new : List ℕ
+  new = written (place + 12) (word (flag_word flags r)) xs
+
+  module _ (h : Lays xs all slots unused) where
+    -- the resource flags of the other blocks stay
+    agree : (ns : List ℕ) → Each (Apart s) ns → Each (λ t. is_resource (slots t) ≡ is_resource (marked t)) ns
+    agree ns a = each-map (Apart s) (λ t. is_resource (slots t) ≡ is_resource (marked t))
+        (λ t p. sym (ap is_resource (set-other slots s t (Used r) (λ e. apart-other s t p (sym e))))) ns a
+
+    apart-all : Pairs Apart (names below ++ s ∷ names above)
+    apart-all = subst (Pairs Apart) (names-append below (here ∷ above)) h.has_slots.apart
+
+    parts : Tiles old-head (take place xs) below × Tiles old-head (drop place xs) (here ∷ above)
+    parts = tiles-split old-head xs below (here ∷ above) h.lies.tiles
+
+    fits : top ≤ length xs
+    fits = let f = parts.1.0.fits in let d = length-drop place xs in let m = parts.1.0.some in omega (arith, f, d, m)
+
+    same : SameOutside place top xs new
+    same =
+        let l = length-word (flag_word flags r) in
+        let m = parts.1.0.some in
+        let f = fits in
+        outside-written place top xs xs (place + 12) (word (flag_word flags r)) (omega arith) (omega (arith, l, m))
+        (outside-same place top xs (omega arith) f)
+
+    tile-now : Tile (head here) (size here) (drop place new)
+    unfolding head_of
+    tile-now =
+        let z = size here in
+        let m = parts.1.0.some in
+        let f = fits in
+        let up : drop place new ≡ written 12 (word (flag_word flags r)) (drop place xs) =
+        drop-written_below (place + 12) (word (flag_word flags r)) xs place (omega arith) (omega (arith, f, m))
+        ∙ (let v : place + 12 - place ≡ 12 = omega arith in
+        ap (λ j. written j (word (flag_word flags r)) (drop place xs)) v) in
+        let t = tile-flagged (z + 3) (length content) s (flag_word flags (is_resource (slots s)))
+        (flag_word flags r) z content (drop place xs) parts.1.0 in
+        let e : is_resource (marked s) ≡ r = ap is_resource (set-same slots s s (Used r) refl) in
+        subst (λ q. Tile (header (z + 3) (length content) s (flag_word flags q) ++ content) z (drop place new)) (sym e)
+        (subst (λ ys. Tile (header (z + 3) (length content) s (flag_word flags r) ++ content) z ys) (sym up) t)
+
+    one : Tiles head (piece place (top - place) new) (here ∷ [])
+    one =
+        let t = tile-now in
+        let f = t.fits in
+        let l : top - place ≡ size here = omega arith in
+        let k = length-take-le (size here) (drop place new) f in
+        subst (λ j. Tiles head (take j (drop place new)) (here ∷ [])) (sym l)
+        (tiles-one head here (take (size here) (drop place new)) k
+        (tile-take head (head here) (size here) (size here) (drop place new) (omega arith) f t))
+
+    tiles : Tiles head new all
+    tiles =
+        let o = same in
+        let low : Tiles head (take place new) below =
+        subst (λ k. Tiles head k below) (sym o.low)
+        (tiles-agree (λ t. is_resource (slots t)) (λ t. is_resource (marked t)) (take place xs) below
+        (agree (names below) (pairs-before s (names below) (names above) apart-all)) parts.0) in
+        let high : Tiles head (drop top new) above =
+        subst (λ k. Tiles head k above) (drop-drop (size here) place xs ∙ sym o.high)
+        (tiles-agree (λ t. is_resource (slots t)) (λ t. is_resource (marked t))
+        (drop (size here) (drop place xs)) above
+        (agree (names above) (pairs-after s (names below) (names above) apart-all)) parts.1.1) in
+        tiles-joined head new below (here ∷ []) above place top (omega arith) low one high
+
+    module _ (leads-s : piece s 4 xs ≡ word place) where
+      abbrev z : Splice
+      z = zone xs below (here ∷ []) above slots unused h place top refl (omega arith)
+          (let m = parts.1.0.some in omega (arith, m)) (no-slots here refl)
+
+      st : IsSplice z place top xs
+      st = is-splice xs below (here ∷ []) above slots unused h place top refl (omega arith)
+          (let m = parts.1.0.some in omega (arith, m)) (no-slots here refl)
+
+      pieces : (t : ℕ) → IsSlot t all → piece t 4 new ≡ piece t 4 xs
+      pieces t i = piece-outside place top xs new t same (outside z place top xs st t i)
+
+      mine : Has (names all) s
+      mine = has-named s below here above (inl refl)
+
+      slot-all : IsSlot s all
+      slot-all = (subst (Says all xs unused s) u (h.says s)).0
+
+      leads : Leads 0 all new
+      leads =
+          let c = clear z place top xs st in
+          leads-splice xs new below (here ∷ []) above (here ∷ []) place top refl
+          (omega arith) refl h.lies.leads same c.0 c.1 (pieces s slot-all ∙ leads-s, tt)
+
+      pub header-marked : Lays new all marked unused
+      header-marked = lays-flagged xs all slots unused h s was r u new
+          (record { tiles = tiles; leads = leads }) mine pieces same.kept
+
+-- the header of a handle's block with another resource flag
+pub lays-marked : (xs : List ℕ) (blocks : List Block) (slots : ℕ → Slot) (unused : List ℕ)
+    → Lays xs blocks slots unused → (s : ℕ) (was r : Bool) → slots s ≡ Used was
+    → (place : ℕ) (b : BlockHere xs blocks (λ t. is_resource (slots t)) s place)
+    → Lays (written (place + 12) (word (flag_word b.block.flags r)) xs) blocks (set_slot slots s (Used r)) unused
+lays-marked xs blocks slots unused h s was r u place b =
+    let k = b.block in
+    let q : 0 + sizes k.below ≡ sizes k.below = omega arith in
+    let n = word (flag_word k.flags r) in
+    subst (λ p. Lays (written (p + 12) n xs) blocks (set_slot slots s (Used r)) unused) b.low
+    (subst (λ l. Lays (written (sizes k.below + 12) n xs) l (set_slot slots s (Used r)) unused) (sym k.whole)
+    (header-marked xs k.below s k.flags k.content k.above slots unused was r u
+    (subst (λ l. Lays xs l slots unused) k.whole h) (k.leads ∙ ap word q)))

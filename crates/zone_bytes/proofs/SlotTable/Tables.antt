@@ -1,0 +1,175 @@
+-- A slot's word is written.
+use Rattle.std.proofs.Common.{◌≡◌, ℕ, Bool, cond, ◌+◌, ◌%◌, ◌≤◌, inl, inr, List, [], ◌∷◌, ◌++◌, length, drop, sym}
+use Rattle.std.proofs.Common.{refl, ap, ◌∙◌, subst, arith}
+use Rattle.std.proofs.lemmas.Bool.{cases_lt, cases_eq}
+use Rattle.std.proofs.lemmas.Bool.Decides.{eqb_tells}
+use Rattle.windows.specs.Writes.{written}
+use Rattle.heap_words.specs.Words.{word, header}
+use Rattle.heap_words.proofs.Words.{length-word}
+use Rattle.windows.proofs.Pieces.{length-written}
+use Rattle.block_store.specs.Block.{Block, Free, Fixed, Masters, Relocatable, size}
+use Rattle.block_store.specs.Slot.{Slot, NoSlot, Unused, Used, set_slot, is_resource}
+use Rattle.zone_bytes.specs.Layout.{head_of, flag_word, Tile, Tiles, IsSlot, names, names_of, Apart, Each, Pairs}
+use Rattle.zone_bytes.specs.Settling.{Lies}
+use Rattle.zone_bytes.specs.Table.{Has, Chain, Says, IsUsed, Lays}
+use Rattle.zone_bytes.proofs.Tiles.Tiling.{length-tiles, slot-inside, tiles-slot}
+use Rattle.zone_bytes.proofs.Tiles.Leading.{Clear, piece-clear, each-map, each-left, each-right, leads-written}
+use Rattle.zone_bytes.proofs.Runs.Packed.{length-masters, slot-even}
+
+pub each-both : {A : Type 0} (P Q R : A → Type 0) → ((x : A) → P x → Q x → R x) → (xs : List A) → Each P xs
+    → Each Q xs → Each R xs
+each-both P Q R f [] h k = tt
+each-both P Q R f (x ∷ xs) h k = (f x h.0 k.0, each-both P Q R f xs h.1 k.1)
+
+-- one of a list
+pub each-has : (P : ℕ → Type 0) (xs : List ℕ) (s : ℕ) → Each P xs → Has xs s → P s
+each-has P [] s h k = absurd k
+each-has P (x ∷ xs) s h (inl e) = subst P e h.0
+each-has P (x ∷ xs) s h (inr k) = each-has P xs s h.1 k
+
+-- what is apart is another
+pub apart-other : (s t : ℕ) → Apart s t → s ≡ t → ⊥
+apart-other s t (inl h) e = omega (arith, h, e)
+apart-other s t (inr h) e = omega (arith, h, e)
+
+-- a slot's word is clear of another's
+pub apart-clear : (s n t : ℕ) → Apart s t → Clear s (length (word n)) t
+apart-clear s n t (inl h) = inr (let w = length-word n in omega (arith, w, h))
+apart-clear s n t (inr h) = inl h
+
+-- resource flags that agree at the blocks' slots
+head-agree : (f g : ℕ → Bool) (b : Block) → Each (λ s. f s ≡ g s) (names_of b) → head_of f b ≡ head_of g b
+unfolding head_of
+head-agree f g (Free n) e = refl
+head-agree f g (Fixed id content) e = refl
+head-agree f g Masters e = refl
+head-agree f g (Relocatable slot flags content) e = ap
+    (λ r. header (size (Relocatable slot flags content) + 3) (length content) slot (flag_word flags r) ++ content) e.0
+
+pub tiles-agree : (f g : ℕ → Bool) (xs : List ℕ) (blocks : List Block) → Each (λ s. f s ≡ g s) (names blocks)
+    → Tiles (head_of f) xs blocks → Tiles (head_of g) xs blocks
+tiles-agree f g xs [] e t = t
+tiles-agree f g xs (b ∷ blocks) e t = (
+  subst (λ h. Tile h (size b) xs) (head-agree f g b (each-left (λ s. f s ≡ g s) (names_of b) (names blocks) e)) t.0,
+  tiles-agree f g (drop (size b) xs) blocks (each-right (λ s. f s ≡ g s) (names_of b) (names blocks) e) t.1,
+)
+
+pub lies-agree : (f g : ℕ → Bool) (xs : List ℕ) (blocks : List Block) → Each (λ s. f s ≡ g s) (names blocks)
+    → Lies f blocks xs → Lies g blocks xs
+lies-agree f g xs blocks e l = record { tiles = tiles-agree f g xs blocks e l.tiles; leads = l.leads }
+
+-- the state of another slot
+pub set-other : (slots : ℕ → Slot) (s t : ℕ) (state : Slot) → (t ≡ s → ⊥) → set_slot slots s state t ≡ slots t
+set-other slots s t state h = elim (eqb_tells t s) [
+  | inl e ↦ absurd (h e.1)
+  | inr e ↦ ap (λ v. cond v state (slots t)) e.0
+]
+
+pub set-same : (slots : ℕ → Slot) (s t : ℕ) (state : Slot) → t ≡ s → set_slot slots s state t ≡ state
+set-same slots s t state h = elim (eqb_tells t s) [
+  | inl e ↦ ap (λ v. cond v state (slots t)) e.0
+  | inr e ↦ absurd (e.1 h)
+]
+
+module _ (xs : List ℕ) (blocks : List Block) (slots : ℕ → Slot) (unused : List ℕ)
+    (h : Lays xs blocks slots unused) where
+  abbrev head : Block → List ℕ
+  head = head_of (λ s. is_resource (slots s))
+
+  -- two slots are apart
+  pub apart-of : (s t : ℕ) → IsSlot s blocks → IsSlot t blocks → (s ≡ t → ⊥) → Apart s t
+  apart-of s t i j n =
+      let a = slot-even head xs s blocks h.lies.tiles i in
+      let b = slot-even head xs t blocks h.lies.tiles j in
+      elim (cases_lt s t) [
+        | inl l ↦ inl (omega (arith, a, b, l))
+        | inr l ↦ elim (cases_lt t s) [
+          | inl k ↦ inr (omega (arith, a, b, k))
+          | inr k ↦ absurd (n (omega (arith, k, l)))
+        ]
+      ]
+
+  pub slot-in : (s : ℕ) → IsSlot s blocks → (s % 4 ≡ 0) × (s + 4 ≤ length xs)
+  slot-in s i =
+      let a = slot-even head xs s blocks h.lies.tiles i in
+      let b = slot-inside s blocks i in
+      let l = length-tiles head xs blocks h.lies.tiles in
+      (a, omega (arith, b, l))
+
+  -- a slot that leads to no handle is not that of a block
+  pub unused-apart : (s : ℕ) → IsSlot s blocks → slots s ≡ Unused → Each (Apart s) (names blocks)
+  unused-apart s i u =
+      each-both (λ t. IsSlot t blocks) (λ t. IsUsed (slots t)) (Apart s)
+      (λ t j k. apart-of s t i j (λ e. subst IsUsed (sym (ap slots e) ∙ u) k)) (names blocks) h.has_slots.slots h.used
+
+  -- the blocks, where the word of another slot is written
+  pub lies-written : (s n : ℕ) → IsSlot s blocks → Each (Apart s) (names blocks)
+      → Lies (λ t. is_resource (slots t)) blocks (written s (word n) xs)
+  lies-written s n i a =
+      let b = slot-in s i in
+      record {
+        tiles = tiles-slot head (length-masters (λ t. is_resource (slots t))) xs (word n) s blocks
+            (length-word n) i h.lies.tiles;
+        leads = leads-written s (word n) xs 0 blocks (omega (arith, b))
+            (each-map (Apart s) (Clear s (length (word n))) (λ t p. apart-clear s n t p) (names blocks) a) h.lies.leads;
+      }
+
+  pub chain-written : (s n : ℕ) (us : List ℕ) → s ≤ length xs → Each (Apart s) us → Chain xs us
+      → Chain (written s (word n) xs) us
+  chain-written s n [] l a c = tt
+  chain-written s n (u ∷ us) l a c = (
+    piece-clear s (word n) xs u l (apart-clear s n u a.0)
+        ∙ c.0,
+    chain-written s n us l a.1 c.1,
+  )
+
+  -- the same blocks, with another state of a slot that has no block, and its word
+  module _ (s n : ℕ) (state : Slot) (now : List ℕ) (i : IsSlot s blocks) (a : Each (Apart s) (names blocks))
+      (kept : (t : ℕ) → (t ≡ s → ⊥) → slots t ≡ Unused → Has unused t → Has now t)
+      (mine : Says blocks (written s (word n) xs) now s state)
+      (chain : Chain (written s (word n) xs) now)
+      (ok : Each (λ u. IsSlot u blocks × (set_slot slots s state u ≡ Unused)) now) (once : Pairs Apart now) where
+    says-other : (t : ℕ) (st : Slot) → (t ≡ s → ⊥) → slots t ≡ st → Says blocks xs unused t st
+        → Says blocks (written s (word n) xs) now t st
+    says-other t NoSlot d e q = q
+    says-other t Unused d e q = (q.0, kept t d e q.1)
+    says-other t (Used r) d e q = (
+      q.0,
+      elim q.1 [
+        | inl k ↦ inl k
+        | inr k ↦ inr (
+          k.0,
+          (let b = slot-in s i in
+              piece-clear s (word n) xs t (omega (arith, b)) (apart-clear s n t (apart-of s t i q.0 (λ m. d (sym m)))))
+              ∙ k.1,
+        )
+      ],
+    )
+
+    pub lays-written : Lays (written s (word n) xs) blocks (set_slot slots s state) now
+    lays-written =
+        let b = slot-in s i in
+        let w = length-word n in
+        record {
+          lies = lies-agree (λ t. is_resource (slots t)) (λ t. is_resource (set_slot slots s state t))
+              (written s (word n) xs) blocks
+              (each-map (Apart s) (λ t. is_resource (slots t) ≡ is_resource (set_slot slots s state t))
+              (λ t p. sym (ap is_resource (set-other slots s t state (λ e. apart-other s t p (sym e)))))
+              (names blocks) a) (lies-written s n i a);
+          has_slots = h.has_slots;
+          placed = h.placed;
+          small = (let l = length-written s (word n) xs (omega (arith, b, w)) in let k = h.small in
+              omega (arith, l, k));
+          used = each-both (Apart s) (λ t. IsUsed (slots t)) (λ t. IsUsed (set_slot slots s state t))
+              (λ t p u. subst IsUsed (sym (set-other slots s t state (λ e. apart-other s t p (sym e)))) u)
+              (names blocks) a h.used;
+          says = λ t. elim (cases_eq t s) [
+            | inl e ↦ subst (λ k. Says blocks (written s (word n) xs) now k (set_slot slots s state k)) (sym e)
+                (subst (λ st. Says blocks (written s (word n) xs) now s st) (sym (set-same slots s s state refl)) mine)
+            | inr d ↦ subst (λ st. Says blocks (written s (word n) xs) now t st) (sym (set-other slots s t state d))
+                (says-other t (slots t) d refl (h.says t))
+          ];
+          chain = chain;
+          unused_slots = ok;
+          once = once;
+        }

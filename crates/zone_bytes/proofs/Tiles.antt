@@ -1,0 +1,12 @@
+pub mod Tiling
+pub mod Leading
+pub mod Heads
+pub mod Tags
+pub mod Decoding
+pub mod Spelling
+pub mod Zones
+pub mod Keeping
+pub mod Changing
+pub mod Replaced
+pub mod Splices
+pub mod Permuted

@@ -1,0 +1,81 @@
+-- What the words of a block's header say.
+use Rattle.std.proofs.Common.{◌≡◌, ℕ, Bool, ◌+◌, ◌<◌, ◌≤◌, ◌^◌, List, ◌++◌, length, take, drop, sym, refl, ap, ◌∙◌}
+use Rattle.std.proofs.Common.{arith, length-append}
+use Rattle.std.proofs.lemmas.List.{length-drop, drop-drop, drop-take, take-take, take_all}
+use Rattle.windows.specs.Writes.{piece}
+use Rattle.heap_words.specs.Words.{word, word_at, header}
+use Rattle.heap_words.proofs.Words.{length-word, read_back}
+use Rattle.heap_words.proofs.Headers.{length-header}
+use Rattle.block_store.specs.declared.flags.Flags.{Flags}
+use Rattle.block_store.specs.Block.{Block, Free, Fixed, Masters, Relocatable, size}
+use Rattle.zone_bytes.specs.Layout.{kind, flag_word, head_of, Tile}
+
+-- the pieces of what a block begins with
+pub tile-piece : (h : List ℕ) (n : ℕ) (ys : List ℕ) → Tile h n ys → (i k : ℕ) → i + k ≤ length h
+    → piece i k ys ≡ piece i k h
+tile-piece h n ys t i k l =
+    sym (drop-take i k ys) ∙ ap (drop i) (sym (take-take (i + k) (length h) ys l) ∙ ap (take (i + k)) t.begins)
+    ∙ drop-take i k h
+
+pub header-pieces : (a b c d : ℕ) (content : List ℕ) → let h = header a b c d ++ content in
+    (piece 0 4 h ≡ word a) × (piece 4 4 h ≡ word b) × (piece 8 4 h ≡ word c) × (piece 12 4 h ≡ word d) ×
+    (drop 16 h ≡ content)
+unfolding word
+header-pieces a b c d content = (refl, refl, refl, refl, refl)
+
+masters-first : piece 0 4 (header 274 256 0 0) ≡ word (272 + 2)
+unfolding word
+masters-first = refl
+
+pub length-head : (a b c d : ℕ) (content : List ℕ) → length (header a b c d ++ content) ≡ 16 + length content
+length-head a b c d content = omega (arith, length-append (header a b c d) content, length-header a b c d)
+
+pub kind-small : (b : Block) → kind b ≤ 3
+kind-small (Free n) = omega arith
+kind-small (Fixed id content) = omega arith
+kind-small Masters = omega arith
+kind-small (Relocatable slot flags content) = omega arith
+
+module _ (resource : ℕ → Bool) (ys : List ℕ) where
+  pub first-word : (b : Block) → Tile (head_of resource b) (size b) ys → piece 0 4 ys ≡ word (size b + kind b)
+  unfolding head_of
+  first-word (Free n) t =
+      let l = length-word n in
+      let e : n + 0 ≡ n = omega arith in
+      tile-piece (word n) n ys t 0 4 (omega (arith, l)) ∙ take_all 4 (word n) (omega (arith, l)) ∙ sym (ap word e)
+  first-word (Fixed id content) t =
+      let h = length-head (size (Fixed id content) + 1) (length content) 0 0 content in
+      tile-piece (head_of resource (Fixed id content)) (size (Fixed id content)) ys t 0 4 (omega (arith, h))
+      ∙ (header-pieces (size (Fixed id content) + 1) (length content) 0 0 content).0
+  first-word Masters t =
+      tile-piece (head_of resource Masters) 272 ys t 0 4 (omega (arith, length-header 274 256 0 0)) ∙ masters-first
+  first-word (Relocatable slot flags content) t =
+      let n = size (Relocatable slot flags content) in
+      let h = length-head (n + 3) (length content) slot (flag_word flags (resource slot)) content in
+      tile-piece (head_of resource (Relocatable slot flags content)) n ys t 0 4 (omega (arith, h))
+      ∙ (header-pieces (n + 3) (length content) slot (flag_word flags (resource slot)) content).0
+
+  pub slot-word : (slot : ℕ) (flags : Flags) (content : List ℕ)
+      → Tile (head_of resource (Relocatable slot flags content)) (size (Relocatable slot flags content)) ys
+      → piece 8 4 ys ≡ word slot
+  unfolding head_of
+  slot-word slot flags content t =
+      let n = size (Relocatable slot flags content) in
+      let h = length-head (n + 3) (length content) slot (flag_word flags (resource slot)) content in
+      tile-piece (head_of resource (Relocatable slot flags content)) n ys t 8 4 (omega (arith, h))
+      ∙ (header-pieces (n + 3) (length content) slot (flag_word flags (resource slot)) content).2
+
+module _ (resource : ℕ → Bool) (xs : List ℕ) (from : ℕ) (small : length xs ≤ 134217728) where
+  pub first-reads : (b : Block) → Tile (head_of resource b) (size b) (drop from xs) → word_at from xs ≡ size b + kind b
+  first-reads b t =
+      let f = t.fits in
+      let d = length-drop from xs in
+      let k : kind b ≤ 3 = kind-small b in
+      read_back from (size b + kind b) xs (omega (arith, f, d, k, small)) (first-word resource (drop from xs) b t)
+
+  pub slot-reads : (slot : ℕ) (flags : Flags) (content : List ℕ) → slot < 2 ^ 32
+      → Tile (head_of resource (Relocatable slot flags content)) (size (Relocatable slot flags content))
+      (drop from xs) → word_at (from + 8) xs ≡ slot
+  slot-reads slot flags content l t =
+      read_back (from + 8) slot xs l (ap (take 4) (sym (drop-drop 8 from xs))
+      ∙ slot-word resource (drop from xs) slot flags content t)

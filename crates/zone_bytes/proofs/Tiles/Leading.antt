@@ -1,0 +1,82 @@
+-- Slot words that lead to their blocks.
+use Rattle.std.proofs.Common.{◌≡◌, ℕ, ◌+◌, ◌≤◌, ◌⊎◌, inl, inr, List, [], ◌∷◌, ◌++◌, length, sym, refl, ap, ◌∙◌, subst}
+use Rattle.std.proofs.Common.{arith, append_assoc}
+use Rattle.windows.specs.Writes.{written, piece}
+use Rattle.windows.proofs.Pieces.{piece-written_below, piece-written_above}
+use Rattle.block_store.specs.Block.{Block, Free, Fixed, Masters, Relocatable, size, sizes}
+use Rattle.zone_bytes.specs.Layout.{names, names_of, Leads, Apart, Each, Pairs}
+
+module _ {A : Type 0} (P : A → Type 0) where
+  pub each-append : (xs ys : List A) → Each P xs → Each P ys → Each P (xs ++ ys)
+  each-append [] ys h k = k
+  each-append (x ∷ xs) ys h k = (h.0, each-append xs ys h.1 k)
+
+  pub each-left : (xs ys : List A) → Each P (xs ++ ys) → Each P xs
+  each-left [] ys h = tt
+  each-left (x ∷ xs) ys h = (h.0, each-left xs ys h.1)
+
+  pub each-right : (xs ys : List A) → Each P (xs ++ ys) → Each P ys
+  each-right [] ys h = h
+  each-right (x ∷ xs) ys h = each-right xs ys h.1
+
+  pub each-map : (Q : A → Type 0) → ((x : A) → P x → Q x) → (xs : List A) → Each P xs → Each Q xs
+  each-map Q f [] h = tt
+  each-map Q f (x ∷ xs) h = (f x h.0, each-map Q f xs h.1)
+
+-- an element against those before it
+pub pairs-before : (s : ℕ) (xs ys : List ℕ) → Pairs Apart (xs ++ s ∷ ys) → Each (Apart s) xs
+pairs-before s [] ys h = tt
+pairs-before s (x ∷ xs) ys h =
+    let here = each-right (Apart x) xs (s ∷ ys) h.0 in
+    let turn : (a b : ℕ) → Apart a b → Apart b a = λ a b p. elim p [ inl q ↦ inr q | inr q ↦ inl q ] in
+    (turn x s here.0, pairs-before s xs ys h.1)
+
+-- and against those after it
+pub pairs-after : (s : ℕ) (xs ys : List ℕ) → Pairs Apart (xs ++ s ∷ ys) → Each (Apart s) ys
+pairs-after s [] ys h = h.0
+pairs-after s (x ∷ xs) ys h = pairs-after s xs ys h.1
+
+pub names-append : (ls ms : List Block) → names (ls ++ ms) ≡ names ls ++ names ms
+names-append [] ms = refl
+names-append (b ∷ ls) ms = ap (λ q. names_of b ++ q) (names-append ls ms)
+    ∙ sym (append_assoc (names_of b) (names ls) (names ms))
+
+-- the word at s and n bytes from `at` on have no byte in common
+abbrev pub Clear : ℕ → ℕ → ℕ → Type 0
+Clear at n s = (s + 4 ≤ at) ⊎ (at + n ≤ s)
+
+pub piece-clear : (at : ℕ) (ys xs : List ℕ) (s : ℕ) → at ≤ length xs → Clear at (length ys) s
+    → piece s 4 (written at ys xs) ≡ piece s 4 xs
+piece-clear at ys xs s l (inl h) = piece-written_below at ys xs s 4 h l
+piece-clear at ys xs s l (inr h) = piece-written_above at ys xs s 4 h l
+
+module _ (xs : List ℕ) where
+  pub leads-append : (o : ℕ) (ls ms : List Block) → Leads o ls xs → Leads (o + sizes ls) ms xs → Leads o (ls ++ ms) xs
+  leads-append o [] ms h k = let e : o + 0 ≡ o = omega arith in subst (λ j. Leads j ms xs) e k
+  leads-append o (b ∷ ls) ms h k =
+      let e : o + (size b + sizes ls) ≡ o + size b + sizes ls = omega arith in
+      (h.0, leads-append (o + size b) ls ms h.1 (subst (λ j. Leads j ms xs) e k))
+
+  pub leads-left : (o : ℕ) (ls ms : List Block) → Leads o (ls ++ ms) xs → Leads o ls xs
+  leads-left o [] ms h = tt
+  leads-left o (b ∷ ls) ms h = (h.0, leads-left (o + size b) ls ms h.1)
+
+  pub leads-right : (o : ℕ) (ls ms : List Block) → Leads o (ls ++ ms) xs → Leads (o + sizes ls) ms xs
+  leads-right o [] ms h = let e : o ≡ o + 0 = omega arith in subst (λ j. Leads j ms xs) e h
+  leads-right o (b ∷ ls) ms h =
+      let e : o + size b + sizes ls ≡ o + (size b + sizes ls) = omega arith in
+      subst (λ j. Leads j ms xs) e (leads-right (o + size b) ls ms h.1)
+
+-- a write that is clear of the blocks' slots
+pub leads-written : (at : ℕ) (ys xs : List ℕ) (o : ℕ) (blocks : List Block) → at ≤ length xs
+    → Each (Clear at (length ys)) (names blocks) → Leads o blocks xs → Leads o blocks (written at ys xs)
+leads-written at ys xs o [] l c h = tt
+leads-written at ys xs o (Free n ∷ blocks) l c h = (tt, leads-written at ys xs (o + n) blocks l c h.1)
+leads-written at ys xs o (Fixed id content ∷ blocks) l c h =
+    (tt, leads-written at ys xs (o + size (Fixed id content)) blocks l c h.1)
+leads-written at ys xs o (Masters ∷ blocks) l c h = (tt, leads-written at ys xs (o + 272) blocks l c h.1)
+leads-written at ys xs o (Relocatable slot flags content ∷ blocks) l c h = (
+  piece-clear at ys xs slot l c.0
+      ∙ h.0,
+  leads-written at ys xs (o + size (Relocatable slot flags content)) blocks l c.1 h.1,
+)

@@ -1,0 +1,87 @@
+-- A stretch of a zone with other blocks of the same names in its place.
+use Rattle.std.proofs.Common.{◌≡◌, ℕ, ◌+◌, ◌-◌, ◌<◌, inl, inr, List, ◌++◌, sym, ap, ◌∙◌, subst, arith}
+use Rattle.windows.specs.Writes.{piece}
+use Rattle.block_store.specs.Block.{Block, sizes}
+use Rattle.block_store.specs.Slot.{Slot, is_resource}
+use Rattle.zone_bytes.specs.Layout.{head_of, Tiles, IsSlot, names, Leads, Each, ArePlaced}
+use Rattle.zone_bytes.specs.Settling.{Lies}
+use Rattle.zone_bytes.specs.Splicing.{Splice, SameOutside, IsSplice}
+use Rattle.zone_bytes.specs.Table.{Lays}
+use Rattle.zone_bytes.proofs.Tiles.Tiling.{slot-split, slot-append_left, slot-append_right}
+use Rattle.zone_bytes.proofs.Tiles.Leading.{names-append, each-left, each-right}
+use Rattle.zone_bytes.proofs.Tiles.Splices.{piece-outside, tiles-splice, leads-splice}
+use Rattle.zone_bytes.proofs.Blocks.Carves.{clear, outside, slot-kept}
+use Rattle.zone_bytes.proofs.Tiles.Keeping.{lays-kept, placed-append, placed-left, placed-right}
+
+module _ (xs : List ℕ) (below here above : List Block) (slots : ℕ → Slot) (unused : List ℕ)
+    (h : Lays xs (below ++ (here ++ above)) slots unused)
+    (bottom top : ℕ) (low : sizes below ≡ bottom) (high : bottom + sizes here ≡ top) (some : bottom < top)
+    (none : (s : ℕ) → IsSlot s here → ⊥) where
+  abbrev pub zone : Splice
+  zone = record { resource = λ s. is_resource (slots s); below = below; here = here; above = above }
+
+  abbrev all : List Block
+  all = below ++ (here ++ above)
+
+  pub is-splice : IsSplice zone bottom top xs
+  is-splice =
+      let e = subst (Each (λ s. IsSlot s all)) (names-append below (here ++ above)) h.has_slots.slots in
+      let f = subst (Each (λ s. IsSlot s all)) (names-append here above)
+      (each-right (λ s. IsSlot s all) (names below) (names (here ++ above)) e) in
+      record {
+        lies = h.lies;
+        low = low;
+        high = high;
+        some = some;
+        small = h.small;
+        slots = (
+          each-left (λ s. IsSlot s all) (names below) (names (here ++ above)) e,
+          each-right (λ s. IsSlot s all) (names here) (names above) f,
+        );
+        no_masters = none;
+      }
+
+  module _ (now : List Block) (new : List ℕ) (same : SameOutside bottom top xs new)
+      (t : Tiles (head_of (λ s. is_resource (slots s))) (piece bottom (top - bottom) new) now)
+      (e : sizes now ≡ sizes here)
+      (n : names now ≡ names here) (none-now : (s : ℕ) → IsSlot s now → ⊥) (placed : ArePlaced bottom now)
+      (leads : Leads bottom now new) where
+    pub lies-now : Lies (λ s. is_resource (slots s)) (below ++ (now ++ above)) new
+    lies-now =
+        let c = clear zone bottom top xs is-splice in
+        record {
+          tiles = tiles-splice (head_of (λ s. is_resource (slots s))) xs new below here above now bottom top low high
+              h.lies.tiles same t;
+          leads = leads-splice xs new below here above now bottom top low high e h.lies.leads same c.0 c.1 leads;
+        }
+
+    back : (s : ℕ) → IsSlot s (below ++ (now ++ above)) → IsSlot s all
+    back s i = elim (slot-split s below (now ++ above) i) [
+      | inl j ↦ slot-append_left s below (here ++ above) j
+      | inr j ↦ elim (slot-split (s - sizes below) now above j.1) [
+        | inl k ↦ absurd (none-now (s - sizes below) k)
+        | inr k ↦
+            let l = k.0 in
+            let f : s - sizes below - sizes now ≡ s - sizes below - sizes here = ap (λ m. s - sizes below - m) e in
+            slot-append_right s below (here ++ above) j.0
+            (slot-append_right (s - sizes below) here above (omega (arith, e, l))
+            (subst (λ q. IsSlot q above) f k.1))
+      ]
+    ]
+
+    pub replaced : Lays new (below ++ (now ++ above)) slots unused
+    replaced =
+        let p = placed-right 0 below (here ++ above) h.placed in
+        let q = placed-right (0 + sizes below) here above p in
+        let o : bottom ≡ 0 + sizes below = omega (arith, low) in
+        let all-names : names (below ++ (now ++ above)) ≡ names all =
+        names-append below (now ++ above)
+        ∙ ap (λ k. names below ++ k) (names-append now above ∙ ap (λ k. k ++ names above) n
+        ∙ sym (names-append here above)) ∙ sym (names-append below (here ++ above)) in
+        let ok : ArePlaced 0 (below ++ (now ++ above)) =
+        placed-append 0 below (now ++ above) (placed-left 0 below (here ++ above) h.placed)
+        (placed-append (0 + sizes below) now above (subst (λ j. ArePlaced j now) o placed)
+        (subst (λ k. ArePlaced (0 + sizes below + k) above) (sym e) q)) in
+        lays-kept xs new all (below ++ (now ++ above)) slots unused h lies-now all-names
+        (λ s i. slot-kept zone bottom top xs is-splice s now e i) back ok
+        (λ s i a. piece-outside bottom top xs new s same (outside zone bottom top xs is-splice s i)) same.kept

@@ -1,0 +1,204 @@
+-- Bytes spell one table of slots.
+use Rattle.std.proofs.Common.{◌≡◌, ℕ, Bool, true, false, cond, eqb, nat_le, ◌&&◌, ◌||◌, ◌==◌, ◌+◌, ◌-◌, ◌*◌, ◌%◌, ◌<◌}
+use Rattle.std.proofs.Common.{◌≤◌, ◌^◌, ◌⊎◌, inl, inr, List, [], ◌∷◌, length, take, drop, sym, refl, ap, ◌∙◌, subst}
+use Rattle.std.proofs.Common.{arith}
+use Rattle.std.proofs.lemmas.List.{length-drop, drop-drop}
+use Rattle.std.proofs.lemmas.Bool.{false≢true, ne_eqb}
+use Rattle.std.proofs.lemmas.Bool.Decides.{nat_tests, eqb_tells}
+use Rattle.windows.specs.Writes.{piece}
+use Rattle.heap_words.specs.Words.{word, word_at}
+use Rattle.heap_words.proofs.Words.{read_back}
+use Rattle.block_store.specs.declared.flags.Flags.{Flags}
+use Rattle.block_store.specs.Block.{Block, Free, Fixed, Masters, Relocatable, size, is_masters}
+use Rattle.block_store.specs.Slot.{Slot, NoSlot, Unused, Used, is_resource}
+use Rattle.zone_bytes.specs.Layout.{flag_word, head_of, Tiles, IsSlot, names, Leads, Each}
+use Rattle.zone_bytes.specs.Decode.{zone_in}
+use Rattle.zone_bytes.specs.Table.{Has, emptied_word, Chain, Says, Lays, is_slot, slot_of_word, slot_in}
+use Rattle.zone_bytes.proofs.Tiles.Tiling.{length-tiles, slot-inside}
+use Rattle.zone_bytes.proofs.Tiles.Leading.{each-map}
+use Rattle.zone_bytes.proofs.Tiles.Decoding.{says, flag_word-small, zone-back}
+
+pub test-true : (s : ℕ) → 16 ≤ s → s + 4 ≤ 272 → s % 4 ≡ 0
+    → (nat_le 16 s && (nat_le (s + 4) 272 && (s % 4 == 0))) ≡ true
+test-true s a b c = grind (arith, nat_tests)
+
+or-true : (v w : Bool) → v ≡ true → (v || w) ≡ true
+or-true true w e = refl
+or-true false w e = absurd (false≢true e)
+
+or-right : (v w : Bool) → w ≡ true → (v || w) ≡ true
+or-right true w e = refl
+or-right false w e = e
+
+pub is_slot-true : (s : ℕ) (blocks : List Block) → IsSlot s blocks → is_slot s blocks ≡ true
+is_slot-true s [] i = absurd i
+is_slot-true s (Free n ∷ blocks) (inl i) = absurd i
+is_slot-true s (Fixed id content ∷ blocks) (inl i) = absurd i
+is_slot-true s (Relocatable slot flags content ∷ blocks) (inl i) = absurd i
+is_slot-true s (Masters ∷ blocks) (inl i) = or-true (nat_le 16 s && (nat_le (s + 4) 272 && (s % 4 == 0)))
+    (nat_le 272 s && is_slot (s - 272) blocks) (test-true s i.0 i.1 i.2)
+is_slot-true s (b ∷ blocks) (inr i) =
+    or-right (is_masters b && (nat_le 16 s && (nat_le (s + 4) 272 && (s % 4 == 0))))
+    (nat_le (size b) s && is_slot (s - size b) blocks)
+    (and-true (nat_le (size b) s) (is_slot (s - size b) blocks) (le-true (size b) s i.0)
+    (is_slot-true (s - size b) blocks i.1))
+  where
+    and-true : (v w : Bool) → v ≡ true → w ≡ true → (v && w) ≡ true
+    and-true true w e f = f
+    and-true false w e f = e
+
+    le-true : (m n : ℕ) → m ≤ n → nat_le m n ≡ true
+    le-true m n h = grind (arith, nat_tests)
+
+pub test-back : (s : ℕ) → (nat_le 16 s && (nat_le (s + 4) 272 && (s % 4 == 0))) ≡ true
+    → (16 ≤ s) × (s + 4 ≤ 272) × (s % 4 ≡ 0)
+test-back s h = (grind (arith, nat_tests), grind (arith, nat_tests), grind (arith, nat_tests))
+
+and-split : (v w : Bool) → (v && w) ≡ true → (v ≡ true) × (w ≡ true)
+and-split true w e = (refl, e)
+and-split false w e = absurd (false≢true e)
+
+or-split : (v w : Bool) → (v || w) ≡ true → (v ≡ true) ⊎ (w ≡ true)
+or-split true w e = inl refl
+or-split false w e = inr e
+
+pub le-back : (m n : ℕ) → nat_le m n ≡ true → m ≤ n
+le-back m n h = grind (arith, nat_tests)
+
+pub is_slot-back : (s : ℕ) (blocks : List Block) → is_slot s blocks ≡ true → IsSlot s blocks
+is_slot-back s [] e = absurd (false≢true e)
+is_slot-back s (Free n ∷ blocks) e = let p = and-split (nat_le n s) (is_slot (s - n) blocks) e in
+    inr (le-back n s p.0, is_slot-back (s - n) blocks p.1)
+is_slot-back s (Fixed id content ∷ blocks) e =
+    let p = and-split (nat_le (size (Fixed id content)) s) (is_slot (s - size (Fixed id content)) blocks) e in
+    inr (le-back (size (Fixed id content)) s p.0, is_slot-back (s - size (Fixed id content)) blocks p.1)
+is_slot-back s (Relocatable slot flags content ∷ blocks) e =
+    let p = and-split (nat_le (size (Relocatable slot flags content)) s)
+    (is_slot (s - size (Relocatable slot flags content)) blocks) e in
+    inr (
+      le-back (size (Relocatable slot flags content)) s p.0,
+      is_slot-back (s - size (Relocatable slot flags content)) blocks p.1,
+    )
+is_slot-back s (Masters ∷ blocks) e =
+    elim (or-split (nat_le 16 s && (nat_le (s + 4) 272 && (s % 4 == 0))) (nat_le 272 s && is_slot (s - 272) blocks) e) [
+      | inl p ↦ inl (test-back s p)
+      | inr p ↦ let q = and-split (nat_le 272 s) (is_slot (s - 272) blocks) p in
+          inr (le-back 272 s q.0, is_slot-back (s - 272) blocks q.1)
+    ]
+
+pub resource-bit : (flags : Flags) (r : Bool) → nat_le 32 (flag_word flags r % 64) ≡ r
+resource-bit flags r = bit flags.locked flags.purgeable r
+  where
+    bit : (l p r : Bool) → nat_le 32 ((cond l 128 0 + cond p 64 0 + cond r 32 0) % 64) ≡ r
+    bit true true true = refl
+    bit true true false = refl
+    bit true false true = refl
+    bit true false false = refl
+    bit false true true = refl
+    bit false true false = refl
+    bit false false true = refl
+    bit false false false = refl
+
+-- what a word says
+word-unused : (xs : List ℕ) (w k : ℕ) → w ≡ 16 * k + 1 → slot_of_word xs w ≡ Unused
+word-unused xs w k e =
+    let a : eqb (w % 16) 0 ≡ false = ne_eqb (w % 16) 0 (λ z. omega (arith, e, z)) in
+    let b : eqb w 2 ≡ false = ne_eqb w 2 (λ z. omega (arith, e, z)) in
+    let c : eqb w 18 ≡ false = ne_eqb w 18 (λ z. omega (arith, e, z)) in
+    (λ i. cond (a i) (Used (nat_le 32 (word_at (w + 12) xs % 64)))
+    (cond (b i) (Used false) (cond (c i) (Used true) Unused)))
+
+word-emptied : (xs : List ℕ) (w : ℕ) (r : Bool) → w ≡ emptied_word r → slot_of_word xs w ≡ Used r
+word-emptied xs w true e = ap (slot_of_word xs) e
+word-emptied xs w false e = ap (slot_of_word xs) e
+
+word-leads : (xs : List ℕ) (w : ℕ) (r : Bool) → w % 16 ≡ 0 → nat_le 32 (word_at (w + 12) xs % 64) ≡ r
+    → slot_of_word xs w ≡ Used r
+word-leads xs w r e f =
+    let a : eqb (w % 16) 0 ≡ true = elim (eqb_tells (w % 16) 0) [ inl p ↦ p.0 | inr p ↦ absurd (p.1 e) ] in
+    (λ i. cond (a i) (Used (f i)) (cond (eqb w 2) (Used false) (cond (eqb w 18) (Used true) Unused)))
+
+small-emptied : (r : Bool) → emptied_word r < 2 ^ 32
+small-emptied true = omega arith
+small-emptied false = omega arith
+
+module _ (resource : ℕ → Bool) (xs : List ℕ) (small : length xs ≤ 134217728) (s : ℕ) where
+  named-word : (o : ℕ) (blocks : List Block) → o % 16 ≡ 0 → Tiles (head_of resource) (drop o xs) blocks
+      → Leads o blocks xs → Has (names blocks) s → slot_of_word xs (word_at s xs) ≡ Used (resource s)
+  unfolding head_of
+  named-word o [] e t l h = absurd h
+  named-word o (Free n ∷ blocks) e t l h = let w = t.0.whole in
+      named-word (o + n) blocks (omega (arith, e, w))
+      (subst (λ k. Tiles (head_of resource) k blocks) (drop-drop n o xs) t.1) l.1 h
+  named-word o (Fixed id content ∷ blocks) e t l h =
+      let w = t.0.whole in
+      named-word (o + size (Fixed id content)) blocks (omega (arith, e, w))
+      (subst (λ k. Tiles (head_of resource) k blocks) (drop-drop (size (Fixed id content)) o xs) t.1) l.1 h
+  named-word o (Masters ∷ blocks) e t l h = named-word (o + 272) blocks (omega (arith, e))
+      (subst (λ k. Tiles (head_of resource) k blocks) (drop-drop 272 o xs) t.1) l.1 h
+  named-word o (Relocatable slot flags content ∷ blocks) e t l (inr h) =
+      let w = t.0.whole in
+      named-word (o + size (Relocatable slot flags content)) blocks (omega (arith, e, w))
+      (subst (λ k. Tiles (head_of resource) k blocks) (drop-drop (size (Relocatable slot flags content)) o xs)
+      t.1) l.1 h
+  named-word o (Relocatable slot flags content ∷ blocks) e t l (inl h) =
+      let z = size (Relocatable slot flags content) in
+      let q = says z (z + 3) (length content) slot (flag_word flags (resource slot)) content (drop o xs) t.0 in
+      let f = t.0.fits in
+      let m = t.0.some in
+      let d = length-drop o xs in
+      let w = read_back s o xs (omega (arith, f, m, d, small)) (ap (λ k. take 4 (drop k xs)) (sym h) ∙ l.0) in
+      let g = flag_word-small flags (resource slot) in
+      let v = read_back (o + 12) (flag_word flags (resource slot)) xs (omega (arith, g))
+      (ap (take 4) (sym (drop-drop 12 o xs)) ∙ q.2) in
+      let bit : nat_le 32 (word_at (word_at s xs + 12) xs % 64) ≡ resource s =
+      ap (λ k. nat_le 32 (word_at (k + 12) xs % 64)) w ∙ ap (λ k. nat_le 32 (k % 64)) v
+      ∙ resource-bit flags (resource slot) ∙ ap resource h in
+      word-leads xs (word_at s xs) (resource s) (omega (arith, w, e)) bit
+
+module _ (xs : List ℕ) (blocks : List Block) (slots : ℕ → Slot) (unused : List ℕ)
+    (h : Lays xs blocks slots unused) where
+  pub zone-of : zone_in xs ≡ blocks
+  zone-of =
+      let l = length-tiles (head_of (λ s. is_resource (slots s))) xs blocks h.lies.tiles in
+      let small = h.small in
+      zone-back (λ s. is_resource (slots s)) blocks xs small h.placed
+      (each-map (λ s. IsSlot s blocks) (λ s. s < 2 ^ 32) (λ s i. let k = slot-inside s blocks i in
+      omega (arith, k, l, small)) (names blocks) h.has_slots.slots) h.lies.tiles
+
+  chain-word : (us : List ℕ) → Each (λ u. IsSlot u blocks × (slots u ≡ Unused)) us → Chain xs us → (s : ℕ) → Has us s
+      → (k : ℕ) × (k < 134217728) × (piece s 4 xs ≡ word (16 * k + 1))
+  chain-word [] e c s h1 = absurd h1
+  chain-word (u ∷ us) e c s (inr k) = chain-word us e.1 c.1 s k
+  chain-word (u ∷ []) e c s (inl k) = (0, omega arith, subst (λ m. piece m 4 xs ≡ word 1) k c.0)
+  chain-word (u ∷ v ∷ us) e c s (inl k) =
+      let i = slot-inside v blocks e.1.0.0 in
+      let l = length-tiles (head_of (λ s. is_resource (slots s))) xs blocks h.lies.tiles in
+      let small = h.small in
+      (v, omega (arith, i, l, small), subst (λ m. piece m 4 xs ≡ word (16 * v + 1)) k c.0)
+
+  state : (s : ℕ) (st : Slot) → slots s ≡ st → Says blocks xs unused s st
+      → cond (is_slot s blocks) (slot_of_word xs (word_at s xs)) NoSlot ≡ st
+  state s NoSlot e q = none (is_slot s blocks) (λ t. q (is_slot-back s blocks t))
+    where
+      none : (v : Bool) → (v ≡ true → ⊥) → cond v (slot_of_word xs (word_at s xs)) NoSlot ≡ NoSlot
+      none true n = absurd (n refl)
+      none false n = refl
+  state s Unused e q =
+      let c = chain-word unused h.unused_slots h.chain s q.1 in
+      let k = c.1 in
+      let w = read_back s (16 * c.0 + 1) xs (omega (arith, k)) c.2 in
+      ap (λ v. cond v (slot_of_word xs (word_at s xs)) NoSlot) (is_slot-true s blocks q.0)
+      ∙ word-unused xs (word_at s xs) c.0 w
+  state s (Used r) e q =
+      ap (λ v. cond v (slot_of_word xs (word_at s xs)) NoSlot) (is_slot-true s blocks q.0)
+      ∙ elim q.1 [
+        | inl k ↦ named-word (λ t. is_resource (slots t)) xs h.small s 0 blocks refl h.lies.tiles h.lies.leads k
+            ∙ ap (λ t. Used (is_resource t)) e
+        | inr k ↦ word-emptied xs (word_at s xs) r (read_back s (emptied_word r) xs (small-emptied r) k.1)
+      ]
+
+  pub slots-of : (s : ℕ) → slot_in xs s ≡ slots s
+  unfolding slot_in
+  slots-of s = ap (λ k. cond (is_slot s k) (slot_of_word xs (word_at s xs)) NoSlot) zone-of
+      ∙ state s (slots s) refl (h.says s)

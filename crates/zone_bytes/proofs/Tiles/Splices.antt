@@ -1,0 +1,97 @@
+-- A stretch of a zone that is written anew.
+use Rattle.std.proofs.Common.{◌≡◌, ℕ, ◌+◌, ◌-◌, ◌≤◌, inl, inr, List, [], ◌∷◌, ◌++◌, length, take, drop, sym, refl, ap}
+use Rattle.std.proofs.Common.{◌∙◌, subst, arith}
+use Rattle.std.proofs.lemmas.List.{take-take, drop-drop, drop-take, take-append-drop}
+use Rattle.windows.specs.Writes.{written, piece}
+use Rattle.windows.proofs.Pieces.{length-written, take-written_below, drop-written_above}
+use Rattle.block_store.specs.Block.{Block, Free, Fixed, Masters, Relocatable, size, sizes}
+use Rattle.zone_bytes.specs.Layout.{Tiles, names, names_of, LeadsTo, Leads, Each}
+use Rattle.zone_bytes.specs.Splicing.{SameOutside}
+use Rattle.zone_bytes.proofs.Tiles.Tiling.{tiles-append, tiles-split}
+use Rattle.zone_bytes.proofs.Tiles.Leading.{Clear, each-left, each-right, leads-append, leads-left, leads-right}
+
+pub outside-same : (lo hi : ℕ) (xs : List ℕ) → lo ≤ hi → hi ≤ length xs → SameOutside lo hi xs xs
+outside-same lo hi xs l h = record { kept = refl; ordered = (l, h); low = refl; high = refl }
+
+-- one more write inside
+pub outside-written : (lo hi : ℕ) (old new : List ℕ) (at : ℕ) (ys : List ℕ) → lo ≤ at → at + length ys ≤ hi
+    → SameOutside lo hi old new → SameOutside lo hi old (written at ys new)
+outside-written lo hi old new at ys l h s =
+    let k = s.kept in
+    let o = s.ordered in
+    record {
+      kept = length-written at ys new (omega (arith, h, o, k)) ∙ k;
+      ordered = o;
+      low = take-written_below at ys new lo l (omega (arith, h, o, k)) ∙ s.low;
+      high = drop-written_above at ys new hi h (omega (arith, h, o, k)) ∙ s.high;
+    }
+
+-- a word outside is the same
+pub piece-outside : (lo hi : ℕ) (old new : List ℕ) (s : ℕ) → SameOutside lo hi old new → Clear lo (hi - lo) s
+    → piece s 4 new ≡ piece s 4 old
+piece-outside lo hi old new s o (inl h) =
+    let whole : (xs : List ℕ) → piece s 4 xs ≡ drop s (take (s + 4) (take lo xs)) = λ xs. sym
+    (ap (drop s) (take-take (s + 4) lo xs h) ∙ drop-take s 4 xs) in
+    whole new ∙ ap (λ k. drop s (take (s + 4) k)) o.low ∙ sym (whole old)
+piece-outside lo hi old new s o (inr h) =
+    let r = o.ordered in
+    let e : hi + (s - hi) ≡ s = omega (arith, r, h) in
+    let whole : (xs : List ℕ) → piece s 4 xs ≡ take 4 (drop (s - hi) (drop hi xs)) = λ xs. ap
+    (λ k. take 4 (drop k xs)) (sym e) ∙ ap (take 4) (sym (drop-drop (s - hi) hi xs)) in
+    whole new ∙ ap (λ k. take 4 (drop (s - hi) k)) o.high ∙ sym (whole old)
+
+pub leads-outside : (lo hi : ℕ) (old new : List ℕ) (o : ℕ) (blocks : List Block) → SameOutside lo hi old new
+    → Each (Clear lo (hi - lo)) (names blocks) → Leads o blocks old → Leads o blocks new
+leads-outside lo hi old new o [] s c h = tt
+leads-outside lo hi old new o (b ∷ blocks) s c h = (
+  leads-one b (each-left (Clear lo (hi - lo)) (names_of b) (names blocks) c) h.0,
+  leads-outside lo hi old new (o + size b) blocks s (each-right (Clear lo (hi - lo)) (names_of b) (names blocks) c)
+      h.1,
+)
+  where
+    leads-one : (b : Block) → Each (Clear lo (hi - lo)) (names_of b) → LeadsTo o b old → LeadsTo o b new
+    leads-one (Free n) c h = tt
+    leads-one (Fixed id content) c h = tt
+    leads-one Masters c h = tt
+    leads-one (Relocatable slot flags content) c h = piece-outside lo hi old new slot s c.0 ∙ h
+
+module _ (head : Block → List ℕ) where
+  -- three stretches of blocks
+  pub tiles-joined : (new : List ℕ) (ls here ns : List Block) (lo hi : ℕ) → lo ≤ hi → Tiles head (take lo new) ls
+      → Tiles head (piece lo (hi - lo) new) here → Tiles head (drop hi new) ns → Tiles head new (ls ++ (here ++ ns))
+  tiles-joined new ls here ns lo hi o low h high =
+      let m : lo + (hi - lo) ≡ hi = omega (arith, o) in
+      let mid : piece lo (hi - lo) new ++ drop hi new ≡ drop lo new = ap (λ k. piece lo (hi - lo) new ++ k)
+      (sym (drop-drop (hi - lo) lo new ∙ ap (λ k. drop k new) m)) ∙ take-append-drop (hi - lo) (drop lo new) in
+      let all : take lo new ++ (piece lo (hi - lo) new ++ drop hi new) ≡ new = ap (λ k. take lo new ++ k) mid
+      ∙ take-append-drop lo new in
+      subst (λ k. Tiles head k (ls ++ (here ++ ns))) all
+      (tiles-append head (take lo new) (piece lo (hi - lo) new ++ drop hi new) ls (here ++ ns) low
+      (tiles-append head (piece lo (hi - lo) new) (drop hi new) here ns h high))
+
+  -- a stretch of blocks in the place of another
+  pub tiles-splice : (old new : List ℕ) (ls ms ns here : List Block) (lo hi : ℕ) → sizes ls ≡ lo → lo + sizes ms ≡ hi
+      → Tiles head old (ls ++ (ms ++ ns)) → SameOutside lo hi old new
+      → Tiles head (piece lo (hi - lo) new) here → Tiles head new (ls ++ (here ++ ns))
+  tiles-splice old new ls ms ns here lo hi a b t s h =
+      let p = tiles-split head old ls (ms ++ ns) t in
+      let q = tiles-split head (drop (sizes ls) old) ms ns p.1 in
+      let low : Tiles head (take lo new) ls = subst (λ k. Tiles head k ls) (ap (λ k. take k old) a ∙ sym s.low) p.0 in
+      let up : drop (sizes ms) (drop (sizes ls) old) ≡ drop hi new = drop-drop (sizes ms) (sizes ls) old
+      ∙ (λ i. drop (a i + sizes ms) old) ∙ ap (λ k. drop k old) b ∙ sym s.high in
+      tiles-joined new ls here ns lo hi s.ordered.0 low h (subst (λ k. Tiles head k ns) up q.1)
+
+-- where the slots of the other blocks lead
+pub leads-splice : (old new : List ℕ) (ls ms ns here : List Block) (lo hi : ℕ) → sizes ls ≡ lo → lo + sizes ms ≡ hi
+    → sizes here ≡ sizes ms → Leads 0 (ls ++ (ms ++ ns)) old → SameOutside lo hi old new
+    → Each (Clear lo (hi - lo)) (names ls) → Each (Clear lo (hi - lo)) (names ns) → Leads lo here new
+    → Leads 0 (ls ++ (here ++ ns)) new
+leads-splice old new ls ms ns here lo hi a b e t s c d h =
+    let low = leads-outside lo hi old new 0 ls s c (leads-left old 0 ls (ms ++ ns) t) in
+    let high = leads-outside lo hi old new (0 + sizes ls + sizes ms) ns s d
+    (leads-right old (0 + sizes ls) ms ns (leads-right old 0 ls (ms ++ ns) t)) in
+    let f : lo ≡ 0 + sizes ls = omega (arith, a) in
+    let g : 0 + sizes ls + sizes ms ≡ 0 + sizes ls + sizes here = omega (arith, e) in
+    leads-append new 0 ls (here ++ ns) low
+    (leads-append new (0 + sizes ls) here ns (subst (λ k. Leads k here new) f h)
+    (subst (λ k. Leads k ns new) g high))

@@ -1,0 +1,148 @@
+-- Blocks that lie one after another.
+use Rattle.std.proofs.Common.{◌≡◌, ℕ, ◌+◌, ◌-◌, ◌≤◌, ◌⊎◌, inl, inr, List, [], ◌∷◌, ◌++◌, length, take, drop, refl, ap}
+use Rattle.std.proofs.Common.{◌∙◌, subst, arith, length-append}
+use Rattle.std.proofs.lemmas.List.{length-take-le, length-drop, take-append-le, drop-append-le, drop-drop, take-take}
+use Rattle.std.proofs.lemmas.List.{drop-take, drop_all}
+use Rattle.windows.specs.Writes.{written}
+use Rattle.windows.proofs.Pieces.{length-written, take-written_below, drop-written_above, drop-written_below}
+use Rattle.block_store.specs.Block.{Block, Free, Fixed, Masters, Relocatable, size, sizes}
+use Rattle.zone_bytes.specs.Layout.{Tile, Tiles, IsSlot}
+
+pub span-append : (ls ms : List Block) → sizes (ls ++ ms) ≡ sizes ls + sizes ms
+span-append [] ms = omega arith
+span-append (b ∷ ls) ms = omega (arith, span-append ls ms)
+
+-- a slot's word is among the bytes of the blocks
+pub slot-inside : (s : ℕ) (blocks : List Block) → IsSlot s blocks → s + 4 ≤ sizes blocks
+slot-inside s [] i = absurd i
+slot-inside s (Free n ∷ blocks) (inl i) = absurd i
+slot-inside s (Fixed id content ∷ blocks) (inl i) = absurd i
+slot-inside s (Relocatable slot flags content ∷ blocks) (inl i) = absurd i
+slot-inside s (Masters ∷ blocks) (inl i) = omega (arith, i)
+slot-inside s (b ∷ blocks) (inr i) = omega (arith, i.0, slot-inside (s - size b) blocks i.1)
+
+pub slot-append_left : (s : ℕ) (ls ms : List Block) → IsSlot s ls → IsSlot s (ls ++ ms)
+slot-append_left s [] ms i = absurd i
+slot-append_left s (b ∷ ls) ms (inl i) = inl i
+slot-append_left s (b ∷ ls) ms (inr i) = inr (i.0, slot-append_left (s - size b) ls ms i.1)
+
+pub slot-append_right : (s : ℕ) (ls ms : List Block) → sizes ls ≤ s → IsSlot (s - sizes ls) ms → IsSlot s (ls ++ ms)
+slot-append_right s [] ms l i = let e : s - 0 ≡ s = omega arith in subst (λ k. IsSlot k ms) e i
+slot-append_right s (b ∷ ls) ms l i =
+    let e : s - (size b + sizes ls) ≡ s - size b - sizes ls = omega arith in
+    inr (omega (arith, l), slot-append_right (s - size b) ls ms (omega (arith, l)) (subst (λ k. IsSlot k ms) e i))
+
+pub slot-split : (s : ℕ) (ls ms : List Block) → IsSlot s (ls ++ ms)
+    → IsSlot s ls ⊎ ((sizes ls ≤ s) × IsSlot (s - sizes ls) ms)
+slot-split s [] ms i = let e : s ≡ s - 0 = omega arith in inr (omega arith, subst (λ k. IsSlot k ms) e i)
+slot-split s (b ∷ ls) ms (inl i) = inl (inl i)
+slot-split s (b ∷ ls) ms (inr i) = elim (slot-split (s - size b) ls ms i.1) [
+  | inl j ↦ inl (inr (i.0, j))
+  | inr j ↦
+      let e : s - size b - sizes ls ≡ s - (size b + sizes ls) = omega arith in
+      inr (omega (arith, i.0, j.0), subst (λ k. IsSlot k ms) e j.1)
+]
+
+module _ (head : Block → List ℕ) where
+  -- the blocks take all the bytes
+  pub length-tiles : (xs : List ℕ) (blocks : List Block) → Tiles head xs blocks → length xs ≡ sizes blocks
+  length-tiles xs [] t = ap length t
+  length-tiles xs (b ∷ blocks) t =
+      let r = length-tiles (drop (size b) xs) blocks t.1 in
+      let d = length-drop (size b) xs in
+      let f = t.0.fits in
+      omega (arith, r, d, f)
+
+  -- a block's bytes followed by others
+  pub tile-append : (h : List ℕ) (n : ℕ) (xs ys : List ℕ) → Tile h n xs → Tile h n (xs ++ ys)
+  tile-append h n xs ys t =
+      let a = length-append xs ys in
+      record {
+        fits = omega (arith, a, t.fits);
+        whole = t.whole;
+        some = t.some;
+        room = t.room;
+        begins = take-append-le (length h) xs ys (omega (arith, t.fits, t.room)) ∙ t.begins;
+      }
+
+  -- a block's bytes without the others
+  pub tile-take : (h : List ℕ) (n k : ℕ) (xs : List ℕ) → n ≤ k → k ≤ length xs → Tile h n xs → Tile h n (take k xs)
+  tile-take h n k xs l m t =
+      let a = length-take-le k xs m in
+      record {
+        fits = omega (arith, a, l);
+        whole = t.whole;
+        some = t.some;
+        room = t.room;
+        begins = take-take (length h) k xs (omega (arith, l, t.room)) ∙ t.begins;
+      }
+
+  pub tiles-append : (xs ys : List ℕ) (ls ms : List Block) → Tiles head xs ls → Tiles head ys ms
+      → Tiles head (xs ++ ys) (ls ++ ms)
+  tiles-append xs ys [] ms t u = rw t u
+  tiles-append xs ys (b ∷ ls) ms t u = (
+    tile-append (head b) (size b) xs ys t.0,
+    rw (drop-append-le (size b) xs ys t.0.fits)
+        (tiles-append (drop (size b) xs) ys ls ms t.1 u),
+  )
+
+  -- one block
+  pub tiles-one : (b : Block) (xs : List ℕ) → length xs ≡ size b → Tile (head b) (size b) xs → Tiles head xs (b ∷ [])
+  tiles-one b xs l t = (t, drop_all (size b) xs (omega (arith, l)))
+
+  pub tiles-split : (xs : List ℕ) (ls ms : List Block) → Tiles head xs (ls ++ ms)
+      → Tiles head (take (sizes ls) xs) ls × Tiles head (drop (sizes ls) xs) ms
+  tiles-split xs [] ms t = (refl, t)
+  tiles-split xs (b ∷ ls) ms t =
+      let r = tiles-split (drop (size b) xs) ls ms t.1 in
+      let whole = length-tiles (drop (size b) xs) (ls ++ ms) t.1 in
+      let more = span-append ls ms in
+      let d = length-drop (size b) xs in
+      let f = t.0.fits in
+      let enough : size b + sizes ls ≤ length xs = omega (arith, whole, more, d, f) in (
+        (
+          tile-take (head b) (size b) (size b + sizes ls) xs (omega arith) enough t.0,
+          rw (drop-take (size b) (sizes ls) xs) r.0,
+        ),
+        rw (← drop-drop (sizes ls) (size b) xs) r.1,
+      )
+
+  -- a write of a slot's word leaves the blocks
+  pub tiles-slot : length (head Masters) ≡ 16 → (xs w : List ℕ) (s : ℕ) (blocks : List Block) → length w ≡ 4
+      → IsSlot s blocks → Tiles head xs blocks → Tiles head (written s w xs) blocks
+  tiles-slot m xs w s [] e i t = absurd i
+  tiles-slot m xs w s (Free n ∷ blocks) e (inl i) t = absurd i
+  tiles-slot m xs w s (Fixed id content ∷ blocks) e (inl i) t = absurd i
+  tiles-slot m xs w s (Relocatable slot flags content ∷ blocks) e (inl i) t = absurd i
+  tiles-slot m xs w s (Masters ∷ blocks) e (inl i) t =
+      let f = t.0.fits in
+      let l = length-written s w xs (omega (arith, i, e, f)) in (
+        record {
+          fits = omega (arith, l, f);
+          whole = t.0.whole;
+          some = t.0.some;
+          room = t.0.room;
+          begins = take-written_below s w xs (length (head Masters)) (omega (arith, i, m)) (omega (arith, i, f))
+              ∙ t.0.begins;
+        },
+        rw (drop-written_above s w xs 272 (omega (arith, i, e)) (omega (arith, i, f))) t.1,
+      )
+  tiles-slot m xs w s (b ∷ blocks) e (inr i) t =
+      let f = t.0.fits in
+      let r = t.0.room in
+      let k = slot-inside (s - size b) blocks i.1 in
+      let n = length-tiles (drop (size b) xs) blocks t.1 in
+      let d = length-drop (size b) xs in
+      let inside : s + 4 ≤ length xs = omega (arith, i.0, k, n, d, f) in
+      let l = length-written s w xs (omega (arith, e, inside)) in (
+        record {
+          fits = omega (arith, l, f);
+          whole = t.0.whole;
+          some = t.0.some;
+          room = t.0.room;
+          begins = take-written_below s w xs (length (head b)) (omega (arith, i.0, r)) (omega (arith, inside))
+              ∙ t.0.begins;
+        },
+        rw (drop-written_below s w xs (size b) i.0 (omega (arith, inside)))
+            (tiles-slot m (drop (size b) xs) w (s - size b) blocks e i.1 t.1),
+      )

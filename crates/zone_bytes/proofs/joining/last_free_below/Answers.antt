@@ -1,0 +1,74 @@
+use Rattle.std.proofs.Common.{◌<◌, arith}
+use Rattle.heap_words.specs.Headers.{tag_number}
+use Rattle.zone_bytes.proofs.Tiles.Tags.{tag-small}
+use Rattle.zone_bytes.proofs.Places.Stepped.{next-header}
+use Rattle.zone_bytes.proofs.Joined.FreeTags.{free-true, free-false}
+use Rattle.zone_bytes.proofs.Joined.Below.{below-done, below-inside, below-free, below-other}
+use Rattle.zone_bytes.proofs.joining.last_free_below.Goals as goal
+
+pub read_header-header-requires-clause-within : goal.read_header-header-requires-clause-within
+read_header-header-requires-clause-within c =
+    let n = next-header c.loop-at.at c.args.part.now.bytes c.loop-at.invariant.way
+    (omega (arith, c.loop-at-test.true, c.requires.inside)) in
+    (n.even, n.fits)
+
+pub read_header-header-requires-clause-tag : goal.read_header-header-requires-clause-tag
+read_header-header-requires-clause-tag c =
+    (next-header c.loop-at.at c.args.part.now.bytes c.loop-at.invariant.way
+    (omega (arith, c.loop-at-test.true, c.requires.inside))).tag
+
+pub overflow_add-end : goal.overflow_add-end
+overflow_add-end c =
+    let h = c.read_header-header.result in
+    let e = c.read_header-header.ensures in
+    let l = c.loop-at-test.true in
+    let i = below-inside c.args.part.now.bytes c.args.place c.loop-at.at c.loop-at.start c.loop-at.invariant l h.size
+    (tag_number h.tag) e.first e.size (tag-small h.tag) (omega (arith, l, c.requires.inside)) in
+    let m = c.requires.way.small in
+    omega (arith, i, m)
+
+pub loop-at-smaller-then-eq : goal.loop-at-smaller-then-eq
+loop-at-smaller-then-eq c =
+    let l = c.loop-at-test.true in
+    let h = c.read_header-header.result in
+    let n = next-header c.loop-at.at c.args.part.now.bytes c.loop-at.invariant.way
+    (omega (arith, l, c.requires.inside)) in
+    let b = n.big in
+    let t = tag-small h.tag in
+    let f = c.read_header-header.ensures.first in
+    let some : 0 < h.size = omega (arith, b, t, f) in
+    omega (arith, l, some)
+
+pub loop-at-preserved-then-eq : goal.loop-at-preserved-then-eq
+loop-at-preserved-then-eq c =
+    let h = c.read_header-header.result in
+    let e = c.read_header-header.ensures in
+    let l = c.loop-at-test.true in
+    below-free c.args.part.now.bytes c.args.place c.loop-at.at c.loop-at.start c.loop-at.invariant l h.size
+    (tag_number h.tag) e.first e.size (tag-small h.tag) (omega (arith, l, c.requires.inside))
+    (free-true h.tag c.if-eq.ensures)
+
+pub loop-at-smaller : goal.loop-at-smaller
+loop-at-smaller c =
+    let l = c.loop-at-test.true in
+    let h = c.read_header-header.result in
+    let n = next-header c.loop-at.at c.args.part.now.bytes c.loop-at.invariant.way
+    (omega (arith, l, c.requires.inside)) in
+    let b = n.big in
+    let t = tag-small h.tag in
+    let f = c.read_header-header.ensures.first in
+    let some : 0 < h.size = omega (arith, b, t, f) in
+    omega (arith, l, some)
+
+pub loop-at-preserved : goal.loop-at-preserved
+loop-at-preserved c =
+    let h = c.read_header-header.result in
+    let e = c.read_header-header.ensures in
+    let l = c.loop-at-test.true in
+    below-other c.args.part.now.bytes c.args.place c.loop-at.at c.loop-at.start c.loop-at.invariant l h.size
+    (tag_number h.tag) e.first e.size (tag-small h.tag) (omega (arith, l, c.requires.inside))
+    (free-false h.tag c.if-eq.ensures)
+
+pub returns : goal.returns
+returns c = below-done c.args.part.now.bytes c.args.place c.loop-at.at c.loop-at.start c.loop-at.invariant
+    c.loop-at-test.false

@@ -1,0 +1,196 @@
+use Rattle.std.proofs.Common.{◌≡◌, ◌%◌, ◌==◌, ◌∙◌, false, refl, ap, sym, arith}
+use Rattle.mac_words.specs.Size.{padded}
+use Rattle.heap_words.specs.Headers.{tag_number}
+use Rattle.zone_bytes.proofs.Places.Stepped.{next-header}
+use Rattle.zone_bytes.proofs.Placed.Sizes.{Read, room-at, size-is, kind-is, way-behind, fits, ends, may-size, cut-lays}
+use Rattle.zone_bytes.proofs.Placed.Sizes.{grown-lays, free-sized, kept-cut, kept-grown, cut-if, grown-if}
+use Rattle.zone_bytes.proofs.resizing.resize_block.Goals as goal
+
+pub read_header-header-requires-clause-within : goal.read_header-header-requires-clause-within
+read_header-header-requires-clause-within c =
+    let a = room-at c.args.part.now.bytes c.requires.sound.0 c.requires.sound.1 c.args.place c.args.bytes
+    c.requires.sound.2 c.requires.room in
+    let i = a.3.inside in
+    let g = a.3.some in
+    let n = next-header c.args.place c.args.part.now.bytes a.3.way (omega (arith, i, g)) in
+    (n.even, n.fits)
+
+pub read_header-header-requires-clause-fits : goal.read_header-header-requires-clause-fits
+read_header-header-requires-clause-fits c =
+    let a = room-at c.args.part.now.bytes c.requires.sound.0 c.requires.sound.1 c.args.place c.args.bytes
+    c.requires.sound.2 c.requires.room in
+    let i = a.3.inside in
+    let g = a.3.some in
+    let m = a.3.small in
+    omega (arith, i, g, m)
+
+pub read_header-header-requires-clause-tag : goal.read_header-header-requires-clause-tag
+read_header-header-requires-clause-tag c =
+    let a = room-at c.args.part.now.bytes c.requires.sound.0 c.requires.sound.1 c.args.place c.args.bytes
+    c.requires.sound.2 c.requires.room in
+    let i = a.3.inside in
+    let g = a.3.some in
+    let n = next-header c.args.place c.args.part.now.bytes a.3.way (omega (arith, i, g)) in
+    n.tag
+
+pub returns-then-not-has_content-clause-cut : goal.returns-then-not-has_content-clause-cut
+returns-then-not-has_content-clause-cut c = λ first unused i.
+    let a = room-at c.args.part.now.bytes first unused c.args.place c.args.bytes i c.requires.room in
+    let e = c.read_header-header.ensures in
+    let h = c.read_header-header.result in
+    let r : Read h c.args.place c.args.part.now.bytes =
+    record { first = e.first; even = e.size; long = e.logical; named = e.slot; marked = e.flags } in
+    let k : (tag_number h.tag % 2 == 1) ≡ false = sym c.has_content.ensures ∙ c.if-not-has_content.true in
+    let none = ap (λ t. t % 2 == 1) (sym (kind-is c.args.part.now.bytes c.args.place c.args.bytes a.0 a.3 h r)) ∙ k in
+    cut-if c.args.part.now.bytes c.args.part.now.bytes c.args.place c.args.bytes a.0 a.1 i.unused
+    (λ le. kept-cut c.args.part.now.bytes c.args.place c.args.bytes a.0 a.3 none first unused i)
+
+pub returns-then-not-has_content-clause-grown : goal.returns-then-not-has_content-clause-grown
+returns-then-not-has_content-clause-grown c = λ first unused i.
+    let a = room-at c.args.part.now.bytes first unused c.args.place c.args.bytes i c.requires.room in
+    let e = c.read_header-header.ensures in
+    let h = c.read_header-header.result in
+    let r : Read h c.args.place c.args.part.now.bytes =
+    record { first = e.first; even = e.size; long = e.logical; named = e.slot; marked = e.flags } in
+    let k : (tag_number h.tag % 2 == 1) ≡ false = sym c.has_content.ensures ∙ c.if-not-has_content.true in
+    let none = ap (λ t. t % 2 == 1) (sym (kind-is c.args.part.now.bytes c.args.place c.args.bytes a.0 a.3 h r)) ∙ k in
+    grown-if c.args.part.now.bytes c.args.part.now.bytes c.args.place c.args.bytes a.0 a.1 i.unused
+    (kept-grown c.args.part.now.bytes c.args.place c.args.bytes a.0 a.3 none first unused i)
+
+pub overflow_add-end : goal.overflow_add-end
+overflow_add-end c =
+    let a = room-at c.args.part.now.bytes c.requires.sound.0 c.requires.sound.1 c.args.place c.args.bytes
+    c.requires.sound.2 c.requires.room in
+    let e = c.read_header-header.ensures in
+    let h = c.read_header-header.result in
+    let r : Read h c.args.place c.args.part.now.bytes =
+    record { first = e.first; even = e.size; long = e.logical; named = e.slot; marked = e.flags } in
+    let z = size-is c.args.part.now.bytes c.args.place c.args.bytes a.0 a.3 h r in
+    let i = a.3.inside in
+    let m = a.3.small in
+    omega (arith, z, i, m)
+
+pub free_behind-requires : goal.free_behind-requires
+free_behind-requires c =
+    let a = room-at c.args.part.now.bytes c.requires.sound.0 c.requires.sound.1 c.args.place c.args.bytes
+    c.requires.sound.2 c.requires.room in
+    let e = c.read_header-header.ensures in
+    let h = c.read_header-header.result in
+    let r : Read h c.args.place c.args.part.now.bytes =
+    record { first = e.first; even = e.size; long = e.logical; named = e.slot; marked = e.flags } in
+    way-behind c.args.part.now.bytes c.args.place c.args.bytes a.0 a.3 h r
+
+pub overflow_add-top : goal.overflow_add-top
+overflow_add-top c =
+    let a = room-at c.args.part.now.bytes c.requires.sound.0 c.requires.sound.1 c.args.place c.args.bytes
+    c.requires.sound.2 c.requires.room in
+    let e = c.read_header-header.ensures in
+    let h = c.read_header-header.result in
+    let r : Read h c.args.place c.args.part.now.bytes =
+    record { first = e.first; even = e.size; long = e.logical; named = e.slot; marked = e.flags } in
+    let o = sym c.has_content.ensures ∙ c.if-not-has_content.false in
+    let z = ends c.args.part.now.bytes c.args.place c.args.bytes a.0 a.3 h r o a.2 c.free_behind.result
+    (padded c.args.bytes) c.free_behind.ensures refl in
+    let m = a.3.small in
+    omega (arith, z, m)
+
+pub padded_size-requires : goal.padded_size-requires
+padded_size-requires c =
+    let a = room-at c.args.part.now.bytes c.requires.sound.0 c.requires.sound.1 c.args.place c.args.bytes
+    c.requires.sound.2 c.requires.room in
+    let e = c.read_header-header.ensures in
+    let h = c.read_header-header.result in
+    let r : Read h c.args.place c.args.part.now.bytes =
+    record { first = e.first; even = e.size; long = e.logical; named = e.slot; marked = e.flags } in
+    let o = sym c.has_content.ensures ∙ c.if-not-has_content.false in
+    let z = fits c.args.part.now.bytes c.args.place c.args.bytes a.0 a.3 h r o a.2 c.free_behind.result
+    (padded c.args.bytes) c.free_behind.ensures refl in
+    let k = ends c.args.part.now.bytes c.args.place c.args.bytes a.0 a.3 h r o a.2 c.free_behind.result
+    (padded c.args.bytes) c.free_behind.ensures refl in
+    let y = size-is c.args.part.now.bytes c.args.place c.args.bytes a.0 a.3 h r in
+    let m = a.3.small in
+    omega (arith, z, k, y, m)
+
+pub lay_block-requires : goal.lay_block-requires
+lay_block-requires c =
+    let a = room-at c.args.part.now.bytes c.requires.sound.0 c.requires.sound.1 c.args.place c.args.bytes
+    c.requires.sound.2 c.requires.room in
+    let e = c.read_header-header.ensures in
+    let h = c.read_header-header.result in
+    let r : Read h c.args.place c.args.part.now.bytes =
+    record { first = e.first; even = e.size; long = e.logical; named = e.slot; marked = e.flags } in
+    let o = sym c.has_content.ensures ∙ c.if-not-has_content.false in
+    may-size c.args.part.now.bytes c.args.place c.args.bytes a.0 a.3 h r o a.2 c.free_behind.result
+    c.padded_size.result c.free_behind.ensures c.padded_size.ensures
+
+pub overflow_add-result : goal.overflow_add-result
+overflow_add-result c =
+    let a = room-at c.args.part.now.bytes c.requires.sound.0 c.requires.sound.1 c.args.place c.args.bytes
+    c.requires.sound.2 c.requires.room in
+    let e = c.read_header-header.ensures in
+    let h = c.read_header-header.result in
+    let r : Read h c.args.place c.args.part.now.bytes =
+    record { first = e.first; even = e.size; long = e.logical; named = e.slot; marked = e.flags } in
+    let o = sym c.has_content.ensures ∙ c.if-not-has_content.false in
+    let q = free-sized c.args.part.now.bytes c.args.place c.args.bytes a.0 a.3 h r o a.2 c.free_behind.result
+    c.padded_size.result c.free_behind.ensures c.padded_size.ensures
+    c.requires.sound.0 c.requires.sound.1 c.requires.sound.2 c.args.free c.requires.free in
+    let y = size-is c.args.part.now.bytes c.args.place c.args.bytes a.0 a.3 h r in
+    let n = a.3.inside in
+    let m = a.3.small in
+    let l = q.1 in
+    omega (arith, y, n, m, l)
+
+pub overflow_sub-result : goal.overflow_sub-result
+overflow_sub-result c =
+    let a = room-at c.args.part.now.bytes c.requires.sound.0 c.requires.sound.1 c.args.place c.args.bytes
+    c.requires.sound.2 c.requires.room in
+    let e = c.read_header-header.ensures in
+    let h = c.read_header-header.result in
+    let r : Read h c.args.place c.args.part.now.bytes =
+    record { first = e.first; even = e.size; long = e.logical; named = e.slot; marked = e.flags } in
+    let o = sym c.has_content.ensures ∙ c.if-not-has_content.false in
+    let q = free-sized c.args.part.now.bytes c.args.place c.args.bytes a.0 a.3 h r o a.2 c.free_behind.result
+    c.padded_size.result c.free_behind.ensures c.padded_size.ensures
+    c.requires.sound.0 c.requires.sound.1 c.requires.sound.2 c.args.free c.requires.free in
+    q.0
+
+pub returns-clause-cut : goal.returns-clause-cut
+returns-clause-cut c = λ first unused i.
+    let a = room-at c.args.part.now.bytes first unused c.args.place c.args.bytes i c.requires.room in
+    let e = c.read_header-header.ensures in
+    let h = c.read_header-header.result in
+    let r : Read h c.args.place c.args.part.now.bytes =
+    record { first = e.first; even = e.size; long = e.logical; named = e.slot; marked = e.flags } in
+    let o = sym c.has_content.ensures ∙ c.if-not-has_content.false in
+    rw c.lay_block.ensures.bytes
+    (cut-if c.args.part.now.bytes _ c.args.place c.args.bytes a.0 a.1 i.unused
+    (cut-lays c.args.part.now.bytes c.args.place c.args.bytes a.0 a.3 h r o a.2 c.free_behind.result
+    c.padded_size.result c.free_behind.ensures c.padded_size.ensures first unused i))
+
+pub returns-clause-grown : goal.returns-clause-grown
+returns-clause-grown c = λ first unused i.
+    let a = room-at c.args.part.now.bytes first unused c.args.place c.args.bytes i c.requires.room in
+    let e = c.read_header-header.ensures in
+    let h = c.read_header-header.result in
+    let r : Read h c.args.place c.args.part.now.bytes =
+    record { first = e.first; even = e.size; long = e.logical; named = e.slot; marked = e.flags } in
+    let o = sym c.has_content.ensures ∙ c.if-not-has_content.false in
+    rw c.lay_block.ensures.bytes
+    (grown-if c.args.part.now.bytes _ c.args.place c.args.bytes a.0 a.1 i.unused
+    (grown-lays c.args.part.now.bytes c.args.place c.args.bytes a.0 a.3 h r o a.2 c.free_behind.result
+    c.padded_size.result c.free_behind.ensures c.padded_size.ensures first unused i))
+
+pub returns-clause-free : goal.returns-clause-free
+returns-clause-free c =
+    let a = room-at c.args.part.now.bytes c.requires.sound.0 c.requires.sound.1 c.args.place c.args.bytes
+    c.requires.sound.2 c.requires.room in
+    let e = c.read_header-header.ensures in
+    let h = c.read_header-header.result in
+    let r : Read h c.args.place c.args.part.now.bytes =
+    record { first = e.first; even = e.size; long = e.logical; named = e.slot; marked = e.flags } in
+    let o = sym c.has_content.ensures ∙ c.if-not-has_content.false in
+    let q = free-sized c.args.part.now.bytes c.args.place c.args.bytes a.0 a.3 h r o a.2 c.free_behind.result
+    c.padded_size.result c.free_behind.ensures c.padded_size.ensures
+    c.requires.sound.0 c.requires.sound.1 c.requires.sound.2 c.args.free c.requires.free in
+    rw c.lay_block.ensures.bytes q.2

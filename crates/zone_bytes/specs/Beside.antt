@@ -1,0 +1,21 @@
+-- What a zone in bytes has beside its blocks.
+use Rattle.std.specs.Prelude.{◌≡◌, ℕ, ◌*◌, length}
+use Rattle.raw_region.specs.Memory.{Bytes}
+use Rattle.block_store.specs.Block.{count, is_masters}
+use Rattle.block_store.specs.Rest.{Rest}
+use Rattle.zone_bytes.specs.Decode.{zone_in}
+use Rattle.zone_bytes.specs.Table.{slot_in}
+
+-- a part lies where it lay, and is as long
+abbrev pub KeepsPlace : Bytes → Bytes → Type 0
+KeepsPlace old new = (new.home ≡ old.home) × (new.at ≡ old.at) × (length new.bytes ≡ length old.bytes)
+
+-- the slots that the bytes tell, with so many unused ones and so many moves
+abbrev pub rest_in : Bytes → ℕ → ℕ → Rest
+rest_in part unused moves = record {
+  slots = slot_in part.bytes;
+  unused = unused;
+  all = 64 * count is_masters (zone_in part.bytes);
+  moves = moves;
+  window = record { home = part.home; window = record { at = part.at; len = length part.bytes } };
+}

@@ -1,0 +1,42 @@
+-- A block that is laid from a place on, and what is left of the bytes above it.
+use Rattle.std.specs.Prelude.{◌≡◌, ℕ, ◌+◌, ◌-◌, ◌%◌, ◌≤◌, nat_lt, if◌then◌else◌, List, [], ◌∷◌, length, replicate}
+use Rattle.windows.specs.Writes.{written}
+use Rattle.heap_words.specs.Words.{word}
+use Rattle.heap_words.specs.Headers.{header_bytes}
+use Rattle.heap_words.specs.declared.header.Header.{Header}
+use Rattle.block_store.specs.Block.{Block, Free, Fixed, Masters, Relocatable, free_of}
+
+-- the bytes from a place up to `top` made one Free block, where there are any
+abbrev pub left_over : ℕ → ℕ → List ℕ → List ℕ
+left_over at top xs = if nat_lt at top then written at (word (top - at)) xs else xs
+
+-- a header and its content at `bottom`, of which the first `held` bytes are those that stood there and the others are 0
+abbrev pub headed : Header → ℕ → ℕ → List ℕ → List ℕ
+headed header bottom held xs =
+    written (bottom + 16 + held) (replicate (header.logical - held) 0) (written bottom (header_bytes header) xs)
+
+-- and what is left up to `top` is Free
+abbrev pub laid : Header → ℕ → ℕ → ℕ → List ℕ → List ℕ
+laid header bottom top held xs = left_over (bottom + header.size) top (headed header bottom held xs)
+
+-- a block with this header may be laid from bottom to top
+pub record MayLay (header : Header) (bottom top held : ℕ) (xs : List ℕ) : Type 0 where
+  pub even : (bottom % 16 ≡ 0) × (top % 16 ≡ 0) × (header.size % 16 ≡ 0)
+  pub inside : top ≤ length xs
+  pub small : length xs ≤ 134217728
+  pub room : bottom + header.size ≤ top
+  pub whole : 16 + header.logical ≤ header.size
+  pub fits : bottom + 16 + held ≤ top
+
+-- the bytes of the Free block that comes first, or 0
+abbrev pub free_first : List Block → ℕ
+free_first [] = 0
+free_first (b ∷ above) = free_of b
+
+-- the blocks above it
+abbrev pub past_free : List Block → List Block
+past_free [] = []
+past_free (Free n ∷ above) = above
+past_free (Fixed id content ∷ above) = Fixed id content ∷ above
+past_free (Masters ∷ above) = Masters ∷ above
+past_free (Relocatable id flags content ∷ above) = Relocatable id flags content ∷ above

@@ -1,0 +1,39 @@
+-- A run that has been moved as a whole, and whose slots are made to lead to it again.
+use Rattle.std.specs.Prelude.{◌≡◌, ℕ, ◌+◌, ◌%◌, ◌≤◌, List, ◌++◌, length}
+use Rattle.block_store.specs.Block.{Block, sizes}
+use Rattle.zone_bytes.specs.Layout.{head_of, Tiles, Leads, Each}
+use Rattle.zone_bytes.specs.Settling.{Lay, InRun, Lies, HasSlots, SameOthers}
+
+-- the blocks lie in the bytes; the slots of the run from place to stop may lead anywhere
+pub record IsMoved (lay : Lay) (place stop : ℕ) : Type 0 where
+  pub tiles : Tiles (head_of lay.resource) lay.bytes (lay.below ++ (lay.run ++ lay.above))
+  pub slots : HasSlots (lay.below ++ (lay.run ++ lay.above))
+  pub bottom : sizes lay.below ≡ place
+  pub top : place + sizes lay.run ≡ stop
+  pub in_run : Each InRun lay.run
+  pub small : length lay.bytes ≤ 134217728
+  pub low : Leads 0 lay.below lay.bytes
+  pub high : Leads stop lay.above lay.bytes
+
+-- the slots of the blocks below `from` lead to them
+pub record PointingAt (lay : Lay) (stop from : ℕ) (xs : List ℕ) (done rest : List Block) : Type 0 where
+  pub parts : done ++ rest ≡ lay.run
+  pub tiles : Tiles (head_of lay.resource) xs ((lay.below ++ done) ++ (rest ++ lay.above))
+  pub low : Leads 0 (lay.below ++ done) xs
+  pub high : Leads stop lay.above xs
+  pub here : sizes (lay.below ++ done) ≡ from
+  pub up : from + sizes rest ≡ stop
+  pub whole : from % 16 ≡ 0
+  pub kept : length xs ≡ length lay.bytes
+  pub in_run : Each InRun rest
+  pub others : SameOthers (lay.below ++ (lay.run ++ lay.above)) lay.bytes xs
+
+pub record Pointing (lay : Lay) (stop from : ℕ) (xs : List ℕ) : Type 0 where
+  pub done : List Block
+  pub rest : List Block
+  pub state : PointingAt lay stop from xs done rest
+
+pub record Pointed (lay : Lay) (xs : List ℕ) : Type 0 where
+  pub lies : Lies lay.resource (lay.below ++ (lay.run ++ lay.above)) xs
+  pub others : SameOthers (lay.below ++ (lay.run ++ lay.above)) lay.bytes xs
+  pub kept : length xs ≡ length lay.bytes

@@ -1,0 +1,49 @@
+-- A pass over a zone that empties its lowest blocks that may go, and joins Free neighbours.
+use Rattle.std.specs.Prelude.{◌≡◌, ℕ, ◌+◌, ◌-◌, ◌≤◌, List, ◌∷◌, ◌++◌}
+use Rattle.block_store.specs.Block.{Block, sizes, free, free_sum, tidy}
+use Rattle.block_store.specs.Room.{emptied}
+use Rattle.block_store.specs.Slot.{Slot}
+use Rattle.block_store.specs.Sparing.{spared, opened}
+use Rattle.block_store.specs.Inner.Joining.{Closed}
+use Rattle.block_store.specs.declared.sparing.Sparing.{Sparing}
+use Rattle.zone_bytes.specs.Joining.{Freeing}
+use Rattle.zone_bytes.specs.Table.{Lays}
+
+-- the zone that a pass is to leave, before Free neighbours are one; its slots; and the Free bytes before the pass
+pub record Purge : Type 0 where
+  pub goal : List Block
+  pub slots : ℕ → Slot
+  pub unused : List ℕ
+  pub free : ℕ
+
+-- the blocks below `start` are done, Free bytes are from there to `at`, and the rest is as it was; so many purges are
+-- left, and so many bytes became Free
+pub record Purging (p : Purge) (n : Sparing) (start at left freed : ℕ) (xs : List ℕ) : Type 0 where
+  pub done : List Block
+  pub rest : List Block
+  pub lays : Lays xs (done ++ (free (at - start) ++ rest)) p.slots p.unused
+  pub low : sizes done ≡ start
+  pub up : start ≤ at
+  pub tidied : tidy done ≡ done
+  pub closed : Closed done
+  pub will : tidy (done ++ (free (at - start) ++ emptied left (spared n) (opened n rest))) ≡ tidy p.goal
+  pub count : free_sum (done ++ (free (at - start) ++ rest)) ≡ p.free + freed
+
+pub record Purged (p : Purge) (freed : ℕ) (xs : List ℕ) : Type 0 where
+  pub lays : Lays xs (tidy p.goal) p.slots p.unused
+  pub count : free_sum (tidy p.goal) ≡ p.free + freed
+
+-- a block is at a place of a tidy zone
+pub record MayPurge (f : Freeing) (place : ℕ) (xs : List ℕ) : Type 0 where
+  pub lays : Lays xs (f.below ++ f.here ∷ f.above) f.slots f.unused
+  pub low : sizes f.below ≡ place
+  pub tidied : tidy (f.below ++ f.here ∷ f.above) ≡ f.below ++ f.here ∷ f.above
+
+-- the pass over the blocks above it
+abbrev pub purge_above : Freeing → ℕ → Sparing → Purge
+purge_above f purges n = record {
+  goal = f.below ++ f.here ∷ emptied purges (spared n) f.above;
+  slots = f.slots;
+  unused = f.unused;
+  free = free_sum (f.below ++ f.here ∷ f.above);
+}

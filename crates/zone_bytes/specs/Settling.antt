@@ -1,0 +1,76 @@
+-- A run whose relocatable blocks are being moved down.
+use Rattle.std.specs.Prelude.{◌≡◌, ℕ, ◌+◌, ◌-◌, ◌%◌, ◌≤◌, Bool, true, nat_lt, if◌then◌else◌, List, [], ◌∷◌, ◌++◌}
+use Rattle.std.specs.Prelude.{length, take, drop}
+use Rattle.windows.specs.Writes.{piece}
+use Rattle.block_store.specs.Block.{Block, free_of, free_sum, is_mover, sizes}
+use Rattle.block_store.specs.Run.{in_run, movers, settle}
+use Rattle.zone_bytes.specs.Layout.{head_of, Tiles, IsSlot, names, Leads, Apart, Each, Pairs}
+
+-- how many relocatable blocks of a run come lower, where there are so many Free bytes below it
+abbrev pub falling_from : ℕ → List Block → ℕ
+falling_from gap [] = 0
+falling_from gap (b ∷ blocks) = (if is_mover b then (if nat_lt 0 gap then 1 else 0) else 0) + falling_from
+    (gap + free_of b) blocks
+
+-- a zone with one of its runs, and the bytes in which it lies
+pub record Lay : Type 0 where
+  pub resource : ℕ → Bool
+  pub below : List Block
+  pub run : List Block
+  pub above : List Block
+  pub bytes : List ℕ
+
+abbrev pub InRun : Block → Type 0
+InRun b = in_run b ≡ true
+
+-- the blocks lie in xs, and each relocatable one is led to by its slot
+pub record Lies (resource : ℕ → Bool) (blocks : List Block) (xs : List ℕ) : Type 0 where
+  pub tiles : Tiles (head_of resource) xs blocks
+  pub leads : Leads 0 blocks xs
+
+-- the slots of blocks are slots of Masters blocks, each another
+pub record HasSlots (blocks : List Block) : Type 0 where
+  pub slots : Each (λ s. IsSlot s blocks) (names blocks)
+  pub apart : Pairs Apart (names blocks)
+
+-- the run of `lay` is from place to stop
+pub record IsRun (lay : Lay) (place stop : ℕ) : Type 0 where
+  pub lies : Lies lay.resource (lay.below ++ (lay.run ++ lay.above)) lay.bytes
+  pub slots : HasSlots (lay.below ++ (lay.run ++ lay.above))
+  pub bottom : sizes lay.below ≡ place
+  pub top : place + sizes lay.run ≡ stop
+  pub in_run : Each InRun lay.run
+  pub small : length lay.bytes ≤ 134217728
+
+-- the slot words that lead to no block are those that were in the bytes
+abbrev pub SameOthers : List Block → List ℕ → List ℕ → Type 0
+SameOthers blocks old new = (s : ℕ) → IsSlot s blocks → Each (Apart s) (names blocks) → piece s 4 new ≡ piece s 4 old
+
+-- the run's blocks below `from` are `moved` now, up to `to`, and `moves` of them came lower; `rest` lie as they did
+pub record PackingAt (lay : Lay) (stop from to moves : ℕ) (xs : List ℕ) (moved rest : List Block) : Type 0 where
+  pub low : Tiles (head_of lay.resource) (take to xs) (lay.below ++ moved)
+  pub high : Tiles (head_of lay.resource) (drop from xs) (rest ++ lay.above)
+  pub order : moved ++ movers rest ≡ movers lay.run
+  pub free : from + free_sum rest ≡ to + free_sum lay.run
+  pub down : to ≤ from
+  pub up : from + sizes rest ≡ stop
+  pub whole : (from % 16 ≡ 0) × (to % 16 ≡ 0)
+  pub kept : length xs ≡ length lay.bytes
+  pub in_run : Each InRun rest
+  pub lead_low : Leads 0 (lay.below ++ moved) xs
+  pub lead_high : Leads from (rest ++ lay.above) xs
+  pub named : names (lay.below ++ moved) ++ names (rest ++ lay.above) ≡ names (lay.below ++ (lay.run ++ lay.above))
+  pub count : moves + falling_from (from - to) rest ≡ falling_from 0 lay.run
+  pub others : SameOthers (lay.below ++ (lay.run ++ lay.above)) lay.bytes xs
+
+pub record Packing (lay : Lay) (stop from to moves : ℕ) (xs : List ℕ) : Type 0 where
+  pub moved : List Block
+  pub rest : List Block
+  pub state : PackingAt lay stop from to moves xs moved rest
+
+-- the run's relocatable blocks lie one after another from its bottom on, with one Free block above them
+pub record Settled (lay : Lay) (moves : ℕ) (xs : List ℕ) : Type 0 where
+  pub lies : Lies lay.resource (lay.below ++ (settle lay.run ++ lay.above)) xs
+  pub others : SameOthers (lay.below ++ (lay.run ++ lay.above)) lay.bytes xs
+  pub moved : moves ≡ falling_from 0 lay.run
+  pub kept : length xs ≡ length lay.bytes

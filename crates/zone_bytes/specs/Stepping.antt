@@ -1,0 +1,28 @@
+-- A walk over the blocks that bytes spell, from a place on.
+use Rattle.std.specs.Prelude.{ℕ, ◌≤◌, ◌<◌, ◌^◌, zero, suc, Bool, List, length, drop}
+use Rattle.block_store.specs.Block.{Block}
+use Rattle.block_store.specs.declared.sparing.Seen.{Seen}
+use Rattle.block_store.specs.declared.sparing.Seen.TheVariants as see
+use Rattle.zone_bytes.specs.Layout.{names, Each, ArePlaced}
+use Rattle.zone_bytes.specs.Decode.{flags_of, blocks_in}
+use Rattle.zone_bytes.specs.Walking.{Walk}
+
+-- what the words of a header tell: its kind, physical and logical size, slot and flags
+abbrev pub header_seen : ℕ → ℕ → ℕ → ℕ → ℕ → Seen
+header_seen zero n c s f = see.Free n
+header_seen (suc zero) n c s f = see.Fixed c
+header_seen (suc (suc zero)) n c s f = see.Masters
+header_seen (suc (suc (suc k))) n c s f = see.Relocatable s (flags_of f) c
+
+-- the blocks from a place on
+abbrev pub left_in : ℕ → List ℕ → List Block
+left_in at xs = blocks_in (length xs) at (drop at xs)
+
+-- blocks lie from a place on
+pub record IsOnWay (at : ℕ) (xs : List ℕ) : Type 0 where
+  pub resource : ℕ → Bool
+  pub rest : List Block
+  pub walk : Walk resource at xs rest
+  pub placed : ArePlaced at rest
+  pub words : Each (λ s. s < 2 ^ 32) (names rest)
+  pub small : length xs ≤ 134217728

@@ -1,0 +1,68 @@
+//! A Fixed block becomes the block of a slot.
+
+ghost use Rattle.std.specs.Prelude.{◌≡◌, ◌+◌, ◌%◌, ◌≤◌, ◌<◌, ◌∷◌, ℕ, List, length};
+ghost use Rattle.heap_words.specs.Words.{word_at};
+ghost use Rattle.block_store.specs.declared.flags.Flags.{Flags};
+ghost use Rattle.block_store.specs.Block.{Block, Fixed, Relocatable};
+ghost use Rattle.zone_bytes.specs.Stepping.{left_in, IsOnWay};
+ghost use Rattle.zone_bytes.specs.Adopting.{adopted, LeadsHere};
+ghost use Rattle.zone_bytes.specs.Beside.{KeepsPlace};
+
+use crate::carving::kept_flags;
+use crate::flagging::flag_bits;
+use crate::raw_walk::walk_from;
+use crate::words::{read_header, read_word, write_header, write_word};
+use block_store::{Flags, Seen, Walk};
+use heap_words::{Header, Tag};
+use raw_region::Part;
+
+/// The block that a slot leads to: where it stands, its flags and how many bytes it holds.
+#[derive(Clone, Copy, Drop)]
+pub struct SlotBlock {
+    pub place: u32,
+    pub flags: Flags,
+    pub length: u32,
+}
+
+/// The block that a slot leads to.
+pub fn block_of_slot(part: &Part, slot: u32) -> SlotBlock
+    requires slot { (slot % 4 ≡ 0) × (slot + 4 ≤ length part.now.bytes) }
+    requires leads { LeadsHere slot part.now.bytes }
+    ensures place { result.place ≡ word_at slot part.now.bytes }
+    ensures block { (flags : Flags) (content : List ℕ) (above : List Block) →
+        left_in (word_at slot part.now.bytes) part.now.bytes ≡ Relocatable slot flags content ∷ above →
+        (result.flags ≡ flags) × (result.length ≡ length content) }
+{
+    let place = read_word(part, slot);
+    let Some(Seen::Relocatable(_, flags, length)) = walk_from(part, place).next_block() else {
+        unreachable!()
+    };
+    SlotBlock {
+        place,
+        flags,
+        length,
+    }
+}
+
+/// Makes the Fixed block at a place the block of a slot whose handle was emptied.
+pub fn adopt(part: &mut Part, place: u32, slot: u32, flags: Flags)
+    requires way { IsOnWay place part.old.bytes }
+    requires some { place < length part.old.bytes }
+    requires slot { (slot % 4 ≡ 0) × (slot + 4 ≤ length part.old.bytes) }
+    ensures same { KeepsPlace part.old part.new }
+    ensures bytes { (id : ℕ) (content : List ℕ) (above : List Block) →
+        left_in place part.old.bytes ≡ Fixed id content ∷ above →
+        part.new.bytes ≡ adopted slot flags place content part.old.bytes }
+{
+    let fixed = read_header(part, place);
+    let resource = kept_flags(part, slot);
+    let named = Header {
+        size: fixed.size,
+        tag: Tag::Relocatable,
+        logical: fixed.logical,
+        slot,
+        flags: flag_bits(flags) + resource,
+    };
+    write_header(part, place, named);
+    write_word(part, slot, place);
+}

@@ -1,0 +1,68 @@
+//! A Free block is made, and a block at the lower end of one.
+
+ghost use Rattle.std.specs.Prelude.{◌≡◌, ◌+◌, ◌-◌, ◌≤◌, ◌<◌, ◌∷◌, ◌++◌};
+ghost use Rattle.std.specs.Prelude.{◌^◌, ◌%◌, ◌==◌, if◌then◌else◌, ℕ, [], length, replicate};
+ghost use Rattle.mac_words.specs.Size.{padded};
+ghost use Rattle.windows.specs.Writes.{piece};
+ghost use Rattle.heap_words.specs.Words.{word_at};
+ghost use Rattle.block_store.specs.Block.{Free, Relocatable, no_flags, free};
+ghost use Rattle.zone_bytes.specs.Layout.{Apart, IsSlot};
+ghost use Rattle.zone_bytes.specs.Settling.{Lies};
+ghost use Rattle.zone_bytes.specs.Splicing.{Splice, SameOutside, IsSplice, MayCarve};
+ghost use Rattle.zone_bytes.specs.Beside.{KeepsPlace};
+
+use crate::words::{read_word, write_header, write_word};
+use heap_words::{Header, Tag};
+use raw_region::Part;
+
+/// Makes the blocks from `bottom` to `top` one Free block.
+pub fn make_free(part: &mut Part, bottom: u32, top: u32)
+    requires { (z : Splice) × IsSplice z bottom top part.old.bytes }
+    ensures same { KeepsPlace part.old part.new }
+    ensures lies { (z : Splice) → IsSplice z bottom top part.old.bytes
+        → Lies z.resource (z.below ++ (Free (top - bottom) ∷ [] ++ z.above)) part.new.bytes }
+    ensures outside { SameOutside bottom top part.old.bytes part.new.bytes }
+{
+    write_word(part, bottom, top - bottom);
+}
+
+/// The bytes that a block of so many takes.
+pub fn padded_size(bytes: u32) -> u32
+    requires { padded bytes < 2 ^ 32 }
+    ensures { result ≡ padded bytes }
+{
+    (16 + 16 * ((bytes as u64 + 15) / 16)) as u32
+}
+
+/// Puts a new block of `size` bytes 0 at the lower end of the Free block from `bottom` to `top`.
+pub fn carve(part: &mut Part, bottom: u32, top: u32, slot: u32, size: u32, flags: u32)
+    requires { (z : Splice) × MayCarve z bottom top slot size flags part.old.bytes }
+    ensures same { KeepsPlace part.old part.new }
+    ensures lies { (z : Splice) → MayCarve z bottom top slot size flags part.old.bytes →
+        Lies z.resource (z.below ++ (Relocatable slot no_flags (replicate size 0) ∷ free (top - bottom - padded size) ++ z.above)) part.new.bytes }
+    ensures others { (z : Splice) → MayCarve z bottom top slot size flags part.old.bytes →
+        (s : ℕ) → IsSlot s (z.below ++ (z.here ++ z.above)) → Apart slot s → piece s 4 part.new.bytes ≡ piece s 4 part.old.bytes }
+{
+    let bytes = padded_size(size);
+    let header = Header {
+        size: bytes,
+        tag: Tag::Relocatable,
+        logical: size,
+        slot,
+        flags,
+    };
+    write_header(part, bottom, header);
+    part.fill(bottom as usize + 16, size as usize, 0);
+    if bytes < top - bottom {
+        write_word(part, bottom + bytes, top - bottom - bytes);
+    }
+    write_word(part, slot, bottom);
+}
+
+/// The flags of a new block for a slot: those that its emptied handle kept.
+pub fn kept_flags(part: &Part, slot: u32) -> u32
+    requires { (slot % 4 ≡ 0) × (slot + 4 ≤ length part.now.bytes) }
+    ensures { result ≡ (if word_at slot part.now.bytes == 18 then 32 else 0) }
+{
+    if read_word(part, slot) == 18 { 32 } else { 0 }
+}

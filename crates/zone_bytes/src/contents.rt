@@ -1,0 +1,35 @@
+//! The bytes that a block holds.
+
+ghost use Rattle.std.specs.Prelude.{◌≡◌, ◌+◌, ◌≤◌, ◌<◌, ◌%◌, ◌==◌, ◌∷◌, List, length};
+ghost use Rattle.heap_words.specs.Headers.{tag_number};
+ghost use Rattle.block_store.specs.Block.{Block, content_of};
+ghost use Rattle.zone_bytes.specs.Stepping.{left_in, IsOnWay};
+
+use crate::words::read_header;
+use crate::writing::get_bytes;
+use heap_words::Tag;
+use raw_region::Part;
+
+/// Whether blocks of a kind hold bytes.
+pub(crate) fn has_content(tag: Tag) -> bool
+    ensures { result ≡ (tag_number tag % 2 == 1) }
+{
+    match tag {
+        Tag::Free | Tag::Masters => false,
+        Tag::Fixed | Tag::Relocatable => true,
+    }
+}
+
+/// The bytes that the block at a place holds.
+pub fn content_at(part: &Part, place: u32) -> &[u8]
+    requires way { IsOnWay place part.now.bytes }
+    requires some { place < length part.now.bytes }
+    ensures { (b : Block) (above : List Block) → left_in place part.now.bytes ≡ b ∷ above → result.now ≡ content_of b }
+{
+    let header = read_header(part, place);
+    if has_content(header.tag) {
+        get_bytes(part, place + 16, header.logical)
+    } else {
+        &[]
+    }
+}

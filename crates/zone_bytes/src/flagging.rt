@@ -1,0 +1,45 @@
+//! The flags in a header.
+
+ghost use Rattle.std.specs.Prelude.{◌≡◌, ◌<◌, ◌≤◌, ◌==◌, false, length};
+ghost use Rattle.heap_words.specs.Headers.{tag_number};
+ghost use Rattle.zone_bytes.specs.Flagged.{flagged};
+ghost use Rattle.zone_bytes.specs.Layout.{flag_word};
+ghost use Rattle.zone_bytes.specs.Stepping.{IsOnWay};
+ghost use Rattle.zone_bytes.specs.Beside.{KeepsPlace};
+
+use crate::words::{read_header, write_word};
+use block_store::Flags;
+use heap_words::Tag;
+use raw_region::Part;
+
+/// The number of flags.
+pub fn flag_bits(flags: Flags) -> u32
+    ensures { result ≡ flag_word flags false }
+{
+    let locked: u32 = if flags.locked { 128 } else { 0 };
+    let purgeable: u32 = if flags.purgeable { 64 } else { 0 };
+    locked + purgeable
+}
+
+/// Whether a kind is that of relocatable blocks.
+fn moves(tag: Tag) -> bool
+    ensures { result ≡ (tag_number tag == 3) }
+{
+    match tag {
+        Tag::Relocatable => true,
+        _ => false,
+    }
+}
+
+/// Sets the flags of the block at a place, where it is a relocatable one; whether it is a resource stays.
+pub fn flag_at(part: &mut Part, place: u32, flags: Flags)
+    requires way { IsOnWay place part.old.bytes }
+    requires some { place < length part.old.bytes }
+    ensures same { KeepsPlace part.old part.new }
+    ensures bytes { part.new.bytes ≡ flagged flags place part.old.bytes }
+{
+    let header = read_header(part, place);
+    if moves(header.tag) {
+        write_word(part, place + 12, flag_bits(flags) + header.flags % 64);
+    }
+}

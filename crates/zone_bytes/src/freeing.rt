@@ -1,0 +1,87 @@
+//! Blocks are made Free, and joined with their Free neighbours.
+
+ghost use Rattle.std.specs.Prelude.{◌≡◌, ◌+◌, ◌-◌, ◌%◌, ◌∷◌, ◌++◌, nat_le, length};
+ghost use Rattle.block_store.specs.Block.{Free, size, free, add, tidy, free_sum, is_relocatable};
+ghost use Rattle.block_store.specs.Grow.{freed};
+ghost use Rattle.zone_bytes.specs.Joining.{Freeing, MayFree, MayRelease, Joining, MayJoin, HasHandle};
+ghost use Rattle.zone_bytes.specs.Table.{Table, Lays, emptied_word};
+ghost use Rattle.zone_bytes.specs.Beside.{KeepsPlace};
+
+use crate::carving::make_free;
+use crate::joining::last_free_below;
+use crate::words::{read_header, read_word, write_word};
+use block_store::UNIT;
+use heap_words::Tag;
+use raw_region::Part;
+
+/// The word of the slot of a handle that is emptied, by the flags of its block's header.
+fn word_of_emptied(flags: u32) -> u32
+    ensures { result ≡ emptied_word (nat_le 32 (flags % 64)) }
+{
+    if flags % 64 >= 32 { 18 } else { 2 }
+}
+
+/// Makes the block at a place one with the Free bytes from `start` to there; a handle that led to it is
+/// emptied. Answers where the block ended.
+pub fn free_up(part: &mut Part, start: u32, at: u32) -> u32
+    requires { (f : Freeing) × MayFree f start at part.old.bytes }
+    ensures same { KeepsPlace part.old part.new }
+    ensures end { (f : Freeing) → MayFree f start at part.old.bytes → result ≡ at + size f.here }
+    ensures lays { (f : Freeing) → MayFree f start at part.old.bytes →
+        Lays part.new.bytes (f.below ++ (free (at + size f.here - start) ++ f.above)) f.slots f.unused }
+{
+    let header = read_header(part, at);
+    let end = at + header.size;
+    make_free(part, start, end);
+    if header.tag == Tag::Relocatable {
+        write_word(part, header.slot, word_of_emptied(header.flags));
+    }
+    end
+}
+
+/// Makes the Free bytes from `start` to `at` one with a Free block that begins there.
+fn join_above(part: &mut Part, start: u32, at: u32)
+    requires { (j : Joining) × MayJoin j start at part.old.bytes }
+    ensures same { KeepsPlace part.old part.new }
+    ensures lays { (j : Joining) → MayJoin j start at part.old.bytes →
+        Lays part.new.bytes (j.below ++ add (Free (at - start)) j.above) j.slots j.unused }
+{
+    if at >= part.len() as u32 {
+        return;
+    }
+    if read_header(part, at).tag == Tag::Free {
+        free_up(part, start, at);
+    }
+}
+
+/// Makes the block at a place Free, and its Free neighbours one with it. Answers how many bytes it took.
+pub fn free_block(part: &mut Part, place: u32) -> u32
+    requires { (f : Freeing) × MayRelease f place part.old.bytes }
+    ensures same { KeepsPlace part.old part.new }
+    ensures bytes { (f : Freeing) → MayRelease f place part.old.bytes → result ≡ size f.here }
+    ensures lays { (f : Freeing) → MayRelease f place part.old.bytes →
+        Lays part.new.bytes (tidy (f.below ++ Free (size f.here) ∷ f.above)) f.slots f.unused }
+{
+    let start = last_free_below(part, place);
+    let end = free_up(part, start, place);
+    join_above(part, start, end);
+    end - place
+}
+
+/// Makes the block that a handle's slot leads to Free, and its Free neighbours one with it; does nothing where
+/// the handle is emptied. Answers how many bytes became Free.
+pub fn free_slot(part: &mut Part, slot: u32) -> u32
+    requires { (t : Table) × HasHandle t slot part.old.bytes }
+    ensures same { KeepsPlace part.old part.new }
+    ensures lays { (t : Table) → HasHandle t slot part.old.bytes →
+        Lays part.new.bytes (tidy (freed (is_relocatable slot) t.blocks)) t.slots t.unused }
+    ensures bytes { (t : Table) → HasHandle t slot part.old.bytes →
+        free_sum (tidy (freed (is_relocatable slot) t.blocks)) ≡ free_sum t.blocks + result }
+{
+    let word = read_word(part, slot);
+    if word % UNIT == 0 {
+        free_block(part, word)
+    } else {
+        0
+    }
+}

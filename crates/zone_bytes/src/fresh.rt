@@ -1,0 +1,34 @@
+//! A fresh zone.
+
+ghost use Rattle.std.specs.Prelude.{◌≡◌, ◌+◌, ◌-◌, ◌%◌, ◌≤◌, List, length};
+ghost use Rattle.block_store.specs.Block.{fresh};
+ghost use Rattle.zone_bytes.specs.Fresh.{fresh_slots, all_slots};
+ghost use Rattle.zone_bytes.specs.Table.{Lays};
+ghost use Rattle.zone_bytes.specs.Beside.{KeepsPlace};
+
+use crate::words::{write_header, write_word};
+use heap_words::{Header, Tag};
+use raw_region::Part;
+
+/// Makes the bytes a fresh zone, whose 64 slots are unused.
+pub fn make_fresh(part: &mut Part, end: u32)
+    requires { (length part.old.bytes ≡ end) × (end % 16 ≡ 0) × (512 ≤ end) × (end ≤ 134217728) }
+    ensures same { KeepsPlace part.old part.new }
+    ensures lays { Lays part.new.bytes (fresh end) fresh_slots all_slots }
+{
+    let header = Header {
+        size: 272,
+        tag: Tag::Masters,
+        logical: 256,
+        slot: 0,
+        flags: 0,
+    };
+    write_header(part, 0, header);
+    write_word(part, 272, end - 272);
+    write_word(part, 268, 1);
+    let mut slot: u32 = 268;
+    while 16 < slot {
+        write_word(part, slot - 4, 16 * slot + 1);
+        slot -= 4;
+    }
+}

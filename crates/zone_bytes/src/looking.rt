@@ -1,0 +1,90 @@
+//! Where a handle's slot leads, and the resource flag of the handle.
+
+ghost use Rattle.std.specs.Prelude.{◌≡◌, ◌+◌, ◌*◌, ◌/◌, ◌∷◌, Bool, List, if◌then◌else◌};
+ghost use Rattle.std.specs.Option.{option_map};
+ghost use Rattle.heap_words.specs.Words.{word_at};
+ghost use Rattle.block_store.specs.Block.{Block, sizes, is_relocatable};
+ghost use Rattle.block_store.specs.Room.{spot};
+ghost use Rattle.block_store.specs.Slot.{Used, set_slot, is_resource};
+ghost use Rattle.zone_bytes.specs.Beside.{KeepsPlace};
+ghost use Rattle.zone_bytes.specs.Looking.{place_of_word, IsHandle};
+ghost use Rattle.zone_bytes.specs.Stepping.{left_in, IsOnWay};
+ghost use Rattle.zone_bytes.specs.Table.{Table, Lays, emptied_word};
+
+use crate::raw_walk::{RawWalk, walk_from};
+use crate::words::{read_word, write_word};
+use block_store::Walk;
+use raw_region::Part;
+
+/// The word of an emptied handle's slot.
+fn emptied(resource: bool) -> u32
+    ensures { result ≡ emptied_word resource }
+{
+    if resource { 18 } else { 2 }
+}
+
+/// The flags of a header with the resource flag set or cleared.
+fn with_resource(flags: u32, resource: bool) -> u32
+    ensures { result ≡ flags / 64 * 64 + (if resource then 32 else 0) }
+{
+    let bit: u32 = if resource { 32 } else { 0 };
+    flags / 64 * 64 + bit
+}
+
+/// The place that a slot's word is.
+fn leads_to(word: u32) -> Option<u32>
+    ensures { result ≡ place_of_word word }
+{
+    if word == 2 || word == 18 {
+        None
+    } else {
+        Some(word)
+    }
+}
+
+/// The place of the block that a handle's slot leads to; none where the handle is emptied.
+pub fn slot_place(part: &Part, slot: u32) -> Option<u32>
+    requires { (t : Table) × IsHandle part.now.bytes t slot }
+    ensures { (t : Table) → IsHandle part.now.bytes t slot →
+        result ≡ option_map (λ s. sizes s.below) (spot (is_relocatable slot) t.blocks) }
+{
+    leads_to(read_word(part, slot))
+}
+
+/// Whether the resource flag of a handle's slot is set.
+pub fn slot_resource(part: &Part, slot: u32) -> bool
+    requires { (t : Table) × IsHandle part.now.bytes t slot }
+    ensures { (t : Table) → IsHandle part.now.bytes t slot → result ≡ is_resource (t.slots slot) }
+{
+    let word = read_word(part, slot);
+    match leads_to(word) {
+        Some(place) => read_word(part, place + 12) % 64 >= 32,
+        None => word == 18,
+    }
+}
+
+/// Sets or clears the resource flag of a handle: in its slot where it is emptied, else in its block's header.
+pub fn mark_slot(part: &mut Part, slot: u32, resource: bool)
+    requires { (t : Table) × IsHandle part.old.bytes t slot }
+    ensures same { KeepsPlace part.old part.new }
+    ensures lays { (t : Table) → IsHandle part.old.bytes t slot →
+        Lays part.new.bytes t.blocks (set_slot t.slots slot (Used resource)) t.unused }
+{
+    match leads_to(read_word(part, slot)) {
+        Some(place) => {
+            let flags = read_word(part, place + 12);
+            write_word(part, place + 12, with_resource(flags, resource));
+        }
+        None => write_word(part, slot, emptied(resource)),
+    }
+}
+
+/// A walk over the blocks above the one at a place.
+pub fn walk_above<'a>(part: &'a Part, place: u32) -> RawWalk<'a>
+    requires { IsOnWay place part.now.bytes }
+    ensures { (b : Block) (above : List Block) → left_in place part.now.bytes ≡ b ∷ above → result ≡ above }
+{
+    let mut walk = walk_from(part, place);
+    let _here = walk.next_block();
+    walk
+}

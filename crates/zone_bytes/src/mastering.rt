@@ -1,0 +1,61 @@
+//! A block of master pointers is put into a Free block.
+
+ghost use Rattle.std.specs.Prelude.{◌≡◌, ◌+◌, ◌%◌, ◌≤◌, ◌<◌, ◌++◌, ℕ, IsTrue, IsSomeAnd, IfSome, length};
+ghost use Rattle.block_store.specs.Block.{Masters, is_room};
+ghost use Rattle.block_store.specs.Room.{spot_at, filled};
+ghost use Rattle.block_store.specs.declared.measures.TheConstants.{MASTERS_SIZE, GREATEST_ZONE};
+ghost use Rattle.zone_bytes.specs.Decode.{zone_in};
+ghost use Rattle.zone_bytes.specs.Table.{Lays, slot_in};
+ghost use Rattle.zone_bytes.specs.Lawful.{IsSound};
+ghost use Rattle.zone_bytes.specs.Splicing.{SameOutside};
+ghost use Rattle.zone_bytes.specs.Mastering.{slots_at, with_slots, Thread};
+ghost use Rattle.zone_bytes.specs.Beside.{KeepsPlace};
+
+use crate::placing::{lay_block, size_at};
+use crate::words::write_word;
+use block_store::{HEADER_SIZE, MASTERS_SIZE};
+use heap_words::{Header, Tag};
+use raw_region::Part;
+
+/// Threads the slots of the Masters block at a place; the last leads to the slot `first`.
+fn thread_slots(part: &mut Part, place: u32, first: u32)
+    requires even { place % 4 ≡ 0 }
+    requires inside { place + MASTERS_SIZE ≤ length part.old.bytes }
+    requires small { length part.old.bytes ≤ GREATEST_ZONE }
+    requires first { first < GREATEST_ZONE }
+    ensures same { KeepsPlace part.old part.new }
+    ensures thread { Thread first part.new.bytes (slots_at place) }
+    ensures outside { SameOutside (place + 16) (place + MASTERS_SIZE) part.old.bytes part.new.bytes }
+{
+    let mut slot = place + MASTERS_SIZE - 4;
+    write_word(part, slot, 16 * first + 1);
+    while place + HEADER_SIZE < slot {
+        write_word(part, slot - 4, 16 * slot + 1);
+        slot -= 4;
+    }
+}
+
+/// Puts a block of 64 slots at the lower end of the Free block at a place; they come before the unused ones, of
+/// which `first` is the first.
+///
+/// *Inside Macintosh: Memory*, chapter 2, "Allocating Master Pointers".
+pub fn add_masters(part: &mut Part, place: u32, first: u32)
+    requires sound { (unused : ℕ) × IsSound part.old.bytes first unused }
+    requires room { IsSomeAnd (spot_at place (zone_in part.old.bytes)) (λ s. IsTrue (is_room MASTERS_SIZE s.here)) }
+    ensures same { KeepsPlace part.old part.new }
+    ensures lays { (unused : ℕ) (i : IsSound part.old.bytes first unused) →
+        IfSome (spot_at place (zone_in part.old.bytes)) (λ s. Lays part.new.bytes (filled Masters s)
+        (with_slots place (slot_in part.old.bytes)) (slots_at place ++ i.unused)) }
+{
+    let top = place + size_at(part, place);
+    let slots = MASTERS_SIZE - HEADER_SIZE;
+    let header = Header {
+        size: MASTERS_SIZE,
+        tag: Tag::Masters,
+        logical: slots,
+        slot: 0,
+        flags: 0,
+    };
+    lay_block(part, place, top, header, slots);
+    thread_slots(part, place, first);
+}

@@ -1,0 +1,67 @@
+//! A walk over the blocks of a zone in the bytes of a part.
+
+ghost use Rattle.std.specs.Prelude.{◌≡◌, length};
+ghost use Rattle.heap_words.specs.Headers.{tag_number};
+ghost use Rattle.zone_bytes.specs.Stepping.{header_seen, left_in, IsOnWay};
+
+use crate::words::read_header;
+use block_store::{Flags, Seen, Walk};
+use heap_words::{Header, Tag};
+use raw_region::Part;
+use std::marker::Model;
+
+/// What a header tells of its block.
+pub fn seen_of(header: Header) -> Seen
+    ensures { result ≡ header_seen (tag_number header.tag) header.size header.logical header.slot header.flags }
+{
+    let flags = Flags {
+        locked: header.flags >= 128,
+        purgeable: header.flags % 128 >= 64,
+    };
+    match header.tag {
+        Tag::Free => Seen::Free(header.size),
+        Tag::Fixed => Seen::Fixed(header.logical),
+        Tag::Masters => Seen::Masters,
+        Tag::Relocatable => Seen::Relocatable(header.slot, flags, header.logical),
+    }
+}
+
+/// The blocks from a place on.
+#[derive(Drop)]
+pub struct RawWalk<'a> {
+    part: &'a Part,
+    at: u32,
+}
+
+impl<'a> Model for RawWalk<'a> {
+    ghost use Rattle.std.specs.Prelude.{List};
+    ghost use Rattle.block_store.specs.Block.{Block};
+    ghost use Rattle.zone_bytes.specs.Wander.{walk_view, IsRawWalk};
+
+    ghost Value = { List Block };
+
+    ghost view = { walk_view };
+
+    ghost invariant = { IsRawWalk };
+}
+
+/// A walk over the blocks from a place on.
+pub fn walk_from<'a>(part: &'a Part, at: u32) -> RawWalk<'a>
+    requires { IsOnWay at part.now.bytes }
+    ensures { result ≡ left_in at part.now.bytes }
+{
+    RawWalk { part, at }
+}
+
+impl Walk for RawWalk<'_> {
+    ghost rest = { λ w. w };
+
+    fn next_block(&mut self) -> Option<Seen> {
+        if self.at >= self.part.len() as u32 {
+            return None;
+        }
+        let header = read_header(self.part, self.at);
+        self.at += header.size;
+        Some(seen_of(header))
+    }
+}

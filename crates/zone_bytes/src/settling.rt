@@ -1,0 +1,74 @@
+//! The relocatable blocks of a run are moved down.
+
+ghost use Rattle.std.specs.Prelude.{◌≡◌, ◌+◌, ◌-◌, ◌%◌, ◌≤◌, ◌<◌, ◌^◌, length, nat_lt, if◌then◌else◌};
+ghost use Rattle.windows.specs.Writes.{written, piece};
+ghost use Rattle.heap_words.specs.Words.{word};
+ghost use Rattle.block_store.specs.Block.{sizes};
+ghost use Rattle.block_store.specs.Run.{movers};
+ghost use Rattle.zone_bytes.specs.Settling.{Lay, IsRun, Settled};
+ghost use Rattle.zone_bytes.specs.Beside.{KeepsPlace};
+
+use crate::words::{read_header, write_word};
+use heap_words::Tag;
+use raw_region::Part;
+
+/// What is told of a run that was packed.
+#[derive(Clone, Copy, Debug)]
+pub struct PackedRun {
+    /// How many of its blocks came lower.
+    pub lowered: u32,
+    /// Where its Free block begins.
+    pub top: u32,
+    /// Where it ends.
+    pub stop: u32,
+}
+
+/// Moves a block of `size` bytes down, and makes its slot lead to its new place. Answers whether it came lower.
+fn move_block(part: &mut Part, from: u32, to: u32, size: u32, slot: u32) -> u32
+    requires down { to ≤ from }
+    requires inside { from + size ≤ length part.old.bytes }
+    requires slot { (slot % 4 ≡ 0) × (slot + 4 ≤ length part.old.bytes) }
+    requires leads { piece slot 4 part.old.bytes ≡ word from }
+    ensures same { KeepsPlace part.old part.new }
+    ensures bytes { part.new.bytes
+        ≡ written slot (word to) (written to (piece from size part.old.bytes) part.old.bytes) }
+    ensures moves { result ≡ (if nat_lt 0 (from - to) then 1 else 0) }
+{
+    if to == from {
+        return 0;
+    }
+    part.slide(from as usize, to as usize, size as usize);
+    write_word(part, slot, to);
+    1
+}
+
+/// Moves the relocatable blocks of the run from `place` to `stop` down, and makes one Free block of the rest.
+pub fn settle_run(part: &mut Part, place: u32, stop: u32) -> PackedRun
+    ghost lay: { Lay }
+    requires bytes { part.old.bytes ≡ lay.bytes }
+    requires run { IsRun lay place stop }
+    ensures same { KeepsPlace part.old part.new }
+    ensures settled { Settled lay result.lowered part.new.bytes }
+    ensures top { result.top ≡ place + sizes (movers lay.run) }
+    ensures stop { result.stop ≡ stop }
+{
+    let mut from = place;
+    let mut to = place;
+    let mut moves = 0;
+    while from < stop {
+        let header = read_header(part, from);
+        if header.tag == Tag::Relocatable {
+            moves += move_block(part, from, to, header.size, header.slot);
+            to += header.size;
+        }
+        from += header.size;
+    }
+    if to < from {
+        write_word(part, to, from - to);
+    }
+    PackedRun {
+        lowered: moves,
+        top: to,
+        stop,
+    }
+}

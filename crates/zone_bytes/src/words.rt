@@ -1,0 +1,52 @@
+//! Words and headers of a zone, by places of 32 bits.
+
+ghost use Rattle.std.specs.Prelude.{◌≡◌, ◌+◌, ◌%◌, ◌≤◌, ◌<◌, ◌^◌, length};
+ghost use Rattle.windows.specs.Writes.{written};
+ghost use Rattle.heap_words.specs.Headers.{header_bytes, tag_number};
+ghost use Rattle.heap_words.specs.Words.{word, word_at};
+ghost use Rattle.zone_bytes.specs.Beside.{KeepsPlace};
+
+use heap_words::Header;
+use raw_region::Part;
+
+/// The word at a place.
+pub fn read_word(part: &Part, at: u32) -> u32
+    requires { (at % 4 ≡ 0) × (at + 4 ≤ length part.now.bytes) }
+    ensures { result ≡ word_at at part.now.bytes }
+{
+    heap_words::read_word(part, at as usize)
+}
+
+/// Writes the word at a place.
+pub fn write_word(part: &mut Part, at: u32, number: u32)
+    requires { (at % 4 ≡ 0) × (at + 4 ≤ length part.old.bytes) }
+    ensures same { KeepsPlace part.old part.new }
+    ensures bytes { part.new.bytes ≡ written at (word number) part.old.bytes }
+{
+    heap_words::write_word(part, at as usize, number);
+}
+
+/// The header at a place.
+pub fn read_header(part: &Part, at: u32) -> Header
+    requires within { (at % 4 ≡ 0) × (at + 16 ≤ length part.now.bytes) }
+    requires fits { at + 16 < 2 ^ 32 }
+    requires tag { word_at at part.now.bytes % 16 < 4 }
+    ensures first { result.size + tag_number result.tag ≡ word_at at part.now.bytes }
+    ensures size { result.size % 16 ≡ 0 }
+    ensures logical { result.logical ≡ word_at (at + 4) part.now.bytes }
+    ensures slot { result.slot ≡ word_at (at + 8) part.now.bytes }
+    ensures flags { result.flags ≡ word_at (at + 12) part.now.bytes }
+{
+    heap_words::read_header(part, at)
+}
+
+/// Writes a header at a place.
+pub fn write_header(part: &mut Part, at: u32, header: Header)
+    requires within { (at % 4 ≡ 0) × (at + 16 ≤ length part.old.bytes) }
+    requires fits { at + 16 < 2 ^ 32 }
+    requires size { header.size % 16 ≡ 0 }
+    ensures same { KeepsPlace part.old part.new }
+    ensures bytes { part.new.bytes ≡ written at (header_bytes header) part.old.bytes }
+{
+    heap_words::write_header(part, at, header);
+}

@@ -1,0 +1,26 @@
+//! Bytes are written into a block.
+
+ghost use Rattle.std.specs.Prelude.{◌≡◌, ◌+◌, ◌≤◌, length};
+ghost use Rattle.windows.specs.Writes.{written, piece};
+ghost use Rattle.zone_bytes.specs.Beside.{KeepsPlace};
+
+use raw_region::Part;
+
+/// Writes bytes from a place on.
+pub fn put_bytes(part: &mut Part, at: u32, bytes: &[u8])
+    requires { at + length bytes.now ≤ length part.old.bytes }
+    ensures same { KeepsPlace part.old part.new }
+    ensures bytes { part.new.bytes ≡ written at bytes.now part.old.bytes }
+{
+    let start = at as usize;
+    part.bytes_mut()[start..start + bytes.len()].copy_from_slice(bytes);
+}
+
+/// The `count` bytes from a place on.
+pub fn get_bytes(part: &Part, at: u32, count: u32) -> &[u8]
+    requires { at + count ≤ length part.now.bytes }
+    ensures { result.now ≡ piece at count part.now.bytes }
+{
+    let start = at as usize;
+    &part.bytes()[start..start + count as usize]
+}
