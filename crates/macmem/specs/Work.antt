@@ -1,6 +1,6 @@
 use Rattle.std.specs.Prelude.{◌≡◌, ℕ, Ok, List, IsTrue, codes}
 use Rattle.script_text.specs.Script.{Parts, script_of, spelled}
-use Rattle.desk.specs.Alone.{script_alone}
+use Rattle.applications.specs.Alone.{script_alone}
 use Rattle.fork_format.specs.Content.{Content}
 use Rattle.fork_format.specs.Fork.{is_fork, content_of}
 use Rattle.fork_format.specs.Canonical.{canon, fits}

@@ -12,7 +12,7 @@ mod tool;
 mod words;
 mod work;
 
-pub use desk::run_script;
+pub use applications::run_script;
 pub use fault::ToolFault;
 pub use files::HostFiles;
 pub use host::{Host, ReadError, WriteError};

@@ -9,7 +9,7 @@ ghost use Rattle.fork_format.specs.View.{view};
 ghost use Rattle.macmem.specs.Work.{IsTranscriptOf, IsFormOf, TellsForm, text_of};
 
 use crate::size::PartitionSize;
-use desk::run_script;
+use applications::run_script;
 use fork_format::{Content, ForkFault, WriteFault, read_fork, write_fork};
 use script_text::{FaultKind, Script, ScriptFault, read_script};
 use std::alloc::{AllocError, Global};

@@ -1,0 +1,109 @@
+use Rattle.std.proofs.Common.{ℕ, List}
+use Rattle.script_text.specs.declared.script.Line.{Line}
+use Rattle.res_calls.specs.Files.{Resources}
+use Rattle.res_calls.specs.Fetch.{Managers}
+use Rattle.res_calls.proofs.Walks.Launching.{preloaded-busy}
+use Rattle.heap_calls.specs.State.{fresh_memory}
+use Rattle.heap_calls.specs.LastPut.{Holds}
+use Rattle.heap_calls.proofs.Promises.Knowing.{holds-known}
+use Rattle.applications.specs.Trying.{Blocks, launched_with, nowhere}
+use Rattle.applications.specs.Step.{Event, run}
+use Rattle.applications.specs.Laws.{put_at_launch, EachTry, Linked, ShowsPut, HoldsPut, KeepsLocked, KeepsFixed}
+use Rattle.applications.specs.Laws.{EmptiesPurgeable, LooksFew, RefusedLeaves, RefusedBinds, NothingBusy, GoesByRule}
+use Rattle.applications.specs.Laws.{KeepsResources, KeepsFiles, KeepsTable}
+use Rattle.applications.proofs.TryLaws.{sound-launched, once-shows, once-holds, once-locked, once-fixed, once-purgeable}
+use Rattle.applications.proofs.TryLaws.{once-looks, once-refused, once-keeps-resources, once-keeps-files, once-keeps-table}
+use Rattle.applications.proofs.Carrying.{run-goes}
+use Rattle.applications.proofs.StepLaws.{binds-no-name}
+use Rattle.applications.proofs.Marking.{nothing-busy}
+use Rattle.applications.proofs.Ending.{goes-by-rule}
+
+-- The laws of a run, whatever the resources of its application are, and whichever lines of a script it takes.
+
+-- as it is launched each handle with a block holds what was read into it
+pub any_launch_holds : (resources : Resources) (n : ℕ)
+    → Holds (launched_with resources n nowhere).memory.heap (put_at_launch resources n)
+any_launch_holds resources n = holds-known (launched_with resources n nowhere).memory.heap
+    (put_at_launch resources n) (sound-launched resources n).known
+
+-- the tries of some lines in a fresh partition of n bytes
+abbrev pub tries : Resources → ℕ → Blocks → List Line → List Event
+tries resources n blocks lines = (run blocks lines (launched_with resources n nowhere)).events
+
+-- each of them keeps a law
+abbrev pub Keeps : ((ℕ → List ℕ) → Event → Type 0) → Resources → ℕ → Blocks → List Line → Type 0
+Keeps P resources n blocks lines = EachTry P (put_at_launch resources n) (tries resources n blocks lines)
+
+-- of each try nothing more is said
+abbrev Any : (ℕ → List ℕ) → Event → Type 0
+Any bytes e = Unit {0}
+
+pub any_linked : (resources : Resources) (n : ℕ) (blocks : Blocks) (lines : List Line)
+    → Linked (launched_with resources n nowhere).memory.heap (tries resources n blocks lines)
+any_linked resources n blocks lines = (run-goes Any (λ blocks l r bytes sound. tt) blocks lines
+    (launched_with resources n nowhere) (put_at_launch resources n) (sound-launched resources n)).linked
+
+pub any_shows_put : (resources : Resources) (n : ℕ) (blocks : Blocks) (lines : List Line)
+    → Keeps ShowsPut resources n blocks lines
+any_shows_put resources n blocks lines = (run-goes ShowsPut once-shows blocks lines
+    (launched_with resources n nowhere) (put_at_launch resources n) (sound-launched resources n)).each
+
+pub any_holds_put : (resources : Resources) (n : ℕ) (blocks : Blocks) (lines : List Line)
+    → Keeps HoldsPut resources n blocks lines
+any_holds_put resources n blocks lines = (run-goes HoldsPut once-holds blocks lines
+    (launched_with resources n nowhere) (put_at_launch resources n) (sound-launched resources n)).each
+
+pub any_locked_stays : (resources : Resources) (n : ℕ) (blocks : Blocks) (lines : List Line)
+    → Keeps KeepsLocked resources n blocks lines
+any_locked_stays resources n blocks lines = (run-goes KeepsLocked once-locked blocks lines
+    (launched_with resources n nowhere) (put_at_launch resources n) (sound-launched resources n)).each
+
+pub any_fixed_stays : (resources : Resources) (n : ℕ) (blocks : Blocks) (lines : List Line)
+    → Keeps KeepsFixed resources n blocks lines
+any_fixed_stays resources n blocks lines = (run-goes KeepsFixed once-fixed blocks lines
+    (launched_with resources n nowhere) (put_at_launch resources n) (sound-launched resources n)).each
+
+pub any_only_purgeable_go : (resources : Resources) (n : ℕ) (blocks : Blocks) (lines : List Line)
+    → Keeps EmptiesPurgeable resources n blocks lines
+any_only_purgeable_go resources n blocks lines = (run-goes EmptiesPurgeable once-purgeable blocks lines
+    (launched_with resources n nowhere) (put_at_launch resources n) (sound-launched resources n)).each
+
+pub any_looks_few : (resources : Resources) (n : ℕ) (blocks : Blocks) (lines : List Line)
+    → Keeps LooksFew resources n blocks lines
+any_looks_few resources n blocks lines = (run-goes LooksFew once-looks blocks lines
+    (launched_with resources n nowhere) (put_at_launch resources n) (sound-launched resources n)).each
+
+pub any_refused_leave : (resources : Resources) (n : ℕ) (blocks : Blocks) (lines : List Line)
+    → Keeps RefusedLeaves resources n blocks lines
+any_refused_leave resources n blocks lines = (run-goes RefusedLeaves once-refused blocks lines
+    (launched_with resources n nowhere) (put_at_launch resources n) (sound-launched resources n)).each
+
+pub any_resources_stay : (resources : Resources) (n : ℕ) (blocks : Blocks) (lines : List Line)
+    → Keeps KeepsResources resources n blocks lines
+any_resources_stay resources n blocks lines = (run-goes KeepsResources once-keeps-resources blocks lines
+    (launched_with resources n nowhere) (put_at_launch resources n) (sound-launched resources n)).each
+
+pub any_files_stay : (resources : Resources) (n : ℕ) (blocks : Blocks) (lines : List Line)
+    → Keeps KeepsFiles resources n blocks lines
+any_files_stay resources n blocks lines = (run-goes KeepsFiles once-keeps-files blocks lines
+    (launched_with resources n nowhere) (put_at_launch resources n) (sound-launched resources n)).each
+
+pub any_table_stays : (resources : Resources) (n : ℕ) (blocks : Blocks) (lines : List Line)
+    → Keeps KeepsTable resources n blocks lines
+any_table_stays resources n blocks lines = (run-goes KeepsTable once-keeps-table blocks lines
+    (launched_with resources n nowhere) (put_at_launch resources n) (sound-launched resources n)).each
+
+pub any_goes_by_rule : (resources : Resources) (n : ℕ) (blocks : Blocks) (lines : List Line)
+    → GoesByRule blocks lines (launched_with resources n nowhere)
+any_goes_by_rule resources n blocks lines = goes-by-rule blocks lines (launched_with resources n nowhere)
+    (put_at_launch resources n) (sound-launched resources n)
+
+pub any_refused_bind : (resources : Resources) (n : ℕ) (blocks : Blocks) (lines : List Line)
+    → RefusedBinds blocks lines (launched_with resources n nowhere)
+any_refused_bind resources n blocks lines = binds-no-name blocks lines (launched_with resources n nowhere)
+
+pub any_nothing_stays_busy : (resources : Resources) (n : ℕ) (blocks : Blocks) (lines : List Line)
+    → NothingBusy blocks lines (launched_with resources n nowhere)
+any_nothing_stays_busy resources n blocks lines =
+    let s : Managers = record { memory = fresh_memory n nowhere; resources = resources } in
+    nothing-busy blocks lines (launched_with resources n nowhere) (preloaded-busy s)

@@ -1,0 +1,59 @@
+use Rattle.std.proofs.Common.{◌≡◌, ◌∙◌, Bool, Result, Ok, Err, sym, ap, subst}
+use Rattle.std.specs.Prelude.{IfOk, OnOk}
+use Rattle.std.specs.declared.alloc.AllocError.{AllocError}
+use Rattle.mac_words.specs.Told.{Told}
+use Rattle.mac_words.specs.declared.resource_call.ResourceCall.{ResourceCall}
+use Rattle.res_calls.specs.Fetch.{Managers, Answer}
+use Rattle.res_calls.specs.Asked.{Served, served, telling}
+use Rattle.applications.specs.Trying.{Running, resource_asked, resource_tried, managers_of}
+use Rattle.applications.specs.Replies.{TellsServed, fetches}
+use Rattle.applications.specs.declared.tried.Tried.{Tried}
+
+-- How one call of the Resource Manager's table is tried: what its method answers is what the table tells.
+
+-- what is given by two things, by two equal ones
+pub by_both : {A B C : Type 0} (f : A → B → C) {a c : A} {b d : B} → a ≡ c → b ≡ d → f a b ≡ f c d
+by_both f first second = cc
+
+-- a try that tells what a call came to, where its method answered so
+told-so : {T : Type 0} (tell : T → Told) (again : Bool) (result : Result Tried AllocError)
+    (P : Answer T → Managers → Type 0) (a : Answer T) (after : Managers)
+    → IfOk result (λ tried. (a : Answer T) (after : Managers) → P a after → TellsServed tried (telling tell a) again)
+    → P a after → IfOk result (λ tried. TellsServed tried (telling tell a) again)
+told-so tell again (Ok tried) P a after says is = says a after is
+told-so tell again (Err e) P a after says is = tt
+
+pub arm_told : {T : Type 0} (tell : T → Told) (again : Bool) (result : Result Tried AllocError)
+    (P : Answer T → Managers → Type 0) (a : Answer T) (after : Managers) (call x : ResourceCall) (r q : Running)
+    → IfOk result (λ tried. (a : Answer T) (after : Managers) → P a after → TellsServed tried (telling tell a) again)
+    → P a after → telling tell a ≡ served (resource_asked x q.names) (managers_of q)
+    → again ≡ fetches (resource_asked x q.names) → call ≡ x → q ≡ r
+    → IfOk result (λ tried. TellsServed tried (served (resource_asked call r.names) (managers_of r))
+    (fetches (resource_asked call r.names)))
+arm_told tell again result P a after call x r q says is table fetching called same =
+    subst (λ (p : Running). IfOk result (λ tried.
+    TellsServed tried (served (resource_asked call p.names) (managers_of p))
+    (fetches (resource_asked call p.names)))) same
+    (subst (λ (c : ResourceCall). IfOk result (λ tried.
+    TellsServed tried (served (resource_asked c q.names) (managers_of q))
+    (fetches (resource_asked c q.names)))) (sym called)
+    (subst (λ (f : Bool). IfOk result (λ tried.
+    TellsServed tried (served (resource_asked x q.names) (managers_of q)) f))
+    fetching
+    (subst (λ (s : Served). IfOk result (λ tried. TellsServed tried s again)) table
+    (told-so tell again result P a after says is))))
+
+-- and the application after it
+pub arm_after : {T : Type 0} (tell : T → Told) (result : Result Tried AllocError)
+    (P : Answer T → Managers → Type 0) (a : Answer T) (after : Managers) (call x : ResourceCall) (r q n : Running)
+    → OnOk result ((a : Answer T) (after : Managers) → P a after → a.after ≡ after)
+    → P a after → telling tell a ≡ served (resource_asked x q.names) (managers_of q)
+    → n ≡ record q { memory = after.memory; resources = after.resources } → call ≡ x → q ≡ r
+    → OnOk result (n ≡ (resource_tried (served (resource_asked call r.names) (managers_of r)) r).after)
+arm_after tell (Err e) P a after call x r q n says is table next called same = tt
+arm_after tell (Ok tried) P a after call x r q n says is table next called same =
+    next ∙ ap (λ (s : Managers). let p : Running = record q { memory = s.memory; resources = s.resources } in p)
+    (sym (says a after is) ∙ ap (λ (s : Served). s.after) table)
+    ∙ ap (λ (c : ResourceCall). (resource_tried (served (resource_asked c q.names) (managers_of q)) q).after)
+    (sym called)
+    ∙ ap (λ (p : Running). (resource_tried (served (resource_asked call p.names) (managers_of p)) p).after) same

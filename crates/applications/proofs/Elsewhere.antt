@@ -1,0 +1,264 @@
+use Rattle.std.proofs.Common.{◌≡◌, ◌∙◌, ◌≤◌, ◌-◌, ◌++◌, arith, ℕ, Bool, true, false, zero, suc, List, [], ◌∷◌, refl}
+use Rattle.std.proofs.Common.{sym, ap}
+use Rattle.std.proofs.Common.{cond, map, Option, Some, None, pos}
+use Rattle.std.proofs.lemmas.List.{map-append}
+use Rattle.mac_words.specs.declared.code.OsErr.{OsErr}
+use Rattle.mac_words.specs.declared.call.Call.{Call}
+use Rattle.mac_words.specs.declared.call.Call.TheVariants as call
+use Rattle.mac_words.specs.declared.call.ControlCall.TheVariants as control
+use Rattle.block_store.specs.Rest.{Site}
+use Rattle.block_store.specs.Block.{Block, sizes, free, fresh}
+use Rattle.heap_calls.specs.State.{Memory, fresh_memory}
+use Rattle.mac_words.specs.Told.{Told}
+use Rattle.heap_calls.specs.Asked.{Asked}
+use Rattle.heap_calls.specs.Naming.{first_named, second_named}
+use Rattle.heap_calls.proofs.Tries.Elsewhere.{elsewhere, served-elsewhere}
+use Rattle.script_text.specs.declared.script.Line.{Line}
+use Rattle.res_calls.specs.Files.{Resources}
+use Rattle.res_calls.specs.Fetch.{Managers, Reads}
+use Rattle.res_calls.specs.Own.{own_datum}
+use Rattle.res_calls.specs.Asked.{Served, named}
+use Rattle.segments.specs.Table.{table_in}
+use Rattle.segments.specs.Calls.{code_type}
+use Rattle.segments.specs.Asked.{Served as Jumped}
+use Rattle.applications.specs.Trying.{Running, Blocks, Tried, once, asked, resource_asked, managers_of, program_of, launched}
+use Rattle.applications.specs.Trying.{launched_with, own_resources, nowhere, heap_tried, resource_tried, segment_tried}
+use Rattle.applications.specs.Trying.{code_told}
+use Rattle.res_calls.proofs.Walks.Place.{served-elsewhere as found-elsewhere}
+use Rattle.res_calls.proofs.Walks.Launching.{preloaded-elsewhere}
+use Rattle.segments.proofs.Laws.{served-elsewhere as jumped-elsewhere}
+use Rattle.applications.specs.Step.{Event, Course, joined, event_of, marked, marked_for, grown_line, grown}
+use Rattle.applications.specs.Step.{grown_for, asked_for, kept_anew, ended, stands, Round, Ends, Again, made_room, after_asking}
+use Rattle.applications.specs.Step.{after_try, round, continued, step_in, step, most_rounds, unless_over, run}
+use Rattle.applications.specs.Application.{lines_told}
+
+-- What a run comes to doesn't hang on where its partition lies.
+
+-- an application elsewhere
+abbrev pub moved : Site → Running → Running
+moved site r = record r { memory = elsewhere site r.memory }
+
+-- a try elsewhere
+abbrev tried_elsewhere : Site → Tried → Tried
+tried_elsewhere site t = record t { after = moved site t.after }
+
+-- tells the same
+once-elsewhere : (site : Site) (blocks : Blocks) (c : Call) (r : Running)
+    → once blocks c (moved site r) ≡ tried_elsewhere site (once blocks c r)
+once-elsewhere site blocks (call.Heap c) r =
+    ap (λ (x : Told × Memory). heap_tried x (moved site r)) (served-elsewhere site (asked c r.names) r.memory)
+once-elsewhere site blocks (call.Resource c) r =
+    ap (λ (x : Served). resource_tried x (moved site r))
+    (found-elsewhere site (resource_asked c r.names) (managers_of r))
+once-elsewhere site blocks (call.Segment c) r =
+    ap (λ (x : Jumped). segment_tried x (moved site r)) (jumped-elsewhere site c (program_of r))
+once-elsewhere site blocks (call.Control (control.SetGrowZone name)) r = refl
+once-elsewhere site blocks (call.Control control.WaitNextEvent) r = refl
+once-elsewhere site blocks (call.Control control.ExitToShell) r = refl
+
+-- a history, a course and a round elsewhere
+abbrev event_elsewhere : Site → Event → Event
+event_elsewhere site e = record e { before = moved site e.before; after = moved site e.after }
+
+abbrev course_elsewhere : Site → Course → Course
+course_elsewhere site c = record c { events = map (event_elsewhere site) c.events; after = moved site c.after }
+
+abbrev round_elsewhere : Site → Round → Round
+round_elsewhere site (Ends c) = Ends (course_elsewhere site c)
+round_elsewhere site (Again c) = Again (course_elsewhere site c)
+
+joined-elsewhere : (site : Site) (c d : Course)
+    → joined (course_elsewhere site c) (course_elsewhere site d) ≡ course_elsewhere site (joined c d)
+joined-elsewhere site c d =
+    ap (λ (events : List Event). let joint : Course = record {
+      events = events;
+      lines = c.lines ++ d.lines;
+      told = d.told;
+      over = d.over;
+      after = moved site d.after;
+    } in joint) (sym (map-append (event_elsewhere site) c.events d.events))
+
+-- what is busy is no matter of the place
+marked-elsewhere : (site : Site) (busy : Bool) (n : Option ℕ) (m : Memory)
+    → marked busy n (elsewhere site m) ≡ elsewhere site (marked busy n m)
+marked-elsewhere site busy None m = refl
+marked-elsewhere site true (Some n) m = refl
+marked-elsewhere site false (Some n) m = refl
+
+marked_for-elsewhere : (site : Site) (busy : Bool) (c : Call) (reading : Option ℕ) (r : Running)
+    → marked_for busy c reading (moved site r) ≡ moved site (marked_for busy c reading r)
+marked_for-elsewhere site busy (call.Control c) reading r = refl
+marked_for-elsewhere site busy (call.Segment c) reading r =
+    ap (λ (m : Memory). record r { memory = m }) (marked-elsewhere site busy reading r.memory)
+marked_for-elsewhere site busy (call.Resource c) reading r =
+    let handle : Option ℕ = named (resource_asked c r.names) in
+    ap (λ (m : Memory). record r { memory = m })
+    (ap (marked busy reading) (marked-elsewhere site busy handle r.memory)
+    ∙ marked-elsewhere site busy reading (marked busy handle r.memory))
+marked_for-elsewhere site busy (call.Heap c) reading r =
+    let a : Asked = asked c r.names in
+    let first : Memory = marked busy (first_named a) r.memory in
+    let second : Memory = marked busy (second_named a) first in
+    ap (λ (m : Memory). record r { memory = m })
+    (ap (λ (m : Memory). marked busy reading (marked busy (second_named a) m))
+    (marked-elsewhere site busy (first_named a) r.memory)
+    ∙ ap (marked busy reading) (marked-elsewhere site busy (second_named a) first)
+    ∙ marked-elsewhere site busy reading second)
+
+grown-elsewhere : (site : Site) (blocks : Blocks) (script : List Line) (r : Running)
+    → grown blocks script (moved site r) ≡ course_elsewhere site (grown blocks script r)
+grown-elsewhere site blocks [] r = refl
+grown-elsewhere site blocks (l ∷ script) r =
+    let t : Tried = once blocks l.call r in
+    ap (λ (x : Tried). joined (grown_line l (moved site r) x) (grown blocks script x.after))
+    (once-elsewhere site blocks l.call r)
+    ∙ ap (joined (course_elsewhere site (grown_line l r t))) (grown-elsewhere site blocks script t.after)
+    ∙ joined-elsewhere site (grown_line l r t) (grown blocks script t.after)
+
+for-elsewhere : (site : Site) (blocks : Blocks) (l : Line) (reading : Option ℕ) (r : Running)
+    → grown_for blocks l reading (moved site r) ≡ course_elsewhere site (grown_for blocks l reading r)
+for-elsewhere site blocks l reading r =
+    let busy : Running = marked_for true l.call reading r in
+    let came : Course = grown blocks r.grow busy in
+    ap (λ (c : Course). let cleared : Course = record c { after = marked_for false l.call reading c.after } in cleared)
+    (ap (grown blocks r.grow) (marked_for-elsewhere site true l.call reading r)
+    ∙ grown-elsewhere site blocks r.grow busy)
+    ∙ ap (λ (x : Running). let cleared : Course = record (course_elsewhere site came) { after = x } in cleared)
+    (marked_for-elsewhere site false l.call reading came.after)
+
+asked-elsewhere : (site : Site) (blocks : Blocks) (l : Line) (r : Running) (t : Tried)
+    → asked_for blocks l (moved site r) (tried_elsewhere site t)
+    ≡ course_elsewhere site (asked_for blocks l r t)
+asked-elsewhere site blocks l r t =
+    let tried : Course = record {
+      events = event_of l r t ∷ [];
+      lines = [];
+      told = t.told;
+      over = t.over;
+      after = t.after;
+    } in
+    ap (joined (course_elsewhere site tried)) (for-elsewhere site blocks l t.reading t.after)
+    ∙ joined-elsewhere site tried (grown_for blocks l t.reading t.after)
+
+kept-elsewhere : (site : Site) (c : Call) (code : OsErr) (r : Running)
+    → kept_anew c code (moved site r) ≡ moved site (kept_anew c code r)
+kept-elsewhere site (call.Heap c) code r = refl
+kept-elsewhere site (call.Resource c) code r = refl
+kept-elsewhere site (call.Segment c) code r = refl
+kept-elsewhere site (call.Control c) code r = refl
+
+stands-elsewhere : (site : Site) (l : Line) (t : Tried) (r : Running)
+    → stands l (tried_elsewhere site t) (moved site r) ≡ course_elsewhere site (stands l t r)
+stands-elsewhere site l t r = ap (λ (x : Running). let stood : Course = record (stands l t r) { after = x } in stood)
+    (kept-elsewhere site l.call (code_told t.told) r)
+
+try-elsewhere : (site : Site) (blocks : Blocks) (l : Line) (r : Running) (t : Tried)
+    → after_try blocks l (moved site r) (tried_elsewhere site t) ≡ round_elsewhere site (after_try blocks l r t)
+try-elsewhere site blocks l r t = by_want t.wants
+  where
+    came : Course
+    came = asked_for blocks l r t
+
+    by_room : (rose : Bool) → cond rose (Again (course_elsewhere site came))
+        (Ends (joined (course_elsewhere site came) (stands l (tried_elsewhere site t) (moved site came.after))))
+        ≡ round_elsewhere site (cond rose (Again came) (Ends (joined came (stands l t came.after))))
+    by_room true = refl
+    by_room false =
+        ap (λ (c : Course). Ends (joined (course_elsewhere site came) c)) (stands-elsewhere site l t came.after)
+        ∙ ap Ends (joined-elsewhere site came (stands l t came.after))
+
+    by_want : (wants : Bool)
+        → cond wants (after_asking l (tried_elsewhere site t)
+        (asked_for blocks l (moved site r) (tried_elsewhere site t)))
+        (Ends (ended l (moved site r) (tried_elsewhere site t)))
+        ≡ round_elsewhere site (cond wants (after_asking l t came) (Ends (ended l r t)))
+    by_want true =
+        ap (after_asking l (tried_elsewhere site t)) (asked-elsewhere site blocks l r t) ∙ by_room (made_room t came)
+    by_want false = refl
+
+round-elsewhere : (site : Site) (blocks : Blocks) (l : Line) (r : Running)
+    → round blocks l (moved site r) ≡ round_elsewhere site (round blocks l r)
+round-elsewhere site blocks l r =
+    ap (after_try blocks l (moved site r)) (once-elsewhere site blocks l.call r)
+    ∙ try-elsewhere site blocks l r (once blocks l.call r)
+
+continued-elsewhere : (site : Site) (x : Round) (next : Running → Course)
+    → ((r : Running) → next (moved site r) ≡ course_elsewhere site (next r))
+    → continued (round_elsewhere site x) next ≡ course_elsewhere site (continued x next)
+continued-elsewhere site (Ends c) next same = refl
+continued-elsewhere site (Again c) next same =
+    ap (joined (course_elsewhere site c)) (same c.after) ∙ joined-elsewhere site c (next c.after)
+
+step_in-elsewhere : (site : Site) (most : ℕ) (blocks : Blocks) (l : Line) (r : Running)
+    → step_in most blocks l (moved site r) ≡ course_elsewhere site (step_in most blocks l r)
+step_in-elsewhere site zero blocks l r = refl
+step_in-elsewhere site (suc more) blocks l r =
+    ap (λ (x : Round). continued x (step_in more blocks l)) (round-elsewhere site blocks l r)
+    ∙ continued-elsewhere site (round blocks l r) (step_in more blocks l) (step_in-elsewhere site more blocks l)
+
+over-elsewhere : (site : Site) (c : Course) (next : Running → Course)
+    → ((r : Running) → next (moved site r) ≡ course_elsewhere site (next r))
+    → unless_over (course_elsewhere site c) next ≡ course_elsewhere site (unless_over c next)
+over-elsewhere site c next same = by_over c.over
+  where
+    by_over : (over : Bool)
+        → cond over (course_elsewhere site c) (joined (course_elsewhere site c) (next (moved site c.after)))
+        ≡ course_elsewhere site (cond over c (joined c (next c.after)))
+    by_over true = refl
+    by_over false = ap (joined (course_elsewhere site c)) (same c.after) ∙ joined-elsewhere site c (next c.after)
+
+-- a run is the same elsewhere
+pub whole-elsewhere : (site : Site) (blocks : Blocks) (lines : List Line) (r : Running)
+    → run blocks lines (moved site r) ≡ course_elsewhere site (run blocks lines r)
+whole-elsewhere site blocks [] r = refl
+whole-elsewhere site blocks (l ∷ lines) r =
+    ap (λ (c : Course). unless_over c (run blocks lines)) (step_in-elsewhere site (most_rounds r) blocks l r)
+    ∙ over-elsewhere site (step blocks l r) (run blocks lines) (λ x. whole-elsewhere site blocks lines x)
+
+-- and so is a launch
+pub launched-elsewhere : (resources : Resources) (n : ℕ) (site : Site)
+    → launched_with resources n site ≡ moved site (launched_with resources n nowhere)
+launched-elsewhere resources n site = ap begun (preloaded-elsewhere site managers)
+  where
+    managers : Managers
+    managers = record { memory = fresh_memory n nowhere; resources = resources }
+
+    begun : Managers × Reads → Running
+    begun opened = record {
+      memory = opened.0.memory;
+      resources = opened.0.resources;
+      table = table_in (own_datum code_type (pos 0) resources);
+      names = [];
+      grow = [];
+    }
+
+free-total : (m : ℕ) → sizes (free m) ≡ m
+free-total zero = refl
+free-total (suc m) = omega arith
+
+-- a fresh zone of n bytes takes n bytes
+pub sizes-fresh : (n : ℕ) → 272 ≤ n → sizes (fresh n) ≡ n
+sizes-fresh n big = omega (arith, free-total (n - 272))
+
+-- the course of an application in a fresh zone of n bytes, wherever that lies
+pub fresh_course : (resources : Resources) (r : Running) (zone : List Block) (site : Site) (n : ℕ) (blocks : Blocks)
+    (lines : List Line) → r ≡ launched_with resources (sizes zone) site → zone ≡ fresh n → 272 ≤ n
+    → run blocks lines r ≡ course_elsewhere site (run blocks lines (launched_with resources n nowhere))
+fresh_course resources r zone site n blocks lines is whole big =
+    ap (run blocks lines)
+    (is ∙ ap (λ (z : List Block). launched_with resources (sizes z) site) whole
+    ∙ ap (λ (k : ℕ). launched_with resources k site) (sizes-fresh n big)
+    ∙ launched-elsewhere resources n site)
+    ∙ whole-elsewhere site blocks lines (launched_with resources n nowhere)
+
+-- its lines, and those of a script alone
+pub fresh_run_with : (resources : Resources) (r : Running) (zone : List Block) (site : Site) (n : ℕ) (blocks : Blocks)
+    (lines : List Line) → r ≡ launched_with resources (sizes zone) site → zone ≡ fresh n → 272 ≤ n
+    → lines_told (run blocks lines r).lines ≡ lines_told (run blocks lines (launched_with resources n nowhere)).lines
+fresh_run_with resources r zone site n blocks lines is whole big =
+    ap (λ (c : Course). lines_told c.lines) (fresh_course resources r zone site n blocks lines is whole big)
+
+pub fresh_run : (r : Running) (zone : List Block) (site : Site) (n : ℕ) (blocks : Blocks) (lines : List Line)
+    → r ≡ launched (sizes zone) site → zone ≡ fresh n → 272 ≤ n
+    → lines_told (run blocks lines r).lines ≡ lines_told (run blocks lines (launched n nowhere)).lines
+fresh_run = fresh_run_with own_resources

@@ -1,0 +1,201 @@
+use Rattle.std.proofs.Common.{◌≡◌, ◌∙◌, ℕ, ◌==◌, Bool, true, false, refl, sym, cond, List, Option, Some, None}
+use Rattle.std.proofs.Common.{Result, Ok, Err}
+use Rattle.std.specs.Prelude.{IfOk}
+use Rattle.std.specs.declared.alloc.AllocError.{AllocError}
+use Rattle.std.specs.Prelude.{nat_lt, nat_le, length, not, ◌&&◌, ◌||◌, if◌then◌else◌}
+use Rattle.mac_words.specs.declared.code.OsErr.{OsErr}
+use Rattle.mac_words.specs.Told.{Told, Done, Number, Kind}
+use Rattle.mac_words.specs.declared.code.TheConstants.OsErr.{PROFILE}
+use Rattle.res_map.specs.Split.{Split, place}
+use Rattle.res_map.specs.Map.{Map, is_changed, is_protected, nth, types}
+use Rattle.res_calls.specs.Files.{File, OpenFile, Resources, Found, file_named, file_of, open_at, current_references}
+use Rattle.res_calls.specs.Fetch.{Managers, Answer, Fetched, refused, is_system}
+use Rattle.res_calls.specs.Rows.{on_found, on_open, resource_of, bars, told_type, open_fork, open_unless, open_named}
+use Rattle.res_calls.specs.Rows.{greatest_number, map_in, open_map, if_updated, Info}
+use Rattle.res_calls.specs.Changing.{most_files, create_named, on_known, on_removable, on_changeable}
+use Rattle.res_calls.specs.Update.{update}
+use Rattle.heap_calls.specs.Answer.{Known, handle_at}
+use Rattle.heap_calls.specs.Purging.{is_resource}
+use Rattle.heap_calls.specs.Inside.{has_block}
+use Rattle.heap_calls.specs.Asked.{told_as}
+use Rattle.res_calls.specs.Asked.{ResourceAsked, Served, served, tell_fetched, tell_info}
+use Rattle.res_calls.specs.Asked as asks
+use Rattle.applications.specs.Trying.{Running, resource_tried}
+use Rattle.applications.specs.Application.{bytes_told}
+use Rattle.applications.specs.Replies.{TellsServed, IsTried, fetches}
+use Rattle.applications.specs.declared.tried.Tried.{Tried}
+
+-- What a call of the Resource Manager shows and reads again.
+
+-- what tells no bytes
+pub told-none : {T : Type 0} (tell : T → Told) → ((x : T) → bytes_told (tell x) ≡ None) → (r : Result T OsErr)
+    → bytes_told (told_as tell r) ≡ None
+told-none tell none (Ok x) = none x
+told-none tell none (Err code) = refl
+
+-- it shows no bytes
+pub found-shows-none : (a : ResourceAsked) (s : Managers) → bytes_told (served a s).told ≡ None
+found-shows-none (asks.OpenResFile name) s = told-none {T = ℕ} Number (λ x. refl) _
+found-shows-none (asks.CreateResFile name) s = told-none {T = Unit {0}} (λ x. Done) (λ x. refl) _
+found-shows-none (asks.CloseResFile number) s = told-none {T = Unit {0}} (λ x. Done) (λ x. refl) _
+found-shows-none (asks.UpdateResFile number) s = told-none {T = Unit {0}} (λ x. Done) (λ x. refl) _
+found-shows-none (asks.UseResFile number) s = told-none {T = Unit {0}} (λ x. Done) (λ x. refl) _
+found-shows-none asks.CurResFile s = refl
+found-shows-none (asks.HomeResFile handle) s = told-none {T = ℕ} Number (λ x. refl) _
+found-shows-none (asks.GetResource kind id) s = told-none {T = Fetched} tell_fetched (λ x. refl) _
+found-shows-none (asks.GetOneResource kind id) s = told-none {T = Fetched} tell_fetched (λ x. refl) _
+found-shows-none (asks.GetNamedResource kind name) s = told-none {T = Fetched} tell_fetched (λ x. refl) _
+found-shows-none (asks.GetOneNamedResource kind name) s = told-none {T = Fetched} tell_fetched (λ x. refl) _
+found-shows-none asks.CountOneTypes s = refl
+found-shows-none (asks.GetOneIndType index) s = told-none {T = ℕ} Kind (λ x. refl) _
+found-shows-none (asks.CountOneResources kind) s = refl
+found-shows-none (asks.GetOneIndResource kind index) s = told-none {T = Fetched} tell_fetched (λ x. refl) _
+found-shows-none (asks.LoadResource handle) s = told-none {T = Fetched} tell_fetched (λ x. refl) _
+found-shows-none (asks.ReleaseResource handle) s = told-none {T = Unit {0}} (λ x. Done) (λ x. refl) _
+found-shows-none (asks.DetachResource handle) s = told-none {T = Unit {0}} (λ x. Done) (λ x. refl) _
+found-shows-none (asks.AddResource handle kind id name) s = told-none {T = Unit {0}} (λ x. Done) (λ x. refl) _
+found-shows-none (asks.RemoveResource handle) s = told-none {T = Unit {0}} (λ x. Done) (λ x. refl) _
+found-shows-none (asks.ChangedResource handle) s = told-none {T = Unit {0}} (λ x. Done) (λ x. refl) _
+found-shows-none (asks.WriteResource handle) s = told-none {T = Unit {0}} (λ x. Done) (λ x. refl) _
+found-shows-none (asks.GetResInfo handle) s = told-none {T = Info} tell_info (λ x. refl) _
+found-shows-none (asks.SetResInfo handle id name) s = told-none {T = Unit {0}} (λ x. Done) (λ x. refl) _
+found-shows-none (asks.GetResAttrs handle) s = told-none {T = ℕ} Number (λ x. refl) _
+found-shows-none (asks.SetResAttrs handle attrs) s = told-none {T = Unit {0}} (λ x. Done) (λ x. refl) _
+found-shows-none (asks.GetResourceSizeOnDisk handle) s = told-none {T = ℕ} Number (λ x. refl) _
+found-shows-none (asks.SetResLoad on) s = refl
+found-shows-none asks.ResError s = refl
+
+-- a call on a reference reads no more again than it does where there is one
+on_found-none : {T : Type 0} (found : Option Found) (s : Managers) (answer : Found → Answer T)
+    → ((at : Found) → (answer at).reading ≡ None) → (on_found found s answer).reading ≡ None
+on_found-none None s answer none = refl
+on_found-none (Some at) s answer none = none at
+
+on_open-none : {T : Type 0} (open_file : Option (Split OpenFile)) (s : Managers) (answer : Split OpenFile → Answer T)
+    → ((at : Split OpenFile) → (answer at).reading ≡ None) → (on_open open_file s answer).reading ≡ None
+on_open-none None s answer none = refl
+on_open-none (Some at) s answer none = none at
+
+-- one of two answers, of which neither reads again
+either-none : {T : Type 0} (t : Bool) (a b : Answer T) → a.reading ≡ None → b.reading ≡ None
+    → (cond t a b).reading ≡ None
+either-none true a b first second = first
+either-none false a b first second = second
+
+-- nor does an opening
+fork-none : (i : ℕ) (fork : List ℕ) (s : Managers) → (open_fork i fork s).reading ≡ None
+fork-none i fork s = either-none (nat_lt greatest_number s.resources.next) (refused PROFILE s)
+    (open_map i (map_in fork) s) refl (map-none (map_in fork))
+  where
+    map-none : (read : Result Map OsErr) → (open_map i read s).reading ≡ None
+    map-none (Ok map) = refl
+    map-none (Err code) = refl
+
+opening-none : (file : Option (Split File)) (s : Managers) → (open_named file s).reading ≡ None
+opening-none None s = refl
+opening-none (Some at) s = unless (open_at (place at) s.resources)
+  where
+    unless : (open_file : Option (Split OpenFile)) → (open_unless at open_file s).reading ≡ None
+    unless None = fork-none (place at) at.here.fork s
+    unless (Some f) = refl
+
+-- nor what follows an update
+updated-none : {T : Type 0} (r : Option Resources) (s : Managers) (answer : Resources → Answer T)
+    → ((r : Resources) → (answer r).reading ≡ None) → (if_updated r s answer).reading ≡ None
+updated-none None s answer none = refl
+updated-none (Some r) s answer none = none r
+
+-- nor what is answered on a handle, and on a resource that may be changed
+known-none : {T : Type 0} (known : Result Known OsErr) (s : Managers) (answer : Known → Answer T)
+    → ((k : Known) → (answer k).reading ≡ None) → (on_known known s answer).reading ≡ None
+known-none (Err code) s answer none = refl
+known-none (Ok k) s answer none = none k
+
+removable-none : {T : Type 0} (found : Option Found) (s : Managers) (answer : Found → Answer T)
+    → ((at : Found) → (answer at).reading ≡ None) → (on_removable found s answer).reading ≡ None
+removable-none None s answer none = refl
+removable-none (Some at) s answer none = none at
+
+changeable-none : {T : Type 0} (handle : Option ℕ) (s : Managers) (answer : Found → Answer T)
+    → ((at : Found) → (answer at).reading ≡ None) → (on_changeable handle s answer).reading ≡ None
+changeable-none handle s answer none = on_found-none (resource_of handle s.resources) s _
+    (λ at. either-none (is_system at.file.here) _ _ refl
+    (either-none (is_protected at.reference.here) _ _ refl (none at)))
+
+-- nor the making of a file
+made-none : (name : List ℕ) (file : Option (Split File)) (s : Managers) → (create_named name file s).reading ≡ None
+made-none name None s = either-none (nat_le most_files (length s.resources.files)) _ _ refl refl
+made-none name (Some at) s = either-none (length at.here.fork == 0) _ _ refl refl
+
+type-none : (kind : Option ℕ) (s : Managers) → (told_type kind s).reading ≡ None
+type-none None s = refl
+type-none (Some kind) s = refl
+
+-- only calls that read resources read one again
+reads-again : (a : ResourceAsked) (s : Managers)
+    → (if fetches a then (served a s).reading else None) ≡ (served a s).reading
+reads-again (asks.OpenResFile name) s = sym (opening-none (file_named name s.resources) s)
+reads-again (asks.CreateResFile name) s = sym (made-none name (file_named name s.resources) s)
+reads-again (asks.CloseResFile number) s = sym (on_open-none (file_of number s.resources) s _
+    (λ at. either-none (number == 0) _ _ refl
+    (updated-none (update s.memory.heap at s.resources) s _ (λ r. refl))))
+reads-again (asks.UpdateResFile number) s = sym (on_open-none (file_of number s.resources) s _
+    (λ at. either-none (number == 0) _ _ refl
+    (updated-none (update s.memory.heap at s.resources) s _ (λ r. refl))))
+reads-again (asks.UseResFile number) s = sym (on_open-none (file_of number s.resources) s _ (λ at. refl))
+reads-again asks.CurResFile s = refl
+reads-again (asks.HomeResFile handle) s = sym (on_found-none (resource_of handle s.resources) s _ (λ at. refl))
+reads-again (asks.GetResource kind id) s = refl
+reads-again (asks.GetOneResource kind id) s = refl
+reads-again (asks.GetNamedResource kind name) s = refl
+reads-again (asks.GetOneNamedResource kind name) s = refl
+reads-again asks.CountOneTypes s = refl
+reads-again (asks.GetOneIndType index) s = sym (type-none (nth index (types (current_references s.resources))) s)
+reads-again (asks.CountOneResources kind) s = refl
+reads-again (asks.GetOneIndResource kind index) s = refl
+reads-again (asks.LoadResource handle) s = refl
+reads-again (asks.ReleaseResource handle) s = sym (on_found-none (resource_of handle s.resources) s _
+    (λ at. either-none (bars handle s.memory) _ _ refl (either-none (is_changed at.reference.here) _ _ refl refl)))
+reads-again (asks.DetachResource handle) s = sym (on_found-none (resource_of handle s.resources) s _
+    (λ at. either-none (is_changed at.reference.here) _ _ refl refl))
+reads-again (asks.AddResource handle kind id name) s = sym (known-none (handle_at handle s.memory.heap) s _
+    (λ k. either-none (is_resource k.role || not (has_block k.number s.memory.heap)) _ _ refl
+    (either-none (s.resources.current == 0) _ _ refl
+    (on_open-none (file_of s.resources.current s.resources) s _ (λ at. refl)))))
+reads-again (asks.RemoveResource handle) s = sym (known-none (handle_at handle s.memory.heap) s _
+    (λ k. removable-none (resource_of handle s.resources) s _
+    (λ at. either-none (is_system at.file.here) _ _ refl
+    (either-none (not (at.file.here.number == s.resources.current) || is_protected at.reference.here) _ _ refl refl))))
+reads-again (asks.ChangedResource handle) s = sym (changeable-none handle s _ (λ at. refl))
+reads-again (asks.WriteResource handle) s = sym (on_found-none (resource_of handle s.resources) s _
+    (λ at. either-none (is_changed at.reference.here && not (is_protected at.reference.here)) _ _ refl refl))
+reads-again (asks.GetResInfo handle) s = sym (on_found-none (resource_of handle s.resources) s _ (λ at. refl))
+reads-again (asks.SetResInfo handle id name) s = sym (changeable-none handle s _ (λ at. refl))
+reads-again (asks.GetResAttrs handle) s = sym (on_found-none (resource_of handle s.resources) s _ (λ at. refl))
+reads-again (asks.SetResAttrs handle attrs) s = sym (on_found-none (resource_of handle s.resources) s _ (λ at. refl))
+reads-again (asks.GetResourceSizeOnDisk handle) s =
+    sym (on_found-none (resource_of handle s.resources) s _ (λ at. refl))
+reads-again (asks.SetResLoad on) s = refl
+reads-again asks.ResError s = refl
+
+-- a try that tells what a call came to is that of the definitions
+is_tried : (tried : Tried) (a : ResourceAsked) (s : Managers) (r : Running)
+    → TellsServed tried (served a s) (fetches a) → IsTried tried (resource_tried (served a s) r)
+is_tried tried a s r tells = record {
+  reply = tells.reply;
+  given = tells.given;
+  reading = λ wants. tells.reading wants ∙ reads-again a s;
+  wants = tells.wants;
+  over = tells.over;
+}
+
+-- and so is one that may have found no memory
+pub are_tried : (result : Result Tried AllocError) (a : ResourceAsked) (s : Managers) (r : Running)
+    → IfOk result (λ tried. TellsServed tried (served a s) (fetches a))
+    → IfOk result (λ tried. IsTried tried (resource_tried (served a s) r))
+are_tried (Ok tried) a s r tells = is_tried tried a s r tells
+are_tried (Err e) a s r tells = tt
+
+-- no bytes are shown by a call of the Resource Manager
+pub shows_nothing : (a : ResourceAsked) (s : Managers) → None ≡ bytes_told (served a s).told
+shows_nothing a s = sym (found-shows-none a s)

@@ -1,0 +1,79 @@
+use Rattle.std.proofs.Common.{◌≡◌, ℕ, Bool, true, false, refl, map, List, [], ◌∷◌}
+use Rattle.mac_words.specs.declared.name.Label.{Label}
+use Rattle.mac_words.specs.declared.code.TheConstants.OsErr.{MEM_FULL, WRONG_ZONE, LOCKED}
+use Rattle.mac_words.specs.declared.call.Call.TheVariants as call
+use Rattle.mac_words.specs.declared.call.ControlCall.{ControlCall}
+use Rattle.mac_words.specs.declared.call.ControlCall.TheVariants as control
+use Rattle.mac_words.specs.declared.call.HeapCall.{HeapCall}
+use Rattle.mac_words.specs.declared.call.HeapCall.TheVariants as heap
+use Rattle.mac_words.specs.Told.{Told, Done, Given, Number, Code, Refused}
+use Rattle.script_text.specs.declared.script.Line.{Line}
+use Rattle.script_text.specs.Script.{Parts}
+use Rattle.applications.specs.Step.{Shown}
+use Rattle.applications.specs.Alone.{run_alone}
+
+-- Worked examples of grow-zone scripts, in a partition of 1,024 bytes.
+
+-- a name of one letter
+abbrev letter : ℕ → Label
+letter c = record { 0 = record { items = c ∷ [] } }
+
+abbrev a : Label
+a = letter 97
+
+abbrev b : Label
+b = letter 98
+
+abbrev c : Label
+c = letter 99
+
+-- a reserve, and the grow-zone script
+abbrev r : Label
+r = letter 114
+
+abbrev g : Label
+g = letter 103
+
+-- a line of a script
+abbrev at : ℕ → HeapCall → Line
+at n asked = record { number = n; call = call.Heap asked }
+
+abbrev control_at : ℕ → ControlCall → Line
+control_at n asked = record { number = n; call = call.Control asked }
+
+abbrev set_grow_zone : ℕ → Line
+set_grow_zone n = control_at n (control.SetGrowZone g)
+
+-- a script of these steps, with one grow-zone script
+abbrev with_grown : List Line → List Line → Parts
+with_grown grown steps = record { steps = steps; blocks = (103 ∷ [], grown) ∷ [] }
+
+-- a line of the transcript: whether it is a grow-zone script's, the number of its call, and what that told
+abbrev line_seen : Shown → Bool × ℕ × Told
+line_seen s = (s.grown, s.line.number, s.told)
+
+abbrev lines_seen : Parts → List (Bool × ℕ × Told)
+lines_seen script = map line_seen (run_alone 1024 script).lines
+
+-- the reserve makes room once; asked again the grow-zone script makes none, and the answer stands with its code
+room_is_made_once : lines_seen (with_grown (at 2 (heap.DisposeHandle r) ∷ [])
+    (set_grow_zone 4 ∷ at 5 (heap.NewHandle r 400) ∷ at 6 (heap.NewHandle a 300) ∷ at 7 (heap.NewHandle b 200)
+    ∷ at 8 (heap.Where b) ∷ at 9 (heap.NewHandle c 500) ∷ at 10 heap.MemError ∷ []))
+    ≡ (false, 4, Done) ∷ (false, 5, Given 0) ∷ (false, 6, Given 1) ∷ (true, 2, Done) ∷ (false, 7, Given 2)
+    ∷ (false, 8, Number 288) ∷ (true, 2, Refused WRONG_ZONE) ∷ (false, 9, Refused MEM_FULL)
+    ∷ (false, 10, Code MEM_FULL) ∷ []
+room_is_made_once = refl
+
+-- the handle that the waiting call names can't be emptied
+the_named_handle_is_busy : lines_seen (with_grown (at 2 (heap.EmptyHandle a) ∷ [])
+    (set_grow_zone 4 ∷ at 5 (heap.NewHandle a 300) ∷ at 6 (heap.NewHandle b 300) ∷ at 7 (heap.SetHandleSize a 700)
+    ∷ at 8 (heap.GetHandleSize a) ∷ []))
+    ≡ (false, 4, Done) ∷ (false, 5, Given 0) ∷ (false, 6, Given 1) ∷ (true, 2, Refused LOCKED)
+    ∷ (false, 7, Refused MEM_FULL) ∷ (false, 8, Number 300) ∷ []
+the_named_handle_is_busy = refl
+
+-- no line comes behind the end of the application
+nothing_follows_the_end : lines_seen (with_grown [] (control_at 1 control.WaitNextEvent
+    ∷ control_at 2 control.ExitToShell ∷ at 3 heap.FreeMem ∷ []))
+    ≡ (false, 1, Done) ∷ (false, 2, Done) ∷ []
+nothing_follows_the_end = refl

@@ -1,0 +1,191 @@
+use Rattle.std.proofs.Common.{◌≡◌, ◌∙◌, ◌++◌, ℕ, ℤ, true, false, refl, sym, ap, map, List, [], Option, Some, None}
+use Rattle.std.proofs.Common.{Result, Ok, Err, codes, option_map}
+use Rattle.mac_words.specs.declared.code.OsErr.{OsErr}
+use Rattle.mac_words.specs.declared.name.Name.{Name}
+use Rattle.mac_words.specs.declared.name.OsType.{OsType}
+use Rattle.mac_words.specs.declared.reply.Reply.{Reply}
+use Rattle.mac_words.specs.declared.call.Call.{Call}
+use Rattle.mac_words.specs.declared.call.Call.TheVariants as call
+use Rattle.mac_words.specs.declared.call.ControlCall.TheVariants as control
+use Rattle.mac_words.specs.declared.call.HeapCall.{HeapCall}
+use Rattle.mac_words.specs.declared.call.HeapCall.TheVariants as heap
+use Rattle.heap_calls.specs.State.{Memory}
+use Rattle.heap_calls.specs.Pointers.{pointed_at, show_pointer}
+use Rattle.heap_calls.specs.Answer.{Held, look_up, for_found, show, silent}
+use Rattle.heap_calls.specs.Busy.{served, barred, pointer_barred, unless_silent}
+use Rattle.block_store.specs.Block.{content_of}
+use Rattle.script_text.specs.declared.word.Word.{Word}
+use Rattle.script_text.specs.Call.{word_of}
+use Rattle.script_text.specs.declared.script.Line.{Line}
+use Rattle.script_text.specs.Transcript.{Shown, Number, values_of, type_shown}
+use Rattle.script_text.specs.Transcript.{name_shown, bytes_shown, reply_line, grow_line}
+use Rattle.mac_words.specs.Told.{Told, Done, Given, Fetched, Number as Count, Numbers, Code, Bytes, Kind, Info, Entry}
+use Rattle.mac_words.specs.Told.{Refused}
+use Rattle.heap_calls.specs.Asked.{told_as}
+use Rattle.heap_calls.specs.Asked as asks
+use Rattle.applications.specs.Names.{bound_to}
+use Rattle.applications.specs.Trying.{Running, Blocks, asked, resource_asked, managers_of, program_of, once, code_told}
+use Rattle.applications.specs.Trying.{is_full}
+use Rattle.applications.specs.Application.{numbers_told, type_told, name_told, bytes_told, values_told, line_told}
+use Rattle.applications.proofs.FoundCalls.{told-none, found-shows-none}
+use Rattle.applications.proofs.JumpCalls.{jump-shows-none}
+use Rattle.applications.specs.Replies.{Says}
+
+-- What a reply says, and what a call shows again.
+
+-- a type and a name are shown as bytes
+type-bytes : (ty : Option OsType) → type_shown ty ≡ bytes_shown (option_map (λ (t : OsType). t.0) ty)
+type-bytes None = refl
+type-bytes (Some ty) = refl
+
+name-bytes : (name : Option Name) → name_shown name ≡ bytes_shown (option_map (λ (n : Name). n.0.items) name)
+name-bytes None = refl
+name-bytes (Some name) = refl
+
+-- a reply makes the line of what it says, with the bytes that are told
+pub line-said : (line : ℕ) (word : Word) (reply : Reply) (bytes : Option (List ℕ)) (told : Told) → Says reply told
+    → bytes ≡ bytes_told told
+    → reply_line line word reply.code.0 (values_of reply bytes)
+    ≡ reply_line line word (code_told told).0 (values_told told)
+line-said line word reply bytes told says shown =
+    ap (λ (code : OsErr). reply_line line word code.0 (values_of reply bytes)) says.code
+    ∙ ap (λ (numbers : List ℤ). reply_line line word (code_told told).0
+    (map Number numbers ++ type_shown reply.ty ++ name_shown reply.name ++ bytes_shown bytes)) says.numbers
+    ∙ ap (λ (ty : List Shown). reply_line line word (code_told told).0
+    (map Number (numbers_told told) ++ ty ++ name_shown reply.name ++ bytes_shown bytes))
+    (type-bytes reply.ty ∙ ap bytes_shown says.ty)
+    ∙ ap (λ (name : List Shown). reply_line line word (code_told told).0
+    (map Number (numbers_told told) ++ bytes_shown (type_told told) ++ name ++ bytes_shown bytes))
+    (name-bytes reply.name ∙ ap bytes_shown says.name)
+    ∙ ap (λ (b : Option (List ℕ)). reply_line line word (code_told told).0
+    (map Number (numbers_told told) ++ bytes_shown (type_told told) ++ bytes_shown (name_told told)
+    ++ bytes_shown b)) shown
+
+-- what is for want of room shows no bytes
+pub full-shows-none : (told : Told) → is_full (code_told told) ≡ true → bytes_told told ≡ None
+full-shows-none Done full = refl
+full-shows-none (Given n) full = refl
+full-shows-none (Fetched handle read) full = refl
+full-shows-none (Kind kind) full = refl
+full-shows-none (Info id kind name) full = refl
+full-shows-none (Count n) full = refl
+full-shows-none (Numbers one other) full = refl
+full-shows-none (Code code) full = refl
+full-shows-none (Entry segment flag) full = refl
+full-shows-none (Bytes bytes) full = let f : false ≡ true = full in cc
+full-shows-none (Refused code) full = refl
+
+-- what tells no bytes tells none again
+none-again : {T : Type 0} (tell : T → Told) → ((x : T) → bytes_told (tell x) ≡ None)
+    → (r : Result T OsErr) (q : Result T OsErr) → bytes_told (told_as tell r) ≡ bytes_told (told_as tell q)
+none-again tell none r q = told-none tell none r ∙ sym (told-none tell none q)
+
+-- showing bytes changes nothing
+shown-same : (m : Memory) (r : Result Held OsErr) → (record m {
+  heap = (for_found {T = List ℕ} r m.heap
+      (λ (k : Held). (Ok (content_of k.at.here), m.heap))).1;
+}) ≡ m
+shown-same m (Err code) = refl
+shown-same m (Ok k) = refl
+
+-- those of a handle
+show-same : (handle : Option ℕ) (m : Memory) → (served (asks.Show handle) m).1 ≡ m
+show-same handle m = by_gate (barred handle m)
+  where
+    by_gate : (o : Option OsErr) → (unless_silent {T = List ℕ} o (silent (show handle)) m).1 ≡ m
+    by_gate None = shown-same m (look_up handle m.heap)
+    by_gate (Some code) = refl
+
+-- and those of a pointer
+show_pointer-same : (pointer : Option ℕ) (m : Memory) → (served (asks.ShowPtr pointer) m).1 ≡ m
+show_pointer-same pointer m = by_gate (pointer_barred pointer m)
+  where
+    by_gate : (o : Option OsErr) → (unless_silent {T = List ℕ} o (silent (show_pointer pointer)) m).1 ≡ m
+    by_gate None = shown-same m (pointed_at pointer m.heap)
+    by_gate (Some code) = refl
+
+-- what a call of the heap's table tells in the state that it leaves shows the same bytes
+heap-again : (c : HeapCall) (r : Running)
+    → bytes_told (served (asked c r.names) (served (asked c r.names) r.memory).1).0
+    ≡ bytes_told (served (asked c r.names) r.memory).0
+heap-again (heap.NewHandle name size) r = none-again {T = ℕ} Given (λ x. refl) _ _
+heap-again (heap.NewEmptyHandle name) r = none-again {T = ℕ} Given (λ x. refl) _ _
+heap-again (heap.DisposeHandle name) r = none-again {T = Unit {0}} (λ x. Done) (λ x. refl) _ _
+heap-again (heap.GetHandleSize name) r = none-again {T = ℕ} Count (λ x. refl) _ _
+heap-again (heap.SetHandleSize name size) r = none-again {T = Unit {0}} (λ x. Done) (λ x. refl) _ _
+heap-again (heap.ReallocateHandle name size) r = none-again {T = Unit {0}} (λ x. Done) (λ x. refl) _ _
+heap-again (heap.EmptyHandle name) r = none-again {T = Unit {0}} (λ x. Done) (λ x. refl) _ _
+heap-again (heap.HLock name) r = none-again {T = Unit {0}} (λ x. Done) (λ x. refl) _ _
+heap-again (heap.HUnlock name) r = none-again {T = Unit {0}} (λ x. Done) (λ x. refl) _ _
+heap-again (heap.HPurge name) r = none-again {T = Unit {0}} (λ x. Done) (λ x. refl) _ _
+heap-again (heap.HNoPurge name) r = none-again {T = Unit {0}} (λ x. Done) (λ x. refl) _ _
+heap-again (heap.HGetState name) r = none-again {T = ℕ} Count (λ x. refl) _ _
+heap-again (heap.HSetState name state) r = none-again {T = Unit {0}} (λ x. Done) (λ x. refl) _ _
+heap-again (heap.MoveHHi name) r = none-again {T = Unit {0}} (λ x. Done) (λ x. refl) _ _
+heap-again (heap.HLockHi name) r = none-again {T = Unit {0}} (λ x. Done) (λ x. refl) _ _
+heap-again (heap.HandToHand name from) r = none-again {T = ℕ} Given (λ x. refl) _ _
+heap-again (heap.HandAndHand from to) r = none-again {T = Unit {0}} (λ x. Done) (λ x. refl) _ _
+heap-again (heap.PtrAndHand name bytes) r = none-again {T = Unit {0}} (λ x. Done) (λ x. refl) _ _
+heap-again (heap.NewPtr name size) r = none-again {T = ℕ} Given (λ x. refl) _ _
+heap-again (heap.DisposePtr name) r = none-again {T = Unit {0}} (λ x. Done) (λ x. refl) _ _
+heap-again (heap.GetPtrSize name) r = none-again {T = ℕ} Count (λ x. refl) _ _
+heap-again (heap.SetPtrSize name size) r = none-again {T = Unit {0}} (λ x. Done) (λ x. refl) _ _
+heap-again heap.FreeMem r = refl
+heap-again heap.MaxBlock r = refl
+heap-again heap.PurgeSpace r = refl
+heap-again (heap.CompactMem size) r = refl
+heap-again (heap.PurgeMem size) r = none-again {T = Unit {0}} (λ x. Done) (λ x. refl) _ _
+heap-again heap.MaxMem r = refl
+heap-again (heap.ReserveMem size) r = none-again {T = Unit {0}} (λ x. Done) (λ x. refl) _ _
+heap-again heap.MoreMasters r = none-again {T = Unit {0}} (λ x. Done) (λ x. refl) _ _
+heap-again heap.MemError r = refl
+heap-again (heap.Put name from bytes) r = none-again {T = Unit {0}} (λ x. Done) (λ x. refl) _ _
+heap-again (heap.Show name) r = ap (λ (m : Memory). bytes_told (served (asks.Show (bound_to name.0.items r.names)) m).0)
+    (show-same (bound_to name.0.items r.names) r.memory)
+heap-again (heap.PutPtr name from bytes) r = none-again {T = Unit {0}} (λ x. Done) (λ x. refl) _ _
+heap-again (heap.ShowPtr name) r = ap (λ (m : Memory). bytes_told
+    (served (asks.ShowPtr (bound_to name.0.items r.names)) m).0)
+    (show_pointer-same (bound_to name.0.items r.names) r.memory)
+heap-again (heap.Where name) r = none-again {T = ℕ} Count (λ x. refl) _ _
+
+-- what a call tells in the state that its try left shows the same bytes
+pub shown-again : (blocks : Blocks) (c : Call) (r : Running)
+    → bytes_told (once [] c (once blocks c r).after).told ≡ bytes_told (once blocks c r).told
+shown-again blocks (call.Heap c) r = heap-again c r
+shown-again blocks (call.Resource c) r =
+    found-shows-none (resource_asked c (once blocks (call.Resource c) r).after.names)
+    (managers_of (once blocks (call.Resource c) r).after)
+    ∙ sym (found-shows-none (resource_asked c r.names) (managers_of r))
+shown-again blocks (call.Segment c) r =
+    jump-shows-none c (program_of (once blocks (call.Segment c) r).after) ∙ sym (jump-shows-none c (program_of r))
+shown-again blocks (call.Control (control.SetGrowZone name)) r = refl
+shown-again blocks (call.Control control.WaitNextEvent) r = refl
+shown-again blocks (call.Control control.ExitToShell) r = refl
+
+-- and a call that is for want of room shows none
+pub wants-shows-none : (blocks : Blocks) (c : Call) (r : Running) → (once blocks c r).wants ≡ true
+    → bytes_told (once blocks c r).told ≡ None
+wants-shows-none blocks (call.Heap c) r wants = full-shows-none (served (asked c r.names) r.memory).0 wants
+wants-shows-none blocks (call.Resource c) r wants = found-shows-none (resource_asked c r.names) (managers_of r)
+wants-shows-none blocks (call.Segment c) r wants = jump-shows-none c (program_of r)
+wants-shows-none blocks (call.Control (control.SetGrowZone name)) r wants = refl
+wants-shows-none blocks (call.Control control.WaitNextEvent) r wants = refl
+wants-shows-none blocks (call.Control control.ExitToShell) r wants = refl
+
+-- so the line of a call of a grow-zone script is written
+pub grown-said : (l : Line) (word : Word) (reply : Reply) (bytes : Option (List ℕ)) (told : Told)
+    → word ≡ word_of l.call → Says reply told → bytes ≡ bytes_told told
+    → grow_line l.number word reply.code.0 (values_of reply bytes)
+    ≡ line_told (record { grown = true; line = l; told = told })
+grown-said l word reply bytes told is says shown =
+    ap (λ (x : List ℕ). codes "+" ++ x) (line-said l.number word reply bytes told says shown)
+    ∙ ap (λ (w : Word). grow_line l.number w (code_told told).0 (values_told told)) is
+
+-- and that of a step's own call
+pub own-said : (l : Line) (word : Word) (reply : Reply) (bytes : Option (List ℕ)) (told : Told) → word ≡ word_of l.call
+    → Says reply told → bytes ≡ bytes_told told
+    → reply_line l.number word reply.code.0 (values_of reply bytes)
+    ≡ line_told (record { grown = false; line = l; told = told })
+own-said l word reply bytes told is says shown =
+    line-said l.number word reply bytes told says shown
+    ∙ ap (λ (w : Word). reply_line l.number w (code_told told).0 (values_told told)) is

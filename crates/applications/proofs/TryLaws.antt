@@ -1,0 +1,298 @@
+use Rattle.std.proofs.Common.{◌≡◌, ◌≤◌, ◌<◌, ◌^◌, ◌+◌, ◌⊎◌, ℕ, length, Bool, true, false, List, [], Some, inl, inr}
+use Rattle.std.proofs.Common.{refl, sym, ap, subst}
+use Rattle.std.proofs.Common.{◌∙◌, arith}
+use Rattle.mac_words.specs.declared.call.Call.{Call}
+use Rattle.mac_words.specs.declared.call.Call.TheVariants as call
+use Rattle.mac_words.specs.declared.code.OsErr.{OsErr}
+use Rattle.mac_words.specs.declared.call.ControlCall.{ControlCall}
+use Rattle.mac_words.specs.declared.call.ControlCall.TheVariants as control
+use Rattle.mac_words.specs.declared.segment_call.SegmentCall.{SegmentCall}
+use Rattle.block_store.specs.Block.{count, is_masters, is_relocatable}
+use Rattle.block_store.specs.Run.{has}
+use Rattle.block_store.specs.Rest.{counted}
+use Rattle.heap_calls.specs.Locked.{locked_place}
+use Rattle.heap_calls.specs.Standing.{pointer_place}
+use Rattle.heap_calls.specs.Emptying.{may_be_emptied}
+use Rattle.heap_calls.specs.State.{Memory, fresh_memory}
+use Rattle.mac_words.specs.Told.{Told, Done, Given, Fetched, Number, Numbers, Code, Bytes, Kind, Info, Entry, Refused}
+use Rattle.heap_calls.specs.Asked.{Asked}
+use Rattle.heap_calls.specs.Asked as asks
+use Rattle.heap_calls.specs.Busy.{served}
+use Rattle.heap_calls.proofs.Promises.Knowing.{Known, holds-known, known-fresh}
+use Rattle.heap_calls.proofs.Promises.StandingLaws.{next-new}
+use Rattle.heap_calls.proofs.Promises.FewSearches.{unlooked}
+use Rattle.heap_calls.proofs.Tries.Gating.{served-known, served-shows, served-locked, served-fixed, served-purgeable}
+use Rattle.heap_calls.proofs.Tries.Gating.{served_looks, served-refused, served-busy}
+use Rattle.heap_calls.proofs.Tries.Keeping.{served_masters_no_fewer}
+use Rattle.res_calls.specs.Files.{Resources}
+use Rattle.res_calls.specs.Fetch.{Managers, Reads}
+use Rattle.res_calls.specs.Asked.{ResourceAsked}
+use Rattle.res_calls.specs.Asked as finds
+use Rattle.segments.specs.Calls.{Program}
+use Rattle.segments.specs.Asked as jumps
+use Rattle.script_text.specs.Script.{block_of}
+use Rattle.script_text.specs.declared.script.Line.{Line}
+use Rattle.heap_calls.specs.Path.{put_reads}
+use Rattle.applications.specs.Trying.{Running, Blocks, once, asked, resource_asked, managers_of, program_of, nowhere}
+use Rattle.applications.specs.Trying.{launched_with}
+use Rattle.applications.specs.Step.{Deed, Ask, Find, Jump, Steer, deed_of, event_of}
+use Rattle.applications.specs.Laws.{put_found, put_deed, put_event, ShowsPut, HoldsPut, frees, drops, lets, opens, Kept}
+use Rattle.applications.specs.Laws.{KeepsLocked, KeepsFixed, EmptiesPurgeable, LooksFew, RefusedLeaves, keeps_resources}
+use Rattle.applications.specs.Laws.{KeepsResources, writes_files, KeepsFiles, KeepsTable}
+use Rattle.applications.specs.Laws.{put_at_launch, jumps as is_jump}
+use Rattle.res_calls.proofs.Walks.Laws as laws
+use Rattle.res_calls.proofs.Walks.Launching.{preloaded-known, preloaded-masters, preloaded-fits}
+use Rattle.segments.proofs.Laws as jumping
+
+-- The laws of one try, by any application that a run reaches.
+
+-- what is known of an application's memory between two tries
+pub record Sound (m : Memory) (bytes : ℕ → List ℕ) : Type 0 where
+  pub known : Known m.heap bytes
+  pub masters : 0 < count is_masters m.heap.zone
+  pub fits : m.log.searches < 2 ^ 64
+
+-- a fresh memory
+pub sound-fresh : (n : ℕ) → Sound (fresh_memory n nowhere) (λ h. [])
+sound-fresh n = record { known = known-fresh n; masters = omega arith; fits = omega arith }
+
+-- that of an application that was just launched
+pub sound-launched : (resources : Resources) (n : ℕ)
+    → Sound (launched_with resources n nowhere).memory (put_at_launch resources n)
+sound-launched resources n =
+    let s : Managers = record { memory = fresh_memory n nowhere; resources = resources } in
+    let fresh = sound-fresh n in
+    let some = fresh.masters in
+    let kept = preloaded-masters s in record {
+      known = preloaded-known s (λ h. []) fresh.known;
+      masters = omega arith;
+      fits = preloaded-fits s fresh.masters fresh.fits;
+    }
+
+-- an application after a call of the heap's table, of the Resource Manager's, or of the Segment Manager's
+abbrev pub asked_after : Asked → Running → Running
+asked_after a r = record r { memory = (served a r.memory).1 }
+
+abbrev pub found_after : ResourceAsked → Running → Running
+found_after a r = record r {
+  memory = (finds.served a (managers_of r)).after.memory;
+  resources = (finds.served a (managers_of r)).after.resources;
+}
+
+abbrev pub jumped_after : SegmentCall → Running → Running
+jumped_after c r = record r {
+  memory = (jumps.served c (program_of r)).after.managers.memory;
+  resources = (jumps.served c (program_of r)).after.managers.resources;
+  table = (jumps.served c (program_of r)).after.table;
+}
+
+-- what holds of each call of the heap's table, of each of the Resource Manager's, of each of the Segment Manager's, and
+-- of one that leaves them all, holds of each try
+pub of-try : (Q : Deed → Told → Reads → Running → Type 0) (blocks : Blocks) (c : Call) (r : Running)
+    → ((a : Asked) → Q (Ask a) (served a r.memory).0 [] (asked_after a r))
+    → ((a : ResourceAsked) → Q (Find a) (finds.served a (managers_of r)).told (finds.served a (managers_of r)).reads
+    (found_after a r))
+    → ((c : SegmentCall) → Q (Jump c) (jumps.served c (program_of r)).told (jumps.served c (program_of r)).reads
+    (jumped_after c r))
+    → ((k : ControlCall) (grow : List Line) → Q (Steer k) Done [] (record r { grow = grow }))
+    → Q (deed_of c r.names) (once blocks c r).told (once blocks c r).reads (once blocks c r).after
+of-try Q blocks (call.Heap c) r asks finds jumps steers = asks (asked c r.names)
+of-try Q blocks (call.Resource c) r asks finds jumps steers = finds (resource_asked c r.names)
+of-try Q blocks (call.Segment c) r asks finds jumps steers = jumps c
+of-try Q blocks (call.Control (control.SetGrowZone name)) r asks finds jumps steers =
+    steers (control.SetGrowZone name) (block_of name.0.items blocks)
+of-try Q blocks (call.Control control.WaitNextEvent) r asks finds jumps steers = steers control.WaitNextEvent r.grow
+of-try Q blocks (call.Control control.ExitToShell) r asks finds jumps steers = steers control.ExitToShell r.grow
+
+-- a try binds no name
+pub once-names : (blocks : Blocks) (c : Call) (r : Running) → (once blocks c r).after.names ≡ r.names
+once-names blocks c r = of-try (λ d told reads after. after.names ≡ r.names) blocks c r
+    (λ a. refl) (λ a. refl) (λ c. refl) (λ k grow. refl)
+
+-- and leaves which numbers are busy
+pub once-busy : (blocks : Blocks) (c : Call) (r : Running)
+    → (once blocks c r).after.memory.log.busy ≡ r.memory.log.busy
+once-busy blocks c r = of-try (λ d told reads after. after.memory.log.busy ≡ r.memory.log.busy) blocks c r
+    (λ a. served-busy a r.memory) (λ a. laws.served-busy a (managers_of r))
+    (λ c. jumping.served-busy c (program_of r)) (λ k grow. refl)
+
+-- what is known is kept by each call of the heap's table
+served-sound : (a : Asked) (m : Memory) (bytes : ℕ → List ℕ) → Sound m bytes
+    → Sound (served a m).1 (put_deed (Ask a) (served a m).0 [] bytes)
+served-sound a m bytes sound =
+    let few = served_looks a m sound.masters sound.fits in
+    let count = few.2 in
+    let kept = served_masters_no_fewer a m sound.known.once in
+    let some = sound.masters in
+    record { known = served-known a m bytes sound.known; masters = omega arith; fits = omega arith }
+
+-- where a call that was refused read nothing, what was read counts
+found-put : (told : Told) (reads : Reads) (bytes : ℕ → List ℕ)
+    → ((code : OsErr) → told ≡ Refused code → reads ≡ []) → put_found told reads bytes ≡ put_reads reads bytes
+found-put (Refused code) reads bytes none = ap (λ (x : Reads). put_reads x bytes) (sym (none code refl))
+found-put Done reads bytes none = refl
+found-put (Given n) reads bytes none = refl
+found-put (Fetched handle read) reads bytes none = refl
+found-put (Number n) reads bytes none = refl
+found-put (Numbers one other) reads bytes none = refl
+found-put (Code code) reads bytes none = refl
+found-put (Bytes x) reads bytes none = refl
+found-put (Kind kind) reads bytes none = refl
+found-put (Info id kind name) reads bytes none = refl
+found-put (Entry segment flag) reads bytes none = refl
+
+-- and by each of the Resource Manager's
+found-sound : (a : ResourceAsked) (s : Managers) (bytes : ℕ → List ℕ) → Sound s.memory bytes
+    → Sound (finds.served a s).after.memory (put_found (finds.served a s).told (finds.served a s).reads bytes)
+found-sound a s bytes sound =
+    let kept = laws.served-masters a s bytes sound.known in
+    let some = sound.masters in record {
+      known = subst (Known (finds.served a s).after.memory.heap)
+          (sym (found-put (finds.served a s).told (finds.served a s).reads bytes (laws.served-unread a s)))
+          (laws.served-known a s bytes sound.known);
+      masters = omega arith;
+      fits = laws.served-fits a s sound.masters sound.fits;
+    }
+
+-- and by each of the Segment Manager's
+jumped-sound : (c : SegmentCall) (p : Program) (bytes : ℕ → List ℕ) → Sound p.managers.memory bytes
+    → Sound (jumps.served c p).after.managers.memory (put_reads (jumps.served c p).reads bytes)
+jumped-sound c p bytes sound =
+    let few = jumping.served-looks c p sound.masters sound.fits in
+    let count = few.2 in
+    let kept = jumping.served-masters c p in
+    let some = sound.masters in
+    record { known = jumping.served-known c p bytes sound.known; masters = omega arith; fits = omega arith }
+
+-- and so by each try, with the bytes that it put
+pub once-sound : (blocks : Blocks) (c : Call) (r : Running) (bytes : ℕ → List ℕ) → Sound r.memory bytes
+    → Sound (once blocks c r).after.memory
+    (put_deed (deed_of c r.names) (once blocks c r).told (once blocks c r).reads bytes)
+once-sound blocks c r bytes sound = of-try
+    (λ d told reads after. Sound after.memory (put_deed d told reads bytes)) blocks c r
+    (λ a. served-sound a r.memory bytes sound) (λ a. found-sound a (managers_of r) bytes sound)
+    (λ c. jumped-sound c (program_of r) bytes sound) (λ k grow. sound)
+
+-- bytes that a try shows are those last put
+pub once-shows : (blocks : Blocks) (l : Line) (r : Running) (bytes : ℕ → List ℕ) → Sound r.memory bytes
+    → ShowsPut bytes (event_of l r (once blocks l.call r))
+once-shows blocks l r bytes sound = of-try
+    (λ d told reads after. (h : ℕ) (shown : List ℕ)
+    → (d ≡ Ask (asks.Show (Some h))) ⊎ (d ≡ Ask (asks.ShowPtr (Some h)))
+    → told ≡ Bytes shown → shown ≡ bytes h) blocks l.call r shows found jumped none
+  where
+    same : (a b : Asked) → Ask a ≡ Ask b → a ≡ b
+    same a b e = cc
+
+    shows : (a : Asked) (h : ℕ) (shown : List ℕ)
+        → (Ask a ≡ Ask (asks.Show (Some h))) ⊎ (Ask a ≡ Ask (asks.ShowPtr (Some h)))
+        → (served a r.memory).0 ≡ Bytes shown → shown ≡ bytes h
+    shows a h shown (inl is) tells = served-shows a r.memory bytes sound.known h shown
+        (inl (same a (asks.Show (Some h)) is)) tells
+    shows a h shown (inr is) tells = served-shows a r.memory bytes sound.known h shown
+        (inr (same a (asks.ShowPtr (Some h)) is)) tells
+
+    found : (a : ResourceAsked) (h : ℕ) (shown : List ℕ)
+        → (Find a ≡ Ask (asks.Show (Some h))) ⊎ (Find a ≡ Ask (asks.ShowPtr (Some h)))
+        → (finds.served a (managers_of r)).told ≡ Bytes shown → shown ≡ bytes h
+    found a h shown (inl is) tells = cc
+    found a h shown (inr is) tells = cc
+
+    jumped : (c : SegmentCall) (h : ℕ) (shown : List ℕ)
+        → (Jump c ≡ Ask (asks.Show (Some h))) ⊎ (Jump c ≡ Ask (asks.ShowPtr (Some h)))
+        → (jumps.served c (program_of r)).told ≡ Bytes shown → shown ≡ bytes h
+    jumped c h shown (inl is) tells = cc
+    jumped c h shown (inr is) tells = cc
+
+    none : (k : ControlCall) (grow : List Line) (h : ℕ) (shown : List ℕ)
+        → (Steer k ≡ Ask (asks.Show (Some h))) ⊎ (Steer k ≡ Ask (asks.ShowPtr (Some h)))
+        → Done ≡ Bytes shown → shown ≡ bytes h
+    none k grow h shown is tells = cc
+
+-- after a try each block holds the bytes last put into it
+pub once-holds : (blocks : Blocks) (l : Line) (r : Running) (bytes : ℕ → List ℕ) → Sound r.memory bytes
+    → HoldsPut bytes (event_of l r (once blocks l.call r))
+once-holds blocks l r bytes sound = holds-known (once blocks l.call r).after.memory.heap
+    (put_event (event_of l r (once blocks l.call r)) bytes) (once-sound blocks l.call r bytes sound).known
+
+-- a try leaves locked blocks where they are
+pub once-locked : (blocks : Blocks) (l : Line) (r : Running) (bytes : ℕ → List ℕ) → Sound r.memory bytes
+    → KeepsLocked bytes (event_of l r (once blocks l.call r))
+once-locked blocks l r bytes sound h place = of-try
+    (λ d told reads after. frees h d r ≡ false → locked_place h r.memory.heap.zone ≡ Some place
+    → locked_place h after.memory.heap.zone ≡ Some place) blocks l.call r
+    (λ a. served-locked a r.memory sound.known.once h place)
+    (λ a. laws.served-locked a (managers_of r) bytes sound.known h place)
+    (λ c. jumping.served-locked c (program_of r) bytes sound.known h place) (λ k grow keeps is. is)
+
+-- and pointers' blocks
+pub once-fixed : (blocks : Blocks) (l : Line) (r : Running) (bytes : ℕ → List ℕ) → Sound r.memory bytes
+    → KeepsFixed bytes (event_of l r (once blocks l.call r))
+once-fixed blocks l r bytes sound p place = of-try
+    (λ d told reads after. drops p d ≡ false → pointer_place p r.memory.heap.zone ≡ Some place
+    → pointer_place p after.memory.heap.zone ≡ Some place) blocks l.call r
+    (λ a. served-fixed a r.memory sound.known.once (next-new r.memory.heap bytes sound.known) p place)
+    (λ a keeps. laws.served-fixed a (managers_of r) bytes sound.known p place)
+    (λ c keeps. jumping.served-fixed c (program_of r) bytes sound.known p place) (λ k grow keeps is. is)
+
+-- and empties only blocks that may be emptied
+pub once-purgeable : (blocks : Blocks) (l : Line) (r : Running) (bytes : ℕ → List ℕ) → Sound r.memory bytes
+    → EmptiesPurgeable bytes (event_of l r (once blocks l.call r))
+once-purgeable blocks l r bytes sound h = of-try
+    (λ d told reads after. lets h d r ≡ false → has (is_relocatable h) r.memory.heap.zone ≡ true
+    → has (is_relocatable h) after.memory.heap.zone ≡ false
+    → may_be_emptied h r.memory.heap.zone ≡ true) blocks l.call r
+    (λ a. served-purgeable a r.memory sound.known.once h)
+    (λ a. laws.served-purgeable a (managers_of r) bytes sound.known h)
+    (λ c keeps. jumping.served-purgeable c (program_of r) bytes sound.known h)
+    (λ k grow keeps before after. absurd-same before after)
+  where
+    absurd-same : {t : Bool} → t ≡ true → t ≡ false → may_be_emptied h r.memory.heap.zone ≡ true
+    absurd-same before after = let f : true ≡ false = sym before ∙ after in cc
+
+-- it looks for room few times
+pub once-looks : (blocks : Blocks) (l : Line) (r : Running) (bytes : ℕ → List ℕ) → Sound r.memory bytes
+    → LooksFew bytes (event_of l r (once blocks l.call r))
+once-looks blocks l r bytes sound = of-try
+    (λ d told reads after. opens d ≡ false → (n : ℕ) × (n ≤ length r.memory.heap.zone + 1)
+    × (after.memory.log.searches ≡ counted r.memory.log.searches n)) blocks l.call r
+    (λ a opens. served_looks a r.memory sound.masters sound.fits)
+    (λ a opens. laws.served-looks a (managers_of r) opens sound.masters sound.fits)
+    (λ c opens. jumping.served-looks c (program_of r) sound.masters sound.fits)
+    (λ k grow opens. unlooked r.memory.heap.zone r.memory.log.searches sound.fits)
+
+-- where it is refused it leaves the heap
+pub once-refused : (blocks : Blocks) (l : Line) (r : Running) (bytes : ℕ → List ℕ) → Sound r.memory bytes
+    → RefusedLeaves bytes (event_of l r (once blocks l.call r))
+once-refused blocks l r bytes sound code tells = (
+  of-try (λ d told reads after. told ≡ Refused code → Kept d code r after) blocks l.call r
+      (λ a is. ((served-refused a r.memory code is).0, refl))
+      (λ a. laws.served-refused a (managers_of r) code)
+      (λ c is other. ap (λ (p : Program). kept p) (jumping.served-refused c (program_of r) code is other))
+      (λ k grow is. (refl, refl)) tells,
+  once-names blocks l.call r,
+)
+  where
+    kept : Program → Running
+    kept p = record r { memory = p.managers.memory; resources = p.managers.resources; table = p.table }
+
+-- a call of the heap's table leaves the resources
+pub once-keeps-resources : (blocks : Blocks) (l : Line) (r : Running) (bytes : ℕ → List ℕ) → Sound r.memory bytes
+    → KeepsResources bytes (event_of l r (once blocks l.call r))
+once-keeps-resources blocks l r bytes sound = of-try
+    (λ d told reads after. keeps_resources d ≡ true → after.resources ≡ r.resources) blocks l.call r
+    (λ a is. refl) (λ a is. cc) (λ c is. cc) (λ k grow is. refl)
+
+-- and each try that makes or updates no file the files
+pub once-keeps-files : (blocks : Blocks) (l : Line) (r : Running) (bytes : ℕ → List ℕ) → Sound r.memory bytes
+    → KeepsFiles bytes (event_of l r (once blocks l.call r))
+once-keeps-files blocks l r bytes sound = of-try
+    (λ d told reads after. writes_files d ≡ false → after.resources.files ≡ r.resources.files) blocks l.call r
+    (λ a is. refl) (λ a. laws.served-files a (managers_of r))
+    (λ c is. jumping.served-files c (program_of r)) (λ k grow is. refl)
+
+-- and each but those of the Segment Manager's calls the jump table
+pub once-keeps-table : (blocks : Blocks) (l : Line) (r : Running) (bytes : ℕ → List ℕ) → Sound r.memory bytes
+    → KeepsTable bytes (event_of l r (once blocks l.call r))
+once-keeps-table blocks l r bytes sound = of-try (λ d told reads after. is_jump d ≡ false → after.table ≡ r.table)
+    blocks l.call r (λ a is. refl) (λ a is. refl) (λ c is. cc) (λ k grow is. refl)

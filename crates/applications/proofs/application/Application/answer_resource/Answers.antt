@@ -1,0 +1,138 @@
+use Rattle.std.proofs.Common.{refl, ap, rules, true, false, ℕ, ℤ, Option}
+use Rattle.std.specs.Prelude.{FitsSigned}
+use Rattle.std.specs.Int.{w16}
+use Rattle.std.proofs.lemmas.Int.{to_z-of_z}
+use Rattle.byteorder.specs.Endian.{big_number}
+use Rattle.mac_words.specs.Told.{Done, Number, Kind}
+use Rattle.res_calls.specs.Asked.{telling, tell_fetched, tell_info}
+use Rattle.res_calls.specs.Given.{managers}
+use Rattle.res_calls.specs.Rows as rows
+use Rattle.res_calls.specs.Changing as changing
+use Rattle.applications.proofs.Arms.{by_both, arm_told, arm_after}
+use Rattle.applications.proofs.application.Application.answer_resource.Goals as goal
+
+pub returns-in-CreateResFile-clause-told : goal.returns-in-CreateResFile-clause-told
+returns-in-CreateResFile-clause-told g c =
+    arm_told (λ (u : Unit {0}). Done) false c.done_on_resource.result _ _ _ c.args.call.now _ c.args.self.now _ c.done_on_resource.ensures.tried (c.create_res_file.ensures.answer c.self-in-CreateResFile.inside.heap) refl refl c.in-CreateResFile.is c.self-in-CreateResFile.view_is
+
+pub returns-in-CreateResFile-clause-after : goal.returns-in-CreateResFile-clause-after
+returns-in-CreateResFile-clause-after g c =
+    arm_after (λ (u : Unit {0}). Done) c.done_on_resource.result _ _ _ c.args.call.now _ c.args.self.now _ _ c.done_on_resource.ensures.after (c.create_res_file.ensures.answer c.self-in-CreateResFile.inside.heap) refl refl c.in-CreateResFile.is c.self-in-CreateResFile.view_is
+
+pub returns-in-UseResFile-clause-told : goal.returns-in-UseResFile-clause-told
+returns-in-UseResFile-clause-told g c =
+    arm_told (λ (u : Unit {0}). Done) false c.done_on_resource-in-UseResFile.result _ _ _ c.args.call.now _ c.args.self.now _ c.done_on_resource-in-UseResFile.ensures.tried (c.use_res_file.ensures.answer c.self-in-UseResFile.inside.heap) refl refl c.in-UseResFile.is c.self-in-UseResFile.view_is
+
+pub returns-in-UseResFile-clause-after : goal.returns-in-UseResFile-clause-after
+returns-in-UseResFile-clause-after g c =
+    arm_after (λ (u : Unit {0}). Done) c.done_on_resource-in-UseResFile.result _ _ _ c.args.call.now _ c.args.self.now _ _ c.done_on_resource-in-UseResFile.ensures.after (c.use_res_file.ensures.answer c.self-in-UseResFile.inside.heap) refl refl c.in-UseResFile.is c.self-in-UseResFile.view_is
+
+pub returns-in-CurResFile-clause-told : goal.returns-in-CurResFile-clause-told
+returns-in-CurResFile-clause-told g c =
+    arm_told Number false c.counted-in-CurResFile.result _ _ _ c.args.call.now _ c.args.self.now _ c.counted-in-CurResFile.ensures.tried (c.cur_res_file.ensures c.self-in-CurResFile.inside.heap) refl refl c.in-CurResFile.is c.self-in-CurResFile.view_is
+
+pub returns-in-CurResFile-clause-after : goal.returns-in-CurResFile-clause-after
+returns-in-CurResFile-clause-after g c =
+    arm_after Number c.counted-in-CurResFile.result _ _ _ c.args.call.now _ c.args.self.now _ _ c.counted-in-CurResFile.ensures.after (c.cur_res_file.ensures c.self-in-CurResFile.inside.heap) refl refl c.in-CurResFile.is c.self-in-CurResFile.view_is
+
+pub returns-in-HomeResFile-clause-told : goal.returns-in-HomeResFile-clause-told
+returns-in-HomeResFile-clause-told g c =
+    arm_told Number false c.counted-in-HomeResFile.result _ _ _ c.args.call.now _ c.args.self.now _ c.counted-in-HomeResFile.ensures.tried (c.home_res_file.ensures.answer c.self-in-HomeResFile.inside.heap) (ap (λ (h : Option ℕ). telling Number (rows.noting (rows.home_res_file h) (managers c.self-in-HomeResFile.inside.resources c.self-in-HomeResFile.inside.heap))) c.number.ensures) refl c.in-HomeResFile.is c.self-in-HomeResFile.view_is
+
+pub returns-in-HomeResFile-clause-after : goal.returns-in-HomeResFile-clause-after
+returns-in-HomeResFile-clause-after g c =
+    arm_after Number c.counted-in-HomeResFile.result _ _ _ c.args.call.now _ c.args.self.now _ _ c.counted-in-HomeResFile.ensures.after (c.home_res_file.ensures.answer c.self-in-HomeResFile.inside.heap) (ap (λ (h : Option ℕ). telling Number (rows.noting (rows.home_res_file h) (managers c.self-in-HomeResFile.inside.resources c.self-in-HomeResFile.inside.heap))) c.number.ensures) refl c.in-HomeResFile.is c.self-in-HomeResFile.view_is
+
+pub returns-in-GetResource-clause-told : goal.returns-in-GetResource-clause-told
+returns-in-GetResource-clause-told g c =
+    let fits : FitsSigned w16 c.in-GetResource.id = search rules in
+    arm_told tell_fetched true c.fetched.result _ _ _ c.args.call.now _ c.args.self.now _ c.fetched.ensures.tried c.get_resource.ensures.answer (ap (λ (i : ℤ). telling tell_fetched (rows.noting (rows.get_resource (big_number 4 c.in-GetResource.ty.0) i) (managers c.self-in-GetResource.inside.resources c.self-in-GetResource.inside.heap))) (to_z-of_z w16 c.in-GetResource.id fits)) refl c.in-GetResource.is c.self-in-GetResource.view_is
+
+pub returns-in-GetResource-clause-after : goal.returns-in-GetResource-clause-after
+returns-in-GetResource-clause-after g c =
+    let fits : FitsSigned w16 c.in-GetResource.id = search rules in
+    arm_after tell_fetched c.fetched.result _ _ _ c.args.call.now _ c.args.self.now _ _ c.fetched.ensures.after c.get_resource.ensures.answer (ap (λ (i : ℤ). telling tell_fetched (rows.noting (rows.get_resource (big_number 4 c.in-GetResource.ty.0) i) (managers c.self-in-GetResource.inside.resources c.self-in-GetResource.inside.heap))) (to_z-of_z w16 c.in-GetResource.id fits)) refl c.in-GetResource.is c.self-in-GetResource.view_is
+
+pub returns-in-Get1Resource-clause-told : goal.returns-in-Get1Resource-clause-told
+returns-in-Get1Resource-clause-told g c =
+    let fits : FitsSigned w16 c.in-Get1Resource.id = search rules in
+    arm_told tell_fetched true c.fetched-in-Get1Resource.result _ _ _ c.args.call.now _ c.args.self.now _ c.fetched-in-Get1Resource.ensures.tried c.get1_resource.ensures.answer (ap (λ (i : ℤ). telling tell_fetched (rows.noting (rows.get_one_resource (big_number 4 c.in-Get1Resource.ty.0) i) (managers c.self-in-Get1Resource.inside.resources c.self-in-Get1Resource.inside.heap))) (to_z-of_z w16 c.in-Get1Resource.id fits)) refl c.in-Get1Resource.is c.self-in-Get1Resource.view_is
+
+pub returns-in-Get1Resource-clause-after : goal.returns-in-Get1Resource-clause-after
+returns-in-Get1Resource-clause-after g c =
+    let fits : FitsSigned w16 c.in-Get1Resource.id = search rules in
+    arm_after tell_fetched c.fetched-in-Get1Resource.result _ _ _ c.args.call.now _ c.args.self.now _ _ c.fetched-in-Get1Resource.ensures.after c.get1_resource.ensures.answer (ap (λ (i : ℤ). telling tell_fetched (rows.noting (rows.get_one_resource (big_number 4 c.in-Get1Resource.ty.0) i) (managers c.self-in-Get1Resource.inside.resources c.self-in-Get1Resource.inside.heap))) (to_z-of_z w16 c.in-Get1Resource.id fits)) refl c.in-Get1Resource.is c.self-in-Get1Resource.view_is
+
+pub returns-in-Count1Types-clause-told : goal.returns-in-Count1Types-clause-told
+returns-in-Count1Types-clause-told g c =
+    arm_told Number false c.sized.result _ _ _ c.args.call.now _ c.args.self.now _ c.sized.ensures.tried (c.count1_types.ensures.answer c.self-in-Count1Types.inside.heap) refl refl c.in-Count1Types.is c.self-in-Count1Types.view_is
+
+pub returns-in-Count1Types-clause-after : goal.returns-in-Count1Types-clause-after
+returns-in-Count1Types-clause-after g c =
+    arm_after Number c.sized.result _ _ _ c.args.call.now _ c.args.self.now _ _ c.sized.ensures.after (c.count1_types.ensures.answer c.self-in-Count1Types.inside.heap) refl refl c.in-Count1Types.is c.self-in-Count1Types.view_is
+
+pub returns-in-Get1IndType-clause-told : goal.returns-in-Get1IndType-clause-told
+returns-in-Get1IndType-clause-told g c =
+    arm_told Kind false c.kind.result _ _ _ c.args.call.now _ c.args.self.now _ c.kind.ensures.tried (c.get1_ind_type.ensures.answer c.self-in-Get1IndType.inside.heap) refl refl c.in-Get1IndType.is c.self-in-Get1IndType.view_is
+
+pub returns-in-Get1IndType-clause-after : goal.returns-in-Get1IndType-clause-after
+returns-in-Get1IndType-clause-after g c =
+    arm_after Kind c.kind.result _ _ _ c.args.call.now _ c.args.self.now _ _ c.kind.ensures.after (c.get1_ind_type.ensures.answer c.self-in-Get1IndType.inside.heap) refl refl c.in-Get1IndType.is c.self-in-Get1IndType.view_is
+
+pub returns-in-Count1Resources-clause-told : goal.returns-in-Count1Resources-clause-told
+returns-in-Count1Resources-clause-told g c =
+    arm_told Number false c.sized-in-Count1Resources.result _ _ _ c.args.call.now _ c.args.self.now _ c.sized-in-Count1Resources.ensures.tried (c.count1_resources.ensures.answer c.self-in-Count1Resources.inside.heap) refl refl c.in-Count1Resources.is c.self-in-Count1Resources.view_is
+
+pub returns-in-Count1Resources-clause-after : goal.returns-in-Count1Resources-clause-after
+returns-in-Count1Resources-clause-after g c =
+    arm_after Number c.sized-in-Count1Resources.result _ _ _ c.args.call.now _ c.args.self.now _ _ c.sized-in-Count1Resources.ensures.after (c.count1_resources.ensures.answer c.self-in-Count1Resources.inside.heap) refl refl c.in-Count1Resources.is c.self-in-Count1Resources.view_is
+
+pub returns-in-ChangedResource-clause-told : goal.returns-in-ChangedResource-clause-told
+returns-in-ChangedResource-clause-told g c =
+    arm_told (λ (u : Unit {0}). Done) false c.done_on_resource-in-ChangedResource.result _ _ _ c.args.call.now _ c.args.self.now _ c.done_on_resource-in-ChangedResource.ensures.tried (c.changed_resource.ensures.answer c.self-in-ChangedResource.inside.heap) (ap (λ (h : Option ℕ). telling (λ (u : Unit {0}). Done) (rows.noting (changing.changed_resource h) (managers c.self-in-ChangedResource.inside.resources c.self-in-ChangedResource.inside.heap))) c.number-in-ChangedResource.ensures) refl c.in-ChangedResource.is c.self-in-ChangedResource.view_is
+
+pub returns-in-ChangedResource-clause-after : goal.returns-in-ChangedResource-clause-after
+returns-in-ChangedResource-clause-after g c =
+    arm_after (λ (u : Unit {0}). Done) c.done_on_resource-in-ChangedResource.result _ _ _ c.args.call.now _ c.args.self.now _ _ c.done_on_resource-in-ChangedResource.ensures.after (c.changed_resource.ensures.answer c.self-in-ChangedResource.inside.heap) (ap (λ (h : Option ℕ). telling (λ (u : Unit {0}). Done) (rows.noting (changing.changed_resource h) (managers c.self-in-ChangedResource.inside.resources c.self-in-ChangedResource.inside.heap))) c.number-in-ChangedResource.ensures) refl c.in-ChangedResource.is c.self-in-ChangedResource.view_is
+
+pub returns-in-GetResInfo-clause-told : goal.returns-in-GetResInfo-clause-told
+returns-in-GetResInfo-clause-told g c =
+    arm_told tell_info false c.info.result _ _ _ c.args.call.now _ c.args.self.now _ c.info.ensures.tried (c.get_res_info.ensures.answer c.self-in-GetResInfo.inside.heap) (ap (λ (h : Option ℕ). telling tell_info (rows.noting (rows.get_res_info h) (managers c.self-in-GetResInfo.inside.resources c.self-in-GetResInfo.inside.heap))) c.number-in-GetResInfo.ensures) refl c.in-GetResInfo.is c.self-in-GetResInfo.view_is
+
+pub returns-in-GetResInfo-clause-after : goal.returns-in-GetResInfo-clause-after
+returns-in-GetResInfo-clause-after g c =
+    arm_after tell_info c.info.result _ _ _ c.args.call.now _ c.args.self.now _ _ c.info.ensures.after (c.get_res_info.ensures.answer c.self-in-GetResInfo.inside.heap) (ap (λ (h : Option ℕ). telling tell_info (rows.noting (rows.get_res_info h) (managers c.self-in-GetResInfo.inside.resources c.self-in-GetResInfo.inside.heap))) c.number-in-GetResInfo.ensures) refl c.in-GetResInfo.is c.self-in-GetResInfo.view_is
+
+pub returns-in-SetResInfo-clause-told : goal.returns-in-SetResInfo-clause-told
+returns-in-SetResInfo-clause-told g c =
+    let fits : FitsSigned w16 c.in-SetResInfo.id = search rules in
+    arm_told (λ (u : Unit {0}). Done) false c.done_on_resource-in-SetResInfo.result _ _ _ c.args.call.now _ c.args.self.now _ c.done_on_resource-in-SetResInfo.ensures.tried (c.set_res_info.ensures.answer c.self-in-SetResInfo.inside.heap) (by_both (λ (h : Option ℕ) (i : ℤ). telling (λ (u : Unit {0}). Done) (rows.noting (changing.set_res_info h i c.in-SetResInfo.text.0.items) (managers c.self-in-SetResInfo.inside.resources c.self-in-SetResInfo.inside.heap))) c.number-in-SetResInfo.ensures (to_z-of_z w16 c.in-SetResInfo.id fits)) refl c.in-SetResInfo.is c.self-in-SetResInfo.view_is
+
+pub returns-in-SetResInfo-clause-after : goal.returns-in-SetResInfo-clause-after
+returns-in-SetResInfo-clause-after g c =
+    let fits : FitsSigned w16 c.in-SetResInfo.id = search rules in
+    arm_after (λ (u : Unit {0}). Done) c.done_on_resource-in-SetResInfo.result _ _ _ c.args.call.now _ c.args.self.now _ _ c.done_on_resource-in-SetResInfo.ensures.after (c.set_res_info.ensures.answer c.self-in-SetResInfo.inside.heap) (by_both (λ (h : Option ℕ) (i : ℤ). telling (λ (u : Unit {0}). Done) (rows.noting (changing.set_res_info h i c.in-SetResInfo.text.0.items) (managers c.self-in-SetResInfo.inside.resources c.self-in-SetResInfo.inside.heap))) c.number-in-SetResInfo.ensures (to_z-of_z w16 c.in-SetResInfo.id fits)) refl c.in-SetResInfo.is c.self-in-SetResInfo.view_is
+
+pub returns-in-GetResAttrs-clause-told : goal.returns-in-GetResAttrs-clause-told
+returns-in-GetResAttrs-clause-told g c =
+    arm_told Number false c.attributes.result _ _ _ c.args.call.now _ c.args.self.now _ c.attributes.ensures.tried (c.get_res_attrs.ensures.answer c.self-in-GetResAttrs.inside.heap) (ap (λ (h : Option ℕ). telling Number (rows.noting (rows.get_res_attrs h) (managers c.self-in-GetResAttrs.inside.resources c.self-in-GetResAttrs.inside.heap))) c.number-in-GetResAttrs.ensures) refl c.in-GetResAttrs.is c.self-in-GetResAttrs.view_is
+
+pub returns-in-GetResAttrs-clause-after : goal.returns-in-GetResAttrs-clause-after
+returns-in-GetResAttrs-clause-after g c =
+    arm_after Number c.attributes.result _ _ _ c.args.call.now _ c.args.self.now _ _ c.attributes.ensures.after (c.get_res_attrs.ensures.answer c.self-in-GetResAttrs.inside.heap) (ap (λ (h : Option ℕ). telling Number (rows.noting (rows.get_res_attrs h) (managers c.self-in-GetResAttrs.inside.resources c.self-in-GetResAttrs.inside.heap))) c.number-in-GetResAttrs.ensures) refl c.in-GetResAttrs.is c.self-in-GetResAttrs.view_is
+
+pub returns-in-SetResAttrs-clause-told : goal.returns-in-SetResAttrs-clause-told
+returns-in-SetResAttrs-clause-told g c =
+    arm_told (λ (u : Unit {0}). Done) false c.done_on_resource-in-SetResAttrs.result _ _ _ c.args.call.now _ c.args.self.now _ c.done_on_resource-in-SetResAttrs.ensures.tried (c.set_res_attrs.ensures.answer c.self-in-SetResAttrs.inside.heap) (ap (λ (h : Option ℕ). telling (λ (u : Unit {0}). Done) (rows.noting (changing.set_res_attrs h c.in-SetResAttrs.attrs) (managers c.self-in-SetResAttrs.inside.resources c.self-in-SetResAttrs.inside.heap))) c.number-in-SetResAttrs.ensures) refl c.in-SetResAttrs.is c.self-in-SetResAttrs.view_is
+
+pub returns-in-SetResAttrs-clause-after : goal.returns-in-SetResAttrs-clause-after
+returns-in-SetResAttrs-clause-after g c =
+    arm_after (λ (u : Unit {0}). Done) c.done_on_resource-in-SetResAttrs.result _ _ _ c.args.call.now _ c.args.self.now _ _ c.done_on_resource-in-SetResAttrs.ensures.after (c.set_res_attrs.ensures.answer c.self-in-SetResAttrs.inside.heap) (ap (λ (h : Option ℕ). telling (λ (u : Unit {0}). Done) (rows.noting (changing.set_res_attrs h c.in-SetResAttrs.attrs) (managers c.self-in-SetResAttrs.inside.resources c.self-in-SetResAttrs.inside.heap))) c.number-in-SetResAttrs.ensures) refl c.in-SetResAttrs.is c.self-in-SetResAttrs.view_is
+
+pub returns-in-GetResourceSizeOnDisk-clause-told : goal.returns-in-GetResourceSizeOnDisk-clause-told
+returns-in-GetResourceSizeOnDisk-clause-told g c =
+    arm_told Number false c.sized-in-GetResourceSizeOnDisk.result _ _ _ c.args.call.now _ c.args.self.now _ c.sized-in-GetResourceSizeOnDisk.ensures.tried (c.get_resource_size_on_disk.ensures.answer c.self-in-GetResourceSizeOnDisk.inside.heap) (ap (λ (h : Option ℕ). telling Number (rows.noting (rows.get_resource_size_on_disk h) (managers c.self-in-GetResourceSizeOnDisk.inside.resources c.self-in-GetResourceSizeOnDisk.inside.heap))) c.number-in-GetResourceSizeOnDisk.ensures) refl c.in-GetResourceSizeOnDisk.is c.self-in-GetResourceSizeOnDisk.view_is
+
+pub returns-in-GetResourceSizeOnDisk-clause-after : goal.returns-in-GetResourceSizeOnDisk-clause-after
+returns-in-GetResourceSizeOnDisk-clause-after g c =
+    arm_after Number c.sized-in-GetResourceSizeOnDisk.result _ _ _ c.args.call.now _ c.args.self.now _ _ c.sized-in-GetResourceSizeOnDisk.ensures.after (c.get_resource_size_on_disk.ensures.answer c.self-in-GetResourceSizeOnDisk.inside.heap) (ap (λ (h : Option ℕ). telling Number (rows.noting (rows.get_resource_size_on_disk h) (managers c.self-in-GetResourceSizeOnDisk.inside.resources c.self-in-GetResourceSizeOnDisk.inside.heap))) c.number-in-GetResourceSizeOnDisk.ensures) refl c.in-GetResourceSizeOnDisk.is c.self-in-GetResourceSizeOnDisk.view_is

@@ -1,0 +1,45 @@
+use Rattle.std.proofs.Common.{◌∙◌, ◌++◌, ap, sym, refl, Option, None, List, [], ℕ}
+use Rattle.std.specs.Prelude.{nat_lt}
+use Rattle.std.proofs.lemmas.Bool.{le-ltb}
+use Rattle.mac_words.specs.declared.code.OsErr.{OsErr}
+use Rattle.heap_calls.specs.Staying.{ease}
+use Rattle.applications.specs.Trying.{Running, Tried, once}
+use Rattle.applications.specs.Step.{names_given, kept_anew}
+use Rattle.applications.specs.Application.{bytes_told}
+use Rattle.applications.specs.Replies.{exit_as}
+use Rattle.applications.proofs.Arms.{by_both}
+use Rattle.applications.proofs.Rounds.{ended_round, stood_round}
+use Rattle.applications.proofs.Saying.{own-said, shown-again, wants-shows-none}
+use Rattle.applications.proofs.application.Application.round.Goals as goal
+
+pub returns-in_ok-end_call : goal.returns-in_ok-end_call
+returns-in_ok-end_call g c =
+    let blocks = c.args.script.now.blocks in
+    let l = c.args.line.now in
+    let r : Running = c.args.self.now in
+    let t : Tried = once blocks l.call r in
+    let is = c.in_ok-tried.ensures.tried in
+    let went = c.in_ok-tried.ensures.after in
+    let shown = ap (λ (x : Running). bytes_told (once [] l.call x).told) went ∙ shown-again blocks l.call r in
+    ended_round blocks l r c.end_call.new.self c.exit-exit.result c.args.text.now.items c.end_call.new.text.items
+    (sym is.wants ∙ c.if-tried.false) (c.exit-exit.ensures ∙ by_both exit_as is.over is.reply.code)
+    (c.in_ok-end_call.ensures.text ∙ ap (λ (x : List ℕ). c.args.text.now.items ++ x) (own-said l _ c.in_ok-tried.tried.reply _ t.told refl is.reply shown))
+    (c.in_ok-end_call.ensures.after ∙ ap (λ (x : Running). record x { names = names_given l.call c.in_ok-tried.tried.given x.names }) went ∙ ap (λ (x : Option ℕ). record t.after { names = names_given l.call x t.after.names }) is.given)
+
+pub returns-in_ok-write_reply : goal.returns-in_ok-write_reply
+returns-in_ok-write_reply g c =
+    let blocks = c.args.script.now.blocks in
+    let l = c.args.line.now in
+    let r : Running = c.args.self.now in
+    let t : Tried = once blocks l.call r in
+    let is = c.in_ok-tried.ensures.tried in
+    let went = c.in_ok-tried.ensures.after in
+    let wants = sym is.wants ∙ c.if-tried.true in
+    let before = c.to_be_had-before.ensures ∙ ap (λ (x : Running). ease x.memory.heap.zone) (c.self.view_is ∙ went) in
+    let behind = c.to_be_had.ensures ∙ ap (λ (x : Running). ease x.memory.heap.zone) c.self-then-tried.view_is in
+    stood_round blocks l r c.once.new.self c.ask_script.new.self c.keep_anew.new.self c.in_ok-tried.tried.reading c.exit-exit.result c.args.text.now.items c.ask_script.new.text.items c.write_reply.new.text.items
+    wants went (is.reading wants) c.in_ok-ask_script.ensures
+    (sym (by_both nat_lt before behind) ∙ le-ltb c.to_be_had-before.result c.to_be_had.result c.if-to_be_had-before.false)
+    (c.exit-exit.ensures ∙ by_both exit_as is.over is.reply.code)
+    (c.in_ok-write_reply.ensures ∙ ap (λ (x : List ℕ). c.ask_script.new.text.items ++ x) (own-said l _ c.in_ok-tried.tried.reply None t.told c.of.ensures is.reply (sym (wants-shows-none blocks l.call r wants))))
+    (c.keep_anew.ensures ∙ ap (λ (code : OsErr). kept_anew l.call code c.ask_script.new.self) is.reply.code)

@@ -1,0 +1,19 @@
+use Rattle.std.proofs.Common.{◌∙◌, ◌+◌, ◌++◌, ap, drop, List, [], ℕ, arith}
+use Rattle.applications.specs.Trying.{Running, Tried, once}
+use Rattle.applications.specs.Application.{bytes_told}
+use Rattle.mac_words.proofs.Plain.{rest-next}
+use Rattle.applications.proofs.Rounds.{one_more}
+use Rattle.applications.proofs.Saying.{grown-said, shown-again}
+use Rattle.applications.proofs.application.Application.take_lines.Goals as goal
+
+pub loop-line-preserved : goal.loop-line-preserved
+loop-line-preserved g c =
+    let blocks = c.args.script.now.blocks in
+    let i = c.loop-line.line-index in
+    let l = c.line-item.result in
+    let t : Tried = once blocks l.call c.loop-line.self in
+    let shown = c.shown-shown.ensures ∙ ap (λ (r : Running). bytes_told (once [] l.call r).told) c.in_ok-tried.ensures.after ∙ shown-again blocks l.call c.loop-line.self in
+    one_more blocks (drop i c.args.lines.now) (drop (i + 1) c.args.lines.now) l c.loop-line.self c.once.new.self _ c.loop-line.text.items c.write_grow_reply.new.text.items _
+    (rest-next c.args.lines.now i l (omega arith) c.line-item.is) c.in_ok-tried.ensures.after
+    (c.in_ok-write_grow_reply.ensures ∙ ap (λ (x : List ℕ). c.loop-line.text.items ++ x) (grown-said l c.of.result c.in_ok-tried.tried.reply _ t.told c.of.ensures c.in_ok-tried.ensures.tried.reply shown))
+    c.loop-line.invariant.0 c.loop-line.invariant.1

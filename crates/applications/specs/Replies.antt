@@ -1,0 +1,119 @@
+use Rattle.std.specs.Prelude.{◌≡◌, ℕ, Bool, true, false, Option, Some, None, Result, Ok, Err, List, ◌++◌, option_map}
+use Rattle.std.specs.Prelude.{if◌then◌else◌}
+use Rattle.mac_words.specs.declared.name.Name.{Name}
+use Rattle.mac_words.specs.declared.name.OsType.{OsType}
+use Rattle.res_calls.specs.Asked.{ResourceAsked, Served}
+use Rattle.res_calls.specs.Asked as asks
+use Rattle.res_calls.specs.Leaving.{leave}
+use Rattle.mac_words.specs.declared.reply.Reply.{Reply}
+use Rattle.mac_words.specs.declared.code.OsErr.{OsErr}
+use Rattle.mac_words.specs.Told.{Told, Refused}
+use Rattle.heap_calls.specs.declared.refusal.Refusal.{Refusal}
+use Rattle.heap_calls.specs.declared.refusal.Refusal.TheVariants.{Code, HostMemory}
+use Rattle.segments.specs.Calls.{Answer}
+use Rattle.applications.specs.Trying.{Running, code_told, is_full, is_fatal, managers_of}
+use Rattle.applications.specs.Trying as specs
+use Rattle.applications.specs.Application.{numbers_told, type_told, name_told, lines_told}
+use Rattle.applications.specs.Step.{Course, Round, Ends, Again, number_given}
+use Rattle.applications.specs.Alone.{Ending, quits, stops}
+use Rattle.applications.specs.declared.tried.Tried.{Tried}
+use Rattle.applications.specs.declared.quitting.Exit.{Exit}
+use Rattle.applications.specs.declared.quitting.Exit.TheVariants as exit
+use Rattle.applications.specs.declared.stepping.Next.{Next}
+use Rattle.applications.specs.declared.stepping.Next.TheVariants as next
+
+-- How replies and tries say what the definitions tell.
+
+-- a reply says what is told, but for bytes that are shown
+pub record Says (reply : Reply) (told : Told) : Type 0 where
+  pub code : reply.code ≡ code_told told
+  pub numbers : reply.numbers.items ≡ numbers_told told
+  pub ty : option_map (λ (t : OsType). t.0) reply.ty ≡ type_told told
+  pub name : option_map (λ (n : Name). n.0.items) reply.name ≡ name_told told
+
+-- what was given, as it is told
+abbrev pub GivenAs : {T : Type 0} → (T → Told) → Result T Refusal → Told → Type 0
+GivenAs tell (Ok value) told = told ≡ tell value
+GivenAs tell (Err (Code code)) told = told ≡ Refused code
+GivenAs tell (Err HostMemory) told = Unit {0}
+
+-- a try of a call of the heap's table says what is told
+pub record TellsTold (tried : Tried) (told : Told) : Type 0 where
+  pub reply : Says tried.reply told
+  pub given : tried.given ≡ number_given told
+  pub reading : tried.reading ≡ None
+  pub wants : tried.wants ≡ is_full (code_told told)
+  pub over : tried.over ≡ false
+
+-- the calls that read resources
+abbrev pub fetches : ResourceAsked → Bool
+fetches (asks.GetResource kind id) = true
+fetches (asks.GetOneResource kind id) = true
+fetches (asks.GetNamedResource kind name) = true
+fetches (asks.GetOneNamedResource kind name) = true
+fetches (asks.GetOneIndResource kind index) = true
+fetches (asks.LoadResource handle) = true
+fetches asked = false
+
+-- a try of a call of the Resource Manager's table says what is told, and what would have been read again where there
+-- was no room for it
+pub record TellsServed (tried : Tried) (served : Served) (fetches : Bool) : Type 0 where
+  pub reply : Says tried.reply served.told
+  pub given : tried.given ≡ number_given served.told
+  pub reading : is_full (code_told served.told) ≡ true → tried.reading ≡ (if fetches then served.reading else None)
+  pub wants : tried.wants ≡ is_full (code_told served.told)
+  pub over : tried.over ≡ false
+
+-- a try is that of the definitions; what it would have read again is asked for only where there was no room
+pub record IsTried (tried : Tried) (t : specs.Tried) : Type 0 where
+  pub reply : Says tried.reply t.told
+  pub given : tried.given ≡ number_given t.told
+  pub reading : t.wants ≡ true → tried.reading ≡ t.reading
+  pub wants : tried.wants ≡ t.wants
+  pub over : tried.over ≡ t.over
+
+-- a call on a segment that was answered isn't for want of room
+abbrev pub Settled : {T : Type 0} → Answer T → Type 0
+Settled {T} a = (value : T) → a.reply ≡ Ok value → a.wants ≡ false
+
+-- a transcript with the lines of a course, and the application after it
+abbrev pub Came : Course → List ℕ → List ℕ → Running → Type 0
+Came c old new after = (new ≡ old ++ lines_told c.lines) × (after ≡ c.after)
+
+-- how an application ends, if it does, with a call of this code
+abbrev pub exit_as : Bool → OsErr → Option Exit
+exit_as over code = if over then Some (if is_fatal code then exit.Stops else exit.Quits) else None
+
+-- and with a course
+abbrev pub exit_of : Course → Option Exit
+exit_of c = exit_as c.over (code_told c.told)
+
+-- the end of an application that ends so; one that has no call left, or that is asked to, quits
+abbrev pub end_by : Option Exit → Running → Ending
+end_by None r = quits r
+end_by (Some exit.Quits) r = quits r
+end_by (Some exit.Stops) r = stops r
+
+-- and of one that goes on, unless it ended so or is asked to quit
+abbrev pub end_if : Option Exit → Bool → Running → Option Ending
+end_if None asked r = if asked then Some (quits r) else None
+end_if (Some e) asked r = Some (end_by (Some e) r)
+
+-- an application that has quit, and one that ended so
+abbrev pub has_quit : Running → Running
+has_quit r = record r {
+  memory = (leave (managers_of r)).after.memory;
+  resources = (leave (managers_of r)).after.resources;
+}
+
+abbrev pub has_ended : Option Exit → Running → Running
+has_ended None r = has_quit r
+has_ended (Some exit.Quits) r = has_quit r
+has_ended (Some exit.Stops) r = r
+
+-- a round came, and what is done next
+abbrev pub CameRound : Round → Next → List ℕ → List ℕ → Running → Type 0
+CameRound (Ends c) (next.Ended ends) old new after = (ends ≡ exit_of c) × Came c old new after
+CameRound (Ends c) next.Again old new after = ⊥
+CameRound (Again c) (next.Ended ends) old new after = ⊥
+CameRound (Again c) next.Again old new after = Came c old new after

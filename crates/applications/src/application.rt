@@ -1,0 +1,90 @@
+//! A running application.
+
+ghost use Rattle.std.specs.Prelude.{◌≡◌, IfOk};
+ghost use Rattle.block_store.specs.Block.{fresh, sizes};
+ghost use Rattle.applications.specs.Trying.{Running, launched, launched_with};
+
+use crate::names::Names;
+use crate::own::own_resources;
+use block_store::BlockStore;
+use heap_calls::Heap;
+use mac_words::OsType;
+use res_calls::Resources;
+use script_text::Line;
+use segments::JumpTable;
+use std::alloc::{AllocError, Global};
+use std::marker::Model;
+
+/// The type of segments.
+const CODE: OsType = OsType(*b"CODE");
+
+/// A running application: its heap, its resources, its jump table, what the names of its script are bound to, and the
+/// lines of its grow-zone script, none where none is set.
+#[derive(Drop)]
+pub struct Application<'s, S: BlockStore> {
+    pub(crate) alloc: Global,
+    pub(crate) heap: Heap<S>,
+    pub(crate) resources: Resources,
+    pub(crate) table: JumpTable,
+    pub(crate) names: Names,
+    pub(crate) grow: &'s [Line],
+}
+
+impl<'s, S: BlockStore> Model for Application<'s, S> {
+    ghost Value = { Running };
+
+    ghost view = { λ a. record {
+      memory = a.heap;
+      resources = a.resources;
+      table = a.table;
+      names = a.names;
+      grow = a.grow.now;
+    } };
+}
+
+impl<'s, S: BlockStore + Drop> Application<'s, S> {
+    /// An application with such resources in the store of a fresh zone, its partition: its jump table is read, and the
+    /// resources of its fork that are to be preloaded.
+    ///
+    /// *Inside Macintosh: Processes*, chapter 2, "Launching Applications".
+    ///
+    /// # Errors
+    ///
+    /// The host has no memory for that; the store and the resources are let go.
+    pub fn launch_with(alloc: Global, store: S, resources: Resources) -> Result<Self, AllocError>
+        requires zone { S.zone store ≡ fresh (sizes (S.zone store)) }
+        requires unused { (S.rest store).unused ≡ 64 }
+        requires all { (S.rest store).all ≡ 64 }
+        requires moves { (S.rest store).moves ≡ 0 }
+        ensures { IfOk result (λ a. a ≡ launched_with resources (sizes (S.zone store)) (S.rest store).window) }
+    {
+        let mut resources = resources;
+        let table = JumpTable::read(alloc, resources.own_datum(CODE, 0))?;
+        let mut heap = Heap::new(alloc, store);
+        resources.preload(alloc, &mut heap)?;
+        Ok(Application {
+            alloc,
+            heap,
+            resources,
+            table,
+            names: Names::new(alloc),
+            grow: &[],
+        })
+    }
+
+    /// An application that is a script alone, with no resources, in the store of a fresh zone, its partition.
+    ///
+    /// # Errors
+    ///
+    /// The host has no memory for its resource fork; the store is let go.
+    pub fn launch(alloc: Global, store: S) -> Result<Self, AllocError>
+        requires zone { S.zone store ≡ fresh (sizes (S.zone store)) }
+        requires unused { (S.rest store).unused ≡ 64 }
+        requires all { (S.rest store).all ≡ 64 }
+        requires moves { (S.rest store).moves ≡ 0 }
+        ensures { IfOk result (λ a. a ≡ launched (sizes (S.zone store)) (S.rest store).window) }
+    {
+        let resources = own_resources(alloc)?;
+        Application::launch_with(alloc, store, resources)
+    }
+}

@@ -1,0 +1,47 @@
+//! The names of a script.
+
+ghost use Rattle.std.specs.Prelude.{◌≡◌, [], map, OnOk};
+ghost use Rattle.applications.specs.Names.{Bindings, bound_to, bind, binding};
+
+use indexmap::IndexMap;
+use mac_words::Label;
+use std::alloc::{AllocError, Global};
+use std::marker::Model;
+
+/// The names that a script has bound so far, and the numbers of their handles and pointers.
+#[derive(Drop)]
+pub struct Names {
+    bound: IndexMap<Label, usize>,
+}
+
+impl Model for Names {
+    ghost Value = { Bindings };
+
+    ghost view = { λ n. map binding n.bound.entries };
+}
+
+impl Names {
+    /// No name is bound.
+    pub fn new(alloc: Global) -> Names
+        ensures { result ≡ [] }
+    {
+        Names {
+            bound: IndexMap::new(alloc),
+        }
+    }
+
+    /// The number that a name is bound to.
+    pub fn number(&self, name: &Label) -> Option<usize>
+        ensures { result ≡ bound_to name.now.0.items self.now }
+    {
+        self.bound.get(name).copied()
+    }
+
+    /// Binds a name to a number; what it was bound to is let go.
+    pub fn bind(&mut self, name: &Label, number: usize) -> Result<(), AllocError>
+        ensures { OnOk result (self.new ≡ bind name.now.0.items number self.old) }
+    {
+        self.bound.insert(name.clone()?, number)?;
+        Ok(())
+    }
+}

@@ -1,0 +1,236 @@
+//! A step: a call is tried, and tried again as long as the grow-zone script makes room.
+
+ghost use Rattle.std.specs.Prelude.{◌≡◌, ◌++◌, [], IfOk, OnOk};
+ghost use Rattle.script_text.specs.Call.{word_of};
+ghost use Rattle.script_text.specs.Transcript.{reply_line, values_of};
+ghost use Rattle.applications.specs.Trying.{once};
+ghost use Rattle.applications.specs.Step.{marked, marked_for, grown, grown_for, kept_anew, names_given, round, step, run, turn};
+ghost use Rattle.applications.specs.Application.{bytes_told, lines_told};
+ghost use Rattle.applications.specs.Replies.{Came, CameRound, exit_of};
+
+use crate::application::Application;
+use crate::naming::{named, named_resource};
+use crate::quitting::Exit;
+use crate::tried::Tried;
+use crate::turns::up_to_wait;
+use block_store::BlockStore;
+use mac_words::{Call, HeapCall, ResourceCall};
+use script_text::{Line, Script, Word, write_grow_reply, write_reply};
+use std::alloc::AllocError;
+
+/// What is done after a round of a step.
+#[derive(Clone, Copy, Debug, PartialEq, Eq)]
+pub(crate) enum Next {
+    /// The call is tried again.
+    Again,
+    /// The call has ended, and the application with it where so.
+    Ended(Option<Exit>),
+}
+
+impl<'s, S: BlockStore> Application<'s, S> {
+    /// Makes the handle or the pointer of a number busy, or idle again.
+    fn mark_number(&mut self, busy: bool, number: Option<usize>)
+        ensures { self.new ≡ record self.old { memory = marked busy number self.old.memory } }
+    {
+        if let Some(number) = number {
+            self.heap.set_busy(number, busy);
+        }
+    }
+
+    /// Makes what a call names busy, or idle again, and the emptied handle that it would have read again.
+    fn mark(&mut self, busy: bool, call: &Call, reading: Option<usize>)
+        ensures { self.new ≡ marked_for busy call.now reading self.old }
+    {
+        match call {
+            Call::Heap(call) => {
+                let (first, second) = named(call, &self.names);
+                self.mark_number(busy, first);
+                self.mark_number(busy, second);
+                self.mark_number(busy, reading);
+            }
+            Call::Resource(call) => {
+                let handle = named_resource(call, &self.names);
+                self.mark_number(busy, handle);
+                self.mark_number(busy, reading);
+            }
+            Call::Segment(_) => self.mark_number(busy, reading),
+            Call::Control(_) => {}
+        }
+    }
+
+    /// Takes the lines of a grow-zone script in order, and appends their lines to a text.
+    fn take_lines(
+        &mut self,
+        script: &'s Script,
+        lines: &[Line],
+        text: &mut Vec<u8>,
+    ) -> Result<(), AllocError>
+        ensures { OnOk result (Came (grown script.now.blocks lines.now self.old) text.old.items text.new.items
+            self.new) }
+    {
+        for line in lines {
+            let tried = self.once(script, &line.call)?;
+            let shown = self.shown(&line.call);
+            write_grow_reply(text, line.number, Word::of(&line.call), &tried.reply, shown)?;
+        }
+        Ok(())
+    }
+
+    /// Runs the grow-zone script for a call that found no room, while what the call names is busy.
+    fn ask_script(
+        &mut self,
+        script: &'s Script,
+        line: &Line,
+        reading: Option<usize>,
+        text: &mut Vec<u8>,
+    ) -> Result<(), AllocError>
+        ensures { OnOk result (Came (grown_for script.now.blocks line.now reading self.old) text.old.items
+            text.new.items self.new) }
+    {
+        let lines = self.grow;
+        self.mark(true, &line.call, reading);
+        self.take_lines(script, lines, text)?;
+        self.mark(false, &line.call, reading);
+        Ok(())
+    }
+
+    /// Keeps the code of a call whose answer stands, behind those of the grow-zone script's calls.
+    fn keep_anew(&mut self, call: &Call, tried: &Tried)
+        ensures { self.new ≡ kept_anew call.now tried.now.reply.code self.old }
+    {
+        match call {
+            Call::Heap(_) => self.heap.keep_code(tried.reply.code),
+            Call::Resource(_) => self.resources.keep_error(tried.reply.code),
+            Call::Segment(_) => {}
+            Call::Control(_) => {}
+        }
+    }
+
+    /// Binds the name of a call that binds one to the number that it gave.
+    fn bind(&mut self, call: &Call, given: Option<usize>) -> Result<(), AllocError>
+        ensures { OnOk result (self.new ≡ record self.old { names = names_given call.now given self.old.names }) }
+    {
+        let Some(number) = given else { return Ok(()) };
+        match call {
+            Call::Heap(HeapCall::NewHandle(name, _)) => self.names.bind(name, number),
+            Call::Heap(HeapCall::NewEmptyHandle(name)) => self.names.bind(name, number),
+            Call::Heap(HeapCall::HandToHand(name, _)) => self.names.bind(name, number),
+            Call::Heap(HeapCall::NewPtr(name, _)) => self.names.bind(name, number),
+            Call::Resource(ResourceCall::GetResource(name, _, _)) => self.names.bind(name, number),
+            Call::Resource(ResourceCall::Get1Resource(name, _, _)) => self.names.bind(name, number),
+            Call::Resource(ResourceCall::GetNamedResource(name, _, _)) => {
+                self.names.bind(name, number)
+            }
+            Call::Resource(ResourceCall::Get1NamedResource(name, _, _)) => {
+                self.names.bind(name, number)
+            }
+            Call::Resource(ResourceCall::Get1IndResource(name, _, _)) => {
+                self.names.bind(name, number)
+            }
+            _ => Ok(()),
+        }
+    }
+
+    /// Ends a call with a try: its line is appended to a text, and its name is bound.
+    fn end_call(&mut self, line: &Line, tried: &Tried, text: &mut Vec<u8>) -> Result<(), AllocError>
+        ensures text { OnOk result (text.new.items ≡ text.old.items ++ reply_line line.now.number
+            (word_of line.now.call) tried.now.reply.code.0
+            (values_of tried.now.reply (bytes_told (once [] line.now.call self.old).told))) }
+        ensures after { OnOk result (self.new ≡ record self.old {
+          names = names_given line.now.call tried.now.given
+              self.old.names;
+        }) }
+    {
+        let shown = self.shown(&line.call);
+        write_reply(text, line.number, Word::of(&line.call), &tried.reply, shown)?;
+        self.bind(&line.call, tried.given)
+    }
+
+    /// Tries a call, and runs the grow-zone script where there was no room for it.
+    fn round(
+        &mut self,
+        script: &'s Script,
+        line: &Line,
+        text: &mut Vec<u8>,
+    ) -> Result<Next, AllocError>
+        ensures { IfOk result (λ next. CameRound (round script.now.blocks line.now self.old) next text.old.items
+            text.new.items self.new) }
+    {
+        let tried = self.once(script, &line.call)?;
+        let exit = tried.exit();
+        if tried.wants {
+            let before = self.heap.to_be_had();
+            self.ask_script(script, line, tried.reading, text)?;
+            if self.heap.to_be_had() > before {
+                return Ok(Next::Again);
+            }
+            self.keep_anew(&line.call, &tried);
+            write_reply(text, line.number, Word::of(&line.call), &tried.reply, None)?;
+        } else {
+            self.end_call(line, &tried, text)?;
+        }
+        Ok(Next::Ended(exit))
+    }
+
+    /// Takes a step, the call of a line: it is tried, and where there is no room for it the grow-zone script is
+    /// run; where that makes room the call is tried again, else its answer stands. The transcript's lines are
+    /// appended to a text. Tells how the application ends with it, if it does.
+    ///
+    /// *Inside Macintosh: Memory*, chapter 1, "Grow-Zone Functions".
+    pub fn step(
+        &mut self,
+        script: &'s Script,
+        line: &Line,
+        text: &mut Vec<u8>,
+    ) -> Result<Option<Exit>, AllocError>
+        ensures ends { IfOk result (λ exit. exit ≡ exit_of (step script.now.blocks line.now self.old)) }
+        ensures came { OnOk result (Came (step script.now.blocks line.now self.old) text.old.items text.new.items
+            self.new) }
+    {
+        let most = u64::from(self.heap.len()) + 1;
+        for _round in 0..most {
+            match self.round(script, line, text)? {
+                Next::Again => {}
+                Next::Ended(exit) => return Ok(exit),
+            }
+        }
+        Ok(None)
+    }
+
+    /// Takes steps in order, to the last line or to the end of the application. Tells how it ends, if it does.
+    pub fn run(
+        &mut self,
+        script: &'s Script,
+        lines: &[Line],
+        text: &mut Vec<u8>,
+    ) -> Result<Option<Exit>, AllocError>
+        ensures ends { IfOk result (λ exit. exit ≡ exit_of (run script.now.blocks lines.now self.old)) }
+        ensures came { OnOk result (Came (run script.now.blocks lines.now self.old) text.old.items text.new.items
+            self.new) }
+    {
+        for line in lines {
+            let exit = self.step(script, line, text)?;
+            if exit.is_some() {
+                return Ok(exit);
+            }
+        }
+        Ok(None)
+    }
+
+    /// Takes a turn: steps up to and including the next `WaitNextEvent`, or to the last line, as `up_to_wait` gives
+    /// them. Tells how the application ends with it, if it does.
+    ///
+    /// *Inside Macintosh: Processes*, chapter 1, "Scheduling of Processes".
+    pub fn turn(
+        &mut self,
+        script: &'s Script,
+        lines: &[Line],
+        text: &mut Vec<u8>,
+    ) -> Result<Option<Exit>, AllocError>
+        ensures ends { IfOk result (λ exit. exit ≡ exit_of (turn script.now.blocks lines.now self.old)) }
+        ensures came { OnOk result (Came (turn script.now.blocks lines.now self.old) text.old.items text.new.items
+            self.new) }
+    {
+        self.run(script, up_to_wait(lines), text)
+    }
+}

@@ -1,0 +1,269 @@
+//! What one try of a call came to.
+
+ghost use Rattle.std.specs.Prelude.{◌≡◌, ◌≢◌, ◌<◌, ◌^◌, ℕ, true, false, None, Err, IfOk, OnOk};
+ghost use Rattle.mac_words.specs.Told.{Told, Done, Given, Number, Numbers, Bytes, Kind};
+ghost use Rattle.applications.specs.Trying.{is_full};
+ghost use Rattle.byteorder.specs.Endian.{big_number};
+ghost use Rattle.mac_words.specs.declared.name.OsType.{OsType as Type4};
+ghost use Rattle.res_calls.specs.Fetch.{Managers, Answer};
+ghost use Rattle.res_calls.specs.Fetch as fetch;
+ghost use Rattle.res_calls.specs.Rows as rows;
+ghost use Rattle.res_calls.specs.Asked.{telling, tell_fetched, tell_info};
+ghost use Rattle.mac_words.specs.declared.attributes.Attrs.{Attrs as StoredAttrs};
+ghost use Rattle.res_calls.specs.Given.{IsAnswered, IsFetched};
+ghost use Rattle.res_calls.specs.Places.{seen_info};
+ghost use Rattle.applications.specs.Replies.{Says, TellsTold, TellsServed, GivenAs, exit_as};
+
+use crate::quitting::Exit;
+use heap_calls::{Refusal, Space};
+use mac_words::{Attrs, OsErr, OsType, Reply};
+use res_calls::{Fetched, Info, Unread};
+use std::alloc::AllocError;
+
+/// What one try of a call came to. Nothing is bound, written or tried again by it.
+#[derive(Debug, Drop)]
+pub struct Tried {
+    /// The reply, but for bytes that are shown.
+    pub reply: Reply,
+    /// The number of the handle or pointer that was given.
+    pub given: Option<usize>,
+    /// The number of the emptied handle that would have been read again.
+    pub reading: Option<usize>,
+    /// There was no room for what the call asked for.
+    pub wants: bool,
+    /// The application ends with the call.
+    pub over: bool,
+}
+
+impl Tried {
+    /// A call that gave this reply and nothing else.
+    pub fn told(reply: Reply) -> Tried
+        ensures reply { result.reply ≡ reply }
+        ensures given { result.given ≡ None }
+        ensures reading { result.reading ≡ None }
+        ensures wants { result.wants ≡ is_full reply.code }
+        ensures goes_on { result.over ≡ false }
+    {
+        let wants = reply.code == OsErr::MEM_FULL;
+        Tried {
+            reply,
+            given: None,
+            reading: None,
+            wants,
+            over: false,
+        }
+    }
+
+    /// How the application ends with the call, if it does.
+    pub fn exit(&self) -> Option<Exit>
+        ensures { result ≡ exit_as self.now.over self.now.reply.code }
+    {
+        if !self.over {
+            return None;
+        }
+        if self.reply.code == OsErr::SYSTEM_ERROR {
+            Some(Exit::Stops)
+        } else {
+            Some(Exit::Quits)
+        }
+    }
+}
+
+/// A call that gives a new number.
+pub fn given(answer: Result<usize, Refusal>) -> Result<Tried, AllocError>
+    ensures tried { IfOk result (λ tried. (told : Told) → GivenAs Given answer told → TellsTold tried told) }
+    ensures host { OnOk result (answer ≢ Err Refusal.HostMemory) }
+{
+    match answer {
+        Ok(number) => Ok(Tried {
+            reply: Reply::of(OsErr::NO_ERR),
+            given: Some(number),
+            reading: None,
+            wants: false,
+            over: false,
+        }),
+        Err(Refusal::Code(code)) => Ok(Tried::told(Reply::of(code))),
+        Err(Refusal::HostMemory) => Err(AllocError),
+    }
+}
+
+/// A call that shows bytes, without them.
+pub fn shown(answer: Result<&[u8], Refusal>) -> Result<Tried, AllocError>
+    ensures tried { IfOk result (λ tried. (told : Told) → GivenAs (λ bytes. Bytes bytes.now) answer.entry told
+        → TellsTold tried told) }
+{
+    match answer {
+        Ok(_) => Ok(Tried::told(Reply::of(OsErr::NO_ERR))),
+        Err(Refusal::Code(code)) => Ok(Tried::told(Reply::of(code))),
+        Err(Refusal::HostMemory) => Err(AllocError),
+    }
+}
+
+/// A call that gives no value.
+pub fn done(answer: Result<(), Refusal>) -> Result<Tried, AllocError>
+    ensures tried { IfOk result (λ tried. (told : Told) → GivenAs (λ _. Done) answer told → TellsTold tried told) }
+    ensures host { OnOk result (answer ≢ Err Refusal.HostMemory) }
+{
+    match answer {
+        Ok(()) => Ok(Tried::told(Reply::of(OsErr::NO_ERR))),
+        Err(Refusal::Code(code)) => Ok(Tried::told(Reply::of(code))),
+        Err(Refusal::HostMemory) => Err(AllocError),
+    }
+}
+
+/// A call that gives a number.
+pub fn number(answer: Result<u32, Refusal>) -> Result<Tried, AllocError>
+    ensures tried { IfOk result (λ tried. (told : Told) → GivenAs Number answer told → TellsTold tried told) }
+{
+    match answer {
+        Ok(number) => Ok(Tried::told(Reply::number(number))),
+        Err(Refusal::Code(code)) => Ok(Tried::told(Reply::of(code))),
+        Err(Refusal::HostMemory) => Err(AllocError),
+    }
+}
+
+/// A call that gives a handle's flags.
+pub fn state(answer: Result<u8, Refusal>) -> Result<Tried, AllocError>
+    ensures tried { IfOk result (λ tried. (told : Told) → GivenAs Number answer told → TellsTold tried told) }
+{
+    match answer {
+        Ok(state) => Ok(Tried::told(Reply::number(state as u32))),
+        Err(Refusal::Code(code)) => Ok(Tried::told(Reply::of(code))),
+        Err(Refusal::HostMemory) => Err(AllocError),
+    }
+}
+
+/// `PurgeSpace`.
+pub fn space(space: Space) -> Tried
+    ensures { TellsTold result (Numbers space.total space.contiguous) }
+{
+    Tried::told(Reply::pair(space.total, space.contiguous))
+}
+
+/// A call that gives a resource's handle, and tells whether its bytes were read for it.
+pub fn fetched(answer: Result<Fetched, Unread>) -> Result<Tried, AllocError>
+    ensures tried { IfOk result (λ tried. (a : Answer fetch.Fetched) (after : Managers) → IsFetched a answer after
+        → TellsServed tried (telling tell_fetched a) true) }
+    ensures after { OnOk result ((a : Answer fetch.Fetched) (after : Managers) → IsFetched a answer after
+        → a.after ≡ after) }
+{
+    match answer {
+        Ok(fetched) => Ok(Tried {
+            reply: Reply::number(u32::from(fetched.read)),
+            given: Some(fetched.handle),
+            reading: None,
+            wants: false,
+            over: false,
+        }),
+        Err(
+            Unread {
+                refusal: Refusal::Code(code),
+                reading,
+            },
+        ) => Ok(Tried {
+            reply: Reply::of(code),
+            given: None,
+            reading,
+            wants: code == OsErr::MEM_FULL,
+            over: false,
+        }),
+        Err(
+            Unread {
+                refusal: Refusal::HostMemory,
+                ..
+            },
+        ) => Err(AllocError),
+    }
+}
+
+/// A call of the Resource Manager that gives no value.
+pub fn done_on_resource(answer: Result<(), Refusal>) -> Result<Tried, AllocError>
+    ensures tried { IfOk result (λ tried. (a : Answer (Unit {0})) (after : Managers) →
+        IsAnswered (λ (u : Unit {0}). u) a answer after
+        → TellsServed tried (telling (λ (u : Unit {0}). Done) a) false) }
+    ensures after { OnOk result ((a : Answer (Unit {0})) (after : Managers) → IsAnswered (λ (u : Unit {0}). u) a
+        answer after
+        → a.after ≡ after) }
+{
+    match answer {
+        Ok(()) => Ok(Tried::told(Reply::of(OsErr::NO_ERR))),
+        Err(Refusal::Code(code)) => Ok(Tried::told(Reply::of(code))),
+        Err(Refusal::HostMemory) => Err(AllocError),
+    }
+}
+
+/// A call of the Resource Manager that gives a number.
+pub fn counted(answer: Result<u32, Refusal>) -> Result<Tried, AllocError>
+    ensures tried { IfOk result (λ tried. (a : Answer ℕ) (after : Managers) → IsAnswered (λ (n : ℕ). n) a answer after
+        → TellsServed tried (telling Number a) false) }
+    ensures after { OnOk result ((a : Answer ℕ) (after : Managers) → IsAnswered (λ (n : ℕ). n) a answer after
+        → a.after ≡ after) }
+{
+    match answer {
+        Ok(value) => Ok(Tried::told(Reply::number(value))),
+        Err(Refusal::Code(code)) => Ok(Tried::told(Reply::of(code))),
+        Err(Refusal::HostMemory) => Err(AllocError),
+    }
+}
+
+/// A call that tells how many there are of something.
+pub fn sized(answer: Result<usize, Refusal>) -> Result<Tried, AllocError>
+    requires { IfOk answer (λ n. n < 2 ^ 63) }
+    ensures tried { IfOk result (λ tried. (a : Answer ℕ) (after : Managers) → IsAnswered (λ (n : ℕ). n) a answer after
+        → TellsServed tried (telling Number a) false) }
+    ensures after { OnOk result ((a : Answer ℕ) (after : Managers) → IsAnswered (λ (n : ℕ). n) a answer after
+        → a.after ≡ after) }
+{
+    match answer {
+        Ok(value) => Ok(Tried::told(Reply::count(value))),
+        Err(Refusal::Code(code)) => Ok(Tried::told(Reply::of(code))),
+        Err(Refusal::HostMemory) => Err(AllocError),
+    }
+}
+
+/// A call that gives a resource's attributes.
+pub fn attributes(answer: Result<Attrs, Refusal>) -> Result<Tried, AllocError>
+    ensures tried { IfOk result (λ tried. (a : Answer ℕ) (after : Managers) → IsAnswered (λ (a : StoredAttrs). a.0) a
+        answer after
+        → TellsServed tried (telling Number a) false) }
+    ensures after { OnOk result ((a : Answer ℕ) (after : Managers) → IsAnswered (λ (a : StoredAttrs). a.0) a
+        answer after
+        → a.after ≡ after) }
+{
+    match answer {
+        Ok(Attrs(bits)) => Ok(Tried::told(Reply::number(u32::from(bits)))),
+        Err(Refusal::Code(code)) => Ok(Tried::told(Reply::of(code))),
+        Err(Refusal::HostMemory) => Err(AllocError),
+    }
+}
+
+/// A call that gives a type.
+pub fn kind(answer: Result<OsType, Refusal>) -> Result<Tried, AllocError>
+    ensures tried { IfOk result (λ tried. (a : Answer ℕ) (after : Managers) →
+        IsAnswered (λ (t : Type4). big_number 4 t.0) a answer after
+        → TellsServed tried (telling Kind a) false) }
+    ensures after { OnOk result ((a : Answer ℕ) (after : Managers) → IsAnswered (λ (t : Type4). big_number 4 t.0) a
+        answer after
+        → a.after ≡ after) }
+{
+    match answer {
+        Ok(value) => Ok(Tried::told(Reply::kind(value))),
+        Err(Refusal::Code(code)) => Ok(Tried::told(Reply::of(code))),
+        Err(Refusal::HostMemory) => Err(AllocError),
+    }
+}
+
+/// A call that gives a resource's ID, type and name.
+pub fn info(answer: Result<Info, Refusal>) -> Result<Tried, AllocError>
+    ensures tried { IfOk result (λ tried. (a : Answer rows.Info) (after : Managers) → IsAnswered seen_info a
+        answer after
+        → TellsServed tried (telling tell_info a) false) }
+    ensures after { OnOk result ((a : Answer rows.Info) (after : Managers) → IsAnswered seen_info a answer after
+        → a.after ≡ after) }
+{
+    match answer {
+        Ok(value) => Ok(Tried::told(Reply::info(value.id, value.ty, value.name))),
+        Err(Refusal::Code(code)) => Ok(Tried::told(Reply::of(code))),
+        Err(Refusal::HostMemory) => Err(AllocError),
+    }
+}

@@ -1,0 +1,30 @@
+//! Where a turn ends.
+
+ghost use Rattle.std.specs.Prelude.{◌≡◌};
+ghost use Rattle.applications.specs.Step as turns;
+ghost use Rattle.applications.specs.Step.{is_wait};
+
+use mac_words::{Call, ControlCall};
+use script_text::Line;
+
+/// Whether a call ends a turn.
+fn ends_turn(call: &Call) -> bool
+    ensures { result ≡ is_wait call.now }
+{
+    match call {
+        Call::Control(ControlCall::WaitNextEvent) => true,
+        _ => false,
+    }
+}
+
+/// The lines of the next turn: those up to and including the first `WaitNextEvent`, all where there is none.
+pub fn up_to_wait(lines: &[Line]) -> &[Line]
+    ensures { result.now ≡ turns.up_to_wait lines.now }
+{
+    for (index, line) in lines.iter().enumerate() {
+        if ends_turn(&line.call) {
+            return &lines[..=index];
+        }
+    }
+    lines
+}

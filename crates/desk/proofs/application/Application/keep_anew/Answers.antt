@@ -1,5 +1,0 @@
-use Rattle.std.proofs.Common.{rules}
-use Rattle.desk.proofs.application.Application.keep_anew.Goals as goal
-
-pub returns-in-Resource : goal.returns-in-Resource
-returns-in-Resource g c = let kept = c.keep_error.ensures c.args.self.now.memory in search rules

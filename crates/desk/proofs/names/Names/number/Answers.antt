@@ -1,7 +1,0 @@
-use Rattle.std.proofs.Common.{◌∙◌, ap, refl}
-use Rattle.desk.proofs.Binding.{lookup-bound}
-use Rattle.desk.specs.Names.{bound_to}
-use Rattle.desk.proofs.names.Names.number.Goals as goal
-
-pub returns : goal.returns
-returns c = c.copied.ensures ∙ c.get.ensures.value ∙ lookup-bound _ (λ a b. refl) c.args.name.now c.self.inside.bound.entries ∙ ap (bound_to c.args.name.now.0.items) c.self.view_is
