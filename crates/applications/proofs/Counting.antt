@@ -9,7 +9,7 @@ use Rattle.script_text.specs.Script.{Parts}
 use Rattle.script_text.specs.declared.script.Line.{Line}
 use Rattle.res_calls.specs.Files.{Resources}
 use Rattle.applications.specs.Trying.{Running, Blocks, launched_with, nowhere, code_told, is_fatal}
-use Rattle.applications.specs.Step.{Event, Shown, Course, nothing_yet, joined, step, unless_over, run}
+use Rattle.applications.specs.Step.{Event, Shown, Course, Alike, nothing_yet, joined, step, unless_over, run}
 use Rattle.applications.specs.Alone.{Ending, first_steps, ending, ending_of, quits, stops}
 
 -- A run counted step by step: what the next line adds to the first steps, and to how the application ended.
@@ -78,14 +78,6 @@ pub run-next : (blocks : Blocks) (lines : List Line) (r : Running) (n : ℕ) (l 
     → run blocks (take (n + 1) lines) r ≡ unless_over (run blocks (take n lines) r) (run blocks (l ∷ []))
 run-next blocks lines r n l is =
     ap (λ (ys : List Line). run blocks ys r) (take-next lines n l is) ∙ run-then blocks (take n lines) (l ∷ []) r
-
--- two courses are alike, but for what they tell where the application goes on
-pub record Alike (c d : Course) : Type 0 where
-  pub events : c.events ≡ d.events
-  pub lines : c.lines ≡ d.lines
-  pub over : c.over ≡ d.over
-  pub told : d.over ≡ true → c.told ≡ d.told
-  pub after : c.after ≡ d.after
 
 alike-same : (c : Course) → Alike c c
 alike-same c = record { events = refl; lines = refl; over = refl; told = λ over. refl; after = refl }
@@ -163,7 +155,7 @@ steps-over resources size script n over = by_line (slice_get_cases script.steps 
     by_line (inr past) = steps-past resources size script n past.0
 
 -- alike courses end alike
-ending-alike : (asked : Bool) (c d : Course) → Alike c d → ending_of asked c ≡ ending_of asked d
+pub ending-alike : (asked : Bool) (c d : Course) → Alike c d → ending_of asked c ≡ ending_of asked d
 ending-alike asked c d like =
     ap (λ (t : Bool). ends t c.told c.after) like.over ∙ ap (ends d.over c.told) like.after ∙ by_over d.over like.told
   where

@@ -1,6 +1,6 @@
 use Rattle.std.proofs.Common.{◌≡◌, ◌∙◌, ◌≤◌, ◌-◌, ◌++◌, arith, ℕ, Bool, true, false, zero, suc, List, [], ◌∷◌, refl}
 use Rattle.std.proofs.Common.{sym, ap}
-use Rattle.std.proofs.Common.{cond, map, Option, Some, None, pos}
+use Rattle.std.proofs.Common.{cond, Option, Some, None, pos}
 use Rattle.std.proofs.lemmas.List.{map-append}
 use Rattle.mac_words.specs.declared.code.OsErr.{OsErr}
 use Rattle.mac_words.specs.declared.call.Call.{Call}
@@ -31,12 +31,9 @@ use Rattle.applications.specs.Step.{Event, Course, joined, event_of, marked, mar
 use Rattle.applications.specs.Step.{grown_for, asked_for, kept_anew, ended, stands, Round, Ends, Again, made_room, after_asking}
 use Rattle.applications.specs.Step.{after_try, round, continued, step_in, step, most_rounds, unless_over, run}
 use Rattle.applications.specs.Application.{lines_told}
+use Rattle.applications.specs.Elsewhere.{moved, event_elsewhere, course_elsewhere}
 
 -- What a run comes to doesn't hang on where its partition lies.
-
--- an application elsewhere
-abbrev pub moved : Site → Running → Running
-moved site r = record r { memory = elsewhere site r.memory }
 
 -- a try elsewhere
 abbrev tried_elsewhere : Site → Tried → Tried
@@ -56,13 +53,7 @@ once-elsewhere site blocks (call.Control (control.SetGrowZone name)) r = refl
 once-elsewhere site blocks (call.Control control.WaitNextEvent) r = refl
 once-elsewhere site blocks (call.Control control.ExitToShell) r = refl
 
--- a history, a course and a round elsewhere
-abbrev event_elsewhere : Site → Event → Event
-event_elsewhere site e = record e { before = moved site e.before; after = moved site e.after }
-
-abbrev course_elsewhere : Site → Course → Course
-course_elsewhere site c = record c { events = map (event_elsewhere site) c.events; after = moved site c.after }
-
+-- a round elsewhere
 abbrev round_elsewhere : Site → Round → Round
 round_elsewhere site (Ends c) = Ends (course_elsewhere site c)
 round_elsewhere site (Again c) = Again (course_elsewhere site c)
@@ -207,13 +198,50 @@ over-elsewhere site c next same = by_over c.over
     by_over true = refl
     by_over false = ap (joined (course_elsewhere site c)) (same c.after) ∙ joined-elsewhere site c (next c.after)
 
--- a run is the same elsewhere
+-- a step is the same elsewhere
+pub step-elsewhere : (site : Site) (blocks : Blocks) (l : Line) (r : Running)
+    → step blocks l (moved site r) ≡ course_elsewhere site (step blocks l r)
+step-elsewhere site blocks l r = step_in-elsewhere site (most_rounds r) blocks l r
+
+-- and so is a run
 pub whole-elsewhere : (site : Site) (blocks : Blocks) (lines : List Line) (r : Running)
     → run blocks lines (moved site r) ≡ course_elsewhere site (run blocks lines r)
 whole-elsewhere site blocks [] r = refl
 whole-elsewhere site blocks (l ∷ lines) r =
     ap (λ (c : Course). unless_over c (run blocks lines)) (step_in-elsewhere site (most_rounds r) blocks l r)
     ∙ over-elsewhere site (step blocks l r) (run blocks lines) (λ x. whole-elsewhere site blocks lines x)
+
+-- so a run leaves its application where it lies; what is left of a run begins where the whole run began
+pub run-lies : (blocks : Blocks) (lines : List Line) (r : Running)
+    → (run blocks lines r).after.memory.window ≡ r.memory.window
+run-lies blocks lines r =
+    ap (λ (c : Course). c.after.memory.window) (whole-elsewhere r.memory.window blocks lines r)
+
+pub run-left : (blocks : Blocks) (left lines : List Line) (now start : Running)
+    → (run blocks left now).after ≡ (run blocks lines start).after → now.memory.window ≡ start.memory.window
+run-left blocks left lines now start e =
+    sym (run-lies blocks left now) ∙ ap (λ (r : Running). r.memory.window) e ∙ run-lies blocks lines start
+
+-- and so do rounds, and the lines of a grow-zone script
+rounds-lies : (most : ℕ) (blocks : Blocks) (l : Line) (r : Running)
+    → (step_in most blocks l r).after.memory.window ≡ r.memory.window
+rounds-lies most blocks l r =
+    ap (λ (c : Course). c.after.memory.window) (step_in-elsewhere r.memory.window most blocks l r)
+
+pub rounds-left : (left most : ℕ) (blocks : Blocks) (l : Line) (now start : Running)
+    → (step_in left blocks l now).after ≡ (step_in most blocks l start).after → now.memory.window ≡ start.memory.window
+rounds-left left most blocks l now start e =
+    sym (rounds-lies left blocks l now) ∙ ap (λ (r : Running). r.memory.window) e ∙ rounds-lies most blocks l start
+
+grown-lies : (blocks : Blocks) (script : List Line) (r : Running)
+    → (grown blocks script r).after.memory.window ≡ r.memory.window
+grown-lies blocks script r =
+    ap (λ (c : Course). c.after.memory.window) (grown-elsewhere r.memory.window blocks script r)
+
+pub grown-left : (blocks : Blocks) (left script : List Line) (now start : Running)
+    → (grown blocks left now).after ≡ (grown blocks script start).after → now.memory.window ≡ start.memory.window
+grown-left blocks left script now start e =
+    sym (grown-lies blocks left now) ∙ ap (λ (r : Running). r.memory.window) e ∙ grown-lies blocks script start
 
 -- and so is a launch
 pub launched-elsewhere : (resources : Resources) (n : ℕ) (site : Site)

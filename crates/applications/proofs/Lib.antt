@@ -5,14 +5,14 @@ mod Arms
 mod FoundCalls
 mod JumpCalls
 mod OwnFork
-mod Quits
+pub mod Quits
 mod TryLaws
 mod Carrying
-mod Counting
+pub mod Counting
 mod StepLaws
 mod Marking
 mod Ending
-mod Elsewhere
+pub mod Elsewhere
 mod Rows
-mod AnyRuns
+pub mod AnyRuns
 mod Runs

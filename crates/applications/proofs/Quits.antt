@@ -25,10 +25,11 @@ use Rattle.applications.specs.Step.{Course, run}
 use Rattle.applications.specs.Application.{lines_told}
 use Rattle.applications.specs.Alone.{Ending, alone, quits, ending_of, first_steps, run_alone, ending, end_told}
 use Rattle.applications.specs.Alone.{files_after}
-use Rattle.applications.specs.Replies.{Came, exit_of, end_by, end_if}
+use Rattle.applications.specs.Replies.{Came, exit_of, end_by, end_if, has_quit, has_ended}
 use Rattle.applications.specs.declared.quitting.Exit.{Exit}
 use Rattle.applications.specs.declared.quitting.Exit.TheVariants.{Quits, Stops}
-use Rattle.applications.proofs.Elsewhere.{moved, fresh_course}
+use Rattle.applications.specs.Elsewhere.{moved}
+use Rattle.applications.proofs.Elsewhere.{fresh_course}
 
 -- How an application ends, which doesn't hang on where its partition lies, and what it gives alone.
 
@@ -79,8 +80,27 @@ quits-elsewhere site r = ap (λ (l : Left). let e : Ending = record {
   files = l.after.resources.files;
 } in e) (leave-elsewhere site r.resources.chain (managers_of r))
 
+-- and so does what it leaves
+quit-elsewhere : (site : Site) (r : Running) → has_quit (moved site r) ≡ moved site (has_quit r)
+quit-elsewhere site r = ap (λ (l : Left). let q : Running = record r {
+  memory = l.after.memory;
+  resources = l.after.resources;
+} in q) (leave-elsewhere site r.resources.chain (managers_of r))
+
+pub end-elsewhere : (site : Site) (exit : Option Exit) (r : Running) → end_by exit (moved site r) ≡ end_by exit r
+end-elsewhere site None r = quits-elsewhere site r
+end-elsewhere site (Some Quits) r = quits-elsewhere site r
+end-elsewhere site (Some Stops) r = refl
+
+-- an application that has quit lies where it lay
+pub ended-elsewhere : (site : Site) (exit : Option Exit) (r : Running)
+    → has_ended exit (moved site r) ≡ moved site (has_ended exit r)
+ended-elsewhere site None r = quit-elsewhere site r
+ended-elsewhere site (Some Quits) r = quit-elsewhere site r
+ended-elsewhere site (Some Stops) r = refl
+
 -- and so does any end
-end_if-elsewhere : (site : Site) (exit : Option Exit) (asked : Bool) (r : Running)
+pub end_if-elsewhere : (site : Site) (exit : Option Exit) (asked : Bool) (r : Running)
     → end_if exit asked (moved site r) ≡ end_if exit asked r
 end_if-elsewhere site None true r = ap Some (quits-elsewhere site r)
 end_if-elsewhere site None false r = refl
@@ -92,7 +112,7 @@ files-elsewhere site None r = refl
 files-elsewhere site (Some e) r = refl
 
 -- the end that a course comes to is the one that it tells
-ending-told : (asked : Bool) (c : Course) → end_if (exit_of c) asked c.after ≡ ending_of asked c
+pub ending-told : (asked : Bool) (c : Course) → end_if (exit_of c) asked c.after ≡ ending_of asked c
 ending-told asked c = by_over c.over (is_fatal (code_told c.told))
   where
     by_over : (over fatal : Bool)

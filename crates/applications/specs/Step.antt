@@ -1,4 +1,4 @@
-use Rattle.std.specs.Prelude.{ℕ, ◌+◌, Bool, true, false, Option, Some, None, List, [], ◌∷◌, ◌++◌, nat_lt, zero, suc}
+use Rattle.std.specs.Prelude.{◌≡◌, ℕ, ◌+◌, Bool, true, false, Option, Some, None, List, [], ◌∷◌, ◌++◌, nat_lt, zero, suc}
 use Rattle.std.specs.Prelude.{if◌then◌else◌}
 use Rattle.mac_words.specs.declared.code.OsErr.{OsErr}
 use Rattle.mac_words.specs.declared.code.TheConstants.OsErr.{MEM_FULL}
@@ -236,6 +236,14 @@ unless_over c next = if c.over then c else joined c (next c.after)
 abbrev pub run : Blocks → List Line → Running → Course
 run blocks [] r = nothing_yet r
 run blocks (l ∷ lines) r = unless_over (step blocks l r) (run blocks lines)
+
+-- two courses are alike: they differ at most in what they tell where the application goes on
+pub record Alike (c d : Course) : Type 0 where
+  pub events : c.events ≡ d.events
+  pub lines : c.lines ≡ d.lines
+  pub over : c.over ≡ d.over
+  pub told : d.over ≡ true → c.told ≡ d.told
+  pub after : c.after ≡ d.after
 
 -- a line that ends a turn
 abbrev pub is_wait : Call → Bool

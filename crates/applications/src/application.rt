@@ -1,7 +1,9 @@
 //! A running application.
 
-ghost use Rattle.std.specs.Prelude.{◌≡◌, IfOk};
+ghost use Rattle.std.specs.Prelude.{◌≡◌, map, IfOk, IfErr};
 ghost use Rattle.block_store.specs.Block.{fresh, sizes};
+ghost use Rattle.heap_calls.specs.Stored.{IsNamed};
+ghost use Rattle.res_calls.specs.View.{view_file};
 ghost use Rattle.applications.specs.Trying.{Running, launched, launched_with};
 
 use crate::names::Names;
@@ -9,7 +11,7 @@ use crate::own::own_resources;
 use block_store::BlockStore;
 use heap_calls::Heap;
 use mac_words::OsType;
-use res_calls::Resources;
+use res_calls::{File, Resources};
 use script_text::Line;
 use segments::JumpTable;
 use std::alloc::{AllocError, Global};
@@ -42,7 +44,7 @@ impl<'s, S: BlockStore> Model for Application<'s, S> {
     } };
 }
 
-impl<'s, S: BlockStore + Drop> Application<'s, S> {
+impl<'s, S: BlockStore> Application<'s, S> {
     /// An application with such resources in the store of a fresh zone, its partition: its jump table is read, and the
     /// resources of its fork that are to be preloaded.
     ///
@@ -50,18 +52,23 @@ impl<'s, S: BlockStore + Drop> Application<'s, S> {
     ///
     /// # Errors
     ///
-    /// The host has no memory for that; the store and the resources are let go.
-    pub fn launch_with(alloc: Global, store: S, resources: Resources) -> Result<Self, AllocError>
+    /// The host has no memory for that: the store is given back, where it lay, and the resources are let go.
+    pub fn launch_with(alloc: Global, store: S, resources: Resources) -> Result<Self, S>
         requires zone { S.zone store ≡ fresh (sizes (S.zone store)) }
         requires unused { (S.rest store).unused ≡ 64 }
         requires all { (S.rest store).all ≡ 64 }
         requires moves { (S.rest store).moves ≡ 0 }
-        ensures { IfOk result (λ a. a ≡ launched_with resources (sizes (S.zone store)) (S.rest store).window) }
+        ensures launched { IfOk result (λ a. a ≡ launched_with resources (sizes (S.zone store)) (S.rest store).window) }
+        ensures back { IfErr result (λ back. (S.rest back).window ≡ (S.rest store).window) }
     {
         let mut resources = resources;
-        let table = JumpTable::read(alloc, resources.own_datum(CODE, 0))?;
+        let Ok(table) = JumpTable::read(alloc, resources.own_datum(CODE, 0)) else {
+            return Err(store);
+        };
         let mut heap = Heap::new(alloc, store);
-        resources.preload(alloc, &mut heap)?;
+        let Ok(()) = resources.preload(alloc, &mut heap) else {
+            return Err(heap.into_store());
+        };
         Ok(Application {
             alloc,
             heap,
@@ -72,6 +79,27 @@ impl<'s, S: BlockStore + Drop> Application<'s, S> {
         })
     }
 
+    /// Lets the application go, and gives its store back as it is, and its files, in order.
+    pub fn into_parts(self) -> (S, Vec<File>)
+        ensures files { map view_file result.1.items ≡ self.entry.resources.files }
+        ensures zone { IsNamed (S.zone result.0) self.entry.memory.heap.zone }
+        ensures window { (S.rest result.0).window ≡ self.entry.memory.window }
+    {
+        let Application {
+            alloc: _alloc,
+            heap,
+            resources,
+            table,
+            names,
+            grow: _grow,
+        } = self;
+        drop(table);
+        drop(names);
+        (heap.into_store(), resources.into_files())
+    }
+}
+
+impl<'s, S: BlockStore + Drop> Application<'s, S> {
     /// An application that is a script alone, with no resources, in the store of a fresh zone, its partition.
     ///
     /// # Errors
@@ -85,6 +113,9 @@ impl<'s, S: BlockStore + Drop> Application<'s, S> {
         ensures { IfOk result (λ a. a ≡ launched (sizes (S.zone store)) (S.rest store).window) }
     {
         let resources = own_resources(alloc)?;
-        Application::launch_with(alloc, store, resources)
+        match Application::launch_with(alloc, store, resources) {
+            Ok(application) => Ok(application),
+            Err(_) => Err(AllocError),
+        }
     }
 }

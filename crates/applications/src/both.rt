@@ -18,7 +18,9 @@ pub fn run_in_bytes(alloc: Global, size: u32, script: &Script) -> Result<Vec<u8>
     requires high { size ≤ 134217728 }
 {
     let store = Housed::new(alloc, size)?;
-    let mut application = Application::launch_with(alloc, store, own_resources(alloc)?)?;
+    let Ok(mut application) = Application::launch_with(alloc, store, own_resources(alloc)?) else {
+        return Err(AllocError);
+    };
     let mut text = Vec::new(alloc);
     write_launch(&mut text, size)?;
     let exit = application.run(script, script.steps(), &mut text)?;

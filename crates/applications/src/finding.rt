@@ -18,6 +18,7 @@ impl<'s, S: BlockStore> Application<'s, S> {
             self.old.names) (managers_of self.old)) self.old)) }
         ensures after { OnOk result (self.new ≡ (resource_tried (finds.served (resource_asked call.now self.old.names)
             (managers_of self.old)) self.old).after) }
+        ensures lies { self.new.memory.window ≡ self.old.memory.window }
     {
         self.answer_resource(call)
     }
@@ -28,6 +29,7 @@ impl<'s, S: BlockStore> Application<'s, S> {
             (managers_of self.old)) false) }
         ensures after { OnOk result (self.new ≡ (resource_tried (finds.served (finds.SetResLoad on)
             (managers_of self.old)) self.old).after) }
+        ensures lies { self.new.memory.window ≡ self.old.memory.window }
     {
         self.resources.set_res_load(on);
         done_on_resource(Ok(()))
@@ -39,6 +41,7 @@ impl<'s, S: BlockStore> Application<'s, S> {
             (managers_of self.old)) (fetches (resource_asked call.now self.old.names))) }
         ensures after { OnOk result (self.new ≡ (resource_tried (finds.served (resource_asked call.now self.old.names)
             (managers_of self.old)) self.old).after) }
+        ensures lies { self.new.memory.window ≡ self.old.memory.window }
     {
         match call {
             ResourceCall::OpenResFile(name) => counted(

@@ -8,6 +8,7 @@ ghost use Rattle.applications.specs.Replies.{end_if};
 
 use crate::application::Application;
 use crate::quitting::Exit;
+use crate::watch::{Unwatched, Watch};
 use block_store::{BlockStore, ListStore};
 use res_calls::{File, Resources};
 use script_text::{Line, Script, write_end, write_launch};
@@ -81,7 +82,43 @@ fn is_asked(lines: &[Line], steps: usize, quit: bool) -> bool
 
 /// What an application with these resources gives alone, where it takes so many steps of its script in a fresh
 /// partition of `size` bytes: the line of the launch, the lines of each call, and the line of the end where it ends. It
-/// ends where a call ends it; it quits behind its last step, if it comes to that, and where a quit is asked for.
+/// ends where a call ends it; it quits behind its last step, if it comes to that, and where a quit is asked for. The
+/// watch is told of the steps.
+///
+/// # Errors
+///
+/// The host has no memory for it.
+pub fn give_watched<W: Watch>(
+    alloc: Global,
+    size: u32,
+    resources: Resources,
+    script: &Script,
+    steps: usize,
+    quit: bool,
+    watch: &mut W,
+) -> Result<Given, AllocError>
+    requires even { size % 16 ≡ 0 }
+    requires low { 512 ≤ size }
+    requires high { size ≤ 134217728 }
+    ensures given { IfOk result (λ given. given ≡ alone resources size script.now steps quit) }
+    ensures silent { W.printed watch.new ≡ W.printed watch.old }
+{
+    let store = ListStore::new(alloc, size)?;
+    let Ok(mut application) = Application::launch_with(alloc, store, resources) else {
+        return Err(AllocError);
+    };
+    let mut transcript = Vec::new(alloc);
+    write_launch(&mut transcript, size)?;
+    let lines = script.steps();
+    let exit = application.run_watched(script, first(lines, steps), &mut transcript, watch)?;
+    application.end_if(exit, is_asked(lines, steps, quit), &mut transcript)?;
+    Ok(Given {
+        transcript,
+        resources: application.resources,
+    })
+}
+
+/// What an application gives alone, as `give_watched` says, where nobody watches.
 ///
 /// # Errors
 ///
@@ -99,15 +136,5 @@ pub fn give_alone(
     requires high { size ≤ 134217728 }
     ensures { IfOk result (λ given. given ≡ alone resources size script.now steps quit) }
 {
-    let store = ListStore::new(alloc, size)?;
-    let mut application = Application::launch_with(alloc, store, resources)?;
-    let mut transcript = Vec::new(alloc);
-    write_launch(&mut transcript, size)?;
-    let lines = script.steps();
-    let exit = application.run(script, first(lines, steps), &mut transcript)?;
-    application.end_if(exit, is_asked(lines, steps, quit), &mut transcript)?;
-    Ok(Given {
-        transcript,
-        resources: application.resources,
-    })
+    give_watched(alloc, size, resources, script, steps, quit, &mut Unwatched)
 }

@@ -115,6 +115,7 @@ impl<'s, S: BlockStore> Application<'s, S> {
             self.old)) }
         ensures after { OnOk result (self.new ≡ (segment_tried (served call.now (program_of self.old))
             self.old).after) }
+        ensures lies { self.new.memory.window ≡ self.old.memory.window }
     {
         match call {
             SegmentCall::LoadSeg(segment) => loaded(

@@ -1,11 +1,17 @@
 //! Laws of the definitions.
 
-ghost use Rattle.std.specs.Prelude.{ℕ, List};
+ghost use Rattle.std.specs.Prelude.{◌≡◌, ◌+◌, ◌≤◌, ℕ, Bool, true, Option, Some, List, length, slice_get};
+ghost use Rattle.block_store.specs.Rest.{Site};
+ghost use Rattle.script_text.specs.Script.{Parts};
 ghost use Rattle.script_text.specs.declared.script.Line.{Line};
 ghost use Rattle.heap_calls.specs.LastPut.{Holds};
 ghost use Rattle.res_calls.specs.Files.{Resources};
-ghost use Rattle.applications.specs.Trying.{Blocks, launched_with, nowhere};
-ghost use Rattle.applications.specs.Step.{run};
+ghost use Rattle.applications.specs.Trying.{Running, Blocks, launched_with, nowhere};
+ghost use Rattle.applications.specs.Step.{Course, Alike, run, step, unless_over, nothing_yet};
+ghost use Rattle.applications.specs.Alone.{first_steps, ending_of};
+ghost use Rattle.applications.specs.Elsewhere.{moved, course_elsewhere};
+ghost use Rattle.applications.specs.Replies.{end_by, has_ended};
+ghost use Rattle.applications.specs.declared.quitting.Exit.{Exit};
 ghost use Rattle.applications.specs.Laws.{put_at_launch, EachTry, Linked, ShowsPut, HoldsPut, KeepsLocked, KeepsFixed};
 ghost use Rattle.applications.specs.Laws.{EmptiesPurgeable, LooksFew, RefusedLeaves, RefusedBinds, GoesByRule, NothingBusy};
 ghost use Rattle.applications.specs.Laws.{KeepsResources, KeepsFiles, KeepsTable};
@@ -56,4 +62,33 @@ pub fn an_application_with_any_resources_keeps_the_laws()
         → NothingBusy blocks lines (launched_with resources n nowhere) }
     ensures bound { (resources : Resources) (n : ℕ) (blocks : Blocks) (lines : List Line)
         → RefusedBinds blocks lines (launched_with resources n nowhere) }
+{}
+
+/// Steps follow one another: what the next line of a script adds to its first steps. Where an application lies is no part
+/// of what a step of it comes to, nor of how it ends: a step at any place is the step at any other, with the place put
+/// back.
+pub fn steps_follow_one_another()
+    ensures begins { (resources : Resources) (size : ℕ) (script : Parts)
+        → first_steps resources size script 0 ≡ nothing_yet (launched_with resources size nowhere) }
+    // One step more, where there is a line for it and the application isn't over.
+    ensures more { (resources : Resources) (size : ℕ) (script : Parts) (n : ℕ) (l : Line)
+        → slice_get script.steps n ≡ Some l
+        → Alike (first_steps resources size script (n + 1))
+        (unless_over (first_steps resources size script n) (step script.blocks l)) }
+    // None where there is no line any more, or the application is over.
+    ensures past { (resources : Resources) (size : ℕ) (script : Parts) (n : ℕ) → length script.steps ≤ n
+        → first_steps resources size script (n + 1) ≡ first_steps resources size script n }
+    ensures over { (resources : Resources) (size : ℕ) (script : Parts) (n : ℕ)
+        → (first_steps resources size script n).over ≡ true
+        → first_steps resources size script (n + 1) ≡ first_steps resources size script n }
+    // Alike courses end alike.
+    ensures alike_end { (asked : Bool) (c d : Course) → Alike c d → ending_of asked c ≡ ending_of asked d }
+    ensures elsewhere { (site : Site) (blocks : Blocks) (l : Line) (r : Running)
+        → step blocks l (moved site r) ≡ course_elsewhere site (step blocks l r) }
+    ensures elsewhere_end { (site : Site) (exit : Option Exit) (r : Running)
+        → end_by exit (moved site r) ≡ end_by exit r }
+    ensures elsewhere_left { (site : Site) (exit : Option Exit) (r : Running)
+        → has_ended exit (moved site r) ≡ moved site (has_ended exit r) }
+    ensures elsewhere_launch { (resources : Resources) (n : ℕ) (site : Site)
+        → launched_with resources n site ≡ moved site (launched_with resources n nowhere) }
 {}

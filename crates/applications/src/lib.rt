@@ -15,13 +15,16 @@ mod stepping;
 mod tried;
 mod trying;
 mod turns;
+mod watch;
 
 pub use application::Application;
 pub use giving::{Given, give_alone};
-pub use laws::an_application_with_any_resources_keeps_the_laws;
+pub use laws::{an_application_with_any_resources_keeps_the_laws, steps_follow_one_another};
+pub use own::empty_content;
 pub use quitting::Exit;
-pub use run::run_script;
-pub use turns::up_to_wait;
+pub use run::{run_script, run_script_watched};
+pub use turns::{ends_turn, up_to_wait};
+pub use watch::{Unwatched, Watch, tell};
 
 #[cfg(test)]
 mod both;

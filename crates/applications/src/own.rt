@@ -13,7 +13,7 @@ use res_calls::{File, Resources};
 use std::alloc::{AllocError, Global};
 
 /// A fork with no resources.
-fn empty_content(alloc: Global) -> Content<'static>
+pub fn empty_content(alloc: Global) -> Content<'static>
     ensures { view result ≡ no_content }
 {
     Content {

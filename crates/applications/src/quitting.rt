@@ -29,6 +29,7 @@ impl<'s, S: BlockStore> Application<'s, S> {
     pub fn quit(&mut self) -> Result<OsErr, AllocError>
         ensures code { IfOk result (λ code. code ≡ (leave (managers_of self.old)).code) }
         ensures after { OnOk result (self.new ≡ has_quit self.old) }
+        ensures lies { self.new.memory.window ≡ self.old.memory.window }
     {
         self.resources.leave(self.alloc, &mut self.heap)
     }
@@ -38,6 +39,7 @@ impl<'s, S: BlockStore> Application<'s, S> {
     pub fn end(&mut self, exit: Option<Exit>) -> Result<OsErr, AllocError>
         ensures code { IfOk result (λ code. code ≡ (end_by exit self.old).code) }
         ensures after { OnOk result (self.new ≡ has_ended exit self.old) }
+        ensures lies { self.new.memory.window ≡ self.old.memory.window }
     {
         match exit {
             Some(Exit::Stops) => Ok(OsErr::SYSTEM_ERROR),

@@ -13,6 +13,7 @@ use crate::naming::{named, named_resource};
 use crate::quitting::Exit;
 use crate::tried::Tried;
 use crate::turns::up_to_wait;
+use crate::watch::{Unwatched, Watch, tell};
 use block_store::BlockStore;
 use mac_words::{Call, HeapCall, ResourceCall};
 use script_text::{Line, Script, Word, write_grow_reply, write_reply};
@@ -65,8 +66,9 @@ impl<'s, S: BlockStore> Application<'s, S> {
         lines: &[Line],
         text: &mut Vec<u8>,
     ) -> Result<(), AllocError>
-        ensures { OnOk result (Came (grown script.now.blocks lines.now self.old) text.old.items text.new.items
+        ensures came { OnOk result (Came (grown script.now.blocks lines.now self.old) text.old.items text.new.items
             self.new) }
+        ensures lies { self.new.memory.window ≡ self.old.memory.window }
     {
         for line in lines {
             let tried = self.once(script, &line.call)?;
@@ -84,8 +86,9 @@ impl<'s, S: BlockStore> Application<'s, S> {
         reading: Option<usize>,
         text: &mut Vec<u8>,
     ) -> Result<(), AllocError>
-        ensures { OnOk result (Came (grown_for script.now.blocks line.now reading self.old) text.old.items
+        ensures came { OnOk result (Came (grown_for script.now.blocks line.now reading self.old) text.old.items
             text.new.items self.new) }
+        ensures lies { self.new.memory.window ≡ self.old.memory.window }
     {
         let lines = self.grow;
         self.mark(true, &line.call, reading);
@@ -108,7 +111,8 @@ impl<'s, S: BlockStore> Application<'s, S> {
 
     /// Binds the name of a call that binds one to the number that it gave.
     fn bind(&mut self, call: &Call, given: Option<usize>) -> Result<(), AllocError>
-        ensures { OnOk result (self.new ≡ record self.old { names = names_given call.now given self.old.names }) }
+        ensures bound { OnOk result (self.new ≡ record self.old { names = names_given call.now given self.old.names }) }
+        ensures lies { self.new.memory.window ≡ self.old.memory.window }
     {
         let Some(number) = given else { return Ok(()) };
         match call {
@@ -140,6 +144,7 @@ impl<'s, S: BlockStore> Application<'s, S> {
           names = names_given line.now.call tried.now.given
               self.old.names;
         }) }
+        ensures lies { self.new.memory.window ≡ self.old.memory.window }
     {
         let shown = self.shown(&line.call);
         write_reply(text, line.number, Word::of(&line.call), &tried.reply, shown)?;
@@ -153,8 +158,9 @@ impl<'s, S: BlockStore> Application<'s, S> {
         line: &Line,
         text: &mut Vec<u8>,
     ) -> Result<Next, AllocError>
-        ensures { IfOk result (λ next. CameRound (round script.now.blocks line.now self.old) next text.old.items
+        ensures came { IfOk result (λ next. CameRound (round script.now.blocks line.now self.old) next text.old.items
             text.new.items self.new) }
+        ensures lies { self.new.memory.window ≡ self.old.memory.window }
     {
         let tried = self.once(script, &line.call)?;
         let exit = tried.exit();
@@ -186,6 +192,7 @@ impl<'s, S: BlockStore> Application<'s, S> {
         ensures ends { IfOk result (λ exit. exit ≡ exit_of (step script.now.blocks line.now self.old)) }
         ensures came { OnOk result (Came (step script.now.blocks line.now self.old) text.old.items text.new.items
             self.new) }
+        ensures lies { self.new.memory.window ≡ self.old.memory.window }
     {
         let most = u64::from(self.heap.len()) + 1;
         for _round in 0..most {
@@ -197,7 +204,34 @@ impl<'s, S: BlockStore> Application<'s, S> {
         Ok(None)
     }
 
-    /// Takes steps in order, to the last line or to the end of the application. Tells how it ends, if it does.
+    /// Takes steps in order, to the last line or to the end of the application, and tells a watch how many are done.
+    /// Tells how it ends, if it does.
+    pub fn run_watched<W: Watch>(
+        &mut self,
+        script: &'s Script,
+        lines: &[Line],
+        text: &mut Vec<u8>,
+        watch: &mut W,
+    ) -> Result<Option<Exit>, AllocError>
+        ensures ends { IfOk result (λ exit. exit ≡ exit_of (run script.now.blocks lines.now self.old)) }
+        ensures came { OnOk result (Came (run script.now.blocks lines.now self.old) text.old.items text.new.items
+            self.new) }
+        ensures lies { self.new.memory.window ≡ self.old.memory.window }
+        ensures silent { W.printed watch.new ≡ W.printed watch.old }
+    {
+        let mut done: usize = 0;
+        for line in lines {
+            let exit = self.step(script, line, text)?;
+            done = done.saturating_add(1);
+            tell(watch, done, lines.len());
+            if exit.is_some() {
+                return Ok(exit);
+            }
+        }
+        Ok(None)
+    }
+
+    /// Takes steps in order, as `run_watched` does, and nobody watches.
     pub fn run(
         &mut self,
         script: &'s Script,
@@ -207,14 +241,9 @@ impl<'s, S: BlockStore> Application<'s, S> {
         ensures ends { IfOk result (λ exit. exit ≡ exit_of (run script.now.blocks lines.now self.old)) }
         ensures came { OnOk result (Came (run script.now.blocks lines.now self.old) text.old.items text.new.items
             self.new) }
+        ensures lies { self.new.memory.window ≡ self.old.memory.window }
     {
-        for line in lines {
-            let exit = self.step(script, line, text)?;
-            if exit.is_some() {
-                return Ok(exit);
-            }
-        }
-        Ok(None)
+        self.run_watched(script, lines, text, &mut Unwatched)
     }
 
     /// Takes a turn: steps up to and including the next `WaitNextEvent`, or to the last line, as `up_to_wait` gives
@@ -230,6 +259,7 @@ impl<'s, S: BlockStore> Application<'s, S> {
         ensures ends { IfOk result (λ exit. exit ≡ exit_of (turn script.now.blocks lines.now self.old)) }
         ensures came { OnOk result (Came (turn script.now.blocks lines.now self.old) text.old.items text.new.items
             self.new) }
+        ensures lies { self.new.memory.window ≡ self.old.memory.window }
     {
         self.run(script, up_to_wait(lines), text)
     }

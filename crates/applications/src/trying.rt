@@ -19,6 +19,7 @@ impl<'s, S: BlockStore> Application<'s, S> {
     pub(crate) fn once(&mut self, script: &'s Script, call: &Call) -> Result<Tried, AllocError>
         ensures tried { IfOk result (λ tried. IsTried tried (once script.now.blocks call.now self.old)) }
         ensures after { OnOk result (self.new ≡ (once script.now.blocks call.now self.old).after) }
+        ensures lies { self.new.memory.window ≡ self.old.memory.window }
     {
         match call {
             Call::Heap(call) => self.answer(call),
@@ -66,6 +67,7 @@ impl<'s, S: BlockStore> Application<'s, S> {
           memory = (served (asked call.now self.old.names)
               self.old.memory).1;
         }) }
+        ensures lies { self.new.memory.window ≡ self.old.memory.window }
     {
         match call {
             HeapCall::NewHandle(_, size) => given(self.heap.new_handle(*size)),

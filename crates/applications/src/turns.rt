@@ -8,7 +8,7 @@ use mac_words::{Call, ControlCall};
 use script_text::Line;
 
 /// Whether a call ends a turn.
-fn ends_turn(call: &Call) -> bool
+pub fn ends_turn(call: &Call) -> bool
     ensures { result ≡ is_wait call.now }
 {
     match call {

@@ -39,6 +39,7 @@ impl<S: BlockStore> Heap<S> {
             (hand_and_hand_searches from to) (hand_and_hand from to)) self.old) result self.new }
         ensures host { result ≡ Err Refusal.HostMemory → IsTrue S.TAKES_HOST }
         ensures kept { result ≡ Err Refusal.HostMemory → KeepsNames self.old self.new }
+        ensures lies { self.new.window ≡ self.old.window }
     {
         if let Some(code) = self.both_barred(from, to) {
             return self.refuse(code);
@@ -57,6 +58,7 @@ impl<S: BlockStore> Heap<S> {
             (pointer_and_hand handle bytes.now)) self.old) result self.new }
         ensures host { result ≡ Err Refusal.HostMemory → IsTrue S.TAKES_HOST }
         ensures kept { result ≡ Err Refusal.HostMemory → KeepsNames self.old self.new }
+        ensures lies { self.new.window ≡ self.old.window }
     {
         if let Some(code) = self.change_barred(handle) {
             return self.refuse(code);
@@ -72,6 +74,7 @@ impl<S: BlockStore> Heap<S> {
             self.new }
         ensures host { result ≡ Err Refusal.HostMemory → IsTrue S.TAKES_HOST }
         ensures kept { result ≡ Err Refusal.HostMemory → KeepsNames self.old self.new }
+        ensures lies { self.new.window ≡ self.old.window }
     {
         // The counts of looks and of moves are known to fit their types once they are read.
         let _searches = self.log.searches;
@@ -90,6 +93,7 @@ impl<S: BlockStore> Heap<S> {
             (silent (pointer_and_hand handle bytes.now) self.old))) result self.new }
         ensures host { result ≡ Err Refusal.HostMemory → IsTrue S.TAKES_HOST }
         ensures kept { result ≡ Err Refusal.HostMemory → KeepsNames self.old self.new }
+        ensures lies { self.new.window ≡ self.old.window }
     {
         // The counts of looks and of moves are known to fit their types once they are read.
         let _searches = self.log.searches;

@@ -23,6 +23,7 @@ impl<S: BlockStore> Heap<S> {
         ensures answer { noting max_block self.old ≡ (Ok result, self.new) }
         ensures room { 0 < result → IfSome (physical_size result) (λ p. IsSome (place p self.old.heap.zone)) }
         ensures no_more { IfSome (physical_size (result + 1)) (λ p. place p self.old.heap.zone ≡ None) }
+        ensures lies { self.new.window ≡ self.old.window }
     {
         self.log.code = OsErr::NO_ERR;
         self.store.largest_run().saturating_sub(HEADER_SIZE)
@@ -33,6 +34,7 @@ impl<S: BlockStore> Heap<S> {
     pub fn compact_mem(&mut self, size: u32) -> u32
         ensures answer { packing (compact_mem_moves size) (compact_mem_searches size) (compact_mem size) self.old
             ≡ (Ok result, self.new) }
+        ensures lies { self.new.window ≡ self.old.window }
     {
         let stretches = compact(&mut self.store, phys(size));
         let most = self.store.largest_free().saturating_sub(HEADER_SIZE);

@@ -35,6 +35,7 @@ impl<S: BlockStore> Heap<S> {
             (hand_to_hand_searches handle) (hand_to_hand handle)) self.old) result self.new }
         ensures host { result ≡ Err Refusal.HostMemory → IsTrue S.TAKES_HOST ⊎ (self.new ≡ self.old) }
         ensures kept { result ≡ Err Refusal.HostMemory → KeepsNames self.old self.new }
+        ensures lies { self.new.window ≡ self.old.window }
     {
         if let Some(code) = self.barred(handle) {
             return self.refuse(code);
@@ -50,6 +51,7 @@ impl<S: BlockStore> Heap<S> {
             self.new }
         ensures host { result ≡ Err Refusal.HostMemory → IsTrue S.TAKES_HOST ⊎ (self.new ≡ self.old) }
         ensures kept { result ≡ Err Refusal.HostMemory → KeepsNames self.old self.new }
+        ensures lies { self.new.window ≡ self.old.window }
     {
         // The counts of looks and of moves are known to fit their types once they are read.
         let _searches = self.log.searches;

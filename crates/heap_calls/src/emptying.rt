@@ -29,6 +29,7 @@ impl<S: BlockStore> Heap<S> {
         ensures answer { IsAnswer (unless (barred handle self.old) (noting (empty_handle handle)) self.old)
             result self.new }
         ensures host { result ≢ Err Refusal.HostMemory }
+        ensures lies { self.new.window ≡ self.old.window }
     {
         if let Some(code) = self.barred(handle) {
             return self.refuse(code);
@@ -44,6 +45,7 @@ impl<S: BlockStore> Heap<S> {
             (reallocate_handle_searches handle size) (reallocate_handle handle size)) self.old) result self.new }
         ensures host { result ≡ Err Refusal.HostMemory → IsTrue S.TAKES_HOST }
         ensures kept { result ≡ Err Refusal.HostMemory → KeepsNames self.old self.new }
+        ensures lies { self.new.window ≡ self.old.window }
     {
         if let Some(code) = self.change_barred(handle) {
             return self.refuse(code);
@@ -56,6 +58,7 @@ impl<S: BlockStore> Heap<S> {
     fn empty(&mut self, handle: Option<usize>) -> Result<(), Refusal>
         ensures answer { IsAnswer (silent (empty_handle handle) self.old) result self.new }
         ensures host { result ≢ Err Refusal.HostMemory }
+        ensures lies { self.new.window ≡ self.old.window }
     {
         let slot = loose_slot(&self.store, &self.names, handle)?;
         self.store.release(slot);
@@ -69,6 +72,7 @@ impl<S: BlockStore> Heap<S> {
             (silent (reallocate_handle handle size) self.old))) result self.new }
         ensures host { result ≡ Err Refusal.HostMemory → IsTrue S.TAKES_HOST }
         ensures kept { result ≡ Err Refusal.HostMemory → KeepsNames self.old self.new }
+        ensures lies { self.new.window ≡ self.old.window }
     {
         // The count of moves is known to fit its type once it is read.
         let _moves = self.store.moves();

@@ -53,6 +53,7 @@ impl<S: BlockStore> Heap<S> {
         ensures answer { IsAnswer (new_inside (resource_role guarded) flags bytes.now self.old) result self.new }
         ensures host { result ≡ Err Refusal.HostMemory → IsTrue S.TAKES_HOST ⊎ (self.new ≡ self.old) }
         ensures kept { result ≡ Err Refusal.HostMemory → KeepsNames self.old self.new }
+        ensures lies { self.new.window ≡ self.old.window }
     {
         let answer = self.fill_handle(bytes, flags);
         self.own(answer, guarded)
@@ -63,6 +64,7 @@ impl<S: BlockStore> Heap<S> {
         ensures answer { IsAnswer (new_emptied_inside (resource_role guarded) self.old) result self.new }
         ensures host { result ≡ Err Refusal.HostMemory → IsTrue S.TAKES_HOST ⊎ (self.new ≡ self.old) }
         ensures kept { result ≡ Err Refusal.HostMemory → KeepsMoves self.old self.new }
+        ensures lies { self.new.window ≡ self.old.window }
     {
         let answer = self.make_empty_handle();
         self.own(answer, guarded)
@@ -78,6 +80,7 @@ impl<S: BlockStore> Heap<S> {
     ) -> Result<Vec<Option<usize>>, AllocError>
         ensures answer { IfOk result (λ v. new_all (map wanted_as wanted.now) self.old ≡ (v.items, self.new)) }
         ensures host { IsErr result → IsTrue S.TAKES_HOST ⊎ (self.new ≡ self.old) }
+        ensures lies { self.new.window ≡ self.old.window }
     {
         let mut numbers = Vec::with_capacity(alloc, wanted.len())?;
         self.names.reserve(wanted.len())?;
@@ -98,6 +101,7 @@ impl<S: BlockStore> Heap<S> {
         ensures answer { IsAnswer (refill_inside number flags bytes.now self.old) result self.new }
         ensures host { result ≡ Err Refusal.HostMemory → IsTrue S.TAKES_HOST }
         ensures kept { result ≡ Err Refusal.HostMemory → KeepsNames self.old self.new }
+        ensures lies { self.new.window ≡ self.old.window }
     {
         // The counts of looks and of moves are known to fit their types once they are read.
         let _searches = self.log.searches;
@@ -115,6 +119,7 @@ impl<S: BlockStore> Heap<S> {
         ensures answer { IsAnswer (new_inside Plain flags bytes.now self.old) result self.new }
         ensures host { result ≡ Err Refusal.HostMemory → IsTrue S.TAKES_HOST ⊎ (self.new ≡ self.old) }
         ensures kept { result ≡ Err Refusal.HostMemory → KeepsNames self.old self.new }
+        ensures lies { self.new.window ≡ self.old.window }
     {
         self.names.reserve(1)?;
         let made = fill_block(&mut self.store, bytes, flags)?;
@@ -259,6 +264,7 @@ fn add_resource<S: BlockStore>(
         (memory_of (S.zone store.new) (S.rest store.new) names.new.items log.new)) }
     ensures len { vec_len names.new ≤ vec_len names.old + 1 }
     ensures capacity { vec_capacity names.new ≡ vec_capacity names.old }
+    ensures lies { (S.rest store.new).window ≡ (S.rest store.old).window }
     ensures host { IsErr result → IsTrue S.TAKES_HOST }
 {
     let made = fill_block(store, bytes, flags)?;
@@ -291,6 +297,7 @@ fn add_resources<S: BlockStore>(
     ensures answer { IfOk result (λ _. new_all (map wanted_as wanted.now)
         (memory_of (S.zone store.old) (S.rest store.old) names.old.items log.old)
         ≡ (numbers.new.items, memory_of (S.zone store.new) (S.rest store.new) names.new.items log.new)) }
+    ensures lies { (S.rest store.new).window ≡ (S.rest store.old).window }
     ensures host { IsErr result → IsTrue S.TAKES_HOST }
 {
     for filling in wanted {

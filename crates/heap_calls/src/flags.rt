@@ -16,6 +16,7 @@ impl<S: BlockStore> Heap<S> {
     pub fn h_purge(&mut self, handle: Option<usize>) -> Result<(), Refusal>
         ensures answer { IsAnswer (unless (barred handle self.old) (noting (h_purge handle)) self.old) result self.new }
         ensures host { result ≢ Err Refusal.HostMemory }
+        ensures lies { self.new.window ≡ self.old.window }
     {
         if let Some(code) = self.barred(handle) {
             return self.refuse(code);
@@ -29,6 +30,7 @@ impl<S: BlockStore> Heap<S> {
         ensures answer { IsAnswer (unless (barred handle self.old) (noting (h_no_purge handle)) self.old)
             result self.new }
         ensures host { result ≢ Err Refusal.HostMemory }
+        ensures lies { self.new.window ≡ self.old.window }
     {
         if let Some(code) = self.barred(handle) {
             return self.refuse(code);
@@ -42,6 +44,7 @@ impl<S: BlockStore> Heap<S> {
         ensures answer { IsAnswer (unless (barred handle self.old) (noting (h_get_state handle)) self.old)
             result self.new }
         ensures host { result ≢ Err Refusal.HostMemory }
+        ensures lies { self.new.window ≡ self.old.window }
     {
         if let Some(code) = self.barred(handle) {
             return self.refuse(code);
@@ -56,6 +59,7 @@ impl<S: BlockStore> Heap<S> {
         ensures answer { IsAnswer (unless (barred handle self.old) (noting (h_set_state handle byte)) self.old)
             result self.new }
         ensures host { result ≢ Err Refusal.HostMemory }
+        ensures lies { self.new.window ≡ self.old.window }
     {
         if let Some(code) = self.barred(handle) {
             return self.refuse(code);
@@ -76,6 +80,7 @@ impl<S: BlockStore> Heap<S> {
         ensures answer { IsAnswer (silent (change_flags (flags_with locked purgeable) handle) self.old) result
             self.new }
         ensures host { result ≢ Err Refusal.HostMemory }
+        ensures lies { self.new.window ≡ self.old.window }
     {
         let place = find_block(&self.store, &self.names, handle)?;
         let Some(flags) = flags_of(self.store.block_at(place)) else {

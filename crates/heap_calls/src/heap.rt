@@ -78,6 +78,7 @@ impl<S: BlockStore> Heap<S> {
             self.old) result self.new }
         ensures host { result ≡ Err Refusal.HostMemory → IsTrue S.TAKES_HOST ⊎ (self.new ≡ self.old) }
         ensures kept { result ≡ Err Refusal.HostMemory → KeepsNames self.old self.new }
+        ensures lies { self.new.window ≡ self.old.window }
     {
         let answer = self.make_handle(size);
         self.note(answer)
@@ -89,6 +90,7 @@ impl<S: BlockStore> Heap<S> {
         ensures answer { IsAnswer (unless (barred handle self.old) (noting (dispose_handle handle)) self.old)
             result self.new }
         ensures host { result ≢ Err Refusal.HostMemory }
+        ensures lies { self.new.window ≡ self.old.window }
     {
         if let Some(code) = self.barred(handle) {
             return self.refuse(code);
@@ -102,6 +104,7 @@ impl<S: BlockStore> Heap<S> {
         ensures answer { IsAnswer (unless (barred handle self.old) (noting (get_handle_size handle)) self.old)
             result self.new }
         ensures host { result ≢ Err Refusal.HostMemory }
+        ensures lies { self.new.window ≡ self.old.window }
     {
         if let Some(code) = self.barred(handle) {
             return self.refuse(code);
@@ -155,6 +158,7 @@ impl<S: BlockStore> Heap<S> {
         ensures answer { IsAnswer (unless_silent (change_barred handle self.old) (silent (put handle from bytes.now))
             self.old) result self.new }
         ensures host { result ≢ Err Refusal.HostMemory }
+        ensures lies { self.new.window ≡ self.old.window }
     {
         if let Some(code) = self.change_barred(handle) {
             return Err(Refusal::Code(code));
@@ -192,6 +196,7 @@ impl<S: BlockStore> Heap<S> {
             (searching (new_handle_searches size self.old.heap) (silent (new_handle size) self.old))) result self.new }
         ensures host { result ≡ Err Refusal.HostMemory → IsTrue S.TAKES_HOST ⊎ (self.new ≡ self.old) }
         ensures kept { result ≡ Err Refusal.HostMemory → KeepsNames self.old self.new }
+        ensures lies { self.new.window ≡ self.old.window }
     {
         self.names.reserve(1)?;
         let made = new_block(&mut self.store, size, Sparing::Nothing)?;
@@ -203,6 +208,7 @@ impl<S: BlockStore> Heap<S> {
     fn let_go(&mut self, handle: Option<usize>) -> Result<(), Refusal>
         ensures answer { IsAnswer (silent (dispose_handle handle) self.old) result self.new }
         ensures host { result ≢ Err Refusal.HostMemory }
+        ensures lies { self.new.window ≡ self.old.window }
     {
         let found = slot_of(&self.names, handle)?;
         if self.store.is_resource(found.slot) {
@@ -225,6 +231,7 @@ impl<S: BlockStore> Heap<S> {
     fn write_block(&mut self, handle: Option<usize>, from: u32, bytes: &[u8]) -> Result<(), Refusal>
         ensures answer { IsAnswer (silent (put handle from bytes.now) self.old) result self.new }
         ensures host { result ≢ Err Refusal.HostMemory }
+        ensures lies { self.new.window ≡ self.old.window }
     {
         let place = find_block(&self.store, &self.names, handle)?;
         let len = self.store.bytes(place).len();

@@ -16,6 +16,7 @@ impl<S: BlockStore> Heap<S> {
     pub fn h_lock(&mut self, handle: Option<usize>) -> Result<(), Refusal>
         ensures answer { IsAnswer (unless (barred handle self.old) (noting (h_lock handle)) self.old) result self.new }
         ensures host { result ≢ Err Refusal.HostMemory }
+        ensures lies { self.new.window ≡ self.old.window }
     {
         if let Some(code) = self.barred(handle) {
             return self.refuse(code);
@@ -29,6 +30,7 @@ impl<S: BlockStore> Heap<S> {
         ensures answer { IsAnswer (unless (barred handle self.old) (noting (h_unlock handle)) self.old)
             result self.new }
         ensures host { result ≢ Err Refusal.HostMemory }
+        ensures lies { self.new.window ≡ self.old.window }
     {
         if let Some(code) = self.barred(handle) {
             return self.refuse(code);
@@ -42,6 +44,7 @@ impl<S: BlockStore> Heap<S> {
         ensures answer { IsAnswer (unless (barred handle self.old) (noting (move_hhi handle)) self.old)
             result self.new }
         ensures host { result ≢ Err Refusal.HostMemory }
+        ensures lies { self.new.window ≡ self.old.window }
     {
         if let Some(code) = self.barred(handle) {
             return self.refuse(code);
@@ -55,6 +58,7 @@ impl<S: BlockStore> Heap<S> {
         ensures answer { IsAnswer (unless (barred handle self.old) (noting (hlock_hi handle)) self.old)
             result self.new }
         ensures host { result ≢ Err Refusal.HostMemory }
+        ensures lies { self.new.window ≡ self.old.window }
     {
         if let Some(code) = self.barred(handle) {
             return self.refuse(code);
@@ -67,6 +71,7 @@ impl<S: BlockStore> Heap<S> {
     fn move_high(&mut self, handle: Option<usize>) -> Result<(), Refusal>
         ensures answer { IsAnswer (silent (move_hhi handle) self.old) result self.new }
         ensures host { result ≢ Err Refusal.HostMemory }
+        ensures lies { self.new.window ≡ self.old.window }
     {
         let found = slot_of(&self.names, handle)?;
         let Some(place) = self.store.place_of(found.slot) else {
@@ -86,6 +91,7 @@ impl<S: BlockStore> Heap<S> {
     pub(crate) fn lock_high(&mut self, handle: Option<usize>) -> Result<(), Refusal>
         ensures answer { IsAnswer (silent (hlock_hi handle) self.old) result self.new }
         ensures host { result ≢ Err Refusal.HostMemory }
+        ensures lies { self.new.window ≡ self.old.window }
     {
         self.move_high(handle)?;
         self.set_flags(handle, Some(true), None)?;

@@ -24,6 +24,7 @@ impl<S: BlockStore> Heap<S> {
             (noting new_empty_handle self.old)) result self.new }
         ensures host { result ≡ Err Refusal.HostMemory → IsTrue S.TAKES_HOST ⊎ (self.new ≡ self.old) }
         ensures kept { result ≡ Err Refusal.HostMemory → KeepsMoves self.old self.new }
+        ensures lies { self.new.window ≡ self.old.window }
     {
         let answer = self.make_empty_handle();
         self.note(answer)
@@ -35,6 +36,7 @@ impl<S: BlockStore> Heap<S> {
             self.new }
         ensures host { result ≡ Err Refusal.HostMemory → IsTrue S.TAKES_HOST }
         ensures kept { result ≡ Err Refusal.HostMemory → KeepsMoves self.old self.new }
+        ensures lies { self.new.window ≡ self.old.window }
     {
         let answer = self.add_masters();
         self.note(answer)
@@ -46,6 +48,7 @@ impl<S: BlockStore> Heap<S> {
             (noting (reserve_mem size) self.old)) result self.new }
         ensures host { result ≡ Err Refusal.HostMemory → IsTrue S.TAKES_HOST }
         ensures kept { result ≡ Err Refusal.HostMemory → KeepsMoves self.old self.new }
+        ensures lies { self.new.window ≡ self.old.window }
     {
         let answer = self.reserve_base(size);
         self.note(answer)
@@ -57,6 +60,7 @@ impl<S: BlockStore> Heap<S> {
             (silent new_empty_handle self.old)) result self.new }
         ensures host { result ≡ Err Refusal.HostMemory → IsTrue S.TAKES_HOST ⊎ (self.new ≡ self.old) }
         ensures kept { result ≡ Err Refusal.HostMemory → KeepsMoves self.old self.new }
+        ensures lies { self.new.window ≡ self.old.window }
     {
         self.names.reserve(1)?;
         let taken = make_slot(&mut self.store, Sparing::Nothing)?;
@@ -70,6 +74,7 @@ impl<S: BlockStore> Heap<S> {
             self.new }
         ensures host { result ≡ Err Refusal.HostMemory → IsTrue S.TAKES_HOST }
         ensures kept { result ≡ Err Refusal.HostMemory → KeepsMoves self.old self.new }
+        ensures lies { self.new.window ≡ self.old.window }
     {
         let room = make_masters(&mut self.store, Sparing::Nothing)?;
         self.account(Grown {
@@ -84,6 +89,7 @@ impl<S: BlockStore> Heap<S> {
             (silent (reserve_mem size) self.old)) result self.new }
         ensures host { result ≡ Err Refusal.HostMemory → IsTrue S.TAKES_HOST }
         ensures kept { result ≡ Err Refusal.HostMemory → KeepsMoves self.old self.new }
+        ensures lies { self.new.window ≡ self.old.window }
     {
         // The count of searches is known to fit its type once it is read.
         let _searches = self.log.searches;

@@ -33,6 +33,7 @@ impl<S: BlockStore> Heap<S> {
             self.new }
         ensures host { result ≡ Err Refusal.HostMemory → IsTrue S.TAKES_HOST }
         ensures kept { result ≡ Err Refusal.HostMemory → KeepsMoves self.old self.new }
+        ensures lies { self.new.window ≡ self.old.window }
     {
         if let Some(code) = self.pointer_barred(pointer) {
             return self.refuse(code);
@@ -47,6 +48,7 @@ impl<S: BlockStore> Heap<S> {
             (silent (set_pointer_size pointer size) self.old)) result self.new }
         ensures host { result ≡ Err Refusal.HostMemory → IsTrue S.TAKES_HOST }
         ensures kept { result ≡ Err Refusal.HostMemory → KeepsMoves self.old self.new }
+        ensures lies { self.new.window ≡ self.old.window }
     {
         // The count of looks is known to fit its type once it is read.
         let _searches = self.log.searches;

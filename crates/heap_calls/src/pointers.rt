@@ -30,6 +30,7 @@ impl<S: BlockStore> Heap<S> {
             (noting (new_pointer size) self.old)) result self.new }
         ensures host { result ≡ Err Refusal.HostMemory → IsTrue S.TAKES_HOST ⊎ (self.new ≡ self.old) }
         ensures kept { result ≡ Err Refusal.HostMemory → KeepsMoves self.old self.new }
+        ensures lies { self.new.window ≡ self.old.window }
     {
         let answer = self.make_pointer(size);
         self.note(answer)
@@ -40,6 +41,7 @@ impl<S: BlockStore> Heap<S> {
         ensures answer { IsAnswer (unless (pointer_barred pointer self.old) (noting (dispose_pointer pointer)) self.old)
             result self.new }
         ensures host { result ≢ Err Refusal.HostMemory }
+        ensures lies { self.new.window ≡ self.old.window }
     {
         if let Some(code) = self.pointer_barred(pointer) {
             return self.refuse(code);
@@ -53,6 +55,7 @@ impl<S: BlockStore> Heap<S> {
         ensures answer { IsAnswer (unless (pointer_barred pointer self.old) (noting (get_pointer_size pointer))
             self.old) result self.new }
         ensures host { result ≢ Err Refusal.HostMemory }
+        ensures lies { self.new.window ≡ self.old.window }
     {
         if let Some(code) = self.pointer_barred(pointer) {
             return self.refuse(code);
@@ -71,6 +74,7 @@ impl<S: BlockStore> Heap<S> {
         ensures answer { IsAnswer (unless_silent (pointer_barred pointer self.old)
             (silent (put_pointer pointer from bytes.now)) self.old) result self.new }
         ensures host { result ≢ Err Refusal.HostMemory }
+        ensures lies { self.new.window ≡ self.old.window }
     {
         if let Some(code) = self.pointer_barred(pointer) {
             return Err(Refusal::Code(code));
@@ -96,6 +100,7 @@ impl<S: BlockStore> Heap<S> {
             (silent (new_pointer size) self.old)) result self.new }
         ensures host { result ≡ Err Refusal.HostMemory → IsTrue S.TAKES_HOST ⊎ (self.new ≡ self.old) }
         ensures kept { result ≡ Err Refusal.HostMemory → KeepsMoves self.old self.new }
+        ensures lies { self.new.window ≡ self.old.window }
     {
         self.names.reserve(1)?;
         let room = add_fixed(&mut self.store, size)?;
@@ -112,6 +117,7 @@ impl<S: BlockStore> Heap<S> {
     fn free_block(&mut self, pointer: Option<usize>) -> Result<(), Refusal>
         ensures answer { IsAnswer (silent (dispose_pointer pointer) self.old) result self.new }
         ensures host { result ≢ Err Refusal.HostMemory }
+        ensures lies { self.new.window ≡ self.old.window }
     {
         let target = target_of(&self.names, pointer)?;
         self.store.free_at(target.place);
@@ -128,6 +134,7 @@ impl<S: BlockStore> Heap<S> {
     ) -> Result<(), Refusal>
         ensures answer { IsAnswer (silent (put_pointer pointer from bytes.now) self.old) result self.new }
         ensures host { result ≢ Err Refusal.HostMemory }
+        ensures lies { self.new.window ≡ self.old.window }
     {
         let target = target_of(&self.names, pointer)?;
         let len = self.store.bytes(target.place).len();

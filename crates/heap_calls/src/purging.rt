@@ -35,6 +35,7 @@ impl<S: BlockStore> Heap<S> {
         ensures answer { IsAnswer (searching (purge_mem_searches size self.old.heap) (noting (purge_mem size) self.old))
             result self.new }
         ensures host { result ≢ Err Refusal.HostMemory }
+        ensures lies { self.new.window ≡ self.old.window }
     {
         let answer = self.purge_for(size);
         self.note(answer)
@@ -80,6 +81,7 @@ impl<S: BlockStore> Heap<S> {
         ensures answer { IsAnswer (searching (purge_mem_searches size self.old.heap) (silent (purge_mem size) self.old))
             result self.new }
         ensures host { result ≢ Err Refusal.HostMemory }
+        ensures lies { self.new.window ≡ self.old.window }
     {
         let bytes = phys(size);
         let purges = purges_for(&self.store, bytes);

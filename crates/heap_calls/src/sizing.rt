@@ -39,6 +39,7 @@ impl<S: BlockStore> Heap<S> {
             (set_handle_size_searches handle size) (set_handle_size handle size)) self.old) result self.new }
         ensures host { result ≡ Err Refusal.HostMemory → IsTrue S.TAKES_HOST }
         ensures kept { result ≡ Err Refusal.HostMemory → KeepsNames self.old self.new }
+        ensures lies { self.new.window ≡ self.old.window }
     {
         if let Some(code) = self.change_barred(handle) {
             return self.refuse(code);
@@ -54,6 +55,7 @@ impl<S: BlockStore> Heap<S> {
             (silent (set_handle_size handle size) self.old))) result self.new }
         ensures host { result ≡ Err Refusal.HostMemory → IsTrue S.TAKES_HOST }
         ensures kept { result ≡ Err Refusal.HostMemory → KeepsNames self.old self.new }
+        ensures lies { self.new.window ≡ self.old.window }
     {
         // The counts of looks and of moves are known to fit their types once they are read.
         let _searches = self.log.searches;

@@ -3,3 +3,4 @@ mod Faults
 mod Numerals
 mod Printing
 mod Wholes
+mod Owners

@@ -4,3 +4,5 @@ pub mod Listing
 pub mod Printing
 pub mod Work
 pub mod Tasks
+pub mod Outputs
+pub mod Gathering

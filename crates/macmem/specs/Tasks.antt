@@ -78,10 +78,10 @@ IsFault (work.Script size) path bytes message = IsScriptFault path bytes message
 IsFault work.Map path bytes message = IsForkFault path bytes message
 IsFault work.Check path bytes message = IsForkFault path bytes message
 
--- a print that failed, with the path of the standard output
-abbrev pub write_message : WriteError → Message
-write_message write_error.CannotWrite = CannotWrite (codes "-")
-write_message write_error.HostMemory = HostMemory
+-- what could not be written, with its path
+abbrev pub write_message : List ℕ → WriteError → Message
+write_message path write_error.CannotWrite = CannotWrite path
+write_message path write_error.HostMemory = HostMemory
 
 -- the text of an output
 abbrev pub output_text : Output → List ℕ

@@ -4,8 +4,9 @@ ghost use Rattle.std.specs.Prelude.{None};
 
 use crate::host::{Host, ReadError, WriteError};
 use crate::reading::read_all;
+use applications::Watch;
 use std::alloc::Global;
-use std::fs::{self, OpenFile};
+use std::fs::{self, File, OpenFile};
 use std::io::{self, Read, Write};
 use std::rt::Files;
 
@@ -15,7 +16,7 @@ const MOST: u32 = 268_435_456;
 /// The standard input by its path.
 const STANDARD_INPUT: &str = "/dev/stdin";
 
-/// Real files, the standard input and the standard output.
+/// Real files, the standard input, the standard output and the standard error.
 #[derive(Drop)]
 pub struct HostFiles<'r, R> {
     rt: &'r R,
@@ -39,10 +40,25 @@ fn read_file<F: OpenFile + Read>(alloc: Global, file: &mut F) -> Result<Vec<u8>,
     }
 }
 
-impl<'r, R: Files + Input + Print> Host for HostFiles<'r, R> {
+/// Writes bytes to a file that is open.
+fn write_file<W: Write>(file: &mut W, bytes: &[u8]) -> Result<(), WriteError> {
+    match file.write_all(bytes) {
+        Ok(()) => Ok(()),
+        Err(_) => Err(WriteError::CannotWrite),
+    }
+}
+
+impl<'r, R: Eprint> Watch for HostFiles<'r, R> {
     // What a terminal, a pipe or a file has taken is known to nobody.
     ghost printed = { λ _. None };
 
+    /// A line on the standard error. Where that fails the work goes on.
+    fn done(&mut self, done: usize, of: usize) {
+        let _ = eprintln!(self.rt; "macmem: {done} of {of} done");
+    }
+}
+
+impl<'r, R: Files + Input + Print + Eprint> Host for HostFiles<'r, R> {
     /// Pipes and devices are read like files. The standard input is read as it is open, since a host need
     /// not let it be opened by its path.
     fn read(&mut self, alloc: Global, path: &str) -> Result<Vec<u8>, ReadError> {
@@ -58,6 +74,20 @@ impl<'r, R: Files + Input + Print> Host for HostFiles<'r, R> {
     fn print(&mut self, bytes: &[u8]) -> Result<(), WriteError> {
         match io::writer(self.rt).write_all(bytes) {
             Ok(()) => Ok(()),
+            Err(_) => Err(WriteError::CannotWrite),
+        }
+    }
+
+    fn make_folder(&mut self, path: &str) -> Result<(), WriteError> {
+        match fs::create_dir(self.rt, path) {
+            Ok(()) => Ok(()),
+            Err(_) => Err(WriteError::CannotWrite),
+        }
+    }
+
+    fn write(&mut self, path: &str, bytes: &[u8]) -> Result<(), WriteError> {
+        match File::create_new(self.rt, path) {
+            Ok(mut file) => write_file(&mut file, bytes),
             Err(_) => Err(WriteError::CannotWrite),
         }
     }

@@ -1,11 +1,15 @@
-//! The program: scripts are run, and resource forks listed and checked.
+//! The program: scripts and jobs are run, and resource forks listed and checked.
 #![tactic(auto)]
 
 mod fault;
 mod files;
+mod gathering;
 mod host;
+mod input;
 mod listing;
+mod outputs;
 mod reading;
+mod running;
 mod size;
 mod tasks;
 mod tool;
@@ -26,7 +30,17 @@ pub use tool::tool;
 #[cfg(test)]
 mod examples_tests;
 #[cfg(test)]
+mod file_jobs_tests;
+#[cfg(test)]
+mod jobs_tests;
+#[cfg(test)]
+mod partition_jobs_tests;
+#[cfg(test)]
 mod reading_tests;
+#[cfg(test)]
+mod run_tests;
+#[cfg(test)]
+mod segment_jobs_tests;
 #[cfg(test)]
 mod tests;
 
@@ -39,7 +53,7 @@ fn words_of<R: Env + AllocGlobal>(rt: &R) -> Result<Vec<String>, ToolFault> {
     }
 }
 
-fn run<R: Env + Files + Input + Print + AllocGlobal>(rt: &R) -> Result<(), ToolFault> {
+fn run<R: Env + Files + Input + Print + Eprint + AllocGlobal>(rt: &R) -> Result<(), ToolFault> {
     let owned = words_of(rt)?;
     let words: Vec<&str> = owned.iter().map(|w| w.as_str()).collect(rt.alloc())?;
     tool(rt.alloc(), words.as_slice(), &mut HostFiles::new(rt))

@@ -13,6 +13,7 @@ use crate::host::{Host, WriteError};
 use crate::listing::print_listing;
 use crate::size::PartitionSize;
 use crate::work::{Form, form_of, transcript_of};
+use applications::{Unwatched, Watch};
 use fork_format::{Content, ForkFault, read_fork};
 use script_text::{FaultKind, ScriptFault};
 use std::alloc::{AllocError, Global};
@@ -37,6 +38,8 @@ pub struct Task<'a> {
     pub work: Work,
     /// The file's path as it was given.
     pub path: &'a str,
+    /// Whether it is told how far a script has come.
+    pub watched: bool,
 }
 
 /// What a task prints of the bytes of its file.
@@ -50,8 +53,8 @@ pub enum Output<'b> {
     Form(Form),
 }
 
-/// A script's fault, with the script's path.
-fn script_fault(alloc: Global, path: &str, fault: ScriptFault) -> Result<ToolFault, AllocError>
+/// A script's fault, or a job's, with its path.
+pub fn script_fault(alloc: Global, path: &str, fault: ScriptFault) -> Result<ToolFault, AllocError>
     ensures { IfOk result (λ told. message_of told ≡ script_message path.now fault.line fault.kind) }
 {
     match fault.kind {
@@ -77,29 +80,31 @@ fn fork_fault(alloc: Global, path: &str, fault: ForkFault) -> Result<ToolFault, 
     }
 }
 
-/// The fault of what could not be printed.
-fn write_fault(alloc: Global, error: WriteError) -> Result<ToolFault, AllocError>
-    ensures { IfOk result (λ told. message_of told ≡ write_message error) }
+/// The fault of what could not be written, with its path.
+pub fn write_fault(alloc: Global, path: &str, error: WriteError) -> Result<ToolFault, AllocError>
+    ensures { IfOk result (λ told. message_of told ≡ write_message path.now error) }
 {
     match error {
         WriteError::CannotWrite => Ok(ToolFault::CannotWrite {
-            path: String::from_str(alloc, STANDARD_OUTPUT)?,
+            path: String::from_str(alloc, path)?,
         }),
         WriteError::HostMemory => Ok(ToolFault::HostMemory),
     }
 }
 
 /// The transcript of a script.
-fn script_output<'b>(
+fn script_output<'b, W: Watch>(
     alloc: Global,
     size: PartitionSize,
     path: &str,
     text: &'b [u8],
+    watch: &mut W,
 ) -> Result<Output<'b>, ToolFault>
     ensures output { IfOk result (λ output. IsTranscriptOf size.bytes text.now (output_text output)) }
     ensures fault { IfErr result (λ fault. IsScriptFault path.now text.now (message_of fault)) }
+    ensures silent { W.printed watch.new ≡ W.printed watch.old }
 {
-    match transcript_of(alloc, size, text) {
+    match transcript_of(alloc, size, text, watch) {
         Ok(transcript) => Ok(Output::Transcript(transcript)),
         Err(fault) => Err(script_fault(alloc, path, fault)?),
     }
@@ -127,13 +132,14 @@ fn check_output<'b>(alloc: Global, path: &str, bytes: &'b [u8]) -> Result<Output
     }
 }
 
-/// What a task prints of the bytes of its file.
+/// What a task prints of the bytes of its file. The host is told how far a script has come, where that is asked for.
 ///
 /// # Errors
 ///
 /// The fault of the bytes, with the file's path. Where the host refuses memory nothing is said of them.
-pub fn output_of<'b>(
+pub fn output_of<'b, H: Host>(
     alloc: Global,
+    host: &mut H,
     task: Task<'_>,
     bytes: &'b [u8],
 ) -> Result<Output<'b>, ToolFault>
@@ -142,9 +148,13 @@ pub fn output_of<'b>(
 
     // The script's first faulty line, or the result code of bytes that are no fork.
     ensures fault { IfErr result (λ fault. IsFault task.entry.work task.entry.path.now bytes.now (message_of fault)) }
+
+    // Nothing is printed yet.
+    ensures silent { H.printed host.new ≡ H.printed host.old }
 {
     match task.work {
-        Work::Script(size) => script_output(alloc, size, task.path, bytes),
+        Work::Script(size) if task.watched => script_output(alloc, size, task.path, bytes, host),
+        Work::Script(size) => script_output(alloc, size, task.path, bytes, &mut Unwatched),
         Work::Map => map_output(alloc, task.path, bytes),
         Work::Check => check_output(alloc, task.path, bytes),
     }
@@ -182,9 +192,9 @@ pub fn do_task<H: Host>(
     ensures fault { IfErr result (λ fault. IsRefusal task.entry.work task.entry.path.now bytes.now
         (H.printed host.old) (H.printed host.new) (message_of fault)) }
 {
-    let output = output_of(alloc, task, bytes)?;
+    let output = output_of(alloc, host, task, bytes)?;
     match print_output(alloc, host, &output) {
         Ok(()) => Ok(()),
-        Err(error) => Err(write_fault(alloc, error)?),
+        Err(error) => Err(write_fault(alloc, STANDARD_OUTPUT, error)?),
     }
 }

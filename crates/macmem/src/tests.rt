@@ -2,9 +2,11 @@
 
 ghost use Rattle.std.specs.Prelude.{Some};
 
-use crate::tasks::Work;
-use crate::words::read_words;
+use crate::running::Errand;
+use crate::tasks::{Task, Work};
+use crate::words::{Request, read_words};
 use crate::{Host, ReadError, ToolFault, WriteError, tool};
+use applications::Watch;
 use script_text::CALLS;
 use std::alloc::Global;
 use std::test::Fail;
@@ -17,11 +19,21 @@ struct Memory<'a> {
     /// So many prints succeed.
     prints: usize,
     printed: Vec<u8>,
+    /// How often it was told how far a script has come, and what at last.
+    told: usize,
+    done: (usize, usize),
+}
+
+impl<'a> Watch for Memory<'a> {
+    ghost printed = { λ host. Some host.printed.items };
+
+    fn done(&mut self, done: usize, of: usize) {
+        self.told = self.told.wrapping_add(1);
+        self.done = (done, of);
+    }
 }
 
 impl<'a> Host for Memory<'a> {
-    ghost printed = { λ host. Some host.printed.items };
-
     fn read(&mut self, alloc: Global, path: &str) -> Result<Vec<u8>, ReadError> {
         match path {
             "file" => Ok(Vec::from_slice(alloc, self.file)?),
@@ -38,6 +50,14 @@ impl<'a> Host for Memory<'a> {
         self.printed.extend_from_slice(bytes)?;
         Ok(())
     }
+
+    fn make_folder(&mut self, _path: &str) -> Result<(), WriteError> {
+        Err(WriteError::CannotWrite)
+    }
+
+    fn write(&mut self, _path: &str, _bytes: &[u8]) -> Result<(), WriteError> {
+        Err(WriteError::CannotWrite)
+    }
 }
 
 fn host(alloc: Global, file: &[u8]) -> Memory<'_> {
@@ -45,6 +65,8 @@ fn host(alloc: Global, file: &[u8]) -> Memory<'_> {
         file,
         prints: 1,
         printed: Vec::new(alloc),
+        told: 0,
+        done: (0, 0),
     }
 }
 
@@ -132,12 +154,14 @@ fn refuses_other_words(rt: HostRuntime) -> Result<(), Fail> {
     let missing: [&str; 2] = ["macmem", "map"];
     let more: [&str; 4] = ["macmem", "check", "file", "file"];
     let option: [&str; 3] = ["macmem", "map", "-file"];
+    let folder: [&str; 3] = ["macmem", "run", "file"];
     for words in [
         &none[..],
         &command[..],
         &missing[..],
         &more[..],
         &option[..],
+        &folder[..],
     ] {
         let mut host = host(alloc, b"");
         match tool(alloc, words, &mut host) {
@@ -155,7 +179,7 @@ fn refuses_other_words(rt: HostRuntime) -> Result<(), Fail> {
 fn helps(rt: HostRuntime) -> Result<(), Fail> {
     let alloc = rt.alloc();
     let all = told(alloc, &["macmem", "--help"], b"")?;
-    for word in ["script", "map", "check", "macmem script 1024"] {
+    for word in ["script", "run", "map", "check", "macmem script 1024"] {
         assert!(rt; all.as_str().contains(word), "at {word}");
     }
     let script = told(alloc, &["macmem", "script", "--help"], b"")?;
@@ -170,6 +194,10 @@ fn helps(rt: HostRuntime) -> Result<(), Fail> {
     }
     for line in CALLS.lines() {
         assert!(rt; script.as_str().contains(line), "at {line}");
+    }
+    let run = told(alloc, &["macmem", "run", "--help"], b"")?;
+    for word in ["<JOB>", "<OUT>", "app NAME", "desk.log"] {
+        assert!(rt; run.as_str().contains(word), "at {word}");
     }
     for command in ["map", "check"] {
         let help = told(alloc, &["macmem", command, "--help"], b"")?;
@@ -196,18 +224,72 @@ fn tells_its_version(rt: HostRuntime) -> Result<(), Fail> {
 fn reads_tasks(rt: HostRuntime) -> Result<(), Fail> {
     let alloc = rt.alloc();
     let words: [&str; 4] = ["macmem", "script", "1500", "a b"];
-    let task = read_words(alloc, &words)?;
-    assert_eq!(rt; task.path, "a b");
-    match task.work {
-        Work::Script(size) => assert_eq!(rt; size.bytes, 1488),
+    match read_words(alloc, &words)? {
+        Request::Look(
+            Task {
+                work: Work::Script(size),
+                path,
+                watched,
+            },
+        ) => assert_eq!(rt; (size.bytes, path, watched), (1488, "a b", false)),
         _ => return Err(Fail::new("a script")),
     }
-    let words: [&str; 4] = ["macmem", "map", "--", "-fork"];
-    let task = read_words(alloc, &words)?;
-    assert_eq!(rt; (task.path, task.work), ("-fork", Work::Map));
-    let words: [&str; 3] = ["macmem", "check", "/dev/stdin"];
-    let task = read_words(alloc, &words)?;
-    assert_eq!(rt; (task.path, task.work), ("/dev/stdin", Work::Check));
+    for (words, task) in [
+        (
+            ["macmem", "map", "--", "-fork"].as_slice(),
+            Task {
+                work: Work::Map,
+                path: "-fork",
+                watched: false,
+            },
+        ),
+        (
+            ["macmem", "check", "/dev/stdin"].as_slice(),
+            Task {
+                work: Work::Check,
+                path: "/dev/stdin",
+                watched: false,
+            },
+        ),
+    ] {
+        assert_eq!(rt; read_words(alloc, words)?, Request::Look(task));
+    }
+    let errand = Errand {
+        job: "a b",
+        out: "c/",
+        watched: true,
+    };
+    let words: [&str; 5] = ["macmem", "run", "a b", "--progress", "c/"];
+    assert_eq!(rt; read_words(alloc, &words)?, Request::Run(errand));
+    Ok(())
+}
+
+/// How often a script of so many lines is told, and what at last.
+fn told_of(alloc: Global, lines: usize, words: &[&str]) -> Result<(usize, (usize, usize)), Fail> {
+    let mut script = Vec::new(alloc);
+    for _ in 0..lines {
+        script.extend_from_slice(b"FreeMem\n")?;
+    }
+    let mut host = host(alloc, &script);
+    tool(alloc, words, &mut host)?;
+    Ok((host.told, host.done))
+}
+
+#[test]
+fn tells_how_many_lines_are_done(rt: HostRuntime) -> Result<(), Fail> {
+    let alloc = rt.alloc();
+    let words = ["macmem", "script", "--progress", "512", "file"];
+    for (lines, told) in [
+        (0, (0, (0, 0))),
+        (1, (1, (1, 1))),
+        (100, (100, (100, 100))),
+        (101, (51, (101, 101))),
+        (250, (84, (250, 250))),
+    ] {
+        assert_eq!(rt; told_of(alloc, lines, &words)?, told);
+    }
+    let words = ["macmem", "script", "512", "file"];
+    assert_eq!(rt; told_of(alloc, 250, &words)?, (0, (0, 0)));
     Ok(())
 }
 

@@ -1,6 +1,7 @@
 //! The words of the command line. Only this module sees the parser.
 
 use crate::fault::ToolFault;
+use crate::running::Errand;
 use crate::size::PartitionSize;
 use crate::tasks::{Task, Work};
 use clap::error::ErrorKind;
@@ -18,6 +19,7 @@ const VERSION: &str = "0.1.0";
 
 const PROGRAM_EXAMPLES: &str = "Examples:
   macmem script 1024 examples/first.script    run a script in a partition of 1024 bytes
+  macmem run examples/job/job OUT             run the applications of a job, and leave what they write in OUT
   macmem map examples/Document.rsrc           list the resources of a fork
   macmem check examples/Document.rsrc         say whether a fork is canonical
 
@@ -56,6 +58,54 @@ const SIZE_HELP: &str =
 const SCRIPT_HELP: &str = concat!(
     "File with one toolbox call a line, as 'NewHandle a 100'. Empty lines and lines that begin with '#' are ",
     "skipped. /dev/stdin is the standard input"
+);
+
+const RUN_ABOUT: &str = concat!(
+    "Runs a job: several applications in one memory, each in a partition of its own; makes the folder OUT, and ",
+    "writes what they leave into it"
+);
+
+const RUN_LONG_ABOUT: &str =
+    "Runs a job: several applications in one memory, each in a partition of its own; makes the folder OUT,
+and writes what they leave into it.
+
+Example:
+  macmem run examples/job/job OUT
+
+A job's lines, in this order ('#' begins a line that is skipped):
+  memory N                   the memory in bytes: 512 to 134217728, a multiple of 16
+  system \"PATH\"              perhaps, once: the fork of the System
+  app NAME \"FORK\" \"SCRIPT\"  an application, at most 64: where its fork and its script are read
+  file NAME \"FILE\" \"PATH\"   a file of an application above, at most 255 of each: its name, and where its fork is read
+                             'system', 'app' and 'file' stand in any order
+  launch NAME                the application is launched, in a window of the size that its 'SIZE' -1 asks for
+  step NAME, turn NAME       it makes its next step; or its steps up to and including the next WaitNextEvent
+  quit NAME                  it is asked to quit
+  rest                       all that run take turns, until none runs
+
+Paths are taken as they stand, from the current folder.
+
+OUT holds then:
+  desk.log                   the launches and the ends with their codes, and the forks that were written
+  app-NAME.log               the transcript of each application that was launched
+  app-NAME-K.rsrc            each fork that was written; K is the file's place among the application's files, from 0
+
+Nothing is written before all input is read. A faulty line, of the job or of a script, is told as
+'macmem: PATH: line N: fault K', as 'macmem script' tells it; a System that is no fork as 'macmem: PATH: fork CODE'; a
+folder that is there already as 'macmem: OUT: cannot write'.";
+
+const JOB_HELP: &str =
+    "File with one line for each application, file and event. /dev/stdin is the standard input";
+
+const OUT_HELP: &str =
+    "Folder that is made for what the applications leave. It must not be there yet";
+
+/// The name of the flag, behind its two hyphens.
+const PROGRESS: &str = "progress";
+
+const PROGRESS_HELP: &str = concat!(
+    "Tell on the standard error how far it has come, as 'macmem: 41 of 4080 done': lines of the script or events of ",
+    "the job, at most a hundred times"
 );
 
 const MAP_ABOUT: &str = concat!(
@@ -97,13 +147,31 @@ fn argument<'a>(alloc: Global, name: &'a str, help: &'a str) -> Arg<'a> {
         .help(help)
 }
 
+/// The flag `--progress`.
+fn progress<'a>(alloc: Global) -> Arg<'a> {
+    Arg::new(alloc, PROGRESS)
+        .long(PROGRESS)
+        .action(ArgAction::SetTrue)
+        .help(PROGRESS_HELP)
+}
+
 fn script_command<'a>(alloc: Global) -> Result<Command<'a>, AllocError> {
     Command::new(alloc, "script")
         .about(SCRIPT_ABOUT)
         .long_about(SCRIPT_LONG_ABOUT)
         .after_help(CALLS)
+        .arg(progress(alloc))?
         .arg(argument(alloc, "SIZE", SIZE_HELP))?
         .arg(argument(alloc, "SCRIPT", SCRIPT_HELP))
+}
+
+fn run_command<'a>(alloc: Global) -> Result<Command<'a>, AllocError> {
+    Command::new(alloc, "run")
+        .about(RUN_ABOUT)
+        .long_about(RUN_LONG_ABOUT)
+        .arg(progress(alloc))?
+        .arg(argument(alloc, "JOB", JOB_HELP))?
+        .arg(argument(alloc, "OUT", OUT_HELP))
 }
 
 fn fork_command<'a>(
@@ -126,6 +194,7 @@ fn program<'a>(alloc: Global) -> Result<Command<'a>, AllocError> {
         .subcommand_required(true)
         .arg_required_else_help(true)
         .subcommand(script_command(alloc)?)?
+        .subcommand(run_command(alloc)?)?
         .subcommand(fork_command(alloc, "map", MAP_ABOUT, MAP_EXAMPLES)?)?
         .subcommand(fork_command(alloc, "check", CHECK_ABOUT, CHECK_EXAMPLES)?)
 }
@@ -158,6 +227,15 @@ fn bad_size(alloc: Global, text: &str) -> Result<ToolFault, AllocError> {
     Ok(mistake(alloc, command, message.as_str()))
 }
 
+/// What the words of a command line ask for.
+#[derive(Clone, Copy, Debug, PartialEq, Eq)]
+pub enum Request<'a> {
+    /// A file is read, and something is printed of its bytes.
+    Look(Task<'a>),
+    /// A job is run, and what it leaves is written.
+    Run(Errand<'a>),
+}
+
 /// A word that isn't UTF-8.
 pub fn not_utf8(alloc: Global) -> ToolFault {
     match program(alloc) {
@@ -181,27 +259,39 @@ fn script_task<'a>(alloc: Global, matches: &ArgMatches<'a>) -> Result<Task<'a>, 
         Some(size) => Ok(Task {
             work: Work::Script(size),
             path: value(matches, "SCRIPT"),
+            watched: matches.get_flag(PROGRESS),
         }),
         None => Err(bad_size(alloc, text)?),
     }
 }
 
-/// Reads the words of the command line, the program's name first.
-pub fn read_words<'a>(alloc: Global, words: &'a [&'a str]) -> Result<Task<'a>, ToolFault> {
-    let matches = match program(alloc)?.try_get_matches_from(words) {
-        Ok(matches) => matches,
-        Err(error) => return Err(usage(alloc, &error)),
-    };
+fn fork_task<'a>(work: Work, matches: &ArgMatches<'a>) -> Task<'a> {
+    Task {
+        work,
+        path: value(matches, "FORK"),
+        watched: false,
+    }
+}
+
+/// What is asked for by the words behind the program's name.
+fn asked<'a>(alloc: Global, matches: &ArgMatches<'a>) -> Result<Request<'a>, ToolFault> {
     match matches.subcommand() {
-        Some(("script", inner)) => script_task(alloc, inner),
-        Some(("map", inner)) => Ok(Task {
-            work: Work::Map,
-            path: value(inner, "FORK"),
-        }),
-        Some(("check", inner)) => Ok(Task {
-            work: Work::Check,
-            path: value(inner, "FORK"),
-        }),
+        Some(("script", inner)) => Ok(Request::Look(script_task(alloc, inner)?)),
+        Some(("run", inner)) => Ok(Request::Run(Errand {
+            job: value(inner, "JOB"),
+            out: value(inner, "OUT"),
+            watched: inner.get_flag(PROGRESS),
+        })),
+        Some(("map", inner)) => Ok(Request::Look(fork_task(Work::Map, inner))),
+        Some(("check", inner)) => Ok(Request::Look(fork_task(Work::Check, inner))),
         _ => Err(mistake(alloc, program(alloc)?, "a command is asked for")),
+    }
+}
+
+/// Reads the words of the command line, the program's name first.
+pub fn read_words<'a>(alloc: Global, words: &'a [&'a str]) -> Result<Request<'a>, ToolFault> {
+    match program(alloc)?.try_get_matches_from(words) {
+        Ok(matches) => asked(alloc, &matches),
+        Err(error) => Err(usage(alloc, &error)),
     }
 }

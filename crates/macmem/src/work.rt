@@ -9,7 +9,7 @@ ghost use Rattle.fork_format.specs.View.{view};
 ghost use Rattle.macmem.specs.Work.{IsTranscriptOf, IsFormOf, TellsForm, text_of};
 
 use crate::size::PartitionSize;
-use applications::run_script;
+use applications::{Watch, run_script_watched};
 use fork_format::{Content, ForkFault, WriteFault, read_fork, write_fork};
 use script_text::{FaultKind, Script, ScriptFault, read_script};
 use std::alloc::{AllocError, Global};
@@ -35,20 +35,24 @@ impl Form {
     }
 }
 
-/// The transcript of a script in a fresh partition.
-pub fn transcript_of(
+/// The transcript of a script in a fresh partition. The watch is told how many lines are done.
+pub fn transcript_of<W: Watch>(
     alloc: Global,
     size: PartitionSize,
     text: &[u8],
+    watch: &mut W,
 ) -> Result<Vec<u8>, ScriptFault>
     // The script's lines are run to their end.
     ensures transcript { IfOk result (λ out. IsTranscriptOf size.bytes text.now out.items) }
 
     // The first faulty line, or no host memory.
     ensures fault { IfErr result (λ f. FailsAt f.line f.kind (script_of text.now)) }
+
+    // Being watched prints nothing.
+    ensures silent { W.printed watch.new ≡ W.printed watch.old }
 {
     let script = read_script(alloc, text)?;
-    match run_script(alloc, size.bytes, &script) {
+    match run_script_watched(alloc, size.bytes, &script, watch) {
         Ok(transcript) => Ok(transcript),
         Err(_) => Err(ScriptFault {
             line: 0,

@@ -16,7 +16,7 @@ use Rattle.res_calls.specs.Rows.{handles_of, closed, closed_file}
 use Rattle.res_calls.specs.Sound.{Sound}
 use Rattle.res_calls.specs.Update.{update, updated_map, rewritten}
 use Rattle.res_calls.proofs.Keeping.{update-comes}
-use Rattle.res_calls.proofs.LettingGo.{updated-handles}
+use Rattle.res_calls.proofs.LettingGo.{updated-handles, lies-released}
 use Rattle.res_calls.proofs.Soundness.Changes.{sound-closed, sound-closed-written}
 
 -- The last opened file is updated and closed, and so are those before it, as an application leaves.
@@ -184,6 +184,36 @@ leaves_all code now start none so =
       sym (code-alone code) ∙ ap (first_code code) (sym (ap (λ (l : Left). l.code) last)) ∙ so.code,
       sym (ap (λ (l : Left). l.after) last) ∙ so.after,
     )
+
+-- as an application leaves, its heap lies where it lay
+leave-lies : (chain : List OpenFile) (s : Managers) → (leave_files chain s).after.memory.window ≡ s.memory.window
+leave-lies [] s = refl
+leave-lies (f ∷ older) s = by_system
+    (leave-lies older (left_file (last_opened f older) s) ∙ lies-released (handles_of f.map.references) s.memory)
+    (is_system f)
+  where
+    at : Split OpenFile
+    at = last_opened f older
+
+    left : Left
+    left = leave_files older (left_file at s)
+
+    first : Left
+    first = record {
+      code = first_code (update_code (update s.memory.heap at s.resources)) left.code;
+      after = left.after;
+    }
+
+    by_system : left.after.memory.window ≡ s.memory.window → (t : Bool)
+        → (cond t (let l : Left = record { code = NO_ERR; after = s } in l) first).after.memory.window ≡ s.memory.window
+    by_system behind true = refl
+    by_system behind false = behind
+
+pub leaves-lies : (code : OsErr) (now start : Managers) → Leaves code now start
+    → now.memory.window ≡ start.memory.window
+leaves-lies code now start so =
+    sym (leave-lies now.resources.chain now) ∙ ap (λ (s : Managers). s.memory.window) so.after
+    ∙ leave-lies start.resources.chain start
 
 -- each time there is one file fewer
 pub one_fewer : (now later : Managers) → has_own now.resources.chain ≡ true → later ≡ (left_last now).after

@@ -4,6 +4,7 @@ use Rattle.std.specs.Prelude.{option_map, slice_get, option_to_list, remove, ◌
 use Rattle.std.specs.List.{cons_option}
 use Rattle.std.proofs.lemmas.Bool.{eqb-true}
 use Rattle.heap_calls.specs.State.{State, Memory}
+use Rattle.heap_calls.specs.Inside.{inside, released}
 use Rattle.res_map.specs.Split.{Split, split, place, replaced, removed}
 use Rattle.res_map.specs.Map.{Reference, content}
 use Rattle.fork_format.specs.Canonical.{fits}
@@ -46,6 +47,17 @@ released_next references i x h m m' all here is then e =
     ∙ ap (all_released (handles_of (drop (suc i) references))) (then ∙ ap (λ o. all_released (option_to_list o) m) is)
     ∙ released_cons x.handle (handles_of (drop (suc i) references)) m
     ∙ ap (λ l. all_released l m) (sym (handles_from references i x here)) ∙ e
+
+-- a heap lies where it lay, whatever handles are let go
+pub lies-released : (handles : List ℕ) (m : Memory) → (all_released handles m).window ≡ m.window
+lies-released [] m = refl
+lies-released (h ∷ handles) m = lies-released handles (inside (released h) m)
+
+pub released_lies : (references rest : List Reference) (m start : Memory)
+    → all_released (handles_of rest) m ≡ all_released (handles_of references) start → m.window ≡ start.window
+released_lies references rest m start e =
+    sym (lies-released (handles_of rest) m) ∙ ap (λ (x : Memory). x.window) e
+    ∙ lies-released (handles_of references) start
 
 -- no reference is left
 pub released_none : (references : List Reference) (n : ℕ) (m all : Memory) → n ≡ length references

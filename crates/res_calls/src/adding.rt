@@ -65,6 +65,7 @@ fn add_to<S: BlockStore>(
         result (managers (chained files.new.items r) heap.new) }
     ensures kept { result ≡ Err Refusal.HostMemory → map view_open files.new.items ≡ map view_open files.old.items }
     ensures heap { result ≡ Err Refusal.HostMemory → heap.new ≡ heap.old }
+    ensures lies { heap.new.window ≡ heap.old.window }
 {
     let Some(at) = place_numbered(files, current) else {
         return Err(Refusal::Code(OsErr::RES_FILE_NOT_FOUND));
@@ -90,6 +91,7 @@ fn add_with<S: BlockStore>(
         result (managers (chained files.new.items r) heap.new) }
     ensures kept { result ≡ Err Refusal.HostMemory → map view_open files.new.items ≡ map view_open files.old.items }
     ensures heap { result ≡ Err Refusal.HostMemory → heap.new ≡ heap.old }
+    ensures lies { heap.new.window ≡ heap.old.window }
 {
     if heap.is_resource(Some(new.handle)) || !heap.has_block(new.handle) {
         return Err(Refusal::Code(OsErr::ADD_RES_FAILED));
@@ -116,6 +118,7 @@ fn remove_at<S: BlockStore>(
         (remove_found number (managers (chained files.old.items r) heap.old) f)
         result (managers (chained files.new.items r) heap.new) }
     ensures host { result ≢ Err Refusal.HostMemory }
+    ensures lies { heap.new.window ≡ heap.old.window }
 {
     let home = number_at(files, at);
     if home == 0 {
@@ -146,6 +149,7 @@ impl Resources {
             name.now.0.items) (managers self.old heap.old)) result (managers self.new heap.new) }
         ensures kept { result ≡ Err Refusal.HostMemory → self.new ≡ self.old }
         ensures heap { result ≡ Err Refusal.HostMemory → heap.new ≡ heap.old }
+        ensures lies { heap.new.window ≡ heap.old.window }
     {
         let answer = self.add(alloc, heap, handle, ty, id, name);
         self.note(answer)
@@ -165,6 +169,7 @@ impl Resources {
             name.now.0.items (managers self.old heap.old)) result (managers self.new heap.new) }
         ensures kept { result ≡ Err Refusal.HostMemory → self.new ≡ self.old }
         ensures heap { result ≡ Err Refusal.HostMemory → heap.new ≡ heap.old }
+        ensures lies { heap.new.window ≡ heap.old.window }
     {
         let Some(number) = handle else {
             return Err(Refusal::Code(OsErr::RES_NOT_FOUND));
@@ -193,6 +198,7 @@ impl Resources {
         ensures answer { IsAnswered (λ (u : Unit {0}). u) (noting (changing.remove_resource handle)
             (managers self.old heap.old)) result (managers self.new heap.new) }
         ensures host { result ≢ Err Refusal.HostMemory }
+        ensures lies { heap.new.window ≡ heap.old.window }
     {
         let answer = self.remove(heap, handle);
         self.note(answer)
@@ -208,6 +214,7 @@ impl Resources {
             (changing.remove_resource handle (managers self.old heap.old)) result
             (managers self.new heap.new) }
         ensures host { result ≢ Err Refusal.HostMemory }
+        ensures lies { heap.new.window ≡ heap.old.window }
     {
         let Some(number) = handle else {
             return Err(Refusal::Code(OsErr::RES_NOT_FOUND));

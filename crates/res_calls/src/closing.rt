@@ -39,9 +39,10 @@ fn release_held<S: BlockStore>(heap: &mut Heap<S>, handle: Option<usize>)
 }
 
 /// Lets the handles of all references of a file go, in order.
-#[tactic(auto, using(crate::proofs::LettingGo::released_next, crate::proofs::LettingGo::released_none))]
+#[tactic(auto, using(crate::proofs::LettingGo::released_next, crate::proofs::LettingGo::released_none, crate::proofs::LettingGo::released_lies))]
 pub(crate) fn release_all<S: BlockStore>(heap: &mut Heap<S>, map: &ResFile)
-    ensures { heap.new ≡ all_released (handles_of map.now.references) heap.old }
+    ensures released { heap.new ≡ all_released (handles_of map.now.references) heap.old }
+    ensures lies { heap.new.window ≡ heap.old.window }
 {
     for i in 0..map.len() {
         let handle = map.reference(i).handle;
@@ -99,6 +100,7 @@ impl Resources {
         ensures read_again { OnOk result ((at : Split OpenFileValue) → number ≢ 0 → file_of number self.old ≡ Some at
             → at.here.touched ≡ true
             → Spells (fork_of heap.old.heap at.here) (clear (content (updated_map heap.old.heap at.here.map)))) }
+        ensures lies { heap.new.window ≡ heap.old.window }
     {
         let answer = self.close(alloc, heap, number);
         self.note(answer)
@@ -118,6 +120,7 @@ impl Resources {
         ensures read_again { OnOk result ((at : Split OpenFileValue) → number ≢ 0 → file_of number self.old ≡ Some at
             → at.here.touched ≡ true
             → Spells (fork_of heap.old.heap at.here) (clear (content (updated_map heap.old.heap at.here.map)))) }
+        ensures lies { heap.new.window ≡ heap.old.window }
     {
         let Some(at) = place_numbered(&self.chain, number) else {
             return Err(Refusal::Code(OsErr::RES_FILE_NOT_FOUND));

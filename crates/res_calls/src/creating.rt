@@ -123,6 +123,13 @@ impl Resources {
         &self.files
     }
 
+    /// Lets the resources go, and gives the files as they are, in order.
+    pub fn into_files(self) -> Vec<File>
+        ensures { map view_file result.items ≡ self.files }
+    {
+        self.files
+    }
+
     /// `CreateResFile`: makes a file with a fork of no resources; one of that name whose fork has no bytes gets it. -48
     /// where there is a file of that name whose fork has a byte or more, -34 for a new name where the application has
     /// 256 files.

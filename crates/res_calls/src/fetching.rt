@@ -44,6 +44,7 @@ fn make_handle<S: BlockStore>(
     ensures answer { IsAnswer (made_for loading guarded (view_entry entry.now) heap.old) result heap.new }
     ensures host { result ≡ Err Refusal.HostMemory → IsTrue S.TAKES_HOST ⊎ (heap.new ≡ heap.old) }
     ensures kept { result ≡ Err Refusal.HostMemory → KeepsNames heap.old heap.new }
+    ensures lies { heap.new.window ≡ heap.old.window }
 {
     if loading {
         heap.new_resource(entry.stored.datum, flags_of(entry), guarded)
@@ -66,6 +67,7 @@ fn fetch_new<S: BlockStore>(
     ensures left { WantsHost result → map view_open files.new.items ≡ map view_open files.old.items }
     ensures host { WantsHost result → IsTrue S.TAKES_HOST ⊎ (heap.new ≡ heap.old) }
     ensures kept { WantsHost result → KeepsNames heap.old heap.new }
+    ensures lies { heap.new.window ≡ heap.old.window }
 {
     let guarded = number_at(files, at) == 0;
     let entry = entry_at(files, at);
@@ -95,6 +97,7 @@ fn fetch_again<S: BlockStore>(
         → IsFetched (fetch.fetch_again loading f handle (managers r heap.old)) result (managers r heap.new) }
     ensures host { WantsHost result → IsTrue S.TAKES_HOST ⊎ (heap.new ≡ heap.old) }
     ensures kept { WantsHost result → KeepsNames heap.old heap.new }
+    ensures lies { heap.new.window ≡ heap.old.window }
 {
     if !loading || heap.has_block(handle) {
         return Ok(Fetched {
@@ -125,6 +128,7 @@ fn fetch_in<S: BlockStore>(
     ensures left { WantsHost result → map view_open files.new.items ≡ map view_open files.old.items }
     ensures host { WantsHost result → IsTrue S.TAKES_HOST ⊎ (heap.new ≡ heap.old) }
     ensures kept { WantsHost result → KeepsNames heap.old heap.new }
+    ensures lies { heap.new.window ≡ heap.old.window }
 {
     let entry = entry_at(files, at);
     match entry.handle {
@@ -148,6 +152,7 @@ impl Resources {
         ensures left { WantsHost result → self.new ≡ self.old }
         ensures host { WantsHost result → IsTrue S.TAKES_HOST ⊎ (heap.new ≡ heap.old) }
         ensures kept { WantsHost result → KeepsNames heap.old heap.new }
+        ensures lies { heap.new.window ≡ heap.old.window }
     {
         match found {
             None => Err(Unread {

@@ -54,6 +54,7 @@ impl Resources {
         ensures left { WantsHost result → self.new ≡ self.old }
         ensures host { WantsHost result → IsTrue S.TAKES_HOST ⊎ (heap.new ≡ heap.old) }
         ensures kept { WantsHost result → KeepsNames heap.old heap.new }
+        ensures lies { heap.new.window ≡ heap.old.window }
     {
         let found = self.find(within, wanted);
         let answer = self.fetch_found(heap, found, loading);
@@ -73,6 +74,7 @@ impl Resources {
         ensures left { WantsHost result → self.new ≡ self.old }
         ensures host { WantsHost result → IsTrue S.TAKES_HOST ⊎ (heap.new ≡ heap.old) }
         ensures kept { WantsHost result → KeepsNames heap.old heap.new }
+        ensures lies { heap.new.window ≡ heap.old.window }
     {
         let (current, loading) = (self.current, self.loading);
         self.fetch_wanted(heap, Within::UpTo(current), Wanted::Id(ty, id), loading)
@@ -90,6 +92,7 @@ impl Resources {
         ensures left { WantsHost result → self.new ≡ self.old }
         ensures host { WantsHost result → IsTrue S.TAKES_HOST ⊎ (heap.new ≡ heap.old) }
         ensures kept { WantsHost result → KeepsNames heap.old heap.new }
+        ensures lies { heap.new.window ≡ heap.old.window }
     {
         let (current, loading) = (self.current, self.loading);
         self.fetch_wanted(heap, Within::Only(current), Wanted::Id(ty, id), loading)
@@ -108,6 +111,7 @@ impl Resources {
         ensures left { WantsHost result → self.new ≡ self.old }
         ensures host { WantsHost result → IsTrue S.TAKES_HOST ⊎ (heap.new ≡ heap.old) }
         ensures kept { WantsHost result → KeepsNames heap.old heap.new }
+        ensures lies { heap.new.window ≡ heap.old.window }
     {
         let (current, loading) = (self.current, self.loading);
         self.fetch_wanted(
@@ -130,6 +134,7 @@ impl Resources {
         ensures left { WantsHost result → self.new ≡ self.old }
         ensures host { WantsHost result → IsTrue S.TAKES_HOST ⊎ (heap.new ≡ heap.old) }
         ensures kept { WantsHost result → KeepsNames heap.old heap.new }
+        ensures lies { heap.new.window ≡ heap.old.window }
     {
         let (current, loading) = (self.current, self.loading);
         self.fetch_wanted(
@@ -153,6 +158,7 @@ impl Resources {
         ensures left { WantsHost result → self.new ≡ self.old }
         ensures host { WantsHost result → IsTrue S.TAKES_HOST ⊎ (heap.new ≡ heap.old) }
         ensures kept { WantsHost result → KeepsNames heap.old heap.new }
+        ensures lies { heap.new.window ≡ heap.old.window }
     {
         let loading = self.loading;
         let found = self.find_nth(ty, n);
@@ -172,6 +178,7 @@ impl Resources {
         ensures left { WantsHost result → self.new ≡ self.old }
         ensures host { WantsHost result → IsTrue S.TAKES_HOST ⊎ (heap.new ≡ heap.old) }
         ensures kept { WantsHost result → KeepsNames heap.old heap.new }
+        ensures lies { heap.new.window ≡ heap.old.window }
     {
         let found = self.find_handle(handle);
         let answer = self.fetch_found(heap, found, true);

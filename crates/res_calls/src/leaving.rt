@@ -61,9 +61,10 @@ fn update_last<S: BlockStore>(
 /// Closes the last opened file as it is: the number of the current file then.
 fn close_last<S: BlockStore>(heap: &mut Heap<S>, chain: &mut Vec<OpenFile>, current: u32) -> u32
     requires { 0 < length chain.old.items }
-    ensures { (files : List StoredFile) (r : ResourcesValue) → IsLastClosed (map view_open chain.old.items)
+    ensures closed { (files : List StoredFile) (r : ResourcesValue) → IsLastClosed (map view_open chain.old.items)
         (managers (standing files chain.old.items current r) heap.old)
         (managers (standing files chain.new.items result r) heap.new) }
+    ensures lies { heap.new.window ≡ heap.old.window }
 {
     let removed = take_out(chain, 0);
     release_all(heap, &removed.file.map);
@@ -81,6 +82,7 @@ impl Resources {
     ) -> Result<OsErr, AllocError>
         ensures code { IfOk result (λ code. code ≡ (leaving.leave (managers self.old heap.old)).code) }
         ensures after { OnOk result (managers self.new heap.new ≡ (leaving.leave (managers self.old heap.old)).after) }
+        ensures lies { heap.new.window ≡ heap.old.window }
     {
         let mut code = OsErr::NO_ERR;
         while self.has_own() {
@@ -106,6 +108,7 @@ impl Resources {
         requires { has_own self.old.chain ≡ true }
         ensures code { IfOk result (λ code. code ≡ (left_last (managers self.old heap.old)).code) }
         ensures after { OnOk result (managers self.new heap.new ≡ (left_last (managers self.old heap.old)).after) }
+        ensures lies { heap.new.window ≡ heap.old.window }
     {
         let code = update_last(alloc, heap, &mut self.files, &mut self.chain)?;
         self.current = close_last(heap, &mut self.chain, self.current);

@@ -34,6 +34,7 @@ fn load_into<S: BlockStore>(
     ensures heap { OnOk result (heap.new ≡ (loaded_if loading file.old.references heap.old).memory) }
     ensures kept { OnErr result (file.new ≡ file.old) }
     ensures host { IsErr result → IsTrue S.TAKES_HOST ⊎ (heap.new ≡ heap.old) }
+    ensures lies { heap.new.window ≡ heap.old.window }
 {
     if !loading {
         return Ok(());
@@ -54,6 +55,7 @@ fn put_first<S: BlockStore>(
     ensures heap { OnOk result (heap.new ≡ (loaded_if loading file.map.references heap.old).memory) }
     ensures kept { OnErr result (chain.new.items ≡ chain.old.items) }
     ensures host { IsErr result → IsTrue S.TAKES_HOST ⊎ (heap.new ≡ heap.old) }
+    ensures lies { heap.new.window ≡ heap.old.window }
 {
     chain.reserve(1)?;
     let mut file = file;
@@ -75,6 +77,7 @@ fn load_first<S: BlockStore>(
         (map view_open chain.new.items) heap.new) }
     ensures kept { OnErr result (map view_open chain.new.items ≡ map view_open chain.old.items) }
     ensures host { IsErr result → IsTrue S.TAKES_HOST ⊎ (heap.new ≡ heap.old) }
+    ensures lies { heap.new.window ≡ heap.old.window }
 {
     if chain.is_empty() {
         return Ok(());
@@ -94,6 +97,7 @@ impl Resources {
         ensures done { OnOk result (managers self.new heap.new ≡ (preloaded (managers self.old heap.old)).0) }
         ensures kept { OnErr result (self.new ≡ self.old) }
         ensures host { IsErr result → IsTrue S.TAKES_HOST ⊎ (heap.new ≡ heap.old) }
+        ensures lies { heap.new.window ≡ heap.old.window }
     {
         load_first(alloc, heap, &mut self.chain, self.loading)
     }
@@ -113,6 +117,7 @@ impl Resources {
             (managers self.old heap.old)) result (managers self.new heap.new) }
         ensures kept { result ≡ Err Refusal.HostMemory → self.new ≡ self.old }
         ensures host { result ≡ Err Refusal.HostMemory → IsTrue S.TAKES_HOST ⊎ (heap.new ≡ heap.old) }
+        ensures lies { heap.new.window ≡ heap.old.window }
     {
         let answer = self.open_named(alloc, heap, name);
         self.note(answer)
@@ -129,6 +134,7 @@ impl Resources {
             result (managers self.new heap.new) }
         ensures kept { result ≡ Err Refusal.HostMemory → self.new ≡ self.old }
         ensures host { result ≡ Err Refusal.HostMemory → IsTrue S.TAKES_HOST ⊎ (heap.new ≡ heap.old) }
+        ensures lies { heap.new.window ≡ heap.old.window }
     {
         let Some(at) = place_called(&self.files, name) else {
             return Err(Refusal::Code(OsErr::FILE_NOT_FOUND));
@@ -151,6 +157,7 @@ impl Resources {
             (rows.open_fork at f.fork (managers self.old heap.old)) result (managers self.new heap.new)) }
         ensures kept { result ≡ Err Refusal.HostMemory → self.new ≡ self.old }
         ensures host { result ≡ Err Refusal.HostMemory → IsTrue S.TAKES_HOST ⊎ (heap.new ≡ heap.old) }
+        ensures lies { heap.new.window ≡ heap.old.window }
     {
         if self.next > GREATEST_NUMBER {
             return Err(Refusal::Code(OsErr::PROFILE));
@@ -178,6 +185,7 @@ impl Resources {
             (managers self.old heap.old)).after ≡ managers self.new heap.new) }
         ensures kept { OnErr result (self.new ≡ self.old) }
         ensures host { IsErr result → IsTrue S.TAKES_HOST ⊎ (heap.new ≡ heap.old) }
+        ensures lies { heap.new.window ≡ heap.old.window }
     {
         let number = self.next;
         let file = OpenFile {

@@ -76,6 +76,7 @@ impl Resources {
         ensures left { WantsHost result → self.new ≡ self.old }
         ensures host { WantsHost result → IsTrue S.TAKES_HOST ⊎ (heap.new ≡ heap.old) }
         ensures kept { WantsHost result → KeepsNames heap.old heap.new }
+        ensures lies { heap.new.window ≡ heap.old.window }
     {
         let found = self.find_own(ty, id);
         self.fetch_found(heap, found, true)

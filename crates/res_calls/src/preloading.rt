@@ -57,6 +57,7 @@ fn make_all<S: BlockStore>(
 ) -> Result<Vec<Option<usize>>, AllocError>
     ensures answer { IfOk result (λ v. new_all (wanted_of file.now.references) heap.old ≡ (v.items, heap.new)) }
     ensures host { IsErr result → IsTrue S.TAKES_HOST ⊎ (heap.new ≡ heap.old) }
+    ensures lies { heap.new.window ≡ heap.old.window }
 {
     let wanted = gather(alloc, file)?;
     heap.new_resources(alloc, &wanted)
@@ -100,6 +101,7 @@ pub fn preload<S: BlockStore>(
     ensures heap { OnOk result (heap.new ≡ (fetch.preload file.old.references heap.old).memory) }
     ensures kept { OnErr result (file.new ≡ file.old) }
     ensures host { IsErr result → IsTrue S.TAKES_HOST ⊎ (heap.new ≡ heap.old) }
+    ensures lies { heap.new.window ≡ heap.old.window }
 {
     // All host memory is had before the first handle is made.
     let numbers = make_all(alloc, heap, file)?;

@@ -27,6 +27,7 @@ fn release_at<S: BlockStore>(
         (release_found (Some number) (managers (chained files.old.items r) heap.old) f)
         result (managers (chained files.new.items r) heap.new) }
     ensures host { result ≢ Err Refusal.HostMemory }
+    ensures lies { heap.new.window ≡ heap.old.window }
 {
     if heap.is_busy(number) {
         return Err(Refusal::Code(OsErr::LOCKED));
@@ -52,6 +53,7 @@ fn detach_at<S: BlockStore>(
         (detach_found (Some number) (managers (chained files.old.items r) heap.old) f)
         result (managers (chained files.new.items r) heap.new) }
     ensures host { result ≢ Err Refusal.HostMemory }
+    ensures lies { heap.new.window ≡ heap.old.window }
 {
     if has_bit_at(files, at, Attrs::CHANGED) {
         return Err(Refusal::Code(OsErr::RES_ATTR));
@@ -72,6 +74,7 @@ impl Resources {
         ensures answer { IsAnswered (λ (u : Unit {0}). u) (noting (rows.release_resource handle)
             (managers self.old heap.old)) result (managers self.new heap.new) }
         ensures host { result ≢ Err Refusal.HostMemory }
+        ensures lies { heap.new.window ≡ heap.old.window }
     {
         let answer = self.release(heap, handle);
         self.note(answer)
@@ -87,6 +90,7 @@ impl Resources {
             (rows.release_resource handle (managers self.old heap.old)) result
             (managers self.new heap.new) }
         ensures host { result ≢ Err Refusal.HostMemory }
+        ensures lies { heap.new.window ≡ heap.old.window }
     {
         let Some(number) = handle else {
             return Err(Refusal::Code(OsErr::RES_NOT_FOUND));
@@ -107,6 +111,7 @@ impl Resources {
         ensures answer { IsAnswered (λ (u : Unit {0}). u) (noting (rows.detach_resource handle)
             (managers self.old heap.old)) result (managers self.new heap.new) }
         ensures host { result ≢ Err Refusal.HostMemory }
+        ensures lies { heap.new.window ≡ heap.old.window }
     {
         let answer = self.detach(heap, handle);
         self.note(answer)
@@ -122,6 +127,7 @@ impl Resources {
             (rows.detach_resource handle (managers self.old heap.old)) result
             (managers self.new heap.new) }
         ensures host { result ≢ Err Refusal.HostMemory }
+        ensures lies { heap.new.window ≡ heap.old.window }
     {
         let Some(number) = handle else {
             return Err(Refusal::Code(OsErr::RES_NOT_FOUND));

@@ -6,3 +6,7 @@ mod Rows
 mod BlockRows
 mod ResourceRows
 mod SegmentRows
+mod JobInputs
+mod JobKept
+mod JobRows
+mod Utf8

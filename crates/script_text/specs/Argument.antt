@@ -4,6 +4,7 @@ use Rattle.std.specs.Prelude.{option_and_then, if◌then◌else◌}
 use Rattle.std.specs.List.{list_all}
 use Rattle.std.specs.Option.{option_map, ok_or}
 use Rattle.std.specs.Char.{is_ascii_digit, is_ascii_alphabetic, is_ascii_alphanumeric}
+use Rattle.std.specs.Str.{is_utf8}
 use Rattle.script_text.specs.declared.fault.FaultKind.{FaultKind}
 use Rattle.script_text.specs.declared.fault.FaultKind.TheVariants.{BadArgument}
 use Rattle.script_text.specs.Reading.{◌>>=◌}
@@ -20,6 +21,7 @@ pub data Kind : Type 0 where
   File : Kind
   Text : Kind
   Switch : Kind
+  Path : Kind
 
 -- what an argument says
 pub data Value : Type 0 where
@@ -111,6 +113,16 @@ abbrev pub switch : List ℕ → Option Bool
 switch token =
     if bytes_eq token (codes "TRUE") then Some true else if bytes_eq token (codes "FALSE") then Some false else None
 
+-- bytes that are UTF-8 alone
+abbrev pub of_utf8 : Option (List ℕ) → Option (List ℕ)
+of_utf8 None = None
+of_utf8 (Some bytes) = if is_utf8 bytes then Some bytes else None
+
+-- a path: UTF-8 in quotes
+abbrev pub path : List ℕ → Option (List ℕ)
+path [] = None
+path (c ∷ rest) = if c == 34 then of_utf8 (unquoted rest) else None
+
 -- what a token says as an argument of this kind
 abbrev pub value : Kind → List ℕ → Option Value
 value Label token = option_map Letters (label token)
@@ -122,6 +134,7 @@ value Bytes token = option_map Raw (bytes token)
 value File token = option_map Raw (of_length (λ n. nat_le 1 n && nat_le n 63) (bytes token))
 value Text token = option_map Raw (of_length (λ n. nat_le n 255) (bytes token))
 value Switch token = option_map Flag (switch token)
+value Path token = option_map Raw (path token)
 
 -- the argument of this kind at the front, and the text behind it
 unfoldable pub argument : Kind → List ℕ → Result (Value × List ℕ) FaultKind

@@ -1,6 +1,10 @@
-use Rattle.std.specs.Prelude.{◌≡◌, ℕ, true, false, Option, IfSome, List, bytes_eq, codes}
+use Rattle.std.specs.Prelude.{◌≡◌, ℕ, true, false, Option, IfSome, List, map, bytes_eq, codes}
+use Rattle.script_text.specs.declared.job.Event.{Event}
+use Rattle.script_text.specs.declared.job.Input.{Input}
 use Rattle.script_text.specs.declared.script.Begun.{Begun}
 use Rattle.script_text.specs.declared.script.Line.{Line}
+use Rattle.script_text.specs.Job.{input_seen}
+use Rattle.script_text.specs.JobFacts.{IsMemory, AreInOrder, AreEventsOf}
 use Rattle.script_text.specs.Script.{AllAllowed, NoneIsUnused, are_allowed, has_block}
 
 -- what is kept while a script is read: no grow-zone script holds a call that isn't allowed there or is named `none`,
@@ -11,3 +15,9 @@ pub record IsKept (blocks : List (List ℕ × List Line)) (begun : Option Begun)
   pub begun_allowed : IfSome begun (λ b. are_allowed b.lines.items ≡ true)
   pub begun_anew : IfSome begun (λ b. has_block b.name.0.items blocks ≡ false)
   pub begun_named : IfSome begun (λ b. bytes_eq b.name.0.items (codes "none") ≡ false)
+
+-- what is kept while a job is read
+pub record IsJobKept (memory : Option ℕ) (inputs : List Input) (events : List Event) : Type 0 where
+  pub size : IfSome memory IsMemory
+  pub order : AreInOrder (map input_seen inputs)
+  pub owners : AreEventsOf (map input_seen inputs) events

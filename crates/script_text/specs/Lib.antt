@@ -4,5 +4,8 @@ pub mod Token
 pub mod Argument
 pub mod Call
 pub mod Script
+pub mod Job
+pub mod JobFacts
 pub mod Inner
 pub mod Transcript
+pub mod DeskLog

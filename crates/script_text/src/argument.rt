@@ -1,12 +1,13 @@
 //! The kinds of arguments.
 
-ghost use Rattle.std.specs.Prelude.{◌≡◌, is_some, IfOk};
+ghost use Rattle.std.specs.Prelude.{◌≡◌, Some, is_some, IfOk};
 ghost use Rattle.std.specs.List.{list_all};
 ghost use Rattle.script_text.specs.Argument.{Kind, Label as LabelKind, Size, Id, Byte, ResType, Bytes, File, Text};
 ghost use Rattle.script_text.specs.Argument.{Switch, Value, Letters, Number, Signed, Raw, Flag};
 ghost use Rattle.script_text.specs.Argument.{is_label_byte as is_label_byte_of, begins_label as begins_label_of, label};
 ghost use Rattle.script_text.specs.Argument.{number, number_within, id, digit, byte_at, hex_bytes, bytes as bytes_of};
-ghost use Rattle.script_text.specs.Argument.{value};
+ghost use Rattle.script_text.specs.Argument.{of_utf8, path, value};
+ghost use Rattle.std.specs.Option.{option_map};
 ghost use Rattle.script_text.specs.Reading.{Finds};
 
 use arrayvec::ArrayVec;
@@ -124,6 +125,27 @@ fn bytes_in(alloc: Global, token: &[u8]) -> Result<Option<Vec<u8>>, AllocError>
         [b'"', inside @ .., _] => Ok(Some(Vec::from_slice(alloc, inside)?)),
         [b'$', digits @ ..] => hex_in(alloc, digits),
         _ => Ok(None),
+    }
+}
+
+/// Bytes as text, where they are UTF-8.
+#[tactic(auto, using(crate::proofs::Utf8::is_text, crate::proofs::Utf8::is_no_text))]
+fn text_of(bytes: &[u8]) -> Option<&str>
+    ensures { option_map (λ s. s.now) result ≡ of_utf8 (Some bytes.now) }
+{
+    match str::from_utf8(bytes) {
+        Ok(text) => Some(text),
+        Err(_) => None,
+    }
+}
+
+/// The path that a token writes in quotes.
+pub fn path_in(token: &[u8]) -> Option<&str>
+    ensures { option_map (λ p. p.now) result ≡ path token.now }
+{
+    match token {
+        [b'"', inside @ .., _] => text_of(inside),
+        _ => None,
     }
 }
 

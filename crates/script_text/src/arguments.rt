@@ -1,22 +1,34 @@
 //! The arguments of a call, by the types that are asked for.
 
 ghost use Rattle.std.specs.Prelude.{[], ◌∷◌};
-ghost use Rattle.script_text.specs.Argument.{argument, arguments};
+ghost use Rattle.script_text.specs.Argument.{Path, Raw, argument, arguments};
 ghost use Rattle.script_text.specs.Reading.{Gives};
 
-use crate::argument::Argument;
+use crate::argument::{Argument, path_in};
 use crate::fault::FaultKind;
 use crate::token::{token, trim};
 use std::alloc::Global;
 
 /// The argument at the front of a text, and the text behind it.
 #[tactic(auto, unfolding(crate::specs::Argument::argument))]
-fn first<A: Argument + Drop>(alloc: Global, text: &[u8]) -> Result<(A, &[u8]), FaultKind>
+pub fn first<A: Argument + Drop>(alloc: Global, text: &[u8]) -> Result<(A, &[u8]), FaultKind>
     ensures { Gives (λ x. (A.seen x.0, x.1.now)) result (argument A.kind text.now) }
 {
     let (token, rest) = token(trim(text))?;
     match A::find(alloc, token)? {
         Some(found) => Ok((found, rest)),
+        None => Err(FaultKind::BadArgument),
+    }
+}
+
+/// The path at the front of a text, and the text behind it.
+#[tactic(auto, unfolding(crate::specs::Argument::argument))]
+pub fn path(text: &[u8]) -> Result<(&str, &[u8]), FaultKind>
+    ensures { Gives (λ x. (Raw x.0.now, x.1.now)) result (argument Path text.now) }
+{
+    let (token, rest) = token(trim(text))?;
+    match path_in(token) {
+        Some(path) => Ok((path, rest)),
         None => Err(FaultKind::BadArgument),
     }
 }

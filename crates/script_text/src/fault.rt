@@ -1,4 +1,4 @@
-//! Why a script could not be read.
+//! Why a script or a job could not be read.
 
 ghost use Rattle.std.specs.Prelude.{◌≡◌};
 ghost use Rattle.script_text.specs.Fault.{number_of, line_of};
@@ -9,11 +9,11 @@ use std::alloc::{AllocError, AllocFailed};
 /// What is wrong with a line, or with the host.
 #[derive(Clone, Copy, Debug, PartialEq, Eq)]
 pub enum FaultKind {
-    /// The line's first word is no call. Outside a grow-zone script `end` is none.
+    /// The line's first word is no call, or no word of a job. Outside a grow-zone script `end` is no call.
     UnknownCall,
     /// An argument is missing, is one too many, or isn't spelled as its kind asks; the name of a new grow-zone script
     /// is used already, or is `none`; a `grow` has no `end`, or `SetGrowZone` names a grow-zone script that isn't
-    /// there.
+    /// there. In a job also a line that may not stand where it does.
     BadArgument,
     /// A call that a grow-zone script may not hold, or a `grow` in one.
     NotAllowed,
@@ -54,7 +54,7 @@ impl<T: Drop> From<AllocFailed<T>> for FaultKind {
     }
 }
 
-/// Why a script could not be read: its first faulty line and what is wrong with it.
+/// Why a script or a job could not be read: its first faulty line and what is wrong with it.
 #[derive(Clone, Copy, Debug, PartialEq, Eq)]
 pub struct ScriptFault {
     /// The line, from 1 on, skipped lines counted; 0 for `HostMemory`.

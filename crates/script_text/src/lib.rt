@@ -1,21 +1,30 @@
-//! The texts: scripts are read, and the lines of transcripts written, both exactly as specs/ says.
+//! The texts: scripts and jobs are read, and the lines of transcripts and of desk.log written, all exactly as specs/
+//! says.
 #![tactic(auto)]
 
 mod argument;
 mod arguments;
 mod blocks;
+mod desk_log;
 mod fault;
+mod inputs;
+mod job;
+mod job_word;
 mod lines;
 mod script;
 mod token;
 mod transcript;
 mod word;
 
+pub use desk_log::{write_app_end, write_app_fork, write_app_launch, write_app_refusal};
 pub use fault::{FaultKind, ScriptFault};
+pub use job::{Event, Input, JobText, read_job};
 pub use script::{Line, Script, read_script};
 pub use transcript::{write_end, write_grow_reply, write_hex, write_launch, write_reply};
 pub use word::{CALLS, Word, words_are_apart};
 
+#[cfg(test)]
+mod job_tests;
 #[cfg(test)]
 mod resource_tests;
 #[cfg(test)]

@@ -87,7 +87,8 @@ fn push_values(text: &mut Vec<u8>, reply: &Reply, bytes: Option<&[u8]>) -> Resul
     Ok(())
 }
 
-fn push_code(text: &mut Vec<u8>, code: OsErr) -> Result<(), AllocError>
+/// Appends a code in decimal.
+pub(crate) fn push_code(text: &mut Vec<u8>, code: OsErr) -> Result<(), AllocError>
     ensures { OnOk result (text.new.items ≡ text.old.items ++ signed_decimal code.0) }
 {
     text.extend_from_slice(Buffer::new().format(code.number()).as_bytes())

@@ -66,6 +66,7 @@ impl JumpTable {
         ensures left { WantsHost result → resources.new ≡ resources.old }
         ensures host { WantsHost result → IsTrue S.TAKES_HOST ⊎ (heap.new ≡ heap.old) }
         ensures kept { WantsHost result → KeepsNames heap.old heap.new }
+        ensures lies { heap.new.window ≡ heap.old.window }
     {
         if segment == 0 {
             return Err(Unloaded::with_code(OsErr::SYSTEM_ERROR));
@@ -97,6 +98,7 @@ impl JumpTable {
         ensures reply { (unload_seg segment (program self.old resources.now heap.old)).reply ≡ result }
         ensures after { (unload_seg segment (program self.old resources.now heap.old)).after
             ≡ program self.new resources.now heap.new }
+        ensures lies { heap.new.window ≡ heap.old.window }
     {
         let handle = resources.own_handle(CODE, segment);
         loosen_idle(heap, handle)?;
@@ -119,6 +121,7 @@ impl JumpTable {
         ensures left { WantsHost result → resources.new ≡ resources.old }
         ensures host { WantsHost result → IsTrue S.TAKES_HOST ⊎ (heap.new ≡ heap.old) }
         ensures kept { WantsHost result → KeepsNames heap.old heap.new }
+        ensures lies { heap.new.window ≡ heap.old.window }
     {
         let Some(entry) = self.entry(index) else {
             return Err(Unloaded::with_code(OsErr::PROFILE));
@@ -146,6 +149,7 @@ impl JumpTable {
         ensures left { WantsHost result → resources.new ≡ resources.old }
         ensures host { WantsHost result → IsTrue S.TAKES_HOST ⊎ (heap.new ≡ heap.old) }
         ensures kept { WantsHost result → KeepsNames heap.old heap.new }
+        ensures lies { heap.new.window ≡ heap.old.window }
     {
         match self.load(heap, resources, segment) {
             Ok(read) => Ok(Called { segment, read }),
@@ -189,6 +193,7 @@ fn loosen_idle<S: BlockStore>(heap: &mut Heap<S>, handle: Option<usize>) -> Resu
     ensures reply { result ≡ done_if (bars handle heap.old) }
     ensures after { (r : ResourcesValue) → managers r heap.new
         ≡ (if bars handle heap.old then managers r heap.old else let_loose handle (managers r heap.old)) }
+    ensures lies { heap.new.window ≡ heap.old.window }
 {
     let Some(number) = handle else {
         return Ok(());

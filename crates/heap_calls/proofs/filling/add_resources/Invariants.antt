@@ -19,4 +19,5 @@ invariant-loop-filling g l =
           ≡ (new_all (map wanted_as l.wanted) start).0;
       last : (new_all (map wanted_as (drop l.filling-index l.wanted)) now).1
           ≡ (new_all (map wanted_as l.wanted) start).1;
+      lies : (g.S.BlockStore.rest l.store).window ≡ (g.S.BlockStore.rest l.initial.store).window;
     }

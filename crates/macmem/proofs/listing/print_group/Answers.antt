@@ -23,6 +23,6 @@ loop-resource-preserved g c =
     let i : ℕ = c.loop-resource.resource-index in
     let first : List ℕ = c.push_resource.new.text.items in
     let split : c.loop-resource.lines.items ++ lines i ≡ first ++ lines (i + 1) = grind (arith, common_steps) in
-    let now : PrintsBut first c.print_many.new.lines.items (g.H.Host.printed c.loop-resource.host)
-    (g.H.Host.printed c.print_many.new.host) = search rules in
+    let now : PrintsBut first c.print_many.new.lines.items (g.H.Watch.printed c.loop-resource.host)
+    (g.H.Watch.printed c.print_many.new.host) = search rules in
     first-further _ _ first _ (lines (i + 1)) _ _ _ c.loop-resource.invariant split now

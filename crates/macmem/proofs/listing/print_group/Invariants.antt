@@ -10,4 +10,4 @@ abbrev pub invariant-loop-resource : goal.invariant-loop-resource
 invariant-loop-resource g l =
     PrintsBut (l.fn.lines.items ++ group_lines (view_group l.group))
     (l.lines.items ++ flat_map (line_behind l.digits) (map view_ref (drop l.resource-index l.group.refs.items)))
-    (g.H.Host.printed l.fn.host) (g.H.Host.printed l.host)
+    (g.H.Watch.printed l.fn.host) (g.H.Watch.printed l.host)

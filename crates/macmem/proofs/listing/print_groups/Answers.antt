@@ -21,6 +21,6 @@ loop-group-preserved g c =
     let i : ℕ = c.loop-group.group-index in
     let first : List ℕ = c.loop-group.lines.items ++ group_lines (view_group c.group-item.result) in
     let split : c.loop-group.lines.items ++ lines i ≡ first ++ lines (i + 1) = grind (arith, common_steps) in
-    let now : PrintsBut first c.print_group.new.lines.items (g.H.Host.printed c.loop-group.host)
-    (g.H.Host.printed c.print_group.new.host) = search rules in
+    let now : PrintsBut first c.print_group.new.lines.items (g.H.Watch.printed c.loop-group.host)
+    (g.H.Watch.printed c.print_group.new.host) = search rules in
     first-further _ _ first _ (lines (i + 1)) _ _ _ c.loop-group.invariant split now

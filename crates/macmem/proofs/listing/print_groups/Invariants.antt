@@ -10,4 +10,4 @@ abbrev pub invariant-loop-group : goal.invariant-loop-group
 invariant-loop-group g l =
     PrintsBut (l.fn.lines.items ++ flat_map group_lines (map view_group l.content.groups.items))
     (l.lines.items ++ flat_map group_lines (map view_group (drop l.group-index l.content.groups.items)))
-    (g.H.Host.printed l.fn.host) (g.H.Host.printed l.host)
+    (g.H.Watch.printed l.fn.host) (g.H.Watch.printed l.host)

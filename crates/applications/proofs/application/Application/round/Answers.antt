@@ -12,8 +12,8 @@ use Rattle.applications.proofs.Rounds.{ended_round, stood_round}
 use Rattle.applications.proofs.Saying.{own-said, shown-again, wants-shows-none}
 use Rattle.applications.proofs.application.Application.round.Goals as goal
 
-pub returns-in_ok-end_call : goal.returns-in_ok-end_call
-returns-in_ok-end_call g c =
+pub returns-in_ok-end_call-clause-came : goal.returns-in_ok-end_call-clause-came
+returns-in_ok-end_call-clause-came g c =
     let blocks = c.args.script.now.blocks in
     let l = c.args.line.now in
     let r : Running = c.args.self.now in
@@ -26,8 +26,8 @@ returns-in_ok-end_call g c =
     (c.in_ok-end_call.ensures.text ∙ ap (λ (x : List ℕ). c.args.text.now.items ++ x) (own-said l _ c.in_ok-tried.tried.reply _ t.told refl is.reply shown))
     (c.in_ok-end_call.ensures.after ∙ ap (λ (x : Running). record x { names = names_given l.call c.in_ok-tried.tried.given x.names }) went ∙ ap (λ (x : Option ℕ). record t.after { names = names_given l.call x t.after.names }) is.given)
 
-pub returns-in_ok-write_reply : goal.returns-in_ok-write_reply
-returns-in_ok-write_reply g c =
+pub returns-in_ok-write_reply-clause-came : goal.returns-in_ok-write_reply-clause-came
+returns-in_ok-write_reply-clause-came g c =
     let blocks = c.args.script.now.blocks in
     let l = c.args.line.now in
     let r : Running = c.args.self.now in
@@ -38,7 +38,7 @@ returns-in_ok-write_reply g c =
     let before = c.to_be_had-before.ensures ∙ ap (λ (x : Running). ease x.memory.heap.zone) (c.self.view_is ∙ went) in
     let behind = c.to_be_had.ensures ∙ ap (λ (x : Running). ease x.memory.heap.zone) c.self-then-tried.view_is in
     stood_round blocks l r c.once.new.self c.ask_script.new.self c.keep_anew.new.self c.in_ok-tried.tried.reading c.exit-exit.result c.args.text.now.items c.ask_script.new.text.items c.write_reply.new.text.items
-    wants went (is.reading wants) c.in_ok-ask_script.ensures
+    wants went (is.reading wants) c.in_ok-ask_script.ensures.came
     (sym (by_both nat_lt before behind) ∙ le-ltb c.to_be_had-before.result c.to_be_had.result c.if-to_be_had-before.false)
     (c.exit-exit.ensures ∙ by_both exit_as is.over is.reply.code)
     (c.in_ok-write_reply.ensures ∙ ap (λ (x : List ℕ). c.ask_script.new.text.items ++ x) (own-said l _ c.in_ok-tried.tried.reply None t.told c.of.ensures is.reply (sym (wants-shows-none blocks l.call r wants))))

@@ -8,6 +8,7 @@ use Rattle.applications.specs.declared.stepping.Next.{Next}
 use Rattle.applications.proofs.Rounds.{step_ends, step_goes_on}
 use Rattle.applications.proofs.application.Application.step.Given.{Over}
 use Rattle.applications.proofs.application.Application.step.Goals.{In-Ended}
+use Rattle.applications.proofs.Elsewhere.{rounds-left}
 use Rattle.applications.proofs.application.Application.step.Goals as goal
 
 -- where the call has ended, so has its step
@@ -24,7 +25,7 @@ done g c =
     let k : ℕ = most - (c.loop-round._round + 1) in
     let more : n ≡ suc k = omega (arith, c.loop-round-test.true) in
     let same : most ≡ sizes r.memory.heap.zone + 1 = ap (λ (x : ℕ). x + 1) (c.from-most.ensures ∙ c.len.ensures ∙ ap (λ (x : Running). sizes x.memory.heap.zone) c.self.view_is) in
-    let came = subst (λ (x : Next). CameRound (round blocks l c.loop-round.self) x c.loop-round.text.items c.round.new.text.items c.round.new.self) c.in-Ended.is c.in_ok-round.ensures in
+    let came = subst (λ (x : Next). CameRound (round blocks l c.loop-round.self) x c.loop-round.text.items c.round.new.text.items c.round.new.self) c.in-Ended.is c.in_ok-round.ensures.came in
     let ends = step_ends blocks l n k c.loop-round.self c.round.new.self c.in-Ended.exit c.loop-round.text.items c.round.new.text.items c.args.text.now.items (step_in most blocks l r) more came inv.0 inv.1 inv.2 in (
       ends.0 ∙ ap (λ (x : ℕ). exit_of (step_in x blocks l r)) same,
       (
@@ -45,5 +46,25 @@ loop-round-preserved g c =
     let n : ℕ = most - c.loop-round._round in
     let k : ℕ = most - (c.loop-round._round + 1) in
     let more : n ≡ suc k = omega (arith, c.loop-round-test.true) in
-    let came = subst (λ (x : Next). CameRound (round c.args.script.now.blocks c.args.line.now c.loop-round.self) x c.loop-round.text.items c.round.new.text.items c.round.new.self) c.in-Again.is c.in_ok-round.ensures in
+    let came = subst (λ (x : Next). CameRound (round c.args.script.now.blocks c.args.line.now c.loop-round.self) x c.loop-round.text.items c.round.new.text.items c.round.new.self) c.in-Again.is c.in_ok-round.ensures.came in
     step_goes_on c.args.script.now.blocks c.args.line.now n k c.loop-round.self c.round.new.self c.loop-round.text.items c.round.new.text.items _ (step_in most c.args.script.now.blocks c.args.line.now c.args.self.now) more came c.loop-round.invariant.0 c.loop-round.invariant.1 c.loop-round.invariant.2
+
+pub returns-in_err-round-clause-lies : goal.returns-in_err-round-clause-lies
+returns-in_err-round-clause-lies g c =
+    let most : ℕ = c.from-most.result + 1 in
+    c.in_err-round.ensures.lies
+    ∙ rounds-left (most - c.loop-round._round) most c.args.script.now.blocks c.args.line.now c.loop-round.self
+    c.args.self.now c.loop-round.invariant.1
+
+pub returns-in-Ended-clause-lies : goal.returns-in-Ended-clause-lies
+returns-in-Ended-clause-lies g c =
+    let most : ℕ = c.from-most.result + 1 in
+    c.in_ok-round.ensures.lies
+    ∙ rounds-left (most - c.loop-round._round) most c.args.script.now.blocks c.args.line.now c.loop-round.self
+    c.args.self.now c.loop-round.invariant.1
+
+pub returns-clause-lies : goal.returns-clause-lies
+returns-clause-lies g c =
+    let most : ℕ = c.from-most.result + 1 in
+    rounds-left (most - c.loop-round._round) most c.args.script.now.blocks c.args.line.now c.loop-round.self
+    c.args.self.now c.loop-round.invariant.1

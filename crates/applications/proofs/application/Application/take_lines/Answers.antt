@@ -4,6 +4,7 @@ use Rattle.applications.specs.Application.{bytes_told}
 use Rattle.mac_words.proofs.Plain.{rest-next}
 use Rattle.applications.proofs.Rounds.{one_more}
 use Rattle.applications.proofs.Saying.{grown-said, shown-again}
+use Rattle.applications.proofs.Elsewhere.{grown-left}
 use Rattle.applications.proofs.application.Application.take_lines.Goals as goal
 
 pub loop-line-preserved : goal.loop-line-preserved
@@ -17,3 +18,20 @@ loop-line-preserved g c =
     (rest-next c.args.lines.now i l (omega arith) c.line-item.is) c.in_ok-tried.ensures.after
     (c.in_ok-write_grow_reply.ensures ∙ ap (λ (x : List ℕ). c.loop-line.text.items ++ x) (grown-said l c.of.result c.in_ok-tried.tried.reply _ t.told c.of.ensures c.in_ok-tried.ensures.tried.reply shown))
     c.loop-line.invariant.0 c.loop-line.invariant.1
+
+pub returns-in_err-tried-clause-lies : goal.returns-in_err-tried-clause-lies
+returns-in_err-tried-clause-lies g c =
+    c.in_err-tried.ensures.lies
+    ∙ grown-left c.args.script.now.blocks (drop c.loop-line.line-index c.args.lines.now) c.args.lines.now
+    c.loop-line.self c.args.self.now c.loop-line.invariant.1
+
+pub returns-in_err-write_grow_reply-clause-lies : goal.returns-in_err-write_grow_reply-clause-lies
+returns-in_err-write_grow_reply-clause-lies g c =
+    c.in_ok-tried.ensures.lies
+    ∙ grown-left c.args.script.now.blocks (drop c.loop-line.line-index c.args.lines.now) c.args.lines.now
+    c.loop-line.self c.args.self.now c.loop-line.invariant.1
+
+pub returns-clause-lies : goal.returns-clause-lies
+returns-clause-lies g c =
+    grown-left c.args.script.now.blocks (drop c.loop-line.line-index c.args.lines.now) c.args.lines.now
+    c.loop-line.self c.args.self.now c.loop-line.invariant.1

@@ -27,8 +27,8 @@ overflow_add-stretches g c =
       g.met.S.BlockStore.small c.self.inside.store,
     )
 
-pub returns : goal.returns
-returns g c =
+pub returns-clause-answer : goal.returns-clause-answer
+returns-clause-answer g c =
     let a = c.self.inside in
     let zone = g.S.BlockStore.zone a.store in
     let zone' = g.S.BlockStore.zone c.compact-stretches.new.store in
@@ -45,18 +45,16 @@ returns g c =
     ap (λ (m : Memory). compact_mem_moves c.args.size m.heap) (sym c.self.view_is)
     ∙ settled_falls-rename (handle_number es) (pointer_number es) _ zone
     ∙ ap (λ p. falls (runs_settled p zone) (runs zone)) (sym c.phys.ensures) in
-    record {
-      answer = moving-done _ _ _ (Ok c.saturating_sub-most.result) zone' rest rest' es c.count.new.self
-          (searching-done _ _ (noting (compact_mem c.args.size) c.args.self.now) (Ok c.saturating_sub-most.result)
-          (memory_of zone' (unmoved rest rest') es (record a.log { code = NO_ERR }))
-          (memory_of zone' (unmoved rest rest') es c.count.new.self)
-          (compact_mem-done c.args.self.now c.args.size zone zone' rest (unmoved rest rest') es a.log
-          c.largest_free.result c.saturating_sub-most.result
-          c.self.view_is (c.compact-stretches.ensures.zone ∙ ap (λ p. compacted p zone) c.phys.ensures)
-          (unmoved-is rest rest' c.compact-stretches.ensures.rest) c.largest_free.ensures c.saturating_sub-most.ensures)
-          searches (ap (memory_of zone' (unmoved rest rest') es) c.count.ensures))
-          moves c.compact-stretches.ensures.moves;
-    }
+    moving-done _ _ _ (Ok c.saturating_sub-most.result) zone' rest rest' es c.count.new.self
+    (searching-done _ _ (noting (compact_mem c.args.size) c.args.self.now) (Ok c.saturating_sub-most.result)
+    (memory_of zone' (unmoved rest rest') es (record a.log { code = NO_ERR }))
+    (memory_of zone' (unmoved rest rest') es c.count.new.self)
+    (compact_mem-done c.args.self.now c.args.size zone zone' rest (unmoved rest rest') es a.log
+    c.largest_free.result c.saturating_sub-most.result
+    c.self.view_is (c.compact-stretches.ensures.zone ∙ ap (λ p. compacted p zone) c.phys.ensures)
+    (unmoved-is rest rest' c.compact-stretches.ensures.rest) c.largest_free.ensures c.saturating_sub-most.ensures)
+    searches (ap (memory_of zone' (unmoved rest rest') es) c.count.ensures))
+    moves c.compact-stretches.ensures.moves
 
 pub invariant_of-self : goal.invariant_of-self
 invariant_of-self g c =

@@ -34,7 +34,7 @@ returns-clause-answer g c =
     c.take_out-removed.new.chain.items (view_open c.take_out-removed.result.file) c.args.heap.now
     c.release_all.new.heap (rw c.deref.ensures.value at c.in-Some.ensures.found) some
     c.in-Ok.ensures.answer c.take_out-removed.ensures.file c.take_out-removed.ensures.older
-    c.take_out-removed.ensures.chain c.release_all.ensures)
+    c.take_out-removed.ensures.chain c.release_all.ensures.released)
 
 pub returns-clause-read_again : goal.returns-clause-read_again
 returns-clause-read_again g c =
@@ -62,5 +62,5 @@ invariant_of-self-2 g c =
     c.update_at.new.chain.items c.take_out-removed.new.chain.items (view_open c.take_out-removed.result.file)
     c.args.heap.now c.release_all.new.heap (rw c.deref.ensures.value at c.in-Some.ensures.found) some
     c.in-Ok.ensures.answer c.take_out-removed.ensures.file c.take_out-removed.ensures.older
-    c.take_out-removed.ensures.chain c.release_all.ensures).1
+    c.take_out-removed.ensures.chain c.release_all.ensures.released).1
     (close_res_file_sound c.args.number (managers r c.args.heap.now) c.self.invariant))

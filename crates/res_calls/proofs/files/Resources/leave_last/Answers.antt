@@ -15,7 +15,7 @@ invariant_of-self-2 g c =
     c.close_last-self-inside.result c.self.inside.next c.self.inside.loading c.self.inside.error)
     c.close_last-self-inside.new.heap)
     c.self.view_is c.requires (c.in_ok-code.ensures.answer r)
-    (c.close_last-self-inside.ensures c.update_last.new.files.items r) c.self.invariant
+    (c.close_last-self-inside.ensures.closed c.update_last.new.files.items r) c.self.invariant
 
 pub returns-clause-code : goal.returns-clause-code
 returns-clause-code g c =
@@ -27,7 +27,7 @@ returns-clause-code g c =
     c.close_last-self-inside.result c.self.inside.next c.self.inside.loading c.self.inside.error)
     c.close_last-self-inside.new.heap)
     c.self.view_is c.requires (c.in_ok-code.ensures.answer r)
-    (c.close_last-self-inside.ensures c.update_last.new.files.items r)).0
+    (c.close_last-self-inside.ensures.closed c.update_last.new.files.items r)).0
 
 pub returns-clause-after : goal.returns-clause-after
 returns-clause-after g c =
@@ -39,4 +39,4 @@ returns-clause-after g c =
     c.close_last-self-inside.result c.self.inside.next c.self.inside.loading c.self.inside.error)
     c.close_last-self-inside.new.heap)
     c.self.view_is c.requires (c.in_ok-code.ensures.answer r)
-    (c.close_last-self-inside.ensures c.update_last.new.files.items r)).1
+    (c.close_last-self-inside.ensures.closed c.update_last.new.files.items r)).1

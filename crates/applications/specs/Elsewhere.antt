@@ -1,0 +1,17 @@
+use Rattle.std.specs.Prelude.{map}
+use Rattle.block_store.specs.Rest.{Site}
+use Rattle.applications.specs.Trying.{Running}
+use Rattle.applications.specs.Step.{Event, Course}
+
+-- An application that lies elsewhere: where its partition is says nothing of what it does.
+
+-- the same application with its partition at another place
+abbrev pub moved : Site → Running → Running
+moved site r = record r { memory = record r.memory { window = site } }
+
+-- the same try, and the same course, of an application there
+abbrev pub event_elsewhere : Site → Event → Event
+event_elsewhere site e = record e { before = moved site e.before; after = moved site e.after }
+
+abbrev pub course_elsewhere : Site → Course → Course
+course_elsewhere site c = record c { events = map (event_elsewhere site) c.events; after = moved site c.after }

@@ -1,0 +1,28 @@
+use Rattle.std.proofs.Common.{◌≡◌, ℕ, ◌+◌, ◌<◌, ◌++◌, List, length, map, drop, slice_index_or, sym, ◌∙◌, append_assoc}
+use Rattle.std.proofs.lemmas.List.{at_drop_more}
+use Rattle.std.specs.List.{flat_map}
+use Rattle.res_calls.specs.declared.files.File.{File as StoredFile}
+use Rattle.res_calls.specs.View.{view_file}
+use Rattle.desk.specs.declared.outcome.AppOutcome.{AppOutcome}
+use Rattle.desk.specs.Outcome.{fork_told, forks_told, forks_of}
+use Rattle.desk.specs.View.{told_seen}
+
+-- The lines of forks that were written: what is written so far, followed by the rest, is the whole.
+
+pub files_next : (text name : List ℕ) (files : List StoredFile) (i : ℕ) (f : StoredFile) → i < length files
+    → text ++ forks_told name i (map view_file (drop i files))
+    ≡ (text ++ fork_told name i (view_file (slice_index_or files i f)))
+    ++ forks_told name (i + 1) (map view_file (drop (i + 1) files))
+files_next text name files i f less =
+    at_drop_more (λ (fs : List StoredFile). text ++ forks_told name i (map view_file fs)) files i f less
+    ∙ sym (append_assoc text (fork_told name i (view_file (slice_index_or files i f)))
+    (forks_told name (i + 1) (map view_file (drop (i + 1) files))))
+
+pub apps_next : (text : List ℕ) (apps : List AppOutcome) (i : ℕ) (a : AppOutcome) → i < length apps
+    → text ++ flat_map forks_of (map told_seen (drop i apps))
+    ≡ (text ++ forks_of (told_seen (slice_index_or apps i a)))
+    ++ flat_map forks_of (map told_seen (drop (i + 1) apps))
+apps_next text apps i a less =
+    at_drop_more (λ (xs : List AppOutcome). text ++ flat_map forks_of (map told_seen xs)) apps i a less
+    ∙ sym (append_assoc text (forks_of (told_seen (slice_index_or apps i a)))
+    (flat_map forks_of (map told_seen (drop (i + 1) apps))))

@@ -1,0 +1,11 @@
+pub mod Alone
+pub mod Apart
+pub mod Changes
+pub mod ForkLines
+pub mod Givens
+pub mod Holding
+pub mod Leaving
+pub mod Places
+pub mod Resting
+pub mod Rounds
+pub mod Systems

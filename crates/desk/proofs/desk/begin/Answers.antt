@@ -1,0 +1,15 @@
+use Rattle.std.proofs.Common.{rules, ◌≤◌, option_map}
+use Rattle.desk.proofs.Holding.{contains-opened, closed-opened}
+use Rattle.desk.proofs.desk.begin.Goals as goal
+
+pub give_back-requires-clause-out : goal.give_back-requires-clause-out
+give_back-requires-clause-out g c =
+    contains-opened (option_map (λ f. f.0) c.in_ok-window.field-0) c.in-Some.window c.args.grants.now.windows
+    c.open_zone.new.grants.windows (search rules) c.in_ok-window.ensures.windows
+
+pub returns-in-Err-clause-err : goal.returns-in-Err-clause-err
+returns-in-Err-clause-err g c =
+    let large : 512 ≤ c.in-Some.window.len = search rules in
+    closed-opened (option_map (λ f. f.0) c.in_ok-window.field-0) c.in-Some.window c.args.grants.now.windows
+    c.open_zone.new.grants.windows c.give_back.new.grants.windows (search rules) large c.in_ok-window.ensures.windows
+    c.give_back.ensures.windows

@@ -1,0 +1,18 @@
+use Rattle.std.proofs.Common.{sym, ◌∙◌, Some, refl}
+use Rattle.desk.proofs.Holding.{contains-opened, closed-opened}
+use Rattle.desk.proofs.desk.open_zone.Goals as goal
+
+pub give_back-requires : goal.give_back-requires
+give_back-requires g c =
+    contains-opened (Some c.in-Ok.window) c.in-Ok.window c.args.grants.now.windows c.grant.new.self.windows refl c.in-Ok.ensures.granted
+
+pub returns-in-Err-clause-err : goal.returns-in-Err-clause-err
+returns-in-Err-clause-err g c =
+    closed-opened (Some c.in-Ok.window) c.in-Ok.window c.args.grants.now.windows c.grant.new.self.windows
+    c.give_back.new.self.windows refl c.in-Ok.ensures.zone.2 c.in-Ok.ensures.granted c.give_back.ensures.windows
+
+pub returns-in-Err-clause-same : goal.returns-in-Err-clause-same
+returns-in-Err-clause-same g c =
+    c.in-Err.ensures.err ∙ c.requires.same ∙ sym (
+    closed-opened (Some c.in-Ok.window) c.in-Ok.window c.args.grants.now.windows c.grant.new.self.windows
+    c.give_back.new.self.windows refl c.in-Ok.ensures.zone.2 c.in-Ok.ensures.granted c.give_back.ensures.windows)

@@ -1,0 +1,13 @@
+use Rattle.std.proofs.Common.{◌≡◌, ◌≤◌, map, take, length, vec_len, vec_capacity, None}
+use Rattle.fork_format.specs.View.{view}
+use Rattle.desk.specs.Job.{place_given}
+use Rattle.desk.specs.View.{seen, lots}
+use Rattle.desk.proofs.seats.places.Given as goal
+
+abbrev pub invariant-loop-app : goal.invariant-loop-app
+invariant-loop-app g l = record {
+  seen : seen l.seats.items ≡ map (place_given (view l.system)) (take l.app-index l.apps);
+  lots : lots l.seats.items ≡ map (λ app. None) (take l.app-index l.apps);
+  len : vec_len l.seats ≡ l.app-index;
+  room : length l.apps ≤ vec_capacity l.seats;
+}

@@ -1,0 +1,164 @@
+use Rattle.std.specs.Prelude.{ℕ, ◌+◌, Bool, Option, Some, None, Result, Ok, Err, List, [], ◌∷◌, ◌++◌}
+use Rattle.std.specs.Prelude.{length, nat_lt, slice_get, slice_set, if◌then◌else◌, zero, suc}
+use Rattle.std.specs.List.{list_any}
+use Rattle.windows.specs.declared.Window.{Window}
+use Rattle.windows.specs.Windows.{put_in, taken_out}
+use Rattle.mac_words.specs.declared.code.OsErr.{OsErr}
+use Rattle.mac_words.specs.declared.code.TheConstants.OsErr.{MEM_FULL, PROFILE}
+use Rattle.partitions.specs.Grant.{grant}
+use Rattle.script_text.specs.Script.{Parts}
+use Rattle.script_text.specs.DeskLog.{launch_of, refusal_of, end_of}
+use Rattle.script_text.specs.declared.job.Event.{Event}
+use Rattle.script_text.specs.declared.job.Event.TheVariants as event
+use Rattle.res_calls.specs.Files.{Resources}
+use Rattle.desk.specs.declared.act.Act.{Act}
+use Rattle.desk.specs.declared.act.Act.TheVariants.{Step, Turn, Quit}
+use Rattle.desk.specs.Sizes.{Sizes, sizes_of}
+use Rattle.desk.specs.Progress.{Progress, Waiting, Running, Ended, Lost, Left, Coming, acted_by, runs}
+
+-- The desk: several applications in one memory, each in a window of its own. Inside Macintosh: Processes, chapter 1,
+-- "Partitions" and "Scheduling of Processes".
+
+-- an application's place at the desk: its name, its script, the resources with which it is launched, or the code for
+-- which its fork can't be opened, and how far it has come
+pub record Place : Type 0 where
+  pub name : List ℕ
+  pub script : Parts
+  pub start : Result Resources OsErr
+  pub progress : Progress
+
+-- the memory's size, the windows that are out, the applications in order, and the desk's log so far
+pub record State : Type 0 where
+  pub memory : ℕ
+  pub windows : List Window
+  pub places : List Place
+  pub log : List ℕ
+
+-- What an application does.
+
+-- how far it comes
+abbrev pub coming : Act → Place → Coming
+coming act p = acted_by act p.start p.script p.progress
+
+-- the windows that are out, without the one that it leaves
+abbrev pub windows_after : Option Left → List Window → List Window
+windows_after None windows = windows
+windows_after (Some left) windows = taken_out left.window windows
+
+-- the line of its end, if it ended
+abbrev pub end_told : List ℕ → Option Left → List ℕ
+end_told name None = []
+end_told name (Some left) = end_of name left.code.0
+
+abbrev pub place_come : Place → Coming → Place
+place_come p c = record p { progress = c.progress }
+
+abbrev pub acted_in : Act → ℕ → Option Place → State → State
+acted_in act i None s = s
+acted_in act i (Some p) s = record s {
+  windows = windows_after (coming act p).left s.windows;
+  places = slice_set s.places i (place_come p (coming act p));
+  log = s.log ++ end_told p.name (coming act p).left;
+}
+
+-- application i takes a step or a turn, or quits: where it runs
+abbrev pub acted_at : Act → ℕ → State → State
+acted_at act i s = acted_in act i (slice_get s.places i) s
+
+-- the same of the list of places
+abbrev pub places_acted : Act → ℕ → Option Place → List Place → List Place
+places_acted act i None places = places
+places_acted act i (Some p) places = slice_set places i (place_come p (coming act p))
+
+abbrev pub left_by : Act → Option Place → Option Left
+left_by act None = None
+left_by act (Some p) = (coming act p).left
+
+-- A launch.
+
+-- the window, or -108
+abbrev pub granted : Option Window → Result Window OsErr
+granted None = Err MEM_FULL
+granted (Some w) = Ok w
+
+abbrev pub granted_sizes : Sizes → State → Result Window OsErr
+granted_sizes sizes s = granted (grant s.memory s.windows sizes.preferred sizes.minimum)
+
+abbrev pub granted_start : Result Resources OsErr → State → Result Window OsErr
+granted_start (Err code) s = Err code
+granted_start (Ok resources) s = granted_sizes (sizes_of resources) s
+
+-- what it is launched with; nothing, where it runs or has ended already
+abbrev pub ready : Progress → Result Resources OsErr → Result Resources OsErr
+ready Waiting start = start
+ready (Running w n) start = Err PROFILE
+ready (Ended size n asked) start = Err PROFILE
+ready (Lost w) start = Err PROFILE
+
+-- the window in which an application is launched, or the code for which it isn't: it runs or has ended already, its fork
+-- can't be opened, there is no room
+abbrev pub launch_answer : Place → State → Result Window OsErr
+launch_answer p s = granted_start (ready p.progress p.start) s
+
+abbrev pub launched_by : Result Window OsErr → ℕ → Place → State → State
+launched_by (Err code) i p s = record s { log = s.log ++ refusal_of p.name code.0 }
+launched_by (Ok w) i p s = record s {
+  windows = put_in w s.windows;
+  places = slice_set s.places i (record p { progress = Running w 0 });
+  log = s.log ++ launch_of p.name w.len;
+}
+
+abbrev pub launched_in : ℕ → Option Place → State → State
+launched_in i None s = s
+launched_in i (Some p) s = launched_by (launch_answer p s) i p s
+
+-- a launch of application i; where it is refused only the log tells of it
+abbrev pub launched_at : ℕ → State → State
+launched_at i s = launched_in i (slice_get s.places i) s
+
+-- Turns of all.
+
+-- the k applications from i on take a turn each, in order
+abbrev pub each_turned : ℕ → ℕ → State → State
+each_turned zero i s = s
+each_turned (suc k) i s = each_turned k (i + 1) (acted_at Turn i s)
+
+-- a round: each application takes a turn, where it runs
+abbrev pub round : State → State
+round s = each_turned (length s.places) 0 s
+
+abbrev pub any_runs : State → Bool
+any_runs s = list_any (λ (p : Place). runs p.progress) s.places
+
+-- rounds until none runs, at most so many
+abbrev pub rounds : ℕ → State → State
+rounds zero s = s
+rounds (suc more) s = if any_runs s then rounds more (round s) else s
+
+-- the steps of the longest script, or so many
+abbrev pub larger : ℕ → ℕ → ℕ
+larger m n = if nat_lt m n then n else m
+
+abbrev pub longest_or : ℕ → List Place → ℕ
+longest_or most [] = most
+longest_or most (p ∷ places) = longest_or (larger most (length p.script.steps)) places
+
+abbrev pub longest : List Place → ℕ
+longest places = longest_or 0 places
+
+-- no more rounds are wanted: each takes a step of each that runs, and the one behind its last is its quit
+abbrev pub rested : State → State
+rested s = rounds (suc (longest s.places)) s
+
+-- Events.
+
+abbrev pub after_event : Event → State → State
+after_event (event.Launch i) s = launched_at i s
+after_event (event.Step i) s = acted_at Step i s
+after_event (event.Turn i) s = acted_at Turn i s
+after_event (event.Quit i) s = acted_at Quit i s
+after_event event.Rest s = rested s
+
+abbrev pub after_events : List Event → State → State
+after_events [] s = s
+after_events (e ∷ events) s = after_events events (after_event e s)

@@ -1,0 +1,11 @@
+pub mod Progress
+pub mod Sizes
+pub mod Desk
+pub mod Job
+pub mod Outcome
+pub mod Held
+pub mod Live
+pub mod Seated
+pub mod View
+pub mod Ready
+pub mod Whole

@@ -1,0 +1,41 @@
+use Rattle.std.specs.Prelude.{ℕ, ◌-◌, ◌%◌, nat_lt, negsuc, Option, Some, None, List, length, if◌then◌else◌}
+use Rattle.fork_format.specs.Fork.{number}
+use Rattle.res_calls.specs.Files.{Resources}
+use Rattle.res_calls.specs.Own.{own_datum}
+
+-- The sizes of the partition that an application asks for. Macintosh Toolbox Essentials, chapter 2, "The Size Resource".
+
+pub record Sizes : Type 0 where
+  pub preferred : ℕ
+  pub minimum : ℕ
+
+-- 'SIZE' as a number
+abbrev pub size_type : ℕ
+size_type = 0x53495A45
+
+-- a size as partitions have it: a multiple of 16, at least 512
+abbrev pub rounded : ℕ → ℕ
+rounded n = if nat_lt n 512 then 512 else n - n % 16
+
+-- a minimum above the preferred size is read as that
+abbrev pub capped : ℕ → ℕ → ℕ
+capped preferred minimum = if nat_lt preferred minimum then preferred else minimum
+
+-- flags (2 bytes), the preferred size (4) and the minimum (4); where there is no such resource, or it is shorter, both
+-- are 512 kilobytes
+abbrev pub sizes_read : List ℕ → Sizes
+sizes_read datum = record {
+  preferred = rounded (number 4 2 datum);
+  minimum = capped (rounded (number 4 2 datum)) (rounded (number 4 6 datum));
+}
+
+abbrev pub usual_sizes : Sizes
+usual_sizes = record { preferred = 524288; minimum = 524288 }
+
+abbrev pub sizes_in : Option (List ℕ) → Sizes
+sizes_in None = usual_sizes
+sizes_in (Some datum) = if nat_lt (length datum) 10 then usual_sizes else sizes_read datum
+
+-- those of an application: its 'SIZE' -1
+abbrev pub sizes_of : Resources → Sizes
+sizes_of resources = sizes_in (own_datum size_type (negsuc 0) resources)

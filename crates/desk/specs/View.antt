@@ -1,0 +1,53 @@
+use Rattle.std.specs.Prelude.{Option, Some, None, option_map, List, map}
+use Rattle.fork_format.specs.View.{view}
+use Rattle.desk.specs.declared.departure.Departure.{Departure}
+use Rattle.desk.specs.declared.phase.Phase.{Phase}
+use Rattle.desk.specs.declared.phase.Phase.TheVariants as phase
+use Rattle.desk.specs.declared.outcome.AppOutcome.{AppOutcome}
+use Rattle.desk.specs.declared.outcome.Outcome as declared
+use Rattle.desk.specs.Progress.{Progress, Waiting, Running, Ended, Lost, Left}
+use Rattle.desk.specs.Desk.{Place}
+use Rattle.desk.specs.Job.{start_of}
+use Rattle.desk.specs.Outcome.{Told, Outcome}
+use Rattle.desk.specs.Live.{Lot, lot_of_live, leaves_seen}
+use Rattle.desk.specs.Seated.{Placed}
+
+-- What the desk's fields stand for.
+
+abbrev pub progress_seen : {S : Type 0} → Phase S → Progress
+progress_seen phase.Waiting = Waiting
+progress_seen (phase.Running live) = Running live.window live.steps
+progress_seen (phase.Ended l) = Ended l.size l.steps l.asked
+progress_seen (phase.Lost live) = Lost live.window
+
+abbrev pub place_seen : {S : Type 0} → Placed S → Place
+place_seen seat = record {
+  name = seat.app.now.name.0.items;
+  script = seat.app.now.script;
+  start = start_of (view seat.system.now) seat.app.now;
+  progress = progress_seen seat.phase;
+}
+
+abbrev pub seen : {S : Type 0} → List (Placed S) → List Place
+seen seats = map place_seen seats
+
+-- the windows of applications, and where the stores of their zones lie
+abbrev pub lot_of : {S : Type 0} → Phase S → Option Lot
+lot_of phase.Waiting = None
+lot_of (phase.Running live) = Some (lot_of_live live)
+lot_of (phase.Ended l) = None
+lot_of (phase.Lost live) = Some (lot_of_live live)
+
+abbrev pub lots : {S : Type 0} → List (Placed S) → List (Option Lot)
+lots seats = map (λ seat. lot_of seat.phase) seats
+
+-- what an application leaves as it ends
+abbrev pub left_of : {S : Type 0} → Departure S → Left
+left_of d = record { window = d.window; code = d.code }
+
+-- what applications leave, and what a run leaves
+abbrev pub told_seen : AppOutcome → Told
+told_seen a = record { name = a.name.0.items; launched = option_map leaves_seen a.launched }
+
+abbrev pub outcome_seen : declared.Outcome → Outcome
+outcome_seen o = record { log = o.desk.items; apps = map told_seen o.apps.items }

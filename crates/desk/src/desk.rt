@@ -1,0 +1,371 @@
+//! The desk: several applications in one memory.
+
+ghost use Rattle.std.specs.Prelude.{◌≡◌, ℕ, ◌≤◌, ◌<◌, ◌%◌, List, [], length, map, Option, None, option_map, IsTrue};
+ghost use Rattle.std.specs.Prelude.{IfOk, OnOk, OnErr, IfErr, IfSome, vec_len, vec_capacity};
+ghost use Rattle.std.specs.List.{list_all, Contains};
+ghost use Rattle.windows.specs.declared.Window.{Window as Stretch};
+ghost use Rattle.windows.specs.declared.list.TheConstants.{MOST_WINDOWS};
+ghost use Rattle.windows.specs.Windows.{taken_out};
+ghost use Rattle.block_store.specs.Block.{fresh};
+ghost use Rattle.block_store.specs.Rest.{Site};
+ghost use Rattle.fork_format.specs.Content.{Group as GroupValue};
+ghost use Rattle.fork_format.specs.Canonical.{has_refs, are_distinct};
+ghost use Rattle.fork_format.specs.View.{view};
+ghost use Rattle.partitions.specs.Grant.{grant};
+ghost use Rattle.desk.specs.declared.act.Act.TheVariants.{Step, Turn, Quit};
+ghost use Rattle.desk.specs.Desk.{State, launched_at, acted_at, any_runs, longest};
+ghost use Rattle.desk.specs.Job.{opening};
+ghost use Rattle.desk.specs.Outcome.{told};
+ghost use Rattle.desk.specs.Held.{MadeOf, opened, closed};
+ghost use Rattle.desk.specs.Live.{IsLive};
+ghost use Rattle.desk.specs.View.{told_seen};
+
+use crate::act::Act;
+use crate::departure::Departure;
+use crate::job::App;
+use crate::live::Live;
+use crate::outcome::AppOutcome;
+use crate::preparing::{Ready, prepared};
+use crate::seat::Seat;
+use crate::seats;
+use crate::sizes::PartitionSizes;
+use crate::turns::longest_script;
+use block_store::{BlockStore, ZoneMaker};
+use fork_format::Content;
+use heap_calls::Refusal;
+use mac_words::OsErr;
+use partitions::Grants;
+use script_text::{Script, write_app_end, write_app_launch, write_app_refusal};
+use std::alloc::{AllocError, Global};
+use std::marker::Model;
+use windows::Window;
+
+/// Several applications in one memory, each in a window of its own.
+///
+/// *Inside Macintosh: Processes*, chapter 1.
+pub struct Desk<'j, Z: ZoneMaker> {
+    alloc: Global,
+    zones: Z,
+    grants: Grants,
+    seats: Vec<Seat<'j, Z::Store>>,
+    /// Room for what each application leaves.
+    outcome: Vec<AppOutcome>,
+    log: Vec<u8>,
+}
+
+impl<'j, Z: ZoneMaker> Model for Desk<'j, Z> {
+    ghost use Rattle.std.specs.Prelude.{◌≡◌, ◌≤◌, vec_len, vec_capacity};
+    ghost use Rattle.desk.specs.Desk.{State};
+    ghost use Rattle.desk.specs.Held.{AreHoused};
+    ghost use Rattle.desk.specs.View.{seen, lots};
+
+    ghost Value = { State };
+
+    ghost view = { λ d. record {
+      memory = d.grants.memory;
+      windows = d.grants.windows;
+      places = seen d.seats.items;
+      log = d.log.items;
+    } };
+
+    ghost invariant = { λ d. AreHoused (Z.made d.zones) (Z.windows d.zones) d.grants.windows (seen d.seats.items)
+        (lots d.seats.items)
+        × (Z.memory d.zones ≡ d.grants.memory)
+        × (vec_len d.outcome ≡ 0) × (vec_len d.seats ≤ vec_capacity d.outcome) × (vec_len d.seats ≤ 64) };
+}
+
+impl<'j, Z: ZoneMaker> Desk<'j, Z> {
+    /// A desk of a memory of that size, at which every application waits. An `Err` hands the maker of zones back: the
+    /// host has no memory.
+    pub fn new(
+        alloc: Global,
+        memory: u32,
+        system: &'j Content<'j>,
+        apps: &'j [App],
+        zones: Z,
+    ) -> Result<Self, Z>
+        requires none { Z.windows zones ≡ [] }
+        requires memory { Z.memory zones ≡ memory }
+        requires multiple { memory % 16 ≡ 0 }
+        requires few { length apps.now ≤ 64 }
+        requires types { IsTrue (are_distinct (map (λ (g : GroupValue). g.kind) (view system.now).groups)) }
+        requires references { IsTrue (list_all has_refs (view system.now).groups) }
+        ensures ok { IfOk result (λ desk. desk ≡ opening memory (view system.now) apps.now) }
+        ensures err { IfErr result (λ z. (Z.windows z ≡ []) × (Z.memory z ≡ memory)) }
+    {
+        let Ok(outcome) = Vec::with_capacity(alloc, apps.len()) else {
+            return Err(zones);
+        };
+        let Ok(grants) = Grants::new(alloc, memory) else {
+            return Err(zones);
+        };
+        match seats::places(alloc, system, apps) {
+            Ok(seats) => Ok(Desk {
+                alloc,
+                zones,
+                grants,
+                seats,
+                outcome,
+                log: Vec::new(alloc),
+            }),
+            Err(_) => Err(zones),
+        }
+    }
+
+    /// Launches application `i`, if there is one of that number; the log tells whether it was launched, or why not.
+    ///
+    /// *Inside Macintosh: Processes*, chapter 2, "Launching Applications".
+    ///
+    /// # Errors
+    ///
+    /// The host has no memory: the desk can then only be finished.
+    pub fn launch(&mut self, i: usize) -> Result<(), AllocError>
+        ensures ok { OnOk result (self.new ≡ launched_at i self.old) }
+        ensures memory { self.new.memory ≡ self.old.memory }
+    {
+        let Some(seat) = self.seats.get(i) else {
+            return Ok(());
+        };
+        let app = seat.app;
+        let ready = match prepared(self.alloc, seat) {
+            Ok(ready) => ready,
+            Err(Refusal::Code(code)) => {
+                return write_app_refusal(&mut self.log, &app.name, code);
+            }
+            Err(Refusal::HostMemory) => return Err(AllocError),
+        };
+        let begun = begin(
+            self.alloc,
+            &mut self.zones,
+            &mut self.grants,
+            ready,
+            &app.script,
+        )?;
+        let Some(live) = begun else {
+            return write_app_refusal(&mut self.log, &app.name, OsErr::MEM_FULL);
+        };
+        let size = live.window.len;
+        seats::start_at(&mut self.seats, i, live);
+        write_app_launch(&mut self.log, &app.name, size)
+    }
+
+    /// Application `i` takes its next step, if there is one of that number and it runs: its next call, or a quit where it
+    /// has none left.
+    ///
+    /// # Errors
+    ///
+    /// The host has no memory: the desk can then only be finished.
+    pub fn step(&mut self, i: usize) -> Result<(), AllocError>
+        ensures ok { OnOk result (self.new ≡ acted_at Step i self.old) }
+        ensures memory { self.new.memory ≡ self.old.memory }
+    {
+        self.act(i, Act::Step)
+    }
+
+    /// Application `i` takes a turn, if there is one of that number and it runs: steps up to and including the next
+    /// `WaitNextEvent`, or to its end.
+    ///
+    /// *Inside Macintosh: Processes*, chapter 1, "Scheduling of Processes".
+    ///
+    /// # Errors
+    ///
+    /// The host has no memory: the desk can then only be finished.
+    pub fn turn(&mut self, i: usize) -> Result<(), AllocError>
+        ensures ok { OnOk result (self.new ≡ acted_at Turn i self.old) }
+        ensures memory { self.new.memory ≡ self.old.memory }
+    {
+        self.act(i, Act::Turn)
+    }
+
+    /// Application `i` is asked to quit, and ends, if there is one of that number and it runs.
+    ///
+    /// # Errors
+    ///
+    /// The host has no memory: the desk can then only be finished.
+    pub fn quit(&mut self, i: usize) -> Result<(), AllocError>
+        ensures ok { OnOk result (self.new ≡ acted_at Quit i self.old) }
+        ensures memory { self.new.memory ≡ self.old.memory }
+    {
+        self.act(i, Act::Quit)
+    }
+
+    /// Application `i` does as it is told, if there is one of that number and it runs. Where it ends, its zone is closed
+    /// and its window is free before the log tells of it.
+    pub(crate) fn act(&mut self, i: usize, act: Act) -> Result<(), AllocError>
+        ensures ok { OnOk result (self.new ≡ acted_at act i self.old) }
+        ensures memory { self.new.memory ≡ self.old.memory }
+    {
+        let ended = seats::act_at(&mut self.seats, i, act)?;
+        match ended {
+            None => Ok(()),
+            Some(departure) => {
+                let Departure {
+                    name,
+                    window,
+                    code,
+                    store,
+                } = departure;
+                give_back(&mut self.zones, &mut self.grants, window, store);
+                write_app_end(&mut self.log, name, code)
+            }
+        }
+    }
+
+    /// How many applications there are.
+    pub(crate) fn count(&self) -> usize
+        ensures { result ≡ length self.now.places }
+    {
+        self.seats.len()
+    }
+
+    /// Whether any application runs.
+    pub(crate) fn any_runs(&self) -> bool
+        ensures { result ≡ any_runs self.now }
+    {
+        seats::any_runs(&self.seats)
+    }
+
+    /// How many steps the longest script has.
+    pub(crate) fn longest(&self) -> usize
+        ensures { result ≡ longest self.now.places }
+    {
+        longest_script(&self.seats)
+    }
+
+    /// What the applications leave, in order, the desk's log, and the maker of zones with none open. It takes no memory of
+    /// the host.
+    pub fn finish(self) -> (Vec<AppOutcome>, Vec<u8>, Z)
+        ensures apps { map told_seen result.0.items ≡ map told self.entry.places }
+        ensures log { result.1.items ≡ self.entry.log }
+        ensures windows { Z.windows result.2 ≡ [] }
+        ensures memory { Z.memory result.2 ≡ self.entry.memory }
+    {
+        let Desk {
+            alloc: _,
+            mut zones,
+            mut grants,
+            mut seats,
+            mut outcome,
+            log,
+        } = self;
+        'places: while !seats.is_empty() {
+            let seat = seats.remove(0);
+            let (app, freed) = seats::leave(seat);
+            outcome.push_reserved(app);
+            release(&mut zones, &mut grants, freed);
+        }
+        seats.destroy_empty();
+        (outcome, log, zones)
+    }
+}
+
+/// Closes the zone of an application, and its window is free.
+fn give_back<Z: ZoneMaker>(zones: &mut Z, grants: &mut Grants, window: Window, store: Z::Store)
+    requires same { Z.windows zones.old ≡ grants.old.windows }
+    requires made { Z.made zones.old window (Z.Store.rest store).window }
+    requires out { Contains grants.old.windows window }
+    ensures windows { grants.new.windows ≡ taken_out window grants.old.windows }
+    ensures size { grants.new.memory ≡ grants.old.memory }
+    ensures zones { Z.windows zones.new ≡ grants.new.windows }
+    ensures memory { Z.memory zones.new ≡ Z.memory zones.old }
+    ensures kept { (w : Stretch) (site : Site) → Z.made zones.old w site → Z.made zones.new w site }
+{
+    zones.close(window, store);
+    grants.give_back(window);
+}
+
+/// The same of a window and a store, where there are any.
+fn release<Z: ZoneMaker>(zones: &mut Z, grants: &mut Grants, freed: Option<(Window, Z::Store)>)
+    requires same { Z.windows zones.old ≡ grants.old.windows }
+    requires made { MadeOf (Z.made zones.old) (option_map (λ f. (f.0, (Z.Store.rest f.1).window)) freed) }
+    requires out { IfSome (option_map (λ f. f.0) freed) (λ w. Contains grants.old.windows w) }
+    ensures windows { grants.new.windows ≡ closed (option_map (λ f. f.0) freed) grants.old.windows }
+    ensures zones { Z.windows zones.new ≡ grants.new.windows }
+    ensures memory { Z.memory zones.new ≡ Z.memory zones.old }
+    ensures kept { (w : Stretch) (site : Site) → Z.made zones.old w site → Z.made zones.new w site }
+{
+    if let Some((window, store)) = freed {
+        give_back(zones, grants, window, store);
+    }
+}
+
+/// A window that is granted, and the store of a fresh zone in it. Nothing where there is no room.
+///
+/// # Errors
+///
+/// The host has no memory: nothing is granted.
+fn open_zone<Z: ZoneMaker>(
+    zones: &mut Z,
+    grants: &mut Grants,
+    sizes: PartitionSizes,
+) -> Result<Option<(Window, Z::Store)>, AllocError>
+    requires same { Z.windows zones.old ≡ grants.old.windows }
+    requires memory { Z.memory zones.old ≡ grants.old.memory }
+    requires few { length grants.old.windows < MOST_WINDOWS }
+    ensures answer { IfOk result (λ o. option_map (λ f. f.0) o
+        ≡ grant grants.old.memory grants.old.windows sizes.preferred sizes.minimum) }
+    ensures windows { IfOk result (λ o. grants.new.windows ≡ opened (option_map (λ f. f.0) o) grants.old.windows) }
+    ensures zone { IfOk result (λ o. IfSome o (λ f. Z.Store.zone f.1 ≡ fresh f.0.len)) }
+    ensures unused { IfOk result (λ o. IfSome o (λ f. (Z.Store.rest f.1).unused ≡ 64)) }
+    ensures all { IfOk result (λ o. IfSome o (λ f. (Z.Store.rest f.1).all ≡ 64)) }
+    ensures moves { IfOk result (λ o. IfSome o (λ f. (Z.Store.rest f.1).moves ≡ 0)) }
+    ensures large { IfOk result (λ o. IfSome o (λ f. 512 ≤ f.0.len)) }
+    ensures made { IfOk result (λ o. IfSome o (λ f. Z.made zones.new f.0 (Z.Store.rest f.1).window)) }
+    ensures err { OnErr result (grants.new.windows ≡ grants.old.windows) }
+    ensures size { grants.new.memory ≡ grants.old.memory }
+    ensures same { Z.windows zones.new ≡ grants.new.windows }
+    ensures memory { Z.memory zones.new ≡ Z.memory zones.old }
+    ensures kept { (w : Stretch) (site : Site) → Z.made zones.old w site → Z.made zones.new w site }
+{
+    let Ok(window) = grants.grant(sizes.preferred, sizes.minimum) else {
+        return Ok(None);
+    };
+    match zones.open(window) {
+        Ok(store) => Ok(Some((window, store))),
+        Err(e) => {
+            grants.give_back(window);
+            Err(e)
+        }
+    }
+}
+
+/// An application that is launched, in the window that is granted. Nothing where there is no room.
+///
+/// # Errors
+///
+/// The host has no memory: no window is granted, and no zone stays open.
+fn begin<'j, Z: ZoneMaker>(
+    alloc: Global,
+    zones: &mut Z,
+    grants: &mut Grants,
+    ready: Ready,
+    script: &'j Script,
+) -> Result<Option<Live<'j, Z::Store>>, AllocError>
+    requires same { Z.windows zones.old ≡ grants.old.windows }
+    requires memory { Z.memory zones.old ≡ grants.old.memory }
+    requires few { length grants.old.windows < MOST_WINDOWS }
+    ensures answer { IfOk result (λ o. option_map (λ l. l.window) o
+        ≡ grant grants.old.memory grants.old.windows ready.sizes.preferred ready.sizes.minimum) }
+    ensures windows { IfOk result (λ o. grants.new.windows ≡ opened (option_map (λ l. l.window) o) grants.old.windows) }
+    ensures live { IfOk result (λ o. IfSome o (λ l. IsLive ready.resources l)) }
+    ensures steps { IfOk result (λ o. IfSome o (λ l. l.steps ≡ 0)) }
+    ensures script { IfOk result (λ o. IfSome o (λ l. l.script.now ≡ script.now)) }
+    ensures made { IfOk result (λ o. IfSome o (λ l. Z.made zones.new l.window l.application.memory.window)) }
+    ensures err { OnErr result (grants.new.windows ≡ grants.old.windows) }
+    ensures size { grants.new.memory ≡ grants.old.memory }
+    ensures same { Z.windows zones.new ≡ grants.new.windows }
+    ensures memory { Z.memory zones.new ≡ Z.memory zones.old }
+    ensures kept { (w : Stretch) (site : Site) → Z.made zones.old w site → Z.made zones.new w site }
+{
+    let Ready { resources, sizes } = ready;
+    let Some((window, store)) = open_zone(zones, grants, sizes)? else {
+        return Ok(None);
+    };
+    match Live::begin(alloc, window, store, resources, script) {
+        Ok(live) => Ok(Some(live)),
+        Err(store) => {
+            give_back(zones, grants, window, store);
+            Err(AllocError)
+        }
+    }
+}

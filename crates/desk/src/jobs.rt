@@ -1,0 +1,164 @@
+//! Jobs of tests, and what they leave.
+
+ghost use Rattle.std.specs.Prelude.{◌≡◌, ◌≤◌, length, IfOk};
+
+use crate::job::{App, Job};
+use crate::outcome::{AppOutcome, Outcome, RunFault};
+use crate::whole::run_with;
+use arrayvec::ArrayVec;
+use block_store::ListZones;
+use fork_format::{Content, Group, Ref, write_fork};
+use mac_words::{Attrs, Label, OsType};
+use script_text::{Event, read_script};
+use std::alloc::{AllocError, Global};
+use std::test::Fail;
+
+/// A resource of a fork.
+#[derive(Clone, Copy)]
+pub(crate) struct Stored {
+    pub(crate) ty: OsType,
+    pub(crate) id: i16,
+    pub(crate) attrs: u8,
+    pub(crate) datum: &'static [u8],
+}
+
+/// Resources; those of one type stand behind each other.
+fn groups_of(alloc: Global, resources: &[Stored]) -> Result<Vec<Group<'static>>, AllocError> {
+    let mut groups: Vec<Group<'static>> = Vec::new(alloc);
+    for resource in resources {
+        let reference = Ref {
+            id: resource.id,
+            name: None,
+            attrs: Attrs(resource.attrs),
+            datum: resource.datum,
+        };
+        let joins = match groups.last() {
+            Some(group) => group.ty == resource.ty,
+            None => false,
+        };
+        if !joins {
+            groups.push(Group {
+                ty: resource.ty,
+                refs: Vec::new(alloc),
+            })?;
+        }
+        if let Some(group) = groups.last_mut() {
+            group.refs.push(reference)?;
+        }
+    }
+    Ok(groups)
+}
+
+/// A fork of resources; those of one type stand behind each other.
+pub(crate) fn fork_holding(alloc: Global, resources: &[Stored]) -> Result<Vec<u8>, Fail> {
+    let content = Content {
+        area: [0; 240],
+        attrs: 0,
+        groups: groups_of(alloc, resources)?,
+    };
+    match write_fork(alloc, &content) {
+        Ok(fork) => Ok(fork),
+        Err(_) => Err(Fail::new("a fork that isn't written")),
+    }
+}
+
+/// A resource without a name.
+pub(crate) fn resource_of(ty: &[u8; 4], id: i16, attrs: u8, datum: &'static [u8]) -> Stored {
+    Stored {
+        ty: OsType(*ty),
+        id,
+        attrs,
+        datum,
+    }
+}
+
+/// The sizes of a partition, as 'SIZE' -1 of a fork.
+pub(crate) fn sized(datum: &'static [u8]) -> Stored {
+    Stored {
+        ty: OsType(*b"SIZE"),
+        id: -1,
+        attrs: 0,
+        datum,
+    }
+}
+
+/// 1024 and 1024 bytes.
+pub(crate) const SMALL: &[u8] = b"\0\0\0\0\x04\0\0\0\x04\0";
+
+/// A name.
+fn name_of(bytes: &[u8]) -> Label {
+    let mut name = ArrayVec::new();
+    for byte in bytes {
+        let _full = name.try_push(*byte).is_err();
+    }
+    Label(name)
+}
+
+/// An application, as it is handed in.
+fn app_of(alloc: Global, name: &[u8], resources: &[Stored], script: &[u8]) -> Result<App, Fail> {
+    let Ok(script) = read_script(alloc, script) else {
+        return Err(Fail::new("a faulty script"));
+    };
+    Ok(App {
+        name: name_of(name),
+        fork: fork_holding(alloc, resources)?,
+        files: Vec::new(alloc),
+        script,
+    })
+}
+
+/// A job of so many bytes, without applications, and without a System file.
+pub(crate) fn empty_job(alloc: Global, memory: u32, events: &[Event]) -> Result<Job, AllocError>
+    ensures { IfOk result (λ job. job.memory ≡ memory) }
+{
+    Ok(Job {
+        memory,
+        system: None,
+        apps: Vec::new(alloc),
+        events: Vec::from_slice(alloc, events)?,
+    })
+}
+
+/// Runs a job over lists.
+pub(crate) fn run_job(alloc: Global, job: &Job) -> Result<Result<Outcome, RunFault>, Fail> {
+    let memory = job.memory;
+    if memory % 16 != 0 || memory < 512 || 134_217_728 < memory || 64 < job.apps.len() {
+        return Err(Fail::new("no job"));
+    }
+    let (outcome, zones) = run_with(alloc, job, ListZones::new(alloc, memory)?);
+    drop(zones);
+    Ok(outcome)
+}
+
+/// The outcome of a job that has one.
+pub(crate) fn outcome_of(alloc: Global, job: &Job) -> Result<Outcome, Fail> {
+    match run_job(alloc, job)? {
+        Ok(outcome) => Ok(outcome),
+        Err(_) => Err(Fail::new("a run without an outcome")),
+    }
+}
+
+/// The transcript of an application of an outcome, or no bytes where it was not launched.
+pub(crate) fn transcript_of(outcome: &Outcome, i: usize) -> &[u8] {
+    match outcome.apps.get(i) {
+        Some(
+            AppOutcome {
+                launched: Some(launched),
+                ..
+            },
+        ) => &launched.transcript,
+        _ => b"",
+    }
+}
+
+/// Adds an application to a job.
+pub(crate) fn add(
+    alloc: Global,
+    job: &mut Job,
+    name: &[u8],
+    resources: &[Stored],
+    script: &[u8],
+) -> Result<(), Fail> {
+    job.apps.push(app_of(alloc, name, resources, script)?)?;
+    Ok(())
+}

@@ -1,0 +1,35 @@
+//! Several applications in one memory, each in a partition of its own: their launches, steps, turns and quits.
+#![tactic(auto)]
+
+mod act;
+mod departure;
+mod desk;
+mod forks;
+mod job;
+mod laws;
+mod live;
+mod outcome;
+mod phase;
+mod preparing;
+mod seat;
+mod seating;
+mod seats;
+mod sizes;
+mod sizing;
+mod system;
+mod turns;
+mod whole;
+
+pub use desk::Desk;
+pub use job::{App, AppFile, Job};
+pub use laws::{
+    a_step_at_the_desk_is_the_applications_own, no_application_runs_after_a_rest,
+    other_applications_stay_as_they_are, what_an_application_leaves_is_its_own,
+};
+pub use outcome::{AppOutcome, Launched, Outcome, RunFault};
+pub use whole::{run_watched, run_with};
+
+#[cfg(test)]
+mod jobs;
+#[cfg(test)]
+mod tests;

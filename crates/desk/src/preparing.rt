@@ -1,0 +1,105 @@
+//! What an application is launched with.
+
+ghost use Rattle.std.specs.Prelude.{◌≡◌, false, map, IsTrue, IfOk};
+ghost use Rattle.std.specs.List.{list_all};
+ghost use Rattle.fork_format.specs.Content.{Group as GroupValue};
+ghost use Rattle.fork_format.specs.Canonical.{has_refs, are_distinct};
+ghost use Rattle.fork_format.specs.View.{view};
+ghost use Rattle.res_calls.specs.Given.{IsReply};
+ghost use Rattle.res_calls.specs.View.{view_file};
+ghost use Rattle.desk.specs.Desk.{ready};
+ghost use Rattle.desk.specs.Job.{file_given, files_given, start_of};
+ghost use Rattle.desk.specs.Sizes.{sizes_of};
+ghost use Rattle.desk.specs.Ready.{IsReady, sizes_seen};
+ghost use Rattle.desk.specs.View.{progress_seen};
+
+use crate::job::{App, AppFile};
+use crate::phase::Phase;
+use crate::seat::Seat;
+use crate::sizes::PartitionSizes;
+use block_store::BlockStore;
+use fork_format::Content;
+use heap_calls::Refusal;
+use mac_words::{FileName, OsErr};
+use res_calls::{File, Resources};
+use std::alloc::{AllocError, Global};
+
+/// What an application is launched with: its resources, and the sizes of the partition that it asks for.
+pub struct Ready {
+    pub(crate) resources: Resources,
+    pub(crate) sizes: PartitionSizes,
+}
+
+/// The application's own file: it has its name.
+fn own_file(alloc: Global, app: &App) -> Result<File, AllocError>
+    ensures { IfOk result (λ f. view_file f ≡ record {
+      name = app.now.name.0.items;
+      fork = app.now.fork.items;
+      written = false;
+    }) }
+{
+    Ok(File {
+        name: FileName(app.name.0.clone()?),
+        fork: Vec::from_slice(alloc, &app.fork)?,
+        written: false,
+    })
+}
+
+/// Another of its files.
+fn other_file(alloc: Global, file: &AppFile) -> Result<File, AllocError>
+    ensures { IfOk result (λ f. view_file f ≡ file_given file.now) }
+{
+    Ok(File {
+        name: file.name.clone()?,
+        fork: Vec::from_slice(alloc, &file.fork)?,
+        written: false,
+    })
+}
+
+/// The files of an application, as they lie on the disk before its launch: its own first.
+fn files_of(alloc: Global, app: &App) -> Result<Vec<File>, AllocError>
+    ensures { IfOk result (λ v. map view_file v.items ≡ files_given app.now) }
+{
+    let mut files = Vec::new(alloc);
+    files.push(own_file(alloc, app)?)?;
+    for file in &app.files {
+        files.push(other_file(alloc, file)?)?;
+    }
+    Ok(files)
+}
+
+/// The resources with which an application is launched, or the code for which its fork can't be opened.
+fn opened(alloc: Global, app: &App, system: &Content<'_>) -> Result<Resources, Refusal>
+    requires types { IsTrue (are_distinct (map (λ (g : GroupValue). g.kind) (view system.now).groups)) }
+    requires references { IsTrue (list_all has_refs (view system.now).groups) }
+    ensures { IsReply (start_of (view system.now) app.now) result }
+{
+    let files = files_of(alloc, app)?;
+    Resources::new(alloc, files, system)
+}
+
+/// The same with the sizes of its partition.
+fn launched_with(alloc: Global, app: &App, system: &Content<'_>) -> Result<Ready, Refusal>
+    requires types { IsTrue (are_distinct (map (λ (g : GroupValue). g.kind) (view system.now).groups)) }
+    requires references { IsTrue (list_all has_refs (view system.now).groups) }
+    ensures answer { IsReady (start_of (view system.now) app.now) result }
+    ensures sizes { IfOk result (λ r. sizes_seen r.sizes ≡ sizes_of r.resources) }
+{
+    let resources = opened(alloc, app, system)?;
+    let sizes = PartitionSizes::of(&resources);
+    Ok(Ready { resources, sizes })
+}
+
+/// What a waiting application is launched with. -30001 where it runs or has ended, and the code of its fork where that
+/// can't be opened.
+pub(crate) fn prepared<S: BlockStore>(alloc: Global, seat: &Seat<'_, S>) -> Result<Ready, Refusal>
+    ensures answer { IsReady (ready (progress_seen seat.now.phase) (start_of (view seat.now.system.now) seat.now.app.now)) result }
+    ensures sizes { IfOk result (λ r. sizes_seen r.sizes ≡ sizes_of r.resources) }
+{
+    match seat.phase {
+        Phase::Waiting => launched_with(alloc, seat.app, seat.system),
+        Phase::Running(_) => Err(Refusal::Code(OsErr::PROFILE)),
+        Phase::Ended(_) => Err(Refusal::Code(OsErr::PROFILE)),
+        Phase::Lost(_) => Err(Refusal::Code(OsErr::PROFILE)),
+    }
+}

@@ -1,0 +1,177 @@
+//! What happens at one place of the desk.
+
+ghost use Rattle.std.specs.Prelude.{◌≡◌, ◌⊎◌, Some, None, option_map, Result, IfOk, OnOk, OnErr, IfSome};
+ghost use Rattle.mac_words.specs.declared.code.OsErr.{OsErr as Code};
+ghost use Rattle.script_text.specs.Script.{Parts};
+ghost use Rattle.res_calls.specs.Files.{Resources as Opened};
+ghost use Rattle.desk.specs.Progress.{Waiting, Running, acted_by, window_of, is_quit, runs};
+ghost use Rattle.desk.specs.Desk.{coming, place_come};
+ghost use Rattle.desk.specs.Outcome.{told_of};
+ghost use Rattle.desk.specs.Live.{lot_of_live, leaves_seen};
+ghost use Rattle.desk.specs.Seated.{IsSeated, RunsWith};
+ghost use Rattle.desk.specs.View.{place_seen, progress_seen, lot_of, left_of};
+
+use crate::act::Act;
+use crate::departure::Departure;
+use crate::live::Live;
+use crate::outcome::Launched;
+use crate::phase::Phase;
+use crate::seat::Seat;
+use block_store::BlockStore;
+use core::mem::replace_with;
+use mac_words::Label;
+use std::alloc::AllocError;
+use windows::Window;
+
+/// The application of a place does as it is told, if it runs. Gives what it leaves, if it ends.
+///
+/// # Errors
+///
+/// The host has no memory for it: the application can then only be closed.
+pub(crate) fn act<'j, S: BlockStore>(
+    seat: &mut Seat<'j, S>,
+    act: Act,
+) -> Result<Option<Departure<'j, S>>, AllocError>
+    ensures place { OnOk result (place_seen seat.new
+        ≡ place_come (place_seen seat.old) (coming act (place_seen seat.old))) }
+    ensures left { IfOk result (λ d. option_map left_of d ≡ (coming act (place_seen seat.old)).left) }
+    ensures name { IfOk result (λ d. IfSome d (λ d. d.name.now.0.items ≡ (place_seen seat.old).name)) }
+    ensures lot { IfOk result (λ d. IfSome d (λ d. lot_of seat.old.phase ≡ Some (d.window, (S.rest d.store).window))) }
+    ensures fewer { (lot_of seat.new.phase ≡ None) ⊎ (lot_of seat.new.phase ≡ lot_of seat.old.phase) }
+    ensures held { OnErr result (window_of (place_seen seat.new).progress ≡ window_of (place_seen seat.old).progress) }
+{
+    let app = seat.app;
+    replace_with(&mut seat.phase, (&app.name, act), advance)
+}
+
+/// How far an application comes that does as it is told, and what it leaves, if it ends.
+fn advance<'j, S: BlockStore>(
+    phase: Phase<'j, S>,
+    told: (&'j Label, Act),
+) -> (Phase<'j, S>, Result<Option<Departure<'j, S>>, AllocError>)
+    ensures progress { (start : Result Opened Code) (script : Parts) → IsSeated start script phase.entry → OnOk result.1
+        (progress_seen result.0 ≡ (acted_by told.entry.1 start script (progress_seen phase.entry)).progress) }
+    ensures left { (start : Result Opened Code) (script : Parts) → IsSeated start script phase.entry → IfOk result.1
+        (λ d. option_map left_of d ≡ (acted_by told.entry.1 start script (progress_seen phase.entry)).left) }
+    ensures seated { (start : Result Opened Code) (script : Parts) → IsSeated start script phase.entry
+        → IsSeated start script result.0 }
+    ensures name { IfOk result.1 (λ d. IfSome d (λ d. d.name.now ≡ told.entry.0.now)) }
+    ensures lot { IfOk result.1 (λ d. IfSome d (λ d. lot_of phase.entry ≡ Some (d.window, (S.rest d.store).window))) }
+    ensures fewer { (lot_of result.0 ≡ None) ⊎ (lot_of result.0 ≡ lot_of phase.entry) }
+    ensures held { OnErr result.1 (window_of (progress_seen result.0) ≡ window_of (progress_seen phase.entry)) }
+{
+    match phase {
+        Phase::Running(live) => go_on(live, told.0, told.1),
+        Phase::Waiting => (Phase::Waiting, Ok(None)),
+        Phase::Ended(launched) => (Phase::Ended(launched), Ok(None)),
+        Phase::Lost(live) => (Phase::Lost(live), Ok(None)),
+    }
+}
+
+/// The same of an application that runs.
+fn go_on<'j, S: BlockStore>(
+    live: Live<'j, S>,
+    name: &'j Label,
+    act: Act,
+) -> (Phase<'j, S>, Result<Option<Departure<'j, S>>, AllocError>)
+    ensures progress { (start : Result Opened Code) (script : Parts) → RunsWith start script live.entry → OnOk result.1
+        (progress_seen result.0 ≡ (acted_by act start script (Running live.entry.window live.entry.steps)).progress) }
+    ensures left { (start : Result Opened Code) (script : Parts) → RunsWith start script live.entry → IfOk result.1
+        (λ d. option_map left_of d ≡ (acted_by act start script (Running live.entry.window live.entry.steps)).left) }
+    ensures seated { (start : Result Opened Code) (script : Parts) → RunsWith start script live.entry
+        → IsSeated start script result.0 }
+    ensures name { IfOk result.1 (λ d. IfSome d (λ d. d.name.now ≡ name.now)) }
+    ensures lot { IfOk result.1 (λ d. IfSome d (λ d. lot_of_live live.entry ≡ (d.window, (S.rest d.store).window))) }
+    ensures fewer { (lot_of result.0 ≡ None) ⊎ (lot_of result.0 ≡ Some (lot_of_live live.entry)) }
+    ensures held { OnErr result.1 (window_of (progress_seen result.0) ≡ Some live.entry.window) }
+{
+    let mut live = live;
+    match live.act(act) {
+        Ok(None) => (Phase::Running(live), Ok(None)),
+        Ok(Some(code)) => {
+            let (launched, window, store) = live.leave(is_asked(act));
+            let departure = Departure {
+                name,
+                window,
+                code,
+                store,
+            };
+            (Phase::Ended(launched), Ok(Some(departure)))
+        }
+        Err(e) => (Phase::Lost(live), Err(e)),
+    }
+}
+
+/// Whether an end is one that was asked for.
+fn is_asked(act: Act) -> bool
+    ensures { result ≡ is_quit act }
+{
+    match act {
+        Act::Step | Act::Turn => false,
+        Act::Quit => true,
+    }
+}
+
+/// The application of a place, which waits, begins to run.
+pub(crate) fn start<'j, S: BlockStore>(seat: &mut Seat<'j, S>, live: Live<'j, S>)
+    requires waits { (place_seen seat.old).progress ≡ Waiting }
+    requires live { RunsWith (place_seen seat.old).start (place_seen seat.old).script live }
+    ensures place { place_seen seat.new
+        ≡ record (place_seen seat.old) { progress = Running live.entry.window live.entry.steps } }
+    ensures lot { lot_of seat.new.phase ≡ Some (lot_of_live live.entry) }
+{
+    replace_with(&mut seat.phase, live, occupy);
+}
+
+fn occupy<'j, S: BlockStore>(phase: Phase<'j, S>, live: Live<'j, S>) -> (Phase<'j, S>, ())
+    requires waits { progress_seen phase ≡ Waiting }
+    ensures progress { progress_seen result.0 ≡ Running live.entry.window live.entry.steps }
+    ensures lot { lot_of result.0 ≡ Some (lot_of_live live.entry) }
+    ensures seated { (start : Result Opened Code) (script : Parts) → RunsWith start script live.entry
+        → IsSeated start script result.0 }
+{
+    match phase {
+        Phase::Waiting => (Phase::Running(live), ()),
+        _ => unreachable!(),
+    }
+}
+
+/// Whether the application of a place runs.
+pub(crate) fn is_running<S: BlockStore>(seat: &Seat<'_, S>) -> bool
+    ensures { result ≡ runs (progress_seen seat.now.phase) }
+{
+    matches!(seat.phase, Phase::Running(_))
+}
+
+/// What an application leaves; its window and the store of its zone, where that is open.
+pub(crate) fn part<'j, S: BlockStore>(
+    phase: Phase<'j, S>,
+) -> (Option<Launched>, Option<(Window, S)>)
+    ensures told { (start : Result Opened Code) (script : Parts) → IsSeated start script phase.entry
+        → option_map leaves_seen result.0 ≡ told_of start script (progress_seen phase.entry) }
+    ensures window { option_map (λ f. f.0) result.1 ≡ window_of (progress_seen phase.entry) }
+    ensures lot { option_map (λ f. (f.0, (S.rest f.1).window)) result.1 ≡ lot_of phase.entry }
+{
+    match phase {
+        Phase::Waiting => (None, None),
+        Phase::Running(live) => {
+            let (launched, window, store) = live.leave(false);
+            (Some(launched), Some((window, store)))
+        }
+        Phase::Ended(launched) => (Some(launched), None),
+        Phase::Lost(live) => {
+            let (_, window, store) = live.leave(false);
+            (None, Some((window, store)))
+        }
+    }
+}
+
+/// A name again.
+pub(crate) fn own_name(name: &Label) -> Label
+    ensures { result.0.items ≡ name.now.0.items }
+{
+    match name.clone() {
+        Ok(name) => name,
+        Err(_) => unreachable!(),
+    }
+}

@@ -1,0 +1,125 @@
+//! The places of the desk.
+
+ghost use Rattle.std.specs.Prelude.{◌≡◌, ◌<◌, length, map, Some, None, option_map, IfOk, OnOk, OnErr, IfSome};
+ghost use Rattle.std.specs.Prelude.{slice_get, slice_set, vec_len, IsTrue};
+ghost use Rattle.std.specs.List.{list_all, list_any};
+ghost use Rattle.fork_format.specs.Content.{Group as GroupValue};
+ghost use Rattle.fork_format.specs.Canonical.{has_refs, are_distinct};
+ghost use Rattle.fork_format.specs.View.{view};
+ghost use Rattle.desk.specs.Progress.{Waiting, Running, window_of, runs};
+ghost use Rattle.desk.specs.Desk.{Place, places_acted, left_by};
+ghost use Rattle.desk.specs.Job.{place_given};
+ghost use Rattle.desk.specs.Outcome.{told};
+ghost use Rattle.desk.specs.Held.{Fewer, holders};
+ghost use Rattle.desk.specs.Live.{lot_of_live};
+ghost use Rattle.desk.specs.Seated.{RunsWith};
+ghost use Rattle.desk.specs.View.{place_seen, progress_seen, seen, lot_of, lots, left_of, told_seen};
+
+use crate::act::Act;
+use crate::departure::Departure;
+use crate::job::App;
+use crate::live::Live;
+use crate::outcome::AppOutcome;
+use crate::phase::Phase;
+use crate::seat::Seat;
+use crate::seating;
+use block_store::BlockStore;
+use fork_format::Content;
+use std::alloc::{AllocError, Global};
+use windows::Window;
+
+/// A place for each application, where it waits.
+pub(crate) fn places<'j, S: BlockStore>(
+    alloc: Global,
+    system: &'j Content<'j>,
+    apps: &'j [App],
+) -> Result<Vec<Seat<'j, S>>, AllocError>
+    requires types { IsTrue (are_distinct (map (λ (g : GroupValue). g.kind) (view system.now).groups)) }
+    requires references { IsTrue (list_all has_refs (view system.now).groups) }
+    ensures places { IfOk result (λ seats. seen seats.items ≡ map (place_given (view system.now)) apps.now) }
+    ensures lots { IfOk result (λ seats. lots seats.items ≡ map (λ app. None) apps.now) }
+    ensures len { IfOk result (λ seats. vec_len seats ≡ length apps.now) }
+{
+    let mut seats = Vec::new(alloc);
+    if seats.reserve(apps.len()).is_err() {
+        seats.destroy_empty();
+        return Err(AllocError);
+    }
+    for app in apps {
+        let seat = Seat {
+            system,
+            app,
+            phase: Phase::Waiting,
+        };
+        match seats.push(seat) {
+            Ok(()) => {}
+            Err(_) => unreachable!(),
+        }
+    }
+    Ok(seats)
+}
+
+/// Application `i` does as it is told, if there is one of that number and it runs. Gives what it leaves, if it ends.
+pub(crate) fn act_at<'j, S: BlockStore>(
+    seats: &mut Vec<Seat<'j, S>>,
+    i: usize,
+    act: Act,
+) -> Result<Option<Departure<'j, S>>, AllocError>
+    ensures places { OnOk result (seen seats.new.items
+        ≡ places_acted act i (slice_get (seen seats.old.items) i) (seen seats.old.items)) }
+    ensures left { IfOk result (λ d. option_map left_of d ≡ left_by act (slice_get (seen seats.old.items) i)) }
+    ensures name { IfOk result (λ d. IfSome d (λ d. option_map (λ (p : Place). p.name)
+        (slice_get (seen seats.old.items) i) ≡ Some d.name.now.0.items)) }
+    ensures lot { IfOk result (λ d. IfSome d (λ d. slice_get (lots seats.old.items) i
+        ≡ Some (Some (d.window, (S.rest d.store).window)))) }
+    ensures fewer { Fewer (lots seats.old.items) (lots seats.new.items) }
+    ensures held { OnErr result (holders (seen seats.new.items) ≡ holders (seen seats.old.items)) }
+    ensures len { vec_len seats.new ≡ vec_len seats.old }
+{
+    if i < seats.len() {
+        seating::act(&mut seats[i], act)
+    } else {
+        Ok(None)
+    }
+}
+
+/// A waiting application begins to run.
+pub(crate) fn start_at<'j, S: BlockStore>(seats: &mut Vec<Seat<'j, S>>, i: usize, live: Live<'j, S>)
+    requires waits { IfSome (slice_get (seen seats.old.items) i) (λ p. p.progress ≡ Waiting) }
+    requires live { IfSome (slice_get (seen seats.old.items) i) (λ p. RunsWith p.start p.script live) }
+    requires there { i < vec_len seats.old }
+    ensures places { IfSome (slice_get (seen seats.old.items) i) (λ p. seen seats.new.items
+        ≡ slice_set (seen seats.old.items) i (record p { progress = Running live.entry.window live.entry.steps })) }
+    ensures lots { lots seats.new.items ≡ slice_set (lots seats.old.items) i (Some (lot_of_live live.entry)) }
+    ensures len { vec_len seats.new ≡ vec_len seats.old }
+{
+    seating::start(&mut seats[i], live);
+}
+
+/// What an application leaves; its window and the store of its zone, where that is open.
+pub(crate) fn leave<'j, S: BlockStore>(seat: Seat<'j, S>) -> (AppOutcome, Option<(Window, S)>)
+    ensures told { told_seen result.0 ≡ told (place_seen seat.entry) }
+    ensures window { option_map (λ f. f.0) result.1 ≡ window_of (progress_seen seat.entry.phase) }
+    ensures lot { option_map (λ f. (f.0, (S.rest f.1).window)) result.1 ≡ lot_of seat.entry.phase }
+{
+    let Seat {
+        system: _,
+        app,
+        phase,
+    } = seat;
+    let (launched, freed) = seating::part(phase);
+    let name = seating::own_name(&app.name);
+    (AppOutcome { name, launched }, freed)
+}
+
+/// Whether any application runs.
+pub(crate) fn any_runs<S: BlockStore>(seats: &[Seat<'_, S>]) -> bool
+    ensures { result ≡ list_any (λ (p : Place). runs p.progress) (seen seats.now) }
+{
+    for seat in seats {
+        if seating::is_running(seat) {
+            return true;
+        }
+    }
+    false
+}

@@ -1,0 +1,107 @@
+//! What happens at the desk.
+
+ghost use Rattle.std.specs.Prelude.{◌≡◌, OnOk};
+ghost use Rattle.desk.specs.declared.act.Act.TheVariants.{Step, Turn, Quit};
+ghost use Rattle.desk.specs.Desk.{acted_at, round, rested, after_event, after_events, larger, longest, longest_or};
+ghost use Rattle.desk.specs.View.{seen};
+
+use crate::act::Act;
+use crate::desk::Desk;
+use crate::seat::Seat;
+use applications::{Watch, tell};
+use block_store::{BlockStore, ZoneMaker};
+use script_text::Event;
+use std::alloc::AllocError;
+
+/// The larger number.
+fn larger(most: usize, other: usize) -> usize
+    ensures { result ≡ larger most other }
+{
+    if most < other { other } else { most }
+}
+
+/// How many steps the longest script has.
+#[tactic(auto, using(crate::proofs::Rounds::longest_next))]
+pub(crate) fn longest_script<S: BlockStore>(seats: &[Seat<'_, S>]) -> usize
+    ensures { result ≡ longest (seen seats.now) }
+{
+    let mut most = 0;
+    for seat in seats {
+        most = larger(most, seat.app.script.steps().len());
+    }
+    most
+}
+
+impl<'j, Z: ZoneMaker> Desk<'j, Z> {
+    /// Each application in order takes a turn, where it runs.
+    #[tactic(auto, using(crate::proofs::Rounds::turned_next))]
+    fn round(&mut self) -> Result<(), AllocError>
+        ensures ok { OnOk result (self.new ≡ round self.old) }
+        ensures memory { self.new.memory ≡ self.old.memory }
+    {
+        let count = self.count();
+        for i in 0..count {
+            self.act(i, Act::Turn)?;
+        }
+        Ok(())
+    }
+
+    /// Takes rounds until no application runs.
+    ///
+    /// # Errors
+    ///
+    /// The host has no memory: the desk can then only be finished.
+    #[tactic(auto, using(crate::proofs::Rounds::round_next, crate::proofs::Rounds::round_none))]
+    pub fn rest(&mut self) -> Result<(), AllocError>
+        ensures ok { OnOk result (self.new ≡ rested self.old) }
+        ensures memory { self.new.memory ≡ self.old.memory }
+    {
+        let most = self.longest();
+        for _ in 0..most {
+            if !self.any_runs() {
+                return Ok(());
+            }
+            self.round()?;
+        }
+        if self.any_runs() {
+            self.round()?;
+        }
+        Ok(())
+    }
+
+    /// Lets an event happen.
+    ///
+    /// # Errors
+    ///
+    /// The host has no memory: the desk can then only be finished.
+    pub fn serve(&mut self, event: Event) -> Result<(), AllocError>
+        ensures ok { OnOk result (self.new ≡ after_event event self.old) }
+        ensures memory { self.new.memory ≡ self.old.memory }
+    {
+        match event {
+            Event::Launch(i) => self.launch(i),
+            Event::Step(i) => self.step(i),
+            Event::Turn(i) => self.turn(i),
+            Event::Quit(i) => self.quit(i),
+            Event::Rest => self.rest(),
+        }
+    }
+}
+
+/// Lets events happen, up to the first that the host has no memory for, and tells a watch how many have happened.
+#[tactic(auto, using(crate::proofs::Rounds::events_next))]
+pub(crate) fn serve_all<Z: ZoneMaker, W: Watch>(
+    desk: &mut Desk<'_, Z>,
+    events: &[Event],
+    watch: &mut W,
+) -> Result<(), AllocError>
+    ensures ok { OnOk result (desk.new ≡ after_events events.now desk.old) }
+    ensures memory { desk.new.memory ≡ desk.old.memory }
+    ensures silent { W.printed watch.new ≡ W.printed watch.old }
+{
+    for (index, event) in events.iter().enumerate() {
+        desk.serve(*event)?;
+        tell(watch, index + 1, events.len());
+    }
+    Ok(())
+}

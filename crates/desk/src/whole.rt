@@ -1,0 +1,158 @@
+//! Whole runs.
+
+ghost use Rattle.std.specs.Prelude.{◌≡◌, ◌≤◌, ◌%◌, ◌++◌, [], Ok, length, map, IsTrue, IfOk, OnOk};
+ghost use Rattle.std.specs.List.{list_all, flat_map};
+ghost use Rattle.fork_format.specs.Content.{Group as GroupValue};
+ghost use Rattle.fork_format.specs.Canonical.{has_refs, are_distinct};
+ghost use Rattle.fork_format.specs.View.{view};
+ghost use Rattle.applications.specs.Laws.{ShowsPut, HoldsPut, KeepsLocked, KeepsFixed, EmptiesPurgeable};
+ghost use Rattle.desk.specs.Desk.{after_events};
+ghost use Rattle.desk.specs.Job.{opening};
+ghost use Rattle.desk.specs.Outcome.{outcome_of};
+ghost use Rattle.desk.specs.View.{outcome_seen};
+ghost use Rattle.desk.specs.Whole.{run_of, IsRun, EachLaunched, IsAlone, InEachTry};
+
+use crate::desk::Desk;
+use crate::forks::write_forks;
+use crate::job::Job;
+use crate::outcome::{Outcome, RunFault};
+use crate::system::read_system;
+use crate::turns::serve_all;
+use applications::{Unwatched, Watch};
+use block_store::ZoneMaker;
+use fork_format::Content;
+use std::alloc::{AllocError, Global};
+
+/// Runs the events of a job at a desk, and ends its log with a line for each fork that was written.
+fn run_events<Z: ZoneMaker, W: Watch>(
+    mut desk: Desk<'_, Z>,
+    job: &Job,
+    watch: &mut W,
+) -> (Result<Outcome, AllocError>, Z)
+    ensures outcome { IfOk result.0 (λ o. outcome_seen o
+        ≡ outcome_of (after_events job.now.events.items desk.entry)) }
+    ensures windows { Z.windows result.1 ≡ [] }
+    ensures memory { Z.memory result.1 ≡ desk.entry.memory }
+    ensures silent { W.printed watch.new ≡ W.printed watch.old }
+{
+    let served = serve_all(&mut desk, &job.events, watch);
+    let (apps, mut log, zones) = desk.finish();
+    match served {
+        Err(fault) => (Err(fault), zones),
+        Ok(()) => match write_forks(&mut log, &apps) {
+            Err(fault) => (Err(fault), zones),
+            Ok(()) => (Ok(Outcome { desk: log, apps }), zones),
+        },
+    }
+}
+
+/// Runs a job by the System file's content.
+fn run_by<Z: ZoneMaker, W: Watch>(
+    alloc: Global,
+    job: &Job,
+    system: &Content<'_>,
+    zones: Z,
+    watch: &mut W,
+) -> (Result<Outcome, AllocError>, Z)
+    requires none { Z.windows zones ≡ [] }
+    requires memory { Z.memory zones ≡ job.now.memory }
+    requires multiple { job.now.memory % 16 ≡ 0 }
+    requires few { length job.now.apps.items ≤ 64 }
+    requires types { IsTrue (are_distinct (map (λ (g : GroupValue). g.kind) (view system.now).groups)) }
+    requires references { IsTrue (list_all has_refs (view system.now).groups) }
+    ensures outcome { IfOk result.0 (λ o. outcome_seen o ≡ outcome_of
+        (after_events job.now.events.items (opening job.now.memory (view system.now) job.now.apps.items))) }
+    ensures windows { Z.windows result.1 ≡ [] }
+    ensures memory { Z.memory result.1 ≡ job.now.memory }
+    ensures silent { W.printed watch.new ≡ W.printed watch.old }
+{
+    match Desk::new(alloc, job.memory, system, &job.apps, zones) {
+        Err(zones) => (Err(AllocError), zones),
+        Ok(desk) => run_events(desk, job, watch),
+    }
+}
+
+/// Runs a job: its applications wait at a desk of its memory, and its events happen there in order. The maker of zones
+/// comes back with none open. The watch is told how many events have happened.
+///
+/// # Errors
+///
+/// The System file's fork can't be read, or the host has no memory.
+///
+/// *Inside Macintosh: Processes*, chapter 1.
+pub fn run_watched<Z: ZoneMaker, W: Watch>(
+    alloc: Global,
+    job: &Job,
+    zones: Z,
+    watch: &mut W,
+) -> (Result<Outcome, RunFault>, Z)
+    requires none { Z.windows zones ≡ [] }
+    requires memory { Z.memory zones ≡ job.now.memory }
+    requires multiple { job.now.memory % 16 ≡ 0 }
+    requires few { length job.now.apps.items ≤ 64 }
+
+    // What it leaves is what the definition of the desk gives for the events, one after the other: the log, and of each
+    // application its transcript and its files. It is a fault of the System file exactly where its fork can't be read.
+    ensures outcome { IsRun (run_of job.now) result.0 }
+
+    // For every interleaving of launches, calls and quits, each launched application's transcript and forks are those
+    // that it would give alone with the same partition size, its own files and the same System file; each handle that was
+    // neither emptied nor disposed of shows the bytes last put there, wherever its block has moved; and no locked block
+    // moves or is purged.
+    ensures alone { IfOk result.0 (λ o. EachLaunched IsAlone job.now o) }
+    ensures shown { IfOk result.0 (λ o. EachLaunched (InEachTry ShowsPut) job.now o) }
+    ensures held { IfOk result.0 (λ o. EachLaunched (InEachTry HoldsPut) job.now o) }
+    ensures locked { IfOk result.0 (λ o. EachLaunched (InEachTry KeepsLocked) job.now o) }
+    ensures fixed { IfOk result.0 (λ o. EachLaunched (InEachTry KeepsFixed) job.now o) }
+    ensures purged { IfOk result.0 (λ o. EachLaunched (InEachTry EmptiesPurgeable) job.now o) }
+
+    // The maker of zones comes back with none open.
+    ensures windows { Z.windows result.1 ≡ [] }
+    ensures memory { Z.memory result.1 ≡ job.now.memory }
+
+    // Being watched prints nothing.
+    ensures silent { W.printed watch.new ≡ W.printed watch.old }
+{
+    let system = match read_system(alloc, &job.system) {
+        Ok(system) => system,
+        Err(fault) => return (Err(fault), zones),
+    };
+    let (outcome, zones) = run_by(alloc, job, &system, zones, watch);
+    match outcome {
+        Ok(outcome) => (Ok(outcome), zones),
+        Err(_) => (Err(RunFault::HostMemory), zones),
+    }
+}
+
+/// Runs a job that nobody watches, as `run_watched` does.
+///
+/// # Errors
+///
+/// The System file's fork can't be read, or the host has no memory.
+pub fn run_with<Z: ZoneMaker>(alloc: Global, job: &Job, zones: Z) -> (Result<Outcome, RunFault>, Z)
+    requires none { Z.windows zones ≡ [] }
+    requires memory { Z.memory zones ≡ job.now.memory }
+    requires multiple { job.now.memory % 16 ≡ 0 }
+    requires few { length job.now.apps.items ≤ 64 }
+
+    // What it leaves is what the definition of the desk gives for the events, one after the other: the log, and of each
+    // application its transcript and its files. It is a fault of the System file exactly where its fork can't be read.
+    ensures outcome { IsRun (run_of job.now) result.0 }
+
+    // For every interleaving of launches, calls and quits, each launched application's transcript and forks are those
+    // that it would give alone with the same partition size, its own files and the same System file; each handle that was
+    // neither emptied nor disposed of shows the bytes last put there, wherever its block has moved; and no locked block
+    // moves or is purged.
+    ensures alone { IfOk result.0 (λ o. EachLaunched IsAlone job.now o) }
+    ensures shown { IfOk result.0 (λ o. EachLaunched (InEachTry ShowsPut) job.now o) }
+    ensures held { IfOk result.0 (λ o. EachLaunched (InEachTry HoldsPut) job.now o) }
+    ensures locked { IfOk result.0 (λ o. EachLaunched (InEachTry KeepsLocked) job.now o) }
+    ensures fixed { IfOk result.0 (λ o. EachLaunched (InEachTry KeepsFixed) job.now o) }
+    ensures purged { IfOk result.0 (λ o. EachLaunched (InEachTry EmptiesPurgeable) job.now o) }
+
+    // The maker of zones comes back with none open.
+    ensures windows { Z.windows result.1 ≡ [] }
+    ensures memory { Z.memory result.1 ≡ job.now.memory }
+{
+    run_watched(alloc, job, zones, &mut Unwatched)
+}

@@ -1,0 +1,24 @@
+//! An input by its path.
+
+ghost use Rattle.std.specs.Prelude.{◌≡◌};
+
+use crate::fault::ToolFault;
+use crate::host::{Host, ReadError};
+use std::alloc::Global;
+
+/// All bytes of a file.
+///
+/// # Errors
+///
+/// It can't be read, or the host refuses memory.
+pub fn read_input<H: Host>(alloc: Global, host: &mut H, path: &str) -> Result<Vec<u8>, ToolFault>
+    ensures silent { H.printed host.new ≡ H.printed host.old }
+{
+    match host.read(alloc, path) {
+        Ok(bytes) => Ok(bytes),
+        Err(ReadError::CannotRead) => Err(ToolFault::CannotRead {
+            path: String::from_str(alloc, path)?,
+        }),
+        Err(ReadError::HostMemory) => Err(ToolFault::HostMemory),
+    }
+}

@@ -1,0 +1,5 @@
+pub mod Given
+pub mod Holes
+pub mod Largest
+pub mod Order
+pub mod Places

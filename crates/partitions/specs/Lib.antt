@@ -1,0 +1,4 @@
+pub mod Code
+pub mod Fitting
+pub mod Grant
+pub mod Granted

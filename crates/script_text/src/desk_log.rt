@@ -1,0 +1,83 @@
+//! The lines of desk.log, which says when applications were launched, how they ended, and what forks they wrote.
+//! Each function appends to a text; where the host refuses memory, the text may end in part of a line.
+
+ghost use Rattle.std.specs.Prelude.{◌≡◌, ◌++◌, OnOk, codes, decimal};
+ghost use Rattle.script_text.specs.DeskLog.{launch_of, refusal_of, end_of, fork_of};
+ghost use Rattle.script_text.specs.Transcript.{hex};
+
+use crate::transcript::{push_code, write_hex};
+use itoa::Buffer;
+use mac_words::{FileName, Label, OsErr};
+use std::alloc::AllocError;
+
+/// Appends the line of a launch: `launch`, the application's name, 0 and the partition's size in bytes.
+pub fn write_app_launch(text: &mut Vec<u8>, name: &Label, size: u32) -> Result<(), AllocError>
+    ensures { OnOk result (text.new.items ≡ text.old.items ++ launch_of name.now.0.items size) }
+{
+    text.extend_from_slice(b"launch ")?;
+    text.extend_from_slice(name.0.as_slice())?;
+    text.extend_from_slice(b" 0 ")?;
+    text.extend_from_slice(Buffer::new().format(size).as_bytes())?;
+    text.extend_from_slice(b"\n")
+}
+
+/// Appends the line of a launch that was refused: `launch`, the application's name and the code.
+pub fn write_app_refusal(text: &mut Vec<u8>, name: &Label, code: OsErr) -> Result<(), AllocError>
+    ensures { OnOk result (text.new.items ≡ text.old.items ++ refusal_of name.now.0.items code.0) }
+{
+    text.extend_from_slice(b"launch ")?;
+    text.extend_from_slice(name.0.as_slice())?;
+    text.extend_from_slice(b" ")?;
+    push_code(text, code)?;
+    text.extend_from_slice(b"\n")
+}
+
+/// Appends the line of an application's end: `end`, its name and the code.
+pub fn write_app_end(text: &mut Vec<u8>, name: &Label, code: OsErr) -> Result<(), AllocError>
+    ensures { OnOk result (text.new.items ≡ text.old.items ++ end_of name.now.0.items code.0) }
+{
+    text.extend_from_slice(b"end ")?;
+    text.extend_from_slice(name.0.as_slice())?;
+    text.extend_from_slice(b" ")?;
+    push_code(text, code)?;
+    text.extend_from_slice(b"\n")
+}
+
+/// Appends `fork`, an application's name, and the place of a file among the application's.
+fn push_place(text: &mut Vec<u8>, name: &Label, place: usize) -> Result<(), AllocError>
+    ensures { OnOk result (text.new.items
+        ≡ text.old.items ++ (codes "fork " ++ name.now.0.items ++ codes " " ++ decimal place)) }
+{
+    text.extend_from_slice(b"fork ")?;
+    text.extend_from_slice(name.0.as_slice())?;
+    text.extend_from_slice(b" ")?;
+    text.extend_from_slice(Buffer::new().format(place).as_bytes())
+}
+
+/// Appends a file's name in hexadecimal behind a `$`, and the length of its fork.
+fn push_file(text: &mut Vec<u8>, file: &FileName, length: usize) -> Result<(), AllocError>
+    ensures { OnOk result (text.new.items
+        ≡ text.old.items ++ (codes " $" ++ hex file.now.0.items ++ codes " " ++ decimal length)) }
+{
+    text.extend_from_slice(b" $")?;
+    write_hex(text, file.0.as_slice())?;
+    text.extend_from_slice(b" ")?;
+    text.extend_from_slice(Buffer::new().format(length).as_bytes())
+}
+
+/// Appends the line of a fork that was written: `fork`, the application's name, the place of the file among the
+/// application's from 0, the file's name as `$` and hexadecimal digits in lower case, and the fork's length in bytes.
+pub fn write_app_fork(
+    text: &mut Vec<u8>,
+    name: &Label,
+    place: usize,
+    file: &FileName,
+    length: usize,
+) -> Result<(), AllocError>
+    ensures { OnOk result (text.new.items
+        ≡ text.old.items ++ fork_of name.now.0.items place file.now.0.items length) }
+{
+    push_place(text, name, place)?;
+    push_file(text, file, length)?;
+    text.extend_from_slice(b"\n")
+}

@@ -1,0 +1,57 @@
+//! The words that lines of a job begin with.
+
+ghost use Rattle.std.specs.Prelude.{◌≡◌};
+ghost use Rattle.script_text.specs.Job.{spelling, word_spelled};
+
+/// The word that a line of a job begins with.
+#[derive(Clone, Copy, Debug, PartialEq, Eq)]
+pub enum JobWord {
+    Memory,
+    System,
+    App,
+    File,
+    Launch,
+    Step,
+    Turn,
+    Quit,
+    Rest,
+}
+
+static JOB_WORDS: [JobWord; 9] = [
+    JobWord::Memory,
+    JobWord::System,
+    JobWord::App,
+    JobWord::File,
+    JobWord::Launch,
+    JobWord::Step,
+    JobWord::Turn,
+    JobWord::Quit,
+    JobWord::Rest,
+];
+
+impl JobWord {
+    /// How the word is spelled.
+    pub fn text(self) -> &'static [u8]
+        ensures { result.now ≡ spelling self }
+    {
+        match self {
+            JobWord::Memory => b"memory",
+            JobWord::System => b"system",
+            JobWord::App => b"app",
+            JobWord::File => b"file",
+            JobWord::Launch => b"launch",
+            JobWord::Step => b"step",
+            JobWord::Turn => b"turn",
+            JobWord::Quit => b"quit",
+            JobWord::Rest => b"rest",
+        }
+    }
+
+    /// The word that is spelled so.
+    #[tactic(auto, unfolding(crate::specs::Job::word_spelled))]
+    pub fn find(token: &[u8]) -> Option<JobWord>
+        ensures { result ≡ word_spelled token.now }
+    {
+        JOB_WORDS.iter().copied().find(|word| word.text() == token)
+    }
+}
