@@ -2,4 +2,6 @@ pub mod Stretches
 pub mod Purges
 pub mod Looks
 pub mod PurgedSums
+pub mod Rising
+pub mod Growing
 pub mod Sparing

@@ -53,7 +53,7 @@ impl ListZones {
 impl ZoneMaker for ListZones {
     type Store = ListStore;
 
-    ghost use Rattle.std.specs.Prelude.{◌≡◌};
+    ghost use Rattle.std.specs.Prelude.{◌≡◌, None};
 
     ghost memory = { λ z. z.memory };
 
@@ -62,6 +62,8 @@ impl ZoneMaker for ListZones {
     ghost made = { λ z w site. site.window.len ≡ w.len };
 
     ghost left = { λ z w blocks. Unit {0} };
+
+    ghost byte = { λ z place. None };
 
     fn open(&mut self, window: Window) -> Result<ListStore, AllocError> {
         let store = ListStore::new(self.alloc, window.len)?;

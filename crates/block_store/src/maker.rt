@@ -1,10 +1,11 @@
 //! The contract of a memory in which zones are opened and closed.
 
-ghost use Rattle.std.specs.Prelude.{◌≡◌, ℕ, ◌+◌, ◌≤◌, ◌<◌, ◌%◌, List, length, false, IsTrue, IsErr, IfOk};
+ghost use Rattle.std.specs.Prelude.{◌≡◌, ℕ, ◌+◌, ◌≤◌, ◌<◌, ◌%◌, List, Option, length, false, IsTrue, IsErr, IfOk};
 ghost use Rattle.std.specs.Prelude.{OnOk, OnErr};
 ghost use Rattle.std.specs.List.{Contains};
 ghost use Rattle.windows.specs.declared.Window.{Window};
 ghost use Rattle.windows.specs.declared.list.TheConstants.{MOST_WINDOWS};
+ghost use Rattle.windows.specs.Outside.{IsOutside};
 ghost use Rattle.windows.specs.Windows.{IsApart, Misses, with_window, without_window};
 ghost use Rattle.block_store.specs.Block.{Block, fresh};
 ghost use Rattle.block_store.specs.Slot.{is_used};
@@ -34,6 +35,9 @@ pub trait ZoneMaker {
     /// The bytes in a window are those of a zone of these blocks. It says nothing where the memory has no bytes.
     ghost left: { Self → Window → List Block → Type 0 };
 
+    /// The byte at a place of the memory, where that is in no window that is open. None where the memory has no bytes.
+    ghost byte: { Self → ℕ → Option ℕ };
+
     /// A fresh zone in a window: a block of 64 master pointers, and the rest Free.
     ///
     /// # Errors
@@ -59,7 +63,8 @@ pub trait ZoneMaker {
         ensures left { (w : Window) (blocks : List Block) →
             Misses w window → left self.old w blocks → left self.new w blocks }
         ensures same { IsErr result →
-            (w : Window) (blocks : List Block) → left self.old w blocks → left self.new w blocks };
+            (w : Window) (blocks : List Block) → left self.old w blocks → left self.new w blocks }
+        ensures outside { (place : ℕ) → IsOutside place window → byte self.new place ≡ byte self.old place };
 
     /// Closes the zone of a window. Its bytes stay as they are until a window that meets it is opened.
     fn close(&mut self, window: Window, store: Self::Store)
@@ -70,7 +75,8 @@ pub trait ZoneMaker {
         ensures kept { (w : Window) (site : Site) → made self.old w site → made self.new w site }
         ensures lies { left self.new window (Self.Store.zone store) }
         ensures left { (w : Window) (blocks : List Block) →
-            Misses w window → left self.old w blocks → left self.new w blocks };
+            Misses w window → left self.old w blocks → left self.new w blocks }
+        ensures outside { (place : ℕ) → IsOutside place window → byte self.new place ≡ byte self.old place };
 
     /// A memory has at most 2^27 bytes.
     ghost small: { (maker : Self) → memory maker ≤ GREATEST_ZONE };

@@ -5,6 +5,8 @@ ghost use Rattle.block_store.specs.Find.{FindsLowestRun};
 ghost use Rattle.block_store.specs.Sparing.{purged, most_purges};
 ghost use Rattle.block_store.specs.Rest.{IsRest};
 ghost use Rattle.block_store.specs.Run.{run_spot, has_free};
+ghost use Rattle.heap_calls.specs.Inner.LookLaws.{base-ends};
+ghost use Rattle.block_store.proofs.Emptied.Rising.{run-rises};
 ghost use Rattle.heap_calls.specs.Inner.Base.{IsBaseAt, base, base_searches};
 ghost use Rattle.heap_calls.specs.Inner.Numbered.{KeepsFixed};
 ghost use Rattle.heap_calls.specs.Inner.NewSlot.{HasMore, IsMade, IsSlot, zone_searches};
@@ -48,6 +50,10 @@ impl Look for LowestRun {
     fn goes_on<S: BlockStore>(&self, store: &S, purges: u32) -> bool {
         next_goes(store, purges, self.sparing)
     }
+
+    ghost rises = { λ look zone k m allows. run-rises look.bytes look.sparing zone k m };
+
+    ghost ends = { λ look zone k allows. base-ends look.bytes look.sparing zone k };
 }
 
 /// The lowest run with so many Free bytes after as few purges as serve.

@@ -13,6 +13,7 @@ ghost use Rattle.heap_calls.specs.Inner.Growing.{FindsGrowth, growing, growing_s
 ghost use Rattle.heap_calls.specs.Inner.Growing.{SameBlocks, IsToGrow, CanGrowUp, GrewUp};
 ghost use Rattle.heap_calls.specs.Inner.GrowingInPlace.{made_zone};
 ghost use Rattle.heap_calls.specs.Moves.{place_moves, grow_moves, room_moves};
+ghost use Rattle.heap_calls.specs.Inner.LookLaws.{growth-rises, growth-ends};
 ghost use Rattle.heap_calls.specs.Inner.Least.{CanGrow};
 ghost use Rattle.heap_calls.specs.Inner.Numbered.{KeepsFixed};
 ghost use Rattle.heap_calls.specs.Inner.Packed.{Packs};
@@ -107,6 +108,11 @@ impl Look for FirstGrowth {
     fn goes_on<S: BlockStore>(&self, store: &S, purges: u32) -> bool {
         next_goes(store, purges, self.sparing)
     }
+
+    ghost rises = { λ look zone k m can. growth-rises look.number look.size look.bytes look.more look.sparing zone k m
+        can };
+
+    ghost ends = { λ look zone k can. growth-ends look.number look.size look.bytes look.more look.sparing zone k };
 }
 
 /// How the block of a slot grows by `more` bytes to `bytes`, and to `size` bytes of content, after as few purges as

@@ -11,6 +11,7 @@ ghost use Rattle.block_store.specs.Grow.{grow_fixed};
 ghost use Rattle.block_store.specs.Sparing.{spared};
 ghost use Rattle.block_store.specs.Rest.{IsRest};
 ghost use Rattle.heap_calls.specs.Inner.GrowingInPlace.{made_zone, enough, seen_size, room_at, FindsPurges, pushed_up};
+ghost use Rattle.heap_calls.specs.Inner.LookLaws.{above-rises, above-ends};
 ghost use Rattle.heap_calls.specs.Inner.Least.{IsMost, enough_above};
 ghost use Rattle.heap_calls.specs.Inner.Numbered.{KeepsFixed};
 ghost use Rattle.heap_calls.specs.Searches.{room_searches, in_place_searches};
@@ -160,6 +161,11 @@ impl Look for RunAbove {
     fn goes_on<S: BlockStore>(&self, store: &S, purges: u32) -> bool {
         purges < self.most
     }
+
+    ghost rises = { λ look zone k m allows. above-rises look.bytes look.sparing (spot_at look.place zone) k m };
+
+    ghost ends = { λ look zone k allows. above-ends look.bytes look.most look.sparing (spot_at look.place zone) k
+        allows };
 }
 
 /// How few blocks go from the run above the block at a place for it to have so many Free bytes.

@@ -1,15 +1,17 @@
 //! The least number of purges after which what is looked for is there.
 
-ghost use Rattle.std.specs.Prelude.{◌≡◌, ◌≤◌, ℕ, Bool, Option, List, is_some, nat_lt};
+ghost use Rattle.std.specs.Prelude.{◌≡◌, ◌≤◌, ◌<◌, ℕ, Bool, true, false, not, Option, List, is_some, nat_lt};
 ghost use Rattle.block_store.specs.Block.{Block};
 ghost use Rattle.block_store.specs.Compact.{least_or_last};
 ghost use Rattle.block_store.specs.Sparing.{most_purges};
 ghost use Rattle.block_store.specs.declared.measures.TheConstants.{GREATEST_ZONE};
+ghost use Rattle.heap_calls.specs.Inner.Least.{NoneBelow};
+ghost use Rattle.block_store.proofs.Plain.Trials.{past-rises, past-ends};
 
-use block_store::{BlockStore, Sparing};
+use block_store::{BlockStore, GREATEST_ZONE, Sparing};
 
 /// What is looked for in a zone after so many purges.
-pub trait Look {
+pub trait Look: Copy {
     /// What tells where it was found.
     type Found: Copy;
 
@@ -36,6 +38,14 @@ pub trait Look {
         requires { Allows self.now (S.zone store.now) }
         ensures more { result ≡ nat_lt purges (most self.now (S.zone store.now)) }
         ensures few { most self.now (S.zone store.now) ≤ GREATEST_ZONE };
+
+    /// What is there after some purges is there after more.
+    ghost rises: { (look : Self) (zone : List Block) (k m : ℕ) → Allows look zone → k ≤ m
+        → is_there look zone k ≡ true → is_there look zone m ≡ true };
+
+    /// Once all that can go are gone, no purge does more.
+    ghost ends: { (look : Self) (zone : List Block) (k : ℕ) → Allows look zone → most look zone ≤ k
+        → is_there look zone k ≡ is_there look zone (most look zone) };
 }
 
 /// What looking came to: what was found, and after how many purges.
@@ -45,7 +55,8 @@ pub struct Looked<F> {
     pub purges: u32,
 }
 
-/// Looks for something after as few purges as serve; after all that there can be where none do.
+/// Looks for something after as few purges as serve; after all that there can be where none do. One look is enough
+/// where no purge is wanted; else about two looks are taken for each binary digit of the number of purges.
 pub fn least_look<S: BlockStore, L: Look>(store: &S, look: &L) -> Looked<L::Found>
     requires { L.Allows look.now (S.zone store.now) }
     ensures least { result.purges ≡ least_or_last (L.is_there look.now (S.zone store.now))
@@ -54,14 +65,130 @@ pub fn least_look<S: BlockStore, L: Look>(store: &S, look: &L) -> Looked<L::Foun
     ensures found { L.Finds look.now (S.zone store.now) result.purges result.found }
     ensures few { result.purges ≤ GREATEST_ZONE }
 {
-    let mut purges = 0;
+    let found = look.look(store, 0);
+    if found.is_some() || !look.goes_on(store, 0) {
+        return Looked { found, purges: 0 };
+    }
+    let after_all = look.look(store, GREATEST_ZONE);
+    if after_all.is_some() {
+        return fewest(store, look);
+    }
+    let purges = fewest(store, &NoneLeft { look: *look }).purges;
+    Looked {
+        found: look.look(store, purges),
+        purges,
+    }
+}
+
+/// That none of the blocks is left that can go, as something to be looked for.
+#[derive(Clone, Copy)]
+struct NoneLeft<L> {
+    look: L,
+}
+
+impl<L: Look> Look for NoneLeft<L> {
+    type Found = ();
+
+    ghost Allows = { λ none zone. L.Allows none.look zone };
+
+    ghost is_there = { λ none zone k. not (nat_lt k (L.most none.look zone)) };
+
+    ghost most = { λ none zone. L.most none.look zone };
+
+    ghost Finds = { λ none zone k found. Unit {0} };
+
+    fn look<S: BlockStore>(&self, store: &S, purges: u32) -> Option<()> {
+        if self.look.goes_on(store, purges) {
+            None
+        } else {
+            Some(())
+        }
+    }
+
+    fn goes_on<S: BlockStore>(&self, store: &S, purges: u32) -> bool {
+        self.look.goes_on(store, purges)
+    }
+
+    ghost rises = { λ none zone k m allows. past-rises (L.most none.look zone) k m };
+
+    ghost ends = { λ none zone k allows. past-ends (L.most none.look zone) k };
+}
+
+/// Two numbers of purges: after the first something isn't there yet, and after the second it is.
+#[derive(Clone, Copy)]
+struct Between<F> {
+    before: u32,
+    looked: Looked<F>,
+}
+
+/// Looks for something after as few purges as serve, where it is there after all, and not after none.
+fn fewest<S: BlockStore, L: Look>(store: &S, look: &L) -> Looked<L::Found>
+    requires allows { L.Allows look.now (S.zone store.now) }
+    requires after_none { L.is_there look.now (S.zone store.now) 0 ≡ false }
+    requires after_all { L.is_there look.now (S.zone store.now) GREATEST_ZONE ≡ true }
+    ensures least { NoneBelow (L.is_there look.now (S.zone store.now)) result.purges }
+    ensures there { L.is_there look.now (S.zone store.now) result.purges ≡ true }
+    ensures some { is_some result.found ≡ true }
+    ensures found { L.Finds look.now (S.zone store.now) result.purges result.found }
+{
+    halve(store, look, double(store, look))
+}
+
+/// Doubles the number of purges until it is there.
+fn double<S: BlockStore, L: Look>(store: &S, look: &L) -> Between<L::Found>
+    requires allows { L.Allows look.now (S.zone store.now) }
+    requires after_none { L.is_there look.now (S.zone store.now) 0 ≡ false }
+    requires after_all { L.is_there look.now (S.zone store.now) GREATEST_ZONE ≡ true }
+    ensures before { L.is_there look.now (S.zone store.now) result.before ≡ false }
+    ensures less { result.before < result.looked.purges }
+    ensures there { L.is_there look.now (S.zone store.now) result.looked.purges ≡ true }
+    ensures some { is_some result.looked.found ≡ true }
+    ensures found { L.Finds look.now (S.zone store.now) result.looked.purges result.looked.found }
+{
+    let mut before = 0;
+    let mut purges = 1;
     loop {
         let found = look.look(store, purges);
-        if found.is_some() || !look.goes_on(store, purges) {
-            return Looked { found, purges };
+        if found.is_some() {
+            let looked = Looked { found, purges };
+            return Between { before, looked };
         }
-        purges += 1;
+        before = purges;
+        purges *= 2;
     }
+}
+
+/// Halves what is between two numbers of purges, until the second is the least after which it is there.
+fn halve<S: BlockStore, L: Look>(
+    store: &S,
+    look: &L,
+    between: Between<L::Found>,
+) -> Looked<L::Found>
+    requires allows { L.Allows look.now (S.zone store.now) }
+    requires before { L.is_there look.now (S.zone store.now) between.before ≡ false }
+    requires less { between.before < between.looked.purges }
+    requires there { L.is_there look.now (S.zone store.now) between.looked.purges ≡ true }
+    requires some { is_some between.looked.found ≡ true }
+    requires found { L.Finds look.now (S.zone store.now) between.looked.purges between.looked.found }
+    ensures least { NoneBelow (L.is_there look.now (S.zone store.now)) result.purges }
+    ensures there { L.is_there look.now (S.zone store.now) result.purges ≡ true }
+    ensures some { is_some result.found ≡ true }
+    ensures found { L.Finds look.now (S.zone store.now) result.purges result.found }
+{
+    let mut before = between.before;
+    let mut found = between.looked.found;
+    let mut purges = between.looked.purges;
+    while purges - before > 1 {
+        let middle = before + (purges - before) / 2;
+        let middle_found = look.look(store, middle);
+        if middle_found.is_some() {
+            found = middle_found;
+            purges = middle;
+        } else {
+            before = middle;
+        }
+    }
+    Looked { found, purges }
 }
 
 /// Whether one more block can go after so many purges.

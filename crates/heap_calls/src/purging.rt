@@ -5,6 +5,8 @@ ghost use Rattle.block_store.specs.Block.{free_sum};
 ghost use Rattle.block_store.specs.Compact.{has_room};
 ghost use Rattle.block_store.specs.Sparing.{purged, most_purges};
 ghost use Rattle.block_store.specs.declared.sparing.Sparing.TheVariants.{Nothing};
+ghost use Rattle.heap_calls.specs.Inner.LookLaws.{room-ends};
+ghost use Rattle.block_store.proofs.Emptied.Rising.{has_room-rises};
 ghost use Rattle.heap_calls.specs.Inner.Given.{IsAnswer};
 ghost use Rattle.heap_calls.specs.Answer.{noting, silent, searching, moving};
 ghost use Rattle.heap_calls.specs.Purging.{blocks_purged, purged_all, purge_mem, purge_space, max_mem};
@@ -122,6 +124,10 @@ impl Look for FreeBlock {
     fn goes_on<S: BlockStore>(&self, store: &S, purges: u32) -> bool {
         next_goes(store, purges, Sparing::Nothing)
     }
+
+    ghost rises = { λ look zone k m allows. has_room-rises look.bytes Nothing zone k m };
+
+    ghost ends = { λ look zone k allows. room-ends look.bytes Nothing zone k };
 }
 
 /// How many blocks are emptied, lowest first, until a Free block of so many bytes stands; all that may be

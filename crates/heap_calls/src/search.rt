@@ -9,6 +9,8 @@ ghost use Rattle.block_store.specs.Rest.{KeepsSlots};
 ghost use Rattle.heap_calls.specs.Moves.{place_moves};
 ghost use Rattle.heap_calls.specs.Inner.Numbered.{KeepsFixed};
 ghost use Rattle.heap_calls.specs.Inner.Packed.{Packs, seat_moves};
+ghost use Rattle.heap_calls.specs.Inner.LookLaws.{seat-ends};
+ghost use Rattle.block_store.proofs.Emptied.Growing.{place-rises};
 ghost use Rattle.heap_calls.specs.Inner.Search.{FindsSeat, IsAt, seat, seat_searches};
 ghost use Rattle.block_store.specs.declared.measures.TheConstants.{GREATEST_ZONE};
 
@@ -77,6 +79,10 @@ impl Look for LowestSeat {
     fn goes_on<S: BlockStore>(&self, store: &S, purges: u32) -> bool {
         next_goes(store, purges, self.sparing)
     }
+
+    ghost rises = { λ look zone k m allows. place-rises look.bytes look.sparing zone k m allows };
+
+    ghost ends = { λ look zone k allows. seat-ends look.bytes look.sparing zone k };
 }
 
 /// Where a relocatable block of so many bytes goes after as few purges as serve.

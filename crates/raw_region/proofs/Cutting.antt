@@ -107,13 +107,14 @@ module _ (r : Inside) (I : IsRegion r) (at len : ℕ) (some : 16 ≤ len)
 
 -- with other gaps of as many bytes, in the same room, it is still a region
 pub still_region : (r : Inside) → IsRegion r → (gs : List Gap) → IsLaid r.home 0 gs → IsStart gs
-    → length (bytes_of gs) ≡ r.frame.len → (s : Inside) → s.frame ≡ r.frame → s.home ≡ r.home → s.gaps.items ≡ gs
-    → vec_capacity s.gaps ≡ vec_capacity r.gaps → IsRegion s
-still_region r I gs laid first whole s p q e k = record {
+    → length (bytes_of gs) ≡ r.frame.len → (s : Inside) → s.frame ≡ r.frame → s.home ≡ r.home → s.len ≡ r.len
+    → s.gaps.items ≡ gs → vec_capacity s.gaps ≡ vec_capacity r.gaps → IsRegion s
+still_region r I gs laid first whole s p q l e k = record {
   start = ap (λ f. f.ptr) p ∙ I.start ∙ sym q;
   placed = subst InBlock (sym q) I.placed;
   whole = ap (λ x. length (bytes_of x)) e ∙ whole ∙ sym (ap (λ f. f.len) p);
   small = (let a = ap (λ f. f.len) p in let b = I.small in omega (arith, a, b));
+  long = l ∙ I.long ∙ sym (ap (λ f. f.len) p);
   laid = subst (λ x. IsLaid s.home 0 x) (sym e) (subst (λ x. IsLaid x 0 gs) (sym q) laid);
   first = subst IsStart (sym e) first;
   room = (let b = I.room in omega (arith, k, b));
@@ -133,7 +134,7 @@ pub record Parts (r : Inside) (w : Whole) (at len i : ℕ) : Type 0 where
   pub bytes : bytes_of (parted r at len i) ≡ written at (replicate len 0) w.bytes
   pub long : length (bytes_of (parted r at len i)) ≡ length w.bytes
   pub out : windows_of (parted r at len i) ≡ with_window at len w.out
-  pub region : (s : Inside) → s.frame ≡ r.frame → s.home ≡ r.home → s.gaps.items ≡ parted r at len i
+  pub region : (s : Inside) → s.frame ≡ r.frame → s.home ≡ r.home → s.len ≡ r.len → s.gaps.items ≡ parted r at len i
       → vec_capacity s.gaps ≡ vec_capacity r.gaps → IsRegion s
   pub run : (run : Run) → run ≡ middle at len (get_or r.gaps.items i none)
       → (run.home ≡ w.home) × (run.at ≡ at) × (run.items ≡ take len (drop at w.bytes))

@@ -29,7 +29,7 @@ pub record Joins (r : Inside) (w : Whole) (p : Bytes) (run : Run) (n : ℕ) : Ty
   pub bytes : bytes_of (healed r run n) ≡ written p.at p.bytes w.bytes
   pub long : length (bytes_of (healed r run n)) ≡ length w.bytes
   pub out : windows_of (healed r run n) ≡ without_window p.at (length p.bytes) w.out
-  pub region : (s : Inside) → s.frame ≡ r.frame → s.home ≡ r.home → s.gaps.items ≡ healed r run n
+  pub region : (s : Inside) → s.frame ≡ r.frame → s.home ≡ r.home → s.len ≡ r.len → s.gaps.items ≡ healed r run n
       → vec_capacity s.gaps ≡ vec_capacity r.gaps → IsRegion s
 
 module _ (r : Inside) (I : IsRegion r) (w : Whole) (v : region_view r ≡ w) (p : Bytes) (home : p.home ≡ w.home)

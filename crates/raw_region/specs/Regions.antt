@@ -15,6 +15,7 @@ pub record IsRegion (r : Inside) : Type 0 where
   pub placed : InBlock r.home
   pub whole : length (bytes_of r.gaps.items) ≡ r.frame.len
   pub small : r.frame.len ≤ MOST_BYTES
+  pub long : r.len ≡ r.frame.len
   pub laid : IsLaid r.home 0 r.gaps.items
   pub first : IsStart r.gaps.items
   pub room : MOST_OUT + 1 ≤ vec_capacity r.gaps

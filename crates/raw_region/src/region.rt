@@ -25,6 +25,7 @@ pub struct Region {
     frame: Frame,
     home: *mut u8,
     gaps: Vec<Gap>,
+    len: usize,
 }
 
 impl Model for Region {
@@ -62,9 +63,21 @@ impl Region {
             after,
         };
         match gaps.push(start) {
-            Ok(()) => Ok(Region { frame, home, gaps }),
+            Ok(()) => Ok(Region {
+                frame,
+                home,
+                gaps,
+                len,
+            }),
             Err(_) => unreachable!(),
         }
+    }
+
+    /// How many bytes it has, those of the windows that are out among them.
+    pub fn len(&self) -> usize
+        ensures { result ≡ length self.now.bytes }
+    {
+        self.len
     }
 
     /// Lends the `len` bytes from `at` on. No byte is then in two of the windows that are out.
@@ -126,6 +139,7 @@ impl Region {
             frame,
             home: _,
             mut gaps,
+            len: _,
         } = self;
         match gaps.pop() {
             Some(

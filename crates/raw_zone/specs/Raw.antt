@@ -1,10 +1,10 @@
 -- What is true of a RawZone.
 use Rattle.raw_zone.specs.Held.{Held}
-use Rattle.zone_bytes.specs.Lawful.{IsKept}
+use Rattle.zone_bytes.specs.Marked.{IsMarked}
 use Rattle.raw_zone.specs.declared.zone.RawZone.TheInside.{Inside}
 
 abbrev pub held : Inside → Held
 held z = record { part = z.part; first = z.first; unused = z.unused; free = z.free; moves = z.moves; lawful = z.lawful }
 
 abbrev pub IsRawZone : Inside → Type 0
-IsRawZone z = IsKept z.part.bytes z.first z.unused z.free
+IsRawZone z = IsMarked z.part.bytes z.first z.unused z.free z.marks

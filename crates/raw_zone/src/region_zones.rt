@@ -39,7 +39,7 @@ impl RegionZones {
 impl ZoneMaker for RegionZones {
     type Store = RawZone;
 
-    ghost use Rattle.std.specs.Prelude.{length};
+    ghost use Rattle.std.specs.Prelude.{length, slice_get};
     ghost use Rattle.zone_bytes.specs.Laid.{LiesThere};
     ghost use Rattle.raw_zone.specs.Making.{LiesIn};
 
@@ -50,6 +50,8 @@ impl ZoneMaker for RegionZones {
     ghost made = { λ z w site. LiesIn z.region w site };
 
     ghost left = { λ z w blocks. LiesThere z.region.bytes w blocks };
+
+    ghost byte = { λ z place. slice_get z.region.bytes place };
 
     fn open(&mut self, window: Window) -> Result<RawZone, AllocError> {
         let part = self.region.cut(window.at as usize, window.len as usize);

@@ -1,6 +1,9 @@
 //! A zone in the bytes of a part.
 
 ghost use Rattle.zone_bytes.specs.Lawful.{IsLawful};
+ghost use Rattle.std.specs.Prelude.{◌≡◌, true, List};
+ghost use Rattle.block_store.specs.Block.{Block, tidy};
+ghost use Rattle.block_store.specs.Sparing.{purged};
 
 use block_store::{
     BlockStore, Flags, GREATEST_ZONE, HEADER_SIZE, LEAST_ZONE, MASTERS_SIZE, SLOTS_A_BLOCK, Seen,
@@ -12,10 +15,10 @@ use raw_region::Part;
 use std::alloc::AllocError;
 use std::marker::Model;
 use zone_bytes::{
-    PackedRun, SlotBlock, add_masters, block_of_slot, carve, carve_fixed, content_at, flag_at,
-    free_block, free_slot, hoist_block, kept_flags, make_fresh, mark_slot, move_bytes, padded_size,
-    purge_above, purge_from, put_bytes, raise_run, read_header, read_word, resize_block,
-    settle_run, slot_place, slot_resource, walk_above, walk_from,
+    Landmarks, PackedRun, SlotBlock, add_masters, block_of_slot, carve, carve_fixed, content_at,
+    flag_at, free_block, free_slot, hoist_block, kept_flags, make_fresh, mark_slot, move_bytes,
+    padded_size, purge_above, purge_from, put_bytes, raise_run, read_header, read_word,
+    resize_block, settle_run, size_at, slot_place, slot_resource, walk_above, walk_from,
 };
 
 /// A zone in the bytes of a part: each block begins with its header, and the slots lie in the blocks of master
@@ -29,6 +32,7 @@ pub struct RawZone {
     unused: u32,
     free: u32,
     moves: u64,
+    marks: Landmarks,
     ghost lawful: { ∥ IsLawful part.bytes ∥₁ },
 }
 
@@ -42,6 +46,16 @@ impl Model for RawZone {
     ghost view = { held };
 
     ghost invariant = { IsRawZone };
+}
+
+/// Whether a search looks at the zone as it stands.
+fn is_as_it_stands(purges: u32, sparing: Sparing) -> bool
+    ensures { result ≡ true → (zone : List Block) → tidy zone ≡ zone → purged purges sparing zone ≡ zone }
+{
+    match sparing {
+        Sparing::Freed(_) => false,
+        _ => purges == 0,
+    }
 }
 
 impl RawZone {
@@ -83,6 +97,7 @@ impl RawZone {
             unused: SLOTS_A_BLOCK as u32,
             free: end - MASTERS_SIZE,
             moves: 0,
+            marks: Landmarks::unknown(),
         }
     }
 
@@ -109,6 +124,7 @@ impl RawZone {
             unused: _unused,
             free: _free,
             moves: _moves,
+            marks: _marks,
         } = self;
         part
     }
@@ -123,7 +139,18 @@ impl RawZone {
         ensures stop { IfSome (run_at run (zone_of self.old)) (λ r. result.stop ≡ run + sizes r.run) }
     {
         let stop = run + run_bytes_in(&mut walk_from(&self.part, run));
-        settle_run(&mut self.part, run, stop)
+        let packed = settle_run(&mut self.part, run, stop);
+        self.marks = Landmarks::unknown();
+        packed
+    }
+
+    /// Empties the lowest blocks that may go, so many of them, and frees a block that counts as Free, by one walk.
+    fn empty(&mut self, purges: u32, sparing: Sparing)
+        ensures zone { zone_of self.new ≡ purged purges sparing (zone_of self.old) }
+        ensures rest { IsRest (rest_of self.old) (rest_of self.new) }
+    {
+        self.free += purge_from(&mut self.part, 0, 0, purges, sparing);
+        self.marks = Landmarks::unknown();
     }
 
     /// The block that a handle's slot leads to.
@@ -191,7 +218,11 @@ impl BlockStore for RawZone {
     }
 
     fn find_free(&self, bytes: u32, purges: u32, sparing: Sparing) -> Option<u32> {
-        find_free_in(&mut walk_from(&self.part, 0), bytes, purges, sparing)
+        if is_as_it_stands(purges, sparing) {
+            self.marks.find(&self.part, bytes)
+        } else {
+            find_free_in(&mut walk_from(&self.part, 0), bytes, purges, sparing)
+        }
     }
 
     fn find_run(&self, bytes: u32, purges: u32, sparing: Sparing) -> Option<u32> {
@@ -238,7 +269,9 @@ impl BlockStore for RawZone {
     }
 
     fn purge(&mut self, purges: u32, sparing: Sparing) {
-        self.free += purge_from(&mut self.part, 0, 0, purges, sparing);
+        if !is_as_it_stands(purges, sparing) {
+            self.empty(purges, sparing);
+        }
     }
 
     fn run_after(&self, place: u32, bytes: u32, purges: u32, sparing: Sparing) -> bool {
@@ -251,6 +284,7 @@ impl BlockStore for RawZone {
 
     fn purge_after(&mut self, place: u32, purges: u32, sparing: Sparing) {
         self.free += purge_above(&mut self.part, place, purges, sparing);
+        self.marks = Landmarks::unknown();
     }
 
     fn settle(&mut self, run: u32) {
@@ -262,6 +296,7 @@ impl BlockStore for RawZone {
         let packed = self.pack(run);
         if run < packed.top {
             raise_run(&mut self.part, run, packed.top, packed.stop, bytes);
+            self.marks = Landmarks::unknown();
         }
         Ok(())
     }
@@ -270,6 +305,7 @@ impl BlockStore for RawZone {
         let packed = self.pack(run);
         let place = read_word(&self.part, number);
         hoist_block(&mut self.part, place, packed.stop);
+        self.marks = Landmarks::unknown();
     }
 
     fn carve(&mut self, place: u32, number: u32, size: u32) -> Result<(), AllocError> {
@@ -277,33 +313,43 @@ impl BlockStore for RawZone {
         let flags = kept_flags(&self.part, number);
         carve(&mut self.part, place, place + free, number, size, flags);
         self.free -= padded_size(size);
+        self.marks.note(&self.part, place, place + free);
         Ok(())
     }
 
     fn carve_fixed(&mut self, place: u32, size: u32) -> Result<(), AllocError> {
+        let free = size_at(&self.part, place);
         carve_fixed(&mut self.part, place, size);
         self.free -= padded_size(size);
+        self.marks.note(&self.part, place, place + free);
         Ok(())
     }
 
     fn add_masters(&mut self, place: u32) -> Result<(), AllocError> {
+        let free = size_at(&self.part, place);
         add_masters(&mut self.part, place, self.first);
         self.first = place + HEADER_SIZE;
         self.unused += SLOTS_A_BLOCK as u32;
         self.free -= MASTERS_SIZE;
+        self.marks.note(&self.part, place, place + free);
         Ok(())
     }
 
     fn free_at(&mut self, place: u32) {
-        self.free += free_block(&mut self.part, place);
+        let freed = free_block(&mut self.part, &self.marks, place);
+        self.free += freed.bytes;
+        self.marks.note(&self.part, freed.from, freed.to);
     }
 
     fn release(&mut self, number: u32) {
-        self.free += free_slot(&mut self.part, number);
+        let freed = free_slot(&mut self.part, &self.marks, number);
+        self.free += freed.bytes;
+        self.marks.note(&self.part, freed.from, freed.to);
     }
 
     fn resize(&mut self, place: u32, bytes: u32) -> Result<(), AllocError> {
         self.free = resize_block(&mut self.part, place, bytes, self.free);
+        self.marks = Landmarks::unknown();
         Ok(())
     }
 

@@ -1,4 +1,5 @@
 pub mod Listed
 pub mod Ordered
+pub mod Outside
 pub mod Pieces
 pub mod Written

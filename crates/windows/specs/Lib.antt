@@ -1,3 +1,4 @@
 pub mod Counted
+pub mod Outside
 pub mod Windows
 pub mod Writes

@@ -1,8 +1,9 @@
 -- Blocks that are made Free, and joined with their Free neighbours.
-use Rattle.std.specs.Prelude.{◌≡◌, ℕ, ◌-◌, ◌≤◌, ◌<◌, Bool, false, List, ◌∷◌, ◌++◌}
+use Rattle.std.specs.Prelude.{◌≡◌, ℕ, ◌-◌, ◌≤◌, ◌<◌, ◌⊎◌, Bool, false, List, ◌∷◌, ◌++◌}
 use Rattle.block_store.specs.Block.{Block, sizes, free, tidy, is_masters}
 use Rattle.block_store.specs.Slot.{Slot, Used}
 use Rattle.zone_bytes.specs.Table.{Table, Lays}
+use Rattle.zone_bytes.specs.Stepping.{left_in, IsOnWay}
 
 -- a zone's blocks below one of them, that one, and those above it, with the zone's slots
 pub record Freeing : Type 0 where
@@ -44,3 +45,11 @@ pub record HasHandle (t : Table) (slot : ℕ) (xs : List ℕ) : Type 0 where
   pub tidied : tidy t.blocks ≡ t.blocks
   pub resource : Bool
   pub used : t.slots slot ≡ Used resource
+
+-- a walk from a place comes to a higher one: a block begins there, or it is the bottom
+pub record LeadsUp (from place : ℕ) (xs : List ℕ) : Type 0 where
+  pub below : List Block
+  pub is : left_in 0 xs ≡ below ++ left_in from xs
+  pub low : sizes below ≡ from
+  pub under : (from < place) ⊎ (from ≡ 0)
+  pub way : IsOnWay from xs

@@ -17,6 +17,8 @@ pub mod Laid
 pub mod Looking
 pub mod Hoisting
 pub mod Laying
+pub mod Marked
+pub mod Marks
 pub mod Mastering
 pub mod Joining
 pub mod Purging

@@ -4,11 +4,15 @@ ghost use Rattle.std.specs.Prelude.{◌≡◌, ◌+◌, ◌-◌, ◌%◌, ◌∷
 ghost use Rattle.block_store.specs.Block.{Free, size, free, add, tidy, free_sum, is_relocatable};
 ghost use Rattle.block_store.specs.Grow.{freed};
 ghost use Rattle.zone_bytes.specs.Joining.{Freeing, MayFree, MayRelease, Joining, MayJoin, HasHandle};
+ghost use Rattle.zone_bytes.specs.Marked.{AreOf};
+ghost use Rattle.zone_bytes.specs.Marks.{Replaced};
 ghost use Rattle.zone_bytes.specs.Table.{Table, Lays, emptied_word};
 ghost use Rattle.zone_bytes.specs.Beside.{KeepsPlace};
 
 use crate::carving::make_free;
 use crate::joining::last_free_below;
+use crate::keeping::Landmarks;
+use crate::resizing::free_behind;
 use crate::words::{read_header, read_word, write_word};
 use block_store::UNIT;
 use heap_words::Tag;
@@ -54,34 +58,56 @@ fn join_above(part: &mut Part, start: u32, at: u32)
     }
 }
 
-/// Makes the block at a place Free, and its Free neighbours one with it. Answers how many bytes it took.
-pub fn free_block(part: &mut Part, place: u32) -> u32
-    requires { (f : Freeing) × MayRelease f place part.old.bytes }
+/// How many bytes became Free, and from where to where blocks became one Free block.
+#[derive(Clone, Copy, Drop)]
+pub struct Freed {
+    pub bytes: u32,
+    pub from: u32,
+    pub to: u32,
+}
+
+/// Makes the block at a place Free, and its Free neighbours one with it; the one below is found from a landmark.
+pub fn free_block(part: &mut Part, marks: &Landmarks, place: u32) -> Freed
+    requires { (f : Freeing) × MayRelease f place part.old.bytes × AreOf marks.now (f.below ++ f.here ∷ f.above) }
     ensures same { KeepsPlace part.old part.new }
-    ensures bytes { (f : Freeing) → MayRelease f place part.old.bytes → result ≡ size f.here }
+    ensures bytes { (f : Freeing) → MayRelease f place part.old.bytes → result.bytes ≡ size f.here }
     ensures lays { (f : Freeing) → MayRelease f place part.old.bytes →
         Lays part.new.bytes (tidy (f.below ++ Free (size f.here) ∷ f.above)) f.slots f.unused }
+    ensures replaced { (f : Freeing) → MayRelease f place part.old.bytes →
+        Replaced result.from result.to (f.below ++ f.here ∷ f.above) (tidy (f.below ++ Free (size f.here) ∷ f.above)) }
 {
-    let start = last_free_below(part, place);
+    let from = marks.below(place);
+    let start = last_free_below(part, from, place);
     let end = free_up(part, start, place);
+    let more = free_behind(part, end);
     join_above(part, start, end);
-    end - place
+    Freed {
+        bytes: end - place,
+        from: start,
+        to: end + more,
+    }
 }
 
 /// Makes the block that a handle's slot leads to Free, and its Free neighbours one with it; does nothing where
-/// the handle is emptied. Answers how many bytes became Free.
-pub fn free_slot(part: &mut Part, slot: u32) -> u32
-    requires { (t : Table) × HasHandle t slot part.old.bytes }
+/// the handle is emptied.
+pub fn free_slot(part: &mut Part, marks: &Landmarks, slot: u32) -> Freed
+    requires { (t : Table) × HasHandle t slot part.old.bytes × AreOf marks.now t.blocks }
     ensures same { KeepsPlace part.old part.new }
     ensures lays { (t : Table) → HasHandle t slot part.old.bytes →
         Lays part.new.bytes (tidy (freed (is_relocatable slot) t.blocks)) t.slots t.unused }
     ensures bytes { (t : Table) → HasHandle t slot part.old.bytes →
-        free_sum (tidy (freed (is_relocatable slot) t.blocks)) ≡ free_sum t.blocks + result }
+        free_sum (tidy (freed (is_relocatable slot) t.blocks)) ≡ free_sum t.blocks + result.bytes }
+    ensures replaced { (t : Table) → HasHandle t slot part.old.bytes →
+        Replaced result.from result.to t.blocks (tidy (freed (is_relocatable slot) t.blocks)) }
 {
     let word = read_word(part, slot);
     if word % UNIT == 0 {
-        free_block(part, word)
+        free_block(part, marks, word)
     } else {
-        0
+        Freed {
+            bytes: 0,
+            from: 0,
+            to: 0,
+        }
     }
 }

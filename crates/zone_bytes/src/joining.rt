@@ -3,21 +3,23 @@
 ghost use Rattle.std.specs.Prelude.{◌≡◌, ◌+◌, ◌≤◌, ◌++◌, List, length};
 ghost use Rattle.block_store.specs.Block.{Block, sizes};
 ghost use Rattle.block_store.specs.Inner.Joining.{last_free};
-ghost use Rattle.zone_bytes.specs.Stepping.{left_in, IsOnWay};
+ghost use Rattle.zone_bytes.specs.Joining.{LeadsUp};
+ghost use Rattle.zone_bytes.specs.Stepping.{left_in};
 
 use crate::words::read_header;
 use heap_words::Tag;
 use raw_region::Part;
 
-/// Where the Free block that ends at a place begins; the place itself where there is none.
-pub fn last_free_below(part: &Part, place: u32) -> u32
-    requires way { IsOnWay 0 part.now.bytes }
+/// Where the Free block that ends at a place begins, by a walk from a lower one; the place itself where there is
+/// none.
+pub fn last_free_below(part: &Part, from: u32, place: u32) -> u32
+    requires up { LeadsUp from place part.now.bytes }
     requires inside { place ≤ length part.now.bytes }
     ensures { (below above : List Block) → left_in 0 part.now.bytes ≡ below ++ above → sizes below ≡ place
         → result + last_free 0 below ≡ place }
 {
-    let mut at = 0;
-    let mut start = 0;
+    let mut at = from;
+    let mut start = from;
     while at < place {
         let header = read_header(part, at);
         let end = at + header.size;

@@ -1,5 +1,7 @@
-use Rattle.std.proofs.Common.{◌≡◌, ℕ, ◌≤◌, ◌<◌, ◌⊎◌, inl, inr, zero, suc, Bool, true, false, Option, Some, None}
-use Rattle.std.proofs.Common.{refl, ◌∙◌, ap, cond, arith}
+use Rattle.std.proofs.Common.{◌≡◌, ℕ, ◌≤◌, ◌<◌, ◌⊎◌, inl, inr, zero, suc, Bool, true, false, not, nat_lt, Option, Some, None}
+use Rattle.std.proofs.Common.{refl, sym, ◌∙◌, ap, cond, arith}
+use Rattle.std.proofs.lemmas.Bool.{true≢false, false_from_ne_true}
+use Rattle.std.proofs.lemmas.Bool.Decides.{nat_tests}
 use Rattle.std.specs.Option.{option_map, option_or}
 use Rattle.block_store.specs.Room.{least}
 use Rattle.block_store.specs.Compact.{least_or_last}
@@ -63,3 +65,38 @@ least_or_last-at test (suc n) (suc k) le before here =
     next : (test (suc k) ≡ true) ⊎ (suc k ≡ suc n) → (test (suc k) ≡ true) ⊎ (k ≡ n)
     next (inl is) = inl is
     next (inr e) = inr (omega (arith, e))
+
+-- where each number above one that passes does, none below one that fails does
+pub none-before : (test : ℕ → Bool) → ((k m : ℕ) → k ≤ m → test k ≡ true → test m ≡ true) → (n k : ℕ) → k ≤ n
+    → test n ≡ false → test k ≡ false
+none-before test rises n k le none = false_from_ne_true (test k) (λ is. true≢false (sym (rises k n le is) ∙ none))
+
+-- the least that passes, where the last does
+pub least_or_last-is : (test : ℕ → Bool) (n k : ℕ) → test n ≡ true → test k ≡ true
+    → ((j : ℕ) → j < k → test j ≡ false) → least_or_last test n ≡ k
+least_or_last-is test n k last here before = cases (nat_lt n k) refl
+  where
+    cases : (t : Bool) → nat_lt n k ≡ t → least_or_last test n ≡ k
+    cases true e = absurd (true≢false (sym last ∙ before n (grind (arith, nat_tests, e))))
+    cases false e = least_or_last-at test n k (grind (arith, nat_tests, e)) before (inl here)
+
+-- the last, where one that is no less fails
+pub least_or_last-fails : (test : ℕ → Bool) → ((k m : ℕ) → k ≤ m → test k ≡ true → test m ≡ true) → (n most : ℕ)
+    → n ≤ most → test most ≡ false → least_or_last test n ≡ n
+least_or_last-fails test rises n most le none = least_or_last-at test n n (omega arith)
+    (λ j less. none-before test rises most j (omega (arith, le, less)) none) (inr refl)
+
+-- numbers that are no longer below another
+pub past-rises : (most k m : ℕ) → k ≤ m → not (nat_lt k most) ≡ true → not (nat_lt m most) ≡ true
+past-rises most k m le past = grind (arith, nat_tests, le, past)
+
+pub past-ends : (most k : ℕ) → most ≤ k → not (nat_lt k most) ≡ not (nat_lt most most)
+past-ends most k le = grind (arith, nat_tests, le)
+
+-- the least of them is that other
+pub past-least : (most k : ℕ) → not (nat_lt k most) ≡ true → ((j : ℕ) → j < k → not (nat_lt j most) ≡ false) → k ≡ most
+past-least most k past before = cases (nat_lt most k) refl
+  where
+    cases : (t : Bool) → nat_lt most k ≡ t → k ≡ most
+    cases true e = let b = before most (grind (arith, nat_tests, e)) in absurd (grind (arith, nat_tests, b))
+    cases false e = grind (arith, nat_tests, e, past)

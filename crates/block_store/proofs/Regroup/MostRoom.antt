@@ -75,14 +75,14 @@ room-none p (b ∷ zone) less =
     small Masters less = refl
     small (Relocatable id flags content) less = refl
 
-run-none : (p : ℕ) (run : List Block) (parts : List Stretch)
+pub run-none : (p : ℕ) (run : List Block) (parts : List Stretch)
     → largest free_sum (run ∷ map (λ (p : Stretch). p.run) parts) < p → lowest_run (has_free p) run parts ≡ None
 run-none p run [] less = cond-false (has_free p run) _ _ (lt-leb p (free_sum run) (omega arith))
 run-none p run (q ∷ parts) less =
     cond-false (has_free p run) _ _ (lt-leb p (free_sum run) (omega arith))
     ∙ ap (option_map (run_raised (run ++ q.barrier ∷ []))) (run-none p q.run parts (omega arith))
 
-run-some : (p : ℕ) (run : List Block) (parts : List Stretch)
+pub run-some : (p : ℕ) (run : List Block) (parts : List Stretch)
     → p ≤ largest free_sum (run ∷ map (λ (p : Stretch). p.run) parts)
     → is_some (lowest_run (has_free p) run parts) ≡ true
 run-some p run [] le = ap is_some (cond-true (has_free p run) _ _ (le-leb p (free_sum run) (omega arith)))

@@ -1,12 +1,14 @@
 -- A walk to a place, which keeps where the last Free block began.
-use Rattle.std.proofs.Common.{◌≡◌, ℕ, ◌+◌, ◌-◌, ◌%◌, ◌<◌, ◌≤◌, List, [], ◌∷◌, ◌++◌, length, sym, refl, ap, ◌∙◌, subst}
+use Rattle.std.proofs.Common.{◌≡◌, ℕ, inl, inr, ◌+◌, ◌-◌, ◌%◌, ◌<◌, ◌≤◌, List, [], ◌∷◌, ◌++◌, length, sym, refl, ap, ◌∙◌, subst}
 use Rattle.std.proofs.Common.{arith}
 use Rattle.heap_words.specs.Words.{word_at}
 use Rattle.block_store.specs.Block.{Block, Free, Fixed, Masters, Relocatable, size, sizes, free_of}
 use Rattle.block_store.specs.Inner.Joining.{last_free}
 use Rattle.zone_bytes.specs.Layout.{kind}
 use Rattle.zone_bytes.specs.Walking.{Walk}
+use Rattle.zone_bytes.specs.Joining.{LeadsUp}
 use Rattle.zone_bytes.specs.Stepping.{left_in, IsOnWay}
+use Rattle.zone_bytes.proofs.Tiles.Tiling.{span-append}
 use Rattle.zone_bytes.proofs.Places.Stepped.{Stepped, stepped, left-is}
 use Rattle.zone_bytes.proofs.Places.HeaderTells.{here-on, size-at}
 
@@ -23,12 +25,60 @@ pub record Below (xs : List ℕ) (place at start : ℕ) : Type 0 where
   pub left : (below above : List Block) → left_in 0 xs ≡ below ++ above → sizes below ≡ place
       → Left xs place at start below above
 
-pub below-start : (xs : List ℕ) (place : ℕ) → IsOnWay 0 xs → Below xs place 0 0
-below-start xs place w = record {
-  way = w;
-  ordered = (omega arith, omega arith);
-  left = λ below above e l. record { rest = below; is = e; up = omega (arith, l); last = refl };
-}
+-- what lies below a place is a front of what lies below a higher one
+front-of : (front rest below above : List Block) → front ++ rest ≡ below ++ above → sizes front < sizes below
+    → (more : List Block) × (below ≡ front ++ more) × (rest ≡ more ++ above)
+front-of [] rest below above e l = (below, refl, e)
+front-of (b ∷ front) rest [] above e l = absurd (omega (arith, l))
+front-of (b ∷ front) rest (c ∷ below) above e l =
+    let h : b ≡ c = cc in
+    let t : front ++ rest ≡ below ++ above = cc in
+    let s = ap size h in
+    let r = front-of front rest below above t (omega (arith, l, s)) in
+    (r.0, (λ i. sym h i ∷ r.1 i), r.2)
+
+last-more : (n : ℕ) (front : List Block) (c : Block) (more : List Block)
+    → last_free 0 (c ∷ more) ≡ last_free n (front ++ c ∷ more)
+last-more n [] c more = refl
+last-more n (b ∷ front) c more = last-more (free_of b) front c more
+
+module _ (xs : List ℕ) (from place : ℕ) (u : LeadsUp from place xs) where
+  far : (below above : List Block) → left_in 0 xs ≡ below ++ above → sizes below ≡ place → from < place
+      → Left xs place from from below above
+  far below above e l f =
+      let w = u.low in
+      let r = front-of u.below (left_in from xs) below above (sym u.is ∙ e) (omega (arith, w, l, f)) in
+      let s = span-append u.below r.0 in
+      let k = ap sizes r.1 in
+      let z : from - from ≡ 0 = omega arith in
+      record {
+        rest = r.0;
+        is = r.2;
+        up = omega (arith, w, s, k, l);
+        last = ap (λ n. last_free n r.0) z ∙ same r.0 (omega (arith, w, s, k, l, f)) ∙ ap (last_free 0) (sym r.1);
+      }
+    where
+      same : (more : List Block) → 0 < sizes more → last_free 0 more ≡ last_free 0 (u.below ++ more)
+      same [] n = absurd (omega (arith, n))
+      same (c ∷ more) n = last-more 0 u.below c more
+
+  near : (below above : List Block) → left_in 0 xs ≡ below ++ above → sizes below ≡ place → from ≡ 0
+      → Left xs place from from below above
+  near below above e l z =
+      let k : from - from ≡ 0 = omega arith in
+      record {
+        rest = below;
+        is = ap (λ n. left_in n xs) z ∙ e;
+        up = omega (arith, l, z);
+        last = ap (λ n. last_free n below) k;
+      }
+
+  pub below-from : place ≤ length xs → Below xs place from from
+  below-from h = record {
+    way = u.way;
+    ordered = (omega arith, elim u.under [ inl f ↦ omega (arith, f, h) | inr z ↦ omega (arith, z) ]);
+    left = λ below above e l. elim u.under [ inl f ↦ far below above e l f | inr z ↦ near below above e l z ];
+  }
 
 some-block : (at : ℕ) (xs : List ℕ) (w : IsOnWay at xs) (b : Block) (blocks : List Block)
     → left_in at xs ≡ b ∷ blocks → 16 ≤ size b

@@ -14,6 +14,7 @@ use Rattle.block_store.specs.Slot.{is_resource}
 use Rattle.block_store.proofs.Zone.Tidy.{total-tidy}
 use Rattle.block_store.proofs.Zone.Totals.{total-append}
 use Rattle.zone_bytes.specs.Layout.{head_of, Tiles, IsSlot, names, Leads, Apart, Each, Pairs}
+use Rattle.zone_bytes.specs.Marks.{Replaced}
 use Rattle.zone_bytes.specs.Joining.{Freeing, MayRelease, HasHandle}
 use Rattle.zone_bytes.specs.Table.{Has, Table, Says, Lays, emptied_word}
 use Rattle.zone_bytes.proofs.Tiles.Tiling.{span-append, length-tiles, tiles-split}
@@ -180,6 +181,22 @@ module _ (t : Table) (slot : ℕ) (xs : List ℕ) (h : HasHandle t slot xs) wher
         ∙ freed-one slot f.block.below f.block.flags f.block.content f.block.above
         (pairs-before slot (names f.block.below) (names f.block.above) p)
         (pairs-after slot (names f.block.below) (names f.block.above) p))
+
+    pub leading-replaced : (lo hi : ℕ)
+        → Replaced lo hi (leading.below ++ leading.here ∷ leading.above)
+        (tidy (leading.below ++ Free (size leading.here) ∷ leading.above))
+        → Replaced lo hi t.blocks (tidy (freed (is_relocatable slot) t.blocks))
+    leading-replaced lo hi r = record {
+      below = r.below;
+      here = r.here;
+      there = r.there;
+      above = r.above;
+      was = f.block.is ∙ r.was;
+      is = leading-is ∙ r.is;
+      low = r.low;
+      high = r.high;
+      span = r.span;
+    }
 
     pub leading-free : (n : ℕ) → n ≡ size (Relocatable slot f.block.flags f.block.content)
         → free_sum (tidy (freed (is_relocatable slot) t.blocks)) ≡ free_sum t.blocks + n

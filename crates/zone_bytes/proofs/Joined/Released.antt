@@ -1,5 +1,5 @@
 -- A block that is made Free, and its Free neighbours one with it.
-use Rattle.std.proofs.Common.{◌≡◌, ℕ, ◌+◌, ◌-◌, List, [], ◌∷◌, ◌++◌, sym, refl, ap, ◌∙◌, subst}
+use Rattle.std.proofs.Common.{◌≤◌, ◌≡◌, ℕ, ◌+◌, ◌-◌, ◌<◌, ◌⊎◌, length, List, [], ◌∷◌, ◌++◌, sym, refl, ap, ◌∙◌, subst}
 use Rattle.std.proofs.Common.{arith, append_assoc}
 use Rattle.block_store.specs.Block.{Block, Free, size, sizes, free, add, tidy}
 use Rattle.block_store.specs.Inner.Joining.{last_free}
@@ -7,10 +7,14 @@ use Rattle.block_store.proofs.Zone.Apart.{apart-tidied, apart-above, tidy-apart}
 use Rattle.block_store.proofs.Zone.Joining.{Ending, ending, apart-front, released-tidy}
 use Rattle.zone_bytes.specs.Stepping.{left_in, IsOnWay}
 use Rattle.zone_bytes.specs.Table.{Lays}
-use Rattle.zone_bytes.specs.Joining.{Freeing, MayFree, MayRelease, Joining, MayJoin}
+use Rattle.zone_bytes.specs.Laying.{free_first}
+use Rattle.zone_bytes.specs.Marks.{Begins, Replaced}
+use Rattle.zone_bytes.proofs.Marks.Passing.{parts}
+use Rattle.zone_bytes.proofs.Marks.Keeping.{joined-replaced, first-small}
+use Rattle.zone_bytes.specs.Joining.{LeadsUp, Freeing, MayFree, MayRelease, Joining, MayJoin}
 use Rattle.zone_bytes.proofs.Tiles.Tiling.{span-append}
 use Rattle.zone_bytes.proofs.Tiles.Keeping.{span-free}
-use Rattle.zone_bytes.proofs.Joined.Ways.{way, left, Read, read}
+use Rattle.zone_bytes.proofs.Joined.Ways.{way, left, inside, Read, read}
 
 module _ (f : Freeing) (place : ℕ) (xs : List ℕ) (m : MayRelease f place xs) where
   abbrev all : List Block
@@ -18,6 +22,22 @@ module _ (f : Freeing) (place : ℕ) (xs : List ℕ) (m : MayRelease f place xs)
 
   pub from-bottom : IsOnWay 0 xs
   from-bottom = way xs [] all f.slots f.unused m.lays 0 refl
+
+  -- a walk from a landmark comes to the block
+  pub leads-up : (from : ℕ) → Begins from 0 all → (from < place) ⊎ (from ≡ 0) → LeadsUp from place xs
+  leads-up from b u =
+      let r = parts from 0 all b in
+      let l = r.low in
+      let k : sizes r.below ≡ from = omega (arith, l) in
+      let h = subst (λ z. Lays xs z f.slots f.unused) r.is m.lays in
+      record {
+        below = r.below;
+        is = left xs [] all f.slots f.unused m.lays 0 refl ∙ r.is
+            ∙ ap (λ z. r.below ++ z) (sym (left xs r.below r.above f.slots f.unused h from k));
+        low = k;
+        under = u;
+        way = way xs r.below r.above f.slots f.unused h from k;
+      }
 
   pub here-read : Read xs f.here place
   here-read = read xs f.below f.here f.above f.slots f.unused m.lays place m.low
@@ -75,6 +95,49 @@ module _ (f : Freeing) (place : ℕ) (xs : List ℕ) (m : MayRelease f place xs)
         low = low;
         some = (let s = starts in let k = here-read.some in omega (arith, s, k, t));
       }
+
+      low-stop : sizes (end.lower ++ free (stop - start)) ≡ stop
+      low-stop =
+          let a = span-append end.lower (free (stop - start)) in
+          let b = span-free (stop - start) in
+          let l = low in
+          let s = starts in
+          omega (arith, a, b, l, s, t)
+
+      lays-stop : Lays mid ((end.lower ++ free (stop - start)) ++ f.above) f.slots f.unused
+      lays-stop = subst (λ k. Lays mid k f.slots f.unused)
+          (sym (append_assoc end.lower (free (stop - start)) f.above)) may-join.lays
+
+      -- what is above it
+      pub stop-way : IsOnWay stop mid
+      stop-way = way mid (end.lower ++ free (stop - start)) f.above f.slots f.unused lays-stop stop low-stop
+
+      pub stop-left : left_in stop mid ≡ f.above
+      stop-left = left mid (end.lower ++ free (stop - start)) f.above f.slots f.unused lays-stop stop low-stop
+
+      pub stop-fits : stop + sizes f.above ≡ length mid
+      stop-fits = inside mid (end.lower ++ free (stop - start)) f.above f.slots f.unused lays-stop stop low-stop
+
+      pub stop-more : (more : ℕ) → more ≡ free_first (left_in stop mid) → stop + more ≤ 134217728
+      stop-more more e =
+          let h = e ∙ ap free_first stop-left in
+          let f = first-small f.above in
+          let l = stop-fits in
+          let m = lays-stop.small in
+          omega (arith, h, f, l, m)
+
+      pub freed-replaced : (more : ℕ) → more ≡ free_first (left_in stop mid)
+          → Replaced start (stop + more) all (tidy (f.below ++ Free (size f.here) ∷ f.above))
+      freed-replaced more e =
+          let k = here-read.some in
+          let s = starts in
+          let h = e ∙ ap free_first stop-left in
+          let z = released-tidy f.below end.lower (place - start) (size f.here) f.above (omega (arith, k)) below-is
+          end.apart end.closed above-tidy in
+          joined-replaced end.lower (place - start) f.here f.above start (stop + more) (place - start + size f.here)
+          all (tidy (f.below ++ Free (size f.here) ∷ f.above))
+          (ap (λ k. k ++ f.here ∷ f.above) below-is ∙ append_assoc end.lower (free (place - start)) (f.here ∷ f.above))
+          z refl (omega (arith, k)) low (omega (arith, h, s, t))
 
       -- and with the one above it
       pub released : (new : List ℕ)

@@ -9,7 +9,7 @@ use Rattle.heap_words.specs.Words.{word, header}
 use Rattle.heap_words.proofs.Headers.{length-header}
 use Rattle.block_store.specs.Block.{Block, Free, Masters, sizes, free}
 use Rattle.block_store.specs.Slot.{Slot, NoSlot, Unused, Used, is_resource}
-use Rattle.zone_bytes.specs.Layout.{head_of, Tile, Tiles, IsSlot, names, Leads, Each, Pairs, Apart, ArePlaced}
+use Rattle.zone_bytes.specs.Layout.{head_of, Tile, Tiles, IsSlot, names, Each, Pairs, Apart, ArePlaced}
 use Rattle.zone_bytes.specs.Settling.{Lies}
 use Rattle.zone_bytes.specs.Splicing.{SameOutside, Splice, IsSplice}
 use Rattle.zone_bytes.specs.Fresh.{slots_from}

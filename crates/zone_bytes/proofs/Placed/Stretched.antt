@@ -9,7 +9,6 @@ use Rattle.heap_words.specs.declared.header.Header.{Header}
 use Rattle.block_store.specs.Block.{Block, Free, size, sizes, free, is_masters}
 use Rattle.block_store.specs.Block.{resized_content}
 use Rattle.zone_bytes.specs.Layout.{head_of, Tile, Tiles, IsSlot, names, names_of, LeadsTo, Leads, Each, IsPlaced}
-use Rattle.zone_bytes.specs.Layout.{ArePlaced}
 use Rattle.zone_bytes.specs.Decode.{zone_in}
 use Rattle.zone_bytes.specs.Table.{Lays, slot_in}
 use Rattle.zone_bytes.specs.Lawful.{IsSound}

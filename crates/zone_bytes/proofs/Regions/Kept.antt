@@ -1,5 +1,5 @@
 -- What lies in a window stays where another one is written.
-use Rattle.std.proofs.Common.{◌≡◌, ℕ, ◌+◌, ◌≤◌, ◌⊎◌, inl, inr, List, length, sym, ◌∙◌, ap, subst, arith}
+use Rattle.std.proofs.Common.{◌≡◌, ℕ, ◌+◌, ◌≤◌, inl, inr, List, length, sym, ◌∙◌, ap, subst, arith}
 use Rattle.windows.specs.declared.Window.{Window}
 use Rattle.windows.specs.Windows.{Misses}
 use Rattle.windows.specs.Writes.{written, piece}

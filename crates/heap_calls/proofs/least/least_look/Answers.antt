@@ -1,20 +1,25 @@
-use Rattle.std.proofs.Common.{◌≤◌, sym, ◌∙◌, arith, inl, inr}
-use Rattle.std.proofs.lemmas.Bool.Decides.{nat_tests}
-use Rattle.block_store.proofs.Plain.Trials.{least_or_last-at}
+use Rattle.std.proofs.Common.{sym, ◌∙◌}
+use Rattle.block_store.proofs.Plain.Trials.{least_or_last-is, least_or_last-fails, past-least}
 use Rattle.heap_calls.proofs.least.least_look.Goals as goal
-use Rattle.heap_calls.proofs.least.least_look.Goals.{then-is_some-via-then-is_some}
-use Rattle.heap_calls.proofs.least.least_look.Goals.{then-is_some-via-else-is_some+then-not-goes_on}
 
-pub returns-then-is_some-clause-least : goal.returns-then-is_some-clause-least
-returns-then-is_some-clause-least g c =
+-- it is there after all, and so after as many as there can be
+pub returns-then-is_some-2-clause-least : goal.returns-then-is_some-2-clause-least
+returns-then-is_some-2-clause-least g c =
+    let look = c.args.look.now in
     let zone = g.S.BlockStore.zone c.args.store.now in
-    let k = c.loop-found.purges in
-    let i = c.loop-found.invariant in
-    let most = g.L.Look.most c.args.look.now zone in
-    let within : k ≤ most = i.within in
-    sym (least_or_last-at (g.L.Look.is_there c.args.look.now zone) most k within i.none (elim c.then-is_some.branch [
-      | then-is_some-via-then-is_some w ↦
-          inl (sym c.look-found.ensures.there ∙ sym c.is_some.ensures ∙ w.if-is_some.true)
-      | then-is_some-via-else-is_some+then-not-goes_on w ↦
-          inr (grind (arith, nat_tests, within, w.goes_on.ensures.more, w.if-not-goes_on.true))
-    ]))
+    let most = g.L.Look.most look zone in
+    sym (least_or_last-is (g.L.Look.is_there look zone) most c.fewest.result.purges
+    (sym (g.met.L.Look.ends look zone 134217728 c.requires c.goes_on.ensures.few)
+    ∙ sym c.look-after_all.ensures.there ∙ sym c.is_some-2.ensures ∙ c.if-is_some-2.true) c.fewest.ensures.there
+    c.fewest.ensures.least)
+
+-- it isn't, and so after none
+pub returns-clause-least : goal.returns-clause-least
+returns-clause-least g c =
+    let look = c.args.look.now in
+    let zone = g.S.BlockStore.zone c.args.store.now in
+    let most = g.L.Look.most look zone in
+    past-least most c.fewest-purges.result.purges c.fewest-purges.ensures.there c.fewest-purges.ensures.least
+    ∙ sym (least_or_last-fails (g.L.Look.is_there look zone)
+    (λ k m le is. g.met.L.Look.rises look zone k m c.requires le is) most 134217728 c.goes_on.ensures.few
+    (sym c.look-after_all.ensures.there ∙ sym c.is_some-2.ensures ∙ c.if-is_some-2.false))

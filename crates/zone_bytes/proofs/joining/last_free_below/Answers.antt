@@ -3,8 +3,11 @@ use Rattle.heap_words.specs.Headers.{tag_number}
 use Rattle.zone_bytes.proofs.Tiles.Tags.{tag-small}
 use Rattle.zone_bytes.proofs.Places.Stepped.{next-header}
 use Rattle.zone_bytes.proofs.Joined.FreeTags.{free-true, free-false}
-use Rattle.zone_bytes.proofs.Joined.Below.{below-done, below-inside, below-free, below-other}
+use Rattle.zone_bytes.proofs.Joined.Below.{below-from, below-done, below-inside, below-free, below-other}
 use Rattle.zone_bytes.proofs.joining.last_free_below.Goals as goal
+
+pub loop-at-init : goal.loop-at-init
+loop-at-init c = below-from c.args.part.now.bytes c.args.from c.args.place c.requires.up c.requires.inside
 
 pub read_header-header-requires-clause-within : goal.read_header-header-requires-clause-within
 read_header-header-requires-clause-within c =
@@ -24,7 +27,7 @@ overflow_add-end c =
     let l = c.loop-at-test.true in
     let i = below-inside c.args.part.now.bytes c.args.place c.loop-at.at c.loop-at.start c.loop-at.invariant l h.size
     (tag_number h.tag) e.first e.size (tag-small h.tag) (omega (arith, l, c.requires.inside)) in
-    let m = c.requires.way.small in
+    let m = c.requires.up.way.small in
     omega (arith, i, m)
 
 pub loop-at-smaller-then-eq : goal.loop-at-smaller-then-eq

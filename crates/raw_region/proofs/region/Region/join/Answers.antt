@@ -27,10 +27,10 @@ facts c =
     (length c.args.part.bytes) c.index_of-i.ensures at len)
 
 region_is : (c : After-shut)
-    → IsRegion (record { frame = c.self.inside.frame; home = c.self.inside.home; gaps = c.shut.new.gaps })
+    → IsRegion (record { frame = c.self.inside.frame; home = c.self.inside.home; gaps = c.shut.new.gaps; len = c.self.inside.len })
 region_is c =
     (facts c.before.before).region
-    (record { frame = c.self.inside.frame; home = c.self.inside.home; gaps = c.shut.new.gaps }) refl refl
+    (record { frame = c.self.inside.frame; home = c.self.inside.home; gaps = c.shut.new.gaps; len = c.self.inside.len }) refl refl refl
     (c.shut.ensures.items none) c.shut.ensures.capacity
 
 pub shut-requires-clause-not_start : goal.shut-requires-clause-not_start

@@ -1,6 +1,8 @@
-use Rattle.std.proofs.Common.{rules}
+use Rattle.std.proofs.Common.{rules, ◌≡◌, ◌∙◌, ap}
 use Rattle.zone_bytes.proofs.Regions.Kept.{lies-kept}
+use Rattle.windows.specs.Writes.{written}
 use Rattle.windows.proofs.Ordered.{within}
+use Rattle.windows.proofs.Outside.{got-written_outside}
 use Rattle.raw_zone.proofs.region_zones.RegionZonesZoneMaker.close.Goals as goal
 
 pub returns-clause-left : goal.returns-clause-left
@@ -9,3 +11,11 @@ returns-clause-left c =
     c.args.window (search rules) (search rules)
     (within 0 _ c.args.self.now.region.out c.args.window c.count_out-out.ensures.in_order c.requires.open)
     c.join.ensures.bytes
+
+pub returns-clause-outside : goal.returns-clause-outside
+returns-clause-outside c =
+    let at : c.into_part.result.at ≡ c.args.window.at = search rules in
+    got-written_outside c.args.window c.into_part.result.bytes c.args.self.now.region.bytes c.join.new.self.bytes
+    (search rules)
+    (within 0 _ c.args.self.now.region.out c.args.window c.count_out-out.ensures.in_order c.requires.open)
+    (c.join.ensures.bytes ∙ ap (λ n. written n c.into_part.result.bytes c.args.self.now.region.bytes) at)

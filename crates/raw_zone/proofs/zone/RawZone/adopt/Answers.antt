@@ -1,6 +1,6 @@
-use Rattle.std.proofs.Common.{◌≡◌, ◌∙◌, ◌++◌, ◌∷◌, true, false, ℕ, IsTrue, ap, sym, subst, arith}
+use Rattle.std.proofs.Common.{◌≡◌, ◌∙◌, ◌++◌, ◌∷◌, true, false, ℕ, IsTrue, refl, ap, sym, subst, arith}
 use Rattle.std.specs.Option.{IfSome, IsSomeAnd}
-use Rattle.block_store.specs.Block.{Relocatable, is_fixed, is_relocatable, is_masters, content_of, count, free_sum}
+use Rattle.block_store.specs.Block.{Fixed, Relocatable, is_fixed, is_relocatable, is_masters, content_of, count, free_sum}
 use Rattle.block_store.specs.Run.{has}
 use Rattle.block_store.specs.Room.{spot_at}
 use Rattle.block_store.specs.Slot.{is_used}
@@ -16,6 +16,7 @@ use Rattle.zone_bytes.proofs.Places.Options.{if-spot, one-spot}
 use Rattle.zone_bytes.proofs.Laws.Lawful.{Made, rest-made, kept-made}
 use Rattle.zone_bytes.proofs.Blocks.Adopted.{FixedAt, fixed-at, adopt-reads-in, adopted-at, masters-adopted}
 use Rattle.zone_bytes.proofs.Blocks.Adopted.{free-adopted}
+use Rattle.zone_bytes.proofs.Marks.Owed.{with-block}
 use Rattle.raw_zone.proofs.zone.RawZone.adopt.Goals as goal
 
 -- what is asked, of the zone inside
@@ -87,8 +88,10 @@ pub invariant_of-self : goal.invariant_of-self
 invariant_of-self c =
     let d = done c in
     let a = d.0 in
-    kept-made _ _ _ _ _ _ d.1 (c.self.invariant.free_is ∙ ap free_sum a.whole
-    ∙ sym (free-adopted a.s.below a.id c.args.number c.args.flags a.content a.s.above))
+    with-block _ _ _ _ _ a.s.below a.s.above (Fixed a.id a.content) (Relocatable c.args.number c.args.flags a.content)
+    (zone_in c.self.inside.part.bytes) (kept-made _ _ _ _ _ _ d.1 (c.self.invariant.free_is ∙ ap free_sum a.whole
+    ∙ sym (free-adopted a.s.below a.id c.args.number c.args.flags a.content a.s.above))) d.1.zone a.whole refl refl
+    c.self.invariant.marked
 
 pub returns-clause-zone : goal.returns-clause-zone
 returns-clause-zone c =

@@ -1,4 +1,4 @@
-use Rattle.std.proofs.Common.{◌≡◌, ◌+◌, ◌*◌, ◌++◌, ℕ, IsTrue, ap, sym, subst, arith}
+use Rattle.std.proofs.Common.{◌≡◌, ◌+◌, ◌*◌, ◌++◌, ℕ, IsTrue, refl, ap, sym, subst, arith}
 use Rattle.std.specs.Option.{IfSome, IsSomeAnd}
 use Rattle.block_store.specs.Block.{Masters, is_room, count, is_masters, free_sum}
 use Rattle.block_store.specs.Room.{spot_at, filled}
@@ -11,11 +11,28 @@ use Rattle.zone_bytes.proofs.Places.Options.{the-if}
 use Rattle.zone_bytes.proofs.SlotTable.Slotted.{count-small}
 use Rattle.zone_bytes.proofs.Placed.FixedCarved.{Roomy, roomy, free-roomy}
 use Rattle.zone_bytes.proofs.Placed.MastersCarved.{masters-made, masters-free, masters-all, masters-zone, masters-slots}
+use Rattle.zone_bytes.proofs.Marks.Owed.{with-marks, filled-replaced}
 use Rattle.raw_zone.specs.Parted.{zone_of, rest_of}
 use Rattle.raw_zone.proofs.zone.RawZoneBlockStore.add_masters.Goals as goal
-use Rattle.raw_zone.proofs.zone.RawZoneBlockStore.add_masters.Goals.{After-add_masters}
+use Rattle.raw_zone.proofs.zone.RawZoneBlockStore.add_masters.Goals.{After-self, After-add_masters}
 
 -- the Free block at the place
+here : (c : After-self) → Roomy c.self.inside.part.bytes c.args.place 272
+here c =
+    roomy c.self.inside.part.bytes c.self.inside.first c.self.inside.unused c.args.place 272 c.self.invariant.sound
+    (subst (λ v. IsSomeAnd (spot_at c.args.place (zone_of v)) (λ s. IsTrue (is_room 272 s.here))) (sym c.self.view_is)
+    c.requires)
+
+pub size_at-free-requires-clause-way : goal.size_at-free-requires-clause-way
+size_at-free-requires-clause-way c = (here c).at.way
+
+pub size_at-free-requires-clause-some : goal.size_at-free-requires-clause-some
+size_at-free-requires-clause-some c =
+    let r = here c in
+    let i = r.at.inside in
+    let g = r.at.some in
+    omega (arith, i, g)
+
 there : (c : After-add_masters) → Roomy c.self.inside.part.bytes c.args.place 272
 there c =
     roomy c.self.inside.part.bytes c.self.inside.first c.self.inside.unused c.args.place 272 c.self.invariant.sound
@@ -65,7 +82,7 @@ invariant_of-self c =
     c.args.place c.self.invariant.sound (there a) (laid a) in
     let z = ap free_sum m.zone in
     let f = c.self.invariant.free_is in
-    kept-made _ _ _ _ _ _ m (omega (arith, q, z, f))
+    with-marks _ _ _ _ _ (kept-made _ _ _ _ _ _ m (omega (arith, q, z, f))) c.note.ensures
 
 pub returns-clause-ok : goal.returns-clause-ok
 returns-clause-ok c =
@@ -95,3 +112,28 @@ returns-clause-slots c =
     (masters-slots c.self.inside.part.bytes c.add_masters.new.part.bytes c.self.inside.first c.self.inside.unused
     c.args.place
     c.self.invariant.sound (there a) (laid a))
+
+pub overflow_add-place : goal.overflow_add-place
+overflow_add-place c =
+    let r = there (goal.at.overflow_add-place c).After-add_masters in
+    let n = c.size_at-free.ensures r.s.here r.s.above r.at.left in
+    let i = r.at.inside in
+    let m = r.at.small in
+    omega (arith, n, i, m)
+
+pub note-requires-clause-sound : goal.note-requires-clause-sound
+note-requires-clause-sound c = (
+  c.args.place + 16,
+  c.self.inside.unused + 64,
+  (done (goal.at.note-requires-clause-sound c).After-add_masters).sound,
+)
+
+pub note-requires-clause-marks : goal.note-requires-clause-marks
+note-requires-clause-marks c =
+    let a = (goal.at.note-requires-clause-marks c).After-add_masters in
+    let r = there a in (
+      zone_in c.self.inside.part.bytes,
+      filled-replaced c.self.inside.part.bytes c.args.place 272 r Masters refl (omega arith) c.size_at-free.result
+          (c.size_at-free.ensures r.s.here r.s.above r.at.left) (zone_in c.add_masters.new.part.bytes) (done a).zone,
+      c.self.invariant.marked,
+    )

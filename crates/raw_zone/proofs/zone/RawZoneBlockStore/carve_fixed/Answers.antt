@@ -1,4 +1,5 @@
-use Rattle.std.proofs.Common.{◌≡◌, IsTrue, ap, sym, subst, arith, replicate}
+use Rattle.std.proofs.Common.{◌≡◌, ℕ, IsTrue, refl, ap, sym, subst, arith, replicate}
+use Rattle.std.proofs.lemmas.List.{length-replicate}
 use Rattle.std.specs.Option.{IfSome, IsSomeAnd}
 use Rattle.mac_words.specs.Size.{padded}
 use Rattle.block_store.specs.Block.{Fixed, is_room, size, free_sum}
@@ -11,11 +12,29 @@ use Rattle.zone_bytes.proofs.Laws.Lawful.{Made, rest-made, kept-made}
 use Rattle.zone_bytes.proofs.Places.Options.{the-if}
 use Rattle.zone_bytes.proofs.Placed.FixedCarved.{Roomy, roomy, fixed-made, fixed-free, fixed-masters, fixed-zone}
 use Rattle.zone_bytes.proofs.Placed.FixedCarved.{free-roomy}
+use Rattle.zone_bytes.proofs.Marks.Owed.{with-marks, filled-replaced}
 use Rattle.raw_zone.specs.Parted.{zone_of, rest_of}
 use Rattle.raw_zone.proofs.zone.RawZoneBlockStore.carve_fixed.Goals as goal
-use Rattle.raw_zone.proofs.zone.RawZoneBlockStore.carve_fixed.Goals.{After-carve_fixed}
+use Rattle.raw_zone.proofs.zone.RawZoneBlockStore.carve_fixed.Goals.{After-self, After-carve_fixed}
 
 -- the Free block at the place
+here : (c : After-self) → Roomy c.self.inside.part.bytes c.args.place (padded c.args.size)
+here c =
+    roomy c.self.inside.part.bytes c.self.inside.first c.self.inside.unused c.args.place (padded c.args.size)
+    c.self.invariant.sound
+    (subst (λ v. IsSomeAnd (spot_at c.args.place (zone_of v)) (λ s. IsTrue (is_room (padded c.args.size) s.here)))
+    (sym c.self.view_is) c.requires)
+
+pub size_at-free-requires-clause-way : goal.size_at-free-requires-clause-way
+size_at-free-requires-clause-way c = (here c).at.way
+
+pub size_at-free-requires-clause-some : goal.size_at-free-requires-clause-some
+size_at-free-requires-clause-some c =
+    let r = here c in
+    let i = r.at.inside in
+    let g = r.at.some in
+    omega (arith, i, g)
+
 there : (c : After-carve_fixed) → Roomy c.self.inside.part.bytes c.args.place (padded c.args.size)
 there c =
     roomy c.self.inside.part.bytes c.self.inside.first c.self.inside.unused c.args.place (padded c.args.size)
@@ -64,7 +83,7 @@ invariant_of-self c =
     let z = ap free_sum m.zone in
     let f = c.self.invariant.free_is in
     let p = c.padded_size.ensures in
-    kept-made _ _ _ _ _ _ m (omega (arith, q, z, f, p))
+    with-marks _ _ _ _ _ (kept-made _ _ _ _ _ _ m (omega (arith, q, z, f, p))) c.note.ensures
 
 pub returns-clause-ok : goal.returns-clause-ok
 returns-clause-ok c =
@@ -91,3 +110,30 @@ returns-clause-rest c =
     (goal.at.returns-clause-rest c).After-carve_fixed).is
     (c.carve_fixed.ensures.lays c.self.inside.first c.self.inside.unused c.self.invariant.sound)))
     c.carve_fixed.ensures.same)
+
+pub overflow_add-place : goal.overflow_add-place
+overflow_add-place c =
+    let r = there (goal.at.overflow_add-place c).After-carve_fixed in
+    let n = c.size_at-free.ensures r.s.here r.s.above r.at.left in
+    let i = r.at.inside in
+    let m = r.at.small in
+    omega (arith, n, i, m)
+
+pub note-requires-clause-sound : goal.note-requires-clause-sound
+note-requires-clause-sound c = (
+  c.self.inside.first,
+  c.self.inside.unused,
+  (done (goal.at.note-requires-clause-sound c).After-carve_fixed).sound,
+)
+
+pub note-requires-clause-marks : goal.note-requires-clause-marks
+note-requires-clause-marks c =
+    let a = (goal.at.note-requires-clause-marks c).After-carve_fixed in
+    let r = there a in
+    let l = ap padded (length-replicate {A = ℕ} c.args.size 0) in (
+      zone_in c.self.inside.part.bytes,
+      filled-replaced c.self.inside.part.bytes c.args.place (padded c.args.size) r
+          (Fixed c.args.place (replicate c.args.size 0)) refl (omega (arith, l)) c.size_at-free.result
+          (c.size_at-free.ensures r.s.here r.s.above r.at.left) (zone_in c.carve_fixed.new.part.bytes) (done a).zone,
+      c.self.invariant.marked,
+    )

@@ -1,5 +1,6 @@
 use Rattle.std.proofs.Common.{◌≡◌, ◌∙◌, ◌+◌, ◌≤◌, ◌∷◌, ◌++◌, Some, length, take, ap, sym, subst, arith}
 use Rattle.std.specs.Option.{IfSome, IsSomeAnd}
+use Rattle.std.proofs.lemmas.List.{length-take-le}
 use Rattle.windows.specs.Writes.{written}
 use Rattle.block_store.specs.Block.{content_of, with_content}
 use Rattle.block_store.specs.Room.{Spot, spot_at}
@@ -11,6 +12,8 @@ use Rattle.zone_bytes.proofs.Places.Options.{if-spot, the-spot, one-spot}
 use Rattle.zone_bytes.proofs.Laws.Lawful.{rest-made}
 use Rattle.zone_bytes.proofs.Placed.Standing.{standing}
 use Rattle.zone_bytes.proofs.Placed.Copied.{holds-inside, copied, copied-kept, copied-masters}
+use Rattle.zone_bytes.proofs.Places.AtPlace.{whole}
+use Rattle.zone_bytes.proofs.Marks.Owed.{with-written}
 use Rattle.raw_zone.specs.Parted.{zone_of, rest_of}
 use Rattle.raw_zone.proofs.zone.RawZoneBlockStore.copy.Goals as goal
 use Rattle.raw_zone.proofs.zone.RawZoneBlockStore.copy.Goals.{After-move_bytes}
@@ -100,12 +103,19 @@ invariant_of-self-inside c =
 
 pub invariant_of-self : goal.invariant_of-self
 invariant_of-self c =
+    let z = c.self.inside in
     let t = source-of (goal.at.invariant_of-self c).After-move_bytes in
     let s = target-of (goal.at.invariant_of-self c).After-move_bytes in
-    rw c.move_bytes.ensures.bytes (copied-kept c.self.inside.part.bytes c.self.inside.first c.self.inside.unused
-    c.args.source
-    c.args.bytes c.args.place c.args.from c.self.invariant.sound t.0 s.0 t.1 s.1 t.2 s.2 c.self.inside.free
-    c.self.invariant.free_is)
+    let k = length-take-le c.args.bytes (content_of t.0.here) t.2 in
+    let w = s.2 in
+    rw c.move_bytes.ensures.bytes (with-written _ _ _ _ _ s.0.below s.0.above s.0.here c.args.from
+    (take c.args.bytes (content_of t.0.here)) (zone_in z.part.bytes)
+    (copied-kept z.part.bytes z.first z.unused c.args.source c.args.bytes c.args.place c.args.from
+    c.self.invariant.sound t.0 s.0 t.1 s.1 t.2 s.2 z.free c.self.invariant.free_is)
+    (copied z.part.bytes z.first z.unused c.args.source c.args.bytes c.args.place c.args.from
+    c.self.invariant.sound t.0 s.0 t.1 s.1 t.2 s.2).zone
+    (whole z.part.bytes z.first z.unused c.self.invariant.sound c.args.place s.0 s.1) (omega (arith, k, w))
+    c.self.invariant.marked)
 
 pub returns-clause-zone : goal.returns-clause-zone
 returns-clause-zone c =

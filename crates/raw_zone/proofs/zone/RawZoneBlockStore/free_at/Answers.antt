@@ -8,10 +8,13 @@ use Rattle.zone_bytes.specs.Beside.{rest_in}
 use Rattle.zone_bytes.specs.Decode.{zone_in}
 use Rattle.zone_bytes.proofs.Places.Options.{the-spot}
 use Rattle.zone_bytes.proofs.Joined.Handles.{Gained, gained-fits, gained-kept, gained-rest}
-use Rattle.zone_bytes.proofs.Joined.FixedFreed.{standing, may-free_fixed, fixed-gained}
+use Rattle.zone_bytes.proofs.Joined.FixedFreed.{standing, may-free_fixed, fixed-gained, freed-is}
+use Rattle.zone_bytes.specs.Marked.{AreOf}
+use Rattle.zone_bytes.proofs.Places.AtPlace.{whole}
 use Rattle.raw_zone.specs.Parted.{zone_of, rest_of}
+use Rattle.zone_bytes.proofs.Marks.Owed.{with-marks, replaced-as}
 use Rattle.raw_zone.proofs.zone.RawZoneBlockStore.free_at.Goals as goal
-use Rattle.raw_zone.proofs.zone.RawZoneBlockStore.free_at.Goals.{After-self, After-free_block}
+use Rattle.raw_zone.proofs.zone.RawZoneBlockStore.free_at.Goals.{After-self, After-free_block-freed}
 
 -- the Fixed block
 here : (c : goal.After-self)
@@ -22,43 +25,75 @@ here c =
     (subst (λ v. IsSomeAnd (spot_at c.args.place (zone_of v)) (λ s. is_fixed c.args.place s.here ≡ true))
     (sym c.self.view_is) c.requires)
 
-pub free_block-requires : goal.free_block-requires
-free_block-requires c =
+pub free_block-freed-requires : goal.free_block-freed-requires
+free_block-freed-requires c =
     let n = c.self.inside in
     let s = c.self.invariant.sound in
-    let a = here (goal.at.free_block-requires c).After-self in (
+    let a = here (goal.at.free_block-freed-requires c).After-self in (
       standing n.part.bytes n.first n.unused s c.args.place a.0 a.1 a.2,
       may-free_fixed n.part.bytes n.first n.unused
           s c.args.place a.0 a.1 a.2,
+      subst (AreOf n.marks) (whole n.part.bytes n.first n.unused s c.args.place a.0 a.1) c.self.invariant.marked,
     )
 
-done : (c : goal.After-free_block)
-    → Gained c.self.inside.part.bytes c.free_block.new.part.bytes c.self.inside.first c.self.inside.unused
-    c.free_block.result (tidy (freed (is_fixed c.args.place) (zone_in c.self.inside.part.bytes)))
+there : (c : After-free_block-freed)
+    → (s : Spot) × (spot_at c.args.place (zone_in c.self.inside.part.bytes) ≡ Some s) × (is_fixed c.args.place
+    s.here ≡ true)
+there c =
+    the-spot (spot_at c.args.place (zone_in c.self.inside.part.bytes)) (λ s. is_fixed c.args.place s.here ≡ true)
+    (subst (λ v. IsSomeAnd (spot_at c.args.place (zone_of v)) (λ s. is_fixed c.args.place s.here ≡ true))
+    (sym c.self.view_is) c.requires)
+
+done : (c : After-free_block-freed)
+    → Gained c.self.inside.part.bytes c.free_block-freed.new.part.bytes c.self.inside.first c.self.inside.unused
+    c.free_block-freed.result.bytes (tidy (freed (is_fixed c.args.place) (zone_in c.self.inside.part.bytes)))
 done c =
     let n = c.self.inside in
-    let a = here (goal.at.overflow_add-self c).After-self in
+    let a = there c in
     fixed-gained n.part.bytes n.first n.unused c.self.invariant.sound c.args.place a.0 a.1 a.2
-    c.free_block.new.part.bytes c.free_block.result c.free_block.ensures.lays c.free_block.ensures.bytes
+    c.free_block-freed.new.part.bytes c.free_block-freed.result.bytes c.free_block-freed.ensures.lays c.free_block-freed.ensures.bytes
 
 pub overflow_add-self : goal.overflow_add-self
-overflow_add-self c = let f = gained-fits _ _ _ _ _ _ (done c) c.self.inside.free c.self.invariant.free_is in
+overflow_add-self c =
+    let f = gained-fits _ _ _ _ _ _ (done (goal.at.overflow_add-self c).After-free_block-freed) c.self.inside.free
+    c.self.invariant.free_is in
     omega (arith, f)
 
 pub invariant_of-self-inside : goal.invariant_of-self-inside
-invariant_of-self-inside c = ((done c).made.lawful, tt)
+invariant_of-self-inside c = ((done (goal.at.invariant_of-self-inside c).After-free_block-freed).made.lawful, tt)
 
 pub invariant_of-self : goal.invariant_of-self
-invariant_of-self c = gained-kept _ _ _ _ _ _ (done (goal.at.invariant_of-self c).After-free_block)
-    c.self.inside.free c.self.invariant.free_is
+invariant_of-self c = with-marks _ _ _ _ _ (gained-kept _ _ _ _ _ _ (done (goal.at.invariant_of-self c).After-free_block-freed)
+    c.self.inside.free c.self.invariant.free_is) c.note.ensures
 
 pub returns-clause-zone : goal.returns-clause-zone
-returns-clause-zone c = (done (goal.at.returns-clause-zone c).After-free_block).made.zone
+returns-clause-zone c = (done (goal.at.returns-clause-zone c).After-free_block-freed).made.zone
     ∙ ap (λ v. tidy (freed (is_fixed c.args.place) (zone_of v))) c.self.view_is
 
 pub returns-clause-rest : goal.returns-clause-rest
 returns-clause-rest c =
-    subst (λ v. IsRest (rest_of v) (rest_in c.free_block.new.part c.self.inside.unused c.self.inside.moves))
+    subst (λ v. IsRest (rest_of v) (rest_in c.free_block-freed.new.part c.self.inside.unused c.self.inside.moves))
     c.self.view_is
-    (gained-rest c.self.inside.part c.free_block.new.part _ _ _ _
-    (done (goal.at.returns-clause-rest c).After-free_block) c.free_block.ensures.same c.self.inside.moves)
+    (gained-rest c.self.inside.part c.free_block-freed.new.part _ _ _ _
+    (done (goal.at.returns-clause-rest c).After-free_block-freed) c.free_block-freed.ensures.same c.self.inside.moves)
+
+pub note-requires-clause-sound : goal.note-requires-clause-sound
+note-requires-clause-sound c = (
+  c.self.inside.first,
+  c.self.inside.unused,
+  (done (goal.at.note-requires-clause-sound c).After-free_block-freed).made.sound,
+)
+
+pub note-requires-clause-marks : goal.note-requires-clause-marks
+note-requires-clause-marks c =
+    let n = c.self.inside in
+    let s = c.self.invariant.sound in
+    let a = here (goal.at.note-requires-clause-marks c).After-self in (
+      zone_in n.part.bytes,
+      replaced-as _ _ _ _ _ _ (whole n.part.bytes n.first n.unused s c.args.place a.0 a.1)
+          ((done (goal.at.note-requires-clause-marks c).After-free_block-freed).made.zone
+          ∙ ap tidy (freed-is n.part.bytes n.first n.unused s c.args.place a.0 a.1 a.2))
+          (c.free_block-freed.ensures.replaced (standing n.part.bytes n.first n.unused s c.args.place a.0 a.1 a.2)
+          (may-free_fixed n.part.bytes n.first n.unused s c.args.place a.0 a.1 a.2)),
+      c.self.invariant.marked,
+    )

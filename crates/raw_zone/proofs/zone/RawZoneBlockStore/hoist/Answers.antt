@@ -9,8 +9,9 @@ use Rattle.zone_bytes.proofs.Runs.Changed.{ChangedRun, if-one}
 use Rattle.zone_bytes.proofs.Runs.PackedAt.{IsPacked, is-packed, kept-changed, rest-changed}
 use Rattle.zone_bytes.proofs.Runs.HoistedAt.{slot-inside, hoist-bytes, may-hoist, hoist-changed}
 use Rattle.raw_zone.specs.Parted.{zone_of, rest_of, zone-tidied, zone-once}
+use Rattle.zone_bytes.proofs.Marks.Owed.{with-unknown}
 use Rattle.raw_zone.proofs.zone.RawZoneBlockStore.hoist.Goals as goal
-use Rattle.raw_zone.proofs.zone.RawZoneBlockStore.hoist.Goals.{After-self, After-hoist_block}
+use Rattle.raw_zone.proofs.zone.RawZoneBlockStore.hoist.Goals.{After-self, After-unknown-self-inside}
 
 abbrev Found : After-self → Type 0
 Found c = IsPacked c.self.inside.part.bytes c.self.inside.first c.self.inside.unused c.args.run
@@ -38,7 +39,7 @@ hoist_block-requires c =
       may-hoist a.0 c.args.number a.1 c.read_word-place.result c.read_word-place.ensures,
     )
 
-done : (c : After-hoist_block) → (k : Found (goal.at.invariant_of-self-inside c).After-self)
+done : (c : After-unknown-self-inside) → (k : Found (goal.at.invariant_of-self-inside c).After-self)
     × ChangedRun (high (is_relocatable c.args.number)) (zone_of c.args.self.now) k.spot c.hoist_block.new.part.bytes
     c.self.inside.first c.self.inside.unused (slot_in c.self.inside.part.bytes)
 done c =
@@ -49,24 +50,24 @@ done c =
     )
 
 pub invariant_of-self-inside : goal.invariant_of-self-inside
-invariant_of-self-inside c = ((done c).1.made.lawful, tt)
+invariant_of-self-inside c = ((done (goal.at.invariant_of-self-inside c).After-unknown-self-inside).1.made.lawful, tt)
 
 pub invariant_of-self : goal.invariant_of-self
 invariant_of-self c =
-    let d = done (goal.at.invariant_of-self c).After-hoist_block in
-    kept-changed d.0 (high (is_relocatable c.args.number)) c.hoist_block.new.part.bytes
-    (slot_in c.self.inside.part.bytes) c.self.inside.free d.1 c.self.invariant.free_is
+    let d = done (goal.at.invariant_of-self c).After-unknown-self-inside in
+    with-unknown _ _ _ _ _ (kept-changed d.0 (high (is_relocatable c.args.number)) c.hoist_block.new.part.bytes
+    (slot_in c.self.inside.part.bytes) c.self.inside.free d.1 c.self.invariant.free_is) c.unknown-self-inside.ensures
 
 pub returns-clause-zone : goal.returns-clause-zone
 returns-clause-zone c =
-    let d = done (goal.at.returns-clause-zone c).After-hoist_block in
+    let d = done (goal.at.returns-clause-zone c).After-unknown-self-inside in
     if-one (run_at c.args.run (zone_of c.args.self.now))
     (λ r. zone_in c.hoist_block.new.part.bytes ≡ tidy (with_run (high (is_relocatable c.args.number)) r)) d.0.spot
     d.0.is d.1.made.zone
 
 pub returns-clause-rest : goal.returns-clause-rest
 returns-clause-rest c =
-    let d = done (goal.at.returns-clause-rest c).After-hoist_block in
+    let d = done (goal.at.returns-clause-rest c).After-unknown-self-inside in
     rest-changed c.self.inside.part c.hoist_block.new.part d.0 (high (is_relocatable c.args.number))
     (rest_of c.args.self.now) c.self.inside.moves d.1
     (subst (λ v. IsRest (rest_of c.args.self.now) (rest_of v)) (sym c.self.view_is) c.pack-packed.ensures.rest)

@@ -1,49 +1,8 @@
-use Rattle.std.proofs.Common.{ap, ◌∙◌, subst, arith}
-use Rattle.block_store.specs.Rest.{IsRest}
-use Rattle.block_store.specs.Sparing.{purged}
-use Rattle.zone_bytes.specs.Beside.{rest_in}
-use Rattle.zone_bytes.specs.Decode.{zone_in}
-use Rattle.zone_bytes.proofs.Joined.Handles.{Gained, gained-fits, gained-kept, gained-rest}
-use Rattle.zone_bytes.proofs.Joined.PurgeStarts.{purge_all, all-start, purge-gained}
-use Rattle.raw_zone.specs.Parted.{zone_of, rest_of}
+use Rattle.std.proofs.Common.{rules, ◌≡◌, true, sym}
+use Rattle.raw_zone.specs.Parted.{zone_of, zone-tidied}
 use Rattle.raw_zone.proofs.zone.RawZoneBlockStore.purge.Goals as goal
-use Rattle.raw_zone.proofs.zone.RawZoneBlockStore.purge.Goals.{After-purge_from}
 
-pub purge_from-requires : goal.purge_from-requires
-purge_from-requires c =
-    let n = c.self.inside in
-    let s = c.self.invariant.sound in (
-      purge_all n.part.bytes n.first n.unused s c.args.purges c.args.sparing,
-      all-start n.part.bytes n.first n.unused
-          s c.args.purges c.args.sparing,
-    )
-
-done : (c : goal.After-purge_from)
-    → Gained c.self.inside.part.bytes c.purge_from.new.part.bytes c.self.inside.first c.self.inside.unused
-    c.purge_from.result (purged c.args.purges c.args.sparing (zone_in c.self.inside.part.bytes))
-done c =
-    let n = c.self.inside in
-    purge-gained n.part.bytes n.first n.unused c.self.invariant.sound c.args.purges c.args.sparing
-    c.purge_from.new.part.bytes c.purge_from.result c.purge_from.ensures.purged
-
-pub overflow_add-self : goal.overflow_add-self
-overflow_add-self c = let f = gained-fits _ _ _ _ _ _ (done c) c.self.inside.free c.self.invariant.free_is in
-    omega (arith, f)
-
-pub invariant_of-self-inside : goal.invariant_of-self-inside
-invariant_of-self-inside c = ((done c).made.lawful, tt)
-
-pub invariant_of-self : goal.invariant_of-self
-invariant_of-self c = gained-kept _ _ _ _ _ _ (done (goal.at.invariant_of-self c).After-purge_from)
-    c.self.inside.free c.self.invariant.free_is
-
-pub returns-clause-zone : goal.returns-clause-zone
-returns-clause-zone c = (done (goal.at.returns-clause-zone c).After-purge_from).made.zone
-    ∙ ap (λ v. purged c.args.purges c.args.sparing (zone_of v)) c.self.view_is
-
-pub returns-clause-rest : goal.returns-clause-rest
-returns-clause-rest c =
-    subst (λ v. IsRest (rest_of v) (rest_in c.purge_from.new.part c.self.inside.unused c.self.inside.moves))
-    c.self.view_is
-    (gained-rest c.self.inside.part c.purge_from.new.part _ _ _ _
-    (done (goal.at.returns-clause-rest c).After-purge_from) c.purge_from.ensures.same c.self.inside.moves)
+pub returns-else-not-is_as_it_stands-clause-zone : goal.returns-else-not-is_as_it_stands-clause-zone
+returns-else-not-is_as_it_stands-clause-zone c =
+    let stands : c.is_as_it_stands.result ≡ true = search rules in
+    sym (c.is_as_it_stands.ensures stands (zone_of c.args.self.now) (zone-tidied c.args.self.now))

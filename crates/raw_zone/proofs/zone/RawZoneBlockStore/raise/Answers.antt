@@ -11,8 +11,9 @@ use Rattle.zone_bytes.proofs.Runs.Changed.{ChangedRun, if-one, the-packed}
 use Rattle.zone_bytes.proofs.Runs.PackedAt.{IsPacked, is-packed, kept-changed, rest-changed}
 use Rattle.zone_bytes.proofs.Runs.RaisedAt.{raise-bytes, may-raise, raise-changed}
 use Rattle.raw_zone.specs.Parted.{zone_of, rest_of, zone-tidied}
+use Rattle.zone_bytes.proofs.Marks.Owed.{with-unknown}
 use Rattle.raw_zone.proofs.zone.RawZoneBlockStore.raise.Goals as goal
-use Rattle.raw_zone.proofs.zone.RawZoneBlockStore.raise.Goals.{After-self, After-raise_run}
+use Rattle.raw_zone.proofs.zone.RawZoneBlockStore.raise.Goals.{After-self, After-unknown-self-inside}
 
 abbrev Found : After-self → Type 0
 Found c = IsPacked c.self.inside.part.bytes c.self.inside.first c.self.inside.unused c.args.run
@@ -37,7 +38,7 @@ raise_run-requires c =
       may-raise a.0 c.args.bytes c.requires.some c.requires.even a.1,
     )
 
-done : (c : After-raise_run) → (k : Found (goal.at.invariant_of-self-inside c).After-self)
+done : (c : After-unknown-self-inside) → (k : Found (goal.at.invariant_of-self-inside c).After-self)
     × ChangedRun (low (Free c.args.bytes)) (zone_of c.args.self.now) k.spot c.raise_run.new.part.bytes
     c.self.inside.first c.self.inside.unused (slot_in c.self.inside.part.bytes)
 done c =
@@ -48,24 +49,24 @@ done c =
     )
 
 pub invariant_of-self-inside : goal.invariant_of-self-inside
-invariant_of-self-inside c = ((done c).1.made.lawful, tt)
+invariant_of-self-inside c = ((done (goal.at.invariant_of-self-inside c).After-unknown-self-inside).1.made.lawful, tt)
 
 pub invariant_of-self : goal.invariant_of-self
 invariant_of-self c =
-    let d = done (goal.at.invariant_of-self c).After-raise_run in
-    kept-changed d.0 (low (Free c.args.bytes)) c.raise_run.new.part.bytes (slot_in c.self.inside.part.bytes)
-    c.self.inside.free d.1 c.self.invariant.free_is
+    let d = done (goal.at.invariant_of-self c).After-unknown-self-inside in
+    with-unknown _ _ _ _ _ (kept-changed d.0 (low (Free c.args.bytes)) c.raise_run.new.part.bytes (slot_in c.self.inside.part.bytes)
+    c.self.inside.free d.1 c.self.invariant.free_is) c.unknown-self-inside.ensures
 
 pub returns-then-run-packed-clause-ok : goal.returns-then-run-packed-clause-ok
 returns-then-run-packed-clause-ok c =
-    let d = done (goal.at.returns-then-run-packed-clause-ok c).After-raise_run in
+    let d = done (goal.at.returns-then-run-packed-clause-ok c).After-unknown-self-inside in
     if-one (run_at c.args.run (zone_of c.args.self.now))
     (λ r. zone_in c.raise_run.new.part.bytes ≡ tidy (with_run (low (Free c.args.bytes)) r)) d.0.spot d.0.is
     d.1.made.zone
 
 pub returns-then-run-packed-clause-rest : goal.returns-then-run-packed-clause-rest
 returns-then-run-packed-clause-rest c =
-    let d = done (goal.at.returns-then-run-packed-clause-rest c).After-raise_run in
+    let d = done (goal.at.returns-then-run-packed-clause-rest c).After-unknown-self-inside in
     rest-changed c.self.inside.part c.raise_run.new.part d.0 (low (Free c.args.bytes)) (rest_of c.args.self.now)
     c.self.inside.moves d.1 (subst (λ v. IsRest (rest_of c.args.self.now) (rest_of v)) (sym c.self.view_is)
     c.pack-packed.ensures.rest) c.raise_run.ensures.same

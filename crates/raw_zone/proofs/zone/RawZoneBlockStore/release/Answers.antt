@@ -1,4 +1,4 @@
-use Rattle.std.proofs.Common.{IsTrue, sym, ap, ◌∙◌, subst, arith}
+use Rattle.std.proofs.Common.{IsTrue, refl, sym, ap, ◌∙◌, subst, arith}
 use Rattle.block_store.specs.Block.{is_relocatable, tidy}
 use Rattle.block_store.specs.Grow.{freed}
 use Rattle.block_store.specs.Slot.{is_used}
@@ -8,45 +8,68 @@ use Rattle.zone_bytes.specs.Decode.{zone_in}
 use Rattle.zone_bytes.proofs.Joined.Handles.{Gained, gained-fits, gained-kept, gained-rest, table-of, has-handle}
 use Rattle.zone_bytes.proofs.Joined.Handles.{released-gained}
 use Rattle.raw_zone.specs.Parted.{zone_of, rest_of}
+use Rattle.zone_bytes.proofs.Marks.Owed.{with-marks, replaced-as}
 use Rattle.raw_zone.proofs.zone.RawZoneBlockStore.release.Goals as goal
-use Rattle.raw_zone.proofs.zone.RawZoneBlockStore.release.Goals.{After-free_slot}
+use Rattle.raw_zone.proofs.zone.RawZoneBlockStore.release.Goals.{After-free_slot-freed}
 
-pub free_slot-requires : goal.free_slot-requires
-free_slot-requires c =
+pub free_slot-freed-requires : goal.free_slot-freed-requires
+free_slot-freed-requires c =
     let n = c.self.inside in
     let s = c.self.invariant.sound in (
       table-of n.part.bytes n.first n.unused s,
       has-handle n.part.bytes n.first n.unused s c.args.number
           (subst (λ z. IsTrue (is_used ((rest_of z).slots c.args.number))) (sym c.self.view_is) c.requires),
+      c.self.invariant.marked,
     )
 
-done : (c : goal.After-free_slot)
-    → Gained c.self.inside.part.bytes c.free_slot.new.part.bytes c.self.inside.first c.self.inside.unused
-    c.free_slot.result (tidy (freed (is_relocatable c.args.number) (zone_in c.self.inside.part.bytes)))
+done : (c : goal.After-free_slot-freed)
+    → Gained c.self.inside.part.bytes c.free_slot-freed.new.part.bytes c.self.inside.first c.self.inside.unused
+    c.free_slot-freed.result.bytes (tidy (freed (is_relocatable c.args.number) (zone_in c.self.inside.part.bytes)))
 done c =
     let n = c.self.inside in
     released-gained n.part.bytes n.first n.unused c.self.invariant.sound c.args.number
     (subst (λ z. IsTrue (is_used ((rest_of z).slots c.args.number))) (sym c.self.view_is) c.requires)
-    c.free_slot.new.part.bytes c.free_slot.result c.free_slot.ensures.lays c.free_slot.ensures.bytes
+    c.free_slot-freed.new.part.bytes c.free_slot-freed.result.bytes c.free_slot-freed.ensures.lays c.free_slot-freed.ensures.bytes
 
 pub overflow_add-self : goal.overflow_add-self
-overflow_add-self c = let f = gained-fits _ _ _ _ _ _ (done c) c.self.inside.free c.self.invariant.free_is in
+overflow_add-self c =
+    let f = gained-fits _ _ _ _ _ _ (done (goal.at.overflow_add-self c).After-free_slot-freed) c.self.inside.free
+    c.self.invariant.free_is in
     omega (arith, f)
 
 pub invariant_of-self-inside : goal.invariant_of-self-inside
-invariant_of-self-inside c = ((done c).made.lawful, tt)
+invariant_of-self-inside c = ((done (goal.at.invariant_of-self-inside c).After-free_slot-freed).made.lawful, tt)
 
 pub invariant_of-self : goal.invariant_of-self
-invariant_of-self c = gained-kept _ _ _ _ _ _ (done (goal.at.invariant_of-self c).After-free_slot) c.self.inside.free
-    c.self.invariant.free_is
+invariant_of-self c = with-marks _ _ _ _ _ (gained-kept _ _ _ _ _ _ (done (goal.at.invariant_of-self c).After-free_slot-freed)
+    c.self.inside.free c.self.invariant.free_is) c.note.ensures
 
 pub returns-clause-zone : goal.returns-clause-zone
-returns-clause-zone c = (done (goal.at.returns-clause-zone c).After-free_slot).made.zone
+returns-clause-zone c = (done (goal.at.returns-clause-zone c).After-free_slot-freed).made.zone
     ∙ ap (λ v. tidy (freed (is_relocatable c.args.number) (zone_of v))) c.self.view_is
 
 pub returns-clause-rest : goal.returns-clause-rest
 returns-clause-rest c =
-    subst (λ v. IsRest (rest_of v) (rest_in c.free_slot.new.part c.self.inside.unused c.self.inside.moves))
+    subst (λ v. IsRest (rest_of v) (rest_in c.free_slot-freed.new.part c.self.inside.unused c.self.inside.moves))
     c.self.view_is
-    (gained-rest c.self.inside.part c.free_slot.new.part _ _ _ _
-    (done (goal.at.returns-clause-rest c).After-free_slot) c.free_slot.ensures.same c.self.inside.moves)
+    (gained-rest c.self.inside.part c.free_slot-freed.new.part _ _ _ _
+    (done (goal.at.returns-clause-rest c).After-free_slot-freed) c.free_slot-freed.ensures.same c.self.inside.moves)
+
+pub note-requires-clause-sound : goal.note-requires-clause-sound
+note-requires-clause-sound c = (
+  c.self.inside.first,
+  c.self.inside.unused,
+  (done (goal.at.note-requires-clause-sound c).After-free_slot-freed).made.sound,
+)
+
+pub note-requires-clause-marks : goal.note-requires-clause-marks
+note-requires-clause-marks c =
+    let n = c.self.inside in
+    let s = c.self.invariant.sound in (
+      zone_in n.part.bytes,
+      replaced-as _ _ _ _ _ _ refl (done (goal.at.note-requires-clause-marks c).After-free_slot-freed).made.zone
+          (c.free_slot-freed.ensures.replaced (table-of n.part.bytes n.first n.unused s)
+          (has-handle n.part.bytes n.first n.unused s c.args.number
+          (subst (λ z. IsTrue (is_used ((rest_of z).slots c.args.number))) (sym c.self.view_is) c.requires))),
+      c.self.invariant.marked,
+    )

@@ -12,6 +12,7 @@ use Rattle.zone_bytes.proofs.Placed.Standing.{Standing}
 use Rattle.zone_bytes.proofs.Placed.Sizes.{HasRoom, room-at}
 use Rattle.zone_bytes.proofs.Placed.Resized.{resize-made, cut-zone, grown-zone}
 use Rattle.raw_zone.specs.Parted.{zone_of, rest_of}
+use Rattle.zone_bytes.proofs.Marks.Owed.{with-unknown}
 use Rattle.raw_zone.proofs.zone.RawZoneBlockStore.resize.Goals as goal
 use Rattle.raw_zone.proofs.zone.RawZoneBlockStore.resize.Goals.{After-resize_block-self-inside}
 
@@ -27,7 +28,7 @@ there c =
 
 pub invariant_of-self-inside : goal.invariant_of-self-inside
 invariant_of-self-inside c =
-    let a = there c in (
+    let a = there (goal.at.invariant_of-self-inside c).After-resize_block-self-inside in (
       (resize-made c.self.inside.part.bytes c.resize_block-self-inside.new.part.bytes c.self.inside.first
           c.self.inside.unused
           c.args.place c.args.bytes c.self.invariant.sound a.0 a.1 a.3 a.2 c.resize_block-self-inside.ensures.cut
@@ -38,13 +39,13 @@ invariant_of-self-inside c =
 pub invariant_of-self : goal.invariant_of-self
 invariant_of-self c =
     let a = there (goal.at.invariant_of-self c).After-resize_block-self-inside in
-    record {
+    with-unknown _ _ _ _ _ (record {
       sound = (resize-made c.self.inside.part.bytes c.resize_block-self-inside.new.part.bytes c.self.inside.first
           c.self.inside.unused
           c.args.place c.args.bytes c.self.invariant.sound a.0 a.1 a.3 a.2 c.resize_block-self-inside.ensures.cut
           c.resize_block-self-inside.ensures.grown).made.sound;
       free_is = c.resize_block-self-inside.ensures.free;
-    }
+    }) c.unknown-self-inside.ensures
 
 pub returns-clause-cut : goal.returns-clause-cut
 returns-clause-cut c =

@@ -12,6 +12,7 @@ use Rattle.zone_bytes.proofs.Places.AtPlace.{whole, low, way-at, inside, some-he
 use Rattle.zone_bytes.proofs.Places.Options.{if-spot, a-spot}
 use Rattle.zone_bytes.proofs.Laws.Lawful.{rest-made, kept-made}
 use Rattle.zone_bytes.proofs.Blocks.Marked.{flagged-made, masters-flagged, free-flagged}
+use Rattle.zone_bytes.proofs.Marks.Owed.{with-flags}
 use Rattle.raw_zone.proofs.zone.RawZoneBlockStore.set_flags.Goals as goal
 
 pub flag_at-requires-clause-way : goal.flag_at-requires-clause-way
@@ -50,10 +51,11 @@ invariant_of-self c =
     (whole c.self.inside.part.bytes c.self.inside.first c.self.inside.unused c.self.invariant.sound c.args.place
     a.0 a.1) (low c.self.inside.part.bytes c.self.inside.first c.self.inside.unused c.self.invariant.sound
     c.args.place a.0 a.1) in
-    rw c.flag_at.ensures.bytes (kept-made _ _ _ _ _ _ m
-    (c.self.invariant.free_is ∙ ap free_sum
-    (whole c.self.inside.part.bytes c.self.inside.first c.self.inside.unused c.self.invariant.sound c.args.place
-    a.0 a.1) ∙ sym (free-flagged c.args.flags a.0.below a.0.here a.0.above)))
+    let z = c.self.inside in
+    let h = whole z.part.bytes z.first z.unused c.self.invariant.sound c.args.place a.0 a.1 in
+    rw c.flag_at.ensures.bytes (with-flags _ _ _ _ _ a.0.below a.0.above a.0.here c.args.flags (zone_in z.part.bytes)
+    (kept-made _ _ _ _ _ _ m (c.self.invariant.free_is ∙ ap free_sum h
+    ∙ sym (free-flagged c.args.flags a.0.below a.0.here a.0.above))) m.zone h c.self.invariant.marked)
 
 pub returns-clause-zone : goal.returns-clause-zone
 returns-clause-zone c =

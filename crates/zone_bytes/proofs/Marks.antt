@@ -1,0 +1,6 @@
+pub mod Passing
+pub mod Spanned
+pub mod Lowering
+pub mod Rooms
+pub mod Keeping
+pub mod Owed

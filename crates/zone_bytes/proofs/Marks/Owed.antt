@@ -1,0 +1,118 @@
+-- What each change of a zone owes of its landmarks.
+use Rattle.std.proofs.Common.{◌≡◌, ℕ, ◌+◌, ◌-◌, ◌≤◌, false, List, ◌∷◌, ◌++◌, length, refl, sym, ap, ◌∙◌, subst, arith}
+use Rattle.mac_words.specs.Size.{padded}
+use Rattle.windows.specs.Writes.{written}
+use Rattle.windows.proofs.Pieces.{length-written}
+use Rattle.block_store.specs.declared.flags.Flags.{Flags}
+use Rattle.block_store.specs.Block.{Block, Free, Fixed, Masters, Relocatable, size, sizes, free, free_of}
+use Rattle.block_store.specs.Block.{content_of, with_content}
+use Rattle.block_store.specs.Inner.Stretch.{is_free}
+use Rattle.block_store.specs.Room.{filled}
+use Rattle.block_store.specs.Seen.{with_flags}
+use Rattle.block_store.proofs.Content.Sized.{cut-sized}
+use Rattle.zone_bytes.specs.Decode.{zone_in}
+use Rattle.zone_bytes.specs.Lawful.{IsKept}
+use Rattle.zone_bytes.specs.Table.{slot_in}
+use Rattle.zone_bytes.specs.Marked.{AreOf, IsMarked}
+use Rattle.zone_bytes.specs.Marks.{Replaced}
+use Rattle.zone_bytes.specs.declared.keeping.Landmarks.{Landmarks}
+use Rattle.zone_bytes.proofs.Laws.Lawful.{sizes-length}
+use Rattle.zone_bytes.proofs.Marks.Keeping.{marks-same, carved-replaced}
+use Rattle.zone_bytes.proofs.Placed.FixedCarved.{Roomy}
+
+-- a block whose content is another of as many bytes
+size-content : (x : List ℕ) (b : Block) → length x ≡ length (content_of b) → size (with_content x b) ≡ size b
+size-content x (Free n) e = refl
+size-content x (Fixed id content) e = ap padded e
+size-content x Masters e = refl
+size-content x (Relocatable id flags content) e = ap padded e
+
+free-content : (x : List ℕ) (b : Block) → free_of (with_content x b) ≡ free_of b
+free-content x (Free n) = refl
+free-content x (Fixed id content) = refl
+free-content x Masters = refl
+free-content x (Relocatable id flags content) = refl
+
+-- a block with other flags
+size-flags : (flags : Flags) (b : Block) → size (with_flags flags b) ≡ size b
+size-flags flags (Free n) = refl
+size-flags flags (Fixed id content) = refl
+size-flags flags Masters = refl
+size-flags flags (Relocatable id old content) = refl
+
+free-flags : (flags : Flags) (b : Block) → free_of (with_flags flags b) ≡ free_of b
+free-flags flags (Free n) = refl
+free-flags flags (Fixed id content) = refl
+free-flags flags Masters = refl
+free-flags flags (Relocatable id old content) = refl
+
+module _ (xs : List ℕ) (first unused free : ℕ) (l : Landmarks) where
+  pub with-marks : IsKept xs first unused free → AreOf l (zone_in xs) → IsMarked xs first unused free l
+  with-marks k a = record { sound = k.sound; free_is = k.free_is; marked = a }
+
+  -- landmarks that say nothing are those of any zone
+  pub with-unknown : IsKept xs first unused free → ((zone : List Block) → sizes zone ≤ 134217728 → AreOf l zone)
+      → IsMarked xs first unused free l
+  with-unknown k f =
+      let s = sizes-length xs (zone_in xs) (slot_in xs) k.sound.unused k.sound.lays in
+      let m = k.sound.lays.small in
+      with-marks k (f (zone_in xs) (omega (arith, s, m)))
+
+  -- the same zone
+  pub with-same : (zone : List Block) → IsKept xs first unused free → zone_in xs ≡ zone → AreOf l zone
+      → IsMarked xs first unused free l
+  with-same zone k e a = with-marks k (subst (AreOf l) (sym e) a)
+
+  -- a block that takes as many bytes, of which as many are Free
+  pub with-block : (below above : List Block) (b c : Block) (zone : List Block) → IsKept xs first unused free
+      → zone_in xs ≡ below ++ c ∷ above → zone ≡ below ++ b ∷ above → size c ≡ size b → free_of c ≡ free_of b
+      → AreOf l zone → IsMarked xs first unused free l
+  with-block below above b c zone k e was s f a = with-marks k
+      (subst (AreOf l) (sym e) (marks-same 4294967295 l.marks below above b c s f (subst (AreOf l) was a)))
+
+  -- bytes were written over some of a block's content
+  pub with-written : (below above : List Block) (b : Block) (from : ℕ) (x : List ℕ) (zone : List Block)
+      → IsKept xs first unused free
+      → zone_in xs ≡ below ++ with_content (written from x (content_of b)) b ∷ above
+      → zone ≡ below ++ b ∷ above → from + length x ≤ length (content_of b) → AreOf l zone
+      → IsMarked xs first unused free l
+  with-written below above b from x zone k e was w a =
+      let now = written from x (content_of b) in
+      with-block below above b (with_content now b) zone k e was
+      (size-content now b (length-written from x (content_of b) w)) (free-content now b) a
+
+  -- a block has other flags
+  pub with-flags : (below above : List Block) (b : Block) (flags : Flags) (zone : List Block)
+      → IsKept xs first unused free → zone_in xs ≡ below ++ with_flags flags b ∷ above → zone ≡ below ++ b ∷ above
+      → AreOf l zone → IsMarked xs first unused free l
+  with-flags below above b flags zone k e was a =
+      with-block below above b (with_flags flags b) zone k e was (size-flags flags b) (free-flags flags b) a
+
+-- a block that isn't Free was put at the lower end of a Free one
+pub filled-replaced : (xs : List ℕ) (place need : ℕ) (r : Roomy xs place need) (new : Block) → is_free new ≡ false
+    → size new ≤ need → (bytes : ℕ) → bytes ≡ size r.s.here → (zone : List Block) → zone ≡ filled new r.s
+    → Replaced place (place + bytes) (zone_in xs) zone
+filled-replaced xs place need r new solid fits bytes e zone is =
+    let l : size r.s.here ≡ r.bytes = ap size r.here in
+    let f = r.room in
+    let k : size r.s.here + 0 - size new ≡ r.bytes - size new = omega (arith, l) in
+    subst (λ n. Replaced place (place + n) (zone_in xs) zone) (sym (e ∙ l))
+    (carved-replaced r.s.below r.bytes new r.s.above (zone_in xs) zone place
+    (r.at.whole ∙ ap (λ b. r.s.below ++ b ∷ r.s.above) r.here)
+    (is ∙ cut-sized new solid r.s r.at.apart 0 r.s.above r.head (omega (arith, l, f, fits))
+    ∙ ap (λ m. r.s.below ++ new ∷ (free m ++ r.s.above)) k) (omega (arith, f, fits)) r.at.low)
+
+-- the same change, of zones known by other names
+pub replaced-as : (lo hi : ℕ) (old new was is : List Block) → was ≡ old → is ≡ new → Replaced lo hi old new
+    → Replaced lo hi was is
+replaced-as lo hi old new was is e f r = record {
+  below = r.below;
+  here = r.here;
+  there = r.there;
+  above = r.above;
+  was = e ∙ r.was;
+  is = f ∙ r.is;
+  low = r.low;
+  high = r.high;
+  span = r.span;
+}

@@ -1,0 +1,65 @@
+-- What a block's header tells of where it ends and of its Free bytes.
+use Rattle.std.proofs.Common.{◌≡◌, ℕ, true, false, cond, ◌==◌, ◌+◌, ◌%◌, ◌<◌, ◌≤◌, List, ◌∷◌, length, sym, refl, ap}
+use Rattle.std.proofs.Common.{◌∙◌, subst, arith, nat_le}
+use Rattle.heap_words.specs.Words.{word_at}
+use Rattle.block_store.specs.Block.{Block, Free, Fixed, Masters, Relocatable, size, free_of, is_room}
+use Rattle.zone_bytes.specs.Layout.{kind}
+use Rattle.zone_bytes.specs.Stepping.{left_in, IsOnWay}
+use Rattle.zone_bytes.specs.Marks.{Spans, RoomAt}
+use Rattle.zone_bytes.proofs.Places.Stepped.{stepped}
+use Rattle.zone_bytes.proofs.Places.HeaderTells.{here-on, size-at, same-here}
+use Rattle.zone_bytes.proofs.Places.Walks.{free-of}
+
+pub spanned : (at : ℕ) (xs : List ℕ) (w : IsOnWay at xs) → at < length xs → (n t : ℕ) → n + t ≡ word_at at xs
+    → n % 16 ≡ 0 → t ≤ 3 → (free : ℕ) → free ≡ cond (t == 0) n 0 → Spans at (at + n) free xs
+spanned at xs w l n t e h k free f =
+    let s = stepped at xs w l n t e h k in
+    let o = here-on at xs w l n t e h k in
+    let z = size-at at xs w l n t e h k s.here (left_in (at + n) xs) s.is in
+    let tag : t ≡ kind s.here = o.tag ∙ ap kind (same-here at xs t o s.here (left_in (at + n) xs) s.is) in
+    record {
+      here = s.here;
+      is = s.is;
+      up = ap (λ m. at + m) (sym z);
+      bytes = f ∙ (λ i. cond (tag i == 0) (z i) 0) ∙ sym (free-of s.here);
+      way = s.way;
+      some = (let b = some-bytes s.here (left_in (at + n) xs) s.is in omega (arith, b, z));
+    }
+  where
+    some-bytes : (b : Block) (above : List Block) → left_in at xs ≡ b ∷ above → 16 ≤ size b
+    some-bytes b above q =
+        let o = here-on at xs w l n t e h k in
+        subst (λ c. 16 ≤ size c) (same-here at xs t o b above q) o.tile.some
+
+-- a block that isn't room by its Free bytes
+pub room-free : (p : ℕ) (b : Block) → 0 < free_of b → p ≤ free_of b → is_room p b ≡ true
+room-free p (Free n) s l = grind arith
+room-free p (Fixed id content) s l = absurd (omega (arith, s))
+room-free p Masters s l = absurd (omega (arith, s))
+room-free p (Relocatable slot flags content) s l = absurd (omega (arith, s))
+
+pub room-here : (p at end free : ℕ) (xs : List ℕ) → Spans at end free xs → 0 < free → p ≤ free → RoomAt p at xs
+room-here p at end free xs s some fits =
+    let k = s.bytes in
+    record {
+      here = s.here;
+      above = left_in end xs;
+      is = s.is;
+      room = room-free p s.here (omega (arith, some, k)) (omega (arith, fits, k));
+    }
+
+pub no-room : (p : ℕ) (b : Block) → 0 < size b → (0 < free_of b → p ≤ free_of b → ⊥) → is_room p b ≡ false
+no-room p (Free n) s f = none (nat_le p n) refl
+  where
+    none : (v : _) → nat_le p n ≡ v → nat_le p n ≡ false
+    none true e = absurd (f s (grind (arith, e)))
+    none false e = e
+no-room p (Fixed id content) s f = refl
+no-room p Masters s f = refl
+no-room p (Relocatable slot flags content) s f = refl
+
+pub free-size : (b : Block) → free_of b ≤ size b
+free-size (Free n) = omega arith
+free-size (Fixed id content) = omega arith
+free-size Masters = omega arith
+free-size (Relocatable slot flags content) = omega arith

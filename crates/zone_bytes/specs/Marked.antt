@@ -1,0 +1,17 @@
+-- Landmarks of the zone that bytes spell.
+use Rattle.std.specs.Prelude.{◌≡◌, ℕ, List}
+use Rattle.block_store.specs.Block.{Block, free_sum}
+use Rattle.zone_bytes.specs.Decode.{zone_in}
+use Rattle.zone_bytes.specs.Lawful.{IsSound}
+use Rattle.zone_bytes.specs.Marks.{AreMarks}
+use Rattle.zone_bytes.specs.declared.keeping.Landmarks.{Landmarks}
+
+-- the landmarks are those of the zone
+abbrev pub AreOf : Landmarks → List Block → Type 0
+AreOf landmarks zone = AreMarks 4294967295 zone landmarks.marks
+
+-- the bytes lay the zone that they spell, so many of them are Free, and the landmarks are those of that zone
+pub record IsMarked (xs : List ℕ) (first unused free : ℕ) (landmarks : Landmarks) : Type 0 where
+  pub sound : IsSound xs first unused
+  pub free_is : free ≡ free_sum (zone_in xs)
+  pub marked : AreOf landmarks (zone_in xs)

@@ -1,0 +1,66 @@
+-- Landmarks of a zone: places at which blocks begin, between which no Free block is larger than is noted.
+use Rattle.std.specs.Prelude.{◌≡◌, ℕ, ◌+◌, ◌≤◌, ◌<◌, ◌⊎◌, true, false, List, [], ◌∷◌, ◌++◌}
+use Rattle.block_store.specs.Block.{Block, size, sizes, free_of, is_room}
+use Rattle.zone_bytes.specs.Stepping.{left_in, IsOnWay}
+use Rattle.zone_bytes.specs.declared.landmark.Landmark.{Landmark}
+
+-- something holds of each of the blocks from `at` on and its place
+abbrev pub AtEach : (ℕ → Block → Type 0) → ℕ → List Block → Type 0
+AtEach R at [] = Unit {0}
+AtEach R at (b ∷ above) = R at b × AtEach R (at + size b) above
+
+-- a block that begins from lo up to hi has at most so many Free bytes
+abbrev pub AtMost : ℕ → ℕ → ℕ → ℕ → Block → Type 0
+AtMost most lo hi at b = lo ≤ at → at < hi → free_of b ≤ most
+
+-- a block that begins from lo up to hi is no room for so many bytes
+abbrev pub NoRoom : ℕ → ℕ → ℕ → ℕ → Block → Type 0
+NoRoom bytes lo hi at b = lo ≤ at → at < hi → is_room bytes b ≡ false
+
+-- one of the blocks from `at` on begins at a place, or they end there
+abbrev pub Begins : ℕ → ℕ → List Block → Type 0
+Begins place at [] = place ≡ at
+Begins place at (b ∷ above) = (place ≡ at) ⊎ Begins place (at + size b) above
+
+-- where the first of some landmarks stands; `end` where there is none
+abbrev pub next_of : ℕ → List Landmark → ℕ
+next_of end [] = end
+next_of end (m ∷ marks) = m.at
+
+-- a block begins at each landmark, and no Free block from there up to the next one is larger than is noted
+abbrev pub AreMarks : ℕ → List Block → List Landmark → Type 0
+AreMarks end zone [] = Unit {0}
+AreMarks end zone (m ∷ marks) =
+    Begins m.at 0 zone × AtEach (AtMost m.most m.at (next_of end marks)) 0 zone × AreMarks end zone marks
+
+-- the blocks from lo to hi became others of as many bytes
+pub record Replaced (lo hi : ℕ) (old new : List Block) : Type 0 where
+  pub below : List Block
+  pub here : List Block
+  pub there : List Block
+  pub above : List Block
+  pub was : old ≡ below ++ (here ++ above)
+  pub is : new ≡ below ++ (there ++ above)
+  pub low : sizes below ≡ lo
+  pub high : lo + sizes here ≡ hi
+  pub span : sizes there ≡ sizes here
+
+-- a block is from `at` to `end`, and has so many Free bytes
+pub record Spans (at end free : ℕ) (xs : List ℕ) : Type 0 where
+  pub here : Block
+  pub is : left_in at xs ≡ here ∷ left_in end xs
+  pub up : at + size here ≡ end
+  pub bytes : free ≡ free_of here
+  pub way : IsOnWay end xs
+  pub some : at < end
+
+-- a block with room for so many bytes begins at a place
+pub record RoomAt (bytes place : ℕ) (xs : List ℕ) : Type 0 where
+  pub here : Block
+  pub above : List Block
+  pub is : left_in place xs ≡ here ∷ above
+  pub room : is_room bytes here ≡ true
+
+-- a place strictly between two others goes down to the lower one, and any other stays
+abbrev pub Lowered : ℕ → ℕ → ℕ → ℕ → Type 0
+Lowered lo hi at now = ((lo < at) × (at < hi) × (now ≡ lo)) ⊎ ((now ≡ at) × ((at ≤ lo) ⊎ (hi ≤ at)))
