@@ -1,8 +1,9 @@
 #!/usr/bin/env python3
-"""Times the built program on made inputs: docs/figures.py PROGRAM [FOLDER]
+"""Times built programs on made inputs: docs/figures.py PROGRAM [EARLIER ..]
 
-PROGRAM is crates/macmem/out/macmem, FOLDER where the inputs are made (a new one by default). Prints a table: the best of
-some runs, and as a multiple of `cat FILE >/dev/null` in the same run for forks.
+PROGRAM is crates/macmem/out/macmem, each EARLIER one another build of it, to be timed beside it in the same run. Prints
+tables: the best of some runs, with the most memory that was taken; and, of forks, as a multiple of `cat FILE >/dev/null`.
+Inputs are made in a new folder, or in the one that FIGURES names.
 """
 import os
 import random
@@ -12,19 +13,38 @@ import sys
 import tempfile
 import time
 
-PROGRAM = os.path.abspath(sys.argv[1])
-FOLDER = sys.argv[2] if len(sys.argv) > 2 else tempfile.mkdtemp()
+PROGRAMS = [os.path.abspath(p) for p in sys.argv[1:]]
+PROGRAM = PROGRAMS[0]
+FOLDER = os.environ.get("FIGURES") or tempfile.mkdtemp()
 NULL = open(os.devnull, "wb")
+# A run that takes longer isn't waited for.
+PATIENCE = 400
 
 
-def once(command, stdin=None):
+def measure(command):
+    """Seconds, and the most kilobytes of memory that it had; None where it took too long"""
+    room = os.path.join(FOLDER, "memory")
     begin = time.perf_counter()
-    subprocess.run(command, stdin=stdin, stdout=NULL, stderr=NULL, check=False)
-    return time.perf_counter() - begin
+    try:
+        subprocess.run(["/usr/bin/time", "-f", "%M", "-o", room] + command, stdout=NULL, stderr=NULL, timeout=PATIENCE)
+    except subprocess.TimeoutExpired:
+        subprocess.run(["pkill", "-f", command[-1]], check=False)
+        return None
+    took = time.perf_counter() - begin
+    with open(room) as file:
+        return took, int(file.read().split()[-1])
+
+
+def measured(command, runs):
+    """The best of some runs; a long one is run once"""
+    found = [measure(command)]
+    while len(found) < runs and found[0] and found[0][0] < 5:
+        found.append(measure(command))
+    return min(found) if None not in found else None
 
 
 def best(command, runs):
-    return min(once(command) for _ in range(runs))
+    return measured(command, runs)[0]
 
 
 def put(name, data):
@@ -129,30 +149,100 @@ def rounds(count):
     return "\n".join(text).encode() + b"\n"
 
 
+def steady(lines, names=60000):
+    """blocks of 0 to 400 bytes come, are written and go over 60,000 names, of which about half have one"""
+    chance, text, live = random.Random(2), [], set()
+    while len(text) < lines:
+        name = chance.randrange(names)
+        if name in live:
+            live.remove(name)
+            text.append("DisposeHandle h%d" % name)
+        else:
+            live.add(name)
+            size = chance.randrange(401)
+            text.append("NewHandle h%d %d" % (name, size))
+            text.append('Put h%d %d "x"' % (name, size // 2) if size else "GetHandleSize h%d" % name)
+    return "\n".join(text[:lines]).encode() + b"\n"
+
+
+def emptied(count):
+    """blocks that may be emptied, and a call that needs the room of all of them"""
+    text = "".join("NewHandle h%d 100\nHPurge h%d\n" % (i, i) for i in range(count))
+    return (text + "NewHandle big %d\n" % (count * 128 - 64)).encode()
+
+
+def packed(count, size, by="MaxMem"):
+    """blocks, of which the lowest is disposed of before all others are moved down"""
+    text = "".join("NewHandle h%d %d\n" % (i, size) for i in range(count))
+    return (text + "DisposeHandle h0\n" + by + "\n").encode()
+
+
+TEN = b"NewHandle a 100\nPut a 0 \"abc\"\nShow a\nNewPtr p 100\nHLock a\nFreeMem\nMaxBlock\nHUnlock a\nCompactMem 1000\nDisposeHandle a\n"
+
 FORKS = [references_fork, types_fork, names_fork, long_names_fork, shared_fork, canonical_fork]
 SCRIPTS = [
-    ("4194304", "churn of 100,000 lines", churn(100000)),
-    ("4194304", "churn of 40,000 lines", churn(40000)),
-    ("4194304", "churn of 20,000 lines", churn(20000)),
-    ("4194304", "churn of 10,000 lines", churn(10000)),
-    ("4194304", "50,000 handles of no bytes", empty_handles(50000)),
+    ("16777216", "churn of 10,000 lines", steady(10000)),
+    ("16777216", "churn of 100,000 lines", steady(100000)),
+    ("16777216", "churn of 1,000,000 lines", steady(1000000)),
+    ("16777216", "100,000 lines that fill the zone: a third disposed of, a tenth purgeable", churn(100000)),
     ("4194304", "10,000 handles of no bytes", empty_handles(10000)),
-    ("16777216", "25,000 rounds of four calls", rounds(25000)),
+    ("4194304", "50,000 handles of no bytes", empty_handles(50000)),
+    ("16777216", "25,000 rounds of four calls over 8 names", rounds(25000)),
+    ("671744", "5,000 blocks emptied for one call", emptied(5000)),
+    ("134217728", "10,000 blocks of 13,000 bytes, the lowest disposed of", packed(10000, 13000, "FreeMem")),
+    ("134217728", "the same, and MaxMem: 9,999 moves", packed(10000, 13000)),
+    ("1048576", "ten lines in 1 MB", TEN),
+    ("134217728", "the same in 128 MB", TEN),
 ]
+
+
+def applications(count):
+    """as many applications in one memory, with 4,080 lines each, and the job of one of them alone"""
+    round_of = lambda i: ["NewHandle n%d %d" % (i % 8, 16 + i % 64), 'Put n%d 0 "bytes"' % (i % 8), "Show n%d" % (i % 8),
+                          "DisposeHandle n%d" % (i % 8)]
+    lines = []
+    for i in range(1000):
+        lines += round_of(i)
+        if i % 8 == 7 or i > 955:
+            lines.append("WaitNextEvent")
+    script = put("app.script", ("\n".join(lines[:4080]) + "\n").encode())
+    own = put("app.rsrc", struct.pack(">IIII", 256, 256, 0, 30) + bytes(240) + struct.pack(">IIII", 256, 256, 0, 30)
+              + bytes(8) + struct.pack(">HHH", 28, 30, 0xFFFF))
+    def job(memory, names):
+        apps = "".join('app %s "%s" "%s"\n' % (n, own, script) for n in names)
+        return "memory %d\n%s%srest\n" % (memory, apps, "".join("launch %s\n" % n for n in names))
+    names = ["a%d" % i for i in range(count)]
+    return put("all.job", job(524288 * count, names).encode()), put("one.job", job(524288, names[:1]).encode())
+
+
+def run_job(program, job):
+    out = os.path.join(tempfile.mkdtemp(), "out")
+    return measure([program, "run", job, out])[0]
+
+
+def told(found):
+    return "over %d s" % PATIENCE if found is None else "%.3f s, %.0f MB" % (found[0], found[1] / 1000)
 
 
 def main():
     print("load %.1f, %d processors\n" % (os.getloadavg()[0], os.cpu_count()))
-    print("| `script SIZE` | Script | Time |\n|---|---|---|")
+    print("| `script SIZE` | Script |%s\n|---|---|%s" % (" Time, memory |" * len(PROGRAMS), "---|" * len(PROGRAMS)))
     for size, name, text in SCRIPTS:
-        print("| %s | %s | %.2f s |" % (size, name, best([PROGRAM, "script", size, put("script", text)], 2)))
+        path = put("script", text)
+        row = [told(measured([p, "script", size, path], 3)) for p in PROGRAMS]
+        print("| %s | %s | %s |" % (size, name, " | ".join(row)), flush=True)
+    print("\n| Job |%s\n|---|%s" % (" Time |" * len(PROGRAMS), "---|" * len(PROGRAMS)))
+    whole, alone = applications(64)
+    for name, times, job in (("64 applications in one memory", 1, whole), ("64 times one alone", 64, alone)):
+        row = ["%.2f s" % min(sum(run_job(p, job) for _ in range(times)) for _ in range(3)) for p in PROGRAMS]
+        print("| %s | %s |" % (name, " | ".join(row)), flush=True)
     print("\n| Fork | `cat` | `map` | `check` |\n|---|---|---|---|")
     for make in FORKS:
         path = put(make.__name__, make())
         plain = best(["/bin/cat", path], 20)
         row = [best([PROGRAM, word, path], 10) for word in ("map", "check")]
-        told = ["%.1f ms, %.0f times" % (t * 1000, t / plain) for t in row]
-        print("| %s | %.1f ms | %s |" % (make.__doc__, plain * 1000, " | ".join(told)))
+        times = ["%.1f ms, %.0f times" % (t * 1000, t / plain) for t in row]
+        print("| %s | %.1f ms | %s |" % (make.__doc__, plain * 1000, " | ".join(times)))
 
 
 main()

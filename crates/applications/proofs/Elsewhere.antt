@@ -268,25 +268,10 @@ free-total (suc m) = omega arith
 pub sizes-fresh : (n : ℕ) → 272 ≤ n → sizes (fresh n) ≡ n
 sizes-fresh n big = omega (arith, free-total (n - 272))
 
--- the course of an application in a fresh zone of n bytes, wherever that lies
-pub fresh_course : (resources : Resources) (r : Running) (zone : List Block) (site : Site) (n : ℕ) (blocks : Blocks)
-    (lines : List Line) → r ≡ launched_with resources (sizes zone) site → zone ≡ fresh n → 272 ≤ n
+-- the course of an application that was launched anywhere
+pub launched_course : (resources : Resources) (r : Running) (site : Site) (n : ℕ) (blocks : Blocks) (lines : List Line)
+    → r ≡ launched_with resources n site
     → run blocks lines r ≡ course_elsewhere site (run blocks lines (launched_with resources n nowhere))
-fresh_course resources r zone site n blocks lines is whole big =
-    ap (run blocks lines)
-    (is ∙ ap (λ (z : List Block). launched_with resources (sizes z) site) whole
-    ∙ ap (λ (k : ℕ). launched_with resources k site) (sizes-fresh n big)
-    ∙ launched-elsewhere resources n site)
+launched_course resources r site n blocks lines is =
+    ap (run blocks lines) (is ∙ launched-elsewhere resources n site)
     ∙ whole-elsewhere site blocks lines (launched_with resources n nowhere)
-
--- its lines, and those of a script alone
-pub fresh_run_with : (resources : Resources) (r : Running) (zone : List Block) (site : Site) (n : ℕ) (blocks : Blocks)
-    (lines : List Line) → r ≡ launched_with resources (sizes zone) site → zone ≡ fresh n → 272 ≤ n
-    → lines_told (run blocks lines r).lines ≡ lines_told (run blocks lines (launched_with resources n nowhere)).lines
-fresh_run_with resources r zone site n blocks lines is whole big =
-    ap (λ (c : Course). lines_told c.lines) (fresh_course resources r zone site n blocks lines is whole big)
-
-pub fresh_run : (r : Running) (zone : List Block) (site : Site) (n : ℕ) (blocks : Blocks) (lines : List Line)
-    → r ≡ launched (sizes zone) site → zone ≡ fresh n → 272 ≤ n
-    → lines_told (run blocks lines r).lines ≡ lines_told (run blocks lines (launched n nowhere)).lines
-fresh_run = fresh_run_with own_resources

@@ -5,6 +5,7 @@ mod Arms
 mod FoundCalls
 mod JumpCalls
 mod OwnFork
+mod InRegion
 pub mod Quits
 mod TryLaws
 mod Carrying

@@ -1,5 +1,5 @@
 use Rattle.std.proofs.Common.{◌≡◌, ◌∙◌, ◌≤◌, ◌+◌, ◌++◌, ◌||◌, arith, zero, suc, ℕ, Bool}
-use Rattle.std.proofs.Common.{true, false, refl, ap, List, [], ◌∷◌, cond, length, take}
+use Rattle.std.proofs.Common.{true, false, refl, sym, ap, List, [], ◌∷◌, cond, length, take}
 use Rattle.std.proofs.Common.{Option, Some, None}
 use Rattle.std.specs.Prelude.{nat_lt}
 use Rattle.mac_words.specs.declared.code.OsErr.{OsErr}
@@ -24,12 +24,12 @@ use Rattle.applications.specs.Trying.{is_fatal}
 use Rattle.applications.specs.Step.{Course, run}
 use Rattle.applications.specs.Application.{lines_told}
 use Rattle.applications.specs.Alone.{Ending, alone, quits, ending_of, first_steps, run_alone, ending, end_told}
-use Rattle.applications.specs.Alone.{files_after}
-use Rattle.applications.specs.Replies.{Came, exit_of, end_by, end_if, has_quit, has_ended}
+use Rattle.applications.specs.Alone.{files_after, has_quit, left_after, stops, zone_alone}
+use Rattle.applications.specs.Replies.{Came, exit_of, end_by, end_if, has_ended, left_if}
 use Rattle.applications.specs.declared.quitting.Exit.{Exit}
 use Rattle.applications.specs.declared.quitting.Exit.TheVariants.{Quits, Stops}
-use Rattle.applications.specs.Elsewhere.{moved}
-use Rattle.applications.proofs.Elsewhere.{fresh_course}
+use Rattle.applications.specs.Elsewhere.{moved, course_elsewhere}
+use Rattle.applications.proofs.Elsewhere.{launched-elsewhere, launched_course}
 
 -- How an application ends, which doesn't hang on where its partition lies, and what it gives alone.
 
@@ -123,39 +123,97 @@ ending-told asked c = by_over c.over (is_fatal (code_told c.told))
     by_over true false = refl
     by_over false fatal = refl
 
+-- the application that a course comes to is the one that it leaves
+left-told : (asked : Bool) (c : Course) → left_if (exit_of c) asked c.after ≡ left_after asked c
+left-told asked c = by_over c.over (is_fatal (code_told c.told))
+  where
+    by_over : (over fatal : Bool)
+        → left_if (cond over (Some (cond fatal Stops Quits)) None) asked c.after
+        ≡ cond over (cond fatal c.after (has_quit c.after)) (cond asked (has_quit c.after) c.after)
+    by_over true true = refl
+    by_over true false = refl
+    by_over false fatal = refl
+
+-- what an application comes to that takes lines, and ends where one ends it or where it is asked to
+pub gives_so : (asked : Bool) (c : Course) (exit : Option Exit) (start text whole : List ℕ) (mid after : Running)
+    → exit ≡ exit_of c → Came c start text mid → whole ≡ text ++ end_told (end_if exit asked mid)
+    → after ≡ left_if exit asked mid
+    → (whole ≡ start ++ lines_told c.lines ++ end_told (ending_of asked c)) × (after ≡ left_after asked c)
+gives_so asked c exit start text whole mid after ends came said left = (
+  said ∙ ap (λ (x : Option Exit). text ++ end_told (end_if x asked mid)) ends
+      ∙ ap (λ (r : Running). text ++ end_told (end_if (exit_of c) asked r)) came.1
+      ∙ ap (λ (e : Option Ending). text ++ end_told e) (ending-told asked c)
+      ∙ ap (λ (x : List ℕ). x ++ end_told (ending_of asked c)) came.0,
+  left ∙ ap (λ (x : Option Exit). left_if x asked mid) ends ∙ ap (left_if (exit_of c) asked) came.1
+      ∙ left-told asked c,
+)
+
+-- a course elsewhere ends alike, and leaves the same application there
+ending-elsewhere : (site : Site) (asked : Bool) (c : Course)
+    → ending_of asked (course_elsewhere site c) ≡ ending_of asked c
+ending-elsewhere site asked c =
+    sym (ending-told asked (course_elsewhere site c)) ∙ end_if-elsewhere site (exit_of c) asked c.after
+    ∙ ending-told asked c
+
+left-elsewhere_after : (site : Site) (asked : Bool) (c : Course)
+    → left_after asked (course_elsewhere site c) ≡ moved site (left_after asked c)
+left-elsewhere_after site asked c = by_over c.over (is_fatal (code_told c.told)) asked
+  where
+    by_over : (over fatal asks : Bool)
+        → cond over (cond fatal (moved site c.after) (has_quit (moved site c.after)))
+        (cond asks (has_quit (moved site c.after)) (moved site c.after))
+        ≡ moved site (cond over (cond fatal c.after (has_quit c.after)) (cond asks (has_quit c.after) c.after))
+    by_over true true asks = refl
+    by_over true false asks = quit-elsewhere site c.after
+    by_over false fatal true = quit-elsewhere site c.after
+    by_over false fatal false = refl
+
+-- the files that it has then are those of its end
+left-files : (asked : Bool) (c : Course) → (left_after asked c).resources.files ≡ files_after (ending_of asked c) c.after
+left-files asked c = by_over c.over (is_fatal (code_told c.told)) asked
+  where
+    by_over : (over fatal asks : Bool)
+        → (cond over (cond fatal c.after (has_quit c.after)) (cond asks (has_quit c.after) c.after)).resources.files
+        ≡ files_after (cond over (Some (cond fatal (stops c.after) (quits c.after)))
+        (cond asks (Some (quits c.after)) None)) c.after
+    by_over true true asks = refl
+    by_over true false asks = refl
+    by_over false fatal true = refl
+    by_over false fatal false = refl
+
+-- an application lies where it was launched
+pub launched-lies : (resources : Resources) (n : ℕ) (r : Running) (site : Site) → r ≡ launched_with resources n site
+    → r.memory.window ≡ site
+launched-lies resources n r site is = ap (λ (x : Running). x.memory.window) (is ∙ launched-elsewhere resources n site)
+
 -- what came of an application in a fresh zone is what it gives alone
-pub given_alone : (resources : Resources) (r after : Running) (zone : List Block) (site : Site) (n : ℕ)
-    (script : Parts) (lines : List Line) (steps : ℕ) (quit asked : Bool) (exit : Option Exit)
-    (start text whole : List ℕ) (files : List File)
-    → r ≡ launched_with resources (sizes zone) site → zone ≡ fresh n → 272 ≤ n → start ≡ launch_line n
-    → asked ≡ (nat_lt (length script.steps) steps || quit) → lines ≡ take steps script.steps
-    → exit ≡ exit_of (run script.blocks lines r) → Came (run script.blocks lines r) start text after
-    → whole ≡ text ++ end_told (end_if exit asked after) → files ≡ files_after (end_if exit asked after) after
-    → (whole ≡ (alone resources n script steps quit).transcript) × (files ≡ (alone resources n script steps quit).files)
-given_alone resources r after zone site n script lines steps quit asked exit start text whole files is fresh low begins
-    asks first ends came said left =
-    let c : Course = first_steps resources n script steps in
-    let e : Option Ending = ending resources n script steps quit in
-    let same = ap (λ (ls : List Line). run script.blocks ls r) first
-    ∙ fresh_course resources r zone site n script.blocks (take steps script.steps) is fresh low in
-    let went : after ≡ moved site c.after = came.1 ∙ ap (λ (x : Course). x.after) same in
-    let exits : exit ≡ exit_of c = ends ∙ ap exit_of same in
-    let comes : end_if exit asked after ≡ e =
-    ap (λ (x : Option Exit). end_if x asked after) exits
-    ∙ ap (λ (t : Bool). end_if (exit_of c) t after) asks
-    ∙ ap (end_if (exit_of c) (nat_lt (length script.steps) steps || quit)) went
-    ∙ end_if-elsewhere site (exit_of c) (nat_lt (length script.steps) steps || quit) c.after
-    ∙ ending-told (nat_lt (length script.steps) steps || quit) c in (
-      said
-          ∙ ap (λ (x : Option Ending). text ++ end_told x) comes
-          ∙ ap (λ (x : List ℕ). x ++ end_told e) (came.0
-          ∙ ap (λ (x : List ℕ). x ++ lines_told (run script.blocks lines r).lines) begins
-          ∙ ap (λ (x : Course). launch_line n ++ lines_told x.lines) same),
-      left
-          ∙ ap (λ (x : Option Ending). files_after x after) comes
-          ∙ ap (files_after e) went
-          ∙ files-elsewhere site e c.after,
-    )
+module _ (resources : Resources) (n : ℕ) (script : Parts) (steps : ℕ) (quit : Bool) where
+  abbrev pub c : Course
+  c = first_steps resources n script steps
+
+  abbrev pub asks : Bool
+  asks = nat_lt (length script.steps) steps || quit
+
+  pub record Gave (r after : Running) (start whole : List ℕ) : Type 0 where
+    pub transcript : whole ≡ (alone resources n script steps quit).transcript
+    pub files : after.resources.files ≡ (alone resources n script steps quit).files
+    pub zone : after.memory.heap.zone ≡ zone_alone resources n script steps quit
+
+  pub given_alone : (r after : Running) (site : Site) (lines : List Line) (asked : Bool) (start whole : List ℕ)
+      → r ≡ launched_with resources n site → start ≡ launch_line n → asked ≡ asks → lines ≡ take steps script.steps
+      → whole ≡ start ++ lines_told (run script.blocks lines r).lines ++ end_told (ending_of asked (run script.blocks lines r))
+      → after ≡ left_after asked (run script.blocks lines r) → Gave r after start whole
+  given_alone r after site lines asked start whole is begins asked_is first said left =
+      let same : run script.blocks lines r ≡ course_elsewhere site c =
+      ap (λ (ls : List Line). run script.blocks ls r) first ∙ launched_course resources r site n script.blocks (take steps script.steps) is in
+      let went : after ≡ moved site (left_after asks c) =
+      left ∙ (λ i. left_after (asked_is i) (same i)) ∙ left-elsewhere_after site asks c in
+      record {
+        transcript = said ∙ (λ i. begins i ++ lines_told (same i).lines ++ end_told (ending_of (asked_is i) (same i)))
+            ∙ ap (λ (e : Option Ending). launch_line n ++ lines_told c.lines ++ end_told e) (ending-elsewhere site asks c);
+        files = ap (λ (x : Running). x.resources.files) went ∙ left-files asks c;
+        zone = ap (λ (x : Running). x.memory.heap.zone) went;
+      }
 
 -- the first lines of a list, more than it has, are all its lines
 take-past : (n : ℕ) (lines : List Line) → length lines ≤ n → take n lines ≡ lines

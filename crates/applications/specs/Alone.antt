@@ -2,6 +2,7 @@ use Rattle.std.specs.Prelude.{ℕ, ◌+◌, ◌||◌, Bool, false, Option, Some,
 use Rattle.std.specs.Prelude.{if◌then◌else◌}
 use Rattle.mac_words.specs.declared.code.OsErr.{OsErr}
 use Rattle.mac_words.specs.declared.code.TheConstants.OsErr.{SYSTEM_ERROR}
+use Rattle.block_store.specs.Block.{Block}
 use Rattle.script_text.specs.Script.{Parts}
 use Rattle.script_text.specs.Transcript.{launch_line, end_line}
 use Rattle.res_calls.specs.Files.{File, Resources}
@@ -28,6 +29,13 @@ pub record Ending : Type 0 where
 abbrev pub quits : Running → Ending
 quits r = record { code = (leave (managers_of r)).code; files = (leave (managers_of r)).after.resources.files }
 
+-- and this is the application then
+abbrev pub has_quit : Running → Running
+has_quit r = record r {
+  memory = (leave (managers_of r)).after.memory;
+  resources = (leave (managers_of r)).after.resources;
+}
+
 -- a system error stops it: nothing is updated
 abbrev pub stops : Running → Ending
 stops r = record { code = SYSTEM_ERROR; files = r.resources.files }
@@ -39,6 +47,12 @@ ended_by c = if is_fatal (code_told c.told) then stops c.after else quits c.afte
 -- the end after some steps, if it came: by a call of its own, or where a quit was asked for
 abbrev pub ending_of : Bool → Course → Option Ending
 ending_of asked c = if c.over then Some (ended_by c) else if asked then Some (quits c.after) else None
+
+-- the application then, or as it stands where it goes on
+abbrev pub left_after : Bool → Course → Running
+left_after asked c =
+    if c.over then (if is_fatal (code_told c.told) then c.after else has_quit c.after)
+    else (if asked then has_quit c.after else c.after)
 
 -- the first n steps of a script, in a fresh partition of so many bytes
 abbrev pub first_steps : Resources → ℕ → Parts → ℕ → Course
@@ -74,6 +88,11 @@ alone resources size script n quit = record {
       files_after (ending resources size script n quit) (first_steps resources size script n).after;
 }
 
+-- its zone after so many steps, as its end left it if it came
+abbrev pub zone_alone : Resources → ℕ → Parts → ℕ → Bool → List Block
+zone_alone resources size script n quit =
+    (left_after (nat_lt (length script.steps) n || quit) (first_steps resources size script n)).memory.heap.zone
+
 -- an application that takes all its steps, and the one behind the last, which is a quit
 abbrev pub to_its_end : Resources → ℕ → Parts → Alone
 to_its_end resources size script = alone resources size script (length script.steps + 1) false
@@ -81,3 +100,7 @@ to_its_end resources size script = alone resources size script (length script.st
 -- one that is a script alone: its fork has no resources, nor has the System's, and it has no other files
 abbrev pub script_alone : ℕ → Parts → Alone
 script_alone size script = to_its_end own_resources size script
+
+-- and its zone as its end left it
+abbrev pub script_zone : ℕ → Parts → List Block
+script_zone size script = zone_alone own_resources size script (length script.steps + 1) false

@@ -4,18 +4,17 @@ use Rattle.mac_words.specs.declared.name.Name.{Name}
 use Rattle.mac_words.specs.declared.name.OsType.{OsType}
 use Rattle.res_calls.specs.Asked.{ResourceAsked, Served}
 use Rattle.res_calls.specs.Asked as asks
-use Rattle.res_calls.specs.Leaving.{leave}
 use Rattle.mac_words.specs.declared.reply.Reply.{Reply}
 use Rattle.mac_words.specs.declared.code.OsErr.{OsErr}
 use Rattle.mac_words.specs.Told.{Told, Refused}
 use Rattle.heap_calls.specs.declared.refusal.Refusal.{Refusal}
 use Rattle.heap_calls.specs.declared.refusal.Refusal.TheVariants.{Code, HostMemory}
 use Rattle.segments.specs.Calls.{Answer}
-use Rattle.applications.specs.Trying.{Running, code_told, is_full, is_fatal, managers_of}
+use Rattle.applications.specs.Trying.{Running, code_told, is_full, is_fatal}
 use Rattle.applications.specs.Trying as specs
 use Rattle.applications.specs.Application.{numbers_told, type_told, name_told, lines_told}
 use Rattle.applications.specs.Step.{Course, Round, Ends, Again, number_given}
-use Rattle.applications.specs.Alone.{Ending, quits, stops}
+use Rattle.applications.specs.Alone.{Ending, quits, stops, has_quit}
 use Rattle.applications.specs.declared.tried.Tried.{Tried}
 use Rattle.applications.specs.declared.quitting.Exit.{Exit}
 use Rattle.applications.specs.declared.quitting.Exit.TheVariants as exit
@@ -99,17 +98,15 @@ abbrev pub end_if : Option Exit → Bool → Running → Option Ending
 end_if None asked r = if asked then Some (quits r) else None
 end_if (Some e) asked r = Some (end_by (Some e) r)
 
--- an application that has quit, and one that ended so
-abbrev pub has_quit : Running → Running
-has_quit r = record r {
-  memory = (leave (managers_of r)).after.memory;
-  resources = (leave (managers_of r)).after.resources;
-}
-
+-- an application that ended so, and one that ended so or was asked to quit, or goes on
 abbrev pub has_ended : Option Exit → Running → Running
 has_ended None r = has_quit r
 has_ended (Some exit.Quits) r = has_quit r
 has_ended (Some exit.Stops) r = r
+
+abbrev pub left_if : Option Exit → Bool → Running → Running
+left_if None asked r = if asked then has_quit r else r
+left_if (Some e) asked r = has_ended (Some e) r
 
 -- a round came, and what is done next
 abbrev pub CameRound : Round → Next → List ℕ → List ℕ → Running → Type 0

@@ -2,8 +2,10 @@
 
 ghost use Rattle.std.specs.Prelude.{◌<◌, ◌≤◌, ◌≡◌, ◌%◌, length};
 
-use crate::giving::give_alone;
+use crate::both::used_region;
+use crate::giving::give_in_region;
 use crate::grow_tests::text_of;
+use crate::watch::Unwatched;
 use arrayvec::ArrayVec;
 use fork_format::{Content, Group, Ref, read_fork, write_fork};
 use mac_words::{Attrs, FileName, OsType};
@@ -232,7 +234,7 @@ fn copied(alloc: Global, files: &[File]) -> Result<Vec<File>, AllocError> {
     Ok(copies)
 }
 
-/// Takes so many steps of a script in a partition of so many bytes with these resources, and quits then if that is
+/// Takes so many steps of a script in a region of so many used bytes with these resources, and quits then if that is
 /// asked for: it leaves its transcript. Gives the files that are left.
 pub fn give(
     rt: &impl Abort,
@@ -250,7 +252,18 @@ pub fn give(
     let Ok(script) = read_script(alloc, texts.script.as_bytes()) else {
         return Err(Fail::new("a faulty script"));
     };
-    let given = give_alone(alloc, size, resources, &script, steps, quit)?;
+    let region = used_region(alloc, size)?;
+    let (given, region) = give_in_region(
+        alloc,
+        region,
+        resources,
+        &script,
+        steps,
+        quit,
+        &mut Unwatched,
+    );
+    region.close();
+    let given = given?;
     let files = copied(alloc, given.files())?;
     assert_eq!(rt;
         given.into_transcript().as_slice(),

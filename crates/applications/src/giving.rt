@@ -1,15 +1,21 @@
 //! What an application gives alone.
 
-ghost use Rattle.std.specs.Prelude.{◌≡◌, ◌%◌, ◌≤◌, ◌++◌, ◌||◌, map, take, length, nat_lt, IfOk, OnOk};
+ghost use Rattle.std.specs.Prelude.{◌≡◌, ◌%◌, ◌≤◌, ◌++◌, ◌||◌, [], map, take, length, nat_lt, IfOk, OnOk};
+ghost use Rattle.block_store.specs.Block.{fresh, sizes};
+ghost use Rattle.heap_calls.specs.Stored.{IsNamed};
 ghost use Rattle.res_calls.specs.View.{view_file};
-ghost use Rattle.applications.specs.Alone.{alone, end_told, files_after};
-ghost use Rattle.applications.specs.Alone as gives;
-ghost use Rattle.applications.specs.Replies.{end_if};
+ghost use Rattle.applications.specs.Step.{run};
+ghost use Rattle.applications.specs.Application.{lines_told};
+ghost use Rattle.applications.specs.Alone.{alone, zone_alone, ending_of, left_after, end_told};
+ghost use Rattle.applications.specs.Replies.{end_if, left_if};
+ghost use Rattle.applications.specs.Lying.{LieAs};
 
 use crate::application::Application;
 use crate::quitting::Exit;
 use crate::watch::{Unwatched, Watch};
 use block_store::{BlockStore, ListStore};
+use raw_region::Region;
+use raw_zone::RawZone;
 use res_calls::{File, Resources};
 use script_text::{Line, Script, write_end, write_launch};
 use std::alloc::{AllocError, Global};
@@ -19,13 +25,17 @@ use std::marker::Model;
 #[derive(Drop)]
 pub struct Given {
     transcript: Vec<u8>,
-    resources: Resources,
+    files: Vec<File>,
 }
 
 impl Model for Given {
+    ghost use Rattle.std.specs.Prelude.{map};
+    ghost use Rattle.res_calls.specs.View.{view_file};
+    ghost use Rattle.applications.specs.Alone as gives;
+
     ghost Value = { gives.Alone };
 
-    ghost view = { λ g. record { transcript = g.transcript.items; files = g.resources.files } };
+    ghost view = { λ g. record { transcript = g.transcript.items; files = map view_file g.files.items } };
 }
 
 impl Given {
@@ -40,26 +50,7 @@ impl Given {
     pub fn files(&self) -> &[File]
         ensures { map view_file result.now ≡ self.now.files }
     {
-        self.resources.files()
-    }
-}
-
-impl<'s, S: BlockStore> Application<'s, S> {
-    /// Ends where a call ended it, or where it is asked to, and appends the line of the end to a text.
-    fn end_if(
-        &mut self,
-        exit: Option<Exit>,
-        asked: bool,
-        text: &mut Vec<u8>,
-    ) -> Result<(), AllocError>
-        ensures text { OnOk result (text.new.items ≡ text.old.items ++ end_told (end_if exit asked self.old)) }
-        ensures files { OnOk result (self.new.resources.files ≡ files_after (end_if exit asked self.old) self.old) }
-    {
-        if exit.is_none() && !asked {
-            return Ok(());
-        }
-        let code = self.end(exit)?;
-        write_end(text, code)
+        &self.files
     }
 }
 
@@ -80,45 +71,130 @@ fn is_asked(lines: &[Line], steps: usize, quit: bool) -> bool
     lines.len() < steps || quit
 }
 
-/// What an application with these resources gives alone, where it takes so many steps of its script in a fresh
-/// partition of `size` bytes: the line of the launch, the lines of each call, and the line of the end where it ends. It
+impl<'s, S: BlockStore> Application<'s, S> {
+    /// Ends where a call ended it, or where it is asked to, and appends the line of the end to a text.
+    fn end_if(
+        &mut self,
+        exit: Option<Exit>,
+        asked: bool,
+        text: &mut Vec<u8>,
+    ) -> Result<(), AllocError>
+        ensures text { OnOk result (text.new.items ≡ text.old.items ++ end_told (end_if exit asked self.old)) }
+        ensures after { OnOk result (self.new ≡ left_if exit asked self.old) }
+        ensures lies { self.new.memory.window ≡ self.old.memory.window }
+    {
+        if exit.is_none() && !asked {
+            return Ok(());
+        }
+        let code = self.end(exit)?;
+        write_end(text, code)
+    }
+
+    /// Takes lines of a script, and ends where one ends it or where it is asked to: their lines, and that of the end, are
+    /// appended to a text. The watch is told of the steps.
+    #[tactic(auto, using(crate::proofs::Quits::gives_so))]
+    fn give<W: Watch>(
+        &mut self,
+        script: &'s Script,
+        lines: &[Line],
+        asked: bool,
+        text: &mut Vec<u8>,
+        watch: &mut W,
+    ) -> Result<(), AllocError>
+        ensures text { OnOk result (text.new.items
+            ≡ text.old.items ++ lines_told (run script.now.blocks lines.now self.old).lines
+            ++ end_told (ending_of asked (run script.now.blocks lines.now self.old))) }
+        ensures after { OnOk result (self.new ≡ left_after asked (run script.now.blocks lines.now self.old)) }
+        ensures lies { self.new.memory.window ≡ self.old.memory.window }
+        ensures silent { W.printed watch.new ≡ W.printed watch.old }
+    {
+        let exit = self.run_watched(script, lines, text, watch)?;
+        self.end_if(exit, asked, text)
+    }
+}
+
+/// What an application with these resources gives alone, where it takes so many steps of its script in the store of a
+/// fresh zone, its partition: the line of the launch, the lines of each call, and the line of the end where it ends. It
 /// ends where a call ends it; it quits behind its last step, if it comes to that, and where a quit is asked for. The
-/// watch is told of the steps.
+/// store comes back, where it lay, with the zone as it then is. The watch is told of the steps.
 ///
 /// # Errors
 ///
 /// The host has no memory for it.
-pub fn give_watched<W: Watch>(
+pub fn give_in<S: BlockStore, W: Watch>(
     alloc: Global,
-    size: u32,
+    store: S,
     resources: Resources,
     script: &Script,
     steps: usize,
     quit: bool,
     watch: &mut W,
-) -> Result<Given, AllocError>
-    requires even { size % 16 ≡ 0 }
-    requires low { 512 ≤ size }
-    requires high { size ≤ 134217728 }
-    ensures given { IfOk result (λ given. given ≡ alone resources size script.now steps quit) }
+) -> (Result<Given, AllocError>, S)
+    requires zone { S.zone store ≡ fresh (sizes (S.zone store)) }
+    requires unused { (S.rest store).unused ≡ 64 }
+    requires all { (S.rest store).all ≡ 64 }
+    requires moves { (S.rest store).moves ≡ 0 }
+    ensures given { IfOk result.0 (λ given. given ≡ alone resources (sizes (S.zone store)) script.now steps quit) }
+    ensures zone { IfOk result.0 (λ _. IsNamed (S.zone result.1)
+        (zone_alone resources (sizes (S.zone store)) script.now steps quit)) }
+    ensures window { (S.rest result.1).window ≡ (S.rest store).window }
     ensures silent { W.printed watch.new ≡ W.printed watch.old }
 {
-    let store = ListStore::new(alloc, size)?;
-    let Ok(mut application) = Application::launch_with(alloc, store, resources) else {
-        return Err(AllocError);
-    };
     let mut transcript = Vec::new(alloc);
-    write_launch(&mut transcript, size)?;
+    let Ok(()) = write_launch(&mut transcript, store.len()) else {
+        return (Err(AllocError), store);
+    };
+    let mut application = match Application::launch_with(alloc, store, resources) {
+        Ok(application) => application,
+        Err(store) => return (Err(AllocError), store),
+    };
     let lines = script.steps();
-    let exit = application.run_watched(script, first(lines, steps), &mut transcript, watch)?;
-    application.end_if(exit, is_asked(lines, steps, quit), &mut transcript)?;
-    Ok(Given {
-        transcript,
-        resources: application.resources,
-    })
+    let asked = is_asked(lines, steps, quit);
+    let given = application.give(script, first(lines, steps), asked, &mut transcript, watch);
+    let (store, files) = application.into_parts();
+    match given {
+        Ok(()) => (Ok(Given { transcript, files }), store),
+        Err(fault) => (Err(fault), store),
+    }
 }
 
-/// What an application gives alone, as `give_watched` says, where nobody watches.
+/// What an application gives alone, as `give_in` says, in a partition that fills a region, whatever lay there. The region
+/// comes back, with its zone in its bytes as it then is: headers, contents and master pointers.
+///
+/// # Errors
+///
+/// The host has no memory for it.
+pub fn give_in_region<W: Watch>(
+    alloc: Global,
+    region: Region,
+    resources: Resources,
+    script: &Script,
+    steps: usize,
+    quit: bool,
+    watch: &mut W,
+) -> (Result<Given, AllocError>, Region)
+    requires home { region.out ≡ [] }
+    requires even { length region.bytes % 16 ≡ 0 }
+    requires low { 512 ≤ length region.bytes }
+    requires high { length region.bytes ≤ 134217728 }
+    ensures given { IfOk result.0 (λ given. given ≡ alone resources (length region.bytes) script.now steps quit) }
+    ensures lies { IfOk result.0 (λ _.
+        LieAs (zone_alone resources (length region.bytes) script.now steps quit) result.1.bytes) }
+    ensures home { result.1.out ≡ [] }
+    ensures same { result.1.home ≡ region.home }
+    ensures length { length result.1.bytes ≡ length region.bytes }
+    ensures silent { W.printed watch.new ≡ W.printed watch.old }
+{
+    let mut region = region;
+    let len = region.len();
+    let zone = RawZone::new(region.cut(0, len));
+    let (given, zone) = give_in(alloc, zone, resources, script, steps, quit, watch);
+    region.join(zone.into_part());
+    (given, region)
+}
+
+/// What an application gives alone, as `give_in` says, in a partition of `size` bytes that is kept in lists. Nobody
+/// watches.
 ///
 /// # Errors
 ///
@@ -136,5 +212,8 @@ pub fn give_alone(
     requires high { size ≤ 134217728 }
     ensures { IfOk result (λ given. given ≡ alone resources size script.now steps quit) }
 {
-    give_watched(alloc, size, resources, script, steps, quit, &mut Unwatched)
+    let store = ListStore::new(alloc, size)?;
+    let (given, store) = give_in(alloc, store, resources, script, steps, quit, &mut Unwatched);
+    drop(store);
+    given
 }

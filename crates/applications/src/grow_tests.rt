@@ -2,8 +2,7 @@
 
 ghost use Rattle.std.specs.Prelude.{◌≡◌, ◌%◌, ◌≤◌};
 
-use crate::run_script;
-use script_text::read_script;
+use crate::both::both_leave;
 use std::alloc::Global;
 use std::process::Abort;
 use std::test::Fail;
@@ -17,7 +16,8 @@ pub fn text_of(alloc: Global, lines: &[&str]) -> Result<String, Fail> {
     Ok(text)
 }
 
-/// Runs a script of these lines in a partition of so many bytes: its transcript has those lines.
+/// Runs a script of these lines in a partition of so many bytes, over lists and in bytes: both transcripts have those
+/// lines.
 pub fn leaves(
     rt: &impl Abort,
     alloc: Global,
@@ -31,14 +31,7 @@ pub fn leaves(
 {
     let text = text_of(alloc, script)?;
     let expected = text_of(alloc, transcript)?;
-    match read_script(alloc, text.as_bytes()) {
-        Ok(script) => {
-            let transcript = run_script(alloc, size, &script)?;
-            assert_eq!(rt; transcript.as_slice(), expected.as_bytes());
-            Ok(())
-        }
-        Err(_) => Err(Fail::new("a faulty script")),
-    }
+    both_leave(rt, alloc, size, text.as_bytes(), expected.as_bytes())
 }
 
 #[test]

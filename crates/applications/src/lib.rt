@@ -18,7 +18,7 @@ mod turns;
 mod watch;
 
 pub use application::Application;
-pub use giving::{Given, give_alone};
+pub use giving::{Given, give_alone, give_in, give_in_region};
 pub use laws::{an_application_with_any_resources_keeps_the_laws, steps_follow_one_another};
 pub use own::empty_content;
 pub use quitting::Exit;
@@ -44,6 +44,8 @@ mod grow_tests;
 mod housed;
 #[cfg(test)]
 mod image;
+#[cfg(test)]
+mod region_tests;
 #[cfg(test)]
 mod resource_tests;
 #[cfg(test)]

@@ -4,7 +4,8 @@ ghost use Rattle.std.specs.Prelude.{◌≡◌, map, IfOk, OnOk};
 ghost use Rattle.res_calls.specs.Leaving.{leave};
 ghost use Rattle.res_calls.specs.View.{view_file};
 ghost use Rattle.applications.specs.Trying.{managers_of};
-ghost use Rattle.applications.specs.Replies.{end_by, has_quit, has_ended};
+ghost use Rattle.applications.specs.Alone.{has_quit};
+ghost use Rattle.applications.specs.Replies.{end_by, has_ended};
 
 use crate::application::Application;
 use block_store::BlockStore;

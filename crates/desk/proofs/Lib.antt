@@ -2,9 +2,11 @@ pub mod Alone
 pub mod Apart
 pub mod Changes
 pub mod ForkLines
+pub mod Free
 pub mod Givens
 pub mod Holding
 pub mod Leaving
+pub mod Lying
 pub mod Places
 pub mod Resting
 pub mod Rounds

@@ -9,3 +9,5 @@ pub mod Seated
 pub mod View
 pub mod Ready
 pub mod Whole
+pub mod Lying
+pub mod Free

@@ -6,7 +6,7 @@ use Rattle.desk.specs.declared.phase.Phase.TheVariants as phase
 use Rattle.desk.specs.declared.outcome.AppOutcome.{AppOutcome}
 use Rattle.desk.specs.declared.outcome.Outcome as declared
 use Rattle.desk.specs.Progress.{Progress, Waiting, Running, Ended, Lost, Left}
-use Rattle.desk.specs.Desk.{Place}
+use Rattle.desk.specs.Desk.{Place, State}
 use Rattle.desk.specs.Job.{start_of}
 use Rattle.desk.specs.Outcome.{Told, Outcome}
 use Rattle.desk.specs.Live.{Lot, lot_of_live, leaves_seen}
@@ -40,6 +40,11 @@ lot_of (phase.Lost live) = Some (lot_of_live live)
 
 abbrev pub lots : {S : Type 0} → List (Placed S) → List (Option Lot)
 lots seats = map (λ seat. lot_of seat.phase) seats
+
+-- a desk: its state, and the maker of its zones
+pub record DeskSeen (Z : Type 0) : Type 0 where
+  pub state : State
+  pub zones : Z
 
 -- what an application leaves as it ends
 abbrev pub left_of : {S : Type 0} → Departure S → Left

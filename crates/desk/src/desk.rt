@@ -5,19 +5,22 @@ ghost use Rattle.std.specs.Prelude.{IfOk, OnOk, OnErr, IfErr, IfSome, vec_len, v
 ghost use Rattle.std.specs.List.{list_all, Contains};
 ghost use Rattle.windows.specs.declared.Window.{Window as Stretch};
 ghost use Rattle.windows.specs.declared.list.TheConstants.{MOST_WINDOWS};
-ghost use Rattle.windows.specs.Windows.{taken_out};
-ghost use Rattle.block_store.specs.Block.{fresh};
+ghost use Rattle.windows.specs.Outside.{IsOutside};
+ghost use Rattle.windows.specs.Windows.{Misses, taken_out};
+ghost use Rattle.block_store.specs.Block.{Block, fresh};
 ghost use Rattle.block_store.specs.Rest.{Site};
 ghost use Rattle.fork_format.specs.Content.{Group as GroupValue};
 ghost use Rattle.fork_format.specs.Canonical.{has_refs, are_distinct};
 ghost use Rattle.fork_format.specs.View.{view};
 ghost use Rattle.partitions.specs.Grant.{grant};
 ghost use Rattle.desk.specs.declared.act.Act.TheVariants.{Step, Turn, Quit};
-ghost use Rattle.desk.specs.Desk.{State, launched_at, acted_at, any_runs, longest};
+ghost use Rattle.desk.specs.Desk.{launched_at, acted_at, any_runs, longest};
+ghost use Rattle.desk.specs.Free.{IsFree};
 ghost use Rattle.desk.specs.Job.{opening};
 ghost use Rattle.desk.specs.Outcome.{told};
 ghost use Rattle.desk.specs.Held.{MadeOf, opened, closed};
 ghost use Rattle.desk.specs.Live.{IsLive};
+ghost use Rattle.desk.specs.Lying.{AllLie};
 ghost use Rattle.desk.specs.View.{told_seen};
 
 use crate::act::Act;
@@ -55,17 +58,19 @@ pub struct Desk<'j, Z: ZoneMaker> {
 
 impl<'j, Z: ZoneMaker> Model for Desk<'j, Z> {
     ghost use Rattle.std.specs.Prelude.{◌≡◌, ◌≤◌, vec_len, vec_capacity};
-    ghost use Rattle.desk.specs.Desk.{State};
     ghost use Rattle.desk.specs.Held.{AreHoused};
-    ghost use Rattle.desk.specs.View.{seen, lots};
+    ghost use Rattle.desk.specs.View.{DeskSeen, seen, lots};
 
-    ghost Value = { State };
+    ghost Value = { DeskSeen Z };
 
     ghost view = { λ d. record {
-      memory = d.grants.memory;
-      windows = d.grants.windows;
-      places = seen d.seats.items;
-      log = d.log.items;
+      state = record {
+        memory = d.grants.memory;
+        windows = d.grants.windows;
+        places = seen d.seats.items;
+        log = d.log.items;
+      };
+      zones = d.zones;
     } };
 
     ghost invariant = { λ d. AreHoused (Z.made d.zones) (Z.windows d.zones) d.grants.windows (seen d.seats.items)
@@ -90,8 +95,9 @@ impl<'j, Z: ZoneMaker> Desk<'j, Z> {
         requires few { length apps.now ≤ 64 }
         requires types { IsTrue (are_distinct (map (λ (g : GroupValue). g.kind) (view system.now).groups)) }
         requires references { IsTrue (list_all has_refs (view system.now).groups) }
-        ensures ok { IfOk result (λ desk. desk ≡ opening memory (view system.now) apps.now) }
-        ensures err { IfErr result (λ z. (Z.windows z ≡ []) × (Z.memory z ≡ memory)) }
+        ensures ok { IfOk result (λ desk. desk.state ≡ opening memory (view system.now) apps.now) }
+        ensures zones { IfOk result (λ desk. desk.zones ≡ zones) }
+        ensures err { IfErr result (λ z. z ≡ zones) }
     {
         let Ok(outcome) = Vec::with_capacity(alloc, apps.len()) else {
             return Err(zones);
@@ -120,8 +126,11 @@ impl<'j, Z: ZoneMaker> Desk<'j, Z> {
     ///
     /// The host has no memory: the desk can then only be finished.
     pub fn launch(&mut self, i: usize) -> Result<(), AllocError>
-        ensures ok { OnOk result (self.new ≡ launched_at i self.old) }
-        ensures memory { self.new.memory ≡ self.old.memory }
+        ensures ok { OnOk result (self.new.state ≡ launched_at i self.old.state) }
+        ensures memory { self.new.state.memory ≡ self.old.state.memory }
+        ensures kept { (w : Stretch) (site : Site) → Z.made self.old.zones w site → Z.made self.new.zones w site }
+        ensures outside { OnOk result ((place : ℕ) → IsFree place self.new.state
+            → Z.byte self.new.zones place ≡ Z.byte self.old.zones place) }
     {
         let Some(seat) = self.seats.get(i) else {
             return Ok(());
@@ -156,8 +165,11 @@ impl<'j, Z: ZoneMaker> Desk<'j, Z> {
     ///
     /// The host has no memory: the desk can then only be finished.
     pub fn step(&mut self, i: usize) -> Result<(), AllocError>
-        ensures ok { OnOk result (self.new ≡ acted_at Step i self.old) }
-        ensures memory { self.new.memory ≡ self.old.memory }
+        ensures ok { OnOk result (self.new.state ≡ acted_at Step i self.old.state) }
+        ensures memory { self.new.state.memory ≡ self.old.state.memory }
+        ensures kept { (w : Stretch) (site : Site) → Z.made self.old.zones w site → Z.made self.new.zones w site }
+        ensures outside { OnOk result ((place : ℕ) → IsFree place self.old.state
+            → Z.byte self.new.zones place ≡ Z.byte self.old.zones place) }
     {
         self.act(i, Act::Step)
     }
@@ -171,8 +183,11 @@ impl<'j, Z: ZoneMaker> Desk<'j, Z> {
     ///
     /// The host has no memory: the desk can then only be finished.
     pub fn turn(&mut self, i: usize) -> Result<(), AllocError>
-        ensures ok { OnOk result (self.new ≡ acted_at Turn i self.old) }
-        ensures memory { self.new.memory ≡ self.old.memory }
+        ensures ok { OnOk result (self.new.state ≡ acted_at Turn i self.old.state) }
+        ensures memory { self.new.state.memory ≡ self.old.state.memory }
+        ensures kept { (w : Stretch) (site : Site) → Z.made self.old.zones w site → Z.made self.new.zones w site }
+        ensures outside { OnOk result ((place : ℕ) → IsFree place self.old.state
+            → Z.byte self.new.zones place ≡ Z.byte self.old.zones place) }
     {
         self.act(i, Act::Turn)
     }
@@ -183,8 +198,11 @@ impl<'j, Z: ZoneMaker> Desk<'j, Z> {
     ///
     /// The host has no memory: the desk can then only be finished.
     pub fn quit(&mut self, i: usize) -> Result<(), AllocError>
-        ensures ok { OnOk result (self.new ≡ acted_at Quit i self.old) }
-        ensures memory { self.new.memory ≡ self.old.memory }
+        ensures ok { OnOk result (self.new.state ≡ acted_at Quit i self.old.state) }
+        ensures memory { self.new.state.memory ≡ self.old.state.memory }
+        ensures kept { (w : Stretch) (site : Site) → Z.made self.old.zones w site → Z.made self.new.zones w site }
+        ensures outside { OnOk result ((place : ℕ) → IsFree place self.old.state
+            → Z.byte self.new.zones place ≡ Z.byte self.old.zones place) }
     {
         self.act(i, Act::Quit)
     }
@@ -192,8 +210,11 @@ impl<'j, Z: ZoneMaker> Desk<'j, Z> {
     /// Application `i` does as it is told, if there is one of that number and it runs. Where it ends, its zone is closed
     /// and its window is free before the log tells of it.
     pub(crate) fn act(&mut self, i: usize, act: Act) -> Result<(), AllocError>
-        ensures ok { OnOk result (self.new ≡ acted_at act i self.old) }
-        ensures memory { self.new.memory ≡ self.old.memory }
+        ensures ok { OnOk result (self.new.state ≡ acted_at act i self.old.state) }
+        ensures memory { self.new.state.memory ≡ self.old.state.memory }
+        ensures kept { (w : Stretch) (site : Site) → Z.made self.old.zones w site → Z.made self.new.zones w site }
+        ensures outside { OnOk result ((place : ℕ) → IsFree place self.old.state
+            → Z.byte self.new.zones place ≡ Z.byte self.old.zones place) }
     {
         let ended = seats::act_at(&mut self.seats, i, act)?;
         match ended {
@@ -213,32 +234,36 @@ impl<'j, Z: ZoneMaker> Desk<'j, Z> {
 
     /// How many applications there are.
     pub(crate) fn count(&self) -> usize
-        ensures { result ≡ length self.now.places }
+        ensures { result ≡ length self.now.state.places }
     {
         self.seats.len()
     }
 
     /// Whether any application runs.
     pub(crate) fn any_runs(&self) -> bool
-        ensures { result ≡ any_runs self.now }
+        ensures { result ≡ any_runs self.now.state }
     {
         seats::any_runs(&self.seats)
     }
 
     /// How many steps the longest script has.
     pub(crate) fn longest(&self) -> usize
-        ensures { result ≡ longest self.now.places }
+        ensures { result ≡ longest self.now.state.places }
     {
         longest_script(&self.seats)
     }
 
-    /// What the applications leave, in order, the desk's log, and the maker of zones with none open. It takes no memory of
-    /// the host.
+    /// What the applications leave, in order, the desk's log, and the maker of zones with none open. In the windows of those
+    /// that still ran their zones lie, as they have them alone. It takes no memory of the host.
     pub fn finish(self) -> (Vec<AppOutcome>, Vec<u8>, Z)
-        ensures apps { map told_seen result.0.items ≡ map told self.entry.places }
-        ensures log { result.1.items ≡ self.entry.log }
+        ensures apps { map told_seen result.0.items ≡ map told self.entry.state.places }
+        ensures log { result.1.items ≡ self.entry.state.log }
         ensures windows { Z.windows result.2 ≡ [] }
-        ensures memory { Z.memory result.2 ≡ self.entry.memory }
+        ensures memory { Z.memory result.2 ≡ self.entry.state.memory }
+        ensures kept { (w : Stretch) (site : Site) → Z.made self.entry.zones w site → Z.made result.2 w site }
+        ensures lies { AllLie (Z.left result.2) self.entry.state.places }
+        ensures outside { (place : ℕ) → IsFree place self.entry.state
+            → Z.byte result.2 place ≡ Z.byte self.entry.zones place }
     {
         let Desk {
             alloc: _,
@@ -269,6 +294,10 @@ fn give_back<Z: ZoneMaker>(zones: &mut Z, grants: &mut Grants, window: Window, s
     ensures zones { Z.windows zones.new ≡ grants.new.windows }
     ensures memory { Z.memory zones.new ≡ Z.memory zones.old }
     ensures kept { (w : Stretch) (site : Site) → Z.made zones.old w site → Z.made zones.new w site }
+    ensures lies { Z.left zones.new window (Z.Store.zone store) }
+    ensures left { (w : Stretch) (blocks : List Block) → Misses w window
+        → Z.left zones.old w blocks → Z.left zones.new w blocks }
+    ensures outside { (place : ℕ) → IsOutside place window → Z.byte zones.new place ≡ Z.byte zones.old place }
 {
     zones.close(window, store);
     grants.give_back(window);
@@ -283,6 +312,11 @@ fn release<Z: ZoneMaker>(zones: &mut Z, grants: &mut Grants, freed: Option<(Wind
     ensures zones { Z.windows zones.new ≡ grants.new.windows }
     ensures memory { Z.memory zones.new ≡ Z.memory zones.old }
     ensures kept { (w : Stretch) (site : Site) → Z.made zones.old w site → Z.made zones.new w site }
+    ensures lies { IfSome freed (λ f. Z.left zones.new f.0 (Z.Store.zone f.1)) }
+    ensures left { (w : Stretch) (blocks : List Block) → IfSome (option_map (λ f. f.0) freed) (λ v. Misses w v)
+        → Z.left zones.old w blocks → Z.left zones.new w blocks }
+    ensures outside { (place : ℕ) → IfSome (option_map (λ f. f.0) freed) (λ v. IsOutside place v)
+        → Z.byte zones.new place ≡ Z.byte zones.old place }
 {
     if let Some((window, store)) = freed {
         give_back(zones, grants, window, store);
@@ -316,6 +350,8 @@ fn open_zone<Z: ZoneMaker>(
     ensures same { Z.windows zones.new ≡ grants.new.windows }
     ensures memory { Z.memory zones.new ≡ Z.memory zones.old }
     ensures kept { (w : Stretch) (site : Site) → Z.made zones.old w site → Z.made zones.new w site }
+    ensures outside { IfOk result (λ o. (place : ℕ) → IfSome (option_map (λ f. f.0) o) (λ v. IsOutside place v)
+        → Z.byte zones.new place ≡ Z.byte zones.old place) }
 {
     let Ok(window) = grants.grant(sizes.preferred, sizes.minimum) else {
         return Ok(None);
@@ -356,6 +392,8 @@ fn begin<'j, Z: ZoneMaker>(
     ensures same { Z.windows zones.new ≡ grants.new.windows }
     ensures memory { Z.memory zones.new ≡ Z.memory zones.old }
     ensures kept { (w : Stretch) (site : Site) → Z.made zones.old w site → Z.made zones.new w site }
+    ensures outside { IfOk result (λ o. (place : ℕ) → IfSome (option_map (λ l. l.window) o) (λ v. IsOutside place v)
+        → Z.byte zones.new place ≡ Z.byte zones.old place) }
 {
     let Ready { resources, sizes } = ready;
     let Some((window, store)) = open_zone(zones, grants, sizes)? else {

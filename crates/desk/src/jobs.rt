@@ -1,14 +1,17 @@
 //! Jobs of tests, and what they leave.
 
-ghost use Rattle.std.specs.Prelude.{◌≡◌, ◌≤◌, length, IfOk};
+ghost use Rattle.std.specs.Prelude.{◌≡◌, ◌≤◌, ◌%◌, [], length, IfOk};
 
+use crate::in_region::run;
 use crate::job::{App, Job};
-use crate::outcome::{AppOutcome, Outcome, RunFault};
+use crate::outcome::{AppOutcome, Launched, Outcome, RunFault};
 use crate::whole::run_with;
 use arrayvec::ArrayVec;
 use block_store::ListZones;
 use fork_format::{Content, Group, Ref, write_fork};
 use mac_words::{Attrs, Label, OsType};
+use raw_region::Region;
+use res_calls::File;
 use script_text::{Event, read_script};
 use std::alloc::{AllocError, Global};
 use std::test::Fail;
@@ -119,14 +122,81 @@ pub(crate) fn empty_job(alloc: Global, memory: u32, events: &[Event]) -> Result<
     })
 }
 
-/// Runs a job over lists.
+/// A region of so many bytes, none of which is 0.
+pub(crate) fn region_of(alloc: Global, len: u32) -> Result<Region, AllocError>
+    requires multiple { len % 16 ≡ 0 }
+    requires some { 16 ≤ len }
+    requires small { len ≤ 134217728 }
+    ensures home { IfOk result (λ region. region.out ≡ []) }
+    ensures length { IfOk result (λ region. length region.bytes ≡ len) }
+{
+    let mut region = Region::new(alloc, len as usize)?;
+    let mut whole = region.cut(0, len as usize);
+    whole.fill(0, len as usize, 0xa5);
+    region.join(whole);
+    Ok(region)
+}
+
+/// Whether two applications leave the same files.
+fn are_same_files(some: &[File], others: &[File]) -> bool {
+    for (one, other) in some.iter().zip(others) {
+        if one.name != other.name || one.fork != other.fork || one.written != other.written {
+            return false;
+        }
+    }
+    some.len() == others.len()
+}
+
+/// Whether two applications that were launched leave the same.
+fn is_same_launched(one: &Launched, other: &Launched) -> bool {
+    (one.size, one.steps, one.asked) == (other.size, other.steps, other.asked)
+        && one.transcript == other.transcript
+        && are_same_files(&one.files, &other.files)
+}
+
+/// Whether two applications leave the same.
+fn is_same_app(one: &AppOutcome, other: &AppOutcome) -> bool {
+    match (&one.launched, &other.launched) {
+        (Some(launched), Some(again)) => {
+            one.name == other.name && is_same_launched(launched, again)
+        }
+        (None, None) => one.name == other.name,
+        _ => false,
+    }
+}
+
+/// Whether two runs leave the same.
+fn is_same_outcome(one: &Outcome, other: &Outcome) -> bool {
+    for (app, again) in one.apps.iter().zip(&other.apps) {
+        if !is_same_app(app, again) {
+            return false;
+        }
+    }
+    one.apps.len() == other.apps.len() && one.desk == other.desk
+}
+
+/// Whether two runs end alike.
+fn is_same_end(one: &Result<Outcome, RunFault>, other: &Result<Outcome, RunFault>) -> bool {
+    match (one, other) {
+        (Ok(outcome), Ok(again)) => is_same_outcome(outcome, again),
+        (Err(fault), Err(again)) => fault == again,
+        _ => false,
+    }
+}
+
+/// Runs a job over lists, and in the bytes of a region: both end alike.
 pub(crate) fn run_job(alloc: Global, job: &Job) -> Result<Result<Outcome, RunFault>, Fail> {
     let memory = job.memory;
     if memory % 16 != 0 || memory < 512 || 134_217_728 < memory || 64 < job.apps.len() {
         return Err(Fail::new("no job"));
     }
-    let (outcome, zones) = run_with(alloc, job, ListZones::new(alloc, memory)?);
+    let (listed, zones) = run_with(alloc, job, ListZones::new(alloc, memory)?);
     drop(zones);
+    let (outcome, region) = run(alloc, region_of(alloc, memory)?, job);
+    region.close();
+    if !is_same_end(&listed, &outcome) {
+        return Err(Fail::new("another outcome in bytes than over lists"));
+    }
     Ok(outcome)
 }
 

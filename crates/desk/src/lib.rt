@@ -5,6 +5,7 @@ mod act;
 mod departure;
 mod desk;
 mod forks;
+mod in_region;
 mod job;
 mod laws;
 mod live;
@@ -21,6 +22,7 @@ mod turns;
 mod whole;
 
 pub use desk::Desk;
+pub use in_region::run;
 pub use job::{App, AppFile, Job};
 pub use laws::{
     a_step_at_the_desk_is_the_applications_own, no_application_runs_after_a_rest,
@@ -30,6 +32,10 @@ pub use outcome::{AppOutcome, Launched, Outcome, RunFault};
 pub use whole::{run_watched, run_with};
 
 #[cfg(test)]
+mod generated_tests;
+#[cfg(test)]
 mod jobs;
+#[cfg(test)]
+mod region_tests;
 #[cfg(test)]
 mod tests;

@@ -5,6 +5,8 @@ ghost use Rattle.block_store.specs.Block.{fresh};
 ghost use Rattle.res_calls.specs.Files.{Resources as Opened};
 ghost use Rattle.desk.specs.Progress.{come_to, stepped, turned, acted, is_quit};
 ghost use Rattle.desk.specs.Live.{IsLive, LiveEndsBy, LiveGives, HasCome, lot_of_live, leaves_seen};
+ghost use Rattle.heap_calls.specs.Stored.{IsNamed};
+ghost use Rattle.desk.specs.Lying.{zone_alone};
 ghost use Rattle.desk.specs.Outcome.{launched_alone};
 
 use crate::act::Act;
@@ -181,6 +183,8 @@ impl<'j, S: BlockStore> Live<'j, S> {
             → leaves_seen result.0 ≡ launched_alone resources self.entry.script.now self.entry.window.len
             self.entry.steps asked }
         ensures lot { (result.1, (S.rest result.2).window) ≡ lot_of_live self.entry }
+        ensures zone { (resources : Opened) → IsLive resources self.entry → IsNamed (S.zone result.2)
+            (zone_alone resources self.entry.script.now self.entry.window.len self.entry.steps) }
         ensures counts { (result.0.size ≡ self.entry.window.len) × (result.0.steps ≡ self.entry.steps)
             × (result.0.asked ≡ asked) }
     {

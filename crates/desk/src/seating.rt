@@ -8,6 +8,7 @@ ghost use Rattle.desk.specs.Progress.{Waiting, Running, acted_by, window_of, is_
 ghost use Rattle.desk.specs.Desk.{coming, place_come};
 ghost use Rattle.desk.specs.Outcome.{told_of};
 ghost use Rattle.desk.specs.Live.{lot_of_live, leaves_seen};
+ghost use Rattle.desk.specs.Lying.{IsZoneOf};
 ghost use Rattle.desk.specs.Seated.{IsSeated, RunsWith};
 ghost use Rattle.desk.specs.View.{place_seen, progress_seen, lot_of, left_of};
 
@@ -151,6 +152,8 @@ pub(crate) fn part<'j, S: BlockStore>(
         → option_map leaves_seen result.0 ≡ told_of start script (progress_seen phase.entry) }
     ensures window { option_map (λ f. f.0) result.1 ≡ window_of (progress_seen phase.entry) }
     ensures lot { option_map (λ f. (f.0, (S.rest f.1).window)) result.1 ≡ lot_of phase.entry }
+    ensures zone { (start : Result Opened Code) (script : Parts) → IsSeated start script phase.entry
+        → IfSome result.1 (λ f. IsZoneOf start script (progress_seen phase.entry) (S.zone f.1)) }
 {
     match phase {
         Phase::Waiting => (None, None),

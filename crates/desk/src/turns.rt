@@ -1,8 +1,11 @@
 //! What happens at the desk.
 
-ghost use Rattle.std.specs.Prelude.{◌≡◌, OnOk};
+ghost use Rattle.std.specs.Prelude.{◌≡◌, ℕ, OnOk};
+ghost use Rattle.windows.specs.declared.Window.{Window as Stretch};
+ghost use Rattle.block_store.specs.Rest.{Site};
 ghost use Rattle.desk.specs.declared.act.Act.TheVariants.{Step, Turn, Quit};
 ghost use Rattle.desk.specs.Desk.{acted_at, round, rested, after_event, after_events, larger, longest, longest_or};
+ghost use Rattle.desk.specs.Free.{IsFree, StaysFree};
 ghost use Rattle.desk.specs.View.{seen};
 
 use crate::act::Act;
@@ -36,8 +39,11 @@ impl<'j, Z: ZoneMaker> Desk<'j, Z> {
     /// Each application in order takes a turn, where it runs.
     #[tactic(auto, using(crate::proofs::Rounds::turned_next))]
     fn round(&mut self) -> Result<(), AllocError>
-        ensures ok { OnOk result (self.new ≡ round self.old) }
-        ensures memory { self.new.memory ≡ self.old.memory }
+        ensures ok { OnOk result (self.new.state ≡ round self.old.state) }
+        ensures memory { self.new.state.memory ≡ self.old.state.memory }
+        ensures kept { (w : Stretch) (site : Site) → Z.made self.old.zones w site → Z.made self.new.zones w site }
+        ensures outside { OnOk result ((place : ℕ) → IsFree place self.old.state
+            → Z.byte self.new.zones place ≡ Z.byte self.old.zones place) }
     {
         let count = self.count();
         for i in 0..count {
@@ -53,8 +59,11 @@ impl<'j, Z: ZoneMaker> Desk<'j, Z> {
     /// The host has no memory: the desk can then only be finished.
     #[tactic(auto, using(crate::proofs::Rounds::round_next, crate::proofs::Rounds::round_none))]
     pub fn rest(&mut self) -> Result<(), AllocError>
-        ensures ok { OnOk result (self.new ≡ rested self.old) }
-        ensures memory { self.new.memory ≡ self.old.memory }
+        ensures ok { OnOk result (self.new.state ≡ rested self.old.state) }
+        ensures memory { self.new.state.memory ≡ self.old.state.memory }
+        ensures kept { (w : Stretch) (site : Site) → Z.made self.old.zones w site → Z.made self.new.zones w site }
+        ensures outside { OnOk result ((place : ℕ) → IsFree place self.old.state
+            → Z.byte self.new.zones place ≡ Z.byte self.old.zones place) }
     {
         let most = self.longest();
         for _ in 0..most {
@@ -75,8 +84,11 @@ impl<'j, Z: ZoneMaker> Desk<'j, Z> {
     ///
     /// The host has no memory: the desk can then only be finished.
     pub fn serve(&mut self, event: Event) -> Result<(), AllocError>
-        ensures ok { OnOk result (self.new ≡ after_event event self.old) }
-        ensures memory { self.new.memory ≡ self.old.memory }
+        ensures ok { OnOk result (self.new.state ≡ after_event event self.old.state) }
+        ensures memory { self.new.state.memory ≡ self.old.state.memory }
+        ensures kept { (w : Stretch) (site : Site) → Z.made self.old.zones w site → Z.made self.new.zones w site }
+        ensures outside { OnOk result ((place : ℕ) → IsFree place self.old.state → IsFree place self.new.state
+            → Z.byte self.new.zones place ≡ Z.byte self.old.zones place) }
     {
         match event {
             Event::Launch(i) => self.launch(i),
@@ -95,8 +107,11 @@ pub(crate) fn serve_all<Z: ZoneMaker, W: Watch>(
     events: &[Event],
     watch: &mut W,
 ) -> Result<(), AllocError>
-    ensures ok { OnOk result (desk.new ≡ after_events events.now desk.old) }
-    ensures memory { desk.new.memory ≡ desk.old.memory }
+    ensures ok { OnOk result (desk.new.state ≡ after_events events.now desk.old.state) }
+    ensures memory { desk.new.state.memory ≡ desk.old.state.memory }
+    ensures kept { (w : Stretch) (site : Site) → Z.made desk.old.zones w site → Z.made desk.new.zones w site }
+    ensures outside { OnOk result ((place : ℕ) → StaysFree place events.now desk.old.state
+        → Z.byte desk.new.zones place ≡ Z.byte desk.old.zones place) }
     ensures silent { W.printed watch.new ≡ W.printed watch.old }
 {
     for (index, event) in events.iter().enumerate() {

@@ -1,7 +1,9 @@
 //! Whole runs.
 
-ghost use Rattle.std.specs.Prelude.{◌≡◌, ◌≤◌, ◌%◌, ◌++◌, [], Ok, length, map, IsTrue, IfOk, OnOk};
+ghost use Rattle.std.specs.Prelude.{◌≡◌, ℕ, ◌≤◌, ◌%◌, ◌++◌, [], Ok, length, map, IsTrue, IfOk, OnOk};
 ghost use Rattle.std.specs.List.{list_all, flat_map};
+ghost use Rattle.windows.specs.declared.Window.{Window};
+ghost use Rattle.block_store.specs.Rest.{Site};
 ghost use Rattle.fork_format.specs.Content.{Group as GroupValue};
 ghost use Rattle.fork_format.specs.Canonical.{has_refs, are_distinct};
 ghost use Rattle.fork_format.specs.View.{view};
@@ -9,6 +11,8 @@ ghost use Rattle.applications.specs.Laws.{ShowsPut, HoldsPut, KeepsLocked, Keeps
 ghost use Rattle.desk.specs.Desk.{after_events};
 ghost use Rattle.desk.specs.Job.{opening};
 ghost use Rattle.desk.specs.Outcome.{outcome_of};
+ghost use Rattle.desk.specs.Free.{StaysFree, IsNeverGranted};
+ghost use Rattle.desk.specs.Lying.{AllLie, LieAtEnd};
 ghost use Rattle.desk.specs.View.{outcome_seen};
 ghost use Rattle.desk.specs.Whole.{run_of, IsRun, EachLaunched, IsAlone, InEachTry};
 
@@ -30,9 +34,14 @@ fn run_events<Z: ZoneMaker, W: Watch>(
     watch: &mut W,
 ) -> (Result<Outcome, AllocError>, Z)
     ensures outcome { IfOk result.0 (λ o. outcome_seen o
-        ≡ outcome_of (after_events job.now.events.items desk.entry)) }
+        ≡ outcome_of (after_events job.now.events.items desk.entry.state)) }
     ensures windows { Z.windows result.1 ≡ [] }
-    ensures memory { Z.memory result.1 ≡ desk.entry.memory }
+    ensures memory { Z.memory result.1 ≡ desk.entry.state.memory }
+    ensures lies { IfOk result.0 (λ o.
+        AllLie (Z.left result.1) (after_events job.now.events.items desk.entry.state).places) }
+    ensures kept { (w : Window) (site : Site) → Z.made desk.entry.zones w site → Z.made result.1 w site }
+    ensures outside { IfOk result.0 (λ o. (place : ℕ) → StaysFree place job.now.events.items desk.entry.state
+        → Z.byte result.1 place ≡ Z.byte desk.entry.zones place) }
     ensures silent { W.printed watch.new ≡ W.printed watch.old }
 {
     let served = serve_all(&mut desk, &job.events, watch);
@@ -64,6 +73,11 @@ fn run_by<Z: ZoneMaker, W: Watch>(
         (after_events job.now.events.items (opening job.now.memory (view system.now) job.now.apps.items))) }
     ensures windows { Z.windows result.1 ≡ [] }
     ensures memory { Z.memory result.1 ≡ job.now.memory }
+    ensures lies { IfOk result.0 (λ o. AllLie (Z.left result.1) (after_events job.now.events.items
+        (opening job.now.memory (view system.now) job.now.apps.items)).places) }
+    ensures kept { (w : Window) (site : Site) → Z.made zones w site → Z.made result.1 w site }
+    ensures outside { IfOk result.0 (λ o. (place : ℕ) → StaysFree place job.now.events.items
+        (opening job.now.memory (view system.now) job.now.apps.items) → Z.byte result.1 place ≡ Z.byte zones place) }
     ensures silent { W.printed watch.new ≡ W.printed watch.old }
 {
     match Desk::new(alloc, job.memory, system, &job.apps, zones) {
@@ -110,6 +124,14 @@ pub fn run_watched<Z: ZoneMaker, W: Watch>(
     ensures windows { Z.windows result.1 ≡ [] }
     ensures memory { Z.memory result.1 ≡ job.now.memory }
 
+    // In the window of each application that still runs its zone lies, as the application has it alone.
+    ensures lies { IfOk result.0 (λ o. LieAtEnd (Z.left result.1) job.now) }
+
+    // It is a maker in the same memory, and each byte that was in no partition at any time is as it was.
+    ensures kept { (w : Window) (site : Site) → Z.made zones w site → Z.made result.1 w site }
+    ensures outside { IfOk result.0 (λ o. (place : ℕ) → IsNeverGranted place job.now
+        → Z.byte result.1 place ≡ Z.byte zones place) }
+
     // Being watched prints nothing.
     ensures silent { W.printed watch.new ≡ W.printed watch.old }
 {
@@ -153,6 +175,14 @@ pub fn run_with<Z: ZoneMaker>(alloc: Global, job: &Job, zones: Z) -> (Result<Out
     // The maker of zones comes back with none open.
     ensures windows { Z.windows result.1 ≡ [] }
     ensures memory { Z.memory result.1 ≡ job.now.memory }
+
+    // In the window of each application that still runs its zone lies, as the application has it alone.
+    ensures lies { IfOk result.0 (λ o. LieAtEnd (Z.left result.1) job.now) }
+
+    // It is a maker in the same memory, and each byte that was in no partition at any time is as it was.
+    ensures kept { (w : Window) (site : Site) → Z.made zones w site → Z.made result.1 w site }
+    ensures outside { IfOk result.0 (λ o. (place : ℕ) → IsNeverGranted place job.now
+        → Z.byte result.1 place ≡ Z.byte zones place) }
 {
     run_watched(alloc, job, zones, &mut Unwatched)
 }

@@ -1,16 +1,20 @@
-//! Worked jobs, run by the program with a host in memory, and by `run_with` over the same input.
+//! Worked jobs, run by the program with a host in memory, and by `run_with` and `run` over the same input: in lists, and in
+//! a region.
+
+ghost use Rattle.std.specs.Prelude.{◌≡◌, ◌≤◌, ◌%◌, [], length, IfOk};
 
 use crate::gathering::gather;
 use crate::input::read_input;
 use crate::run_tests::{Disk, disk_of};
 use crate::tool;
 use block_store::ListZones;
-use desk::{AppOutcome, Job, Outcome, run_with};
+use desk::{AppOutcome, Job, Launched, Outcome, run, run_with};
 use fork_format::{Content, Group, Ref, RefName, write_fork};
 use mac_words::{Attrs, OsType};
+use raw_region::Region;
 use res_calls::File;
 use script_text::read_job;
-use std::alloc::Global;
+use std::alloc::{AllocError, Global};
 use std::process::Abort;
 use std::test::Fail;
 
@@ -83,17 +87,79 @@ fn job_of(alloc: Global, disk: &mut Disk) -> Result<Job, Fail> {
     }
 }
 
-/// What `run_with` leaves of a job, over lists.
-fn outcome_of(alloc: Global, job: &Job) -> Result<Outcome, Fail> {
+/// Both files have one name and one fork, and were written or both not.
+fn same_file(rt: &impl Abort, one: &File, other: &File) -> Result<(), Fail> {
+    assert_eq!(rt; one.name.0.as_slice(), other.name.0.as_slice());
+    assert_eq!(rt; one.fork.as_slice(), other.fork.as_slice());
+    assert_eq!(rt; one.written, other.written);
+    Ok(())
+}
+
+/// Both applications leave the same.
+fn same_launched(rt: &impl Abort, one: &Launched, other: &Launched) -> Result<(), Fail> {
+    assert_eq!(rt;
+        (one.size, one.steps, one.asked),
+        (other.size, other.steps, other.asked)
+    );
+    assert_eq!(rt; one.transcript.as_slice(), other.transcript.as_slice());
+    assert_eq!(rt; one.files.len(), other.files.len());
+    for (one, other) in one.files.iter().zip(&other.files) {
+        same_file(rt, one, other)?;
+    }
+    Ok(())
+}
+
+/// Both applications have one name, and leave the same, or nothing.
+fn same_app(rt: &impl Abort, one: &AppOutcome, other: &AppOutcome) -> Result<(), Fail> {
+    assert_eq!(rt; one.name.0.as_slice(), other.name.0.as_slice());
+    match (&one.launched, &other.launched) {
+        (Some(one), Some(other)) => same_launched(rt, one, other),
+        (None, None) => Ok(()),
+        _ => Err(Fail::new("one was launched, and the other was not")),
+    }
+}
+
+/// Both runs leave the same.
+fn same_outcome(rt: &impl Abort, one: &Outcome, other: &Outcome) -> Result<(), Fail> {
+    assert_eq!(rt; one.desk.as_slice(), other.desk.as_slice());
+    assert_eq!(rt; one.apps.len(), other.apps.len());
+    for (one, other) in one.apps.iter().zip(&other.apps) {
+        same_app(rt, one, other)?;
+    }
+    Ok(())
+}
+
+/// A region of so many bytes, none of which is 0.
+fn used_region(alloc: Global, len: u32) -> Result<Region, AllocError>
+    requires even { len % 16 ≡ 0 }
+    requires low { 512 ≤ len }
+    requires high { len ≤ 134217728 }
+    ensures home { IfOk result (λ r. r.out ≡ []) }
+    ensures length { IfOk result (λ r. length r.bytes ≡ len) }
+{
+    let mut region = Region::new(alloc, len as usize)?;
+    let mut part = region.cut(0, len as usize);
+    part.fill(0, len as usize, 0xa5);
+    region.join(part);
+    Ok(region)
+}
+
+/// What is left of a job by `run_with` over lists, and by `run` in a region whose bytes were used: the same.
+fn outcome_of(rt: &impl Abort, alloc: Global, job: &Job) -> Result<Outcome, Fail> {
     let memory = job.memory;
     if memory % 16 != 0 || memory < 512 || 134_217_728 < memory || 64 < job.apps.len() {
         return Err(Fail::new("no job"));
     }
-    let (outcome, zones) = run_with(alloc, job, ListZones::new(alloc, memory)?);
+    let (listed, zones) = run_with(alloc, job, ListZones::new(alloc, memory)?);
     drop(zones);
-    match outcome {
-        Ok(outcome) => Ok(outcome),
-        Err(_) => Err(Fail::new("a run without an outcome")),
+    let (laid, region) = run(alloc, used_region(alloc, memory)?, job);
+    region.close();
+    match (listed, laid) {
+        (Ok(listed), Ok(laid)) => {
+            same_outcome(rt, &listed, &laid)?;
+            Ok(listed)
+        }
+        _ => Err(Fail::new("a run without an outcome")),
     }
 }
 
@@ -131,9 +197,9 @@ fn push_forks(alloc: Global, texts: &mut Vec<Vec<u8>>, apps: &[AppOutcome]) -> R
     Ok(())
 }
 
-/// The texts that `run_with` leaves of a job, in the order of the program's files.
-fn texts_of(alloc: Global, job: &Job) -> Result<Vec<Vec<u8>>, Fail> {
-    let outcome = outcome_of(alloc, job)?;
+/// The texts that are left of a job, in lists and in a region, in the order of the program's files.
+fn texts_of(rt: &impl Abort, alloc: Global, job: &Job) -> Result<Vec<Vec<u8>>, Fail> {
+    let outcome = outcome_of(rt, alloc, job)?;
     let mut texts = Vec::new(alloc);
     texts.push(Vec::from_slice(alloc, &outcome.desk)?)?;
     push_transcripts(alloc, &mut texts, &outcome.apps)?;
@@ -172,7 +238,7 @@ impl Trial {
         Ok(())
     }
 
-    /// Runs the job into the folder `out`, and by `run_with`: both leave just that.
+    /// Runs the job into the folder `out`, by `run_with` over lists, and by `run` in a region: all leave just that.
     pub fn run(self, rt: &impl Abort) -> Result<(), Fail> {
         let Trial {
             alloc,
@@ -180,7 +246,7 @@ impl Trial {
             wanted,
         } = self;
         tool(alloc, &["macmem", "run", "job", "out"], &mut disk)?;
-        let texts = texts_of(alloc, &job_of(alloc, &mut disk)?)?;
+        let texts = texts_of(rt, alloc, &job_of(alloc, &mut disk)?)?;
         assert_eq!(rt;
             (disk.written.len(), texts.len()),
             (wanted.len(), wanted.len())

@@ -11,8 +11,9 @@ use crate::host::Host;
 use crate::input::read_input;
 use crate::outputs::{Output, outputs_of};
 use crate::tasks::{script_fault, write_fault};
-use block_store::ListZones;
-use desk::{Job, Outcome, RunFault, run_watched, run_with};
+use desk::{Job, Outcome, RunFault, run, run_watched};
+use raw_region::Region;
+use raw_zone::RegionZones;
 use script_text::{JobText, read_job};
 use std::alloc::Global;
 
@@ -37,7 +38,7 @@ fn job_text<'t>(alloc: Global, path: &str, text: &'t [u8]) -> Result<JobText<'t>
     }
 }
 
-/// What a job leaves, or why it doesn't run to its end. The host is told how far it has come where that is asked for.
+/// What a job leaves, or why it doesn't run to its end. Its memory is one region. The host is told how far it has come where that is asked for.
 fn ran<H: Host>(alloc: Global, host: &mut H, job: &Job, watched: bool) -> Result<Outcome, RunFault>
     requires memory { IsMemory job.now.memory }
     requires few { length job.now.apps.items ≤ 64 }
@@ -48,15 +49,17 @@ fn ran<H: Host>(alloc: Global, host: &mut H, job: &Job, watched: bool) -> Result
     // Nothing is printed.
     ensures silent { H.printed host.new ≡ H.printed host.old }
 {
-    let zones = match ListZones::new(alloc, job.memory) {
-        Ok(zones) => zones,
+    let region = match Region::new(alloc, job.memory as usize) {
+        Ok(region) => region,
         Err(_) => return Err(RunFault::HostMemory),
     };
-    let (outcome, _) = if watched {
-        run_watched(alloc, job, zones, host)
+    let (outcome, region) = if watched {
+        let (outcome, zones) = run_watched(alloc, job, RegionZones::new(region), host);
+        (outcome, zones.into_region())
     } else {
-        run_with(alloc, job, zones)
+        run(alloc, region, job)
     };
+    region.close();
     outcome
 }
 

@@ -11,6 +11,7 @@ ghost use Rattle.macmem.specs.Work.{IsTranscriptOf, IsFormOf, TellsForm, text_of
 use crate::size::PartitionSize;
 use applications::{Watch, run_script_watched};
 use fork_format::{Content, ForkFault, WriteFault, read_fork, write_fork};
+use raw_region::Region;
 use script_text::{FaultKind, Script, ScriptFault, read_script};
 use std::alloc::{AllocError, Global};
 
@@ -35,7 +36,13 @@ impl Form {
     }
 }
 
-/// The transcript of a script in a fresh partition. The watch is told how many lines are done.
+/// That the host has no memory for a script.
+const NO_MEMORY: ScriptFault = ScriptFault {
+    line: 0,
+    kind: FaultKind::HostMemory,
+};
+
+/// The transcript of a script in a fresh partition, which is a region of its own. The watch is told how many lines are done.
 pub fn transcript_of<W: Watch>(
     alloc: Global,
     size: PartitionSize,
@@ -52,12 +59,14 @@ pub fn transcript_of<W: Watch>(
     ensures silent { W.printed watch.new ≡ W.printed watch.old }
 {
     let script = read_script(alloc, text)?;
-    match run_script_watched(alloc, size.bytes, &script, watch) {
+    let Ok(region) = Region::new(alloc, size.bytes as usize) else {
+        return Err(NO_MEMORY);
+    };
+    let (transcript, region) = run_script_watched(alloc, region, &script, watch);
+    region.close();
+    match transcript {
         Ok(transcript) => Ok(transcript),
-        Err(_) => Err(ScriptFault {
-            line: 0,
-            kind: FaultKind::HostMemory,
-        }),
+        Err(_) => Err(NO_MEMORY),
     }
 }
 

@@ -1,7 +1,10 @@
-use Rattle.std.proofs.Common.{rules, slice_get}
+use Rattle.std.proofs.Common.{rules, slice_get, Some, subst, sym, ◌∙◌, ap}
+use Rattle.std.proofs.lemmas.Result.{on_ok_weaker}
 use Rattle.desk.specs.Desk.{left_by}
-use Rattle.desk.specs.View.{seen, lots, left_of}
+use Rattle.desk.specs.Free.{IsFree}
+use Rattle.desk.specs.View.{DeskSeen, seen, lots, left_of}
 use Rattle.desk.proofs.Holding.{acted_in, left-ended, windows-ended, windows-stay}
+use Rattle.desk.proofs.Free.{out-of}
 use Rattle.desk.proofs.Leaving.{housed_same, housed_acted, ended_made}
 use Rattle.desk.proofs.desk.Desk.act.Goals as goal
 
@@ -61,3 +64,16 @@ invariant_of-self-in-Some g c = (
   search rules,
   search rules,
 )
+
+pub returns-in-Some-clause-outside : goal.returns-in-Some-clause-outside
+returns-in-Some-clause-outside g c =
+    let here = acted_in c.args.act (seen c.self.inside.seats.items) c.args.i c.self.inside.grants.windows
+    (left_of c.in-Some.departure) c.self.invariant.0.held
+    (left-ended left_of c.in_ok-ended.ended c.in-Some.departure
+    (left_by c.args.act (slice_get (seen c.self.inside.seats.items) c.args.i)) c.in-Some.is c.in_ok-ended.ensures.left) in
+    on_ok_weaker c.write_app_end.result
+    (λ h place f. c.give_back.ensures.outside place
+    (out-of place (Some c.in-Some.departure.window) c.self.inside.grants.windows here
+    (subst (λ (d : DeskSeen _). IsFree place d.state) (sym c.self.view_is) f))
+    ∙ ap (λ (d : DeskSeen _). g.Z.ZoneMaker.byte d.zones place) c.self.view_is)
+    c.write_app_end.ensures

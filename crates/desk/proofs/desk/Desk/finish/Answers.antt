@@ -1,12 +1,20 @@
-use Rattle.std.proofs.Common.{rules, ◌≡◌, ◌∙◌, ap, sym, subst, length, map, Option, IfSome}
+use Rattle.std.proofs.Common.{rules, List, ◌++◌, ◌≡◌, ◌∙◌, ap, sym, subst, refl, length, map, Option, IfSome}
 use Rattle.std.proofs.lemmas.Bool.{eqb-true}
 use Rattle.std.specs.List.{Contains}
 use Rattle.windows.specs.declared.Window.{Window}
-use Rattle.desk.specs.Desk.{State}
+use Rattle.desk.specs.declared.outcome.AppOutcome.{AppOutcome}
 use Rattle.desk.specs.Outcome.{told}
 use Rattle.desk.specs.Held.{MadeOf, closed}
-use Rattle.desk.specs.View.{seen, lots, place_seen, lot_of, told_seen}
+use Rattle.desk.specs.View.{DeskSeen, seen, lots, place_seen, lot_of, told_seen}
 use Rattle.desk.proofs.Leaving.{split_first, no_length, told_next, told_end, first_out, first_made, housed_next, none_out}
+use Rattle.windows.specs.Windows.{Misses}
+use Rattle.windows.specs.Outside.{IsOutside}
+use Rattle.desk.specs.Progress.{window_of}
+use Rattle.partitions.specs.Granted.{granted-order}
+use Rattle.desk.specs.Lying.{AllLie}
+use Rattle.desk.proofs.Free.{out-next}
+use Rattle.desk.proofs.Lying.{lies_of, left_begins, left_next, left_end}
+use Rattle.desk.specs.Free.{IsFree}
 use Rattle.desk.proofs.desk.Desk.finish.Goals as goal
 
 pub release-requires-clause-made : goal.release-requires-clause-made
@@ -41,7 +49,40 @@ returns-clause-apps g c =
     let k : length c.places.seats.items ≡ c.places.seats.len = search rules in
     told_end told_seen told c.places.outcome.items (seen c.places.seats.items) (seen c.self.inside.seats.items)
     (ap seen (no_length c.places.seats.items (k ∙ z))) c.places.invariant.apps
-    ∙ ap (λ (s : State). map told s.places) c.self.view_is
+    ∙ ap (λ (d : DeskSeen _). map told d.state.places) c.self.view_is
+
+pub returns-clause-lies : goal.returns-clause-lies
+returns-clause-lies g c =
+    let z : c.places.seats.len ≡ 0 = eqb-true c.places.seats.len 0 (sym c.is_empty.ensures ∙ c.places-test.false) in
+    let k : length c.places.seats.items ≡ c.places.seats.len = search rules in
+    subst (λ (d : DeskSeen _). AllLie (g.Z.ZoneMaker.left c.places.zones) d.state.places) c.self.view_is
+    (left_end (g.Z.ZoneMaker.left c.places.zones) c.places.grants.windows (seen c.places.seats.items)
+    (seen c.self.inside.seats.items) (ap seen (no_length c.places.seats.items (k ∙ z))) c.places.invariant.left)
+
+pub returns-clause-kept : goal.returns-clause-kept
+returns-clause-kept g c =
+    λ w site m. c.places.invariant.kept w site
+    (subst (λ (d : DeskSeen _). g.Z.ZoneMaker.made d.zones w site) (sym c.self.view_is) m)
+
+pub returns-clause-outside : goal.returns-clause-outside
+returns-clause-outside g c =
+    λ place f. (c.places.invariant.outside place
+    (subst (λ (d : DeskSeen _). IsFree place d.state) (sym c.self.view_is) f)).1
+    ∙ ap (λ (d : DeskSeen _). g.Z.ZoneMaker.byte d.zones place) c.self.view_is
+
+pub places-init : goal.places-init
+places-init g c =
+    let k : length c.self.inside.outcome.items ≡ c.self.inside.outcome.len = search rules in
+    record {
+      apps = ap (λ (xs : List AppOutcome). map told_seen xs ++ map told (seen c.self.inside.seats.items))
+          (no_length c.self.inside.outcome.items (k ∙ c.self.invariant.2));
+      memory = refl;
+      room = search rules;
+      housed = c.self.invariant.0;
+      left = left_begins (g.Z.ZoneMaker.left c.self.inside.zones) c.self.inside.grants.windows (seen c.self.inside.seats.items);
+      kept = λ w site m. m;
+      outside = λ place f. (f, refl);
+    }
 
 pub places-preserved : goal.places-preserved
 places-preserved g c =
@@ -62,4 +103,32 @@ places-preserved g c =
           (c.release.ensures.windows
           ∙ ap (λ (o : Option Window). closed o c.places.grants.windows) c.leave-app.ensures.window)
           c.places.invariant.housed;
+      left = left_next (g.Z.ZoneMaker.left c.places.zones) (g.Z.ZoneMaker.left c.release.new.zones) c.places.grants.memory
+          c.places.grants.windows c.release.new.grants.windows (place_seen c.remove-seat.result)
+          (seen c.places.seats.items) (seen c.remove-seat.new.self.items) (seen c.self.inside.seats.items) (ap seen one)
+          (c.release.ensures.windows
+          ∙ ap (λ (o : Option Window). closed o c.places.grants.windows) c.leave-app.ensures.window)
+          (granted-order c.places.grants)
+          (first_out (g.Z.ZoneMaker.made c.places.zones) (g.Z.ZoneMaker.windows c.places.zones) c.places.grants.windows
+          (seen c.places.seats.items) (seen c.remove-seat.new.self.items) (place_seen c.remove-seat.result)
+          (lots c.places.seats.items) (ap seen one) c.places.invariant.housed)
+          (λ w blocks m l. c.release.ensures.left w blocks
+          (subst (λ (o : Option Window). IfSome o (λ v. Misses w v)) (sym c.leave-app.ensures.window) m) l)
+          (lies_of g.Z.Store.BlockStore.zone (g.Z.ZoneMaker.left c.release.new.zones)
+          (place_seen c.remove-seat.result).start (place_seen c.remove-seat.result).script
+          (place_seen c.remove-seat.result).progress c.leave-app.result.1 c.leave-app.ensures.window
+          c.leave-app.ensures.zone c.release.ensures.lies)
+          c.places.invariant.left;
+      kept = λ w site m. c.release.ensures.kept w site (c.places.invariant.kept w site m);
+      outside = out-next g.Z.ZoneMaker.byte c.self.inside.zones c.places.zones c.release.new.zones
+          (window_of (place_seen c.remove-seat.result).progress) c.self.inside.grants.windows c.places.grants.windows
+          c.release.new.grants.windows
+          (c.release.ensures.windows
+          ∙ ap (λ (o : Option Window). closed o c.places.grants.windows) c.leave-app.ensures.window)
+          (first_out (g.Z.ZoneMaker.made c.places.zones) (g.Z.ZoneMaker.windows c.places.zones) c.places.grants.windows
+          (seen c.places.seats.items) (seen c.remove-seat.new.self.items) (place_seen c.remove-seat.result)
+          (lots c.places.seats.items) (ap seen one) c.places.invariant.housed)
+          (λ place f. c.release.ensures.outside place
+          (subst (λ (o : Option Window). IfSome o (λ v. IsOutside place v)) (sym c.leave-app.ensures.window) f))
+          c.places.invariant.outside;
     }

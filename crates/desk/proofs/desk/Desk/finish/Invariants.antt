@@ -1,7 +1,11 @@
-use Rattle.std.proofs.Common.{◌≡◌, ◌+◌, ◌≤◌, ◌++◌, map, vec_len, vec_capacity}
+use Rattle.std.proofs.Common.{◌≡◌, ℕ, ◌+◌, ◌≤◌, ◌++◌, map, vec_len, vec_capacity}
+use Rattle.windows.specs.declared.Window.{Window}
+use Rattle.windows.specs.Outside.{IsOutsideAll}
+use Rattle.block_store.specs.Rest.{Site}
 use Rattle.desk.specs.Outcome.{told}
 use Rattle.desk.specs.Held.{AreHoused}
 use Rattle.desk.specs.View.{seen, lots, told_seen}
+use Rattle.desk.proofs.Lying.{LeftSo}
 use Rattle.desk.proofs.desk.Desk.finish.Given as goal
 
 abbrev pub invariant-places : goal.invariant-places
@@ -11,6 +15,10 @@ invariant-places g l = record {
   room : vec_len l.outcome + vec_len l.seats ≤ vec_capacity l.outcome;
   housed : AreHoused (g.Z.ZoneMaker.made l.zones) (g.Z.ZoneMaker.windows l.zones) l.grants.windows
       (seen l.seats.items) (lots l.seats.items);
+  left : LeftSo (g.Z.ZoneMaker.left l.zones) l.grants.windows (seen l.seats.items) (seen l.initial.seats.items);
+  kept : (w : Window) (site : Site) → g.Z.ZoneMaker.made l.initial.zones w site → g.Z.ZoneMaker.made l.zones w site;
+  outside : (place : ℕ) → IsOutsideAll place l.initial.grants.windows
+      → IsOutsideAll place l.grants.windows × (g.Z.ZoneMaker.byte l.zones place ≡ g.Z.ZoneMaker.byte l.initial.zones place);
 }
 
 abbrev pub decreases-places : goal.decreases-places

@@ -8,8 +8,9 @@ use Rattle.desk.specs.Progress.{Waiting, Running}
 use Rattle.desk.specs.Desk.{Place, State, ready, launched_at}
 use Rattle.desk.specs.Ready.{sizes_seen}
 use Rattle.desk.specs.Seated.{Placed, RunsWith}
-use Rattle.desk.specs.View.{place_seen, seen, lots}
+use Rattle.desk.specs.View.{DeskSeen, place_seen, seen, lots}
 use Rattle.desk.proofs.Holding.{few_out, not-opened, is-opened}
+use Rattle.desk.proofs.Free.{out-opened}
 use Rattle.desk.proofs.Leaving.{housed_kept, housed_started}
 use Rattle.desk.proofs.Changes.{launched-none, launched-refused, launched-full, launched-begins, seen-some, seen-none, refused-ready}
 use Rattle.desk.proofs.Changes.{waits-ready, start-ready, at-some}
@@ -17,8 +18,8 @@ use Rattle.desk.proofs.desk.Desk.launch.Goals as goal
 
 pub returns-in_default-clause-ok : goal.returns-in_default-clause-ok
 returns-in_default-clause-ok g c =
-    launched-none c.args.i c.args.self.now
-    (ap (λ (s : State). slice_get s.places c.args.i) (sym c.self.view_is)
+    launched-none c.args.i c.args.self.now.state
+    (ap (λ (d : DeskSeen _). slice_get d.state.places c.args.i) (sym c.self.view_is)
     ∙ seen-none place_seen c.self.inside.seats.items c.deref.result.now c.args.i c.get.result c.deref.ensures.value
     c.get.ensures.lookup c.in_default.is)
 
@@ -41,7 +42,7 @@ returns-in-Err-Code-clause-ok g c =
     (λ h. launched-refused c.args.i s p here c.in-Err-Code.code s.memory s.windows s.places
     c.write_app_refusal.new.text.items refused refl refl refl
     (h ∙ ap (λ (n : List ℕ). s.log ++ refusal_of n c.in-Err-Code.code.0) name)
-    ∙ ap (λ (q : State). launched_at c.args.i q) c.self.view_is)
+    ∙ ap (λ (d : DeskSeen _). launched_at c.args.i d.state) c.self.view_is)
     c.write_app_refusal.ensures
 
 pub begin-requires-clause-few : goal.begin-requires-clause-few
@@ -103,7 +104,7 @@ returns-in_default-begun-clause-ok g c =
     (not-opened (λ l. l.window) c.in_ok-begun.begun c.self.inside.grants.windows c.begin.new.grants.windows
     c.in_default-begun.is c.in_ok-begun.ensures.windows)
     refl MEM_FULL refl (h ∙ ap (λ (n : List ℕ). s.log ++ refusal_of n MEM_FULL.0) name)
-    ∙ ap (λ (q : State). launched_at c.args.i q) c.self.view_is)
+    ∙ ap (λ (d : DeskSeen _). launched_at c.args.i d.state) c.self.view_is)
     c.write_app_refusal-in_default-begun.ensures
 
 pub start_at-requires-clause-waits : goal.start_at-requires-clause-waits
@@ -182,5 +183,44 @@ returns-clause-ok g c =
     (at-some (slice_get (seen c.self.inside.seats.items) c.args.i) p _ here c.start_at.ensures.places
     ∙ ap (λ (n : ℕ). slice_set s.places c.args.i (record p { progress = Running live.window n })) first)
     (h ∙ ap (λ (n : List ℕ). s.log ++ launch_of n live.window.len) name)
-    ∙ ap (λ (q : State). launched_at c.args.i q) c.self.view_is)
+    ∙ ap (λ (d : DeskSeen _). launched_at c.args.i d.state) c.self.view_is)
+    c.write_app_launch.ensures
+
+pub returns-in-Err-Code-clause-outside : goal.returns-in-Err-Code-clause-outside
+returns-in-Err-Code-clause-outside g c =
+    on_ok_weaker c.write_app_refusal.result
+    (λ h place f. ap (λ (d : DeskSeen _). g.Z.ZoneMaker.byte d.zones place) c.self.view_is)
+    c.write_app_refusal.ensures
+
+pub returns-in_err-begun-clause-kept : goal.returns-in_err-begun-clause-kept
+returns-in_err-begun-clause-kept g c =
+    λ w site m. c.begin.ensures.kept w site
+    (subst (λ (d : DeskSeen _). g.Z.ZoneMaker.made d.zones w site) (sym c.self.view_is) m)
+
+pub returns-in_default-begun-clause-kept : goal.returns-in_default-begun-clause-kept
+returns-in_default-begun-clause-kept g c =
+    λ w site m. c.begin.ensures.kept w site
+    (subst (λ (d : DeskSeen _). g.Z.ZoneMaker.made d.zones w site) (sym c.self.view_is) m)
+
+pub returns-clause-kept : goal.returns-clause-kept
+returns-clause-kept g c =
+    λ w site m. c.begin.ensures.kept w site
+    (subst (λ (d : DeskSeen _). g.Z.ZoneMaker.made d.zones w site) (sym c.self.view_is) m)
+
+pub returns-in_default-begun-clause-outside : goal.returns-in_default-begun-clause-outside
+returns-in_default-begun-clause-outside g c =
+    on_ok_weaker c.write_app_refusal-in_default-begun.result
+    (λ h place f. c.in_ok-begun.ensures.outside place
+    (out-opened place (option_map (λ l. l.window) c.in_ok-begun.begun) c.self.inside.grants.windows
+    c.begin.new.grants.windows c.in_ok-begun.ensures.windows f)
+    ∙ ap (λ (d : DeskSeen _). g.Z.ZoneMaker.byte d.zones place) c.self.view_is)
+    c.write_app_refusal-in_default-begun.ensures
+
+pub returns-clause-outside : goal.returns-clause-outside
+returns-clause-outside g c =
+    on_ok_weaker c.write_app_launch.result
+    (λ h place f. c.in_ok-begun.ensures.outside place
+    (out-opened place (option_map (λ l. l.window) c.in_ok-begun.begun) c.self.inside.grants.windows
+    c.begin.new.grants.windows c.in_ok-begun.ensures.windows f)
+    ∙ ap (λ (d : DeskSeen _). g.Z.ZoneMaker.byte d.zones place) c.self.view_is)
     c.write_app_launch.ensures

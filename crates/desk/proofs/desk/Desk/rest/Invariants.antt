@@ -1,10 +1,16 @@
-use Rattle.std.proofs.Common.{◌≡◌, ◌-◌, suc}
+use Rattle.std.proofs.Common.{◌≡◌, ℕ, ◌-◌, suc}
+use Rattle.windows.specs.declared.Window.{Window}
+use Rattle.block_store.specs.Rest.{Site}
+use Rattle.desk.specs.Free.{IsFree}
 use Rattle.desk.specs.Desk.{rounds, rested}
 use Rattle.desk.proofs.desk.Desk.rest.Given as goal
 
 -- the rounds that are left make up the rest
 abbrev pub invariant-loop : goal.invariant-loop
 invariant-loop g l = record {
-  rest : rounds (suc (l.most - l.counter)) l.self ≡ rested l.fn.self;
-  memory : l.self.memory ≡ l.fn.self.memory;
+  rest : rounds (suc (l.most - l.counter)) l.self.state ≡ rested l.fn.self.state;
+  memory : l.self.state.memory ≡ l.fn.self.state.memory;
+  kept : (w : Window) (site : Site) → g.Z.ZoneMaker.made l.fn.self.zones w site → g.Z.ZoneMaker.made l.self.zones w site;
+  outside : (place : ℕ) → IsFree place l.fn.self.state → IsFree place l.self.state
+      × (g.Z.ZoneMaker.byte l.self.zones place ≡ g.Z.ZoneMaker.byte l.fn.self.zones place);
 }

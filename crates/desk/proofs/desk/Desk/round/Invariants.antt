@@ -1,10 +1,16 @@
-use Rattle.std.proofs.Common.{◌≡◌, ◌-◌}
+use Rattle.std.proofs.Common.{◌≡◌, ℕ, ◌-◌}
+use Rattle.windows.specs.declared.Window.{Window}
+use Rattle.block_store.specs.Rest.{Site}
+use Rattle.desk.specs.Free.{IsFree}
 use Rattle.desk.specs.Desk.{each_turned, round}
 use Rattle.desk.proofs.desk.Desk.round.Given as goal
 
 -- the turns that are left make up the round
 abbrev pub invariant-loop-i : goal.invariant-loop-i
 invariant-loop-i g l = record {
-  rest : each_turned (l.count - l.i) l.i l.self ≡ round l.fn.self;
-  memory : l.self.memory ≡ l.fn.self.memory;
+  rest : each_turned (l.count - l.i) l.i l.self.state ≡ round l.fn.self.state;
+  memory : l.self.state.memory ≡ l.fn.self.state.memory;
+  kept : (w : Window) (site : Site) → g.Z.ZoneMaker.made l.fn.self.zones w site → g.Z.ZoneMaker.made l.self.zones w site;
+  outside : (place : ℕ) → IsFree place l.fn.self.state → IsFree place l.self.state
+      × (g.Z.ZoneMaker.byte l.self.zones place ≡ g.Z.ZoneMaker.byte l.fn.self.zones place);
 }

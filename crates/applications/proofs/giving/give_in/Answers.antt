@@ -1,0 +1,46 @@
+use Rattle.std.proofs.Common.{◌≡◌, ◌∙◌, ◌++◌, ◌||◌, ℕ, List, ap, subst, length, take}
+use Rattle.std.specs.Prelude.{nat_lt}
+use Rattle.block_store.specs.Block.{Block, sizes}
+use Rattle.heap_calls.specs.Stored.{IsNamed}
+use Rattle.script_text.specs.declared.script.Line.{Line}
+use Rattle.script_text.specs.Transcript.{launch_line}
+use Rattle.applications.proofs.Quits.{given_alone, launched-lies}
+use Rattle.applications.proofs.giving.give_in.Goals as goal
+
+pub returns-in-Ok-given-clause-given : goal.returns-in-Ok-given-clause-given
+returns-in-Ok-given-clause-given g c =
+    let n = sizes (g.S.BlockStore.zone c.args.store) in
+    let gave = given_alone c.args.resources n c.args.script.now c.args.steps c.args.quit
+    c.in-Ok-launch_with.application c.give-given.new.self _ c.first.result.now c.is_asked-asked.result
+    c.write_launch.new.text.items c.give-given.new.text.items c.in-Ok-launch_with.ensures.launched
+    (c.in-Ok.ensures ∙ (λ i. c.new-transcript.ensures.items i ++ launch_line (c.len.ensures i)))
+    (c.is_asked-asked.ensures
+    ∙ ap (λ (ls : List Line). nat_lt (length ls) c.args.steps || c.args.quit) c.steps-lines.ensures.steps)
+    (c.first.ensures ∙ ap (take {A = Line} c.args.steps) c.steps-lines.ensures.steps)
+    c.in-Ok-given.ensures.text c.in-Ok-given.ensures.after in
+    let files = c.into_parts-store.ensures.files ∙ gave.files in
+    λ i. record { transcript = gave.transcript i; files = files i }
+
+pub returns-in-Ok-given-clause-zone : goal.returns-in-Ok-given-clause-zone
+returns-in-Ok-given-clause-zone g c =
+    let n = sizes (g.S.BlockStore.zone c.args.store) in
+    let gave = given_alone c.args.resources n c.args.script.now c.args.steps c.args.quit
+    c.in-Ok-launch_with.application c.give-given.new.self _ c.first.result.now c.is_asked-asked.result
+    c.write_launch.new.text.items c.give-given.new.text.items c.in-Ok-launch_with.ensures.launched
+    (c.in-Ok.ensures ∙ (λ i. c.new-transcript.ensures.items i ++ launch_line (c.len.ensures i)))
+    (c.is_asked-asked.ensures
+    ∙ ap (λ (ls : List Line). nat_lt (length ls) c.args.steps || c.args.quit) c.steps-lines.ensures.steps)
+    (c.first.ensures ∙ ap (take {A = Line} c.args.steps) c.steps-lines.ensures.steps)
+    c.in-Ok-given.ensures.text c.in-Ok-given.ensures.after in
+    subst (λ (z : List Block). IsNamed (g.S.BlockStore.zone c.into_parts-store.result.0) z) gave.zone
+    c.into_parts-store.ensures.zone
+
+pub returns-in-Ok-given-clause-window : goal.returns-in-Ok-given-clause-window
+returns-in-Ok-given-clause-window g c =
+    c.into_parts-store.ensures.window ∙ c.give-given.ensures.lies
+    ∙ launched-lies c.args.resources _ c.in-Ok-launch_with.application _ c.in-Ok-launch_with.ensures.launched
+
+pub returns-in-Err-given-clause-window : goal.returns-in-Err-given-clause-window
+returns-in-Err-given-clause-window g c =
+    c.into_parts-store.ensures.window ∙ c.give-given.ensures.lies
+    ∙ launched-lies c.args.resources _ c.in-Ok-launch_with.application _ c.in-Ok-launch_with.ensures.launched

@@ -1,0 +1,21 @@
+use Rattle.std.proofs.Common.{rules, ◌≡◌, ◌+◌, ◌-◌, ◌<◌, ◌∙◌, ap, sym, suc, true}
+use Rattle.desk.specs.Desk.{State, rounds, any_runs}
+use Rattle.desk.proofs.Free.{round-out}
+use Rattle.desk.proofs.Rounds.{round_next}
+use Rattle.desk.proofs.desk.Desk.rest.Goals as goal
+
+pub loop-preserved : goal.loop-preserved
+loop-preserved g c =
+    let n = c.longest-most.result in
+    let k = c.loop.counter in
+    let less : k < n = search rules in
+    let runs : any_runs c.loop.self.state ≡ true = search rules in
+    record {
+      rest = ap (λ (s : State). rounds (suc (n - (k + 1))) s) c.in_ok-round.ensures.ok
+          ∙ sym (round_next n k c.loop.self.state less runs) ∙ c.loop.invariant.rest;
+      memory = c.round.ensures.memory ∙ c.loop.invariant.memory;
+      kept = λ w site m. c.round.ensures.kept w site (c.loop.invariant.kept w site m);
+      outside = round-out g.Z.ZoneMaker.byte c.args.self.now.zones c.loop.self.zones c.round.new.self.zones
+          c.args.self.now.state c.loop.self.state c.round.new.self.state c.in_ok-round.ensures.ok
+          c.in_ok-round.ensures.outside c.loop.invariant.outside;
+    }

@@ -1,0 +1,20 @@
+use Rattle.std.proofs.Common.{rules, ◌+◌, ◌-◌, ◌<◌, ◌∙◌, ap, sym}
+use Rattle.desk.specs.Desk.{State, each_turned}
+use Rattle.desk.proofs.Free.{turned-out}
+use Rattle.desk.proofs.Rounds.{turned_next}
+use Rattle.desk.proofs.desk.Desk.round.Goals as goal
+
+pub loop-i-preserved : goal.loop-i-preserved
+loop-i-preserved g c =
+    let n = c.count-count.result in
+    let i = c.loop-i.i in
+    let less : i < n = search rules in
+    record {
+      rest = ap (λ (s : State). each_turned (n - (i + 1)) (i + 1) s) c.in_ok-act.ensures.ok
+          ∙ sym (turned_next n i c.loop-i.self.state less) ∙ c.loop-i.invariant.rest;
+      memory = c.act.ensures.memory ∙ c.loop-i.invariant.memory;
+      kept = λ w site m. c.act.ensures.kept w site (c.loop-i.invariant.kept w site m);
+      outside = turned-out g.Z.ZoneMaker.byte c.args.self.now.zones c.loop-i.self.zones c.act.new.self.zones i
+          c.args.self.now.state c.loop-i.self.state c.act.new.self.state c.in_ok-act.ensures.ok
+          c.in_ok-act.ensures.outside c.loop-i.invariant.outside;
+    }

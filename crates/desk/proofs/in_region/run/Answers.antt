@@ -1,0 +1,27 @@
+use Rattle.std.proofs.Common.{◌≡◌, ◌∙◌, ℕ, ap, slice_get, sym, subst, IfOk}
+use Rattle.raw_region.specs.Memory.{Whole}
+use Rattle.zone_bytes.specs.Laid.{LiesThere}
+use Rattle.desk.specs.Free.{IsNeverGranted}
+use Rattle.desk.specs.Lying.{LieAtEnd}
+use Rattle.desk.proofs.Free.{same-home}
+use Rattle.desk.proofs.in_region.run.Goals as goal
+
+pub returns-clause-lies : goal.returns-clause-lies
+returns-clause-lies c =
+    subst (λ (r : Whole). IfOk c.run_with-outcome.result.0 (λ o. LieAtEnd (λ w blocks. LiesThere r.bytes w blocks) c.args.job.now))
+    (sym c.into_region.ensures) c.run_with-outcome.ensures.lies
+
+pub returns-clause-untouched : goal.returns-clause-untouched
+returns-clause-untouched c =
+    subst (λ (r : Whole). IfOk c.run_with-outcome.result.0 (λ o. (place : ℕ) → IsNeverGranted place c.args.job.now
+    → slice_get r.bytes place ≡ slice_get c.args.region.bytes place))
+    (sym c.into_region.ensures)
+    (subst (λ (r : Whole). IfOk c.run_with-outcome.result.0 (λ o. (place : ℕ) → IsNeverGranted place c.args.job.now
+    → slice_get c.run_with-outcome.result.1.region.bytes place ≡ slice_get r.bytes place))
+    c.new.ensures c.run_with-outcome.ensures.outside)
+
+pub returns-clause-same : goal.returns-clause-same
+returns-clause-same c =
+    ap (λ (r : Whole). r.home) c.into_region.ensures
+    ∙ same-home c.new.result.region c.run_with-outcome.result.1.region c.run_with-outcome.ensures.kept
+    ∙ ap (λ (r : Whole). r.home) c.new.ensures

@@ -1,0 +1,21 @@
+use Rattle.std.proofs.Common.{rules, ◌+◌, ◌<◌, ◌∙◌, ap, sym, drop, length}
+use Rattle.desk.specs.Desk.{State, after_events}
+use Rattle.desk.proofs.Free.{event-out}
+use Rattle.desk.proofs.Rounds.{events_next}
+use Rattle.desk.proofs.turns.serve_all.Goals as goal
+
+pub loop-index-preserved : goal.loop-index-preserved
+loop-index-preserved g c =
+    let events = c.args.events.now in
+    let i = c.loop-index.index in
+    let less : i < length events = search rules in
+    record {
+      rest = ap (λ (s : State). after_events (drop (i + 1) events) s) c.in_ok-serve.ensures.ok
+          ∙ sym (events_next events i _ c.loop-index.desk.state less) ∙ c.loop-index.invariant.rest;
+      memory = c.serve.ensures.memory ∙ c.loop-index.invariant.memory;
+      silent = c.tell.ensures.silent ∙ c.loop-index.invariant.silent;
+      kept = λ w site m. c.serve.ensures.kept w site (c.loop-index.invariant.kept w site m);
+      outside = event-out g.Z.ZoneMaker.byte c.args.desk.now.zones c.loop-index.desk.zones c.serve.new.self.zones events i _
+          c.args.desk.now.state c.loop-index.desk.state c.serve.new.self.state less c.in_ok-serve.ensures.ok
+          c.in_ok-serve.ensures.outside c.loop-index.invariant.outside;
+    }

@@ -1,0 +1,60 @@
+use Rattle.std.specs.Prelude.{ℕ, Result, Ok, Err, List, [], ◌∷◌}
+use Rattle.windows.specs.declared.Window.{Window}
+use Rattle.mac_words.specs.declared.code.OsErr.{OsErr}
+use Rattle.fork_format.specs.Content.{Content}
+use Rattle.block_store.specs.Block.{Block}
+use Rattle.script_text.specs.Script.{Parts}
+use Rattle.script_text.specs.declared.job.Event.{Event}
+use Rattle.heap_calls.specs.Stored.{IsNamed}
+use Rattle.res_calls.specs.Files.{Resources}
+use Rattle.applications.specs.Alone.{first_steps}
+use Rattle.desk.specs.declared.job.App.{App}
+use Rattle.desk.specs.declared.job.Job.{Job}
+use Rattle.desk.specs.Progress.{Progress, Waiting, Running, Ended, Lost}
+use Rattle.desk.specs.Desk.{Place, after_events}
+use Rattle.desk.specs.Job.{opening}
+use Rattle.desk.specs.Whole.{system_of}
+
+-- What lies in the memory when a run is over: the zone of each application that still runs, as it has it alone.
+
+-- that zones lie in windows, as the maker of zones has it
+abbrev pub Lying : Type 1
+Lying = Window → List Block → Type 0
+
+-- the zone of an application that is alone, after n steps in a partition of so many bytes
+abbrev pub zone_alone : Resources → Parts → ℕ → ℕ → List Block
+zone_alone resources script size n = (first_steps resources size script n).after.memory.heap.zone
+
+-- these blocks are the zone of an application that runs, with other names; nothing is said of one that waits, has ended or
+-- is lost
+abbrev pub IsZoneOf : Result Resources OsErr → Parts → Progress → List Block → Type 0
+IsZoneOf (Ok resources) script (Running w n) blocks = IsNamed blocks (zone_alone resources script w.len n)
+IsZoneOf (Ok resources) script Waiting blocks = Unit {0}
+IsZoneOf (Ok resources) script (Ended size n asked) blocks = Unit {0}
+IsZoneOf (Ok resources) script (Lost w) blocks = Unit {0}
+IsZoneOf (Err code) script progress blocks = Unit {0}
+
+-- in the window of an application that runs lies its zone, with other names for the blocks
+abbrev pub LiesOf : Lying → Result Resources OsErr → Parts → Progress → Type 0
+LiesOf Left (Ok resources) script (Running w n) =
+    (blocks : List Block) × IsNamed blocks (zone_alone resources script w.len n) × Left w blocks
+LiesOf Left (Ok resources) script Waiting = Unit {0}
+LiesOf Left (Ok resources) script (Ended size n asked) = Unit {0}
+LiesOf Left (Ok resources) script (Lost w) = Unit {0}
+LiesOf Left (Err code) script progress = Unit {0}
+
+abbrev pub LiesAt : Lying → Place → Type 0
+LiesAt Left p = LiesOf Left p.start p.script p.progress
+
+-- the same of all applications at a desk
+abbrev pub AllLie : Lying → List Place → Type 0
+AllLie Left [] = Unit {0}
+AllLie Left (p ∷ places) = LiesAt Left p × AllLie Left places
+
+-- of those of a job, as its last event leaves them
+abbrev pub LieAfter : Lying → Result Content OsErr → ℕ → List App → List Event → Type 0
+LieAfter Left (Err code) memory apps events = ⊥
+LieAfter Left (Ok system) memory apps events = AllLie Left (after_events events (opening memory system apps)).places
+
+abbrev pub LieAtEnd : Lying → Job → Type 0
+LieAtEnd Left job = LieAfter Left (system_of job) job.memory job.apps.items job.events.items
