@@ -5,9 +5,12 @@ ghost use Rattle.windows.specs.Writes.{written};
 // Bytes a stride: few enough that the buffer stays in the nearest cache.
 const STRIDE: usize = 4096;
 
+// So few go in one stride through a buffer of their own: a new buffer is filled with zeros, and most blocks are small.
+pub(crate) const FEW: usize = 512;
+
 // Moves one stride.
-fn carry(bytes: &mut [u8], from: usize, to: usize, count: usize, buffer: &mut [u8; STRIDE])
-    requires count { count ≤ STRIDE }
+fn carry(bytes: &mut [u8], from: usize, to: usize, count: usize, buffer: &mut [u8])
+    requires count { count ≤ length buffer.old }
     requires from_inside { from + count ≤ length bytes.old }
     requires to_inside { to + count ≤ length bytes.old }
     ensures { bytes.new ≡ written to (take count (drop from bytes.old)) bytes.old }
@@ -15,6 +18,17 @@ fn carry(bytes: &mut [u8], from: usize, to: usize, count: usize, buffer: &mut [u
     let buffer = &mut buffer[..count];
     buffer.copy_from_slice(&bytes[from..from + count]);
     bytes[to..to + count].copy_from_slice(buffer);
+}
+
+// All at once.
+pub(crate) fn move_few(bytes: &mut [u8], from: usize, to: usize, count: usize)
+    requires few { count ≤ FEW }
+    requires from_inside { from + count ≤ length bytes.old }
+    requires to_inside { to + count ≤ length bytes.old }
+    ensures { bytes.new ≡ written to (take count (drop from bytes.old)) bytes.old }
+{
+    let mut buffer = [0; FEW];
+    carry(bytes, from, to, count, &mut buffer);
 }
 
 // From the first byte on, since the bytes go down.
