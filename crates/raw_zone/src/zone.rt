@@ -91,13 +91,14 @@ impl RawZone {
     {
         let end = part.len() as u32;
         make_fresh(&mut part, end);
+        let marks = Landmarks::of(&part);
         RawZone {
             part,
             first: HEADER_SIZE,
             unused: SLOTS_A_BLOCK as u32,
             free: end - MASTERS_SIZE,
             moves: 0,
-            marks: Landmarks::unknown(),
+            marks,
         }
     }
 
@@ -140,7 +141,7 @@ impl RawZone {
     {
         let stop = run + run_bytes_in(&mut walk_from(&self.part, run));
         let packed = settle_run(&mut self.part, run, stop);
-        self.marks = Landmarks::unknown();
+        self.marks.note(&self.part, run, stop);
         packed
     }
 
@@ -150,7 +151,7 @@ impl RawZone {
         ensures rest { IsRest (rest_of self.old) (rest_of self.new) }
     {
         self.free += purge_from(&mut self.part, 0, 0, purges, sparing);
-        self.marks = Landmarks::unknown();
+        self.marks = Landmarks::of(&self.part);
     }
 
     /// The block that a handle's slot leads to.
@@ -284,7 +285,7 @@ impl BlockStore for RawZone {
 
     fn purge_after(&mut self, place: u32, purges: u32, sparing: Sparing) {
         self.free += purge_above(&mut self.part, place, purges, sparing);
-        self.marks = Landmarks::unknown();
+        self.marks = Landmarks::of(&self.part);
     }
 
     fn settle(&mut self, run: u32) {
@@ -296,7 +297,7 @@ impl BlockStore for RawZone {
         let packed = self.pack(run);
         if run < packed.top {
             raise_run(&mut self.part, run, packed.top, packed.stop, bytes);
-            self.marks = Landmarks::unknown();
+            self.marks.note(&self.part, run, packed.stop);
         }
         Ok(())
     }
@@ -305,7 +306,7 @@ impl BlockStore for RawZone {
         let packed = self.pack(run);
         let place = read_word(&self.part, number);
         hoist_block(&mut self.part, place, packed.stop);
-        self.marks = Landmarks::unknown();
+        self.marks.note(&self.part, run, packed.stop);
     }
 
     fn carve(&mut self, place: u32, number: u32, size: u32) -> Result<(), AllocError> {
@@ -349,7 +350,7 @@ impl BlockStore for RawZone {
 
     fn resize(&mut self, place: u32, bytes: u32) -> Result<(), AllocError> {
         self.free = resize_block(&mut self.part, place, bytes, self.free);
-        self.marks = Landmarks::unknown();
+        self.marks = Landmarks::of(&self.part);
         Ok(())
     }
 

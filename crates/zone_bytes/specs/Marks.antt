@@ -27,11 +27,11 @@ abbrev pub next_of : ℕ → List Landmark → ℕ
 next_of end [] = end
 next_of end (m ∷ marks) = m.at
 
--- a block begins at each landmark, and no Free block from there up to the next one is larger than is noted
+-- a block begins at each landmark, they rise, and no Free block from one up to the next is larger than is noted
 abbrev pub AreMarks : ℕ → List Block → List Landmark → Type 0
 AreMarks end zone [] = Unit {0}
-AreMarks end zone (m ∷ marks) =
-    Begins m.at 0 zone × AtEach (AtMost m.most m.at (next_of end marks)) 0 zone × AreMarks end zone marks
+AreMarks end zone (m ∷ marks) = Begins m.at 0 zone × AtEach (AtMost m.most m.at (next_of end marks)) 0 zone
+    × (m.at ≤ next_of end marks) × AreMarks end zone marks
 
 -- the blocks from lo to hi became others of as many bytes
 pub record Replaced (lo hi : ℕ) (old new : List Block) : Type 0 where

@@ -7,49 +7,46 @@ ghost use Rattle.zone_bytes.specs.Decode.{zone_in};
 ghost use Rattle.zone_bytes.specs.Lawful.{IsSound};
 ghost use Rattle.zone_bytes.specs.Marked.{AreOf};
 ghost use Rattle.zone_bytes.specs.Marks.{AreMarks, Begins, Replaced};
+ghost use Rattle.zone_bytes.specs.Stepping.{IsOnWay};
 
 use crate::landmark::Landmark;
-use crate::marking::{change_marks, find_by_marks, mark_below, spread_marks};
-use crate::measuring::count_blocks;
+use crate::marking::{change_marks, find_by_marks, lay_marks, mark_below};
+use crate::resizing::free_behind;
 use raw_region::Part;
 
-/// How many landmarks a zone has. A call goes over all of them, and over the blocks between two.
-const LANDMARKS: usize = 256;
+/// How many landmarks a zone has: as many as it has pages. The search for room goes over all of them, and each
+/// change over the blocks of a page.
+const LANDMARKS: usize = 1024;
 
-/// After so many changes the landmarks are spread anew, since they clump where blocks are joined, and new blocks come
-/// between them.
-const MOST_CHANGES: u32 = 2048;
-
-/// Places of known blocks of a zone, and between each two of them a bound on the Free blocks. They lie beside the
-/// zone's bytes, and can be thrown away at any time.
+/// Places of known blocks of a zone, one for each page of its bytes, and between each two of them a bound on the Free
+/// blocks. They lie beside the zone's bytes, and can be thrown away at any time.
 #[derive(Drop)]
 pub struct Landmarks {
     marks: [Landmark; LANDMARKS],
-    changes: u32,
 }
 
-/// Spreads landmarks over the blocks of a zone.
-fn spread(marks: &mut [Landmark], part: &Part)
-    requires sound { (first : ℕ) × (unused : ℕ) × IsSound part.now.bytes first unused }
-    ensures { AreMarks 4294967295 (zone_in part.now.bytes) marks.new }
+/// How many bytes a page has, of which a zone has as many as landmarks.
+fn page_bytes(part: &Part) -> u32
+    requires { IsOnWay 0 part.now.bytes }
+    ensures { 0 < result }
 {
-    let every = count_blocks(part) / LANDMARKS as u32;
-    spread_marks(marks, part, every.saturating_add(1));
+    (part.len() as u32) / LANDMARKS as u32 + 1
 }
 
 impl Landmarks {
-    /// Landmarks that say nothing: the next change spreads them.
-    pub fn unknown() -> Landmarks
-        ensures { (zone : List Block) → sizes zone ≤ 134217728 → AreOf result zone }
+    /// The landmarks of a zone, by one walk over it.
+    pub fn of(part: &Part) -> Landmarks
+        requires sound { (first : ℕ) × (unused : ℕ) × IsSound part.now.bytes first unused }
+        ensures { AreOf result (zone_in part.now.bytes) }
     {
         let nothing = Landmark {
             at: 0,
             most: u32::MAX,
         };
-        Landmarks {
-            marks: [nothing; LANDMARKS],
-            changes: MOST_CHANGES,
-        }
+        let mut marks = [nothing; LANDMARKS];
+        let page = page_bytes(part);
+        lay_marks(&mut marks, part, 0, page, page, u32::MAX);
+        Landmarks { marks }
     }
 
     /// A landmark below a place; 0 where there is none.
@@ -76,12 +73,15 @@ impl Landmarks {
             × AreOf self.old old }
         ensures { AreOf self.new (zone_in part.now.bytes) }
     {
-        change_marks(&mut self.marks, part, lo, hi);
-        if self.changes < MOST_CHANGES {
-            self.changes += 1;
+        let page = page_bytes(part);
+        let first = lo / page;
+        if first == hi / page {
+            change_marks(&mut self.marks, part, lo, hi, free_behind(part, lo));
         } else {
-            spread(&mut self.marks, part);
-            self.changes = 0;
+            change_marks(&mut self.marks, part, lo, hi, u32::MAX);
+            let index = LANDMARKS.min(first as usize);
+            let page_end = lo.saturating_sub(lo % page).saturating_add(page);
+            lay_marks(&mut self.marks, part, index, page_end, page, hi);
         }
     }
 }

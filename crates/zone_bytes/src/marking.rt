@@ -1,36 +1,58 @@
 //! Finds by landmarks, and landmarks of a zone that changes.
 
-ghost use Rattle.std.specs.Prelude.{◌≡◌, ◌≤◌, ◌<◌, ◌⊎◌, ℕ, List, Some, IsTrue, MatchOption, IfSome, false, true};
+ghost use Rattle.std.specs.Prelude.{◌≡◌, ◌≤◌, ◌<◌, ◌-◌, ◌⊎◌, ℕ, List, Some, IsTrue, MatchOption, IfSome, false, true};
+ghost use Rattle.std.specs.Prelude.{length, drop, get_or};
 ghost use Rattle.block_store.specs.Block.{Block, is_room};
 ghost use Rattle.block_store.specs.Find.{FindsLowest};
 ghost use Rattle.zone_bytes.specs.Decode.{zone_in};
 ghost use Rattle.zone_bytes.specs.Lawful.{IsSound};
-ghost use Rattle.zone_bytes.specs.Marks.{AtEach, AtMost, NoRoom, Begins, AreMarks, Replaced, Lowered};
+ghost use Rattle.zone_bytes.specs.Marks.{AtEach, AtMost, NoRoom, Begins, AreMarks, Replaced, Lowered, next_of};
 ghost use Rattle.zone_bytes.specs.Stepping.{left_in, IsOnWay};
 
 use crate::landmark::Landmark;
-use crate::measuring::{count_blocks, edge_after, largest_between, room_between};
+use crate::measuring::{Measured, largest_between, measure_up_to, room_between};
 use raw_region::Part;
 
-/// A landmark below a place, the last one where they rise; 0 where there is none.
-pub fn mark_below(marks: &[Landmark], place: u32) -> u32
-    ensures below { (result < place) ⊎ (result ≡ 0) }
-    ensures begins { (end : ℕ) (zone : List Block) → AreMarks end zone marks.now → Begins result 0 zone }
+/// The first landmark at or above a place, where they rise; their number where there is none.
+fn index_above(marks: &[Landmark], place: u32) -> usize
+    ensures index { result ≤ length marks.now }
+    ensures above { place ≤ next_of 4294967295 (drop result marks.now) }
+    ensures below { 0 < result → (get_or marks.now (result - 1) (record { at = 0; most = 0 })).at < place }
 {
-    let mut last = 0;
     let mut low = 0;
     let mut high = marks.len();
     while low < high {
         let middle = low + (high - low) / 2;
-        let at = marks[middle].at;
-        if at < place {
-            last = at;
+        if marks[middle].at < place {
             low = middle + 1;
         } else {
             high = middle;
         }
     }
-    last
+    low
+}
+
+/// A landmark below a place, the last one; 0 where there is none.
+pub fn mark_below(marks: &[Landmark], place: u32) -> u32
+    ensures below { (result < place) ⊎ (result ≡ 0) }
+    ensures begins { (end : ℕ) (zone : List Block) → AreMarks end zone marks.now → Begins result 0 zone }
+{
+    let above = index_above(marks, place);
+    if above == 0 {
+        return 0;
+    }
+    marks[above - 1].at
+}
+
+/// Where a landmark stands; above all zones where there are no so many.
+fn place_of_mark(marks: &[Landmark], index: usize) -> u32
+    requires { index ≤ length marks.now }
+    ensures { result ≡ next_of 4294967295 (drop index marks.now) }
+{
+    if index == marks.len() {
+        return u32::MAX;
+    }
+    marks[index].at
 }
 
 /// The lowest Free block of at least so many bytes in the stretch of a landmark, where there is none below it.
@@ -75,9 +97,9 @@ fn lowered_mark(at: u32, lo: u32, hi: u32) -> u32
     if lo < at && at < hi { lo } else { at }
 }
 
-/// A landmark once the blocks from one place to another are others: what its stretch has is taken anew where
-/// those lie in it and may be the largest.
-fn changed_mark(mark: Landmark, above: u32, part: &Part, lo: u32, hi: u32) -> Landmark
+/// A landmark once the blocks from one place to another are others, of which the Free bytes of the first are known:
+/// what its stretch has is taken anew where the largest Free block of it may be gone.
+fn changed_mark(mark: Landmark, above: u32, part: &Part, lo: u32, hi: u32, free: u32) -> Landmark
     requires sound { (first : ℕ) × (unused : ℕ) × IsSound part.now.bytes first unused }
     requires ordered { lo ≤ hi }
     requires begins { (at : ℕ) → Lowered lo hi mark.at at → Begins at 0 (zone_in part.now.bytes) }
@@ -93,53 +115,80 @@ fn changed_mark(mark: Landmark, above: u32, part: &Part, lo: u32, hi: u32) -> La
             most: mark.most,
         };
     }
+    if hi - lo <= free {
+        return Landmark { at, most: hi - lo };
+    }
     Landmark {
         at,
         most: largest_between(part, at, above),
     }
 }
 
-/// The landmarks once the blocks from one place to another became others.
-pub fn change_marks(marks: &mut [Landmark], part: &Part, lo: u32, hi: u32)
+/// The landmarks once the blocks from one place to another became others: only those are touched whose stretches
+/// have some of these.
+pub fn change_marks(marks: &mut [Landmark], part: &Part, lo: u32, hi: u32, free: u32)
     requires sound { (first : ℕ) × (unused : ℕ) × IsSound part.now.bytes first unused }
     requires marks { (old : List Block) × Replaced lo hi old (zone_in part.now.bytes) × AreMarks 4294967295 old marks.old }
     ensures { AreMarks 4294967295 (zone_in part.now.bytes) marks.new }
 {
-    let mut above = u32::MAX;
-    let mut left = marks.len();
+    let mut left = index_above(marks, hi);
+    let mut above = place_of_mark(marks, left);
     while left > 0 {
         left -= 1;
-        let mark = changed_mark(marks[left], above, part, lo, hi);
+        let mark = changed_mark(marks[left], above, part, lo, hi, free);
         marks[left] = mark;
         above = mark.at;
+        if above < lo {
+            return;
+        }
     }
 }
 
-/// Where the stretch of a new landmark ends: so many blocks further, and for the last one anywhere above the zone.
-fn stretch_end(part: &Part, from: u32, blocks: u32, last: bool) -> u32
-    requires { IsOnWay from part.now.bytes }
-    ensures last { last ≡ true → result ≡ 4294967295 }
-    ensures edge { last ≡ false → Begins result from (left_in from part.now.bytes) }
+/// The stretch of a new landmark: up to the first edge at or above a place, and for the last one to the zone's top.
+fn stretch_from(part: &Part, at: u32, place: u32, last: bool) -> Measured
+    requires { IsOnWay at part.now.bytes }
+    ensures last { last ≡ true → result.edge ≡ 4294967295 }
+    ensures edge { last ≡ false → Begins result.edge at (left_in at part.now.bytes) }
+    ensures order { at ≤ result.edge }
+    ensures bound { AtEach (AtMost result.most at result.edge) at (left_in at part.now.bytes) }
 {
     if last {
-        u32::MAX
+        Measured {
+            edge: u32::MAX,
+            most: largest_between(part, at, u32::MAX),
+        }
     } else {
-        edge_after(part, from, blocks)
+        measure_up_to(part, at, place)
     }
 }
 
-/// Landmarks with as many blocks between each two of them, by one walk.
-pub fn spread_marks(marks: &mut [Landmark], part: &Part, every: u32)
+/// Lays the landmarks from one on anew, each at the first edge of its page or above it, up to the first that stands
+/// so above a place. The first one's page ends at `page_end`.
+pub fn lay_marks(
+    marks: &mut [Landmark],
+    part: &Part,
+    first: usize,
+    page_end: u32,
+    page: u32,
+    hi: u32,
+)
     requires sound { (first : ℕ) × (unused : ℕ) × IsSound part.now.bytes first unused }
+    requires first { first ≤ length marks.old }
+    requires marks { AreMarks 4294967295 (zone_in part.now.bytes) marks.old }
     ensures { AreMarks 4294967295 (zone_in part.now.bytes) marks.new }
 {
-    let mut from = 0;
-    for index in 0..marks.len() {
-        let to = stretch_end(part, from, every, index + 1 == marks.len());
+    let mut at = place_of_mark(marks, first);
+    let mut top = page_end;
+    for index in first..marks.len() {
+        if hi <= at && marks[index].at == at {
+            return;
+        }
+        let stretch = stretch_from(part, at, top, index + 1 == marks.len());
         marks[index] = Landmark {
-            at: from,
-            most: largest_between(part, from, to),
+            at,
+            most: stretch.most,
         };
-        from = to;
+        at = stretch.edge;
+        top = top.saturating_add(page);
     }
 }

@@ -92,35 +92,27 @@ pub fn room_between(part: &Part, from: u32, to: u32, bytes: u32) -> Option<u32>
     None
 }
 
-/// Where so many blocks from a place on end, or where the zone ends.
-pub fn edge_after(part: &Part, from: u32, blocks: u32) -> u32
-    requires { IsOnWay from part.now.bytes }
-    ensures { Begins result from (left_in from part.now.bytes) }
-{
-    let end = part.len() as u32;
-    let mut at = from;
-    let mut left = blocks;
-    while left > 0 {
-        if at >= end {
-            return at;
-        }
-        at = span_at(part, at).end;
-        left -= 1;
-    }
-    at
+/// What a walk from a place tells: where it ended, and the bytes of the largest Free block that it passed.
+#[derive(Clone, Copy, Drop)]
+pub struct Measured {
+    pub edge: u32,
+    pub most: u32,
 }
 
-/// How many blocks a zone has.
-pub fn count_blocks(part: &Part) -> u32
-    requires { IsOnWay 0 part.now.bytes }
-    ensures { result ≡ length (left_in 0 part.now.bytes) }
+/// A walk from one place to the first block that begins at or above another, or to the zone's end.
+pub fn measure_up_to(part: &Part, from: u32, place: u32) -> Measured
+    requires { IsOnWay from part.now.bytes }
+    ensures edge { Begins result.edge from (left_in from part.now.bytes) }
+    ensures order { from ≤ result.edge }
+    ensures bound { AtEach (AtMost result.most from result.edge) from (left_in from part.now.bytes) }
 {
-    let end = part.len() as u32;
-    let mut at = 0;
-    let mut count = 0;
-    while at < end {
-        at = span_at(part, at).end;
-        count += 1;
+    let stop = within(place, part.len() as u32);
+    let mut most = 0;
+    let mut at = from;
+    while at < stop {
+        let span = span_at(part, at);
+        most = greater(most, span.free);
+        at = span.end;
     }
-    count
+    Measured { edge: at, most }
 }

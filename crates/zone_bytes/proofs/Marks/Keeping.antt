@@ -30,7 +30,8 @@ marks-same end [] below above b c s f a = tt
 marks-same end (m ∷ marks) below above b c s f a = (
   begins-same m.at 0 below above b c s a.0,
   bound-same m.most m.at (next_of end marks) 0 below above b c s f a.1,
-  marks-same end marks below above b c s f a.2,
+  a.2,
+  marks-same end marks below above b c s f a.3,
 )
 
 -- a block was put at the lower end of a Free block

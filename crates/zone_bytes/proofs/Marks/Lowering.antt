@@ -1,7 +1,7 @@
 -- Landmarks once a stretch of the zone became another.
-use Rattle.std.proofs.Common.{◌≡◌, ℕ, ◌+◌, ◌-◌, ◌≤◌, ◌<◌, inl, inr, List, [], ◌∷◌, ◌++◌, sym, refl, ap, ◌∙◌, subst, arith, length, take, drop, get_or, set, replicate, zero, suc, true, false, ◌==◌}
+use Rattle.std.proofs.Common.{◌≡◌, ℕ, ◌+◌, ◌-◌, ◌≤◌, ◌<◌, inl, inr, List, [], ◌∷◌, ◌++◌, sym, refl, ap, ◌∙◌, subst, arith, length, take, drop, take-append-drop, get_or, set, replicate, zero, suc, true, false, ◌==◌}
 use Rattle.std.proofs.lemmas.Bool.Decides.{eqb_tells}
-use Rattle.std.proofs.lemmas.List.{take_more, take-set, drop-set, take_more_set}
+use Rattle.std.proofs.lemmas.List.{take_more, take-set, drop-set, take_more_set, drop_more, drop-drop}
 use Rattle.block_store.specs.Block.{Block, size, sizes}
 use Rattle.zone_bytes.specs.Decode.{zone_in}
 use Rattle.zone_bytes.specs.Lawful.{IsSound}
@@ -20,8 +20,24 @@ pub at-each : (S : ℕ → Block → Type 0) (x : ℕ) (blocks : List Block)
 at-each S x blocks f = at-map (λ _ _. Unit {0}) S x blocks (λ p b l u _. f p b l u)
     (at-all (λ _ _. Unit {0}) x blocks (λ p b l. tt))
 
+-- the first of some landmarks is no higher than where they end
+marks-below : (end : ℕ) (zone : List Block) (marks : List Landmark) → AreMarks end zone marks → next_of end marks ≤ end
+marks-below end zone [] a = omega arith
+marks-below end zone (m ∷ marks) a = let n = marks-below end zone marks a.3 in let r = a.2 in omega (arith, n, r)
+
+-- places that rise still rise once they are lowered
+lowered-order : (lo hi a b p q : ℕ) → a ≤ b → Lowered lo hi a p → Lowered lo hi b q → p ≤ q
+lowered-order lo hi a b p q l (inl x) (inl y) = let s = x.2 in let t = y.2 in omega (arith, s, t)
+lowered-order lo hi a b p q l (inl x) (inr y) =
+    let s = x.2 in let u = x.0 in let t = y.0 in omega (arith, s, u, t, l)
+lowered-order lo hi a b p q l (inr x) (inl y) = let s = x.0 in let t = y.2 in let h = y.1 in elim x.1 [
+  | inl u ↦ omega (arith, s, t, u)
+  | inr u ↦ absurd (omega (arith, u, l, h))
+]
+lowered-order lo hi a b p q l (inr x) (inr y) = let s = x.0 in let t = y.0 in omega (arith, s, t, l)
+
 module _ (lo hi : ℕ) (old new : List Block) (z : Replaced lo hi old new) (o : lo ≤ hi) where
-  at-low : Begins lo 0 new
+  pub at-low : Begins lo 0 new
   at-low = subst (Begins lo 0) (sym z.is) (begins-right lo 0 z.below (z.there ++ z.above)
       (subst (λ y. Begins lo y (z.there ++ z.above)) (let l = z.low in let e : lo ≡ 0 + sizes z.below = omega (arith, l) in e)
       (begins-here lo (z.there ++ z.above))))
@@ -99,16 +115,40 @@ module _ (lo hi : ℕ) (old new : List Block) (z : Replaced lo hi old new) (o : 
         (λ p b l u. high-in p b (omega (arith, l, i, j, s)))
         (subst (λ q. AtEach R (0 + sizes z.below + q) z.above) (sym s) r))))
 
+  -- landmarks above the stretch stay
+  pub marks-over : (end : ℕ) (marks : List Landmark) → hi ≤ end → hi ≤ next_of end marks → AreMarks end old marks
+      → AreMarks end new marks
+  marks-over end [] e u a = tt
+  marks-over end (m ∷ marks) e u a =
+      let r = a.2 in
+      let v : hi ≤ next_of end marks = omega (arith, u, r) in (
+        begins-lowered m.at m.at (inr (refl, inr u)) a.0,
+        bound-lowered m.most m.most m.at (next_of end marks) m.at (next_of end marks) (inr (refl, inr u))
+            (inr (refl, inr v)) (omega arith) (λ l _. omega (arith, l, u)) a.1,
+        r,
+        marks-over end marks e v a.3,
+      )
+
+  -- and so do those below it
+  pub marks-under : (end : ℕ) (marks : List Landmark) → end ≤ lo → AreMarks end old marks → AreMarks end new marks
+  marks-under end [] e a = tt
+  marks-under end (m ∷ marks) e a =
+      let r = a.2 in
+      let n = marks-below end old marks a.3 in
+      let u : next_of end marks ≤ lo = omega (arith, n, e) in
+      let l : m.at ≤ lo = omega (arith, r, u) in (
+        begins-lowered m.at m.at (inr (refl, inl l)) a.0,
+        bound-lowered m.most m.most m.at (next_of end marks) m.at (next_of end marks) (inr (refl, inl l))
+            (inr (refl, inl u)) (omega arith) (λ _ b. absurd (omega (arith, b, u))) a.1,
+        r,
+        marks-under end marks e a.3,
+      )
+
 -- landmarks of the zone that bytes spell
 module _ (xs : List ℕ) (first unused : ℕ) (i : IsSound xs first unused) where
   pub begins-way : (p : ℕ) → Begins p 0 (zone_in xs) → IsOnWay p xs
   begins-way p b = let r = parts p 0 (zone_in xs) b in
       let l = r.low in way-above xs first unused i r.below r.above p r.is (omega (arith, l))
-
-  pub marks-ways : (end : ℕ) (marks : List Landmark) → AreMarks end (zone_in xs) marks
-      → Each (λ m. IsOnWay m.at xs) marks
-  marks-ways end [] a = tt
-  marks-ways end (m ∷ marks) a = (begins-way m.at a.0, marks-ways end marks a.2)
 
   -- the zone is what is below a place and what is left from there on
   pub record Seen (p : ℕ) : Type 0 where
@@ -145,17 +185,34 @@ module _ (xs : List ℕ) (first unused : ℕ) (i : IsSound xs first unused) wher
       (subst (λ y. AtEach S y (left_in p xs)) (let k : p ≡ 0 + sizes s.below = omega (arith, l) in k) e))
 
 -- landmarks one after another
-pub marks-snoc : (end : ℕ) (zone : List Block) (front : List Landmark) (m : Landmark)
-    → AreMarks end zone (front ++ m ∷ []) → AreMarks m.at zone front × AreMarks end zone (m ∷ [])
-marks-snoc end zone [] m a = (tt, a)
-marks-snoc end zone (n ∷ []) m a = ((a.0, a.1, tt), a.2)
-marks-snoc end zone (n ∷ k ∷ front) m a = let r = marks-snoc end zone (k ∷ front) m a.2 in ((a.0, a.1, r.0), r.1)
+pub marks-split : (end : ℕ) (zone : List Block) (front back : List Landmark) → AreMarks end zone (front ++ back)
+    → AreMarks (next_of end back) zone front × AreMarks end zone back
+marks-split end zone [] back a = (tt, a)
+marks-split end zone (n ∷ []) back a = ((a.0, a.1, a.2, tt), a.3)
+marks-split end zone (n ∷ k ∷ front) back a =
+    let r = marks-split end zone (k ∷ front) back a.3 in ((a.0, a.1, a.2, r.0), r.1)
 
-pub marks-more : (end : ℕ) (zone : List Block) (front : List Landmark) (m : Landmark)
-    → AreMarks m.at zone front → AreMarks end zone (m ∷ []) → AreMarks end zone (front ++ m ∷ [])
-marks-more end zone [] m a b = b
-marks-more end zone (n ∷ []) m a b = (a.0, a.1, b)
-marks-more end zone (n ∷ k ∷ front) m a b = (a.0, a.1, marks-more end zone (k ∷ front) m a.2 b)
+pub marks-join : (end : ℕ) (zone : List Block) (front back : List Landmark) → AreMarks (next_of end back) zone front
+    → AreMarks end zone back → AreMarks end zone (front ++ back)
+marks-join end zone [] back a b = b
+marks-join end zone (n ∷ []) back a b = (a.0, a.1, a.2, b)
+marks-join end zone (n ∷ k ∷ front) back a b = (a.0, a.1, a.2, marks-join end zone (k ∷ front) back a.3 b)
+
+-- landmarks in two parts
+pub marks-parted : (end : ℕ) (zone : List Block) (marks : List Landmark) (n : ℕ) → AreMarks end zone marks
+    → AreMarks (next_of end (drop n marks)) zone (take n marks) × AreMarks end zone (drop n marks)
+marks-parted end zone marks n a = marks-split end zone (take n marks) (drop n marks)
+    (subst (AreMarks end zone) (sym (take-append-drop n marks)) a)
+
+pub marks-whole : (end : ℕ) (zone : List Block) (marks : List Landmark) (n at : ℕ) → at ≡ next_of end (drop n marks)
+    → AreMarks at zone (take n marks) → AreMarks end zone (drop n marks) → AreMarks end zone marks
+marks-whole end zone marks n at e a b = subst (AreMarks end zone) (take-append-drop n marks)
+    (marks-join end zone (take n marks) (drop n marks) (subst (λ k. AreMarks k zone (take n marks)) e a) b)
+
+-- the landmark at an index, as the first of those from there on
+pub mark-first : (end : ℕ) (marks : List Landmark) (i : ℕ) (d : Landmark) → i < length marks
+    → next_of end (drop i marks) ≡ (get_or marks i d).at
+mark-first end marks i d l = ap (next_of end) (drop_more marks i d l)
 
 -- the landmarks from one on are those of the new zone, and those below it still of the old one
 pub record Changing (lo hi : ℕ) (old new : List Block) (above : ℕ) (front back : List Landmark) : Type 0 where
@@ -165,11 +222,7 @@ pub record Changing (lo hi : ℕ) (old new : List Block) (above : ℕ) (front ba
   pub high : AreMarks 4294967295 new back
   pub first : above ≡ next_of 4294967295 back
 
-take-all : {A : Type 0} → (l : List A) → take (length l) l ≡ l
-take-all [] = refl
-take-all (x ∷ l) = ap (λ k. x ∷ k) (take-all l)
-
-drop-all : {A : Type 0} → (l : List A) → drop (length l) l ≡ []
+pub drop-all : {A : Type 0} → (l : List A) → drop (length l) l ≡ []
 drop-all [] = refl
 drop-all (x ∷ l) = drop-all l
 
@@ -193,6 +246,7 @@ unknown-marks zone l (suc n) = (
   begins-here 0 zone,
   at-each (AtMost 4294967295 0 (next_of 4294967295 (replicate n (record { at = 0; most = 4294967295 })))) 0 zone
       (λ p b _ u _ _. let f = free-size b in omega (arith, f, u, l)),
+  omega arith,
   unknown-marks zone l n,
 )
 
@@ -200,15 +254,18 @@ pub replaced-order : (lo hi : ℕ) (old new : List Block) → Replaced lo hi old
 replaced-order lo hi old new z = let h = z.high in omega (arith, h)
 
 module _ (lo hi : ℕ) (old new : List Block) where
-  pub changing-start : (marks : List Landmark) → hi ≤ 4294967295 → AreMarks 4294967295 old marks
-      → Changing lo hi old new 4294967295 (take (length marks) marks) (drop (length marks) marks)
-  changing-start marks h a = record {
-    next = 4294967295;
-    is = inr (refl, inr h);
-    low = subst (AreMarks 4294967295 old) (sym (take-all marks)) a;
-    high = subst (AreMarks 4294967295 new) (sym (drop-all marks)) tt;
-    first = ap (next_of 4294967295) (sym (drop-all marks));
-  }
+  pub changing-start : Replaced lo hi old new → lo ≤ hi → (above left : ℕ) (marks : List Landmark) → hi ≤ 4294967295
+      → above ≡ next_of 4294967295 (drop left marks) → hi ≤ next_of 4294967295 (drop left marks)
+      → AreMarks 4294967295 old marks → Changing lo hi old new above (take left marks) (drop left marks)
+  changing-start z o above left marks h e u a =
+      let r = marks-parted 4294967295 old marks left a in
+      record {
+        next = next_of 4294967295 (drop left marks);
+        is = inr (e, inr u);
+        low = r.0;
+        high = marks-over lo hi old new z o 4294967295 (drop left marks) h u r.1;
+        first = e;
+      }
 
   -- the last of the landmarks of the old zone
   pub last-mark : (above left : ℕ) (marks back : List Landmark) (d : Landmark) → 0 < left → left ≤ length marks
@@ -217,7 +274,7 @@ module _ (lo hi : ℕ) (old new : List Block) where
       × AreMarks g.next old (get_or marks (left - 1) d ∷ [])
   last-mark above left marks back d s l g =
       let e : left - 1 + 1 ≡ left = omega (arith, s) in
-      marks-snoc g.next old (take (left - 1) marks) (get_or marks (left - 1) d)
+      marks-split g.next old (take (left - 1) marks) (get_or marks (left - 1) d ∷ [])
       (subst (AreMarks g.next old) (ap (λ k. take k marks) (sym e)
       ∙ take_more marks (left - 1) d (omega (arith, s, l))) g.low)
 
@@ -240,6 +297,7 @@ module _ (lo hi : ℕ) (old new : List Block) where
         high = subst (AreMarks 4294967295 new) (sym q) (
           begins-lowered lo hi old new z o (get_or marks (left - 1) d).at m.at w n.0,
           subst (λ k. AtEach (AtMost m.most m.at k) 0 new) g.first (f g.next g.is n.1),
+          subst (λ k. m.at ≤ k) g.first (lowered-order lo hi (get_or marks (left - 1) d).at g.next m.at above n.2 w g.is),
           g.high,
         );
         first = sym (ap (next_of 4294967295) q);
@@ -251,16 +309,36 @@ module _ (lo hi : ℕ) (old new : List Block) where
       let e : left ≡ 0 = omega (arith, l) in
       subst (λ k. AreMarks 4294967295 new (drop k marks)) e g.high
 
+  -- those below the stretch aren't gone over
+  pub changing-below : Replaced lo hi old new → lo ≤ hi → (above left : ℕ) (marks : List Landmark) → above < lo
+      → Changing lo hi old new above (take left marks) (drop left marks) → AreMarks 4294967295 new marks
+  changing-below z o above left marks b g = marks-whole 4294967295 new marks left g.next (sym same ∙ g.first)
+      (marks-under lo hi old new z o g.next (take left marks) (omega (arith, same, b)) g.low) g.high
+    where
+      same : above ≡ g.next
+      same = elim g.is [
+        | inl w ↦ let k = w.2 in absurd (omega (arith, k, b))
+        | inr w ↦ w.0
+      ]
+
 -- new landmarks, one after another
 pub marks-next : (zone : List Block) (marks : List Landmark) (index from to most : ℕ) → index < length marks
-    → AreMarks from zone (take index marks) → Begins from 0 zone → AtEach (AtMost most from to) 0 zone
+    → AreMarks from zone (take index marks) → Begins from 0 zone → AtEach (AtMost most from to) 0 zone → from ≤ to
     → AreMarks to zone (take (index + 1) (set marks index (record { at = from; most = most })))
-marks-next zone marks index from to most l a b e =
+marks-next zone marks index from to most l a b e r =
     subst (AreMarks to zone) (sym (take_more_set marks index (record { at = from; most = most }) l))
-    (marks-more to zone (take index marks) (record { at = from; most = most }) a (b, e, tt))
+    (marks-join to zone (take index marks) (record { at = from; most = most } ∷ []) a (b, e, r, tt))
+
+-- and those that are still to come
+pub marks-left : (end : ℕ) (zone : List Block) (marks : List Landmark) (index : ℕ) (m : Landmark) → index < length marks
+    → AreMarks end zone (drop index marks) → AreMarks end zone (drop (index + 1) (set marks index m))
+marks-left end zone marks index m l a =
+    let d : Landmark = record { at = 0; most = 0 } in
+    subst (AreMarks end zone) (sym (sym (drop-drop 1 index (set marks index m)) ∙ ap (drop 1) (drop-set marks index m l)))
+    (subst (AreMarks end zone) (drop_more marks index d l) a).3
 
 pub mark-begins : (end : ℕ) (zone : List Block) (marks : List Landmark) (i : ℕ) (d : Landmark) → i < length marks
     → AreMarks end zone marks → Begins (get_or marks i d).at 0 zone
 mark-begins end zone [] i d l a = absurd (omega (arith, l))
 mark-begins end zone (m ∷ marks) zero d l a = a.0
-mark-begins end zone (m ∷ marks) (suc i) d l a = mark-begins end zone marks i d (omega (arith, l)) a.2
+mark-begins end zone (m ∷ marks) (suc i) d l a = mark-begins end zone marks i d (omega (arith, l)) a.3

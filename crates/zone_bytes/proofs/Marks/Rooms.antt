@@ -145,7 +145,7 @@ seek-on bytes zone mark m marks rest s e n =
       begins = a.0;
       below = n;
       bound = λ l. bound-room m.most bytes m.at (next_of 4294967295 rest) 0 zone l a.1;
-      marks = a.2;
+      marks = a.3;
     }
 
 pub finds-either : (xs : List ℕ) (first unused : ℕ) (i : IsSound xs first unused) (bytes : ℕ) (o : Option ℕ)

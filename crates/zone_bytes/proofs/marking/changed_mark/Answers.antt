@@ -15,6 +15,11 @@ returns-then-lo-at-clause-bound c = λ old next z n e.
       | then-lo-at-via-else-lo-at+else-above-lo+then-hi-lo w ↦ let t = w.if-hi-lo.true in omega (arith, t)
     ]
 
+pub returns-then-hi-lo-2-clause-bound : goal.returns-then-hi-lo-2-clause-bound
+returns-then-hi-lo-2-clause-bound c = λ old next z n e. let m = c.if-hi-lo.false in
+    bound-lowered c.args.lo c.args.hi old _ z c.requires.ordered c.args.mark.most (c.args.hi - c.args.lo) c.args.mark.at
+    next c.lowered_mark-at.result c.args.above c.lowered_mark-at.ensures n (omega (arith, m)) (λ _ _. omega arith) e
+
 pub largest_between-requires : goal.largest_between-requires
 largest_between-requires c =
     begins-way c.args.part.now.bytes c.requires.sound.0 c.requires.sound.1 c.requires.sound.2 c.lowered_mark-at.result

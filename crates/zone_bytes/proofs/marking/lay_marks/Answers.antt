@@ -1,0 +1,59 @@
+use Rattle.std.proofs.Common.{◌+◌, ◌≡◌, length, length-set, take, drop, refl, sym, ap, ◌∙◌, subst, arith}
+use Rattle.std.proofs.lemmas.List.{drop_more}
+use Rattle.zone_bytes.specs.Decode.{zone_in}
+use Rattle.zone_bytes.specs.Marks.{AreMarks, Begins, next_of}
+use Rattle.zone_bytes.specs.declared.landmark.Landmark.{Landmark}
+use Rattle.zone_bytes.proofs.Marks.Lowering.{begins-way, begins-further, bound-here, marks-parted, marks-whole, marks-next}
+use Rattle.zone_bytes.proofs.Marks.Lowering.{marks-left, mark-first, drop-all, equal-yes, equal-no}
+use Rattle.zone_bytes.proofs.marking.lay_marks.Goals as goal
+
+pub loop-index-init : goal.loop-index-init
+loop-index-init c =
+    let zone = zone_in c.args.part.now.bytes in
+    let marks = c.args.marks.now in
+    let e = c.place_of_mark-at.ensures in
+    let d : Landmark = record { at = 0; most = 0 } in
+    let p = marks-parted 4294967295 zone marks c.args.first c.requires.marks in (
+      refl,
+      subst (λ n. AreMarks n zone (take c.args.first marks)) (sym e) p.0,
+      p.1,
+      λ l. subst (λ n. Begins n 0 zone) (sym (e ∙ mark-first 4294967295 marks c.args.first d l))
+          (subst (AreMarks 4294967295 zone) (drop_more marks c.args.first d l) p.1).0,
+      λ k. e ∙ ap (λ n. next_of 4294967295 (drop n marks)) k ∙ ap (next_of 4294967295) (drop-all marks),
+    )
+
+pub returns-then-marks-index : goal.returns-then-marks-index
+returns-then-marks-index c =
+    let zone = zone_in c.args.part.now.bytes in
+    let i = c.loop-index.invariant in
+    let l = c.loop-index-test.true in
+    let n = i.0 in
+    let t = c.if-marks-index.true in
+    marks-whole 4294967295 zone c.loop-index.marks c.loop-index.index c.loop-index.at
+    (sym t ∙ sym (mark-first 4294967295 c.loop-index.marks c.loop-index.index (record { at = 0; most = 0 })
+    (omega (arith, l, n)))) i.1 i.2
+
+pub stretch_from-stretch-requires : goal.stretch_from-stretch-requires
+stretch_from-stretch-requires c =
+    let i = c.requires.sound in
+    let l = c.loop-index-test.true in
+    begins-way c.args.part.now.bytes i.0 i.1 i.2 c.loop-index.at (c.loop-index.invariant.3 (omega (arith, l)))
+
+pub loop-index-preserved : goal.loop-index-preserved
+loop-index-preserved c =
+    let i = c.requires.sound in
+    let xs = c.args.part.now.bytes in
+    let v = c.loop-index.invariant in
+    let l = c.loop-index-test.true in
+    let n = v.0 in
+    let b = v.3 (omega (arith, l)) in
+    let s = c.stretch_from-stretch in (
+      length-set c.loop-index.marks c.loop-index.index _ ∙ n,
+      marks-next (zone_in xs) c.loop-index.marks c.loop-index.index c.loop-index.at s.result.edge s.result.most
+          (omega (arith, l, n)) v.1 b (bound-here xs i.0 i.1 i.2 s.result.most c.loop-index.at s.result.edge b s.ensures.bound)
+          s.ensures.order,
+      marks-left 4294967295 (zone_in xs) c.loop-index.marks c.loop-index.index _ (omega (arith, l, n)) v.2,
+      λ k. begins-further xs i.0 i.1 i.2 c.loop-index.at s.result.edge b (s.ensures.edge
+          (equal-no (c.loop-index.index + 1) (length c.loop-index.marks) (omega (arith, k, n)))),
+      λ k. s.ensures.last (equal-yes (c.loop-index.index + 1) (length c.loop-index.marks) (omega (arith, k, n))),
+    )
