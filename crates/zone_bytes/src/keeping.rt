@@ -16,7 +16,7 @@ use raw_region::Part;
 
 /// How many landmarks a zone has: as many as it has pages. The search for room goes over all of them, and each
 /// change over the blocks of a page.
-const LANDMARKS: usize = 1024;
+const LANDMARKS: usize = 2048;
 
 /// Places of known blocks of a zone, one for each page of its bytes, and between each two of them a bound on the Free
 /// blocks. They lie beside the zone's bytes, and can be thrown away at any time.
@@ -74,14 +74,34 @@ impl Landmarks {
         ensures { AreOf self.new (zone_in part.now.bytes) }
     {
         let page = page_bytes(part);
-        let first = lo / page;
-        if first == hi / page {
+        if lo / page == hi / page {
             change_marks(&mut self.marks, part, lo, hi, free_behind(part, lo));
         } else {
-            change_marks(&mut self.marks, part, lo, hi, u32::MAX);
-            let index = LANDMARKS.min(first as usize);
-            let page_end = lo.saturating_sub(lo % page).saturating_add(page);
-            lay_marks(&mut self.marks, part, index, page_end, page, hi);
+            self.forget(part, lo, hi);
+            self.renew(part, lo, hi);
         }
+    }
+
+    /// Notes that the blocks from one place to another became others, and walks over none of them: no landmark stands
+    /// between the two until they are renewed.
+    pub fn forget(&mut self, part: &Part, lo: u32, hi: u32)
+        requires sound { (first : ℕ) × (unused : ℕ) × IsSound part.now.bytes first unused }
+        requires marks { (old : List Block) × Replaced lo hi old (zone_in part.now.bytes)
+            × AreOf self.old old }
+        ensures { AreOf self.new (zone_in part.now.bytes) }
+    {
+        change_marks(&mut self.marks, part, lo, hi, u32::MAX);
+    }
+
+    /// Puts the landmarks of the pages from one place to another where their blocks are, by one walk over these.
+    pub fn renew(&mut self, part: &Part, lo: u32, hi: u32)
+        requires sound { (first : ℕ) × (unused : ℕ) × IsSound part.now.bytes first unused }
+        requires marks { AreOf self.old (zone_in part.now.bytes) }
+        ensures { AreOf self.new (zone_in part.now.bytes) }
+    {
+        let page = page_bytes(part);
+        let first = LANDMARKS.min((lo / page) as usize);
+        let page_end = lo.saturating_sub(lo % page).saturating_add(page);
+        lay_marks(&mut self.marks, part, first, page_end, page, hi);
     }
 }

@@ -15,4 +15,4 @@ lay_marks-requires-clause-marks c =
     let i = c.requires.sound.2 in
     let s = sizes-length xs (zone_in xs) (slot_in xs) i.unused i.lays in
     let m = i.lays.small in
-    unknown-marks (zone_in xs) (omega (arith, s, m)) 1024
+    unknown-marks (zone_in xs) (omega (arith, s, m)) 2048
