@@ -130,7 +130,7 @@ impl RawZone {
         part
     }
 
-    /// Packs the run at a place, and counts nothing.
+    /// Packs the run at a place, counts nothing, and leaves no landmark in it.
     fn pack(&mut self, run: u32) -> PackedRun
         requires { IsSome (run_at run (zone_of self.old)) }
         ensures zone { IfSome (run_at run (zone_of self.old)) (λ r. zone_of self.new ≡ tidy (with_run settle r)) }
@@ -141,7 +141,7 @@ impl RawZone {
     {
         let stop = run + run_bytes_in(&mut walk_from(&self.part, run));
         let packed = settle_run(&mut self.part, run, stop);
-        self.marks.note(&self.part, run, stop);
+        self.marks.forget(&self.part, run, stop);
         packed
     }
 
@@ -290,6 +290,7 @@ impl BlockStore for RawZone {
 
     fn settle(&mut self, run: u32) {
         let packed = self.pack(run);
+        self.marks.renew(&self.part, run, packed.stop);
         self.moves = self.moves.saturating_add(u64::from(packed.lowered));
     }
 
@@ -298,6 +299,8 @@ impl BlockStore for RawZone {
         if run < packed.top {
             raise_run(&mut self.part, run, packed.top, packed.stop, bytes);
             self.marks.note(&self.part, run, packed.stop);
+        } else {
+            self.marks.renew(&self.part, run, packed.stop);
         }
         Ok(())
     }

@@ -2,13 +2,13 @@
 use Rattle.std.proofs.Common.{◌≡◌, ℕ, ◌+◌, Option, Some, None, cond, List, ◌++◌, refl, sym, ap, ◌∙◌, subst}
 use Rattle.std.proofs.Common.{append_assoc}
 use Rattle.std.specs.Option.{IfSome, IsSomeAnd}
-use Rattle.block_store.specs.Block.{Block, total, count, is_masters, free_of, free_sum, sizes, tidy}
+use Rattle.block_store.specs.Block.{Block, size, total, count, is_masters, free_of, free_sum, sizes, tidy}
 use Rattle.block_store.specs.Run.{RunSpot, run_at, with_run, settle}
 use Rattle.block_store.specs.Rest.{falling}
 use Rattle.block_store.specs.Slot.{Slot}
 use Rattle.block_store.specs.Inner.Packing.{Loose}
 use Rattle.block_store.proofs.Zone.Tidy.{Adds}
-use Rattle.block_store.proofs.Regroup.RunLists.{run_at-parts}
+use Rattle.block_store.proofs.Regroup.RunLists.{run_at-is, run_at-parts}
 use Rattle.block_store.proofs.Regroup.Packed.{settle-total}
 use Rattle.block_store.proofs.Regroup.Ends.{settled-tidy}
 use Rattle.block_store.proofs.Regroup.Lifted.{total-changed}
@@ -17,6 +17,8 @@ use Rattle.zone_bytes.specs.Decode.{zone_in}
 use Rattle.zone_bytes.specs.Table.{slot_in}
 use Rattle.zone_bytes.specs.Lawful.{IsSound}
 use Rattle.zone_bytes.specs.Placing.{lay_at}
+use Rattle.zone_bytes.specs.Marks.{Replaced}
+use Rattle.zone_bytes.proofs.Runs.Runs.{run_at-splits}
 use Rattle.zone_bytes.proofs.Laws.Lawful.{Made}
 use Rattle.zone_bytes.proofs.Runs.RunsAt.{if-run, one-run, settle-made}
 
@@ -32,23 +34,43 @@ the-packed (Some r) A P Q a p q = (r, refl, a, p, q)
 pub record ChangedRun (change : List Block → List Block) (zone : List Block) (r : RunSpot) (new : List ℕ)
     (first unused : ℕ) (table : ℕ → Slot) : Type 0 where
   pub made : Made new first unused (tidy (with_run change r)) table
+  pub is : zone_in new ≡ r.below ++ (change r.run ++ r.above)
+  pub span : sizes (change r.run) ≡ sizes r.run
   pub masters : count is_masters (zone_in new) ≡ count is_masters zone
   pub free : free_sum (tidy (with_run change r)) ≡ free_sum zone
 
 pub changed-run : (change : List Block → List Block) (place : ℕ) (zone : List Block) (r : RunSpot)
     → run_at place zone ≡ Some r
     → ((of : Block → ℕ) → Adds of → Loose r.run → total of (change r.run) ≡ total of r.run)
-    → (new : List ℕ) (first unused : ℕ) (table : ℕ → Slot) → Made new first unused (tidy (with_run change r)) table
-    → ChangedRun change zone r new first unused table
-changed-run change place zone r e keeps new first unused table m =
+    → (new : List ℕ) (first unused : ℕ) (table : ℕ → Slot) → tidy (with_run change r) ≡ with_run change r
+    → Made new first unused (tidy (with_run change r)) table → ChangedRun change zone r new first unused table
+changed-run change place zone r e keeps new first unused table t m =
     let l = (run_at-parts place zone r e).loose in
     let masters : Block → ℕ = λ b. cond (is_masters b) 1 0 in
     record {
       made = m;
+      is = m.zone ∙ t ∙ append_assoc r.below (change r.run) r.above;
+      span = keeps size (λ n k. refl) l;
       masters = ap (count is_masters) m.zone ∙ total-changed masters (λ n k. refl) change place zone r e
           (keeps masters (λ n k. refl) l);
       free = total-changed free_of (λ n k. refl) change place zone r e (keeps free_of (λ n k. refl) l);
     }
+
+-- so the blocks from the run's bottom to its top became others
+pub replaced-run : {change : List Block → List Block} {zone : List Block} {r : RunSpot} {new : List ℕ} {first unused : ℕ}
+    {table : ℕ → Slot} (place stop : ℕ) → tidy zone ≡ zone → run_at place zone ≡ Some r → stop ≡ place + sizes r.run
+    → ChangedRun change zone r new first unused table → Replaced place stop zone (zone_in new)
+replaced-run {change} {zone} {r} {new} place stop t e u d = record {
+  below = r.below;
+  here = r.run;
+  there = change r.run;
+  above = r.above;
+  was = sym (run_at-is place zone r e);
+  is = d.is;
+  low = (run_at-splits place zone r e).bottom;
+  high = sym u;
+  span = d.span;
+}
 
 -- a run is packed
 pub settled-run : (xs : List ℕ) (first unused : ℕ) (i : IsSound xs first unused) (place : ℕ) (r : RunSpot)
@@ -61,7 +83,7 @@ settled-run xs first unused i place r e stop t moves new d =
     sym (settled-tidy place (zone_in xs) r i.tidied e)
     ∙ ap tidy (sym (append_assoc r.below (settle r.run) r.above)) in (
       changed-run settle place (zone_in xs) r e (λ of adds l. settle-total of adds r.run l) new first unused
-          (slot_in xs)
+          (slot_in xs) (sym z ∙ sym (append_assoc r.below (settle r.run) r.above))
           (subst (λ k. Made new first unused k (slot_in xs)) z m.0),
       m.1,
     )

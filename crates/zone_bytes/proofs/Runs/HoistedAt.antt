@@ -174,7 +174,7 @@ module _ {xs : List ℕ} {first unused place top stop : ℕ} {old : List Block}
         ∙ sym (append_assoc r.below (high test r.run) r.above) in
         let tidy-is = tidy-change place old r k.is k.tidied (high test r.run) (apart-high test (λ n. refl) r.run) in
         changed-run (high test) place old r k.is (λ of adds l. high-total of adds number r.run l) new first unused
-        (slot_in xs)
+        (slot_in xs) tidy-is
         (subst (λ z. Made new first unused z (slot_in xs)) (sym tidy-is)
         (made new (with_run (high test) r) (slot_in xs) k.sound.unused
         (subst (λ z. Lays new z (slot_in xs) k.sound.unused) shape lays)

@@ -1,9 +1,9 @@
 -- A zone in bytes, one of whose runs was packed.
-use Rattle.std.proofs.Common.{◌≡◌, ℕ, ◌+◌, Option, Some, None, List, ◌++◌, cond, refl, sym, ap, ◌∙◌, subst}
+use Rattle.std.proofs.Common.{◌≡◌, ℕ, ◌+◌, Option, Some, None, List, ◌++◌, cond, refl, sym, ap, ◌∙◌, subst, arith}
 use Rattle.std.proofs.Common.{append_assoc}
 use Rattle.std.specs.Option.{IfSome, IsSomeAnd}
 use Rattle.raw_region.specs.Memory.{Bytes}
-use Rattle.block_store.specs.Block.{Block, count, is_masters, is_mover, free, free_of, free_sum, sizes, tidy}
+use Rattle.block_store.specs.Block.{Block, count, is_masters, is_mover, free, free_of, free_sum, size, sizes, tidy}
 use Rattle.block_store.specs.Run.{RunSpot, run_at, movers, settle, with_run}
 use Rattle.block_store.specs.Rest.{Rest, IsRest}
 use Rattle.block_store.specs.Slot.{Slot}
@@ -17,6 +17,7 @@ use Rattle.block_store.proofs.Regroup.RunLists.{run_at-parts}
 use Rattle.zone_bytes.specs.Layout.{Each}
 use Rattle.zone_bytes.specs.Settling.{InRun}
 use Rattle.zone_bytes.specs.Decode.{zone_in}
+use Rattle.zone_bytes.specs.Marks.{Replaced}
 use Rattle.zone_bytes.specs.Table.{Lays, slot_in}
 use Rattle.zone_bytes.specs.Lawful.{IsSound, IsKept}
 use Rattle.zone_bytes.specs.Beside.{KeepsPlace, rest_in}
@@ -100,6 +101,24 @@ module _ {xs : List ℕ} {first unused place top stop : ℕ} {old : List Block}
   pub kept-changed : (change : List Block → List Block) (new : List ℕ) (table : ℕ → Slot) (n : ℕ)
       → ChangedRun change old r new first unused table → n ≡ free_sum (zone_in xs) → IsKept new first unused n
   kept-changed change new table n d e = kept-made _ _ _ _ _ _ d.made (e ∙ free-packed ∙ sym d.free)
+
+  pub replaced-changed : (change : List Block → List Block) (new : List ℕ) (table : ℕ → Slot)
+      → ChangedRun change old r new first unused table → Replaced place stop (zone_in xs) (zone_in new)
+  replaced-changed change new table d =
+      let s = settle-total size (λ n m. refl) r.run loose in
+      let t = d.span in
+      let u = k.stop_is in
+      record {
+        below = r.below;
+        here = settle r.run;
+        there = change r.run;
+        above = r.above;
+        was = packed-zone;
+        is = d.is;
+        low = bottom;
+        high = omega (arith, s, u);
+        span = omega (arith, s, t);
+      }
 
 pub rest-changed : {first unused place top stop : ℕ} {old : List Block} (part after : Bytes)
     (k : IsPacked part.bytes first unused place top stop old) (change : List Block → List Block) (before : Rest)

@@ -96,7 +96,7 @@ module _ {xs : List ℕ} {first unused place top stop : ℕ} {old : List Block}
       (apart-low bytes r.run some some-movers) in
       changed-run (low (Free bytes)) place old r k.is (λ of adds l. low-total of adds bytes r.run l enough) new first
       unused
-      (slot_in xs) (subst (λ z. Made new first unused z (slot_in xs)) (sym tidy-is)
+      (slot_in xs) tidy-is (subst (λ z. Made new first unused z (slot_in xs)) (sym tidy-is)
       (made new (with_run (low (Free bytes)) r) (slot_in xs) k.sound.unused
       (subst (λ z. Lays new z (slot_in xs) k.sound.unused)
       (sym (append_assoc r.below (low (Free bytes) r.run) r.above)) lays)

@@ -1,10 +1,15 @@
 use Rattle.std.proofs.Common.{sym, ◌-◌, ◌∙◌, ap}
 use Rattle.block_store.specs.Block.{fresh}
 use Rattle.zone_bytes.proofs.FreshZones.FreshZone.{fresh-made, fresh-all, fresh-unused, free-fresh}
-use Rattle.zone_bytes.proofs.Marks.Owed.{with-unknown}
+use Rattle.zone_bytes.proofs.Marks.Owed.{with-marks}
 use Rattle.raw_zone.proofs.zone.RawZone.new.Goals as goal
 use Rattle.zone_bytes.proofs.Laws.Lawful.{kept-made}
 use Rattle.zone_bytes.specs.Fresh.{fresh_slots}
+
+pub of-marks-requires : goal.of-marks-requires
+of-marks-requires c = record {
+  sound = (16, 64, (fresh-made c.make_fresh.new.part.bytes c.len-end.result c.make_fresh.ensures.lays).sound);
+}
 
 pub invariant_of-result : goal.invariant_of-result
 invariant_of-result c = ((fresh-made c.make_fresh.new.part.bytes c.len-end.result c.make_fresh.ensures.lays).lawful, tt)
@@ -12,8 +17,8 @@ invariant_of-result c = ((fresh-made c.make_fresh.new.part.bytes c.len-end.resul
 pub invariant_of-result-2 : goal.invariant_of-result-2
 invariant_of-result-2 c =
     let end = c.len-end.result in
-    with-unknown _ _ _ _ _ (kept-made c.make_fresh.new.part.bytes 16 64 (end - 272) (fresh end) fresh_slots
-    (fresh-made c.make_fresh.new.part.bytes end c.make_fresh.ensures.lays) (sym (free-fresh end))) c.unknown.ensures
+    with-marks _ _ _ _ _ (kept-made c.make_fresh.new.part.bytes 16 64 (end - 272) (fresh end) fresh_slots
+    (fresh-made c.make_fresh.new.part.bytes end c.make_fresh.ensures.lays) (sym (free-fresh end))) c.of-marks.ensures
 
 pub returns-clause-zone : goal.returns-clause-zone
 returns-clause-zone c = (fresh-made c.make_fresh.new.part.bytes c.len-end.result c.make_fresh.ensures.lays).zone

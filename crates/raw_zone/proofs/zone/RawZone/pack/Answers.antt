@@ -9,8 +9,8 @@ use Rattle.zone_bytes.specs.Beside.{rest_in}
 use Rattle.zone_bytes.proofs.Laws.Lawful.{rest-made, kept-made}
 use Rattle.zone_bytes.proofs.Runs.RunsAt.{a-run, run-way, run-left, left-fits, run-fits, lay-bytes, may-settle}
 use Rattle.raw_zone.specs.Parted.{zone_of, rest_of}
-use Rattle.zone_bytes.proofs.Runs.Changed.{ChangedRun, if-one, settled-run}
-use Rattle.zone_bytes.proofs.Marks.Owed.{with-unknown}
+use Rattle.zone_bytes.proofs.Runs.Changed.{ChangedRun, if-one, settled-run, replaced-run}
+use Rattle.zone_bytes.proofs.Marks.Owed.{with-marks}
 use Rattle.raw_zone.proofs.zone.RawZone.pack.Goals as goal
 use Rattle.raw_zone.proofs.zone.RawZone.pack.Goals.{After-run_bytes_in, After-settle_run-packed}
 
@@ -77,14 +77,28 @@ done c =
     c.settle_run-packed.ensures.settled in
     (a.0, a.1, d.0, d.1, c.settle_run-packed.ensures.stop ∙ sym t)
 
+pub forget-requires-clause-sound : goal.forget-requires-clause-sound
+forget-requires-clause-sound c =
+    let d = done (goal.at.forget-requires-clause-sound c).After-settle_run-packed in
+    (c.self.inside.first, c.self.inside.unused, d.2.made.sound)
+
+pub forget-requires-clause-marks : goal.forget-requires-clause-marks
+forget-requires-clause-marks c =
+    let d = done (goal.at.forget-requires-clause-marks c).After-settle_run-packed in (
+      zone_in c.self.inside.part.bytes,
+      replaced-run c.args.run (c.args.run + c.run_bytes_in.result) c.self.invariant.sound.tidied d.1
+          (sym c.settle_run-packed.ensures.stop ∙ d.4) d.2,
+      c.self.invariant.marked,
+    )
+
 pub invariant_of-self-inside : goal.invariant_of-self-inside
 invariant_of-self-inside c = ((done (goal.at.invariant_of-self-inside c).After-settle_run-packed).2.made.lawful, tt)
 
 pub invariant_of-self : goal.invariant_of-self
 invariant_of-self c =
     let d = done (goal.at.invariant_of-self c).After-settle_run-packed in
-    with-unknown _ _ _ _ _ (kept-made _ _ _ _ _ _ d.2.made (c.self.invariant.free_is ∙ sym d.2.free))
-    c.unknown-self-inside.ensures
+    with-marks _ _ _ _ _ (kept-made _ _ _ _ _ _ d.2.made (c.self.invariant.free_is ∙ sym d.2.free))
+    c.forget.ensures
 
 pub returns-clause-zone : goal.returns-clause-zone
 returns-clause-zone c =

@@ -6,12 +6,12 @@ use Rattle.block_store.specs.Rest.{IsRest}
 use Rattle.zone_bytes.specs.Decode.{zone_in}
 use Rattle.zone_bytes.specs.Table.{slot_in}
 use Rattle.zone_bytes.proofs.Runs.Changed.{ChangedRun, if-one}
-use Rattle.zone_bytes.proofs.Runs.PackedAt.{IsPacked, is-packed, kept-changed, rest-changed}
+use Rattle.zone_bytes.proofs.Runs.PackedAt.{IsPacked, is-packed, kept-changed, rest-changed, replaced-changed}
 use Rattle.zone_bytes.proofs.Runs.HoistedAt.{slot-inside, hoist-bytes, may-hoist, hoist-changed}
 use Rattle.raw_zone.specs.Parted.{zone_of, rest_of, zone-tidied, zone-once}
-use Rattle.zone_bytes.proofs.Marks.Owed.{with-unknown}
+use Rattle.zone_bytes.proofs.Marks.Owed.{with-marks}
 use Rattle.raw_zone.proofs.zone.RawZoneBlockStore.hoist.Goals as goal
-use Rattle.raw_zone.proofs.zone.RawZoneBlockStore.hoist.Goals.{After-self, After-unknown-self-inside}
+use Rattle.raw_zone.proofs.zone.RawZoneBlockStore.hoist.Goals.{After-self, After-note-arg-2-1}
 
 abbrev Found : After-self → Type 0
 Found c = IsPacked c.self.inside.part.bytes c.self.inside.first c.self.inside.unused c.args.run
@@ -39,35 +39,49 @@ hoist_block-requires c =
       may-hoist a.0 c.args.number a.1 c.read_word-place.result c.read_word-place.ensures,
     )
 
-done : (c : After-unknown-self-inside) → (k : Found (goal.at.invariant_of-self-inside c).After-self)
+done : (c : After-note-arg-2-1) → (k : Found (goal.at.note-requires-clause-sound c).After-self)
     × ChangedRun (high (is_relocatable c.args.number)) (zone_of c.args.self.now) k.spot c.hoist_block.new.part.bytes
     c.self.inside.first c.self.inside.unused (slot_in c.self.inside.part.bytes)
 done c =
-    let a = found (goal.at.invariant_of-self-inside c).After-self in (
+    let a = found (goal.at.note-requires-clause-sound c).After-self in (
       a.0,
       hoist-changed a.0 c.args.number a.1 c.read_word-place.result c.read_word-place.ensures
           (zone-once c.args.self.now) c.hoist_block.new.part.bytes c.hoist_block.ensures.hoisted,
     )
 
+pub note-requires-clause-sound : goal.note-requires-clause-sound
+note-requires-clause-sound c =
+    let d = done (goal.at.note-requires-clause-sound c).After-note-arg-2-1 in
+    (c.self.inside.first, c.self.inside.unused, d.1.made.sound)
+
+pub note-requires-clause-marks : goal.note-requires-clause-marks
+note-requires-clause-marks c =
+    let d = done (goal.at.note-requires-clause-marks c).After-note-arg-2-1 in (
+      zone_in c.self.inside.part.bytes,
+      replaced-changed d.0 (high (is_relocatable c.args.number)) c.hoist_block.new.part.bytes
+          (slot_in c.self.inside.part.bytes) d.1,
+      c.self.invariant.marked,
+    )
+
 pub invariant_of-self-inside : goal.invariant_of-self-inside
-invariant_of-self-inside c = ((done (goal.at.invariant_of-self-inside c).After-unknown-self-inside).1.made.lawful, tt)
+invariant_of-self-inside c = ((done (goal.at.invariant_of-self-inside c).After-note-arg-2-1).1.made.lawful, tt)
 
 pub invariant_of-self : goal.invariant_of-self
 invariant_of-self c =
-    let d = done (goal.at.invariant_of-self c).After-unknown-self-inside in
-    with-unknown _ _ _ _ _ (kept-changed d.0 (high (is_relocatable c.args.number)) c.hoist_block.new.part.bytes
-    (slot_in c.self.inside.part.bytes) c.self.inside.free d.1 c.self.invariant.free_is) c.unknown-self-inside.ensures
+    let d = done (goal.at.invariant_of-self c).After-note-arg-2-1 in
+    with-marks _ _ _ _ _ (kept-changed d.0 (high (is_relocatable c.args.number)) c.hoist_block.new.part.bytes
+    (slot_in c.self.inside.part.bytes) c.self.inside.free d.1 c.self.invariant.free_is) c.note.ensures
 
 pub returns-clause-zone : goal.returns-clause-zone
 returns-clause-zone c =
-    let d = done (goal.at.returns-clause-zone c).After-unknown-self-inside in
+    let d = done (goal.at.returns-clause-zone c).After-note-arg-2-1 in
     if-one (run_at c.args.run (zone_of c.args.self.now))
     (λ r. zone_in c.hoist_block.new.part.bytes ≡ tidy (with_run (high (is_relocatable c.args.number)) r)) d.0.spot
     d.0.is d.1.made.zone
 
 pub returns-clause-rest : goal.returns-clause-rest
 returns-clause-rest c =
-    let d = done (goal.at.returns-clause-rest c).After-unknown-self-inside in
+    let d = done (goal.at.returns-clause-rest c).After-note-arg-2-1 in
     rest-changed c.self.inside.part c.hoist_block.new.part d.0 (high (is_relocatable c.args.number))
     (rest_of c.args.self.now) c.self.inside.moves d.1
     (subst (λ v. IsRest (rest_of c.args.self.now) (rest_of v)) (sym c.self.view_is) c.pack-packed.ensures.rest)

@@ -10,7 +10,7 @@ use Rattle.zone_bytes.proofs.Places.Options.{if-spot, a-spot}
 use Rattle.zone_bytes.proofs.Joined.Handles.{Gained, gained-fits, gained-kept, gained-rest}
 use Rattle.zone_bytes.proofs.Joined.PurgeStarts.{spot-at, may-purge, above-gained}
 use Rattle.raw_zone.specs.Parted.{zone_of, rest_of}
-use Rattle.zone_bytes.proofs.Marks.Owed.{with-unknown}
+use Rattle.zone_bytes.proofs.Marks.Owed.{with-marks}
 use Rattle.raw_zone.proofs.zone.RawZoneBlockStore.purge_after.Goals as goal
 use Rattle.raw_zone.proofs.zone.RawZoneBlockStore.purge_after.Goals.{After-self, After-purge_above}
 
@@ -45,12 +45,21 @@ pub overflow_add-self : goal.overflow_add-self
 overflow_add-self c = let f = gained-fits _ _ _ _ _ _ (done c) c.self.inside.free c.self.invariant.free_is in
     omega (arith, f)
 
+pub of-self-inside-requires : goal.of-self-inside-requires
+of-self-inside-requires c = record {
+  sound = (
+    c.self.inside.first,
+    c.self.inside.unused,
+    (done (goal.at.of-self-inside-requires c).After-purge_above).made.sound,
+  );
+}
+
 pub invariant_of-self-inside : goal.invariant_of-self-inside
 invariant_of-self-inside c = ((done (goal.at.invariant_of-self-inside c).After-purge_above).made.lawful, tt)
 
 pub invariant_of-self : goal.invariant_of-self
-invariant_of-self c = with-unknown _ _ _ _ _ (gained-kept _ _ _ _ _ _ (done (goal.at.invariant_of-self c).After-purge_above)
-    c.self.inside.free c.self.invariant.free_is) c.unknown-self-inside.ensures
+invariant_of-self c = with-marks _ _ _ _ _ (gained-kept _ _ _ _ _ _ (done (goal.at.invariant_of-self c).After-purge_above)
+    c.self.inside.free c.self.invariant.free_is) c.of-self-inside.ensures
 
 pub returns-clause-zone : goal.returns-clause-zone
 returns-clause-zone c =

@@ -1,4 +1,4 @@
-use Rattle.std.proofs.Common.{◌≡◌, ◌∙◌, ◌+◌, ◌≤◌, IsTrue, sym, subst, arith}
+use Rattle.std.proofs.Common.{◌≡◌, ◌∙◌, ◌+◌, ◌≤◌, IsTrue, sym, ap, subst, arith}
 use Rattle.std.specs.Option.{IfSome}
 use Rattle.block_store.specs.Block.{Free, free_sum, sizes, tidy}
 use Rattle.block_store.specs.Run.{run_at, movers, settle, low, has_free, with_run}
@@ -8,12 +8,12 @@ use Rattle.block_store.proofs.Regroup.Lifted.{no-movers, low-none}
 use Rattle.zone_bytes.specs.Decode.{zone_in}
 use Rattle.zone_bytes.specs.Table.{slot_in}
 use Rattle.zone_bytes.proofs.Runs.Changed.{ChangedRun, if-one, the-packed}
-use Rattle.zone_bytes.proofs.Runs.PackedAt.{IsPacked, is-packed, kept-changed, rest-changed}
+use Rattle.zone_bytes.proofs.Runs.PackedAt.{IsPacked, is-packed, kept-changed, rest-changed, replaced-changed}
 use Rattle.zone_bytes.proofs.Runs.RaisedAt.{raise-bytes, may-raise, raise-changed}
 use Rattle.raw_zone.specs.Parted.{zone_of, rest_of, zone-tidied}
-use Rattle.zone_bytes.proofs.Marks.Owed.{with-unknown}
+use Rattle.zone_bytes.proofs.Marks.Owed.{with-marks}
 use Rattle.raw_zone.proofs.zone.RawZoneBlockStore.raise.Goals as goal
-use Rattle.raw_zone.proofs.zone.RawZoneBlockStore.raise.Goals.{After-self, After-unknown-self-inside}
+use Rattle.raw_zone.proofs.zone.RawZoneBlockStore.raise.Goals.{After-self, After-note-arg-then-run-packed-1}
 
 abbrev Found : After-self → Type 0
 Found c = IsPacked c.self.inside.part.bytes c.self.inside.first c.self.inside.unused c.args.run
@@ -38,35 +38,51 @@ raise_run-requires c =
       may-raise a.0 c.args.bytes c.requires.some c.requires.even a.1,
     )
 
-done : (c : After-unknown-self-inside) → (k : Found (goal.at.invariant_of-self-inside c).After-self)
+done : (c : After-note-arg-then-run-packed-1) → (k : Found (goal.at.note-requires-clause-sound c).After-self)
     × ChangedRun (low (Free c.args.bytes)) (zone_of c.args.self.now) k.spot c.raise_run.new.part.bytes
     c.self.inside.first c.self.inside.unused (slot_in c.self.inside.part.bytes)
 done c =
-    let a = found (goal.at.invariant_of-self-inside c).After-self in (
+    let a = found (goal.at.note-requires-clause-sound c).After-self in (
       a.0,
       raise-changed a.0 c.args.bytes c.requires.some c.requires.even a.1 c.if-run-packed.true
           c.raise_run.new.part.bytes c.raise_run.ensures.raised,
     )
 
+pub note-requires-clause-sound : goal.note-requires-clause-sound
+note-requires-clause-sound c =
+    let d = done (goal.at.note-requires-clause-sound c).After-note-arg-then-run-packed-1 in
+    (c.self.inside.first, c.self.inside.unused, d.1.made.sound)
+
+pub note-requires-clause-marks : goal.note-requires-clause-marks
+note-requires-clause-marks c =
+    let d = done (goal.at.note-requires-clause-marks c).After-note-arg-then-run-packed-1 in (
+      zone_in c.self.inside.part.bytes,
+      replaced-changed d.0 (low (Free c.args.bytes)) c.raise_run.new.part.bytes (slot_in c.self.inside.part.bytes) d.1,
+      c.self.invariant.marked,
+    )
+
+pub renew-requires-clause-sound : goal.renew-requires-clause-sound
+renew-requires-clause-sound c = (c.self.inside.first, c.self.inside.unused, c.self.invariant.sound)
+
 pub invariant_of-self-inside : goal.invariant_of-self-inside
-invariant_of-self-inside c = ((done (goal.at.invariant_of-self-inside c).After-unknown-self-inside).1.made.lawful, tt)
+invariant_of-self-inside c = ((done (goal.at.invariant_of-self-inside c).After-note-arg-then-run-packed-1).1.made.lawful, tt)
 
 pub invariant_of-self : goal.invariant_of-self
 invariant_of-self c =
-    let d = done (goal.at.invariant_of-self c).After-unknown-self-inside in
-    with-unknown _ _ _ _ _ (kept-changed d.0 (low (Free c.args.bytes)) c.raise_run.new.part.bytes (slot_in c.self.inside.part.bytes)
-    c.self.inside.free d.1 c.self.invariant.free_is) c.unknown-self-inside.ensures
+    let d = done (goal.at.invariant_of-self c).After-note-arg-then-run-packed-1 in
+    with-marks _ _ _ _ _ (kept-changed d.0 (low (Free c.args.bytes)) c.raise_run.new.part.bytes (slot_in c.self.inside.part.bytes)
+    c.self.inside.free d.1 c.self.invariant.free_is) c.note.ensures
 
 pub returns-then-run-packed-clause-ok : goal.returns-then-run-packed-clause-ok
 returns-then-run-packed-clause-ok c =
-    let d = done (goal.at.returns-then-run-packed-clause-ok c).After-unknown-self-inside in
+    let d = done (goal.at.returns-then-run-packed-clause-ok c).After-note-arg-then-run-packed-1 in
     if-one (run_at c.args.run (zone_of c.args.self.now))
     (λ r. zone_in c.raise_run.new.part.bytes ≡ tidy (with_run (low (Free c.args.bytes)) r)) d.0.spot d.0.is
     d.1.made.zone
 
 pub returns-then-run-packed-clause-rest : goal.returns-then-run-packed-clause-rest
 returns-then-run-packed-clause-rest c =
-    let d = done (goal.at.returns-then-run-packed-clause-rest c).After-unknown-self-inside in
+    let d = done (goal.at.returns-then-run-packed-clause-rest c).After-note-arg-then-run-packed-1 in
     rest-changed c.self.inside.part c.raise_run.new.part d.0 (low (Free c.args.bytes)) (rest_of c.args.self.now)
     c.self.inside.moves d.1 (subst (λ v. IsRest (rest_of c.args.self.now) (rest_of v)) (sym c.self.view_is)
     c.pack-packed.ensures.rest) c.raise_run.ensures.same
@@ -82,5 +98,5 @@ returns-else-run-packed-clause-ok c =
     let enough = free-enough c.args.bytes (zone_of c.args.self.now) c.args.run a.0 a.1 c.requires.run in
     let t = a.4 in
     let l = c.if-run-packed.false in
-    if-one o (λ r. zone_of c.pack-packed.new.self ≡ tidy (with_run (low (Free c.args.bytes)) r)) a.0 a.1
-    (a.3 ∙ sym (low-none c.args.bytes a.0 c.requires.some enough (no-movers a.0.run (omega (arith, t, l)))))
+    if-one o (λ r. zone_in c.self.inside.part.bytes ≡ tidy (with_run (low (Free c.args.bytes)) r)) a.0 a.1
+    (ap zone_of c.self.view_is ∙ a.3 ∙ sym (low-none c.args.bytes a.0 c.requires.some enough (no-movers a.0.run (omega (arith, t, l)))))

@@ -12,7 +12,7 @@ use Rattle.zone_bytes.proofs.Placed.Standing.{Standing}
 use Rattle.zone_bytes.proofs.Placed.Sizes.{HasRoom, room-at}
 use Rattle.zone_bytes.proofs.Placed.Resized.{resize-made, cut-zone, grown-zone}
 use Rattle.raw_zone.specs.Parted.{zone_of, rest_of}
-use Rattle.zone_bytes.proofs.Marks.Owed.{with-unknown}
+use Rattle.zone_bytes.proofs.Marks.Owed.{with-marks}
 use Rattle.raw_zone.proofs.zone.RawZoneBlockStore.resize.Goals as goal
 use Rattle.raw_zone.proofs.zone.RawZoneBlockStore.resize.Goals.{After-resize_block-self-inside}
 
@@ -25,6 +25,20 @@ there c =
     c.self.invariant.sound
     (subst (λ v. IsSomeAnd (spot_at c.args.place (zone_of v)) (λ s. HasRoom c.args.bytes s))
     (sym c.self.view_is) c.requires)
+
+pub of-self-inside-requires : goal.of-self-inside-requires
+of-self-inside-requires c =
+    let a = there (goal.at.of-self-inside-requires c).After-resize_block-self-inside in
+    record {
+      sound = (
+        c.self.inside.first,
+        c.self.inside.unused,
+        (resize-made c.self.inside.part.bytes c.resize_block-self-inside.new.part.bytes c.self.inside.first
+            c.self.inside.unused
+            c.args.place c.args.bytes c.self.invariant.sound a.0 a.1 a.3 a.2 c.resize_block-self-inside.ensures.cut
+            c.resize_block-self-inside.ensures.grown).made.sound,
+      );
+    }
 
 pub invariant_of-self-inside : goal.invariant_of-self-inside
 invariant_of-self-inside c =
@@ -39,13 +53,13 @@ invariant_of-self-inside c =
 pub invariant_of-self : goal.invariant_of-self
 invariant_of-self c =
     let a = there (goal.at.invariant_of-self c).After-resize_block-self-inside in
-    with-unknown _ _ _ _ _ (record {
+    with-marks _ _ _ _ _ (record {
       sound = (resize-made c.self.inside.part.bytes c.resize_block-self-inside.new.part.bytes c.self.inside.first
           c.self.inside.unused
           c.args.place c.args.bytes c.self.invariant.sound a.0 a.1 a.3 a.2 c.resize_block-self-inside.ensures.cut
           c.resize_block-self-inside.ensures.grown).made.sound;
       free_is = c.resize_block-self-inside.ensures.free;
-    }) c.unknown-self-inside.ensures
+    }) c.of-self-inside.ensures
 
 pub returns-clause-cut : goal.returns-clause-cut
 returns-clause-cut c =
