@@ -352,8 +352,9 @@ impl BlockStore for RawZone {
     }
 
     fn resize(&mut self, place: u32, bytes: u32) -> Result<(), AllocError> {
-        self.free = resize_block(&mut self.part, place, bytes, self.free);
-        self.marks = Landmarks::of(&self.part);
+        let resized = resize_block(&mut self.part, place, bytes, self.free);
+        self.free = resized.free;
+        self.marks.note(&self.part, place, resized.top);
         Ok(())
     }
 

@@ -46,7 +46,7 @@ pub use pointing::lead_run;
 pub use purging::{purge_above, purge_from};
 pub use raising::raise_run;
 pub use raw_walk::{RawWalk, walk_from};
-pub use resizing::{free_behind, resize_block};
+pub use resizing::{ResizedBlock, free_behind, resize_block};
 pub use settling::{PackedRun, settle_run};
 pub use slots::{give_slot, take_slot};
 pub use words::{read_header, read_word, write_header, write_word};

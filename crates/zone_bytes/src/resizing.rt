@@ -9,6 +9,7 @@ ghost use Rattle.zone_bytes.specs.Table.{Lays, slot_in};
 ghost use Rattle.zone_bytes.specs.Lawful.{IsSound};
 ghost use Rattle.zone_bytes.specs.Stepping.{left_in, IsOnWay};
 ghost use Rattle.zone_bytes.specs.Laying.{free_first};
+ghost use Rattle.zone_bytes.specs.Marks.{Replaced};
 ghost use Rattle.zone_bytes.specs.Beside.{KeepsPlace};
 
 use crate::carving::padded_size;
@@ -34,9 +35,18 @@ pub fn free_behind(part: &Part, at: u32) -> u32
     }
 }
 
+/// What is told of a block that was given another size.
+#[derive(Clone, Copy, Debug)]
+pub struct ResizedBlock {
+    /// How many bytes of the zone are Free.
+    pub free: u32,
+    /// Where the blocks end that became others.
+    pub top: u32,
+}
+
 /// Gives the block at a place another size: cuts it where it stands, or lets it grow into the Free block that
-/// follows it. New bytes are 0. Answers how many bytes are Free then, where `free` were.
-pub fn resize_block(part: &mut Part, place: u32, bytes: u32, free: u32) -> u32
+/// follows it. New bytes are 0. There were `free` Free bytes.
+pub fn resize_block(part: &mut Part, place: u32, bytes: u32, free: u32) -> ResizedBlock
     requires sound { (first : ℕ) × (unused : ℕ) × IsSound part.old.bytes first unused }
     requires free { free ≡ free_sum (zone_in part.old.bytes) }
     requires room { IsSomeAnd (spot_at place (zone_in part.old.bytes)) (λ s.
@@ -49,11 +59,13 @@ pub fn resize_block(part: &mut Part, place: u32, bytes: u32, free: u32) -> u32
         IfSome (spot_at place (zone_in part.old.bytes)) (λ s. size s.here < size (resized bytes s.here) →
         IfSome (grow_up (resized bytes s.here) s) (λ after.
         Lays part.new.bytes after (slot_in part.old.bytes) i.unused)) }
-    ensures free { result ≡ free_sum (zone_in part.new.bytes) }
+    ensures free { result.free ≡ free_sum (zone_in part.new.bytes) }
+    ensures replaced { (first unused : ℕ) → IsSound part.old.bytes first unused →
+        Replaced place result.top (zone_in part.old.bytes) (zone_in part.new.bytes) }
 {
     let header = read_header(part, place);
     if !has_content(header.tag) {
-        return free;
+        return ResizedBlock { free, top: place };
     }
     let end = place + header.size;
     let top = end + free_behind(part, end);
@@ -65,5 +77,8 @@ pub fn resize_block(part: &mut Part, place: u32, bytes: u32, free: u32) -> u32
         flags: header.flags,
     };
     lay_block(part, place, top, sized, header.logical);
-    free + header.size - sized.size
+    ResizedBlock {
+        free: free + header.size - sized.size,
+        top,
+    }
 }

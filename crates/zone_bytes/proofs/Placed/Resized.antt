@@ -1,8 +1,11 @@
 -- The zone in bytes after a block was given another size.
-use Rattle.std.proofs.Common.{◌≡◌, ℕ, ◌-◌, ◌<◌, ◌≤◌, ◌⊎◌, inl, inr, Some, List, ◌∷◌, ◌++◌, cond}
+use Rattle.std.proofs.Common.{◌≡◌, ℕ, ◌-◌, ◌<◌, ◌≤◌, ◌⊎◌, ◌+◌, inl, inr, false, Some, List, [], ◌∷◌, ◌++◌, cond}
 use Rattle.std.proofs.Common.{refl, sym, ap, ◌∙◌, subst, arith}
 use Rattle.std.specs.Option.{IfSome}
-use Rattle.block_store.specs.Block.{Block, Free, size, count, is_masters, resized}
+use Rattle.block_store.specs.Block.{Block, Free, free, size, count, is_masters, resized}
+use Rattle.block_store.specs.Inner.Stretch.{is_free}
+use Rattle.block_store.proofs.Zone.Apart.{apart-above}
+use Rattle.block_store.proofs.Content.Sized.{Heading, cut-sized, grown-sized}
 use Rattle.block_store.specs.Room.{Spot, spot_at, filled}
 use Rattle.block_store.specs.Grow.{grow_up}
 use Rattle.block_store.proofs.Zone.Apart.{tidy-tidy}
@@ -15,7 +18,10 @@ use Rattle.zone_bytes.specs.Lawful.{IsSound}
 use Rattle.zone_bytes.proofs.Laws.Lawful.{Made, made}
 use Rattle.zone_bytes.proofs.Places.Options.{the-if, if-spot, one-spot}
 use Rattle.zone_bytes.proofs.Placed.Standing.{Standing}
-use Rattle.zone_bytes.proofs.Placed.Sizes.{HasRoom, some-blocks}
+use Rattle.zone_bytes.specs.Laying.{free_first, past_free}
+use Rattle.zone_bytes.specs.Marks.{Replaced}
+use Rattle.zone_bytes.proofs.Tiles.Keeping.{span-free}
+use Rattle.zone_bytes.proofs.Placed.Sizes.{HasRoom, some-blocks, headed-above}
 
 -- the blocks afterwards, as the block was cut or has grown
 pub record Resized (xs now : List ℕ) (first unused n : ℕ) (s : Spot) : Type 0 where
@@ -88,3 +94,49 @@ module _ (xs now : List ℕ) (first unused place n : ℕ) (i : IsSound xs first 
       (zone_in xs)) s t e q)
       (λ more. subst (λ bs. IfSome (grow_up new s) (λ after. bs ≡ after)) (sym resize-made.made.zone)
       (resize-made.grown more)))
+
+  -- so the blocks from the place up to the top of the Free block above became others
+  pub resize-replaced : is_free new ≡ false → size new ≤ size s.here + free_first s.above
+      → Replaced place (place + size s.here + free_first s.above) (zone_in xs) (zone_in now)
+  resize-replaced solid fits =
+      let m = free_first s.above in
+      let k = size s.here + m - size new in
+      let f = span-free m in
+      let g = span-free k in
+      record {
+        below = s.below;
+        here = s.here ∷ free m;
+        there = new ∷ free k;
+        above = past_free s.above;
+        was = at.whole ∙ ap (λ l. s.below ++ s.here ∷ l) heading.is;
+        is = resize-made.made.zone ∙ elim (less_or_more (size new) (size s.here)) [
+          | inl le ↦ resize-made.cut le ∙ cut-sized new solid s at.apart m (past_free s.above) heading le
+          | inr more ↦
+              let g = some-blocks (grow_up new s) (elim room [ inl le ↦ absurd (omega (arith, le, more)) | inr is ↦ is ]) in
+              let e : resize-made.blocks ≡ g.0 =
+              subst (λ o. IfSome o (λ after. resize-made.blocks ≡ after)) g.1 (resize-made.grown more) in
+              e ∙ grown-sized new solid s at.apart m (past_free s.above) heading g.0 more g.1
+        ];
+        low = at.low;
+        high = omega (arith, f);
+        span = omega (arith, f, g, fits);
+      }
+    where
+      heading : Heading s.above (free_first s.above) (past_free s.above)
+      heading = headed-above s.above
+          (apart-above (s.here ∷ []) s.above (apart-above s.below (s.here ∷ s.above) at.apart))
+
+-- a block that stays as it is
+pub kept-replaced : (xs : List ℕ) (place : ℕ) (s : Spot) → Standing xs place s
+    → Replaced place place (zone_in xs) (zone_in xs)
+kept-replaced xs place s at = record {
+  below = s.below;
+  here = [];
+  there = [];
+  above = s.here ∷ s.above;
+  was = at.whole;
+  is = at.whole;
+  low = at.low;
+  high = (let e : place + 0 ≡ place = omega arith in e);
+  span = refl;
+}

@@ -75,16 +75,16 @@ abbrev Holds : Block → Type 0
 Holds b = (kind b % 2 == 1) ≡ true
 
 -- what stays of a block that holds bytes
-record Same (n place : ℕ) (b : Block) : Type 0 where
+pub record Same (n place : ℕ) (b : Block) : Type 0 where
   no_masters : is_masters b ≡ false
   held : is_free b ≡ false
-  solid : is_free (resized n b) ≡ false
+  pub solid : is_free (resized n b) ≡ false
   still_none : is_masters (resized n b) ≡ false
   names : names_of (resized n b) ≡ names_of b
   placed : IsPlaced place b → IsPlaced place (resized n b)
-  size : size (resized n b) ≡ padded n
+  pub size : size (resized n b) ≡ padded n
 
-same-of : (n place : ℕ) (b : Block) → Holds b → Same n place b
+pub same-of : (n place : ℕ) (b : Block) → Holds b → Same n place b
 same-of n place (Free m) k = absurd (false≢true k)
 same-of n place (Fixed id content) k =
     record {

@@ -1,9 +1,15 @@
-use Rattle.std.proofs.Common.{◌≡◌, ◌%◌, ◌==◌, ◌∙◌, false, refl, ap, sym, arith}
+use Rattle.std.proofs.Common.{◌≡◌, ◌+◌, ◌%◌, ◌==◌, ◌∙◌, false, refl, ap, sym, subst, arith}
+use Rattle.block_store.specs.Block.{size}
+use Rattle.zone_bytes.specs.Decode.{zone_in}
+use Rattle.zone_bytes.specs.Laying.{free_first}
+use Rattle.zone_bytes.specs.Marks.{Replaced}
+use Rattle.zone_bytes.specs.Stepping.{left_in}
+use Rattle.zone_bytes.proofs.Placed.Resized.{resize-replaced, kept-replaced}
 use Rattle.mac_words.specs.Size.{padded}
 use Rattle.heap_words.specs.Headers.{tag_number}
 use Rattle.zone_bytes.proofs.Places.Stepped.{next-header}
 use Rattle.zone_bytes.proofs.Placed.Sizes.{Read, room-at, size-is, kind-is, way-behind, fits, ends, may-size, cut-lays}
-use Rattle.zone_bytes.proofs.Placed.Sizes.{grown-lays, free-sized, kept-cut, kept-grown, cut-if, grown-if}
+use Rattle.zone_bytes.proofs.Placed.Sizes.{grown-lays, free-sized, kept-cut, kept-grown, cut-if, grown-if, same-of}
 use Rattle.zone_bytes.proofs.resizing.resize_block.Goals as goal
 
 pub read_header-header-requires-clause-within : goal.read_header-header-requires-clause-within
@@ -194,3 +200,30 @@ returns-clause-free c =
     c.padded_size.result c.free_behind.ensures c.padded_size.ensures
     c.requires.sound.0 c.requires.sound.1 c.requires.sound.2 c.args.free c.requires.free in
     rw c.lay_block.ensures.bytes q.2
+
+pub returns-then-not-has_content-clause-replaced : goal.returns-then-not-has_content-clause-replaced
+returns-then-not-has_content-clause-replaced c = λ first unused i.
+    let a = room-at c.args.part.now.bytes first unused c.args.place c.args.bytes i c.requires.room in
+    kept-replaced c.args.part.now.bytes c.args.place a.0 a.3
+
+pub returns-clause-replaced : goal.returns-clause-replaced
+returns-clause-replaced c = λ first unused i.
+    let xs = c.args.part.now.bytes in
+    let a = room-at xs first unused c.args.place c.args.bytes i c.requires.room in
+    let e = c.read_header-header.ensures in
+    let h = c.read_header-header.result in
+    let r : Read h c.args.place xs =
+    record { first = e.first; even = e.size; long = e.logical; named = e.slot; marked = e.flags } in
+    let o = sym c.has_content.ensures ∙ c.if-not-has_content.false in
+    let z = size-is xs c.args.place c.args.bytes a.0 a.3 h r in
+    let b = c.free_behind.result in
+    let m : b ≡ free_first a.0.above = c.free_behind.ensures
+    ∙ ap (λ n. free_first (left_in (c.args.place + n) xs)) z ∙ ap free_first a.3.left_above in
+    let holds = ap (λ t. t % 2 == 1) (sym (kind-is xs c.args.place c.args.bytes a.0 a.3 h r)) ∙ o in
+    let same = same-of c.args.bytes c.args.place a.0.here holds in
+    let f = fits xs c.args.place c.args.bytes a.0 a.3 h r o a.2 b (padded c.args.bytes) c.free_behind.ensures refl in
+    let y = same.size in
+    subst (λ t. Replaced c.args.place t (zone_in xs) (zone_in c.lay_block.new.part.bytes))
+    (let t : c.args.place + size a.0.here + free_first a.0.above ≡ c.args.place + h.size + b = omega (arith, z, m) in t)
+    (resize-replaced xs c.lay_block.new.part.bytes first unused c.args.place c.args.bytes i a.0 a.1 a.3 a.2 (returns-clause-cut c)
+    (returns-clause-grown c) same.solid (omega (arith, y, f, z, m)))

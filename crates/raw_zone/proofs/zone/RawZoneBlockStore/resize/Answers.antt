@@ -14,10 +14,10 @@ use Rattle.zone_bytes.proofs.Placed.Resized.{resize-made, cut-zone, grown-zone}
 use Rattle.raw_zone.specs.Parted.{zone_of, rest_of}
 use Rattle.zone_bytes.proofs.Marks.Owed.{with-marks}
 use Rattle.raw_zone.proofs.zone.RawZoneBlockStore.resize.Goals as goal
-use Rattle.raw_zone.proofs.zone.RawZoneBlockStore.resize.Goals.{After-resize_block-self-inside}
+use Rattle.raw_zone.proofs.zone.RawZoneBlockStore.resize.Goals.{After-resize_block-resized}
 
 -- the block at the place
-there : (c : After-resize_block-self-inside)
+there : (c : After-resize_block-resized)
     → (s : Spot) × (spot_at c.args.place (zone_in c.self.inside.part.bytes) ≡ Some s)
     × HasRoom c.args.bytes s × Standing c.self.inside.part.bytes c.args.place s
 there c =
@@ -26,74 +26,79 @@ there c =
     (subst (λ v. IsSomeAnd (spot_at c.args.place (zone_of v)) (λ s. HasRoom c.args.bytes s))
     (sym c.self.view_is) c.requires)
 
-pub of-self-inside-requires : goal.of-self-inside-requires
-of-self-inside-requires c =
-    let a = there (goal.at.of-self-inside-requires c).After-resize_block-self-inside in
-    record {
-      sound = (
-        c.self.inside.first,
-        c.self.inside.unused,
-        (resize-made c.self.inside.part.bytes c.resize_block-self-inside.new.part.bytes c.self.inside.first
-            c.self.inside.unused
-            c.args.place c.args.bytes c.self.invariant.sound a.0 a.1 a.3 a.2 c.resize_block-self-inside.ensures.cut
-            c.resize_block-self-inside.ensures.grown).made.sound,
-      );
-    }
+pub note-requires-clause-sound : goal.note-requires-clause-sound
+note-requires-clause-sound c =
+    let a = there (goal.at.note-requires-clause-sound c).After-resize_block-resized in
+    (
+      c.self.inside.first,
+      c.self.inside.unused,
+      (resize-made c.self.inside.part.bytes c.resize_block-resized.new.part.bytes c.self.inside.first
+          c.self.inside.unused
+          c.args.place c.args.bytes c.self.invariant.sound a.0 a.1 a.3 a.2 c.resize_block-resized.ensures.cut
+          c.resize_block-resized.ensures.grown).made.sound,
+    )
+
+pub note-requires-clause-marks : goal.note-requires-clause-marks
+note-requires-clause-marks c = (
+  zone_in c.self.inside.part.bytes,
+  c.resize_block-resized.ensures.replaced c.self.inside.first c.self.inside.unused c.self.invariant.sound,
+  c.self.invariant.marked,
+)
 
 pub invariant_of-self-inside : goal.invariant_of-self-inside
 invariant_of-self-inside c =
-    let a = there (goal.at.invariant_of-self-inside c).After-resize_block-self-inside in (
-      (resize-made c.self.inside.part.bytes c.resize_block-self-inside.new.part.bytes c.self.inside.first
+    let a = there (goal.at.invariant_of-self-inside c).After-resize_block-resized in (
+      (resize-made c.self.inside.part.bytes c.resize_block-resized.new.part.bytes c.self.inside.first
           c.self.inside.unused
-          c.args.place c.args.bytes c.self.invariant.sound a.0 a.1 a.3 a.2 c.resize_block-self-inside.ensures.cut
-          c.resize_block-self-inside.ensures.grown).made.lawful,
+          c.args.place c.args.bytes c.self.invariant.sound a.0 a.1 a.3 a.2 c.resize_block-resized.ensures.cut
+          c.resize_block-resized.ensures.grown).made.lawful,
       tt,
     )
 
 pub invariant_of-self : goal.invariant_of-self
 invariant_of-self c =
-    let a = there (goal.at.invariant_of-self c).After-resize_block-self-inside in
+    let a = there (goal.at.invariant_of-self c).After-resize_block-resized in
     with-marks _ _ _ _ _ (record {
-      sound = (resize-made c.self.inside.part.bytes c.resize_block-self-inside.new.part.bytes c.self.inside.first
+      sound = (resize-made c.self.inside.part.bytes c.resize_block-resized.new.part.bytes c.self.inside.first
           c.self.inside.unused
-          c.args.place c.args.bytes c.self.invariant.sound a.0 a.1 a.3 a.2 c.resize_block-self-inside.ensures.cut
-          c.resize_block-self-inside.ensures.grown).made.sound;
-      free_is = c.resize_block-self-inside.ensures.free;
-    }) c.of-self-inside.ensures
+          c.args.place c.args.bytes c.self.invariant.sound a.0 a.1 a.3 a.2 c.resize_block-resized.ensures.cut
+          c.resize_block-resized.ensures.grown).made.sound;
+      free_is = c.resize_block-resized.ensures.free;
+    }) c.note.ensures
 
 pub returns-clause-cut : goal.returns-clause-cut
 returns-clause-cut c =
-    let a = there (goal.at.returns-clause-cut c).After-resize_block-self-inside in
+    let a = there (goal.at.returns-clause-cut c).After-resize_block-resized in
     subst (λ v. IfSome (spot_at c.args.place (zone_of v)) (λ s. size (resized c.args.bytes s.here) ≤ size s.here
-    → zone_in c.resize_block-self-inside.new.part.bytes ≡ filled (resized c.args.bytes s.here) s))
+    → zone_in c.resize_block-resized.new.part.bytes ≡ filled (resized c.args.bytes s.here) s))
     c.self.view_is
-    (cut-zone c.self.inside.part.bytes c.resize_block-self-inside.new.part.bytes c.self.inside.first
+    (cut-zone c.self.inside.part.bytes c.resize_block-resized.new.part.bytes c.self.inside.first
     c.self.inside.unused
-    c.args.place c.args.bytes c.self.invariant.sound a.0 a.1 a.3 a.2 c.resize_block-self-inside.ensures.cut
-    c.resize_block-self-inside.ensures.grown)
+    c.args.place c.args.bytes c.self.invariant.sound a.0 a.1 a.3 a.2 c.resize_block-resized.ensures.cut
+    c.resize_block-resized.ensures.grown)
 
 pub returns-clause-grown : goal.returns-clause-grown
 returns-clause-grown c =
-    let a = there (goal.at.returns-clause-grown c).After-resize_block-self-inside in
+    let a = there (goal.at.returns-clause-grown c).After-resize_block-resized in
     subst (λ v. IfSome (spot_at c.args.place (zone_of v)) (λ s. size s.here < size (resized c.args.bytes s.here)
     → IfSome (grow_up (resized c.args.bytes s.here) s)
-    (λ after. zone_in c.resize_block-self-inside.new.part.bytes ≡ after)))
+    (λ after. zone_in c.resize_block-resized.new.part.bytes ≡ after)))
     c.self.view_is
-    (grown-zone c.self.inside.part.bytes c.resize_block-self-inside.new.part.bytes c.self.inside.first
+    (grown-zone c.self.inside.part.bytes c.resize_block-resized.new.part.bytes c.self.inside.first
     c.self.inside.unused
-    c.args.place c.args.bytes c.self.invariant.sound a.0 a.1 a.3 a.2 c.resize_block-self-inside.ensures.cut
-    c.resize_block-self-inside.ensures.grown)
+    c.args.place c.args.bytes c.self.invariant.sound a.0 a.1 a.3 a.2 c.resize_block-resized.ensures.cut
+    c.resize_block-resized.ensures.grown)
 
 pub returns-clause-rest : goal.returns-clause-rest
 returns-clause-rest c =
-    let a = there (goal.at.returns-clause-rest c).After-resize_block-self-inside in
-    let r = resize-made c.self.inside.part.bytes c.resize_block-self-inside.new.part.bytes c.self.inside.first
+    let a = there (goal.at.returns-clause-rest c).After-resize_block-resized in
+    let r = resize-made c.self.inside.part.bytes c.resize_block-resized.new.part.bytes c.self.inside.first
     c.self.inside.unused
-    c.args.place c.args.bytes c.self.invariant.sound a.0 a.1 a.3 a.2 c.resize_block-self-inside.ensures.cut
-    c.resize_block-self-inside.ensures.grown in
-    subst (λ v. IsRest (rest_of v) (rest_in c.resize_block-self-inside.new.part c.self.inside.unused
+    c.args.place c.args.bytes c.self.invariant.sound a.0 a.1 a.3 a.2 c.resize_block-resized.ensures.cut
+    c.resize_block-resized.ensures.grown in
+    subst (λ v. IsRest (rest_of v) (rest_in c.resize_block-resized.new.part c.self.inside.unused
     c.self.inside.moves))
     c.self.view_is
-    (rest-made c.self.inside.part c.resize_block-self-inside.new.part (slot_in c.self.inside.part.bytes)
+    (rest-made c.self.inside.part c.resize_block-resized.new.part (slot_in c.self.inside.part.bytes)
     c.self.inside.unused c.self.inside.moves r.made.slots (ap (count is_masters) r.made.zone ∙ r.masters)
-    c.resize_block-self-inside.ensures.same)
+    c.resize_block-resized.ensures.same)
