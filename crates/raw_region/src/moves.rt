@@ -31,6 +31,16 @@ pub(crate) fn move_few(bytes: &mut [u8], from: usize, to: usize, count: usize)
     carry(bytes, from, to, count, &mut buffer);
 }
 
+// So far down that the two ranges have no byte in common: without a buffer.
+pub(crate) fn move_far_down(bytes: &mut [u8], from: usize, to: usize, count: usize)
+    requires far { to + count ≤ from }
+    requires inside { from + count ≤ length bytes.old }
+    ensures { bytes.new ≡ written to (take count (drop from bytes.old)) bytes.old }
+{
+    let (low, high) = bytes.split_at_mut(from);
+    low[to..to + count].copy_from_slice(&high[..count]);
+}
+
 // From the first byte on, since the bytes go down.
 pub(crate) fn move_down(bytes: &mut [u8], from: usize, to: usize, count: usize)
     requires down { to ≤ from }

@@ -6,7 +6,7 @@ ghost use Rattle.windows.specs.Writes.{written};
 ghost use Rattle.raw_region.specs.declared.region.TheConstants.{UNIT};
 ghost use Rattle.raw_region.specs.contracts.part.Part.{the_row};
 
-use crate::moves::{FEW, move_down, move_few, move_up};
+use crate::moves::{FEW, move_down, move_far_down, move_few, move_up};
 use std::marker::Model;
 use std_alloc::vec::Lodged;
 
@@ -88,7 +88,9 @@ impl Part {
         ensures bytes { self.new.bytes ≡ written to (take count (drop from self.old.bytes)) self.old.bytes }
     {
         let bytes = self.bytes.as_mut_slice();
-        if count <= FEW {
+        if to < from && count <= from - to {
+            move_far_down(bytes, from, to, count);
+        } else if count <= FEW {
             move_few(bytes, from, to, count);
         } else if to < from {
             move_down(bytes, from, to, count);
