@@ -2,6 +2,7 @@ mod Digits
 mod Cutting
 pub mod Naming
 mod Shown
+mod Spelled
 mod Rows
 mod BlockRows
 mod ResourceRows

@@ -1,5 +1,6 @@
 -- Values one after the other.
-use Rattle.std.proofs.Common.{◌≡◌, ℕ, List, [], ◌∷◌, ◌++◌, refl, append_assoc}
+use Rattle.std.proofs.Common.{◌≡◌, ℕ, ℤ, pos, List, [], ◌∷◌, ◌++◌, refl, append_assoc}
+use Rattle.std.specs.Fmt.{digits, signed_decimal}
 use Rattle.script_text.specs.Transcript.{Shown, shown_all}
 
 -- what two lists of values show is what each shows, one after the other
@@ -12,3 +13,8 @@ pub four_shown : (before : List ℕ) (a b c d : List Shown)
     → before ++ shown_all a ++ shown_all b ++ shown_all c ++ shown_all d ≡ before ++ shown_all (a ++ b ++ c ++ d)
 four_shown before a b c d =
     rw (shown_all_append (a ++ b ++ c) d, shown_all_append (a ++ b) c, shown_all_append a b) (simp append_assoc)
+
+-- 0 in decimal
+pub zero_told : (code : ℤ) → code ≡ pos 0 → signed_decimal code ≡ 48 ∷ []
+unfolding digits
+zero_told code zero = rw zero refl

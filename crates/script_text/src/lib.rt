@@ -10,6 +10,7 @@ mod fault;
 mod inputs;
 mod job;
 mod job_word;
+mod likely;
 mod lines;
 mod script;
 mod token;

@@ -125,7 +125,10 @@ impl Reader {
         let line = Line { number, call };
         match &mut self.begun {
             Some(begun) => begun.lines.push(line)?,
-            None => self.steps.push(line)?,
+            None => {
+                self.steps.reserve(1)?;
+                self.steps.push_reserved(line);
+            }
         }
         Ok(())
     }

@@ -25,8 +25,8 @@ fn digit_of(value: u8) -> u8
     }
 }
 
-/// Appends bytes in hexadecimal, two digits each in lower case.
-pub fn write_hex(text: &mut Vec<u8>, bytes: &[u8]) -> Result<(), AllocError>
+/// Appends a few bytes in hexadecimal.
+fn write_few_hex(text: &mut Vec<u8>, bytes: &[u8]) -> Result<(), AllocError>
     ensures { OnOk result (text.new.items ≡ text.old.items ++ hex bytes.now) }
 {
     for byte in bytes {
@@ -36,11 +36,33 @@ pub fn write_hex(text: &mut Vec<u8>, bytes: &[u8]) -> Result<(), AllocError>
     Ok(())
 }
 
+/// Appends bytes in hexadecimal, two digits each in lower case.
+pub fn write_hex(text: &mut Vec<u8>, bytes: &[u8]) -> Result<(), AllocError>
+    ensures { OnOk result (text.new.items ≡ text.old.items ++ hex bytes.now) }
+{
+    let mut rest = bytes;
+    while let [a, b, c, d, more @ ..] = rest {
+        let digits = [
+            digit_of(*a / 16),
+            digit_of(*a % 16),
+            digit_of(*b / 16),
+            digit_of(*b % 16),
+            digit_of(*c / 16),
+            digit_of(*c % 16),
+            digit_of(*d / 16),
+            digit_of(*d % 16),
+        ];
+        text.extend_from_slice(&digits)?;
+        rest = more;
+    }
+    write_few_hex(text, rest)
+}
+
 fn push_numbers(text: &mut Vec<u8>, numbers: &[i64]) -> Result<(), AllocError>
     ensures { OnOk result (text.new.items ≡ text.old.items ++ shown_all (map Number numbers.now)) }
 {
     for number in numbers {
-        text.extend_from_slice(b" ")?;
+        text.push(b' ')?;
         text.extend_from_slice(Buffer::new().format(*number).as_bytes())?;
     }
     Ok(())
@@ -91,6 +113,10 @@ fn push_values(text: &mut Vec<u8>, reply: &Reply, bytes: Option<&[u8]>) -> Resul
 pub(crate) fn push_code(text: &mut Vec<u8>, code: OsErr) -> Result<(), AllocError>
     ensures { OnOk result (text.new.items ≡ text.old.items ++ signed_decimal code.0) }
 {
+    if code.number() == 0 {
+        text.push(b'0')?;
+        return Ok(());
+    }
     text.extend_from_slice(Buffer::new().format(code.number()).as_bytes())
 }
 
@@ -117,7 +143,7 @@ fn push_call(text: &mut Vec<u8>, line: usize, word: Word) -> Result<(), AllocErr
     ensures { OnOk result (text.new.items ≡ text.old.items ++ call_at line word) }
 {
     text.extend_from_slice(Buffer::new().format(line).as_bytes())?;
-    text.extend_from_slice(b" ")?;
+    text.push(b' ')?;
     text.extend_from_slice(word.text())
 }
 
@@ -126,7 +152,7 @@ fn push_outcome(text: &mut Vec<u8>, reply: &Reply, bytes: Option<&[u8]>) -> Resu
     ensures { OnOk result (text.new.items
         ≡ text.old.items ++ outcome reply.now.code.0 (values_of reply.now (option_map (λ b. b.now) bytes.entry))) }
 {
-    text.extend_from_slice(b" ")?;
+    text.push(b' ')?;
     push_code(text, reply.code)?;
     if reply.code.number() == 0 {
         push_values(text, reply, bytes)
@@ -150,7 +176,8 @@ pub fn write_reply(
 {
     push_call(text, line, word)?;
     push_outcome(text, reply, bytes)?;
-    text.extend_from_slice(b"\n")
+    text.push(b'\n')?;
+    Ok(())
 }
 
 /// Appends the line of a call of a grow-zone script: the line that `write_reply` appends, behind a `+`.

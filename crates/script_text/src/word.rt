@@ -1,12 +1,13 @@
 //! The words of the calls.
 
-ghost use Rattle.std.specs.Prelude.{◌≡◌, Some, IfOk};
+ghost use Rattle.std.specs.Prelude.{◌≡◌, true, Some, IfOk, IfSome, bytes_eq};
 ghost use Rattle.script_text.specs.Call.{spelling, spoken, word_of, may_stand, word_spelled, call_read};
 ghost use Rattle.script_text.specs.Reading.{Gives};
 ghost use Rattle.script_text.specs.declared.word.Word as declared;
 
 use crate::arguments::{four, none, one, three, two};
 use crate::fault::FaultKind;
+use crate::likely::likely;
 use mac_words::{Call, ControlCall, HeapCall, ResourceCall, SegmentCall};
 use std::alloc::Global;
 
@@ -272,6 +273,26 @@ pub const CALLS: &str = calls!(listed);
 
 pub(crate) static WORDS: [Word; 72] = calls!(words);
 
+/// The word that is spelled so, if it is a likely one.
+fn likely_word(token: &[u8]) -> Option<Word>
+    ensures { IfSome result (λ word. bytes_eq (spelling word) token.now ≡ true) }
+{
+    for word in likely(token.len()) {
+        if word.text() == token {
+            return Some(*word);
+        }
+    }
+    None
+}
+
+/// The word that is spelled so, looked for among all.
+#[tactic(auto, unfolding(crate::specs::Call::word_spelled))]
+fn any_word(token: &[u8]) -> Option<Word>
+    ensures { result ≡ word_spelled token.now }
+{
+    WORDS.iter().copied().find(|word| word.text() == token)
+}
+
 impl Word {
     /// The word of a call.
     pub fn of(call: &Call) -> Word
@@ -295,11 +316,14 @@ impl Word {
     }
 
     /// The word that is spelled so.
-    #[tactic(auto, unfolding(crate::specs::Call::word_spelled))]
+    #[tactic(auto, using(crate::proofs::Spelled::spelled_so))]
     pub(crate) fn find(token: &[u8]) -> Option<Word>
         ensures { result ≡ word_spelled token.now }
     {
-        WORDS.iter().copied().find(|word| word.text() == token)
+        match likely_word(token) {
+            Some(word) => Some(word),
+            None => any_word(token),
+        }
     }
 
     /// The call of this word, whose arguments a text spells.
