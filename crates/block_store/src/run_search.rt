@@ -1,6 +1,6 @@
 //! The search for a run among blocks, some of which would be emptied.
 
-ghost use Rattle.std.specs.Prelude.{◌≡◌, ◌+◌, ◌≤◌, ◌<◌, ◌^◌, ◌&&◌, ◌∷◌, List, nat_le, IfSome};
+ghost use Rattle.std.specs.Prelude.{◌≡◌, ◌+◌, ◌≤◌, ◌<◌, ◌^◌, ◌&&◌, ◌∷◌, ℕ, List, false, nat_le};
 ghost use Rattle.std.specs.Option.{option_map};
 ghost use Rattle.block_store.specs.Block.{Block, sizes, is_relocatable};
 ghost use Rattle.block_store.specs.Run.{run_spot, has, has_free};
@@ -8,7 +8,7 @@ ghost use Rattle.block_store.specs.Find.{FindsLowestRun};
 ghost use Rattle.block_store.specs.Sparing.{spared, opened, purged};
 ghost use Rattle.block_store.specs.Seen.{seen};
 ghost use Rattle.block_store.specs.Walk.{seen_size};
-ghost use Rattle.block_store.specs.Inner.RunScan.{is_wanted, suits, scan_runs, after_runs};
+ghost use Rattle.block_store.specs.Inner.RunScan.{is_wanted, suits, scan_from};
 
 use crate::sparing::{Seen, Sparing};
 use crate::walk::{Walk, is_counted_free, is_in_run, may_be_emptied, size_of_seen};
@@ -41,22 +41,16 @@ fn is_enough(scan: RunScan, bytes: u32) -> bool
     scan.met && bytes <= scan.free
 }
 
-/// The search after a block; none where the run is the one.
-fn scan_run(
-    block: Seen,
-    number: Option<u32>,
-    bytes: u32,
-    scan: RunScan,
-    sparing: Sparing,
-) -> Option<RunScan>
+/// The search after a block, where the run so far is not yet the one.
+fn scan_run(block: Seen, number: Option<u32>, scan: RunScan, sparing: Sparing) -> RunScan
     requires room { scan.place + seen_size block < 2 ^ 32 }
     requires free { scan.free ≤ scan.place }
-    ensures scan { (b : Block) (above : List Block) → seen b ≡ block
-        → scan_runs number bytes (spared sparing) scan.left scan.start scan.free scan.met scan.place
-        (opened sparing (b ∷ above))
-        ≡ after_runs number bytes (spared sparing) scan.start result (opened sparing above) }
-    ensures place { IfSome result (λ s. s.place ≡ scan.place + seen_size block) }
-    ensures free { IfSome result (λ s. s.free ≤ s.place) }
+    ensures scan { (b : Block) (above : List Block) (p : ℕ) → seen b ≡ block
+        → (scan.met && nat_le p scan.free) ≡ false
+        → scan_from number p (spared sparing) scan (opened sparing (b ∷ above))
+        ≡ scan_from number p (spared sparing) result (opened sparing above) }
+    ensures place { result.place ≡ scan.place + seen_size block }
+    ensures free { result.free ≤ result.place }
 {
     let size = size_of_seen(block);
     let mut next = scan;
@@ -64,27 +58,25 @@ fn scan_run(
     if scan.left > 0 && may_be_emptied(block, sparing) {
         next.left -= 1;
         next.free += size;
-        return Some(next);
+        return next;
     }
     if is_counted_free(block, sparing) {
         next.free += size;
-        return Some(next);
+        return next;
     }
     if is_in_run(block) {
         next.met = scan.met || is_block_wanted(block, number);
-        return Some(next);
-    }
-    if is_enough(scan, bytes) {
-        return None;
+        return next;
     }
     next.start = next.place;
     next.free = 0;
     next.met = number.is_none();
-    Some(next)
+    next
 }
 
 /// The place of the lowest run that has so many Free bytes after so many purges, and the block of a slot
 /// where one is given.
+#[tactic(auto, using(crate::proofs::Regroup::RunScans::scan_kept))]
 pub fn search_runs_in<W: Walk>(
     walk: &mut W,
     number: Option<u32>,
@@ -103,13 +95,14 @@ pub fn search_runs_in<W: Walk>(
         met: number.is_none(),
         place: 0,
     };
-    while let Some(block) = walk.next_block() {
-        let Some(next) = scan_run(block, number, bytes, scan, sparing) else {
-            return Some(scan.start);
+    // A run that is the one stays it, whatever else it has.
+    while !is_enough(scan, bytes) {
+        let Some(block) = walk.next_block() else {
+            return None;
         };
-        scan = next;
+        scan = scan_run(block, number, scan, sparing);
     }
-    is_enough(scan, bytes).then_some(scan.start)
+    Some(scan.start)
 }
 
 /// The lowest run with at least so many Free bytes, after so many purges.

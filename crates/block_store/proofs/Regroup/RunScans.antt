@@ -1,5 +1,6 @@
 use Rattle.std.proofs.Common.{◌≡◌, ℕ, ◌+◌, zero, suc, Bool, true, false, ◌&&◌, ◌||◌, List, [], ◌∷◌, ◌++◌, refl, sym}
 use Rattle.std.proofs.Common.{◌∙◌, ap, cond, arith, Option, Some, None, nat_le, append_assoc, is_some, not}
+use Rattle.std.proofs.lemmas.Bool.{and_parts, and_from, le-leb, leb-true, cond-true}
 use Rattle.std.proofs.lemmas.List.{append-nil}
 use Rattle.std.proofs.lemmas.List.Folds.{list_any-append}
 use Rattle.std.specs.Option.{option_map}
@@ -71,6 +72,42 @@ scan-tidy w p sp start free met place (b ∷ bs) =
     ∙ ap (λ o. cond (in_run b) (scan_runs w p sp 0 start (free + free_of b) (met_after w met b) (place + size b) bs)
     (cond (met && nat_le p free) (Some start) o)) (scan-tidy w p sp (place + size b) 0 (any_run w) (place + size b)
     bs)
+
+-- a run that has enough keeps it, whatever it has above
+met-kept : (w : Option ℕ) (met : Bool) (b : Block) → met ≡ true → met_after w met b ≡ true
+met-kept w met (Free n) e = e
+met-kept w met (Fixed id content) e = e
+met-kept w met Masters e = e
+met-kept w met (Relocatable id flags content) e = ap (λ t. t || is_number w id) e
+
+enough-kept : (p free n : ℕ) (met met' : Bool) → (met ≡ true → met' ≡ true) → (met && nat_le p free) ≡ true
+    → (met' && nat_le p (free + n)) ≡ true
+enough-kept p free n met met' has e =
+    let parts = and_parts met (nat_le p free) e in
+    and_from met' (nat_le p (free + n)) (has parts.0) (le-leb p (free + n) (omega (arith, leb-true p free parts.1)))
+
+either-is : (t : Bool) (x y z : Option ℕ) → x ≡ z → y ≡ z → cond t x y ≡ z
+either-is true x y z one other = one
+either-is false x y z one other = other
+
+-- so the search gives it, whatever is above
+pub scan_kept : (w : Option ℕ) (p : ℕ) (sp : Block → Bool) (k start free : ℕ) (met : Bool) (place : ℕ)
+    (bs : List Block) → (met && nat_le p free) ≡ true → scan_runs w p sp k start free met place bs ≡ Some start
+scan_kept w p sp zero start free met place [] e = cond-true (met && nat_le p free) (Some start) None e
+scan_kept w p sp (suc k) start free met place [] e = cond-true (met && nat_le p free) (Some start) None e
+scan_kept w p sp zero start free met place (b ∷ bs) e =
+    either-is (in_run b) _ _ (Some start)
+    (scan_kept w p sp zero start (free + free_of b) (met_after w met b) (place + size b) bs
+    (enough-kept p free (free_of b) met (met_after w met b) (met-kept w met b) e))
+    (cond-true (met && nat_le p free) (Some start) _ e)
+scan_kept w p sp (suc k) start free met place (b ∷ bs) e =
+    either-is (may_go sp b) _ _ (Some start)
+    (scan_kept w p sp k start (free + size b) met (place + size b) bs
+    (enough-kept p free (size b) met met (λ is. is) e))
+    (either-is (in_run b) _ _ (Some start)
+    (scan_kept w p sp (suc k) start (free + free_of b) (met_after w met b) (place + size b) bs
+    (enough-kept p free (free_of b) met (met_after w met b) (met-kept w met b) e))
+    (cond-true (met && nat_le p free) (Some start) _ e))
 
 -- a part of a run with one block more
 or-none : (a h : Bool) → (a || h) ≡ (a || (h || (false || false)))

@@ -55,7 +55,6 @@ scan_runs number p spared (suc k) start free met place (b ∷ above) =
     else (if met && nat_le p free then Some start
     else scan_runs number p spared (suc k) (place + size b) 0 (any_run number) (place + size b) above))
 
--- what a search gives from where it is, or the run that it found
-abbrev pub after_runs : Option ℕ → ℕ → (Block → Bool) → ℕ → Option RunScan → List Block → Option ℕ
-after_runs number p spared start None above = Some start
-after_runs number p spared start (Some s) above = scan_runs number p spared s.left s.start s.free s.met s.place above
+-- what a search gives from where it is
+abbrev pub scan_from : Option ℕ → ℕ → (Block → Bool) → RunScan → List Block → Option ℕ
+scan_from number p spared s above = scan_runs number p spared s.left s.start s.free s.met s.place above

@@ -4,8 +4,8 @@ use Rattle.block_store.specs.Inner.RunScan.{scan_runs}
 use Rattle.block_store.proofs.Regroup.RunScans.{scan-is, any-none}
 use Rattle.block_store.proofs.run_search.search_runs_in.Goals as goal
 
-pub loop-block-init : goal.loop-block-init
-loop-block-init g c =
+pub loop-sparing-init : goal.loop-sparing-init
+loop-sparing-init g c =
     let zone = g.W.Walk.rest c.args.walk.now in
     record {
       above = ap (λ met. scan_runs c.args.number c.args.bytes (spared c.args.sparing) c.args.purges 0 0 met 0

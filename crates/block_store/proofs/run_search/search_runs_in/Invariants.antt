@@ -7,8 +7,8 @@ use Rattle.block_store.specs.Inner.RunScan.{suits, scan_runs}
 use Rattle.block_store.proofs.run_search.search_runs_in.Given as goal
 
 -- the search through what is still to come gives the place
-abbrev pub invariant-loop-block : goal.invariant-loop-block
-invariant-loop-block g l = record {
+abbrev pub invariant-loop-sparing : goal.invariant-loop-sparing
+invariant-loop-sparing g l = record {
   above : scan_runs l.number l.bytes (spared l.sparing) l.scan.left l.scan.start l.scan.free l.scan.met l.scan.place
       (opened l.sparing (g.W.Walk.rest l.walk)) ≡ option_map (λ (r : RunSpot). sizes r.below)
       (run_spot (suits l.number l.bytes) (purged l.purges l.sparing (g.W.Walk.rest l.initial.walk)));
@@ -16,5 +16,5 @@ invariant-loop-block g l = record {
   free : l.scan.free ≤ l.scan.place;
 }
 
-abbrev pub decreases-loop-block : goal.decreases-loop-block
-decreases-loop-block g l = length (g.W.Walk.rest l.walk)
+abbrev pub decreases-loop-sparing : goal.decreases-loop-sparing
+decreases-loop-sparing g l = length (g.W.Walk.rest l.walk)
