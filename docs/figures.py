@@ -177,6 +177,18 @@ def packed(count, size, by="MaxMem"):
     return (text + "DisposeHandle h0\n" + by + "\n").encode()
 
 
+def every_other(count, size, last):
+    """blocks, of which every other one is disposed of, and then a call"""
+    text = "".join("NewHandle h%d %d\n" % (i, size) for i in range(count))
+    text += "".join("DisposeHandle h%d\n" % i for i in range(0, count, 2))
+    return (text + last + "\n").encode()
+
+
+def appended(count):
+    """64 bytes appended to one handle again and again, below a block that lets it grow"""
+    return b"NewHandle a 64\nNewHandle b 0\n" + b"HandAndHand a b\n" * count
+
+
 TEN = b"NewHandle a 100\nPut a 0 \"abc\"\nShow a\nNewPtr p 100\nHLock a\nFreeMem\nMaxBlock\nHUnlock a\nCompactMem 1000\nDisposeHandle a\n"
 
 FORKS = [references_fork, types_fork, names_fork, long_names_fork, shared_fork, canonical_fork]
@@ -187,13 +199,53 @@ SCRIPTS = [
     ("16777216", "100,000 lines that fill the zone: a third disposed of, a tenth purgeable", churn(100000)),
     ("4194304", "10,000 handles of no bytes", empty_handles(10000)),
     ("4194304", "50,000 handles of no bytes", empty_handles(50000)),
+    ("4194304", "the same, MoreMasters 782 times first", b"MoreMasters\n" * 782 + empty_handles(50000)),
+    ("1048576", "200,000 lines in a full zone of 1 MB", churn(200000)),
     ("16777216", "25,000 rounds of four calls over 8 names", rounds(25000)),
     ("671744", "5,000 blocks emptied for one call", emptied(5000)),
     ("134217728", "10,000 blocks of 13,000 bytes, the lowest disposed of", packed(10000, 13000, "FreeMem")),
     ("134217728", "the same, and MaxMem: 9,999 moves", packed(10000, 13000)),
+    ("134217728", "100,000 blocks of 1,300 bytes, every other disposed of", every_other(100000, 1300, "FreeMem")),
+    ("134217728", "the same, and MaxMem: 49,999 moves", every_other(100000, 1300, "MaxMem")),
+    ("16777216", "20,000 HandAndHand of 64 bytes to one handle", appended(20000)),
     ("1048576", "ten lines in 1 MB", TEN),
     ("134217728", "the same in 128 MB", TEN),
 ]
+
+
+# What a plain program takes: a copy of so many bytes; as many moves down within one array, with no headers.
+PLAIN = r"""
+#include <stdio.h>
+#include <stdlib.h>
+#include <string.h>
+#include <time.h>
+static double now(void) { struct timespec t; clock_gettime(CLOCK_MONOTONIC, &t); return t.tv_sec + t.tv_nsec / 1e9; }
+int main(int count, char **words) {
+    long size = atol(words[1]), moves = count > 2 ? atol(words[2]) : 0, bytes = count > 2 ? atol(words[3]) : 0;
+    char *from = malloc(size), *to = malloc(size);
+    double best = 1e9;
+    for (int run = 0; run < 5; run++) {
+        memset(from, run, size);
+        memset(to, run, size);
+        double begin = now();
+        if (moves == 0) memcpy(to, from, size);
+        else for (long i = 0; i < moves; i++) memmove(from + i * bytes, from + (2 * i + 1) * bytes, bytes);
+        double took = now() - begin;
+        if (took < best) best = took;
+    }
+    printf("%.6f %d\n", best, to[size / 2] + from[size / 2]);
+}
+"""
+
+
+def plain(*numbers):
+    """Seconds that the plain program takes; None where there is no compiler"""
+    program = os.path.join(FOLDER, "plain")
+    if not os.path.exists(program):
+        source = put("plain.c", PLAIN.encode())
+        if subprocess.run(["cc", "-O2", "-o", program, source], check=False).returncode:
+            return None
+    return float(subprocess.run([program, *map(str, numbers)], stdout=subprocess.PIPE, check=True).stdout.split()[0])
 
 
 def applications(count):
@@ -226,11 +278,15 @@ def told(found):
 
 def main():
     print("load %.1f, %d processors\n" % (os.getloadavg()[0], os.cpu_count()))
-    print("| `script SIZE` | Script |%s\n|---|---|%s" % (" Time, memory |" * len(PROGRAMS), "---|" * len(PROGRAMS)))
+    print("| `script SIZE` | Script |%s Of a plain copy of the zone |" % (" Time, memory |" * len(PROGRAMS)))
+    print("|---|---|%s---|" % ("---|" * len(PROGRAMS)))
     for size, name, text in SCRIPTS:
         path = put("script", text)
-        row = [told(measured([p, "script", size, path], 3)) for p in PROGRAMS]
-        print("| %s | %s | %s |" % (size, name, " | ".join(row)), flush=True)
+        found = [measured([p, "script", size, path], 3) for p in PROGRAMS]
+        copy = plain(size)
+        times = "%.0f" % (found[0][0] / copy) if copy and found[0] else "?"
+        print("| %s | %s | %s | %s |" % (size, name, " | ".join(map(told, found)), times), flush=True)
+    print("\nA bare loop of 49,999 moves of 1,328 bytes: %s s" % plain(134217728, 49999, 1328))
     print("\n| Job |%s\n|---|%s" % (" Time |" * len(PROGRAMS), "---|" * len(PROGRAMS)))
     whole, alone = applications(64)
     for name, times, job in (("64 applications in one memory", 1, whole), ("64 times one alone", 64, alone)):
