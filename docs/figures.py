@@ -178,8 +178,8 @@ def packed(count, size, by="MaxMem"):
 
 
 def every_other(count, size, last):
-    """blocks, of which every other one is disposed of, and then a call"""
-    text = "".join("NewHandle h%d %d\n" % (i, size) for i in range(count))
+    """master pointers for all, blocks, of which every other one is disposed of, and then a call"""
+    text = "MoreMasters\n" * (count // 64 + 1) + "".join("NewHandle h%d %d\n" % (i, size) for i in range(count))
     text += "".join("DisposeHandle h%d\n" % i for i in range(0, count, 2))
     return (text + last + "\n").encode()
 
