@@ -5,7 +5,6 @@ use Rattle.std.proofs.lemmas.List.{take_more, take-set, drop-set, take_more_set,
 use Rattle.block_store.specs.Block.{Block, size, sizes}
 use Rattle.zone_bytes.specs.Decode.{zone_in}
 use Rattle.zone_bytes.specs.Lawful.{IsSound}
-use Rattle.zone_bytes.specs.Layout.{Each}
 use Rattle.zone_bytes.specs.Stepping.{left_in, IsOnWay}
 use Rattle.zone_bytes.specs.Marks.{AtEach, AtMost, Begins, AreMarks, Replaced, Lowered, next_of}
 use Rattle.zone_bytes.specs.declared.landmark.Landmark.{Landmark}

@@ -1,4 +1,4 @@
-use Rattle.std.proofs.Common.{◌≡◌, ◌+◌, ◌-◌, ◌≤◌, ◌<◌, ℕ, List, sym, subst, ap, length, get_or, arith}
+use Rattle.std.proofs.Common.{◌≡◌, ◌+◌, ◌-◌, ◌≤◌, ◌<◌, ℕ, List, sym, subst, get_or, arith}
 use Rattle.zone_bytes.specs.declared.landmark.Landmark.{Landmark}
 use Rattle.zone_bytes.specs.Marks.{next_of}
 use Rattle.zone_bytes.proofs.Marks.Lowering.{drop-all, mark-first}

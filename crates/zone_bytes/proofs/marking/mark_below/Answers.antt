@@ -1,4 +1,4 @@
-use Rattle.std.proofs.Common.{inl, inr, refl, arith}
+use Rattle.std.proofs.Common.{inl, arith}
 use Rattle.zone_bytes.proofs.Marks.Passing.{begins-here}
 use Rattle.zone_bytes.proofs.Marks.Lowering.{mark-begins}
 use Rattle.zone_bytes.proofs.marking.mark_below.Goals as goal

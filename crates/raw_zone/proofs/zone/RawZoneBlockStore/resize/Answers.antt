@@ -28,8 +28,7 @@ there c =
 
 pub note-requires-clause-sound : goal.note-requires-clause-sound
 note-requires-clause-sound c =
-    let a = there (goal.at.note-requires-clause-sound c).After-resize_block-resized in
-    (
+    let a = there (goal.at.note-requires-clause-sound c).After-resize_block-resized in (
       c.self.inside.first,
       c.self.inside.unused,
       (resize-made c.self.inside.part.bytes c.resize_block-resized.new.part.bytes c.self.inside.first
