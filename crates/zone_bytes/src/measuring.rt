@@ -56,12 +56,22 @@ fn span_at(part: &Part, at: u32) -> Span
     }
 }
 
-/// The bytes of the largest Free block that begins from one place up to another.
-pub fn largest_between(part: &Part, from: u32, to: u32) -> u32
+/// What a walk from a place tells: where it ended, and the bytes of the largest Free block that it passed.
+#[derive(Clone, Copy, Drop)]
+pub struct Measured {
+    pub edge: u32,
+    pub most: u32,
+}
+
+/// A walk from one place to the first block that begins at or above another, or to the zone's end.
+pub fn measure_up_to(part: &Part, from: u32, place: u32) -> Measured
     requires { IsOnWay from part.now.bytes }
-    ensures { AtEach (AtMost result from to) from (left_in from part.now.bytes) }
+    ensures edge { Begins result.edge from (left_in from part.now.bytes) }
+    ensures order { from ≤ result.edge }
+    ensures passed { AtEach (AtMost result.most from result.edge) from (left_in from part.now.bytes) }
+    ensures below { AtEach (AtMost result.most from place) from (left_in from part.now.bytes) }
 {
-    let stop = within(to, part.len() as u32);
+    let stop = within(place, part.len() as u32);
     let mut most = 0;
     let mut at = from;
     while at < stop {
@@ -69,7 +79,15 @@ pub fn largest_between(part: &Part, from: u32, to: u32) -> u32
         most = greater(most, span.free);
         at = span.end;
     }
-    most
+    Measured { edge: at, most }
+}
+
+/// The bytes of the largest Free block that begins from one place up to another.
+pub fn largest_between(part: &Part, from: u32, to: u32) -> u32
+    requires { IsOnWay from part.now.bytes }
+    ensures { AtEach (AtMost result from to) from (left_in from part.now.bytes) }
+{
+    measure_up_to(part, from, to).most
 }
 
 /// The place of the lowest Free block of at least so many bytes that begins from one place up to another.
@@ -90,29 +108,4 @@ pub fn room_between(part: &Part, from: u32, to: u32, bytes: u32) -> Option<u32>
         at = span.end;
     }
     None
-}
-
-/// What a walk from a place tells: where it ended, and the bytes of the largest Free block that it passed.
-#[derive(Clone, Copy, Drop)]
-pub struct Measured {
-    pub edge: u32,
-    pub most: u32,
-}
-
-/// A walk from one place to the first block that begins at or above another, or to the zone's end.
-pub fn measure_up_to(part: &Part, from: u32, place: u32) -> Measured
-    requires { IsOnWay from part.now.bytes }
-    ensures edge { Begins result.edge from (left_in from part.now.bytes) }
-    ensures order { from ≤ result.edge }
-    ensures bound { AtEach (AtMost result.most from result.edge) from (left_in from part.now.bytes) }
-{
-    let stop = within(place, part.len() as u32);
-    let mut most = 0;
-    let mut at = from;
-    while at < stop {
-        let span = span_at(part, at);
-        most = greater(most, span.free);
-        at = span.end;
-    }
-    Measured { edge: at, most }
 }
