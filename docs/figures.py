@@ -200,6 +200,7 @@ SCRIPTS = [
     ("4194304", "10,000 handles of no bytes", empty_handles(10000)),
     ("4194304", "50,000 handles of no bytes", empty_handles(50000)),
     ("4194304", "the same, MoreMasters 782 times first", b"MoreMasters\n" * 782 + empty_handles(50000)),
+    ("1048576", "60,000 lines in a full zone of 1 MB", churn(60000)),
     ("1048576", "200,000 lines in a full zone of 1 MB", churn(200000)),
     ("16777216", "25,000 rounds of four calls over 8 names", rounds(25000)),
     ("671744", "5,000 blocks emptied for one call", emptied(5000)),

@@ -15,6 +15,11 @@ use Rattle.applications.specs.declared.tried.Tried.{Tried}
 pub by_both : {A B C : Type 0} (f : A → B → C) {a c : A} {b d : B} → a ≡ c → b ≡ d → f a b ≡ f c d
 by_both f first second = cc
 
+-- the same by three
+pub by_three : {A B C D : Type 0} (f : A → B → C → D) {a p : A} {b q : B} {c r : C} → a ≡ p → b ≡ q → c ≡ r
+    → f a b c ≡ f p q r
+by_three f first second third = cc
+
 -- a try that tells what a call came to, where its method answered so
 told-so : {T : Type 0} (tell : T → Told) (again : Bool) (result : Result Tried AllocError)
     (P : Answer T → Managers → Type 0) (a : Answer T) (after : Managers)

@@ -7,7 +7,7 @@ use Rattle.mac_words.specs.declared.call.Call.{Call}
 use Rattle.mac_words.specs.declared.call.Call.TheVariants as call
 use Rattle.mac_words.specs.declared.call.ControlCall.TheVariants as control
 use Rattle.block_store.specs.Rest.{Site}
-use Rattle.block_store.specs.Block.{Block, sizes, free, fresh}
+use Rattle.block_store.specs.Block.{sizes, free, fresh}
 use Rattle.heap_calls.specs.State.{Memory, fresh_memory}
 use Rattle.mac_words.specs.Told.{Told}
 use Rattle.heap_calls.specs.Asked.{Asked}
@@ -21,8 +21,8 @@ use Rattle.res_calls.specs.Asked.{Served, named}
 use Rattle.segments.specs.Table.{table_in}
 use Rattle.segments.specs.Calls.{code_type}
 use Rattle.segments.specs.Asked.{Served as Jumped}
-use Rattle.applications.specs.Trying.{Running, Blocks, Tried, once, asked, resource_asked, managers_of, program_of, launched}
-use Rattle.applications.specs.Trying.{launched_with, own_resources, nowhere, heap_tried, resource_tried, segment_tried}
+use Rattle.applications.specs.Trying.{Running, Blocks, Tried, once, asked, resource_asked, managers_of, program_of}
+use Rattle.applications.specs.Trying.{launched_with, nowhere, heap_tried, resource_tried, segment_tried}
 use Rattle.applications.specs.Trying.{code_told}
 use Rattle.res_calls.proofs.Walks.Place.{served-elsewhere as found-elsewhere}
 use Rattle.res_calls.proofs.Walks.Launching.{preloaded-elsewhere}
@@ -30,7 +30,6 @@ use Rattle.segments.proofs.Laws.{served-elsewhere as jumped-elsewhere}
 use Rattle.applications.specs.Step.{Event, Course, joined, event_of, marked, marked_for, grown_line, grown}
 use Rattle.applications.specs.Step.{grown_for, asked_for, kept_anew, ended, stands, Round, Ends, Again, made_room, after_asking}
 use Rattle.applications.specs.Step.{after_try, round, continued, step_in, step, most_rounds, unless_over, run}
-use Rattle.applications.specs.Application.{lines_told}
 use Rattle.applications.specs.Elsewhere.{moved, event_elsewhere, course_elsewhere}
 
 -- What a run comes to doesn't hang on where its partition lies.

@@ -1,5 +1,5 @@
 -- A zone that fills a region, cut from it and joined again.
-use Rattle.std.proofs.Common.{◌≡◌, ◌∙◌, ◌+◌, ◌++◌, ℕ, List, [], ◌∷◌, length, Result, Ok, Err, IfOk, ap, subst, sym, refl, arith}
+use Rattle.std.proofs.Common.{◌≡◌, ◌∙◌, ◌+◌, ◌++◌, ℕ, List, [], length, Result, Ok, Err, IfOk, ap, subst, sym, arith}
 use Rattle.std.proofs.lemmas.List.{nil_from_length, drop_all, append-nil}
 use Rattle.windows.specs.declared.Window.{Window}
 use Rattle.windows.specs.Windows.{with_window, without_window, window, put_in, taken_out}

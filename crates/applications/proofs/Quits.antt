@@ -4,7 +4,6 @@ use Rattle.std.proofs.Common.{Option, Some, None}
 use Rattle.std.specs.Prelude.{nat_lt}
 use Rattle.mac_words.specs.declared.code.OsErr.{OsErr}
 use Rattle.mac_words.specs.declared.code.TheConstants.OsErr.{NO_ERR}
-use Rattle.block_store.specs.Block.{Block, sizes, fresh}
 use Rattle.block_store.specs.Rest.{Site}
 use Rattle.heap_calls.specs.State.{Memory}
 use Rattle.heap_calls.specs.Inside.{inside, released}
@@ -13,7 +12,7 @@ use Rattle.script_text.specs.Script.{Parts}
 use Rattle.script_text.specs.declared.script.Line.{Line}
 use Rattle.script_text.specs.Transcript.{launch_line}
 use Rattle.res_map.specs.Split.{Split}
-use Rattle.res_calls.specs.Files.{File, OpenFile, Resources}
+use Rattle.res_calls.specs.Files.{OpenFile, Resources}
 use Rattle.res_calls.specs.Fetch.{Managers, is_system}
 use Rattle.res_calls.specs.Rows.{all_released, handles_of, closed}
 use Rattle.res_calls.specs.Update.{update}
@@ -23,7 +22,7 @@ use Rattle.applications.specs.Trying.{Running, launched_with, launched, own_reso
 use Rattle.applications.specs.Trying.{is_fatal}
 use Rattle.applications.specs.Step.{Course, run}
 use Rattle.applications.specs.Application.{lines_told}
-use Rattle.applications.specs.Alone.{Ending, alone, quits, ending_of, first_steps, run_alone, ending, end_told}
+use Rattle.applications.specs.Alone.{Ending, alone, quits, ending_of, first_steps, run_alone, end_told}
 use Rattle.applications.specs.Alone.{files_after, has_quit, left_after, stops, zone_alone}
 use Rattle.applications.specs.Replies.{Came, exit_of, end_by, end_if, has_ended, left_if}
 use Rattle.applications.specs.declared.quitting.Exit.{Exit}

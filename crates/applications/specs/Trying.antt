@@ -150,9 +150,9 @@ resource_asked resource.CurResFile names = finds.CurResFile
 resource_asked (resource.HomeResFile name) names = finds.HomeResFile (bound_to name.0.items names)
 resource_asked (resource.GetResource name ty id) names = finds.GetResource (type_number ty) id
 resource_asked (resource.Get1Resource name ty id) names = finds.GetOneResource (type_number ty) id
-resource_asked (resource.GetNamedResource name ty text) names = finds.GetNamedResource (type_number ty) text.0.items
+resource_asked (resource.GetNamedResource name ty text) names = finds.GetNamedResource (type_number ty) text.value.0.items
 resource_asked (resource.Get1NamedResource name ty text) names =
-    finds.GetOneNamedResource (type_number ty) text.0.items
+    finds.GetOneNamedResource (type_number ty) text.value.0.items
 resource_asked resource.Count1Types names = finds.CountOneTypes
 resource_asked (resource.Get1IndType index) names = finds.GetOneIndType index
 resource_asked (resource.Count1Resources ty) names = finds.CountOneResources (type_number ty)
@@ -161,13 +161,13 @@ resource_asked (resource.LoadResource name) names = finds.LoadResource (bound_to
 resource_asked (resource.ReleaseResource name) names = finds.ReleaseResource (bound_to name.0.items names)
 resource_asked (resource.DetachResource name) names = finds.DetachResource (bound_to name.0.items names)
 resource_asked (resource.AddResource name ty id text) names =
-    finds.AddResource (bound_to name.0.items names) (type_number ty) id text.0.items
+    finds.AddResource (bound_to name.0.items names) (type_number ty) id text.value.0.items
 resource_asked (resource.RemoveResource name) names = finds.RemoveResource (bound_to name.0.items names)
 resource_asked (resource.ChangedResource name) names = finds.ChangedResource (bound_to name.0.items names)
 resource_asked (resource.WriteResource name) names = finds.WriteResource (bound_to name.0.items names)
 resource_asked (resource.GetResInfo name) names = finds.GetResInfo (bound_to name.0.items names)
 resource_asked (resource.SetResInfo name id text) names =
-    finds.SetResInfo (bound_to name.0.items names) id text.0.items
+    finds.SetResInfo (bound_to name.0.items names) id text.value.0.items
 resource_asked (resource.GetResAttrs name) names = finds.GetResAttrs (bound_to name.0.items names)
 resource_asked (resource.SetResAttrs name attrs) names = finds.SetResAttrs (bound_to name.0.items names) attrs
 resource_asked (resource.GetResourceSizeOnDisk name) names =

@@ -122,6 +122,10 @@ impl BlockStore for Housed {
         self.zone.next_purgeable(purges, sparing)
     }
 
+    fn purgeable(&self, sparing: Sparing) -> u32 {
+        self.zone.purgeable(sparing)
+    }
+
     fn room_above(&self, number: u32, bytes: u32, purges: u32, sparing: Sparing) -> bool {
         self.zone.room_above(number, bytes, purges, sparing)
     }

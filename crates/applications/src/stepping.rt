@@ -1,6 +1,7 @@
 //! A step: a call is tried, and tried again as long as the grow-zone script makes room.
 
-ghost use Rattle.std.specs.Prelude.{◌≡◌, ◌++◌, [], IfOk, OnOk};
+ghost use Rattle.std.specs.Prelude.{◌≡◌, ◌++◌, [], IfOk, OnOk, nat_lt};
+ghost use Rattle.heap_calls.specs.Staying.{ease};
 ghost use Rattle.script_text.specs.Call.{word_of};
 ghost use Rattle.script_text.specs.Transcript.{reply_line, values_of};
 ghost use Rattle.applications.specs.Trying.{once};
@@ -97,6 +98,30 @@ impl<'s, S: BlockStore> Application<'s, S> {
         Ok(())
     }
 
+    /// Runs the grow-zone script for a call that found no room; whether more can be had then. Without a script nothing
+    /// can have changed, and no block is looked at.
+    fn ask_for_room(
+        &mut self,
+        script: &'s Script,
+        line: &Line,
+        reading: Option<usize>,
+        text: &mut Vec<u8>,
+    ) -> Result<bool, AllocError>
+        ensures came { OnOk result (Came (grown_for script.now.blocks line.now reading self.old) text.old.items
+            text.new.items self.new) }
+        ensures room { IfOk result (λ made.
+            made ≡ nat_lt (ease self.old.memory.heap.zone) (ease self.new.memory.heap.zone)) }
+        ensures lies { self.new.memory.window ≡ self.old.memory.window }
+    {
+        if self.grow.is_empty() {
+            self.ask_script(script, line, reading, text)?;
+            return Ok(false);
+        }
+        let before = self.heap.to_be_had();
+        self.ask_script(script, line, reading, text)?;
+        Ok(before < self.heap.to_be_had())
+    }
+
     /// Keeps the code of a call whose answer stands, behind those of the grow-zone script's calls.
     fn keep_anew(&mut self, call: &Call, tried: &Tried)
         ensures { self.new ≡ kept_anew call.now tried.now.reply.code self.old }
@@ -165,9 +190,8 @@ impl<'s, S: BlockStore> Application<'s, S> {
         let tried = self.once(script, &line.call)?;
         let exit = tried.exit();
         if tried.wants {
-            let before = self.heap.to_be_had();
-            self.ask_script(script, line, tried.reading, text)?;
-            if self.heap.to_be_had() > before {
+            let made_room = self.ask_for_room(script, line, tried.reading, text)?;
+            if made_room {
                 return Ok(Next::Again);
             }
             self.keep_anew(&line.call, &tried);

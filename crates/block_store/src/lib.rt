@@ -37,14 +37,13 @@ mod walk;
 pub use flags::Flags;
 pub use list_store::ListStore;
 pub use list_zones::ListZones;
-pub use looking::{next_purgeable_in, place_in, room_above_in};
+pub use looking::{next_purgeable_in, place_in, purgeable_in, room_above_in};
 pub use maker::ZoneMaker;
 pub use measures::{GREATEST_ZONE, HEADER_SIZE, LEAST_ZONE, MASTERS_SIZE, SLOTS_A_BLOCK, UNIT};
 pub use purged_sums::{free_after_in, largest_after_in};
 pub use run_search::{find_run_in, run_of_in};
 pub use runs::{
-    largest_free_in, largest_run_in, next_run_in, purgeable_in_run_in, run_bytes_in,
-    run_has_free_in,
+    largest_free_in, largest_run_in, next_run_in, purgeable_in_run_in, run_has_free_in,
 };
 pub use sparing::{Seen, Sparing};
 pub use store::BlockStore;

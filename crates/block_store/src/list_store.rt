@@ -18,7 +18,7 @@ use crate::entries::{
 use crate::fixed::{free_place, put_masters};
 use crate::flags::Flags;
 use crate::list_walk::{has_free_above, look_at, purgeable_above, run_above, walk_over};
-use crate::looking::{next_purgeable_in, place_in, room_above_in};
+use crate::looking::{next_purgeable_in, place_in, purgeable_in, room_above_in};
 use crate::measures::{GREATEST_ZONE, LEAST_ZONE, MASTERS_SIZE, SLOTS_A_BLOCK, UNIT};
 use crate::packing::{hoist_slot, raise_run, settle_run};
 #[cfg(test)]
@@ -178,6 +178,10 @@ impl BlockStore for ListStore {
 
     fn next_purgeable(&self, purges: u32, sparing: Sparing) -> Option<u32> {
         next_purgeable_in(&mut walk_over(&self.blocks), purges, sparing)
+    }
+
+    fn purgeable(&self, sparing: Sparing) -> u32 {
+        purgeable_in(&mut walk_over(&self.blocks), sparing)
     }
 
     fn room_above(&self, number: u32, bytes: u32, purges: u32, sparing: Sparing) -> bool {

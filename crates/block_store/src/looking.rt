@@ -6,7 +6,7 @@ ghost use Rattle.block_store.specs.Block.{Block, sizes, is_relocatable, tidy};
 ghost use Rattle.block_store.specs.Room.{spot, may_go, emptied};
 ghost use Rattle.block_store.specs.Grow.{taken};
 ghost use Rattle.block_store.specs.Find.{FindsLowest};
-ghost use Rattle.block_store.specs.Sparing.{spared, opened, purged};
+ghost use Rattle.block_store.specs.Sparing.{spared, opened, purged, most_purges};
 ghost use Rattle.block_store.specs.Seen.{seen};
 ghost use Rattle.block_store.specs.Inner.Stretch.{opened_block};
 ghost use Rattle.block_store.specs.Inner.Purging.{left_past, leading_free};
@@ -57,6 +57,20 @@ pub fn next_purgeable_in<W: Walk>(walk: &mut W, purges: u32, sparing: Sparing) -
     ensures { FindsLowest (may_go (spared sparing)) (purged purges sparing (W.rest walk.old)) result }
 {
     find_purgeable_in(walk, purges, sparing)
+}
+
+/// How many blocks may be emptied.
+pub fn purgeable_in<W: Walk>(walk: &mut W, sparing: Sparing) -> u32
+    requires { sizes (W.rest walk.old) < 2 ^ 32 }
+    ensures { result ≡ most_purges sparing (W.rest walk.old) }
+{
+    let mut total = 0;
+    while let Some(block) = walk.next_block() {
+        if may_be_emptied(block, sparing) {
+            total += 1;
+        }
+    }
+    total
 }
 
 /// The purges left after a block that is Free or is emptied; none where it stays.

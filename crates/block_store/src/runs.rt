@@ -48,21 +48,6 @@ pub fn largest_run_in<W: Walk>(walk: &mut W) -> u32
     larger(most, free)
 }
 
-/// The bytes of the run that comes first.
-pub fn run_bytes_in<W: Walk>(walk: &mut W) -> u32
-    requires { sizes (W.rest walk.old) < 2 ^ 32 }
-    ensures { result ≡ sizes (segments (W.rest walk.old)).first }
-{
-    let mut bytes = 0;
-    while let Some(block) = walk.next_block() {
-        if !is_in_run(block) {
-            return bytes;
-        }
-        bytes += size_of_seen(block);
-    }
-    bytes
-}
-
 /// How far above the run that comes first the next one is; none where there is no other.
 pub fn next_run_in<W: Walk>(walk: &mut W) -> Option<u32>
     requires { sizes (W.rest walk.old) < 2 ^ 32 }

@@ -15,7 +15,7 @@ ghost use Rattle.block_store.specs.Grow.{freed, grow_up, taken};
 ghost use Rattle.block_store.specs.Find.{FindsLowest, FindsLowestRun, IsEdge};
 ghost use Rattle.block_store.specs.Compact.{largest_free, largest_run, next_run, NoneRises, lowered, Aligned, Placed};
 ghost use Rattle.block_store.specs.Slot.{Unused, Used, is_used, is_resource};
-ghost use Rattle.block_store.specs.Sparing.{purged, spared};
+ghost use Rattle.block_store.specs.Sparing.{purged, spared, most_purges};
 ghost use Rattle.block_store.specs.Rest.{Rest, IsRest, with_slot, with_moves, falling};
 ghost use Rattle.block_store.specs.declared.measures.TheConstants.{GREATEST_ZONE, SLOTS_A_BLOCK};
 ghost use Rattle.block_store.specs.Seen.{seen, with_flags, moved_away};
@@ -88,6 +88,10 @@ pub trait BlockStore {
     /// The place of the block that is emptied next, after so many purges.
     fn next_purgeable(&self, purges: u32, sparing: Sparing) -> Option<u32>
         ensures { FindsLowest (may_go (spared sparing)) (purged purges sparing (zone self.now)) result };
+
+    /// How many blocks may be emptied.
+    fn purgeable(&self, sparing: Sparing) -> u32
+        ensures { result ≡ most_purges sparing (zone self.now) };
 
     /// Whether so many Free bytes follow the block of a slot, after so many purges.
     fn room_above(&self, number: u32, bytes: u32, purges: u32, sparing: Sparing) -> bool

@@ -5,7 +5,7 @@ ghost use Rattle.block_store.specs.Find.{FindsLowestRun};
 ghost use Rattle.block_store.specs.Sparing.{purged, most_purges};
 ghost use Rattle.block_store.specs.Rest.{IsRest};
 ghost use Rattle.block_store.specs.Run.{run_spot, has_free};
-ghost use Rattle.heap_calls.specs.Inner.LookLaws.{base-ends};
+ghost use Rattle.heap_calls.specs.Inner.LookLaws.{base-ends, base-stays};
 ghost use Rattle.block_store.proofs.Emptied.Rising.{run-rises};
 ghost use Rattle.heap_calls.specs.Inner.Base.{IsBaseAt, base, base_searches};
 ghost use Rattle.heap_calls.specs.Inner.Numbered.{KeepsFixed};
@@ -13,7 +13,7 @@ ghost use Rattle.heap_calls.specs.Inner.NewSlot.{HasMore, IsMade, IsSlot, zone_s
 ghost use Rattle.heap_calls.specs.Inner.Packed.{PacksNone};
 ghost use Rattle.block_store.specs.declared.measures.TheConstants.{GREATEST_ZONE};
 
-use crate::least::{Look, least_look, next_goes};
+use crate::least::{Look, any_goes, least_look};
 use crate::search::Room;
 use block_store::{BlockStore, MASTERS_SIZE, Sparing};
 use std::alloc::AllocError;
@@ -47,13 +47,19 @@ impl Look for LowestRun {
         store.find_run(self.bytes, purges, self.sparing)
     }
 
-    fn goes_on<S: BlockStore>(&self, store: &S, purges: u32) -> bool {
-        next_goes(store, purges, self.sparing)
+    fn goes_on<S: BlockStore>(&self, store: &S) -> bool {
+        any_goes(store, self.sparing)
+    }
+
+    fn most_purges<S: BlockStore>(&self, store: &S) -> u32 {
+        store.purgeable(self.sparing)
     }
 
     ghost rises = { λ look zone k m allows. run-rises look.bytes look.sparing zone k m };
 
     ghost ends = { λ look zone k allows. base-ends look.bytes look.sparing zone k };
+
+    ghost stays = { λ look zone k found allows. base-stays look.bytes look.sparing zone k found };
 }
 
 /// The lowest run with so many Free bytes after as few purges as serve.

@@ -13,7 +13,7 @@ ghost use Rattle.heap_calls.specs.Inner.Growing.{FindsGrowth, growing, growing_s
 ghost use Rattle.heap_calls.specs.Inner.Growing.{SameBlocks, IsToGrow, CanGrowUp, GrewUp};
 ghost use Rattle.heap_calls.specs.Inner.GrowingInPlace.{made_zone};
 ghost use Rattle.heap_calls.specs.Moves.{place_moves, grow_moves, room_moves};
-ghost use Rattle.heap_calls.specs.Inner.LookLaws.{growth-rises, growth-ends};
+ghost use Rattle.heap_calls.specs.Inner.LookLaws.{growth-rises, growth-ends, growth-stays};
 ghost use Rattle.heap_calls.specs.Inner.Least.{CanGrow};
 ghost use Rattle.heap_calls.specs.Inner.Numbered.{KeepsFixed};
 ghost use Rattle.heap_calls.specs.Inner.Packed.{Packs};
@@ -21,7 +21,7 @@ ghost use Rattle.heap_calls.specs.Searches.{room_searches};
 ghost use Rattle.block_store.specs.declared.measures.TheConstants.{GREATEST_ZONE};
 
 use crate::growing_in_place::{Grown, bytes_at};
-use crate::least::{Look, least_look, next_goes};
+use crate::least::{Look, any_goes, least_look};
 use crate::search::{Seat, seat_after};
 use block_store::{BlockStore, Sparing};
 use mac_words::phys;
@@ -105,14 +105,21 @@ impl Look for FirstGrowth {
         )
     }
 
-    fn goes_on<S: BlockStore>(&self, store: &S, purges: u32) -> bool {
-        next_goes(store, purges, self.sparing)
+    fn goes_on<S: BlockStore>(&self, store: &S) -> bool {
+        any_goes(store, self.sparing)
+    }
+
+    fn most_purges<S: BlockStore>(&self, store: &S) -> u32 {
+        store.purgeable(self.sparing)
     }
 
     ghost rises = { λ look zone k m can. growth-rises look.number look.size look.bytes look.more look.sparing zone k m
         can };
 
     ghost ends = { λ look zone k can. growth-ends look.number look.size look.bytes look.more look.sparing zone k };
+
+    ghost stays = { λ look zone k found can. growth-stays look.number look.size look.bytes look.more look.sparing zone k
+        found };
 }
 
 /// How the block of a slot grows by `more` bytes to `bytes`, and to `size` bytes of content, after as few purges as

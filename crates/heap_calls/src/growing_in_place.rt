@@ -158,14 +158,20 @@ impl Look for RunAbove {
         }
     }
 
-    fn goes_on<S: BlockStore>(&self, store: &S, purges: u32) -> bool {
-        purges < self.most
+    fn goes_on<S: BlockStore>(&self, store: &S) -> bool {
+        0 < self.most
+    }
+
+    fn most_purges<S: BlockStore>(&self, store: &S) -> u32 {
+        self.most
     }
 
     ghost rises = { λ look zone k m allows. above-rises look.bytes look.sparing (spot_at look.place zone) k m };
 
     ghost ends = { λ look zone k allows. above-ends look.bytes look.most look.sparing (spot_at look.place zone) k
         allows };
+
+    ghost stays = { λ look zone k found allows le there. there };
 }
 
 /// How few blocks go from the run above the block at a place for it to have so many Free bytes.

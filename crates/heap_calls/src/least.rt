@@ -1,12 +1,11 @@
 //! The least number of purges after which what is looked for is there.
 
-ghost use Rattle.std.specs.Prelude.{◌≡◌, ◌≤◌, ◌<◌, ℕ, Bool, true, false, not, Option, List, is_some, nat_lt};
+ghost use Rattle.std.specs.Prelude.{◌≡◌, ◌≤◌, ◌<◌, ℕ, Bool, true, false, Option, List, is_some, nat_lt};
 ghost use Rattle.block_store.specs.Block.{Block};
 ghost use Rattle.block_store.specs.Compact.{least_or_last};
 ghost use Rattle.block_store.specs.Sparing.{most_purges};
 ghost use Rattle.block_store.specs.declared.measures.TheConstants.{GREATEST_ZONE};
 ghost use Rattle.heap_calls.specs.Inner.Least.{NoneBelow};
-ghost use Rattle.block_store.proofs.Plain.Trials.{past-rises, past-ends};
 
 use block_store::{BlockStore, GREATEST_ZONE, Sparing};
 
@@ -33,11 +32,16 @@ pub trait Look: Copy {
         ensures there { is_some result ≡ is_there self.now (S.zone store.now) purges }
         ensures found { Finds self.now (S.zone store.now) purges result };
 
-    /// Whether one more block can go after so many purges.
-    fn goes_on<S: BlockStore>(&self, store: &S, purges: u32) -> bool
+    /// Whether there can be a purge at all.
+    fn goes_on<S: BlockStore>(&self, store: &S) -> bool
         requires { Allows self.now (S.zone store.now) }
-        ensures more { result ≡ nat_lt purges (most self.now (S.zone store.now)) }
+        ensures more { result ≡ nat_lt 0 (most self.now (S.zone store.now)) }
         ensures few { most self.now (S.zone store.now) ≤ GREATEST_ZONE };
+
+    /// How many purges there can be.
+    fn most_purges<S: BlockStore>(&self, store: &S) -> u32
+        requires { Allows self.now (S.zone store.now) }
+        ensures { result ≡ most self.now (S.zone store.now) };
 
     /// What is there after some purges is there after more.
     ghost rises: { (look : Self) (zone : List Block) (k m : ℕ) → Allows look zone → k ≤ m
@@ -46,6 +50,10 @@ pub trait Look: Copy {
     /// Once all that can go are gone, no purge does more.
     ghost ends: { (look : Self) (zone : List Block) (k : ℕ) → Allows look zone → most look zone ≤ k
         → is_there look zone k ≡ is_there look zone (most look zone) };
+
+    /// So what a look comes to then is what it came to once they were gone.
+    ghost stays: { (look : Self) (zone : List Block) (k : ℕ) (found : Option Self.Found) → Allows look zone
+        → most look zone ≤ k → Finds look zone k found → Finds look zone (most look zone) found };
 }
 
 /// What looking came to: what was found, and after how many purges.
@@ -56,7 +64,8 @@ pub struct Looked<F> {
 }
 
 /// Looks for something after as few purges as serve; after all that there can be where none do. One look is enough
-/// where no purge is wanted; else about two looks are taken for each binary digit of the number of purges.
+/// where no purge is wanted, and two where none serve; else about two looks are taken for each binary digit of the
+/// number of purges.
 pub fn least_look<S: BlockStore, L: Look>(store: &S, look: &L) -> Looked<L::Found>
     requires { L.Allows look.now (S.zone store.now) }
     ensures least { result.purges ≡ least_or_last (L.is_there look.now (S.zone store.now))
@@ -66,52 +75,17 @@ pub fn least_look<S: BlockStore, L: Look>(store: &S, look: &L) -> Looked<L::Foun
     ensures few { result.purges ≤ GREATEST_ZONE }
 {
     let found = look.look(store, 0);
-    if found.is_some() || !look.goes_on(store, 0) {
+    if found.is_some() || !look.goes_on(store) {
         return Looked { found, purges: 0 };
     }
     let after_all = look.look(store, GREATEST_ZONE);
     if after_all.is_some() {
         return fewest(store, look);
     }
-    let purges = fewest(store, &NoneLeft { look: *look }).purges;
     Looked {
-        found: look.look(store, purges),
-        purges,
+        found: after_all,
+        purges: look.most_purges(store),
     }
-}
-
-/// That none of the blocks is left that can go, as something to be looked for.
-#[derive(Clone, Copy)]
-struct NoneLeft<L> {
-    look: L,
-}
-
-impl<L: Look> Look for NoneLeft<L> {
-    type Found = ();
-
-    ghost Allows = { λ none zone. L.Allows none.look zone };
-
-    ghost is_there = { λ none zone k. not (nat_lt k (L.most none.look zone)) };
-
-    ghost most = { λ none zone. L.most none.look zone };
-
-    ghost Finds = { λ none zone k found. Unit {0} };
-
-    fn look<S: BlockStore>(&self, store: &S, purges: u32) -> Option<()> {
-        if self.look.goes_on(store, purges) {
-            None
-        } else {
-            Some(())
-        }
-    }
-
-    fn goes_on<S: BlockStore>(&self, store: &S, purges: u32) -> bool {
-        self.look.goes_on(store, purges)
-    }
-
-    ghost rises = { λ none zone k m allows. past-rises (L.most none.look zone) k m };
-
-    ghost ends = { λ none zone k allows. past-ends (L.most none.look zone) k };
 }
 
 /// Two numbers of purges: after the first something isn't there yet, and after the second it is.
@@ -191,10 +165,10 @@ fn halve<S: BlockStore, L: Look>(
     Looked { found, purges }
 }
 
-/// Whether one more block can go after so many purges.
-pub fn next_goes<S: BlockStore>(store: &S, purges: u32, sparing: Sparing) -> bool
-    ensures more { result ≡ nat_lt purges (most_purges sparing (S.zone store.now)) }
+/// Whether any block may be emptied.
+pub fn any_goes<S: BlockStore>(store: &S, sparing: Sparing) -> bool
+    ensures more { result ≡ nat_lt 0 (most_purges sparing (S.zone store.now)) }
     ensures few { most_purges sparing (S.zone store.now) ≤ GREATEST_ZONE }
 {
-    store.next_purgeable(purges, sparing).is_some()
+    store.next_purgeable(0, sparing).is_some()
 }

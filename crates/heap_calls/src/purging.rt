@@ -16,9 +16,9 @@ ghost use Rattle.heap_calls.specs.Searches.{purge_mem_searches};
 use crate::compaction::{compact, has_room};
 use crate::growing_in_place::Grown;
 use crate::heap::Heap;
-use crate::least::{Look, least_look, next_goes};
+use crate::least::{Look, any_goes, least_look};
 use crate::refusal::Refusal;
-use block_store::{BlockStore, HEADER_SIZE, Sparing};
+use block_store::{BlockStore, GREATEST_ZONE, HEADER_SIZE, Sparing};
 use mac_words::{OsErr, phys};
 
 /// What could be had if all blocks were emptied that may be.
@@ -48,12 +48,11 @@ impl<S: BlockStore> Heap<S> {
         ensures { noting purge_space self.old ≡ (Ok (result.total, result.contiguous), self.new) }
     {
         self.log.code = OsErr::NO_ERR;
-        let purges = purges_for(&self.store, None);
         Space {
-            total: self.store.free_after(purges, Sparing::Nothing),
+            total: self.store.free_after(GREATEST_ZONE, Sparing::Nothing),
             contiguous: self
                 .store
-                .largest_after(purges, Sparing::Nothing)
+                .largest_after(GREATEST_ZONE, Sparing::Nothing)
                 .saturating_sub(HEADER_SIZE),
         }
     }
@@ -62,8 +61,7 @@ impl<S: BlockStore> Heap<S> {
     pub fn to_be_had(&self) -> u32
         ensures { result ≡ free_sum (purged_all self.now.heap.zone) }
     {
-        let purges = purges_for(&self.store, None);
-        self.store.free_after(purges, Sparing::Nothing)
+        self.store.free_after(GREATEST_ZONE, Sparing::Nothing)
     }
 
     /// `MaxMem`: empties all blocks that may be, and settles all runs; the most bytes that one block can then
@@ -71,7 +69,7 @@ impl<S: BlockStore> Heap<S> {
     pub fn max_mem(&mut self) -> u32
         ensures { moving (max_mem_moves self.old.heap) (noting max_mem self.old) ≡ (Ok result, self.new) }
     {
-        let purges = purges_for(&self.store, None);
+        let purges = self.store.purgeable(Sparing::Nothing);
         self.store.purge(purges, Sparing::Nothing);
         compact(&mut self.store, None);
         self.log.code = OsErr::NO_ERR;
@@ -121,13 +119,19 @@ impl Look for FreeBlock {
         }
     }
 
-    fn goes_on<S: BlockStore>(&self, store: &S, purges: u32) -> bool {
-        next_goes(store, purges, Sparing::Nothing)
+    fn goes_on<S: BlockStore>(&self, store: &S) -> bool {
+        any_goes(store, Sparing::Nothing)
+    }
+
+    fn most_purges<S: BlockStore>(&self, store: &S) -> u32 {
+        store.purgeable(Sparing::Nothing)
     }
 
     ghost rises = { λ look zone k m allows. has_room-rises look.bytes Nothing zone k m };
 
     ghost ends = { λ look zone k allows. room-ends look.bytes Nothing zone k };
+
+    ghost stays = { λ look zone k found allows le there. there };
 }
 
 /// How many blocks are emptied, lowest first, until a Free block of so many bytes stands; all that may be

@@ -9,12 +9,12 @@ ghost use Rattle.block_store.specs.Rest.{KeepsSlots};
 ghost use Rattle.heap_calls.specs.Moves.{place_moves};
 ghost use Rattle.heap_calls.specs.Inner.Numbered.{KeepsFixed};
 ghost use Rattle.heap_calls.specs.Inner.Packed.{Packs, seat_moves};
-ghost use Rattle.heap_calls.specs.Inner.LookLaws.{seat-ends};
+ghost use Rattle.heap_calls.specs.Inner.LookLaws.{seat-ends, seat-stays};
 ghost use Rattle.block_store.proofs.Emptied.Growing.{place-rises};
 ghost use Rattle.heap_calls.specs.Inner.Search.{FindsSeat, IsAt, seat, seat_searches};
 ghost use Rattle.block_store.specs.declared.measures.TheConstants.{GREATEST_ZONE};
 
-use crate::least::{Look, least_look, next_goes};
+use crate::least::{Look, any_goes, least_look};
 use block_store::{BlockStore, Sparing};
 
 /// Where a relocatable block goes: into the Free block at a place, or into a run once that is packed.
@@ -38,7 +38,19 @@ pub struct Room {
     pub searches: u32,
 }
 
-/// Where a relocatable block of so many bytes goes after so many purges.
+/// Where a relocatable block of so many bytes goes in the zone as it stands.
+fn seat_now<S: BlockStore>(store: &S, bytes: u32, sparing: Sparing) -> Option<Seat>
+    ensures { FindsSeat bytes (purged 0 sparing (S.zone store.now)) result }
+{
+    if let Some(place) = store.find_free(bytes, 0, sparing) {
+        return Some(Seat::Free(place));
+    }
+    let run = store.find_run(bytes, 0, sparing)?;
+    Some(Seat::Run(run))
+}
+
+/// Where a relocatable block of so many bytes goes after so many purges. A Free block is one of a run, so where no
+/// run has so many Free bytes one look is enough.
 pub fn seat_after<S: BlockStore>(
     store: &S,
     bytes: u32,
@@ -47,11 +59,16 @@ pub fn seat_after<S: BlockStore>(
 ) -> Option<Seat>
     ensures { FindsSeat bytes (purged purges sparing (S.zone store.now)) result }
 {
-    if let Some(place) = store.find_free(bytes, purges, sparing) {
-        return Some(Seat::Free(place));
+    if purges == 0 {
+        return seat_now(store, bytes, sparing);
     }
-    let run = store.find_run(bytes, purges, sparing)?;
-    Some(Seat::Run(run))
+    let Some(run) = store.find_run(bytes, purges, sparing) else {
+        return None;
+    };
+    match store.find_free(bytes, purges, sparing) {
+        Some(place) => Some(Seat::Free(place)),
+        None => Some(Seat::Run(run)),
+    }
 }
 
 /// A seat for a relocatable block of so many bytes.
@@ -76,13 +93,19 @@ impl Look for LowestSeat {
         seat_after(store, self.bytes, purges, self.sparing)
     }
 
-    fn goes_on<S: BlockStore>(&self, store: &S, purges: u32) -> bool {
-        next_goes(store, purges, self.sparing)
+    fn goes_on<S: BlockStore>(&self, store: &S) -> bool {
+        any_goes(store, self.sparing)
+    }
+
+    fn most_purges<S: BlockStore>(&self, store: &S) -> u32 {
+        store.purgeable(self.sparing)
     }
 
     ghost rises = { λ look zone k m allows. place-rises look.bytes look.sparing zone k m allows };
 
     ghost ends = { λ look zone k allows. seat-ends look.bytes look.sparing zone k };
+
+    ghost stays = { λ look zone k found allows. seat-stays look.bytes look.sparing zone k found };
 }
 
 /// Where a relocatable block of so many bytes goes after as few purges as serve.

@@ -28,9 +28,9 @@ pub enum ResourceCall {
     /// Binds the name to the resource of a type and ID in the current resource fork alone.
     Get1Resource(Label, OsType, i16),
     /// Binds the name to the first resource of a type and name, from the current resource fork on.
-    GetNamedResource(Label, OsType, Name),
+    GetNamedResource(Label, OsType, Box<Name>),
     /// Binds the name to the resource of a type and name in the current resource fork alone.
-    Get1NamedResource(Label, OsType, Name),
+    Get1NamedResource(Label, OsType, Box<Name>),
     /// Tells how many types the current resource fork has.
     Count1Types,
     /// Tells a type of the current resource fork by its place, from 1 on.
@@ -46,7 +46,7 @@ pub enum ResourceCall {
     /// Makes a resource's handle a plain one; the resource stays in its fork.
     DetachResource(Label),
     /// Makes a plain handle that of a new resource of a type, ID and name in the current resource fork.
-    AddResource(Label, OsType, i16, Name),
+    AddResource(Label, OsType, i16, Box<Name>),
     /// Takes a resource out of the current resource fork; its handle stays as a plain one.
     RemoveResource(Label),
     /// Marks a resource as changed: its fork's next update writes the handle's bytes.
@@ -56,7 +56,7 @@ pub enum ResourceCall {
     /// Tells a resource's ID, type and name.
     GetResInfo(Label),
     /// Gives a resource another ID and name.
-    SetResInfo(Label, i16, Name),
+    SetResInfo(Label, i16, Box<Name>),
     /// Tells a resource's attributes.
     GetResAttrs(Label),
     /// Gives a resource other attributes.

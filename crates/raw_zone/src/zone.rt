@@ -8,8 +8,8 @@ ghost use Rattle.block_store.specs.Sparing.{purged};
 use block_store::{
     BlockStore, Flags, GREATEST_ZONE, HEADER_SIZE, LEAST_ZONE, MASTERS_SIZE, SLOTS_A_BLOCK, Seen,
     Sparing, UNIT, Walk, find_free_in, find_run_in, free_after_in, largest_after_in,
-    largest_free_in, largest_run_in, next_purgeable_in, next_run_in, purgeable_in_run_in,
-    room_above_in, run_bytes_in, run_has_free_in, run_of_in,
+    largest_free_in, largest_run_in, next_purgeable_in, next_run_in, purgeable_in,
+    purgeable_in_run_in, room_above_in, run_has_free_in, run_of_in,
 };
 use raw_region::Part;
 use std::alloc::AllocError;
@@ -139,9 +139,8 @@ impl RawZone {
         ensures top { IfSome (run_at run (zone_of self.old)) (λ r. result.top ≡ run + sizes (movers r.run)) }
         ensures stop { IfSome (run_at run (zone_of self.old)) (λ r. result.stop ≡ run + sizes r.run) }
     {
-        let stop = run + run_bytes_in(&mut walk_from(&self.part, run));
-        let packed = settle_run(&mut self.part, run, stop);
-        self.marks.forget(&self.part, run, stop);
+        let packed = settle_run(&mut self.part, run);
+        self.marks.forget(&self.part, run, packed.stop);
         packed
     }
 
@@ -151,7 +150,7 @@ impl RawZone {
         ensures rest { IsRest (rest_of self.old) (rest_of self.new) }
     {
         self.free += purge_from(&mut self.part, 0, 0, purges, sparing);
-        self.marks = Landmarks::of(&self.part);
+        self.marks.renew_all(&self.part);
     }
 
     /// The block that a handle's slot leads to.
@@ -241,6 +240,10 @@ impl BlockStore for RawZone {
         next_purgeable_in(&mut walk_from(&self.part, 0), purges, sparing)
     }
 
+    fn purgeable(&self, sparing: Sparing) -> u32 {
+        purgeable_in(&mut walk_from(&self.part, 0), sparing)
+    }
+
     fn room_above(&self, number: u32, bytes: u32, purges: u32, sparing: Sparing) -> bool {
         room_above_in(
             &mut walk_from(&self.part, 0),
@@ -285,7 +288,7 @@ impl BlockStore for RawZone {
 
     fn purge_after(&mut self, place: u32, purges: u32, sparing: Sparing) {
         self.free += purge_above(&mut self.part, place, purges, sparing);
-        self.marks = Landmarks::of(&self.part);
+        self.marks.renew_all(&self.part);
     }
 
     fn settle(&mut self, run: u32) {
@@ -295,13 +298,8 @@ impl BlockStore for RawZone {
     }
 
     fn raise(&mut self, run: u32, bytes: u32) -> Result<(), AllocError> {
-        let packed = self.pack(run);
-        if run < packed.top {
-            raise_run(&mut self.part, run, packed.top, packed.stop, bytes);
-            self.marks.note(&self.part, run, packed.stop);
-        } else {
-            self.marks.renew(&self.part, run, packed.stop);
-        }
+        let stop = raise_run(&mut self.part, run, bytes);
+        self.marks.note(&self.part, run, stop);
         Ok(())
     }
 

@@ -151,9 +151,9 @@ resource_spoken (resource.HomeResFile h) = (word.HomeResFile, Letters h.0.items 
 resource_spoken (resource.GetResource h ty id) = (word.GetResource, Letters h.0.items ∷ Raw ty.0 ∷ Signed id ∷ [])
 resource_spoken (resource.Get1Resource h ty id) = (word.Get1Resource, Letters h.0.items ∷ Raw ty.0 ∷ Signed id ∷ [])
 resource_spoken (resource.GetNamedResource h ty text) =
-    (word.GetNamedResource, Letters h.0.items ∷ Raw ty.0 ∷ Raw text.0.items ∷ [])
+    (word.GetNamedResource, Letters h.0.items ∷ Raw ty.0 ∷ Raw text.value.0.items ∷ [])
 resource_spoken (resource.Get1NamedResource h ty text) =
-    (word.Get1NamedResource, Letters h.0.items ∷ Raw ty.0 ∷ Raw text.0.items ∷ [])
+    (word.Get1NamedResource, Letters h.0.items ∷ Raw ty.0 ∷ Raw text.value.0.items ∷ [])
 resource_spoken resource.Count1Types = (word.Count1Types, [])
 resource_spoken (resource.Get1IndType n) = (word.Get1IndType, Number n ∷ [])
 resource_spoken (resource.Count1Resources ty) = (word.Count1Resources, Raw ty.0 ∷ [])
@@ -162,13 +162,13 @@ resource_spoken (resource.LoadResource h) = (word.LoadResource, Letters h.0.item
 resource_spoken (resource.ReleaseResource h) = (word.ReleaseResource, Letters h.0.items ∷ [])
 resource_spoken (resource.DetachResource h) = (word.DetachResource, Letters h.0.items ∷ [])
 resource_spoken (resource.AddResource h ty id text) =
-    (word.AddResource, Letters h.0.items ∷ Raw ty.0 ∷ Signed id ∷ Raw text.0.items ∷ [])
+    (word.AddResource, Letters h.0.items ∷ Raw ty.0 ∷ Signed id ∷ Raw text.value.0.items ∷ [])
 resource_spoken (resource.RemoveResource h) = (word.RemoveResource, Letters h.0.items ∷ [])
 resource_spoken (resource.ChangedResource h) = (word.ChangedResource, Letters h.0.items ∷ [])
 resource_spoken (resource.WriteResource h) = (word.WriteResource, Letters h.0.items ∷ [])
 resource_spoken (resource.GetResInfo h) = (word.GetResInfo, Letters h.0.items ∷ [])
 resource_spoken (resource.SetResInfo h id text) =
-    (word.SetResInfo, Letters h.0.items ∷ Signed id ∷ Raw text.0.items ∷ [])
+    (word.SetResInfo, Letters h.0.items ∷ Signed id ∷ Raw text.value.0.items ∷ [])
 resource_spoken (resource.GetResAttrs h) = (word.GetResAttrs, Letters h.0.items ∷ [])
 resource_spoken (resource.SetResAttrs h byte) = (word.SetResAttrs, Letters h.0.items ∷ Number byte ∷ [])
 resource_spoken (resource.GetResourceSizeOnDisk h) = (word.GetResourceSizeOnDisk, Letters h.0.items ∷ [])

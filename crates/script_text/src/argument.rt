@@ -149,6 +149,16 @@ pub fn path_in(token: &[u8]) -> Option<&str>
     }
 }
 
+/// The name of a resource that a token writes.
+fn name_in(alloc: Global, token: &[u8]) -> Result<Option<Name>, AllocError>
+    ensures { IfOk result (λ found. Finds (λ text. Raw text.0.items) found (value Text token.now)) }
+{
+    match bytes_in(alloc, token)? {
+        Some(bytes) => Ok(ArrayVec::try_from(bytes.as_slice()).ok().map(Name)),
+        None => Ok(None),
+    }
+}
+
 /// An argument of a call. Its type tells its kind.
 pub trait Argument: Sized {
     ghost kind: { Kind };
@@ -247,14 +257,14 @@ impl Argument for FileName {
     }
 }
 
-impl Argument for Name {
+impl Argument for Box<Name> {
     ghost kind = { Text };
 
-    ghost seen = { λ text. Raw text.0.items };
+    ghost seen = { λ text. Raw text.value.0.items };
 
     fn find(alloc: Global, token: &[u8]) -> Result<Option<Self>, AllocError> {
-        match bytes_in(alloc, token)? {
-            Some(bytes) => Ok(ArrayVec::try_from(bytes.as_slice()).ok().map(Name)),
+        match name_in(alloc, token)? {
+            Some(name) => Ok(Some(Box::new(alloc, name)?)),
             None => Ok(None),
         }
     }

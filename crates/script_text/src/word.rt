@@ -1,10 +1,11 @@
 //! The words of the calls.
 
-ghost use Rattle.std.specs.Prelude.{◌≡◌, true, Some, IfOk, IfSome, bytes_eq};
-ghost use Rattle.script_text.specs.Call.{spelling, spoken, word_of, may_stand, word_spelled, call_read};
+ghost use Rattle.std.specs.Prelude.{◌≡◌, [], ◌∷◌, true, Some, IfOk, IfSome, bytes_eq};
+ghost use Rattle.script_text.specs.Call.{spelling, kinds, spoken, word_of, may_stand, word_spelled, call_read};
 ghost use Rattle.script_text.specs.Reading.{Gives};
 ghost use Rattle.script_text.specs.declared.word.Word as declared;
 
+use crate::argument::Argument;
 use crate::arguments::{four, none, one, three, two};
 use crate::fault::FaultKind;
 use crate::likely::likely;
@@ -205,20 +206,20 @@ macro_rules! spelling_of {
 }
 
 macro_rules! arm {
-    ($alloc:expr, $text:expr; $word:ident $group:ident $calls:ident none()) => {
-        { none($text)?; Ok(Call::$group($calls::$word)) }
+    ($given:expr, $alloc:expr, $text:expr; $word:ident $group:ident $calls:ident none()) => {
+        $given.of_none($text, || Call::$group($calls::$word))
     };
-    ($alloc:expr, $text:expr; $word:ident $group:ident $calls:ident one($a:ident)) => {
-        { let a = one($alloc, $text)?; Ok(Call::$group($calls::$word(a))) }
+    ($given:expr, $alloc:expr, $text:expr; $word:ident $group:ident $calls:ident one($a:ident)) => {
+        $given.of_one($alloc, $text, |a| Call::$group($calls::$word(a)))
     };
-    ($alloc:expr, $text:expr; $word:ident $group:ident $calls:ident two($a:ident, $b:ident)) => {
-        { let (a, b) = two($alloc, $text)?; Ok(Call::$group($calls::$word(a, b))) }
+    ($given:expr, $alloc:expr, $text:expr; $word:ident $group:ident $calls:ident two($a:ident, $b:ident)) => {
+        $given.of_two($alloc, $text, |a, b| Call::$group($calls::$word(a, b)))
     };
-    ($alloc:expr, $text:expr; $word:ident $group:ident $calls:ident three($a:ident, $b:ident, $c:ident)) => {
-        { let (a, b, c) = three($alloc, $text)?; Ok(Call::$group($calls::$word(a, b, c))) }
+    ($given:expr, $alloc:expr, $text:expr; $word:ident $group:ident $calls:ident three($a:ident, $b:ident, $c:ident)) => {
+        $given.of_three($alloc, $text, |a, b, c| Call::$group($calls::$word(a, b, c)))
     };
-    ($alloc:expr, $text:expr; $word:ident $group:ident $calls:ident four($a:ident, $b:ident, $c:ident, $d:ident)) => {
-        { let (a, b, c, d) = four($alloc, $text)?; Ok(Call::$group($calls::$word(a, b, c, d))) }
+    ($given:expr, $alloc:expr, $text:expr; $word:ident $group:ident $calls:ident four($a:ident, $b:ident, $c:ident, $d:ident)) => {
+        $given.of_four($alloc, $text, |a, b, c, d| Call::$group($calls::$word(a, b, c, d)))
     };
 }
 
@@ -228,7 +229,7 @@ macro_rules! read_of {
         $($owner:literal { $($word:ident = $group:ident $calls:ident $read:ident $names:tt;)* })*
         [$($held:ident)*]
     ) => {
-        match $given { $($(Word::$word => arm!($alloc, $text; $word $group $calls $read $names),)*)* }
+        match $given { $($(Word::$word => arm!($given, $alloc, $text; $word $group $calls $read $names),)*)* }
     };
 }
 
@@ -324,6 +325,87 @@ impl Word {
             Some(word) => Some(word),
             None => any_word(token),
         }
+    }
+
+    /// The call of this word, that takes no argument.
+    fn of_none<F: FnOnce() -> Call>(self, text: &[u8], make: F) -> Result<Call, FaultKind>
+        requires callable { F.IsAlwaysCallable make }
+        requires kinds { kinds self ≡ [] }
+        requires made { (call : Call) → F.post make call → spoken call ≡ (self, []) }
+        ensures call { Gives spoken result (call_read self text.now) }
+        ensures word { IfOk result (λ call. word_of call ≡ self) }
+    {
+        none(text)?;
+        Ok(make())
+    }
+
+    /// The call of this word, that is made of one argument.
+    fn of_one<A: Argument + Drop, F: FnOnce(A) -> Call>(
+        self,
+        alloc: Global,
+        text: &[u8],
+        make: F,
+    ) -> Result<Call, FaultKind>
+        requires callable { F.IsAlwaysCallable make }
+        requires kinds { kinds self ≡ A.kind ∷ [] }
+        requires made { (a : A) → (call : Call) → F.post make a call → spoken call ≡ (self, A.seen a ∷ []) }
+        ensures call { Gives spoken result (call_read self text.now) }
+        ensures word { IfOk result (λ call. word_of call ≡ self) }
+    {
+        let a = one(alloc, text)?;
+        Ok(make(a))
+    }
+
+    /// The call of this word, that is made of two arguments.
+    fn of_two<A: Argument + Drop, B: Argument + Drop, F: FnOnce(A, B) -> Call>(
+        self,
+        alloc: Global,
+        text: &[u8],
+        make: F,
+    ) -> Result<Call, FaultKind>
+        requires callable { F.IsAlwaysCallable make }
+        requires kinds { kinds self ≡ A.kind ∷ B.kind ∷ [] }
+        requires made { (a : A) → (b : B) → (call : Call) → F.post make a b call → spoken call ≡ (self, A.seen a ∷ B.seen b ∷ []) }
+        ensures call { Gives spoken result (call_read self text.now) }
+        ensures word { IfOk result (λ call. word_of call ≡ self) }
+    {
+        let (a, b) = two(alloc, text)?;
+        Ok(make(a, b))
+    }
+
+    /// The call of this word, that is made of three arguments.
+    fn of_three<
+        A: Argument + Drop,
+        B: Argument + Drop,
+        C: Argument + Drop,
+        F: FnOnce(A, B, C) -> Call,
+    >(self, alloc: Global, text: &[u8], make: F) -> Result<Call, FaultKind>
+        requires callable { F.IsAlwaysCallable make }
+        requires kinds { kinds self ≡ A.kind ∷ B.kind ∷ C.kind ∷ [] }
+        requires made { (a : A) → (b : B) → (c : C) → (call : Call) → F.post make a b c call → spoken call ≡ (self, A.seen a ∷ B.seen b ∷ C.seen c ∷ []) }
+        ensures call { Gives spoken result (call_read self text.now) }
+        ensures word { IfOk result (λ call. word_of call ≡ self) }
+    {
+        let (a, b, c) = three(alloc, text)?;
+        Ok(make(a, b, c))
+    }
+
+    /// The call of this word, that is made of four arguments.
+    fn of_four<
+        A: Argument + Drop,
+        B: Argument + Drop,
+        C: Argument + Drop,
+        D: Argument + Drop,
+        F: FnOnce(A, B, C, D) -> Call,
+    >(self, alloc: Global, text: &[u8], make: F) -> Result<Call, FaultKind>
+        requires callable { F.IsAlwaysCallable make }
+        requires kinds { kinds self ≡ A.kind ∷ B.kind ∷ C.kind ∷ D.kind ∷ [] }
+        requires made { (a : A) → (b : B) → (c : C) → (d : D) → (call : Call) → F.post make a b c d call → spoken call ≡ (self, A.seen a ∷ B.seen b ∷ C.seen c ∷ D.seen d ∷ []) }
+        ensures call { Gives spoken result (call_read self text.now) }
+        ensures word { IfOk result (λ call. word_of call ≡ self) }
+    {
+        let (a, b, c, d) = four(alloc, text)?;
+        Ok(make(a, b, c, d))
     }
 
     /// The call of this word, whose arguments a text spells.

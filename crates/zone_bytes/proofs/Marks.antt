@@ -4,3 +4,4 @@ pub mod Lowering
 pub mod Rooms
 pub mod Keeping
 pub mod Owed
+pub mod Tops

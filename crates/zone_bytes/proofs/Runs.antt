@@ -1,9 +1,12 @@
 pub mod Packed
+pub mod Ends
 pub mod Settled
+pub mod Led
 pub mod Runs
 pub mod RunsAt
 pub mod Pointers
 pub mod Raises
+pub mod Lifts
 pub mod NextRuns
 pub mod Moved
 pub mod Hoists

@@ -3,12 +3,12 @@ use Rattle.std.specs.Prelude.{◌≡◌, ℕ, List}
 use Rattle.block_store.specs.Block.{Block, free_sum}
 use Rattle.zone_bytes.specs.Decode.{zone_in}
 use Rattle.zone_bytes.specs.Lawful.{IsSound}
-use Rattle.zone_bytes.specs.Marks.{AreMarks}
+use Rattle.zone_bytes.specs.Marks.{AreMarks, AreTops}
 use Rattle.zone_bytes.specs.declared.keeping.Landmarks.{Landmarks}
 
--- the landmarks are those of the zone
+-- the landmarks are those of the zone, and the tops those of their groups
 abbrev pub AreOf : Landmarks → List Block → Type 0
-AreOf landmarks zone = AreMarks 4294967295 zone landmarks.marks
+AreOf landmarks zone = AreMarks 4294967295 zone landmarks.marks × AreTops landmarks.tops landmarks.marks
 
 -- the bytes lay the zone that they spell, so many of them are Free, and the landmarks are those of that zone
 pub record IsMarked (xs : List ℕ) (first unused free : ℕ) (landmarks : Landmarks) : Type 0 where

@@ -1,8 +1,10 @@
 -- Landmarks of a zone: places at which blocks begin, between which no Free block is larger than is noted.
-use Rattle.std.specs.Prelude.{◌≡◌, ℕ, ◌+◌, ◌≤◌, ◌<◌, ◌⊎◌, true, false, List, [], ◌∷◌, ◌++◌}
+use Rattle.std.specs.Prelude.{◌≡◌, ℕ, ◌+◌, ◌*◌, ◌≤◌, ◌<◌, ◌⊎◌, true, false, List, [], ◌∷◌, ◌++◌}
+use Rattle.std.specs.Prelude.{length, drop, get_or}
 use Rattle.block_store.specs.Block.{Block, size, sizes, free_of, is_room}
 use Rattle.zone_bytes.specs.Stepping.{left_in, IsOnWay}
 use Rattle.zone_bytes.specs.declared.landmark.Landmark.{Landmark}
+use Rattle.zone_bytes.specs.declared.landmark.TheConstants.{GROUP}
 
 -- something holds of each of the blocks from `at` on and its place
 abbrev pub AtEach : (ℕ → Block → Type 0) → ℕ → List Block → Type 0
@@ -32,6 +34,16 @@ abbrev pub AreMarks : ℕ → List Block → List Landmark → Type 0
 AreMarks end zone [] = Unit {0}
 AreMarks end zone (m ∷ marks) = Begins m.at 0 zone × AtEach (AtMost m.most m.at (next_of end marks)) 0 zone
     × (m.at ≤ next_of end marks) × AreMarks end zone marks
+
+-- landmarks are in groups, and none of a group notes more than the group's top
+pub record AreTops (tops : List ℕ) (marks : List Landmark) : Type 0 where
+  pub whole : length marks ≡ GROUP * length tops
+  pub each : (group index : ℕ) → GROUP * group ≤ index → index < GROUP * group + GROUP → index < length marks
+      → (get_or marks index (record { at = 0; most = 0 })).most ≤ get_or tops group 0
+
+-- no room for so many bytes lies below a landmark; where there are no so many of them, none lies in the zone
+abbrev pub NoneBelow : ℕ → List Block → List Landmark → ℕ → Type 0
+NoneBelow bytes zone marks index = AtEach (NoRoom bytes 0 (next_of 4294967295 (drop index marks))) 0 zone
 
 -- the blocks from lo to hi became others of as many bytes
 pub record Replaced (lo hi : ℕ) (old new : List Block) : Type 0 where

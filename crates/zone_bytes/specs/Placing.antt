@@ -1,10 +1,9 @@
 -- The run and the block at a place of the zone that bytes spell.
-use Rattle.std.specs.Prelude.{ℕ, ◌-◌, List, [], Option, Some, None, drop, length}
-use Rattle.block_store.specs.Block.{Masters, free_sum}
-use Rattle.block_store.specs.Run.{RunSpot, run_at, movers, segments}
+use Rattle.std.specs.Prelude.{ℕ, List, [], Option, Some, None, drop, length}
+use Rattle.block_store.specs.Block.{Masters}
+use Rattle.block_store.specs.Run.{RunSpot, run_at, segments}
 use Rattle.block_store.specs.Room.{Spot, spot_at}
 use Rattle.zone_bytes.specs.Settling.{Lay}
-use Rattle.zone_bytes.specs.Raising.{Raise}
 use Rattle.zone_bytes.specs.Hoisting.{Hoist}
 use Rattle.zone_bytes.specs.Decode.{zone_in}
 use Rattle.zone_bytes.specs.Table.{slot_in}
@@ -24,31 +23,6 @@ lay_from xs (Some r) = record {
 -- the run at a place
 abbrev pub lay_at : List ℕ → ℕ → Lay
 lay_at xs place = lay_from xs (run_at place (zone_in xs))
-
-abbrev pub raise_from : List ℕ → ℕ → Option RunSpot → Raise
-raise_from xs gap None = record {
-  resource = λ s. is_resource (slot_in xs s);
-  below = [];
-  movers = [];
-  above = [];
-  gap =
-      gap;
-  rest = 0;
-  bytes = xs;
-}
-raise_from xs gap (Some r) = record {
-  resource = λ s. is_resource (slot_in xs s);
-  below = r.below;
-  movers = movers r.run;
-  above = r.above;
-  gap = gap;
-  rest = free_sum r.run - gap;
-  bytes = xs;
-}
-
--- the run at a place, with so many Free bytes to come below it
-abbrev pub raise_at : List ℕ → ℕ → ℕ → Raise
-raise_at xs place gap = raise_from xs gap (run_at place (zone_in xs))
 
 abbrev pub hoist_from : List ℕ → Option Spot → Hoist
 hoist_from xs None = record {

@@ -1,8 +1,9 @@
--- A packed run that is raised.
+-- A run whose relocatable blocks are raised.
 use Rattle.std.specs.Prelude.{◌≡◌, ℕ, Bool, ◌+◌, ◌%◌, ◌≤◌, ◌<◌, List, ◌∷◌, ◌++◌, length}
-use Rattle.block_store.specs.Block.{Block, Free, free, sizes}
-use Rattle.zone_bytes.specs.Layout.{Each}
-use Rattle.zone_bytes.specs.Settling.{InRun, Lies, HasSlots, SameOthers}
+use Rattle.block_store.specs.Block.{Block, Free, free, free_sum, sizes, tidy}
+use Rattle.block_store.specs.Run.{low}
+use Rattle.zone_bytes.specs.Layout.{head_of, Tiles, Leads, Each}
+use Rattle.zone_bytes.specs.Settling.{Lay, InRun, Lies, HasSlots, IsRun, SameOthers}
 
 -- the relocatable blocks of a packed run, the bytes that come below them and those that stay above them
 pub record Raise : Type 0 where
@@ -23,8 +24,12 @@ raised_run z = Free z.gap ∷ (z.movers ++ free z.rest)
 abbrev pub raised : Raise → List Block
 raised z = z.below ++ (raised_run z ++ z.above)
 
+-- the blocks lie packed, and the slots of the relocatable ones lead `gap` above them
 pub record MayRaise (z : Raise) (place top stop gap : ℕ) : Type 0 where
-  pub lies : Lies z.resource (packed z) z.bytes
+  pub tiles : Tiles (head_of z.resource) z.bytes (packed z)
+  pub low : Leads 0 z.below z.bytes
+  pub leads : Leads (place + gap) z.movers z.bytes
+  pub high : Leads stop z.above z.bytes
   pub slots : HasSlots (packed z)
   pub bottom : sizes z.below ≡ place
   pub middle : place + sizes z.movers ≡ top
@@ -39,3 +44,19 @@ pub record Raised (z : Raise) (xs : List ℕ) : Type 0 where
   pub lies : Lies z.resource (raised z) xs
   pub others : SameOthers (packed z) z.bytes xs
   pub kept : length xs ≡ length z.bytes
+
+-- so many Free bytes, the relocatable blocks of a run, and the rest of its Free bytes
+abbrev pub lifted : ℕ → List Block → List Block
+lifted gap run = tidy (low (Free gap) run)
+
+-- the run of `lay` begins at place, and has so many Free bytes
+pub record MayLift (lay : Lay) (place gap : ℕ) : Type 0 where
+  pub run : IsRun lay place (place + sizes lay.run)
+  pub some : 0 < gap
+  pub even : gap % 16 ≡ 0
+  pub enough : gap ≤ free_sum lay.run
+
+pub record Lifted (lay : Lay) (gap : ℕ) (xs : List ℕ) : Type 0 where
+  pub lies : Lies lay.resource (lay.below ++ (lifted gap lay.run ++ lay.above)) xs
+  pub others : SameOthers (lay.below ++ (lay.run ++ lay.above)) lay.bytes xs
+  pub kept : length xs ≡ length lay.bytes

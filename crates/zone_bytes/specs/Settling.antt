@@ -1,6 +1,6 @@
 -- A run whose relocatable blocks are being moved down.
-use Rattle.std.specs.Prelude.{◌≡◌, ℕ, ◌+◌, ◌-◌, ◌%◌, ◌≤◌, Bool, true, nat_lt, if◌then◌else◌, List, [], ◌∷◌, ◌++◌}
-use Rattle.std.specs.Prelude.{length, take, drop}
+use Rattle.std.specs.Prelude.{◌≡◌, ℕ, ◌+◌, ◌-◌, ◌%◌, ◌≤◌, zero, suc, Bool, true, false, nat_lt, if◌then◌else◌, List, []}
+use Rattle.std.specs.Prelude.{◌∷◌, ◌++◌, length, take, drop}
 use Rattle.windows.specs.Writes.{piece}
 use Rattle.block_store.specs.Block.{Block, free_of, free_sum, is_mover, sizes}
 use Rattle.block_store.specs.Run.{in_run, movers, settle}
@@ -33,21 +33,35 @@ pub record HasSlots (blocks : List Block) : Type 0 where
   pub slots : Each (λ s. IsSlot s blocks) (names blocks)
   pub apart : Pairs Apart (names blocks)
 
--- the run of `lay` is from place to stop
+-- nothing, or blocks that begin with one that ends a run
+abbrev pub EndsRun : List Block → Type 0
+EndsRun [] = Unit {0}
+EndsRun (b ∷ above) = in_run b ≡ false
+
+-- whether a block belongs to a run, by the number of its kind and the flags in its header
+abbrev pub runs_on : ℕ → ℕ → Bool
+runs_on zero f = true
+runs_on (suc zero) f = false
+runs_on (suc (suc zero)) f = false
+runs_on (suc (suc (suc k))) f = nat_lt f 128
+
+-- the run of `lay` is from place to stop, and goes on no further
 pub record IsRun (lay : Lay) (place stop : ℕ) : Type 0 where
   pub lies : Lies lay.resource (lay.below ++ (lay.run ++ lay.above)) lay.bytes
   pub slots : HasSlots (lay.below ++ (lay.run ++ lay.above))
   pub bottom : sizes lay.below ≡ place
   pub top : place + sizes lay.run ≡ stop
   pub in_run : Each InRun lay.run
+  pub ends : EndsRun lay.above
   pub small : length lay.bytes ≤ 134217728
 
 -- the slot words that lead to no block are those that were in the bytes
 abbrev pub SameOthers : List Block → List ℕ → List ℕ → Type 0
 SameOthers blocks old new = (s : ℕ) → IsSlot s blocks → Each (Apart s) (names blocks) → piece s 4 new ≡ piece s 4 old
 
--- the run's blocks below `from` are `moved` now, up to `to`, and `moves` of them came lower; `rest` lie as they did
-pub record PackingAt (lay : Lay) (stop from to moves : ℕ) (xs : List ℕ) (moved rest : List Block) : Type 0 where
+-- the run's blocks below `from` are `moved` now, up to `to`, and `moves` of them came lower; `rest` lie as they did.
+-- The slots of those that were moved lead `gap` above them
+pub record PackingAt (lay : Lay) (gap stop from to moves : ℕ) (xs : List ℕ) (moved rest : List Block) : Type 0 where
   pub low : Tiles (head_of lay.resource) (take to xs) (lay.below ++ moved)
   pub high : Tiles (head_of lay.resource) (drop from xs) (rest ++ lay.above)
   pub order : moved ++ movers rest ≡ movers lay.run
@@ -57,18 +71,30 @@ pub record PackingAt (lay : Lay) (stop from to moves : ℕ) (xs : List ℕ) (mov
   pub whole : (from % 16 ≡ 0) × (to % 16 ≡ 0)
   pub kept : length xs ≡ length lay.bytes
   pub in_run : Each InRun rest
-  pub lead_low : Leads 0 (lay.below ++ moved) xs
+  pub lead_low : Leads 0 lay.below xs
+  pub lead_moved : Leads (sizes lay.below + gap) moved xs
   pub lead_high : Leads from (rest ++ lay.above) xs
   pub named : names (lay.below ++ moved) ++ names (rest ++ lay.above) ≡ names (lay.below ++ (lay.run ++ lay.above))
   pub count : moves + falling_from (from - to) rest ≡ falling_from 0 lay.run
   pub others : SameOthers (lay.below ++ (lay.run ++ lay.above)) lay.bytes xs
 
-pub record Packing (lay : Lay) (stop from to moves : ℕ) (xs : List ℕ) : Type 0 where
+pub record Packing (lay : Lay) (gap stop from to moves : ℕ) (xs : List ℕ) : Type 0 where
   pub moved : List Block
   pub rest : List Block
-  pub state : PackingAt lay stop from to moves xs moved rest
+  pub state : PackingAt lay gap stop from to moves xs moved rest
 
--- the run's relocatable blocks lie one after another from its bottom on, with one Free block above them
+-- the run's relocatable blocks lie one after another from its bottom on, with one Free block above them, and their slots
+-- lead `gap` above them
+pub record Packed (lay : Lay) (gap moves : ℕ) (xs : List ℕ) : Type 0 where
+  pub tiles : Tiles (head_of lay.resource) xs (lay.below ++ (settle lay.run ++ lay.above))
+  pub low : Leads 0 lay.below xs
+  pub leads : Leads (sizes lay.below + gap) (movers lay.run) xs
+  pub high : Leads (sizes lay.below + sizes lay.run) lay.above xs
+  pub others : SameOthers (lay.below ++ (lay.run ++ lay.above)) lay.bytes xs
+  pub moved : moves ≡ falling_from 0 lay.run
+  pub kept : length xs ≡ length lay.bytes
+
+-- they are packed, and each is led to by its slot
 pub record Settled (lay : Lay) (moves : ℕ) (xs : List ℕ) : Type 0 where
   pub lies : Lies lay.resource (lay.below ++ (settle lay.run ++ lay.above)) xs
   pub others : SameOthers (lay.below ++ (lay.run ++ lay.above)) lay.bytes xs

@@ -9,28 +9,37 @@ ghost use Rattle.zone_bytes.specs.Marked.{AreOf};
 ghost use Rattle.zone_bytes.specs.Marks.{AreMarks, Begins, Replaced};
 ghost use Rattle.zone_bytes.specs.Stepping.{IsOnWay};
 
-use crate::landmark::Landmark;
+use crate::grouping::{raise_top, renew_tops};
+use crate::landmark::{GROUP, Landmark, UNKNOWN};
 use crate::marking::{change_marks, find_by_marks, lay_marks, mark_below};
+use crate::measuring::greater;
 use crate::resizing::free_behind;
 use raw_region::Part;
 
-/// How many landmarks a zone has: as many as it has pages. The search for room goes over all of them, and each
-/// change over the blocks of a page.
-const LANDMARKS: usize = 2048;
+/// How many landmarks a zone has, one for each of its pages. Each change goes over the blocks of a page.
+const LANDMARKS: usize = 8192;
+
+/// How many groups of landmarks a zone has. The search for room goes over all of them.
+const GROUPS: usize = LANDMARKS / GROUP;
+
+/// The least bytes of a page.
+const LEAST_PAGE: u32 = 256;
 
 /// Places of known blocks of a zone, one for each page of its bytes, and between each two of them a bound on the Free
-/// blocks. They lie beside the zone's bytes, and can be thrown away at any time.
+/// blocks; and for each group of them a bound on what they note. They lie beside the zone's bytes, and can be thrown
+/// away at any time.
 #[derive(Drop)]
 pub struct Landmarks {
     marks: [Landmark; LANDMARKS],
+    tops: [u32; GROUPS],
 }
 
-/// How many bytes a page has, of which a zone has as many as landmarks.
+/// How many bytes a page has, of which a zone has no more than landmarks.
 fn page_bytes(part: &Part) -> u32
     requires { IsOnWay 0 part.now.bytes }
     ensures { 0 < result }
 {
-    (part.len() as u32) / LANDMARKS as u32 + 1
+    greater(LEAST_PAGE, (part.len() as u32) / LANDMARKS as u32 + 1)
 }
 
 impl Landmarks {
@@ -39,14 +48,26 @@ impl Landmarks {
         requires sound { (first : ℕ) × (unused : ℕ) × IsSound part.now.bytes first unused }
         ensures { AreOf result (zone_in part.now.bytes) }
     {
-        let nothing = Landmark {
-            at: 0,
-            most: u32::MAX,
+        let mut landmarks = Landmarks {
+            marks: [UNKNOWN; LANDMARKS],
+            tops: [0; GROUPS],
         };
-        let mut marks = [nothing; LANDMARKS];
-        let page = page_bytes(part);
-        lay_marks(&mut marks, part, 0, page, page, u32::MAX);
-        Landmarks { marks }
+        landmarks.renew_all(part);
+        landmarks
+    }
+
+    /// The landmarks of another zone, by one walk over it, whatever they were. Those that it has no pages for stand at
+    /// its end.
+    pub fn renew_all(&mut self, part: &Part)
+        requires sound { (first : ℕ) × (unused : ℕ) × IsSound part.now.bytes first unused }
+        ensures { AreOf self.new (zone_in part.now.bytes) }
+    {
+        let end = part.len() as u32;
+        self.marks.fill(Landmark { at: end, most: 0 });
+        self.tops.fill(0);
+        self.marks[0] = UNKNOWN;
+        raise_top(&mut self.tops, 0, UNKNOWN.most);
+        self.renew(part, 0, end);
     }
 
     /// A landmark below a place; 0 where there is none.
@@ -63,7 +84,7 @@ impl Landmarks {
         requires marks { AreOf self.now (zone_in part.now.bytes) }
         ensures { FindsLowest (is_room bytes) (zone_in part.now.bytes) result }
     {
-        find_by_marks(&self.marks, part, bytes)
+        find_by_marks(&self.marks, &self.tops, part, bytes)
     }
 
     /// Notes that the blocks from one place to another became others.
@@ -75,7 +96,8 @@ impl Landmarks {
     {
         let page = page_bytes(part);
         if lo / page == hi / page {
-            change_marks(&mut self.marks, part, lo, hi, free_behind(part, lo));
+            let free = free_behind(part, lo);
+            change_marks(&mut self.marks, &mut self.tops, part, lo, hi, free);
         } else {
             self.forget(part, lo, hi);
             self.renew(part, lo, hi);
@@ -90,7 +112,7 @@ impl Landmarks {
             × AreOf self.old old }
         ensures { AreOf self.new (zone_in part.now.bytes) }
     {
-        change_marks(&mut self.marks, part, lo, hi, u32::MAX);
+        change_marks(&mut self.marks, &mut self.tops, part, lo, hi, u32::MAX);
     }
 
     /// Puts the landmarks of the pages from one place to another where their blocks are, by one walk over these.
@@ -102,6 +124,15 @@ impl Landmarks {
         let page = page_bytes(part);
         let first = LANDMARKS.min((lo / page) as usize);
         let page_end = lo.saturating_sub(lo % page).saturating_add(page);
-        lay_marks(&mut self.marks, part, first, page_end, page, hi);
+        let end = lay_marks(
+            &mut self.marks,
+            &mut self.tops,
+            part,
+            first,
+            page_end,
+            page,
+            hi,
+        );
+        renew_tops(&self.marks, &mut self.tops, first, end);
     }
 }

@@ -1,15 +1,18 @@
 //! Finds by landmarks, and landmarks of a zone that changes.
 
-ghost use Rattle.std.specs.Prelude.{◌≡◌, ◌≤◌, ◌<◌, ◌-◌, ◌⊎◌, ℕ, List, Some, IsTrue, MatchOption, IfSome, false, true};
+ghost use Rattle.std.specs.Prelude.{◌≡◌, ◌≤◌, ◌<◌, ◌+◌, ◌-◌, ◌*◌, ◌⊎◌, ℕ, List, Some, IsTrue, MatchOption, IfSome, false, true};
 ghost use Rattle.std.specs.Prelude.{length, drop, get_or};
 ghost use Rattle.block_store.specs.Block.{Block, is_room};
 ghost use Rattle.block_store.specs.Find.{FindsLowest};
 ghost use Rattle.zone_bytes.specs.Decode.{zone_in};
 ghost use Rattle.zone_bytes.specs.Lawful.{IsSound};
-ghost use Rattle.zone_bytes.specs.Marks.{AtEach, AtMost, NoRoom, Begins, AreMarks, Replaced, Lowered, next_of};
+ghost use Rattle.zone_bytes.specs.Marks.{AtEach, AtMost, NoRoom, NoneBelow, Begins, AreMarks, AreTops, Replaced};
+ghost use Rattle.zone_bytes.specs.Marks.{Lowered, next_of};
 ghost use Rattle.zone_bytes.specs.Stepping.{left_in, IsOnWay};
+ghost use Rattle.zone_bytes.specs.declared.landmark.TheConstants.{GROUP};
 
-use crate::landmark::Landmark;
+use crate::grouping::{raise_top, renew_tops};
+use crate::landmark::{GROUP, Landmark, UNKNOWN};
 use crate::measuring::{Measured, largest_between, measure_up_to, room_between};
 use raw_region::Part;
 
@@ -71,23 +74,45 @@ fn room_in_stretch(part: &Part, mark: Landmark, to: u32, bytes: u32) -> Option<u
     }
 }
 
-/// The place of the lowest Free block of at least so many bytes.
-pub fn find_by_marks(marks: &[Landmark], part: &Part, bytes: u32) -> Option<u32>
+/// The lowest Free block of at least so many bytes in the stretches of a group's landmarks, where there is none below
+/// them.
+fn room_in_group(marks: &[Landmark], part: &Part, group: usize, bytes: u32) -> Option<u32>
     requires sound { (first : ℕ) × (unused : ℕ) × IsSound part.now.bytes first unused }
     requires marks { AreMarks 4294967295 (zone_in part.now.bytes) marks.now }
-    ensures { FindsLowest (is_room bytes) (zone_in part.now.bytes) result }
+    requires within { GROUP * group + GROUP ≤ length marks.now }
+    requires below { NoneBelow bytes (zone_in part.now.bytes) marks.now (GROUP * group) }
+    ensures none { MatchOption result
+        (NoneBelow bytes (zone_in part.now.bytes) marks.now (GROUP * group + GROUP)) (λ _. Unit {0}) }
+    ensures found { IfSome result (λ place. FindsLowest (is_room bytes) (zone_in part.now.bytes) (Some place)) }
 {
-    let mut last = Landmark {
-        at: 0,
-        most: u32::MAX,
-    };
-    for mark in marks {
-        if let Some(place) = room_in_stretch(part, last, mark.at, bytes) {
+    let low = group * GROUP;
+    for index in low..low + GROUP {
+        let to = place_of_mark(marks, index + 1);
+        if let Some(place) = room_in_stretch(part, marks[index], to, bytes) {
             return Some(place);
         }
-        last = *mark;
     }
-    room_in_stretch(part, last, u32::MAX, bytes)
+    None
+}
+
+/// The place of the lowest Free block of at least so many bytes.
+pub fn find_by_marks(marks: &[Landmark], tops: &[u32], part: &Part, bytes: u32) -> Option<u32>
+    requires sound { (first : ℕ) × (unused : ℕ) × IsSound part.now.bytes first unused }
+    requires marks { AreMarks 4294967295 (zone_in part.now.bytes) marks.now }
+    requires tops { AreTops tops.now marks.now }
+    ensures { FindsLowest (is_room bytes) (zone_in part.now.bytes) result }
+{
+    if let Some(place) = room_in_stretch(part, UNKNOWN, place_of_mark(marks, 0), bytes) {
+        return Some(place);
+    }
+    for group in 0..tops.len() {
+        if bytes <= tops[group] {
+            if let Some(place) = room_in_group(marks, part, group, bytes) {
+                return Some(place);
+            }
+        }
+    }
+    None
 }
 
 /// Where a landmark stands once the blocks from one place to another are others.
@@ -126,22 +151,31 @@ fn changed_mark(mark: Landmark, above: u32, part: &Part, lo: u32, hi: u32, free:
 
 /// The landmarks once the blocks from one place to another became others: only those are touched whose stretches
 /// have some of these.
-pub fn change_marks(marks: &mut [Landmark], part: &Part, lo: u32, hi: u32, free: u32)
+pub fn change_marks(
+    marks: &mut [Landmark],
+    tops: &mut [u32],
+    part: &Part,
+    lo: u32,
+    hi: u32,
+    free: u32,
+)
     requires sound { (first : ℕ) × (unused : ℕ) × IsSound part.now.bytes first unused }
     requires marks { (old : List Block) × Replaced lo hi old (zone_in part.now.bytes) × AreMarks 4294967295 old marks.old }
-    ensures { AreMarks 4294967295 (zone_in part.now.bytes) marks.new }
+    requires tops { AreTops tops.old marks.old }
+    ensures marks { AreMarks 4294967295 (zone_in part.now.bytes) marks.new }
+    ensures tops { AreTops tops.new marks.new }
 {
-    let mut left = index_above(marks, hi);
-    let mut above = place_of_mark(marks, left);
-    while left > 0 {
-        left -= 1;
-        let mark = changed_mark(marks[left], above, part, lo, hi, free);
-        marks[left] = mark;
+    let last = index_above(marks, hi);
+    let mut first = last;
+    let mut above = place_of_mark(marks, last);
+    while first > 0 && lo <= above {
+        first -= 1;
+        let mark = changed_mark(marks[first], above, part, lo, hi, free);
+        marks[first] = mark;
+        raise_top(tops, first, mark.most);
         above = mark.at;
-        if above < lo {
-            return;
-        }
     }
+    renew_tops(marks, tops, first, last);
 }
 
 /// The stretch of a new landmark: up to the first edge at or above a place, and for the last one to the zone's top.
@@ -163,32 +197,37 @@ fn stretch_from(part: &Part, at: u32, place: u32, last: bool) -> Measured
 }
 
 /// Lays the landmarks from one on anew, each at the first edge of its page or above it, up to the first that stands
-/// so above a place. The first one's page ends at `page_end`.
+/// so above a place, whose index is the answer. The first one's page ends at `page_end`.
 pub fn lay_marks(
     marks: &mut [Landmark],
+    tops: &mut [u32],
     part: &Part,
     first: usize,
     page_end: u32,
     page: u32,
     hi: u32,
-)
+) -> usize
     requires sound { (first : ℕ) × (unused : ℕ) × IsSound part.now.bytes first unused }
     requires first { first ≤ length marks.old }
     requires marks { AreMarks 4294967295 (zone_in part.now.bytes) marks.old }
-    ensures { AreMarks 4294967295 (zone_in part.now.bytes) marks.new }
+    requires tops { AreTops tops.old marks.old }
+    ensures marks { AreMarks 4294967295 (zone_in part.now.bytes) marks.new }
+    ensures tops { AreTops tops.new marks.new }
 {
     let mut at = place_of_mark(marks, first);
-    let mut top = page_end;
+    let mut end = page_end;
     for index in first..marks.len() {
         if hi <= at && marks[index].at == at {
-            return;
+            return index;
         }
-        let stretch = stretch_from(part, at, top, index + 1 == marks.len());
+        let stretch = stretch_from(part, at, end, index + 1 == marks.len());
         marks[index] = Landmark {
             at,
             most: stretch.most,
         };
+        raise_top(tops, index, stretch.most);
         at = stretch.edge;
-        top = top.saturating_add(page);
+        end = end.saturating_add(page);
     }
+    marks.len()
 }

@@ -18,7 +18,7 @@ fn within(to: u32, end: u32) -> u32
 }
 
 /// The greater of two numbers of bytes.
-fn greater(most: u32, bytes: u32) -> u32
+pub fn greater(most: u32, bytes: u32) -> u32
     ensures first { most ≤ result }
     ensures second { bytes ≤ result }
 {

@@ -2,14 +2,15 @@
 
 ghost use Rattle.std.specs.Prelude.{◌≡◌, ◌+◌, ◌-◌, ◌%◌, ◌≤◌, ◌<◌, ◌^◌, length, nat_lt, if◌then◌else◌};
 ghost use Rattle.windows.specs.Writes.{written, piece};
+ghost use Rattle.heap_words.specs.Headers.{tag_number};
 ghost use Rattle.heap_words.specs.Words.{word};
 ghost use Rattle.block_store.specs.Block.{sizes};
 ghost use Rattle.block_store.specs.Run.{movers};
-ghost use Rattle.zone_bytes.specs.Settling.{Lay, IsRun, Settled};
+ghost use Rattle.zone_bytes.specs.Settling.{Lay, IsRun, runs_on, Packed, Settled};
 ghost use Rattle.zone_bytes.specs.Beside.{KeepsPlace};
 
 use crate::words::{read_header, write_word};
-use heap_words::Tag;
+use heap_words::{Header, Tag};
 use raw_region::Part;
 
 /// What is told of a run that was packed.
@@ -23,42 +24,64 @@ pub struct PackedRun {
     pub stop: u32,
 }
 
-/// Moves a block of `size` bytes down, and makes its slot lead to its new place. Answers whether it came lower.
-fn move_block(part: &mut Part, from: u32, to: u32, size: u32, slot: u32) -> u32
+/// Moves a block of `size` bytes down, and makes its slot lead `gap` above its new place. Answers whether it came
+/// lower.
+fn move_block(part: &mut Part, from: u32, to: u32, size: u32, slot: u32, gap: u32) -> u32
     requires down { to ≤ from }
     requires inside { from + size ≤ length part.old.bytes }
     requires slot { (slot % 4 ≡ 0) × (slot + 4 ≤ length part.old.bytes) }
     requires leads { piece slot 4 part.old.bytes ≡ word from }
+    requires fits { to + gap < 2 ^ 32 }
     ensures same { KeepsPlace part.old part.new }
     ensures bytes { part.new.bytes
-        ≡ written slot (word to) (written to (piece from size part.old.bytes) part.old.bytes) }
+        ≡ written slot (word (to + gap)) (written to (piece from size part.old.bytes) part.old.bytes) }
     ensures moves { result ≡ (if nat_lt 0 (from - to) then 1 else 0) }
 {
-    if to == from {
-        return 0;
+    if to < from {
+        part.slide(from as usize, to as usize, size as usize);
+        write_word(part, slot, to + gap);
+        return 1;
     }
-    part.slide(from as usize, to as usize, size as usize);
-    write_word(part, slot, to);
-    1
+    if gap > 0 {
+        write_word(part, slot, to + gap);
+    }
+    0
 }
 
-/// Moves the relocatable blocks of the run from `place` to `stop` down, and makes one Free block of the rest.
-pub fn settle_run(part: &mut Part, place: u32, stop: u32) -> PackedRun
+/// Whether a header's block belongs to a run: it is Free, or relocatable and unlocked.
+fn is_in_run(header: Header) -> bool
+    ensures { result ≡ runs_on (tag_number header.tag) header.flags }
+{
+    match header.tag {
+        Tag::Free => true,
+        Tag::Fixed | Tag::Masters => false,
+        Tag::Relocatable => header.flags < 128,
+    }
+}
+
+/// Moves the relocatable blocks of the run at a place down, makes their slots lead `gap` above them, and makes one Free
+/// block of the rest. It finds the run's end as it goes.
+pub(crate) fn pack_run(part: &mut Part, place: u32, gap: u32) -> PackedRun
     ghost lay: { Lay }
     requires bytes { part.old.bytes ≡ lay.bytes }
-    requires run { IsRun lay place stop }
+    requires run { IsRun lay place (place + sizes lay.run) }
+    requires gap { gap ≤ length lay.bytes }
     ensures same { KeepsPlace part.old part.new }
-    ensures settled { Settled lay result.lowered part.new.bytes }
+    ensures packed { Packed lay gap result.lowered part.new.bytes }
     ensures top { result.top ≡ place + sizes (movers lay.run) }
-    ensures stop { result.stop ≡ stop }
+    ensures stop { result.stop ≡ place + sizes lay.run }
 {
+    let end = part.len() as u32;
     let mut from = place;
     let mut to = place;
     let mut moves = 0;
-    while from < stop {
+    while from < end {
         let header = read_header(part, from);
+        if !is_in_run(header) {
+            break;
+        }
         if header.tag == Tag::Relocatable {
-            moves += move_block(part, from, to, header.size, header.slot);
+            moves += move_block(part, from, to, header.size, header.slot, gap);
             to += header.size;
         }
         from += header.size;
@@ -69,6 +92,19 @@ pub fn settle_run(part: &mut Part, place: u32, stop: u32) -> PackedRun
     PackedRun {
         lowered: moves,
         top: to,
-        stop,
+        stop: from,
     }
+}
+
+/// Moves the relocatable blocks of the run at a place down, and makes one Free block of the rest.
+pub fn settle_run(part: &mut Part, place: u32) -> PackedRun
+    ghost lay: { Lay }
+    requires bytes { part.old.bytes ≡ lay.bytes }
+    requires run { IsRun lay place (place + sizes lay.run) }
+    ensures same { KeepsPlace part.old part.new }
+    ensures settled { Settled lay result.lowered part.new.bytes }
+    ensures top { result.top ≡ place + sizes (movers lay.run) }
+    ensures stop { result.stop ≡ place + sizes lay.run }
+{
+    pack_run(part, place, 0)
 }

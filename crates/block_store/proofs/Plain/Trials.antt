@@ -1,4 +1,4 @@
-use Rattle.std.proofs.Common.{◌≡◌, ℕ, ◌≤◌, ◌<◌, ◌⊎◌, inl, inr, zero, suc, Bool, true, false, not, nat_lt, Option, Some, None}
+use Rattle.std.proofs.Common.{◌≡◌, ℕ, ◌≤◌, ◌<◌, ◌⊎◌, inl, inr, zero, suc, Bool, true, false, nat_lt, Option, Some, None}
 use Rattle.std.proofs.Common.{refl, sym, ◌∙◌, ap, cond, arith}
 use Rattle.std.proofs.lemmas.Bool.{true≢false, false_from_ne_true}
 use Rattle.std.proofs.lemmas.Bool.Decides.{nat_tests}
@@ -85,18 +85,3 @@ pub least_or_last-fails : (test : ℕ → Bool) → ((k m : ℕ) → k ≤ m →
     → n ≤ most → test most ≡ false → least_or_last test n ≡ n
 least_or_last-fails test rises n most le none = least_or_last-at test n n (omega arith)
     (λ j less. none-before test rises most j (omega (arith, le, less)) none) (inr refl)
-
--- numbers that are no longer below another
-pub past-rises : (most k m : ℕ) → k ≤ m → not (nat_lt k most) ≡ true → not (nat_lt m most) ≡ true
-past-rises most k m le past = grind (arith, nat_tests, le, past)
-
-pub past-ends : (most k : ℕ) → most ≤ k → not (nat_lt k most) ≡ not (nat_lt most most)
-past-ends most k le = grind (arith, nat_tests, le)
-
--- the least of them is that other
-pub past-least : (most k : ℕ) → not (nat_lt k most) ≡ true → ((j : ℕ) → j < k → not (nat_lt j most) ≡ false) → k ≡ most
-past-least most k past before = cases (nat_lt most k) refl
-  where
-    cases : (t : Bool) → nat_lt most k ≡ t → k ≡ most
-    cases true e = let b = before most (grind (arith, nat_tests, e)) in absurd (grind (arith, nat_tests, b))
-    cases false e = grind (arith, nat_tests, e, past)

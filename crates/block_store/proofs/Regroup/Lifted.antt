@@ -2,7 +2,6 @@
 use Rattle.std.proofs.Common.{◌≡◌, ℕ, ◌+◌, ◌-◌, ◌<◌, ◌≤◌, ◌==◌, ◌||◌, nat_le, zero, suc, Bool, true, false, not, cond}
 use Rattle.std.proofs.Common.{List, [], ◌∷◌, ◌++◌, Some, inl, inr, refl, sym, ◌∙◌, ap, subst, arith, append_assoc}
 use Rattle.std.specs.Option.{option_map}
-use Rattle.std.proofs.lemmas.List.{append-nil}
 use Rattle.std.proofs.lemmas.List.Elements.{filter-append}
 use Rattle.std.proofs.lemmas.Bool.{false≢true, cond-true, cond-false}
 use Rattle.std.proofs.lemmas.Bool.Decides.{eqb_tells, nat_tests}
@@ -16,34 +15,10 @@ use Rattle.block_store.specs.Inner.Packing.{Loose}
 use Rattle.block_store.proofs.Zone.Apart.{Apart, apart-size}
 use Rattle.block_store.proofs.Zone.Tidy.{Adds, total-tidy}
 use Rattle.block_store.proofs.Zone.Totals.{total-append}
-use Rattle.block_store.proofs.Regroup.Packed.{tidy-below, settle-total, loose-parts, loose-append, high-is, total-run}
+use Rattle.block_store.proofs.Regroup.Packed.{tidy-below, loose-parts, loose-append, high-is, total-run}
 use Rattle.block_store.proofs.Regroup.Parts.{in-free}
 use Rattle.block_store.proofs.Regroup.RunLists.{run_at-parts}
 use Rattle.block_store.proofs.Regroup.Regrouping.{apart-filter, all-filter}
-
--- a run that is packed has the same relocatable blocks
-movers-again : (run : List Block) → movers (movers run) ≡ movers run
-movers-again [] = refl
-movers-again (b ∷ run) = cases (is_mover b) refl (movers-again run)
-  where
-    cases : (t : Bool) → is_mover b ≡ t → movers (movers run) ≡ movers run
-        → movers (cond t (b ∷ movers run) (movers run)) ≡ cond t (b ∷ movers run) (movers run)
-    cases true e more = ap (λ u. cond u (b ∷ movers (movers run)) (movers (movers run))) e ∙ ap (λ l. b ∷ l) more
-    cases false e more = more
-
-movers-free : (n : ℕ) → movers (free n) ≡ []
-movers-free zero = refl
-movers-free (suc n) = refl
-
-pub movers-settle : (run : List Block) → movers (settle run) ≡ movers run
-movers-settle run =
-    filter-append is_mover (movers run) (free (free_sum run))
-    ∙ ap (λ l. movers (movers run) ++ l) (movers-free (free_sum run))
-    ∙ append-nil (movers (movers run)) ∙ movers-again run
-
--- and as many Free bytes
-pub free-settle : (run : List Block) → Loose run → free_sum (settle run) ≡ free_sum run
-free-settle run loose = settle-total free_of (λ n m. refl) run loose
 
 -- a run without relocatable blocks
 pub no-movers : (run : List Block) → sizes (movers run) ≡ 0 → movers run ≡ []

@@ -8,6 +8,7 @@ use Rattle.block_store.specs.Run.{runs}
 use Rattle.block_store.specs.Room.{purge, may_go}
 use Rattle.block_store.specs.Compact.{least_or_last, runs_settled, has_room, largest_free, settled, compacted}
 use Rattle.block_store.specs.Rest.{Rest, counted, IsRest}
+use Rattle.block_store.proofs.Emptied.Rising.{purge-all}
 use Rattle.block_store.proofs.Renamed.Renaming.{total-rename, is_purgeable-rename, purge-rename}
 use Rattle.block_store.proofs.Plain.Trials.{least_or_last-le, least_or_last-none}
 use Rattle.heap_calls.specs.declared.log.Log.{Log}
@@ -42,10 +43,6 @@ blocks_purged-few p zone = omega (
   most-le sparing.Nothing zone,
 )
 
--- where no size is given all are emptied
-pub blocks_purged-none : (zone : List Block) → blocks_purged None zone ≡ purgeable zone
-blocks_purged-none zone = least_or_last-none (purgeable zone)
-
 pub purgeable-rename : (f g : ℕ → ℕ) (zone : List Block) → purgeable (rename f g zone) ≡ purgeable zone
 purgeable-rename f g zone = total-rename f g (λ b. cond (may_go nothing b) 1 0) (λ b. cond (may_go nothing b) 1 0)
     (λ b. rw (is_purgeable-rename f g b) refl) zone
@@ -69,10 +66,13 @@ pub purged_all-rename : (f g : ℕ → ℕ) (zone : List Block) → purged_all (
 purged_all-rename f g zone = ap (λ k. purge k nothing (rename f g zone)) (purgeable-rename f g zone)
     ∙ purge-rename f g nothing nothing (λ b. refl) (purgeable zone) zone
 
--- all that may be emptied is
-pub purged_all-is : (zone zone' : List Block) (k : ℕ) → k ≡ blocks_purged None zone → zone' ≡ purge k nothing zone
+-- all that may be emptied is, where no fewer purges are asked for than there can be; no zone has more blocks than bytes
+pub all-gone : (zone : List Block) → sizes zone ≤ 134217728 → purgeable zone ≤ 134217728
+all-gone zone small = omega (arith, most-le sparing.Nothing zone, small)
+
+pub purged_all-is : (zone zone' : List Block) (k : ℕ) → purgeable zone ≤ k → zone' ≡ purge k nothing zone
     → zone' ≡ purged_all zone
-purged_all-is zone zone' k all is = is ∙ ap (λ n. purge n nothing zone) (all ∙ blocks_purged-none zone)
+purged_all-is zone zone' k le is = is ∙ purge-all nothing zone k le
 
 -- a call that looked for room so many times
 pub searching-done : {T : Type 0} (n m : ℕ) (a : Result T OsErr × Memory) (r : Result T OsErr) (mid new : Memory)

@@ -9,7 +9,11 @@ use Rattle.block_store.specs.Sparing.{spared, purged, most_purges}
 use Rattle.block_store.specs.declared.sparing.Sparing.{Sparing}
 use Rattle.block_store.proofs.Emptied.Rising.{purge-all, purged-all, enough-rises}
 use Rattle.block_store.proofs.Emptied.Growing.{grow-rises}
-use Rattle.heap_calls.specs.Inner.Growing.{grown}
+use Rattle.block_store.specs.Find.{FindsLowestRun}
+use Rattle.heap_calls.specs.declared.search.Seat.{Seat}
+use Rattle.heap_calls.specs.declared.growing.Growth.{Growth}
+use Rattle.heap_calls.specs.Inner.Search.{FindsSeat}
+use Rattle.heap_calls.specs.Inner.Growing.{grown, FindsGrowth}
 use Rattle.heap_calls.specs.Inner.Least.{CanGrow, IsMost, enough_above}
 
 -- The laws of what is looked for: what is there after some purges is there after more, and once all that may go are
@@ -19,10 +23,19 @@ pub seat-ends : (p : ℕ) (n : Sparing) (zone : List Block) (k : ℕ) → most_p
     → is_some (place p (purged k n zone)) ≡ is_some (place p (purged (most_purges n zone) n zone))
 seat-ends p n zone k le = ap (λ z. is_some (place p z)) (purged-all n zone k le)
 
+pub seat-stays : (p : ℕ) (n : Sparing) (zone : List Block) (k : ℕ) (found : Option Seat) → most_purges n zone ≤ k
+    → FindsSeat p (purged k n zone) found → FindsSeat p (purged (most_purges n zone) n zone) found
+seat-stays p n zone k found le = subst (λ z. FindsSeat p z found) (purged-all n zone k le)
+
 pub base-ends : (p : ℕ) (n : Sparing) (zone : List Block) (k : ℕ) → most_purges n zone ≤ k
     → is_some (run_spot (has_free p) (purged k n zone))
     ≡ is_some (run_spot (has_free p) (purged (most_purges n zone) n zone))
 base-ends p n zone k le = ap (λ z. is_some (run_spot (has_free p) z)) (purged-all n zone k le)
+
+pub base-stays : (p : ℕ) (n : Sparing) (zone : List Block) (k : ℕ) (found : Option ℕ) → most_purges n zone ≤ k
+    → FindsLowestRun (has_free p) (purged k n zone) found
+    → FindsLowestRun (has_free p) (purged (most_purges n zone) n zone) found
+base-stays p n zone k found le = subst (λ z. FindsLowestRun (has_free p) z found) (purged-all n zone k le)
 
 pub room-ends : (p : Option ℕ) (n : Sparing) (zone : List Block) (k : ℕ) → most_purges n zone ≤ k
     → has_room p (purged k n zone) ≡ has_room p (purged (most_purges n zone) n zone)
@@ -46,6 +59,13 @@ module _ (slot n p d : ℕ) (sparing : Sparing) (zone : List Block) where
       (purged (most_purges sparing zone) sparing zone))
   unfolding new
   growth-ends k le = ap (λ z. is_some (grow_mover (is_relocatable slot) new z)) (purged-all sparing zone k le)
+
+  pub growth-stays : (k : ℕ) (found : Option Growth) → most_purges sparing zone ≤ k
+      → FindsGrowth (is_relocatable slot) (grown n (spot (is_relocatable slot) zone)) (purged k sparing zone) found
+      → FindsGrowth (is_relocatable slot) (grown n (spot (is_relocatable slot) zone))
+      (purged (most_purges sparing zone) sparing zone) found
+  unfolding new
+  growth-stays k found le = subst (λ z. FindsGrowth (is_relocatable slot) new z found) (purged-all sparing zone k le)
 
 pub above-rises : (d : ℕ) (n : Sparing) (o : Option Spot) (k m : ℕ) → k ≤ m → enough_above d k n o ≡ true
     → enough_above d m n o ≡ true

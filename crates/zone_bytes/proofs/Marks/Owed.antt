@@ -68,7 +68,8 @@ module _ (xs : List ℕ) (first unused free : ℕ) (l : Landmarks) where
       → zone_in xs ≡ below ++ c ∷ above → zone ≡ below ++ b ∷ above → size c ≡ size b → free_of c ≡ free_of b
       → AreOf l zone → IsMarked xs first unused free l
   with-block below above b c zone k e was s f a = with-marks k
-      (subst (AreOf l) (sym e) (marks-same 4294967295 l.marks below above b c s f (subst (AreOf l) was a)))
+      (subst (AreOf l) (sym e) (let o = subst (AreOf l) was a in
+      (marks-same 4294967295 l.marks below above b c s f o.0, o.1)))
 
   -- bytes were written over some of a block's content
   pub with-written : (below above : List Block) (b : Block) (from : ℕ) (x : List ℕ) (zone : List Block)

@@ -1,6 +1,7 @@
 -- Room that is found stretch by stretch.
 use Rattle.std.proofs.Common.{◌≡◌, ℕ, true, false, ◌+◌, ◌≤◌, ◌<◌, Option, Some, None, inl, inr, List, [], ◌∷◌, ◌++◌, sym, refl, ap, ◌∙◌}
-use Rattle.std.proofs.Common.{subst, arith, cond}
+use Rattle.std.proofs.Common.{subst, arith, cond, zero, suc, ◌*◌, length, drop, get_or}
+use Rattle.std.proofs.lemmas.List.{drop_more, drop_all}
 use Rattle.std.specs.Option.{option_map, IfSome, MatchOption}
 use Rattle.std.proofs.lemmas.Bool.Decides.{leb_tells}
 use Rattle.block_store.specs.Block.{Block, Free, Fixed, Masters, Relocatable, size, sizes, is_room, free_of}
@@ -12,11 +13,12 @@ use Rattle.zone_bytes.specs.Decode.{zone_in}
 use Rattle.zone_bytes.specs.Lawful.{IsSound}
 use Rattle.zone_bytes.specs.Table.{slot_in}
 use Rattle.zone_bytes.specs.Stepping.{left_in}
-use Rattle.zone_bytes.specs.Marks.{AtEach, AtMost, NoRoom, Begins, AreMarks, RoomAt, next_of}
+use Rattle.zone_bytes.specs.Marks.{AtEach, AtMost, NoRoom, NoneBelow, Begins, AreMarks, AreTops, RoomAt, next_of}
 use Rattle.zone_bytes.specs.declared.landmark.Landmark.{Landmark}
+use Rattle.zone_bytes.specs.declared.landmark.TheConstants.{GROUP}
 use Rattle.zone_bytes.proofs.Laws.Lawful.{sizes-length}
 use Rattle.zone_bytes.proofs.Marks.Passing.{at-map, at-all, at-append, at-both, at-left}
-use Rattle.zone_bytes.proofs.Marks.Lowering.{seen-from, begins-further}
+use Rattle.zone_bytes.proofs.Marks.Lowering.{seen-from, begins-further, marks-parted, mark-first}
 
 filled : (x : ℕ) (blocks : List Block) → Apart blocks → AtEach (λ _ b. 0 < size b) x blocks
 filled x [] a = tt
@@ -130,27 +132,50 @@ pub if-three : (o : Option ℕ) (P Q R S : ℕ → Type 0) → ((p : ℕ) → P 
 if-three None P Q R S f p q r = tt
 if-three (Some n) P Q R S f p q r = f n p q r
 
--- no room is below a landmark, nor in its stretch where that is known, and the others are to come
-pub record Seeking (bytes : ℕ) (zone : List Block) (mark : Landmark) (rest : List Landmark) : Type 0 where
-  pub begins : Begins mark.at 0 zone
-  pub below : AtEach (NoRoom bytes 0 mark.at) 0 zone
-  pub bound : mark.most < bytes → AtEach (NoRoom bytes mark.at (next_of 4294967295 rest)) 0 zone
-  pub marks : AreMarks 4294967295 zone rest
+-- the stretch of a landmark that notes less
+pub stretch-room : (bytes : ℕ) (zone : List Block) (marks : List Landmark) (index : ℕ) → index < length marks
+    → AreMarks 4294967295 zone marks → (get_or marks index (record { at = 0; most = 0 })).most < bytes
+    → AtEach (NoRoom bytes (get_or marks index (record { at = 0; most = 0 })).at
+    (next_of 4294967295 (drop (index + 1) marks))) 0 zone
+stretch-room bytes zone marks index u a l =
+    let d : Landmark = record { at = 0; most = 0 } in
+    let m = get_or marks index d in
+    bound-room m.most bytes m.at (next_of 4294967295 (drop (index + 1) marks)) 0 zone l
+    (subst (AreMarks 4294967295 zone) (drop_more marks index d u) (marks-parted 4294967295 zone marks index a).1).1
 
-pub seek-on : (bytes : ℕ) (zone : List Block) (mark m : Landmark) (marks rest : List Landmark)
-    → Seeking bytes zone mark marks → marks ≡ m ∷ rest → AtEach (NoRoom bytes 0 m.at) 0 zone → Seeking bytes zone m rest
-seek-on bytes zone mark m marks rest s e n =
-    let a = subst (AreMarks 4294967295 zone) e s.marks in
-    record {
-      begins = a.0;
-      below = n;
-      bound = λ l. bound-room m.most bytes m.at (next_of 4294967295 rest) 0 zone l a.1;
-      marks = a.3;
-    }
+-- no room lies in the zone, once none lies below any landmark
+pub none-past : (bytes : ℕ) (zone : List Block) (marks : List Landmark) (index : ℕ) → length marks ≤ index
+    → NoneBelow bytes zone marks index → AtEach (NoRoom bytes 0 4294967295) 0 zone
+none-past bytes zone marks index l n =
+    subst (λ k. AtEach (NoRoom bytes 0 (next_of 4294967295 k)) 0 zone) (drop_all index marks l) n
 
-pub finds-either : (xs : List ℕ) (first unused : ℕ) (i : IsSound xs first unused) (bytes : ℕ) (o : Option ℕ)
-    → MatchOption o (AtEach (NoRoom bytes 0 4294967295) 0 (zone_in xs)) (λ _. Unit {0})
-    → IfSome o (λ place. FindsLowest (is_room bytes) (zone_in xs) (Some place))
-    → FindsLowest (is_room bytes) (zone_in xs) o
-finds-either xs first unused i bytes None n f = none-found xs first unused i bytes n
-finds-either xs first unused i bytes (Some p) n f = f
+module _ (xs : List ℕ) (first unused : ℕ) (i : IsSound xs first unused) (bytes : ℕ) (marks : List Landmark)
+    (a : AreMarks 4294967295 (zone_in xs) marks) where
+  -- over one landmark that notes less
+  none-next : (index : ℕ) → index < length marks → (get_or marks index (record { at = 0; most = 0 })).most < bytes
+      → NoneBelow bytes (zone_in xs) marks index → NoneBelow bytes (zone_in xs) marks (index + 1)
+  none-next index u l n =
+      let d : Landmark = record { at = 0; most = 0 } in
+      none-whole xs first unused i bytes (get_or marks index d).at (next_of 4294967295 (drop (index + 1) marks))
+      (subst (λ p. AtEach (NoRoom bytes 0 p) 0 (zone_in xs)) (mark-first 4294967295 marks index d u) n)
+      (stretch-room bytes (zone_in xs) marks index u a l)
+
+  -- over so many of them
+  none-along : (count index : ℕ) → index + count ≤ length marks
+      → ((j : ℕ) → index ≤ j → j < index + count → (get_or marks j (record { at = 0; most = 0 })).most < bytes)
+      → NoneBelow bytes (zone_in xs) marks index → NoneBelow bytes (zone_in xs) marks (index + count)
+  none-along zero index u f n =
+      subst (NoneBelow bytes (zone_in xs) marks) (let e : index ≡ index + 0 = omega arith in e) n
+  none-along (suc count) index u f n =
+      subst (NoneBelow bytes (zone_in xs) marks) (let e : index + 1 + count ≡ index + suc count = omega arith in e)
+      (none-along count (index + 1) (omega (arith, u)) (λ j l h. f j (omega (arith, l)) (omega (arith, h)))
+      (none-next index (omega (arith, u)) (f index (omega arith) (omega arith)) n))
+
+  -- over a group whose top is less
+  pub none-group : (tops : List ℕ) → AreTops tops marks → (group : ℕ) → group < length tops → get_or tops group 0 < bytes
+      → NoneBelow bytes (zone_in xs) marks (GROUP * group) → NoneBelow bytes (zone_in xs) marks (GROUP * (group + 1))
+  none-group tops t group u l n =
+      let w = t.whole in
+      subst (NoneBelow bytes (zone_in xs) marks) (let e : GROUP * group + GROUP ≡ GROUP * (group + 1) = omega arith in e)
+      (none-along GROUP (GROUP * group) (omega (arith, w, u))
+      (λ j b h. let k = t.each group j b h (omega (arith, w, u, h)) in omega (arith, k, l)) n)

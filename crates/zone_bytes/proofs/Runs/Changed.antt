@@ -1,7 +1,7 @@
 -- A run of a zone is changed.
-use Rattle.std.proofs.Common.{◌≡◌, ℕ, ◌+◌, Option, Some, None, cond, List, ◌++◌, refl, sym, ap, ◌∙◌, subst}
+use Rattle.std.proofs.Common.{◌≡◌, ℕ, ◌+◌, Option, Some, cond, List, ◌++◌, refl, sym, ap, ◌∙◌, subst}
 use Rattle.std.proofs.Common.{append_assoc}
-use Rattle.std.specs.Option.{IfSome, IsSomeAnd}
+use Rattle.std.specs.Option.{IfSome}
 use Rattle.block_store.specs.Block.{Block, size, total, count, is_masters, free_of, free_sum, sizes, tidy}
 use Rattle.block_store.specs.Run.{RunSpot, run_at, with_run, settle}
 use Rattle.block_store.specs.Rest.{falling}
@@ -24,11 +24,6 @@ use Rattle.zone_bytes.proofs.Runs.RunsAt.{if-run, one-run, settle-made}
 
 pub if-one : (o : Option RunSpot) (P : RunSpot → Type 0) (r : RunSpot) → o ≡ Some r → P r → IfSome o P
 if-one o P r e p = if-run o P (λ q f. subst P (one-run o r q e f) p)
-
-pub the-packed : (o : Option RunSpot) (A P Q : RunSpot → Type 0) → IsSomeAnd o A → IfSome o P → IfSome o Q
-    → (r : RunSpot) × (o ≡ Some r) × A r × P r × Q r
-the-packed None A P Q a p q = absurd a
-the-packed (Some r) A P Q a p q = (r, refl, a, p, q)
 
 -- the bytes are those of the zone with the run at a place changed, and its Masters blocks and Free bytes stay
 pub record ChangedRun (change : List Block → List Block) (zone : List Block) (r : RunSpot) (new : List ℕ)

@@ -6,14 +6,14 @@ use Rattle.windows.specs.Writes.{written, piece}
 use Rattle.windows.proofs.Pieces.{piece-written}
 use Rattle.heap_words.specs.Words.{word_at}
 use Rattle.block_store.specs.Block.{Block, size, sizes}
-use Rattle.zone_bytes.specs.Layout.{head_of, kind, Tile, Tiles, names, names_of, Each}
+use Rattle.zone_bytes.specs.Layout.{head_of, kind, Tile, Tiles, names, names_of, Leads, Each}
 use Rattle.zone_bytes.specs.Settling.{InRun}
 use Rattle.zone_bytes.specs.Splicing.{SameOutside}
 use Rattle.zone_bytes.specs.Pointing.{IsMoved, Pointed}
 use Rattle.zone_bytes.specs.Hoisting.{Hoist, unhoisted, hoisted_run, hoisted, MayHoist, Hoisted}
 use Rattle.zone_bytes.proofs.Tiles.Tiling.{span-append, length-tiles, tile-take, tiles-append, tiles-one, tiles-split}
 use Rattle.zone_bytes.proofs.Tiles.Heads.{first-reads, kind-small}
-use Rattle.zone_bytes.proofs.Tiles.Leading.{each-append, names-append}
+use Rattle.zone_bytes.proofs.Tiles.Leading.{each-append, names-append, leads-left, leads-right}
 use Rattle.zone_bytes.proofs.Tiles.Splices.{outside-same, outside-written}
 use Rattle.zone_bytes.proofs.Tiles.Permuted.{SameNames, turned}
 use Rattle.zone_bytes.proofs.Runs.Packed.{span-whole}
@@ -154,6 +154,17 @@ module _ (z : Hoist) (place stop : ℕ) (h : MayHoist z place stop) where
         (sym length-turned) (omega (arith, v))))
         turned-tiles
 
+    low : Leads 0 z.below z.bytes
+    low = leads-left z.bytes 0 z.below (was ++ z.above) h.lies.leads
+
+    high : Leads stop z.above z.bytes
+    high =
+        let p = h.bottom in
+        let t = h.top in
+        let o : 0 + sizes z.below + sizes was ≡ stop = omega (arith, p, t) in
+        subst (λ k. Leads k z.above z.bytes) o (leads-right z.bytes (0 + sizes z.below) was z.above
+        (leads-right z.bytes 0 z.below (was ++ z.above) h.lies.leads))
+
     pub is-moved : IsMoved (record {
       resource = z.resource;
       below = z.below;
@@ -162,7 +173,7 @@ module _ (z : Hoist) (place stop : ℕ) (h : MayHoist z place stop) where
           z.above;
       bytes = mid;
     }) place stop
-    is-moved = moved.is-moved z.resource z.below was (hoisted_run z) z.above z.bytes mid place stop h.lies h.slots
+    is-moved = moved.is-moved z.resource z.below was (hoisted_run z) z.above z.bytes mid place stop h.lies.tiles low high h.slots
         h.bottom
         h.top h.in_run in-now same-span same-names h.small outside new-tiles
 
@@ -172,7 +183,7 @@ module _ (z : Hoist) (place stop : ℕ) (h : MayHoist z place stop) where
         → Hoisted z new
     is-hoisted new p = record {
       lies = p.lies;
-      others = moved.others-pointed z.resource z.below was (hoisted_run z) z.above z.bytes mid place stop h.lies h.slots
+      others = moved.others-pointed z.resource z.below was (hoisted_run z) z.above z.bytes mid place stop h.lies.tiles low high h.slots
           h.bottom h.top h.in_run in-now same-span same-names h.small outside new-tiles new p;
       kept = p.kept ∙ outside.kept;
     }

@@ -3,19 +3,19 @@ use Rattle.std.proofs.Common.{◌≡◌, ℕ, Bool, ◌+◌, ◌-◌, ◌≤◌,
 use Rattle.windows.specs.Writes.{piece}
 use Rattle.block_store.specs.Block.{Block, sizes}
 use Rattle.zone_bytes.specs.Layout.{head_of, Tiles, IsSlot, names, Leads, Each, Apart}
-use Rattle.zone_bytes.specs.Settling.{Lay, InRun, Lies, HasSlots, SameOthers}
+use Rattle.zone_bytes.specs.Settling.{Lay, InRun, HasSlots, SameOthers}
 use Rattle.zone_bytes.specs.Splicing.{SameOutside}
 use Rattle.zone_bytes.specs.Pointing.{IsMoved, Pointed}
 use Rattle.zone_bytes.proofs.Tiles.Tiling.{slot-inside, slot-split}
-use Rattle.zone_bytes.proofs.Tiles.Leading.{Clear, each-map, each-left, each-right, names-append, leads-left}
-use Rattle.zone_bytes.proofs.Tiles.Leading.{leads-right}
+use Rattle.zone_bytes.proofs.Tiles.Leading.{Clear, each-map, each-left, each-right, names-append}
 use Rattle.zone_bytes.proofs.Tiles.Splices.{piece-outside, leads-outside, tiles-splice}
 use Rattle.zone_bytes.proofs.Tiles.Keeping.{slot-run}
 use Rattle.zone_bytes.proofs.Tiles.Permuted.{SameNames, each-moved}
 use Rattle.zone_bytes.proofs.Runs.Packed.{run-no_slot}
 
 module _ (resource : ℕ → Bool) (below was now above : List Block) (old mid : List ℕ) (place stop : ℕ)
-    (lies : Lies resource (below ++ (was ++ above)) old) (slots : HasSlots (below ++ (was ++ above)))
+    (tiles : Tiles (head_of resource) old (below ++ (was ++ above))) (low : Leads 0 below old)
+    (high : Leads stop above old) (slots : HasSlots (below ++ (was ++ above)))
     (bottom : sizes below ≡ place) (top : place + sizes was ≡ stop) (in-was : Each InRun was) (in-now : Each InRun now)
     (same : sizes now ≡ sizes was) (n : SameNames (names (below ++ (was ++ above))) (names (below ++ (now ++ above))))
     (small : length old ≤ 134217728) (s : SameOutside place stop old mid)
@@ -33,18 +33,28 @@ module _ (resource : ℕ → Bool) (below was now above : List Block) (old mid :
   abbrev pub moved-lay : Lay
   moved-lay = record { resource = resource; below = below; run = now; above = above; bytes = mid }
 
+  abbrev P : ℕ → Type 0
+  P = Clear place (stop - place)
+
+  clears : Each P (names below) × Each P (names (was ++ above))
+  clears =
+      let all = each-map (λ j. IsSlot j (below ++ (was ++ above))) P clear-of (names (below ++ (was ++ above)))
+      slots.slots in
+      let split = subst (λ j. Each P j) (names-append below (was ++ above)) all in
+      (each-left P (names below) (names (was ++ above)) split, each-right P (names below) (names (was ++ above)) split)
+
+  -- the slots of the run's blocks lie outside it
+  pub clears-run : Each P (names was) × Each P (names above)
+  clears-run =
+      let split = subst (λ j. Each P j) (names-append was above) clears.1 in
+      (each-left P (names was) (names above) split, each-right P (names was) (names above) split)
+
   pub is-moved : IsMoved moved-lay place stop
   is-moved =
       let k = s.kept in
       let all = names (below ++ (was ++ above)) in
-      let clears = each-map (λ j. IsSlot j (below ++ (was ++ above)))
-      (Clear place (stop - place)) clear-of all slots.slots in
-      let split = subst (λ j. Each (Clear place (stop - place)) j) (names-append below (was ++ above)) clears in
-      let right = subst (λ j. Each (Clear place (stop - place)) j) (names-append was above)
-      (each-right (Clear place (stop - place)) (names below) (names (was ++ above)) split) in
-      let o : 0 + sizes below + sizes was ≡ stop = omega (arith, bottom, top) in
       record {
-        tiles = tiles-splice (head_of resource) old mid below was above now place stop bottom top lies.tiles s t;
+        tiles = tiles-splice (head_of resource) old mid below was above now place stop bottom top tiles s t;
         slots = record {
           slots = each-moved (λ j. IsSlot j (below ++ (now ++ above))) all (names (below ++ (now ++ above))) n.from
               (each-map (λ j. IsSlot j (below ++ (was ++ above))) (λ j. IsSlot j (below ++ (now ++ above)))
@@ -55,17 +65,17 @@ module _ (resource : ℕ → Bool) (below was now above : List Block) (old mid :
         top = omega (arith, top, same);
         in_run = in-now;
         small = omega (arith, k, small);
-        low = leads-outside place stop old mid 0 below s
-            (each-left (Clear place (stop - place)) (names below) (names (was ++ above)) split)
-            (leads-left old 0 below (was ++ above) lies.leads);
-        high = subst (λ j. Leads j above mid) o (leads-outside place stop old mid (0 + sizes below + sizes was) above s
-            (each-right (Clear place (stop - place)) (names was) (names above) right)
-            (leads-right old (0 + sizes below) was above (leads-right old 0 below (was ++ above) lies.leads)));
+        low = leads-outside place stop old mid 0 below s clears.0 low;
+        high = leads-outside place stop old mid stop above s clears-run.1 high;
       }
+
+  -- the other slots stay
+  pub others-moved : SameOthers (below ++ (was ++ above)) old mid
+  others-moved k i a = piece-outside place stop old mid k s (clear-of k i)
 
   -- after the slots are rewritten
   pub others-pointed : (new : List ℕ) → Pointed moved-lay new → SameOthers (below ++ (was ++ above)) old new
   others-pointed new p k i a =
       p.others k (slot-run k below was now above in-was same i)
       (each-moved (Apart k) (names (below ++ (was ++ above))) (names (below ++ (now ++ above))) n.from a)
-      ∙ piece-outside place stop old mid k s (clear-of k i)
+      ∙ others-moved k i a

@@ -82,8 +82,8 @@ module _ (lay : Lay) (place stop : ℕ) (r : IsRun lay place stop) where
     ]
   ]
 
-  pub start : Packing lay stop place place 0 lay.bytes
-  start =
+  pub start : (gap : ℕ) → Packing lay gap stop place place 0 lay.bytes
+  start gap =
       let head = head_of lay.resource in
       let t = tiles-split head lay.bytes lay.below (lay.run ++ lay.above) r.lies.tiles in
       let w = span-whole head (take (sizes lay.below) lay.bytes) lay.below t.0 in
@@ -104,7 +104,8 @@ module _ (lay : Lay) (place stop : ℕ) (r : IsRun lay place stop) where
           whole = (even, even);
           kept = refl;
           in_run = r.in_run;
-          lead_low = rw append-nil (leads-left lay.bytes 0 lay.below (lay.run ++ lay.above) r.lies.leads);
+          lead_low = leads-left lay.bytes 0 lay.below (lay.run ++ lay.above) r.lies.leads;
+          lead_moved = tt;
           lead_high = subst (λ k. Leads k (lay.run ++ lay.above) lay.bytes) e
               (leads-right lay.bytes 0 lay.below (lay.run ++ lay.above) r.lies.leads);
           named = ap (λ q. names q ++ names (lay.run ++ lay.above)) (append-nil lay.below)
@@ -127,9 +128,9 @@ module _ (lay : Lay) (place stop : ℕ) (r : IsRun lay place stop) where
       each-map (λ s. IsSlot s (lay.below ++ (lay.run ++ lay.above))) (Clear at n) clear
       (names (lay.below ++ (lay.run ++ lay.above))) r.slots.slots
 
-  module _ (from to moves : ℕ) (xs : List ℕ) (moved : List Block) where
+  module _ (gap from to moves : ℕ) (xs : List ℕ) (moved : List Block) where
     -- where the packed blocks end, and that the rest lies in the bytes
-    pub packed-bounds : (rest : List Block) → PackingAt lay stop from to moves xs moved rest
+    pub packed-bounds : (rest : List Block) → PackingAt lay gap stop from to moves xs moved rest
         → (place ≤ to) × (from ≤ length xs) × (sizes (lay.below ++ moved) ≡ to)
     packed-bounds rest q =
         let b = run-bounds in
@@ -143,8 +144,8 @@ module _ (lay : Lay) (place stop : ℕ) (r : IsRun lay place stop) where
         (omega (arith, l, a, p, t), omega (arith, b, u, k), omega (arith, l, t))
 
     -- the next block is Free
-    pub step-free : (n : ℕ) (rest : List Block) → PackingAt lay stop from to moves xs moved (Free n ∷ rest)
-        → PackingAt lay stop (from + n) to moves xs moved rest
+    pub step-free : (n : ℕ) (rest : List Block) → PackingAt lay gap stop from to moves xs moved (Free n ∷ rest)
+        → PackingAt lay gap stop (from + n) to moves xs moved rest
     step-free n rest q =
         let w = q.high.0.whole in
         let v = q.whole in
@@ -163,6 +164,7 @@ module _ (lay : Lay) (place stop : ℕ) (r : IsRun lay place stop) where
           kept = q.kept;
           in_run = q.in_run.1;
           lead_low = q.lead_low;
+          lead_moved = q.lead_moved;
           lead_high = q.lead_high.1;
           named = q.named;
           count = (let c : moves + falling_from (from - to + n) rest ≡ falling_from 0 lay.run =
@@ -174,7 +176,7 @@ module _ (lay : Lay) (place stop : ℕ) (r : IsRun lay place stop) where
 
     -- the next block is relocatable: it comes down, and its slot follows
     module _ (slot : ℕ) (flags : Flags) (content : List ℕ) (rest : List Block)
-        (q : PackingAt lay stop from to moves xs moved (Relocatable slot flags content ∷ rest)) where
+        (q : PackingAt lay gap stop from to moves xs moved (Relocatable slot flags content ∷ rest)) where
       abbrev pub block : Block
       block = Relocatable slot flags content
 
@@ -263,13 +265,13 @@ module _ (lay : Lay) (place stop : ℕ) (r : IsRun lay place stop) where
           length-written to (piece from (size block) xs) xs (omega (arith, l, f, n, b, d))
 
       abbrev pub done : List ℕ
-      done = written slot (word to) (slid (size block))
+      done = written slot (word (to + gap)) (slid (size block))
 
       done-low : Tiles (head_of lay.resource) (take (to + size block) done) (lay.below ++ (moved ++ block ∷ []))
       done-low =
           let head = head_of lay.resource in
           let zs = slid (size block) in
-          let w = length-word to in
+          let w = length-word (to + gap) in
           let n = length-slid in
           let b = packed-bounds (block ∷ rest) q in
           let u = q.up in
@@ -279,16 +281,16 @@ module _ (lay : Lay) (place stop : ℕ) (r : IsRun lay place stop) where
           elim (slot-spot slot is-slot) [
             | inl j ↦
                 let i = j.0 in
-                let e = take-written_above slot (word to) zs (to + size block) (omega (arith, i, w, b))
+                let e = take-written_above slot (word (to + gap)) zs (to + size block) (omega (arith, i, w, b))
                 (omega (arith, n, u, d, rb, k)) in
-                let s = tiles-slot head (length-masters lay.resource) (take (to + size block) zs) (word to) slot
+                let s = tiles-slot head (length-masters lay.resource) (take (to + size block) zs) (word (to + gap)) slot
                 (lay.below ++ (moved ++ block ∷ [])) w
                 (slot-append_left slot lay.below (moved ++ block ∷ []) j.1) slid-low in
                 subst (λ k. Tiles head k (lay.below ++ (moved ++ block ∷ []))) (sym e) s
             | inr j ↦
                 let i = j.0 in
                 let inside = slot-inside (slot - stop) lay.above j.1 in
-                let e = take-written_below slot (word to) zs (to + size block) (omega (arith, i, u, d))
+                let e = take-written_below slot (word (to + gap)) zs (to + size block) (omega (arith, i, u, d))
                 (omega (arith, n, i, inside, rb, k)) in
                 subst (λ k. Tiles head k (lay.below ++ (moved ++ block ∷ []))) (sym e) slid-low
           ]
@@ -297,7 +299,7 @@ module _ (lay : Lay) (place stop : ℕ) (r : IsRun lay place stop) where
       done-high =
           let head = head_of lay.resource in
           let zs = slid (size block) in
-          let w = length-word to in
+          let w = length-word (to + gap) in
           let n = length-slid in
           let b = packed-bounds (block ∷ rest) q in
           let u = q.up in
@@ -307,25 +309,25 @@ module _ (lay : Lay) (place stop : ℕ) (r : IsRun lay place stop) where
           elim (slot-spot slot is-slot) [
             | inl j ↦
                 let i = j.0 in
-                let e = drop-written_above slot (word to) zs (from + size block) (omega (arith, i, w, b, d))
+                let e = drop-written_above slot (word (to + gap)) zs (from + size block) (omega (arith, i, w, b, d))
                 (omega (arith, i, n, b, d)) in
                 subst (λ k. Tiles head k (rest ++ lay.above)) (sym e) slid-high
             | inr j ↦
                 let i = j.0 in
                 let inside = slot-inside (slot - stop) lay.above j.1 in
                 let m : slot - stop ≡ slot - (from + size block) - sizes rest = omega (arith, u) in
-                let e = drop-written_below slot (word to) zs (from + size block) (omega (arith, i, u))
+                let e = drop-written_below slot (word (to + gap)) zs (from + size block) (omega (arith, i, u))
                 (omega (arith, n, i, inside, rb, k)) in
                 let at = slot-append_right (slot - (from + size block)) rest lay.above (omega (arith, i, u))
                 (subst (λ k. IsSlot k lay.above) m j.1) in
-                let s = tiles-slot head (length-masters lay.resource) (drop (from + size block) zs) (word to)
+                let s = tiles-slot head (length-masters lay.resource) (drop (from + size block) zs) (word (to + gap))
                 (slot - (from + size block)) (rest ++ lay.above) w at slid-high in
                 subst (λ k. Tiles head k (rest ++ lay.above)) (sym e) s
           ]
 
       -- a slot that the write of this block's slot leaves
-      word-clear : (s : ℕ) → Apart slot s → Clear slot (length (word to)) s
-      word-clear s a = let w = length-word to in elim a [ inl i ↦ inr (omega (arith, w, i)) | inr i ↦ inl i ]
+      word-clear : (s : ℕ) → Apart slot s → Clear slot (length (word (to + gap))) s
+      word-clear s a = let w = length-word (to + gap) in elim a [ inl i ↦ inr (omega (arith, w, i)) | inr i ↦ inl i ]
 
       -- where the slots lead, after both writes
       still-leads : (o : ℕ) (blocks : List Block) → Each (Apart slot) (names blocks)
@@ -343,8 +345,8 @@ module _ (lay : Lay) (place stop : ℕ) (r : IsRun lay place stop) where
           let v = span-append lay.run lay.above in
           let p = r.bottom in
           let t = r.top in
-          leads-written slot (word to) (slid (size block)) o blocks (omega (arith, n, i, g, v, p, t, rb, k))
-          (each-map (Apart slot) (Clear slot (length (word to))) word-clear (names blocks) a)
+          leads-written slot (word (to + gap)) (slid (size block)) o blocks (omega (arith, n, i, g, v, p, t, rb, k))
+          (each-map (Apart slot) (Clear slot (length (word (to + gap)))) word-clear (names blocks) a)
           (leads-written to (piece from (size block) xs) xs o blocks (omega (arith, b, d)) c h)
 
       pub slot-length : slot + 4 ≤ length (slid (size block))
@@ -373,10 +375,10 @@ module _ (lay : Lay) (place stop : ℕ) (r : IsRun lay place stop) where
             | inl j ↦ inl (let e = j.0 in omega (arith, e, b))
             | inr j ↦ inr (let e = j.0 in omega (arith, e, l, d, u))
           ] in
-          piece-clear slot (word to) (slid (size block)) s (omega (arith, n)) (word-clear s turned)
+          piece-clear slot (word (to + gap)) (slid (size block)) s (omega (arith, n)) (word-clear s turned)
           ∙ piece-clear to (piece from (size block) xs) xs s (omega (arith, b, d)) outside ∙ q.others s i a
 
-      pub step-move : PackingAt lay stop (from + size block) (to + size block)
+      pub step-move : PackingAt lay gap stop (from + size block) (to + size block)
           (moves + cond (nat_lt 0 (from - to)) 1 0) done (moved ++ block ∷ []) rest
       step-move =
           let f = q.free in
@@ -387,15 +389,19 @@ module _ (lay : Lay) (place stop : ℕ) (r : IsRun lay place stop) where
           let n = length-slid in
           let b = packed-bounds (block ∷ rest) q in
           let k = q.kept in
-          let wl = length-word to in
+          let wl = length-word (to + gap) in
           let sl = slot-length in
-          let word-in = length-written slot (word to) (slid (size block)) (omega (arith, sl, wl)) in
-          let e : 0 + sizes (lay.below ++ moved) ≡ to = omega (arith, b) in
-          let gap : from + size block - (to + size block) ≡ from - to + 0 = omega (arith, d) in
-          let here : piece slot 4 done ≡ word to = piece-written slot (word to) (slid (size block)) 4
+          let word-in = length-written slot (word (to + gap)) (slid (size block)) (omega (arith, sl, wl)) in
+          let a = span-append lay.below moved in
+          let e : to + gap ≡ sizes lay.below + gap + sizes moved = omega (arith, b, a) in
+          let fall : from + size block - (to + size block) ≡ from - to + 0 = omega (arith, d) in
+          let here : piece slot 4 done ≡ word (to + gap) = piece-written slot (word (to + gap)) (slid (size block)) 4
           (omega (arith, wl)) (omega (arith, sl)) in
-          let lead-here : Leads (0 + sizes (lay.below ++ moved)) (block ∷ []) done =
-          subst (λ o. Leads o (block ∷ []) done) (sym e) (here, tt) in
+          let lead-here : Leads (sizes lay.below + gap + sizes moved) (block ∷ []) done = (here ∙ ap word e, tt) in
+          let P : ℕ → Type 0 = Clear to (length (piece from (size block) xs)) in
+          let names-low = names-append lay.below moved in
+          let apart-low = subst (λ k. Each (Apart slot) k) names-low apart.0 in
+          let clear-low = subst (λ k. Each P k) names-low clear.0 in
           record {
             low = done-low;
             high = done-high;
@@ -407,9 +413,12 @@ module _ (lay : Lay) (place stop : ℕ) (r : IsRun lay place stop) where
             whole = (omega (arith, w, v), omega (arith, w, v));
             kept = word-in ∙ n ∙ k;
             in_run = q.in_run.1;
-            lead_low = subst (λ k. Leads 0 k done) (append_assoc lay.below moved (block ∷ []))
-                (leads-append done 0 (lay.below ++ moved) (block ∷ [])
-                (still-leads 0 (lay.below ++ moved) apart.0 clear.0 q.lead_low) lead-here);
+            lead_low = still-leads 0 lay.below (each-left (Apart slot) (names lay.below) (names moved) apart-low)
+                (each-left P (names lay.below) (names moved) clear-low) q.lead_low;
+            lead_moved = leads-append done (sizes lay.below + gap) moved (block ∷ [])
+                (still-leads (sizes lay.below + gap) moved
+                (each-right (Apart slot) (names lay.below) (names moved) apart-low)
+                (each-right P (names lay.below) (names moved) clear-low) q.lead_moved) lead-here;
             lead_high = still-leads (from + size block) (rest ++ lay.above) apart.1 clear.1 q.lead_high.1;
             named = (let g : names (lay.below ++ (moved ++ block ∷ [])) ≡ names (lay.below ++ moved) ++ slot ∷ [] =
                 ap names (sym (append_assoc lay.below moved (block ∷ [])))
@@ -420,7 +429,7 @@ module _ (lay : Lay) (place stop : ℕ) (r : IsRun lay place stop) where
                 let all-of : moves + (cond (nat_lt 0 (from - to)) 1 0 + falling_from
                 (from - to + 0) rest) ≡ falling_from 0 lay.run =
                 ap (λ m. moves + (m + falling_from (from - to + 0) rest)) (sym one) ∙ q.count in
-                ap (λ k. moves + cond (nat_lt 0 (from - to)) 1 0 + falling_from k rest) gap
+                ap (λ k. moves + cond (nat_lt 0 (from - to)) 1 0 + falling_from k rest) fall
                 ∙ (let z : moves + cond (nat_lt 0 (from - to)) 1 0 + falling_from (from - to + 0) rest ≡ moves +
                 (cond (nat_lt 0 (from - to)) 1 0 + falling_from (from - to + 0) rest) = omega arith in z) ∙ all-of);
             others = others-done;

@@ -1,24 +1,22 @@
 -- A zone in bytes, one of whose runs was packed.
-use Rattle.std.proofs.Common.{◌≡◌, ℕ, ◌+◌, Option, Some, None, List, ◌++◌, cond, refl, sym, ap, ◌∙◌, subst, arith}
+use Rattle.std.proofs.Common.{◌≡◌, ℕ, ◌+◌, Option, Some, None, List, ◌++◌, cond, refl, sym, ap, ◌∙◌, arith}
 use Rattle.std.proofs.Common.{append_assoc}
 use Rattle.std.specs.Option.{IfSome, IsSomeAnd}
 use Rattle.raw_region.specs.Memory.{Bytes}
-use Rattle.block_store.specs.Block.{Block, count, is_masters, is_mover, free, free_of, free_sum, size, sizes, tidy}
+use Rattle.block_store.specs.Block.{Block, count, is_masters, free_of, free_sum, size, sizes, tidy}
 use Rattle.block_store.specs.Run.{RunSpot, run_at, movers, settle, with_run}
 use Rattle.block_store.specs.Rest.{Rest, IsRest}
 use Rattle.block_store.specs.Slot.{Slot}
 use Rattle.block_store.specs.Inner.Packing.{Loose}
 use Rattle.block_store.proofs.Regroup.Ends.{settled-tidy}
-use Rattle.block_store.proofs.Regroup.Packed.{loose-append, settle-total}
+use Rattle.block_store.proofs.Regroup.Packed.{settle-total}
 use Rattle.block_store.proofs.Regroup.Lifted.{total-changed}
-use Rattle.block_store.proofs.Regroup.Parts.{in-free}
-use Rattle.block_store.proofs.Regroup.Regrouping.{all-filter, run_at-change}
 use Rattle.block_store.proofs.Regroup.RunLists.{run_at-parts}
 use Rattle.zone_bytes.specs.Layout.{Each}
 use Rattle.zone_bytes.specs.Settling.{InRun}
 use Rattle.zone_bytes.specs.Decode.{zone_in}
 use Rattle.zone_bytes.specs.Marks.{Replaced}
-use Rattle.zone_bytes.specs.Table.{Lays, slot_in}
+use Rattle.zone_bytes.specs.Table.{slot_in}
 use Rattle.zone_bytes.specs.Lawful.{IsSound, IsKept}
 use Rattle.zone_bytes.specs.Beside.{KeepsPlace, rest_in}
 use Rattle.zone_bytes.proofs.Laws.Lawful.{rest-made, kept-made}
@@ -76,16 +74,6 @@ module _ {xs : List ℕ} {first unused place top stop : ℕ} {old : List Block}
 
   pub loose : Loose r.run
   loose = (run_at-parts place old r k.is).loose
-
-  pub laid : Lays xs (r.below ++ (settle r.run ++ r.above)) (slot_in xs) k.sound.unused
-  laid = subst (λ l. Lays xs l (slot_in xs) k.sound.unused) packed-zone k.sound.lays
-
-  -- the packed run stands where the run stood
-  pub packed-spot : run_at place (zone_in xs) ≡ Some (record r { run = settle r.run })
-  packed-spot =
-      ap (run_at place) (packed-zone ∙ sym (append_assoc r.below (settle r.run) r.above))
-      ∙ run_at-change place old r k.is (settle r.run)
-      (loose-append (movers r.run) (free (free_sum r.run)) (all-filter is_mover r.run loose) (in-free (free_sum r.run)))
 
   masters-packed : count is_masters (zone_in xs) ≡ count is_masters old
   masters-packed =

@@ -7,17 +7,17 @@ use Rattle.heap_words.specs.Words.{word}
 use Rattle.heap_words.proofs.Words.{length-word}
 use Rattle.windows.proofs.Pieces.{length-written, piece-written, piece-written_below, piece-written_above}
 use Rattle.block_store.specs.Block.{Block, Free, free, sizes}
-use Rattle.zone_bytes.specs.Layout.{head_of, Tiles, names, Each}
-use Rattle.zone_bytes.specs.Settling.{Lay, InRun}
+use Rattle.zone_bytes.specs.Layout.{head_of, Tiles, names, Leads, Each}
+use Rattle.zone_bytes.specs.Settling.{InRun}
 use Rattle.zone_bytes.specs.Splicing.{SameOutside}
-use Rattle.zone_bytes.specs.Pointing.{IsMoved, Pointed}
 use Rattle.zone_bytes.specs.Raising.{Raise, packed, raised_run, MayRaise, Raised}
 use Rattle.zone_bytes.proofs.Tiles.Tiling.{span-append, length-tiles, tiles-append, tiles-one, tiles-split}
-use Rattle.zone_bytes.proofs.Tiles.Leading.{each-append, names-append}
+use Rattle.zone_bytes.proofs.Tiles.Leading.{each-append, each-left, names-append, Clear, leads-append}
 use Rattle.zone_bytes.proofs.Runs.Packed.{span-whole}
 use Rattle.zone_bytes.proofs.Runs.Settled.{free-tile, free-some}
-use Rattle.zone_bytes.proofs.Tiles.Splices.{outside-same, outside-written}
+use Rattle.zone_bytes.proofs.Tiles.Splices.{outside-same, outside-written, leads-outside}
 use Rattle.zone_bytes.proofs.Tiles.Keeping.{names-free, run-names, span-free, each-free}
+use Rattle.zone_bytes.proofs.Runs.Led.{leads-free}
 use Rattle.zone_bytes.proofs.Runs.Moved as moved
 
 module _ (z : Raise) (place top stop gap : ℕ) (h : MayRaise z place top stop gap) where
@@ -44,7 +44,7 @@ module _ (z : Raise) (place top stop gap : ℕ) (h : MayRaise z place top stop g
 
   pub wide : (top + (gap + z.rest) ≡ stop) × (stop ≤ length z.bytes) × (place + sizes was ≡ stop) × (place ≤ top)
   wide =
-      let l = length-tiles (head_of z.resource) z.bytes (packed z) h.lies.tiles in
+      let l = length-tiles (head_of z.resource) z.bytes (packed z) h.tiles in
       let a = span-append z.below (was ++ z.above) in
       let b = span-append was z.above in
       let c = span-append z.movers (free (z.gap + z.rest)) in
@@ -58,7 +58,7 @@ module _ (z : Raise) (place top stop gap : ℕ) (h : MayRaise z place top stop g
   pub evens : (place % 16 ≡ 0) × (top % 16 ≡ 0) × (z.rest % 16 ≡ 0)
   evens =
       let head = head_of z.resource in
-      let t = tiles-split head z.bytes z.below (was ++ z.above) h.lies.tiles in
+      let t = tiles-split head z.bytes z.below (was ++ z.above) h.tiles in
       let u = tiles-split head (drop (sizes z.below) z.bytes) was z.above t.1 in
       let v = tiles-split head (take (sizes was) (drop (sizes z.below) z.bytes)) z.movers (free (z.gap + z.rest)) u.0 in
       let a = span-whole head (take (sizes z.below) z.bytes) z.below t.0 in
@@ -76,7 +76,7 @@ module _ (z : Raise) (place top stop gap : ℕ) (h : MayRaise z place top stop g
   mover-tiles : Tiles (head_of z.resource) (piece place (top - place) z.bytes) z.movers
   mover-tiles =
       let head = head_of z.resource in
-      let t = tiles-split head z.bytes z.below (was ++ z.above) h.lies.tiles in
+      let t = tiles-split head z.bytes z.below (was ++ z.above) h.tiles in
       let g : was ++ z.above ≡ z.movers ++ (free (z.gap + z.rest) ++ z.above) =
       append_assoc z.movers (free (z.gap + z.rest)) z.above in
       let u = tiles-split head (drop (sizes z.below) z.bytes) z.movers (free (z.gap + z.rest) ++ z.above)
@@ -139,22 +139,40 @@ module _ (z : Raise) (place top stop gap : ℕ) (h : MayRaise z place top stop g
         (tiles-append head (take gap ys) (drop gap ys) (Free gap ∷ []) (z.movers ++ free z.rest) one above) in
         subst (λ j. Tiles head ys (Free j ∷ (z.movers ++ free z.rest))) (sym h.same) whole
 
-    abbrev pub mid-lay : Lay
-    mid-lay = record { resource = z.resource; below = z.below; run = raised_run z; above = z.above; bytes = mid }
-
-    pub is-moved : IsMoved mid-lay place stop
-    is-moved = moved.is-moved z.resource z.below was (raised_run z) z.above z.bytes mid place stop h.lies h.slots
-        h.bottom
-        wide.2 in-was in-now same-span (run-names z.below was (raised_run z) z.above same-names) h.small s new-tiles
-
-    pub is-raised : (new : List ℕ) → Pointed mid-lay new → Raised z new
-    is-raised new p = record {
-      lies = p.lies;
-      others = moved.others-pointed z.resource z.below was (raised_run z) z.above z.bytes mid place stop h.lies h.slots
-          h.bottom wide.2 in-was in-now same-span (run-names z.below was (raised_run z) z.above same-names) h.small s
-          new-tiles new p;
-      kept = p.kept ∙ s.kept;
-    }
+    pub is-raised : Raised z mid
+    is-raised =
+        let n = run-names z.below was (raised_run z) z.above same-names in
+        let m = moved.is-moved z.resource z.below was (raised_run z) z.above z.bytes mid place stop h.tiles h.low h.high
+        h.slots h.bottom wide.2 in-was in-now same-span n h.small s new-tiles in
+        let c = moved.clears-run z.resource z.below was (raised_run z) z.above z.bytes mid place stop h.tiles h.low
+        h.high h.slots h.bottom wide.2 in-was in-now same-span n h.small s new-tiles in
+        let P : ℕ → Type 0 = Clear place (stop - place) in
+        let d = each-left P (names z.movers) (names (free (z.gap + z.rest)))
+        (subst (λ k. Each P k) (names-append z.movers (free (z.gap + z.rest))) c.0) in
+        let o : place + gap ≡ 0 + sizes z.below + z.gap = (let b = h.bottom in let g = h.same in omega (arith, b, g)) in
+        let led = leads-outside place stop z.bytes mid (place + gap) z.movers s d h.leads in
+        let a = span-append z.movers (free z.rest) in
+        let e = span-free z.rest in
+        let f = h.bottom in
+        let i = h.middle in
+        let j = h.end in
+        let q : stop ≡ 0 + sizes z.below + z.gap + sizes (z.movers ++ free z.rest) = omega (arith, a, e, f, i, j) in
+        let up = leads-append mid (0 + sizes z.below + z.gap) z.movers (free z.rest)
+        (subst (λ k. Leads k z.movers mid) o led)
+        (leads-free mid (0 + sizes z.below + z.gap + sizes z.movers) z.rest) in
+        record {
+          lies = record {
+            tiles = m.tiles;
+            leads = leads-append mid 0 z.below (raised_run z ++ z.above) m.low (
+              tt,
+              leads-append mid (0 + sizes z.below + z.gap) (z.movers ++ free z.rest) z.above up
+                  (subst (λ k. Leads k z.above mid) q m.high),
+            );
+          };
+          others = moved.others-moved z.resource z.below was (raised_run z) z.above z.bytes mid place stop h.tiles h.low
+              h.high h.slots h.bottom wide.2 in-was in-now same-span n h.small s new-tiles;
+          kept = s.kept;
+        }
 
   -- what the writes leave
   abbrev pub slid : List ℕ

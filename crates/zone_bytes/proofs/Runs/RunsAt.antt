@@ -5,22 +5,22 @@ use Rattle.std.proofs.lemmas.Bool.{false≢true, lt-ltb}
 use Rattle.std.proofs.lemmas.Option.{same_Some}
 use Rattle.std.specs.Option.{IsSome, IfSome}
 use Rattle.block_store.specs.Block.{Block, Free, Fixed, Masters, Relocatable, size, sizes, count, is_mover, free_of}
-use Rattle.block_store.specs.Run.{segments, RunSpot, run_at, settle}
+use Rattle.block_store.specs.Run.{RunSpot, run_at, settle}
 use Rattle.block_store.specs.Inner.Packing.{Loose}
 use Rattle.block_store.specs.Rest.{falling}
-use Rattle.block_store.proofs.Regroup.Ends.{run_at-ended, first-run, settled-tidy}
+use Rattle.block_store.proofs.Regroup.Ends.{Stops, run_at-ended, settled-tidy}
 use Rattle.block_store.proofs.Regroup.RunLists.{run_at-is}
 use Rattle.zone_bytes.specs.Layout.{head_of, Tiles, Each}
-use Rattle.zone_bytes.specs.Settling.{InRun, IsRun, Settled, falling_from}
+use Rattle.zone_bytes.specs.Settling.{InRun, EndsRun, IsRun, Settled, falling_from}
 use Rattle.zone_bytes.specs.Decode.{zone_in}
 use Rattle.zone_bytes.specs.Table.{slot_in}
 use Rattle.zone_bytes.specs.Lawful.{IsSound}
 use Rattle.zone_bytes.specs.Placing.{lay_from, lay_at}
 use Rattle.zone_bytes.specs.Stepping.{left_in, IsOnWay}
-use Rattle.zone_bytes.proofs.Tiles.Tiling.{tiles-split, span-append}
+use Rattle.zone_bytes.proofs.Tiles.Tiling.{tiles-split}
 use Rattle.zone_bytes.proofs.Runs.Runs.{run_at-splits}
 use Rattle.zone_bytes.proofs.Tiles.Zones.{is-run, after}
-use Rattle.zone_bytes.proofs.Places.AtPlace.{way-above, left-above}
+use Rattle.zone_bytes.proofs.Places.AtPlace.{way-above}
 use Rattle.zone_bytes.proofs.Places.Stepped.{left-is}
 use Rattle.zone_bytes.proofs.Laws.Lawful.{Made, made}
 use Rattle.block_store.specs.Slot.{is_resource}
@@ -39,6 +39,10 @@ one-run o r q e f = same_Some r q (sym e ∙ f)
 pub loose-each : (run : List Block) → Each InRun run → Loose run
 loose-each [] e = tt
 loose-each (b ∷ run) e = (e.0, loose-each run e.1)
+
+ends-run : (above : List Block) → Stops above → EndsRun above
+ends-run [] s = tt
+ends-run (b ∷ above) s = s
 
 -- how many blocks come lower
 lowered-all : (gap : ℕ) (run : List Block) → 0 < gap → falling_from gap run ≡ count is_mover run
@@ -80,12 +84,11 @@ module _ (xs : List ℕ) (first count : ℕ) (i : IsSound xs first count) (place
   pub in-run : Each InRun r.run
   in-run = (run_at-splits place (zone_in xs) r e).in_run
 
+  ends : EndsRun r.above
+  ends = ends-run r.above (run_at-ended place (zone_in xs) r e).stops
+
   pub run-way : IsOnWay place xs
   run-way = way-above xs first count i r.below (r.run ++ r.above) place whole bottom
-
-  pub run-left : (segments (left_in place xs)).first ≡ r.run
-  run-left = ap (λ l. (segments l).first) (left-above xs first count i r.below (r.run ++ r.above) place whole bottom)
-      ∙ first-run r.run r.above (loose-each r.run in-run) (run_at-ended place (zone_in xs) r e).stops
 
   pub left-fits : place + sizes (left_in place xs) ≤ 134217728
   left-fits =
@@ -93,13 +96,6 @@ module _ (xs : List ℕ) (first count : ℕ) (i : IsSound xs first count) (place
       let u = run-way.walk.up in
       let m = run-way.small in
       omega (arith, l, u, m)
-
-  pub run-fits : place + sizes r.run ≤ 134217728
-  run-fits =
-      let l = ap sizes (left-above xs first count i r.below (r.run ++ r.above) place whole bottom) in
-      let a = span-append r.run r.above in
-      let f = left-fits in
-      omega (arith, l, a, f)
 
   pub lay-is : lay_at xs place ≡ record {
     resource = λ s. is_resource (slot_in xs s);
@@ -117,7 +113,7 @@ module _ (xs : List ℕ) (first count : ℕ) (i : IsSound xs first count) (place
   module _ (stop : ℕ) (t : place + sizes r.run ≡ stop) where
     pub may-settle : IsRun (lay_at xs place) place stop
     may-settle = subst (λ l. IsRun l place stop) (sym lay-is)
-        (is-run xs r i.unused place stop i.lays whole bottom t in-run)
+        (is-run xs r i.unused place stop i.lays whole bottom t in-run ends)
 
     pub settle-made : (moves : ℕ) (new : List ℕ) → Settled (lay_at xs place) moves new
         → Made new first count (r.below ++ (settle r.run ++ r.above)) (slot_in xs) × (moves ≡ falling r.run)
@@ -128,7 +124,7 @@ module _ (xs : List ℕ) (first count : ℕ) (i : IsSound xs first count) (place
         let run = tiles-split (head_of (λ s. is_resource (slot_in xs s)))
         (drop (sizes r.below) xs) r.run r.above tiles.1 in (
           made new (r.below ++ (settle r.run ++ r.above)) (slot_in xs) i.unused
-              (after xs r i.unused place stop i.lays whole bottom t in-run moves new s) first count
+              (after xs r i.unused place stop i.lays whole bottom t in-run ends moves new s) first count
               (settled-tidy place (zone_in xs) r i.tidied e) i.begins i.counted,
           s.moved ∙ lowered-falling (head_of (λ s. is_resource (slot_in xs s)))
               (take (sizes r.run) (drop (sizes r.below) xs)) r.run run.0 in-run,

@@ -11,11 +11,12 @@ use Rattle.block_store.specs.Block.{Block, Free, Fixed, Masters, Relocatable, si
 use Rattle.block_store.specs.Block.{sizes}
 use Rattle.block_store.specs.Run.{movers, settle}
 use Rattle.zone_bytes.specs.Layout.{head_of, Tile, Tiles, names, Leads, Each}
-use Rattle.zone_bytes.specs.Settling.{falling_from, Lay, IsRun, PackingAt, Packing, Settled}
+use Rattle.zone_bytes.specs.Settling.{falling_from, Lay, EndsRun, runs_on, IsRun, PackingAt, Packing, Packed}
 use Rattle.zone_bytes.proofs.Tiles.Tiling.{span-append, tiles-append, tiles-one, tiles-split}
 use Rattle.zone_bytes.proofs.Tiles.Heads.{first-reads, slot-reads, kind-small}
-use Rattle.zone_bytes.proofs.Tiles.Leading.{each-left, each-right, Clear, piece-clear, leads-append, leads-written}
+use Rattle.zone_bytes.proofs.Tiles.Leading.{each-left, each-right, names-append, Clear, piece-clear, leads-written}
 use Rattle.zone_bytes.proofs.Runs.Packed.{run-bounds, slot-spot, all-clear, packed-bounds, slot-even, is-slot}
+use Rattle.zone_bytes.proofs.Runs.Ends.{runs-told}
 use Rattle.zone_bytes.proofs.Runs.Packed.{slot-length, length-slid, step-free, step-move}
 
 pub free_sum-span : (blocks : List Block) → free_sum blocks ≡ free_sum blocks
@@ -66,32 +67,30 @@ pub record Next (xs : List ℕ) (from : ℕ) : Type 0 where
   pub big : 16 ≤ word_at from xs
 
 -- the next block is relocatable
-pub record NextMover (lay : Lay) (stop from to moves : ℕ) (xs : List ℕ) (n slot : ℕ) : Type 0 where
+pub record NextMover (lay : Lay) (gap stop from to moves : ℕ) (xs : List ℕ) (n slot : ℕ) : Type 0 where
   pub inside : (from + n ≤ stop) × (stop ≤ length xs)
   pub even : slot % 4 ≡ 0
   pub slot_inside : slot + 4 ≤ length xs
   pub leads : piece slot 4 xs ≡ word from
   pub packing : (m : ℕ) → m ≡ cond (nat_lt 0 (from - to)) 1 0
-      → Packing lay stop (from + n) (to + n) (moves + m) (written slot (word to) (written to (piece from n xs) xs))
+      → Packing lay gap stop (from + n) (to + n) (moves + m) (written slot (word (to + gap)) (written to (piece from n xs) xs))
 
-module _ (lay : Lay) (place stop : ℕ) (r : IsRun lay place stop) (from to moves : ℕ) (xs : List ℕ) where
+module _ (lay : Lay) (place stop : ℕ) (r : IsRun lay place stop) (gap from to moves : ℕ) (xs : List ℕ) where
   pub stop-inside : length xs ≡ length lay.bytes → (stop ≤ length xs) × (length xs ≤ 134217728)
   stop-inside k =
       let b = run-bounds lay place stop r in
       let s = r.small in
       (omega (arith, b, k), omega (arith, s, k))
 
-  next-at : (moved rest : List Block) → PackingAt lay stop from to moves xs moved rest → from < stop → Next xs from
-  next-at moved [] q l = let u = q.up in absurd (omega (arith, u, l))
-  next-at moved (b ∷ rest) q l =
-      let i = stop-inside q.kept in
-      let t = q.high.0 in
-      let f = t.fits in
-      let s = t.some in
+  next-at : (blocks : List Block) → Tiles (head_of lay.resource) (drop from xs) blocks → from % 16 ≡ 0
+      → length xs ≤ 134217728 → from < length xs → Next xs from
+  next-at [] t w s l = let d = length-drop from xs in let n = ap length t in absurd (omega (arith, d, n, l))
+  next-at (b ∷ blocks) t v i l =
+      let f = t.0.fits in
+      let s = t.0.some in
       let d = length-drop from xs in
-      let w = first-reads lay.resource xs from i.1 b t in
-      let v = q.whole in
-      let h = t.whole in
+      let w = first-reads lay.resource xs from i b t.0 in
+      let h = t.0.whole in
       let k = kind-small b in
       record {
         even = omega (arith, v);
@@ -101,11 +100,46 @@ module _ (lay : Lay) (place stop : ℕ) (r : IsRun lay place stop) (from to move
             omega (arith, w, s);
       }
 
-  pub next : Packing lay stop from to moves xs → from < stop → Next xs from
-  next p l = next-at p.moved p.rest p.state l
+  -- the next block, of the run or above it
+  pub next : Packing lay gap stop from to moves xs → from < length xs → Next xs from
+  next p l =
+      let q = p.state in
+      next-at (p.rest ++ lay.above) q.high q.whole.0 (stop-inside q.kept).1 l
 
-  next-free-at : (moved rest : List Block) → PackingAt lay stop from to moves xs moved rest → from < stop → (n t : ℕ)
-      → n + t ≡ word_at from xs → n % 16 ≡ 0 → t < 3 → Packing lay stop (from + n) to moves xs
+  outside : (above : List Block) → EndsRun above → Tiles (head_of lay.resource) (drop from xs) above → from < length xs
+      → length xs ≤ 134217728 → (n t f : ℕ) → n + t ≡ word_at from xs → n % 16 ≡ 0 → t ≤ 3 → f ≡ word_at (from + 12) xs
+      → runs_on t f ≡ true → ⊥
+  outside [] o h l s n t f e w k v b =
+      let d = length-drop from xs in let m = ap length h in absurd (omega (arith, d, m, l))
+  outside (c ∷ above) o h l s n t f e w k v b =
+      false≢true (sym o ∙ sym (runs-told lay.resource xs from s c h.0 n t f e w k v) ∙ b)
+
+  within-at : (moved rest : List Block) → PackingAt lay gap stop from to moves xs moved rest → from < length xs
+      → (n t f : ℕ) → n + t ≡ word_at from xs → n % 16 ≡ 0 → t ≤ 3 → f ≡ word_at (from + 12) xs → runs_on t f ≡ true
+      → from < stop
+  within-at moved [] q l n t f e w k v b =
+      absurd (outside lay.above r.ends q.high l (stop-inside q.kept).1 n t f e w k v b)
+  within-at moved (c ∷ rest) q l n t f e w k v b =
+      let u = q.up in let s = q.high.0.some in omega (arith, u, s)
+
+  -- a block that belongs to a run is one of this run
+  pub within : Packing lay gap stop from to moves xs → from < length xs → (n t f : ℕ) → n + t ≡ word_at from xs
+      → n % 16 ≡ 0 → t ≤ 3 → f ≡ word_at (from + 12) xs → true ≡ runs_on t f → from < stop
+  within p l n t f e w k v b = within-at p.moved p.rest p.state l n t f e w k v (sym b)
+
+  beyond-at : (moved rest : List Block) → PackingAt lay gap stop from to moves xs moved rest → (n t f : ℕ)
+      → n + t ≡ word_at from xs → n % 16 ≡ 0 → t ≤ 3 → f ≡ word_at (from + 12) xs → false ≡ runs_on t f → stop ≤ from
+  beyond-at moved [] q n t f e w k v b = let u = q.up in omega (arith, u)
+  beyond-at moved (c ∷ rest) q n t f e w k v b = absurd (false≢true (b
+      ∙ runs-told lay.resource xs from (stop-inside q.kept).1 c q.high.0 n t f e w k v ∙ q.in_run.0))
+
+  -- and one that belongs to none lies above it
+  pub beyond : Packing lay gap stop from to moves xs → (n t f : ℕ) → n + t ≡ word_at from xs → n % 16 ≡ 0 → t ≤ 3
+      → f ≡ word_at (from + 12) xs → false ≡ runs_on t f → stop ≤ from
+  beyond p n t f e w k v b = beyond-at p.moved p.rest p.state n t f e w k v b
+
+  next-free-at : (moved rest : List Block) → PackingAt lay gap stop from to moves xs moved rest → from < stop → (n t : ℕ)
+      → n + t ≡ word_at from xs → n % 16 ≡ 0 → t < 3 → Packing lay gap stop (from + n) to moves xs
   next-free-at moved [] q l n t e w k = let u = q.up in absurd (omega (arith, u, l))
   next-free-at moved (Free m ∷ rest) q l n t e w k =
       let i = stop-inside q.kept in
@@ -114,8 +148,8 @@ module _ (lay : Lay) (place stop : ℕ) (r : IsRun lay place stop) (from to move
       record {
         moved = moved;
         rest = rest;
-        state = subst (λ j. PackingAt lay stop (from + j) to moves xs moved rest)
-            (sym same.0) (step-free lay place stop r from to moves xs moved m rest q);
+        state = subst (λ j. PackingAt lay gap stop (from + j) to moves xs moved rest)
+            (sym same.0) (step-free lay place stop r gap from to moves xs moved m rest q);
       }
   next-free-at moved (Fixed id content ∷ rest) q l n t e w k = absurd (false≢true q.in_run.0)
   next-free-at moved (Masters ∷ rest) q l n t e w k = absurd (false≢true q.in_run.0)
@@ -126,13 +160,13 @@ module _ (lay : Lay) (place stop : ℕ) (r : IsRun lay place stop) (from to move
       (omega arith) in
       absurd (let j = same.1 in omega (arith, j, k))
 
-  pub next-free : Packing lay stop from to moves xs → from < stop → (n t : ℕ) → n + t ≡ word_at from xs → n % 16 ≡ 0
-      → t < 3 → Packing lay stop (from + n) to moves xs
+  pub next-free : Packing lay gap stop from to moves xs → from < stop → (n t : ℕ) → n + t ≡ word_at from xs → n % 16 ≡ 0
+      → t < 3 → Packing lay gap stop (from + n) to moves xs
   next-free p l n t e w k = next-free-at p.moved p.rest p.state l n t e w k
 
-  next-mover-at : (moved rest : List Block) → PackingAt lay stop from to moves xs moved rest → from < stop → (n t s : ℕ)
+  next-mover-at : (moved rest : List Block) → PackingAt lay gap stop from to moves xs moved rest → from < stop → (n t s : ℕ)
       → n + t ≡ word_at from xs → n % 16 ≡ 0 → t ≡ 3 → s ≡ word_at (from + 8) xs
-      → NextMover lay stop from to moves xs n s
+      → NextMover lay gap stop from to moves xs n s
   next-mover-at moved [] q l n t s e w k v = let u = q.up in absurd (omega (arith, u, l))
   next-mover-at moved (Free m ∷ rest) q l n t s e w k v =
       let i = stop-inside q.kept in
@@ -147,12 +181,12 @@ module _ (lay : Lay) (place stop : ℕ) (r : IsRun lay place stop) (from to move
       let i = stop-inside q.kept in
       let f = first-reads lay.resource xs from i.1 b q.high.0 in
       let same = same_parts n t (size b) 3 (e ∙ f) w q.high.0.whole (omega (arith, k)) (omega arith) in
-      let a = is-slot lay place stop r from to moves xs moved slot flags content rest q in
-      let sl = slot-length lay place stop r from to moves xs moved slot flags content rest q in
-      let ls = length-slid lay place stop r from to moves xs moved slot flags content rest q in
+      let a = is-slot lay place stop r gap from to moves xs moved slot flags content rest q in
+      let sl = slot-length lay place stop r gap from to moves xs moved slot flags content rest q in
+      let ls = length-slid lay place stop r gap from to moves xs moved slot flags content rest q in
       let mine = v ∙ slot-reads lay.resource xs from i.1 slot flags content (omega (arith, sl, ls, i)) q.high.0 in
       let u = q.up in
-      let base : NextMover lay stop from to moves xs (size b) slot = record {
+      let base : NextMover lay gap stop from to moves xs (size b) slot = record {
         inside = (omega (arith, u), i.0);
         even = slot-even (head_of lay.resource) lay.bytes slot blocks r.lies.tiles a;
         slot_inside = omega (arith, sl, ls);
@@ -160,67 +194,72 @@ module _ (lay : Lay) (place stop : ℕ) (r : IsRun lay place stop) (from to move
         packing = λ m h. record {
           moved = moved ++ b ∷ [];
           rest = rest;
-          state = subst (λ j. PackingAt lay stop (from + size b) (to + size b) (moves + j)
-              (written slot (word to) (written to (piece from (size b) xs) xs)) (moved ++ b ∷ []) rest) (sym h)
-              (step-move lay place stop r from to moves xs moved slot flags content rest q);
+          state = subst (λ j. PackingAt lay gap stop (from + size b) (to + size b) (moves + j)
+              (written slot (word (to + gap)) (written to (piece from (size b) xs) xs)) (moved ++ b ∷ []) rest) (sym h)
+              (step-move lay place stop r gap from to moves xs moved slot flags content rest q);
         };
       } in
-      subst (λ j. NextMover lay stop from to moves xs j s) (sym same.0)
-      (subst (λ j. NextMover lay stop from to moves xs (size b) j) (sym mine) base)
+      subst (λ j. NextMover lay gap stop from to moves xs j s) (sym same.0)
+      (subst (λ j. NextMover lay gap stop from to moves xs (size b) j) (sym mine) base)
 
-  pub next-mover : Packing lay stop from to moves xs → from < stop → (n t s : ℕ) → n + t ≡ word_at from xs → n % 16 ≡ 0
-      → t ≡ 3 → s ≡ word_at (from + 8) xs → NextMover lay stop from to moves xs n s
+  pub next-mover : Packing lay gap stop from to moves xs → from < stop → (n t s : ℕ) → n + t ≡ word_at from xs → n % 16 ≡ 0
+      → t ≡ 3 → s ≡ word_at (from + 8) xs → NextMover lay gap stop from to moves xs n s
   next-mover p l n t s e w k v = next-mover-at p.moved p.rest p.state l n t s e w k v
 
   -- at the end of the run the rest is nothing
-  done-at : (moved rest : List Block) → PackingAt lay stop from to moves xs moved rest → stop ≤ from
-      → PackingAt lay stop from to moves xs moved [] × (from ≡ stop)
+  done-at : (moved rest : List Block) → PackingAt lay gap stop from to moves xs moved rest → stop ≤ from
+      → PackingAt lay gap stop from to moves xs moved [] × (from ≡ stop)
   done-at moved [] q l = let u = q.up in (q, omega (arith, u))
   done-at moved (b ∷ rest) q l = let u = q.up in let s = q.high.0.some in absurd (omega (arith, u, s, l))
 
+  -- the slots after the run's end
+  leads-above : (moved : List Block) → PackingAt lay gap stop from to moves xs moved [] → from ≡ stop
+      → Leads (sizes lay.below + sizes lay.run) lay.above xs
+  leads-above moved q e =
+      let p = r.bottom in
+      let t = r.top in
+      subst (λ k. Leads k lay.above xs) (omega (arith, e, p, t)) q.lead_high
+
   -- no Free bytes
-  finish-none-at : (moved : List Block) → PackingAt lay stop from to moves xs moved [] → from ≤ to
-      → Settled lay moves xs
-  finish-none-at moved q l =
+  finish-none-at : (moved : List Block) → PackingAt lay gap stop from to moves xs moved [] → from ≡ stop → from ≤ to
+      → Packed lay gap moves xs
+  finish-none-at moved q e l =
       let head = head_of lay.resource in
       let f = q.free in
       let d = q.down in
-      let b = packed-bounds lay place stop r from to moves xs moved [] q in
       let g : free_sum lay.run ≡ 0 = (let k = free_sum-span lay.run in omega (arith, k, f, d, l)) in
       let same : from ≡ to = omega (arith, d, l) in
+      let those : moved ≡ movers lay.run = sym (append-nil moved) ∙ q.order in
       let shape : settle lay.run ≡ moved = ap (λ k. movers lay.run ++ free k) g ∙ append-nil (movers lay.run)
-      ∙ sym q.order ∙ append-nil moved in
+      ∙ sym those in
       let blocks : lay.below ++ moved ++ lay.above ≡ lay.below ++ (settle lay.run ++ lay.above) =
       append_assoc lay.below moved lay.above ∙ ap (λ k. lay.below ++ (k ++ lay.above)) (sym shape) in
       let high = subst (λ k. Tiles head (drop k xs) lay.above) same q.high in
       let tiles = tiles-append head (take to xs) (drop to xs) (lay.below ++ moved) lay.above q.low high in
-      let o : from ≡ 0 + sizes (lay.below ++ moved) = omega (arith, b, same) in
-      let leads = leads-append xs 0 (lay.below ++ moved) lay.above q.lead_low
-      (subst (λ k. Leads k lay.above xs) o q.lead_high) in
       record {
-        lies = record {
-          tiles = subst (λ k. Tiles head k (lay.below ++ (settle lay.run ++ lay.above))) (take-append-drop to xs)
-              (subst (λ k. Tiles head (take to xs ++ drop to xs) k) blocks tiles);
-          leads = subst (λ k. Leads 0 k xs) blocks leads;
-        };
+        tiles = subst (λ k. Tiles head k (lay.below ++ (settle lay.run ++ lay.above))) (take-append-drop to xs)
+            (subst (λ k. Tiles head (take to xs ++ drop to xs) k) blocks tiles);
+        low = q.lead_low;
+        leads = subst (λ k. Leads (sizes lay.below + gap) k xs) those q.lead_moved;
+        high = leads-above moved q e;
         others = q.others;
         moved = (let c = q.count in omega (arith, c));
         kept = q.kept;
       }
 
   -- one Free block
-  finish-free-at : (moved : List Block) → PackingAt lay stop from to moves xs moved [] → from ≡ stop → to < from
-      → Settled lay moves (written to (word (from - to)) xs)
+  finish-free-at : (moved : List Block) → PackingAt lay gap stop from to moves xs moved [] → from ≡ stop → to < from
+      → Packed lay gap moves (written to (word (from - to)) xs)
   finish-free-at moved q e l =
       let head = head_of lay.resource in
       let f = q.free in
       let v = q.whole in
-      let b = packed-bounds lay place stop r from to moves xs moved [] q in
+      let b = packed-bounds lay place stop r gap from to moves xs moved [] q in
       let w = length-word (from - to) in
       let g : free_sum lay.run ≡ from - to = (let k = free_sum-span lay.run in omega (arith, k, f)) in
       let zs = written to (word (from - to)) xs in
       let n = length-written to (word (from - to)) xs (omega (arith, w, b, v, l)) in
-      let gap : take (from - to) (drop to zs) ++ drop from zs ≡ drop to zs =
+      let gone : take (from - to) (drop to zs) ++ drop from zs ≡ drop to zs =
       ap (λ k. take (from - to) (drop to zs) ++ k) (sym (drop-drop (from - to) to zs
       ∙ ap (λ k. drop k zs) (let m : to + (from - to) ≡ from = omega (arith, l) in m)))
       ∙ take-append-drop (from - to) (drop to zs) in
@@ -238,8 +277,9 @@ module _ (lay : Lay) (place stop : ℕ) (r : IsRun lay place stop) (from to move
       let mid = tiles-one head (Free (from - to)) (take (from - to) (drop to zs)) len tile in
       let some : free (free_sum lay.run) ≡ Free (from - to) ∷ [] = ap free g
       ∙ free-some (from - to) (omega (arith, l)) in
+      let those : moved ≡ movers lay.run = sym (append-nil moved) ∙ q.order in
       let shape : settle lay.run ≡ moved ++ Free (from - to) ∷ [] = ap (λ k. movers lay.run ++ k) some
-      ∙ ap (λ k. k ++ Free (from - to) ∷ []) (sym q.order ∙ append-nil moved) in
+      ∙ ap (λ k. k ++ Free (from - to) ∷ []) (sym those) in
       let blocks : lay.below ++ moved ++ (Free (from - to) ∷ lay.above) ≡ lay.below ++ (settle lay.run ++ lay.above) =
       append_assoc lay.below moved (Free (from - to) ∷ lay.above)
       ∙ ap (λ k. lay.below ++ k) (sym (append_assoc moved (Free (from - to) ∷ []) lay.above))
@@ -247,25 +287,25 @@ module _ (lay : Lay) (place stop : ℕ) (r : IsRun lay place stop) (from to move
       let tiles = tiles-append head (take to zs) (take (from - to) (drop to zs) ++ drop from zs) (lay.below ++ moved)
       (Free (from - to) ∷ lay.above) low (tiles-append head (take (from - to) (drop to zs)) (drop from zs)
       (Free (from - to) ∷ []) lay.above mid high) in
-      let bytes : take to zs ++ (take (from - to) (drop to zs) ++ drop from zs) ≡ zs = ap (λ k. take to zs ++ k) gap
+      let bytes : take to zs ++ (take (from - to) (drop to zs) ++ drop from zs) ≡ zs = ap (λ k. take to zs ++ k) gone
       ∙ take-append-drop to zs in
+      let P : ℕ → Type 0 = Clear to (length (word (from - to))) in
       let c = all-clear lay place stop r to (length (word (from - to))) b.0 (omega (arith, w, v, l, e)) in
-      let cs = subst (λ k. Each (Clear to (length (word (from - to)))) k) (sym q.named) c in
-      let lead-low = leads-written to (word (from - to)) xs 0 (lay.below ++ moved) (omega (arith, b, l))
-      (each-left (Clear to (length (word (from - to)))) (names (lay.below ++ moved)) (names lay.above) cs)
-      q.lead_low in
-      let lead-high = leads-written to (word (from - to)) xs from lay.above (omega (arith, b, l))
-      (each-right (Clear to (length (word (from - to)))) (names (lay.below ++ moved)) (names lay.above) cs)
-      q.lead_high in
-      let o : from ≡ 0 + sizes (lay.below ++ moved) + (from - to) = omega (arith, b, l) in
-      let leads = leads-append zs 0 (lay.below ++ moved) (Free (from - to) ∷ lay.above) lead-low
-      (tt, subst (λ k. Leads k lay.above zs) o lead-high) in
+      let cs = subst (λ k. Each P k) (sym q.named) c in
+      let clear-low = subst (λ k. Each P k) (names-append lay.below moved)
+      (each-left P (names (lay.below ++ moved)) (names lay.above) cs) in
+      let clear-high = each-right P (names (lay.below ++ moved)) (names lay.above) cs in
+      let at : to ≤ length xs = omega (arith, b, l) in
       record {
-        lies = record {
-          tiles = subst (λ k. Tiles head k (lay.below ++ (settle lay.run ++ lay.above))) bytes
-              (subst (λ k. Tiles head (take to zs ++ (take (from - to) (drop to zs) ++ drop from zs)) k) blocks tiles);
-          leads = subst (λ k. Leads 0 k zs) blocks leads;
-        };
+        tiles = subst (λ k. Tiles head k (lay.below ++ (settle lay.run ++ lay.above))) bytes
+            (subst (λ k. Tiles head (take to zs ++ (take (from - to) (drop to zs) ++ drop from zs)) k) blocks tiles);
+        low = leads-written to (word (from - to)) xs 0 lay.below at
+            (each-left P (names lay.below) (names moved) clear-low) q.lead_low;
+        leads = subst (λ k. Leads (sizes lay.below + gap) k zs) those
+            (leads-written to (word (from - to)) xs (sizes lay.below + gap) moved at
+            (each-right P (names lay.below) (names moved) clear-low) q.lead_moved);
+        high = leads-written to (word (from - to)) xs (sizes lay.below + sizes lay.run) lay.above at clear-high
+            (leads-above moved q e);
         others = λ s i a.
             let outside : Clear to (length (word (from - to))) s = elim (slot-spot lay place stop r s i) [
               | inl j ↦ inl (let h = j.0 in omega (arith, h, b))
@@ -276,25 +316,29 @@ module _ (lay : Lay) (place stop : ℕ) (r : IsRun lay place stop) (from to move
         kept = n ∙ q.kept;
       }
 
-  pub finish-none : Packing lay stop from to moves xs → stop ≤ from → from ≤ to → Settled lay moves xs
-  finish-none p l h = finish-none-at p.moved (done-at p.moved p.rest p.state l).0 h
+  pub finish-none : Packing lay gap stop from to moves xs → stop ≤ from → from ≤ to → Packed lay gap moves xs
+  finish-none p l h = let d = done-at p.moved p.rest p.state l in finish-none-at p.moved d.0 d.1 h
 
-  pub finish-free : Packing lay stop from to moves xs → stop ≤ from → to < from
-      → Settled lay moves (written to (word (from - to)) xs)
+  pub finish-free : Packing lay gap stop from to moves xs → stop ≤ from → to < from
+      → Packed lay gap moves (written to (word (from - to)) xs)
   finish-free p l h = let d = done-at p.moved p.rest p.state l in finish-free-at p.moved d.0 d.1 h
 
+  -- the pass ends where the run does
+  pub packed-stop : Packing lay gap stop from to moves xs → stop ≤ from → from ≡ stop
+  packed-stop p l = (done-at p.moved p.rest p.state l).1
+
   -- the packed blocks end where the Free block begins
-  pub packed-top : Packing lay stop from to moves xs → stop ≤ from → to ≡ place + sizes (movers lay.run)
+  pub packed-top : Packing lay gap stop from to moves xs → stop ≤ from → to ≡ place + sizes (movers lay.run)
   packed-top p l =
       let d = done-at p.moved p.rest p.state l in
-      let b = packed-bounds lay place stop r from to moves xs p.moved [] d.0 in
+      let b = packed-bounds lay place stop r gap from to moves xs p.moved [] d.0 in
       let a = span-append lay.below p.moved in
       let o = ap sizes (sym (append-nil p.moved) ∙ d.0.order) in
       let w = r.bottom in
       omega (arith, b, a, o, w)
 
   -- no more blocks come lower than there are bytes
-  pub moves-bound : Packing lay stop from to moves xs → moves ≤ 134217728
+  pub moves-bound : Packing lay gap stop from to moves xs → moves ≤ 134217728
   moves-bound p =
       let c = p.state.count in
       let b = run-bounds lay place stop r in

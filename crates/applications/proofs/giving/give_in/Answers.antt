@@ -1,4 +1,4 @@
-use Rattle.std.proofs.Common.{◌≡◌, ◌∙◌, ◌++◌, ◌||◌, ℕ, List, ap, subst, length, take}
+use Rattle.std.proofs.Common.{◌∙◌, ◌++◌, ◌||◌, List, ap, subst, length, take}
 use Rattle.std.specs.Prelude.{nat_lt}
 use Rattle.block_store.specs.Block.{Block, sizes}
 use Rattle.heap_calls.specs.Stored.{IsNamed}

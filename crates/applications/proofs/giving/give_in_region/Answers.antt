@@ -1,5 +1,4 @@
 use Rattle.std.proofs.Common.{◌≡◌, ◌∙◌, ℕ, ap, sym, subst, length, arith, IfOk}
-use Rattle.windows.specs.Windows.{without_window}
 use Rattle.raw_zone.specs.Parted.{zone_of}
 use Rattle.block_store.specs.Block.{sizes}
 use Rattle.block_store.specs.Rest.{Site}

@@ -1,5 +1,5 @@
-use Rattle.std.proofs.Common.{sym, ◌∙◌}
-use Rattle.block_store.proofs.Plain.Trials.{least_or_last-is, least_or_last-fails, past-least}
+use Rattle.std.proofs.Common.{sym, ap, ◌∙◌, subst}
+use Rattle.block_store.proofs.Plain.Trials.{least_or_last-is, least_or_last-fails}
 use Rattle.heap_calls.proofs.least.least_look.Goals as goal
 
 -- it is there after all, and so after as many as there can be
@@ -18,8 +18,22 @@ pub returns-clause-least : goal.returns-clause-least
 returns-clause-least g c =
     let look = c.args.look.now in
     let zone = g.S.BlockStore.zone c.args.store.now in
-    let most = g.L.Look.most look zone in
-    past-least most c.fewest-purges.result.purges c.fewest-purges.ensures.there c.fewest-purges.ensures.least
+    c.most_purges.ensures
     ∙ sym (least_or_last-fails (g.L.Look.is_there look zone)
-    (λ k m le is. g.met.L.Look.rises look zone k m c.requires le is) most 134217728 c.goes_on.ensures.few
-    (sym c.look-after_all.ensures.there ∙ sym c.is_some-2.ensures ∙ c.if-is_some-2.false))
+    (λ k m le is. g.met.L.Look.rises look zone k m c.requires le is) (g.L.Look.most look zone) 134217728
+    c.goes_on.ensures.few (sym c.look-after_all.ensures.there ∙ sym c.is_some-2.ensures ∙ c.if-is_some-2.false))
+
+pub returns-clause-there : goal.returns-clause-there
+returns-clause-there g c =
+    let look = c.args.look.now in
+    let zone = g.S.BlockStore.zone c.args.store.now in
+    c.look-after_all.ensures.there ∙ g.met.L.Look.ends look zone 134217728 c.requires c.goes_on.ensures.few
+    ∙ ap (g.L.Look.is_there look zone) (sym c.most_purges.ensures)
+
+pub returns-clause-found : goal.returns-clause-found
+returns-clause-found g c =
+    let look = c.args.look.now in
+    let zone = g.S.BlockStore.zone c.args.store.now in
+    subst (λ k. g.L.Look.Finds look zone k c.look-after_all.result) (sym c.most_purges.ensures)
+    (g.met.L.Look.stays look zone 134217728 c.look-after_all.result c.requires c.goes_on.ensures.few
+    c.look-after_all.ensures.found)

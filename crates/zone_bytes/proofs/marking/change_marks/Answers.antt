@@ -1,17 +1,19 @@
-use Rattle.std.proofs.Common.{◌-◌, set, length-set, arith}
+use Rattle.std.proofs.Common.{◌-◌, length-set, arith}
 use Rattle.zone_bytes.specs.Decode.{zone_in}
 use Rattle.zone_bytes.proofs.Marks.Lowering.{begins-lowered, changing-start, changing-step, changing-done, changing-below}
 use Rattle.zone_bytes.proofs.Marks.Lowering.{last-mark, replaced-order}
 use Rattle.zone_bytes.proofs.marking.change_marks.Goals as goal
+use Rattle.zone_bytes.proofs.marking.change_marks.Goals.{then-loop-first-test+else-lo-above, else-loop-first-test}
 
-pub loop-left-init : goal.loop-left-init
-loop-left-init c = (
-  c.index_above-left.ensures.index,
+pub loop-first-init : goal.loop-first-init
+loop-first-init c = (
+  c.index_above-last.ensures.index,
+  c.requires.tops,
   λ old z a. let h = c.ranges.hi.fits in
       changing-start c.args.lo c.args.hi old (zone_in c.args.part.now.bytes) z
       (replaced-order c.args.lo c.args.hi old (zone_in c.args.part.now.bytes) z) c.place_of_mark-above.result
-      c.index_above-left.result c.args.marks.now (omega (arith, h)) c.place_of_mark-above.ensures
-      c.index_above-left.ensures.above a,
+      c.index_above-last.result c.args.marks.now (omega (arith, h)) c.place_of_mark-above.ensures
+      c.index_above-last.ensures.above a,
 )
 
 pub changed_mark-mark-requires-clause-ordered : goal.changed_mark-mark-requires-clause-ordered
@@ -23,44 +25,36 @@ changed_mark-mark-requires-clause-begins c = λ at w.
     let old = c.requires.marks.0 in
     let new = zone_in c.args.part.now.bytes in
     let z = c.requires.marks.1 in
-    let s = c.loop-left-test.true in
-    let r = last-mark c.args.lo c.args.hi old new c.loop-left.above c.loop-left.left c.loop-left.marks _
-    (record { at = 0; most = 0 }) (omega (arith, s)) c.loop-left.invariant.0
-    (c.loop-left.invariant.1 old z c.requires.marks.2) in
+    let s = c.loop-first-test.true in
+    let r = last-mark c.args.lo c.args.hi old new c.loop-first.above c.loop-first.first c.loop-first.marks _
+    (record { at = 0; most = 0 }) (omega (arith, s)) c.loop-first.invariant.0
+    (c.loop-first.invariant.2 old z c.requires.marks.2) in
     begins-lowered c.args.lo c.args.hi old new z (replaced-order c.args.lo c.args.hi old new z) _ at w r.1.0
 
-pub loop-left-preserved : goal.loop-left-preserved
-loop-left-preserved c =
-    let s = c.loop-left-test.true in
-    let l = c.loop-left.invariant.0 in
+pub loop-first-preserved : goal.loop-first-preserved
+loop-first-preserved c =
+    let s = c.loop-first-test.true in
+    let l = c.loop-first.invariant.0 in
     let new = zone_in c.args.part.now.bytes in (
-      (let n = length-set c.loop-left.marks (c.loop-left.left - 1) c.changed_mark-mark.result in omega (arith, l, n)),
+      (let n = length-set c.loop-first.marks (c.loop-first.first - 1) c.changed_mark-mark.result in omega (arith, l, n)),
+      c.raise_top.ensures c.loop-first.marks c.changed_mark-mark.result (omega arith) c.loop-first.invariant.1,
       λ old z a.
-          changing-step c.args.lo c.args.hi old new z (replaced-order c.args.lo c.args.hi old new z) c.loop-left.above
-          c.loop-left.left c.loop-left.marks (record { at = 0; most = 0 }) c.changed_mark-mark.result (omega (arith, s)) l
-          (c.loop-left.invariant.1 old z a) c.changed_mark-mark.ensures.at
+          changing-step c.args.lo c.args.hi old new z (replaced-order c.args.lo c.args.hi old new z) c.loop-first.above
+          c.loop-first.first c.loop-first.marks (record { at = 0; most = 0 }) c.changed_mark-mark.result (omega (arith, s)) l
+          (c.loop-first.invariant.2 old z a) c.changed_mark-mark.ensures.at
           (λ next n e. c.changed_mark-mark.ensures.bound old next z n e),
     )
 
-pub returns-then-above-lo : goal.returns-then-above-lo
-returns-then-above-lo c =
-    let s = c.loop-left-test.true in
+pub returns-clause-marks : goal.returns-clause-marks
+returns-clause-marks c =
     let old = c.requires.marks.0 in
     let new = zone_in c.args.part.now.bytes in
     let z = c.requires.marks.1 in
-    let o = replaced-order c.args.lo c.args.hi old new z in
-    let m = c.changed_mark-mark.result in
-    changing-below c.args.lo c.args.hi old new z o m.at (c.loop-left.left - 1) (set c.loop-left.marks (c.loop-left.left - 1) m)
-    c.if-above-lo.true
-    (changing-step c.args.lo c.args.hi old new z o c.loop-left.above c.loop-left.left c.loop-left.marks
-    (record { at = 0; most = 0 }) m (omega (arith, s)) c.loop-left.invariant.0
-    (c.loop-left.invariant.1 old z c.requires.marks.2) c.changed_mark-mark.ensures.at
-    (λ next n e. c.changed_mark-mark.ensures.bound old next z n e))
-
-pub returns : goal.returns
-returns c =
-    let old = c.requires.marks.0 in
-    let z = c.requires.marks.1 in
-    let s = c.loop-left-test.false in
-    changing-done c.args.lo c.args.hi old (zone_in c.args.part.now.bytes) c.loop-left.above c.loop-left.left
-    c.loop-left.marks (omega (arith, s)) (c.loop-left.invariant.1 old z c.requires.marks.2)
+    let g = c.loop-first.invariant.2 old z c.requires.marks.2 in
+    elim c.loop-first-test.branch [
+      | then-loop-first-test+else-lo-above w ↦ changing-below c.args.lo c.args.hi old new z
+          (replaced-order c.args.lo c.args.hi old new z) c.loop-first.above c.loop-first.first c.loop-first.marks
+          w.if-lo-above.false g
+      | else-loop-first-test w ↦ let s = w.loop-first-test.false in
+          changing-done c.args.lo c.args.hi old new c.loop-first.above c.loop-first.first c.loop-first.marks (omega (arith, s)) g
+    ]

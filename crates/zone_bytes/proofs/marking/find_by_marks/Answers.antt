@@ -1,29 +1,35 @@
-use Rattle.std.proofs.Common.{drop, arith}
-use Rattle.std.proofs.lemmas.List.{drop_more}
+use Rattle.std.proofs.Common.{◌≡◌, ◌+◌, ◌*◌, subst, arith}
 use Rattle.zone_bytes.specs.Decode.{zone_in}
+use Rattle.zone_bytes.specs.Marks.{NoneBelow}
+use Rattle.zone_bytes.specs.declared.landmark.TheConstants.{GROUP}
 use Rattle.zone_bytes.proofs.Marks.Passing.{begins-here}
-use Rattle.zone_bytes.proofs.Marks.Rooms.{nothing-below, seek-on, finds-either}
+use Rattle.zone_bytes.proofs.Marks.Rooms.{nothing-below, none-found, none-past, none-group}
 use Rattle.zone_bytes.proofs.marking.find_by_marks.Goals as goal
+use Rattle.zone_bytes.proofs.marking.find_by_marks.Goals.{then-bytes-tops+in_default-room_in_group, else-bytes-tops}
 
-pub loop-mark-init : goal.loop-mark-init
-loop-mark-init c =
+pub room_in_stretch-requires-clause-begins : goal.room_in_stretch-requires-clause-begins
+room_in_stretch-requires-clause-begins c = begins-here 0 (zone_in c.args.part.now.bytes)
+
+pub room_in_stretch-requires-clause-below : goal.room_in_stretch-requires-clause-below
+room_in_stretch-requires-clause-below c =
+    let i = c.requires.sound in nothing-below c.args.part.now.bytes i.0 i.1 i.2 c.args.bytes
+
+pub loop-group-preserved : goal.loop-group-preserved
+loop-group-preserved c =
     let i = c.requires.sound in
-    record {
-      begins = begins-here 0 (zone_in c.args.part.now.bytes);
-      below = nothing-below c.args.part.now.bytes i.0 i.1 i.2 c.args.bytes;
-      bound = λ l. let f = c.ranges.bytes.fits in absurd (omega (arith, l, f));
-      marks = c.requires.marks;
-    }
-
-pub loop-mark-preserved : goal.loop-mark-preserved
-loop-mark-preserved c =
-    let l = c.loop-mark-test.true in
-    seek-on c.args.bytes (zone_in c.args.part.now.bytes) c.loop-mark.last _ (drop c.loop-mark.mark-index c.args.marks.now) _
-    c.loop-mark.invariant (drop_more c.args.marks.now c.loop-mark.mark-index (record { at = 0; most = 0 }) l)
-    c.in_default.ensures.none
+    let group = c.loop-group.group in
+    elim c.if-bytes-tops.branch [
+      | then-bytes-tops+in_default-room_in_group w ↦ subst (NoneBelow c.args.bytes (zone_in c.args.part.now.bytes) c.args.marks.now)
+          (let e : GROUP * group + GROUP ≡ GROUP * (group + 1) = omega arith in e) w.in_default-room_in_group.ensures.none
+      | else-bytes-tops w ↦ none-group c.args.part.now.bytes i.0 i.1 i.2 c.args.bytes c.args.marks.now
+          c.requires.marks c.args.tops.now c.requires.tops group c.loop-group-test.true w.if-bytes-tops.false c.loop-group.invariant
+    ]
 
 pub returns : goal.returns
 returns c =
     let i = c.requires.sound in
-    finds-either c.args.part.now.bytes i.0 i.1 i.2 c.args.bytes c.room_in_stretch-2.result
-    c.room_in_stretch-2.ensures.none c.room_in_stretch-2.ensures.found
+    let t = c.loop-group-test.false in
+    let w = c.requires.tops.whole in
+    none-found c.args.part.now.bytes i.0 i.1 i.2 c.args.bytes
+    (none-past c.args.bytes (zone_in c.args.part.now.bytes) c.args.marks.now (GROUP * c.loop-group.group)
+    (omega (arith, t, w)) c.loop-group.invariant)

@@ -15,6 +15,7 @@ loop-index-init c =
     let d : Landmark = record { at = 0; most = 0 } in
     let p = marks-parted 4294967295 zone marks c.args.first c.requires.marks in (
       refl,
+      c.requires.tops,
       subst (λ n. AreMarks n zone (take c.args.first marks)) (sym e) p.0,
       p.1,
       λ l. subst (λ n. Begins n 0 zone) (sym (e ∙ mark-first 4294967295 marks c.args.first d l))
@@ -22,8 +23,8 @@ loop-index-init c =
       λ k. e ∙ ap (λ n. next_of 4294967295 (drop n marks)) k ∙ ap (next_of 4294967295) (drop-all marks),
     )
 
-pub returns-then-marks-index : goal.returns-then-marks-index
-returns-then-marks-index c =
+pub returns-then-marks-index-clause-marks : goal.returns-then-marks-index-clause-marks
+returns-then-marks-index-clause-marks c =
     let zone = zone_in c.args.part.now.bytes in
     let i = c.loop-index.invariant in
     let l = c.loop-index-test.true in
@@ -31,13 +32,13 @@ returns-then-marks-index c =
     let t = c.if-marks-index.true in
     marks-whole 4294967295 zone c.loop-index.marks c.loop-index.index c.loop-index.at
     (sym t ∙ sym (mark-first 4294967295 c.loop-index.marks c.loop-index.index (record { at = 0; most = 0 })
-    (omega (arith, l, n)))) i.1 i.2
+    (omega (arith, l, n)))) i.2 i.3
 
 pub stretch_from-stretch-requires : goal.stretch_from-stretch-requires
 stretch_from-stretch-requires c =
     let i = c.requires.sound in
     let l = c.loop-index-test.true in
-    begins-way c.args.part.now.bytes i.0 i.1 i.2 c.loop-index.at (c.loop-index.invariant.3 (omega (arith, l)))
+    begins-way c.args.part.now.bytes i.0 i.1 i.2 c.loop-index.at (c.loop-index.invariant.4 (omega (arith, l)))
 
 pub loop-index-preserved : goal.loop-index-preserved
 loop-index-preserved c =
@@ -46,13 +47,14 @@ loop-index-preserved c =
     let v = c.loop-index.invariant in
     let l = c.loop-index-test.true in
     let n = v.0 in
-    let b = v.3 (omega (arith, l)) in
+    let b = v.4 (omega (arith, l)) in
     let s = c.stretch_from-stretch in (
       length-set c.loop-index.marks c.loop-index.index _ ∙ n,
+      c.raise_top.ensures c.loop-index.marks (record { at = c.loop-index.at; most = s.result.most }) (omega arith) v.1,
       marks-next (zone_in xs) c.loop-index.marks c.loop-index.index c.loop-index.at s.result.edge s.result.most
-          (omega (arith, l, n)) v.1 b (bound-here xs i.0 i.1 i.2 s.result.most c.loop-index.at s.result.edge b s.ensures.bound)
+          (omega (arith, l, n)) v.2 b (bound-here xs i.0 i.1 i.2 s.result.most c.loop-index.at s.result.edge b s.ensures.bound)
           s.ensures.order,
-      marks-left 4294967295 (zone_in xs) c.loop-index.marks c.loop-index.index _ (omega (arith, l, n)) v.2,
+      marks-left 4294967295 (zone_in xs) c.loop-index.marks c.loop-index.index _ (omega (arith, l, n)) v.3,
       λ k. begins-further xs i.0 i.1 i.2 c.loop-index.at s.result.edge b (s.ensures.edge
           (equal-no (c.loop-index.index + 1) (length c.loop-index.marks) (omega (arith, k, n)))),
       λ k. s.ensures.last (equal-yes (c.loop-index.index + 1) (length c.loop-index.marks) (omega (arith, k, n))),

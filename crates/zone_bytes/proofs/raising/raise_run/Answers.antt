@@ -1,74 +1,30 @@
-use Rattle.std.proofs.Common.{◌+◌, ◌-◌, length, refl, ap, ◌∙◌, arith}
-use Rattle.windows.specs.Writes.{written}
-use Rattle.heap_words.specs.Words.{word}
-use Rattle.zone_bytes.proofs.Runs.Raises.{wide, evens, is-moved, is-raised, Mid, mid-none, mid-rest}
+use Rattle.std.proofs.Common.{refl, arith}
+use Rattle.zone_bytes.proofs.Runs.Lifts.{gap-fits, may-raise, is-lifted, is-lifted-none}
 use Rattle.zone_bytes.proofs.raising.raise_run.Goals as goal
-use Rattle.zone_bytes.proofs.raising.raise_run.Goals.{then-gap-stop, else-gap-stop}
 
-pub slide-requires : goal.slide-requires
-slide-requires g c =
-    let a = c.args in
-    let q = c.requires.1 in
-    let v = wide g.raise a.place a.top a.stop a.gap q in
-    let e = ap length c.requires.0 in
-    let s = q.same in
-    record { from_inside = omega (arith, v, e, s); to_inside = omega (arith, v, e, s) }
+pub pack_run-packed-requires : goal.pack_run-packed-requires
+pack_run-packed-requires g c =
+    let f = gap-fits g.lay c.args.place c.args.gap c.requires.1 in
+    (c.requires.0, (c.requires.1.run, omega (arith, f)))
 
-pub write_word-requires : goal.write_word-requires
-write_word-requires g c =
-    let a = c.args in
-    let q = c.requires.1 in
-    let v = wide g.raise a.place a.top a.stop a.gap q in
-    let w = evens g.raise a.place a.top a.stop a.gap q in
-    let e = ap length c.requires.0 in
-    let s = q.same in
-    let k = c.slide.ensures.same_length in
-    let o = q.some in
-    let x = q.even in
-    (omega (arith, w), omega (arith, v, e, s, k, o, x))
-
-pub write_word-requires-then-gap-stop : goal.write_word-requires-then-gap-stop
-write_word-requires-then-gap-stop g c =
-    let a = c.args in
-    let q = c.requires.1 in
-    let v = wide g.raise a.place a.top a.stop a.gap q in
-    let w = evens g.raise a.place a.top a.stop a.gap q in
-    let e = ap length c.requires.0 in
-    let s = q.same in
-    let k = c.slide.ensures.same_length in
-    let j = c.write_word.ensures.same in
-    let l = c.if-gap-stop.true in
-    let x = q.even in
-    (omega (arith, w, x), omega (arith, v, w, e, s, k, j, l))
-
-pub lead_run-requires : goal.lead_run-requires
-lead_run-requires g c =
-    let a = c.args in
-    let q = c.requires.1 in
-    let first = c.write_word.ensures.bytes ∙ ap (written a.place (word a.gap)) c.slide.ensures.bytes in
-    let mid : Mid g.raise a.place a.top a.stop a.gap c.if-gap-stop.part.bytes = elim c.if-gap-stop.branch [
-      | then-gap-stop w ↦ mid-rest g.raise a.place a.top a.stop a.gap q a.part.now.bytes c.requires.0
-          c.if-gap-stop.part.bytes (ap (λ p. p.bytes) w.part-is ∙ w.write_word-then-gap-stop.ensures.bytes
-          ∙ ap (written (a.top + a.gap) (word (a.stop - a.top - a.gap))) first) w.if-gap-stop.true
-      | else-gap-stop w ↦ mid-none g.raise a.place a.top a.stop a.gap q a.part.now.bytes c.requires.0
-          c.if-gap-stop.part.bytes (ap (λ p. p.bytes) w.part-is ∙ first) w.if-gap-stop.false
-    ] in (
+pub lift_blocks-requires : goal.lift_blocks-requires
+lift_blocks-requires g c =
+    let e = c.pack_run-packed.ensures in (
       refl,
-      is-moved g.raise a.place a.top a.stop a.gap q c.if-gap-stop.part.bytes mid.outside mid.moved mid.first
-          mid.last,
+      may-raise g.lay c.args.place c.args.gap c.requires.1 c.pack_run-packed.result.lowered
+          c.pack_run-packed.new.part.bytes e.packed c.pack_run-packed.result.top c.pack_run-packed.result.stop e.top
+          e.stop,
     )
 
-pub returns-clause-raised : goal.returns-clause-raised
-returns-clause-raised g c =
-    let a = c.args in
-    let q = c.requires.1 in
-    let first = c.write_word.ensures.bytes ∙ ap (written a.place (word a.gap)) c.slide.ensures.bytes in
-    let mid : Mid g.raise a.place a.top a.stop a.gap c.if-gap-stop.part.bytes = elim c.if-gap-stop.branch [
-      | then-gap-stop w ↦ mid-rest g.raise a.place a.top a.stop a.gap q a.part.now.bytes c.requires.0
-          c.if-gap-stop.part.bytes (ap (λ p. p.bytes) w.part-is ∙ w.write_word-then-gap-stop.ensures.bytes
-          ∙ ap (written (a.top + a.gap) (word (a.stop - a.top - a.gap))) first) w.if-gap-stop.true
-      | else-gap-stop w ↦ mid-none g.raise a.place a.top a.stop a.gap q a.part.now.bytes c.requires.0
-          c.if-gap-stop.part.bytes (ap (λ p. p.bytes) w.part-is ∙ first) w.if-gap-stop.false
-    ] in
-    is-raised g.raise a.place a.top a.stop a.gap q c.if-gap-stop.part.bytes mid.outside mid.moved mid.first mid.last
-    c.lead_run.new.part.bytes c.lead_run.ensures.pointed
+pub returns-then-place-packed-clause-lifted : goal.returns-then-place-packed-clause-lifted
+returns-then-place-packed-clause-lifted g c =
+    let e = c.pack_run-packed.ensures in
+    is-lifted g.lay c.args.place c.args.gap c.requires.1 c.pack_run-packed.result.lowered
+    c.pack_run-packed.new.part.bytes e.packed c.pack_run-packed.result.top e.top c.if-place-packed.true
+    c.lift_blocks.new.part.bytes c.lift_blocks.ensures.raised
+
+pub returns-else-place-packed-clause-lifted : goal.returns-else-place-packed-clause-lifted
+returns-else-place-packed-clause-lifted g c =
+    let e = c.pack_run-packed.ensures in
+    is-lifted-none g.lay c.args.place c.args.gap c.requires.1 c.pack_run-packed.result.lowered
+    c.pack_run-packed.new.part.bytes e.packed c.pack_run-packed.result.top e.top c.if-place-packed.false

@@ -1,17 +1,38 @@
-use Rattle.std.proofs.Common.{◌≡◌, refl, sym, ap, ◌∙◌}
+use Rattle.std.proofs.Common.{◌≡◌, ◌+◌, refl, sym, ap, ◌∙◌, arith}
 use Rattle.windows.specs.Writes.{written, piece}
 use Rattle.heap_words.specs.Words.{word}
 use Rattle.windows.proofs.Pieces.{written-same}
 use Rattle.zone_bytes.proofs.settling.move_block.Goals as goal
+use Rattle.zone_bytes.proofs.settling.move_block.Goals.{Else-to-from}
 
-pub returns-then-to-from-clause-bytes : goal.returns-then-to-from-clause-bytes
-returns-then-to-from-clause-bytes c =
+-- where it stays
+still : (c : Else-to-from)
+    → written c.args.to (piece c.args.from c.args.size c.args.part.now.bytes) c.args.part.now.bytes
+    ≡ c.args.part.now.bytes
+still c =
     let a = c.args in
     let xs = a.part.now.bytes in
-    let e = c.if-to-from.true in
-    let q = c.requires in
-    let slid : written a.to (piece a.from a.size xs) xs ≡ xs = ap (λ k. written k (piece a.from a.size xs) xs) e
-    ∙ written-same a.from a.size (piece a.from a.size xs) xs q.inside refl in
-    let slot : written a.slot (word a.to) xs ≡ xs = ap (λ k. written a.slot (word k) xs) e
-    ∙ written-same a.slot 4 (word a.from) xs q.slot.1 q.leads in
-    sym (ap (written a.slot (word a.to)) slid ∙ slot)
+    let l = c.if-to-from.false in
+    let d = c.requires.down in
+    let e : a.to ≡ a.from = omega (arith, l, d) in
+    ap (λ k. written k (piece a.from a.size xs) xs) e
+    ∙ written-same a.from a.size (piece a.from a.size xs) xs c.requires.inside refl
+
+pub returns-then-gap-gt0-clause-bytes : goal.returns-then-gap-gt0-clause-bytes
+returns-then-gap-gt0-clause-bytes c =
+    c.write_word-then-gap-gt0.ensures.bytes
+    ∙ sym (ap (written c.args.slot (word (c.args.to + c.args.gap)))
+    (still (goal.at.returns-then-gap-gt0-clause-bytes c).Else-to-from))
+
+pub returns-else-gap-gt0-clause-bytes : goal.returns-else-gap-gt0-clause-bytes
+returns-else-gap-gt0-clause-bytes c =
+    let a = c.args in
+    let xs = a.part.now.bytes in
+    let l = c.if-to-from.false in
+    let n = c.if-gap-gt0.false in
+    let d = c.requires.down in
+    let e : a.to + a.gap ≡ a.from = omega (arith, l, d, n) in
+    let slot : written a.slot (word (a.to + a.gap)) xs ≡ xs = ap (λ k. written a.slot (word k) xs) e
+    ∙ written-same a.slot 4 (word a.from) xs c.requires.slot.1 c.requires.leads in
+    sym (ap (written a.slot (word (a.to + a.gap))) (still (goal.at.returns-else-gap-gt0-clause-bytes c).Else-to-from)
+    ∙ slot)

@@ -1,11 +1,4 @@
-use Rattle.std.proofs.Common.{◌-◌, ◌≡◌, length}
-use Rattle.zone_bytes.specs.Settling.{Packing}
 use Rattle.zone_bytes.proofs.settling.settle_run.Given as goal
 
-abbrev pub invariant-loop-from : goal.invariant-loop-from
-invariant-loop-from g l =
-    Packing g.lay l.stop l.from l.to l.moves l.part.bytes × (l.part.home ≡ l.initial.part.home)
-    × (l.part.at ≡ l.initial.part.at) × (length l.part.bytes ≡ length l.initial.part.bytes)
-
-abbrev pub decreases-loop-from : goal.decreases-loop-from
-decreases-loop-from g l = l.stop - l.from
+abbrev pub ghost-pack_run : goal.ghost-pack_run
+ghost-pack_run g a = g.lay

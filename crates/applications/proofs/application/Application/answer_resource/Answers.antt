@@ -8,7 +8,8 @@ use Rattle.res_calls.specs.Asked.{telling, tell_fetched, tell_info}
 use Rattle.res_calls.specs.Given.{managers}
 use Rattle.res_calls.specs.Rows as rows
 use Rattle.res_calls.specs.Changing as changing
-use Rattle.applications.proofs.Arms.{by_both, arm_told, arm_after}
+use Rattle.mac_words.specs.declared.name.Name.{Name}
+use Rattle.applications.proofs.Arms.{by_three, arm_told, arm_after}
 use Rattle.applications.proofs.application.Application.answer_resource.Goals as goal
 
 pub returns-in-CreateResFile-clause-told : goal.returns-in-CreateResFile-clause-told
@@ -106,12 +107,12 @@ returns-in-GetResInfo-clause-after g c =
 pub returns-in-SetResInfo-clause-told : goal.returns-in-SetResInfo-clause-told
 returns-in-SetResInfo-clause-told g c =
     let fits : FitsSigned w16 c.in-SetResInfo.id = search rules in
-    arm_told (λ (u : Unit {0}). Done) false c.done_on_resource-in-SetResInfo.result _ _ _ c.args.call.now _ c.args.self.now _ c.done_on_resource-in-SetResInfo.ensures.tried (c.set_res_info.ensures.answer c.self-in-SetResInfo.inside.heap) (by_both (λ (h : Option ℕ) (i : ℤ). telling (λ (u : Unit {0}). Done) (rows.noting (changing.set_res_info h i c.in-SetResInfo.text.0.items) (managers c.self-in-SetResInfo.inside.resources c.self-in-SetResInfo.inside.heap))) c.number-in-SetResInfo.ensures (to_z-of_z w16 c.in-SetResInfo.id fits)) refl c.in-SetResInfo.is c.self-in-SetResInfo.view_is
+    arm_told (λ (u : Unit {0}). Done) false c.done_on_resource-in-SetResInfo.result _ _ _ c.args.call.now _ c.args.self.now _ c.done_on_resource-in-SetResInfo.ensures.tried (c.set_res_info.ensures.answer c.self-in-SetResInfo.inside.heap) (by_three (λ (h : Option ℕ) (i : ℤ) (text : Name). telling (λ (u : Unit {0}). Done) (rows.noting (changing.set_res_info h i text.0.items) (managers c.self-in-SetResInfo.inside.resources c.self-in-SetResInfo.inside.heap))) c.number-in-SetResInfo.ensures (to_z-of_z w16 c.in-SetResInfo.id fits) c.deref-in-SetResInfo.ensures) refl c.in-SetResInfo.is c.self-in-SetResInfo.view_is
 
 pub returns-in-SetResInfo-clause-after : goal.returns-in-SetResInfo-clause-after
 returns-in-SetResInfo-clause-after g c =
     let fits : FitsSigned w16 c.in-SetResInfo.id = search rules in
-    arm_after (λ (u : Unit {0}). Done) c.done_on_resource-in-SetResInfo.result _ _ _ c.args.call.now _ c.args.self.now _ _ c.done_on_resource-in-SetResInfo.ensures.after (c.set_res_info.ensures.answer c.self-in-SetResInfo.inside.heap) (by_both (λ (h : Option ℕ) (i : ℤ). telling (λ (u : Unit {0}). Done) (rows.noting (changing.set_res_info h i c.in-SetResInfo.text.0.items) (managers c.self-in-SetResInfo.inside.resources c.self-in-SetResInfo.inside.heap))) c.number-in-SetResInfo.ensures (to_z-of_z w16 c.in-SetResInfo.id fits)) refl c.in-SetResInfo.is c.self-in-SetResInfo.view_is
+    arm_after (λ (u : Unit {0}). Done) c.done_on_resource-in-SetResInfo.result _ _ _ c.args.call.now _ c.args.self.now _ _ c.done_on_resource-in-SetResInfo.ensures.after (c.set_res_info.ensures.answer c.self-in-SetResInfo.inside.heap) (by_three (λ (h : Option ℕ) (i : ℤ) (text : Name). telling (λ (u : Unit {0}). Done) (rows.noting (changing.set_res_info h i text.0.items) (managers c.self-in-SetResInfo.inside.resources c.self-in-SetResInfo.inside.heap))) c.number-in-SetResInfo.ensures (to_z-of_z w16 c.in-SetResInfo.id fits) c.deref-in-SetResInfo.ensures) refl c.in-SetResInfo.is c.self-in-SetResInfo.view_is
 
 pub returns-in-GetResAttrs-clause-told : goal.returns-in-GetResAttrs-clause-told
 returns-in-GetResAttrs-clause-told g c =

@@ -1,6 +1,5 @@
-use Rattle.std.proofs.Common.{◌∙◌, ◌++◌, ap, sym, refl, Option, None, List, [], ℕ}
+use Rattle.std.proofs.Common.{◌≡◌, ◌∙◌, ◌++◌, ap, sym, refl, false, Option, None, List, [], ℕ}
 use Rattle.std.specs.Prelude.{nat_lt}
-use Rattle.std.proofs.lemmas.Bool.{le-ltb}
 use Rattle.mac_words.specs.declared.code.OsErr.{OsErr}
 use Rattle.heap_calls.specs.Staying.{ease}
 use Rattle.applications.specs.Trying.{Running, Tried, once}
@@ -35,11 +34,11 @@ returns-in_ok-write_reply-clause-came g c =
     let is = c.in_ok-tried.ensures.tried in
     let went = c.in_ok-tried.ensures.after in
     let wants = sym is.wants ∙ c.if-tried.true in
-    let before = c.to_be_had-before.ensures ∙ ap (λ (x : Running). ease x.memory.heap.zone) (c.self.view_is ∙ went) in
-    let behind = c.to_be_had.ensures ∙ ap (λ (x : Running). ease x.memory.heap.zone) c.self-then-tried.view_is in
-    stood_round blocks l r c.once.new.self c.ask_script.new.self c.keep_anew.new.self c.in_ok-tried.tried.reading c.exit-exit.result c.args.text.now.items c.ask_script.new.text.items c.write_reply.new.text.items
-    wants went (is.reading wants) c.in_ok-ask_script.ensures.came
-    (sym (by_both nat_lt before behind) ∙ le-ltb c.to_be_had-before.result c.to_be_had.result c.if-to_be_had-before.false)
+    let made : nat_lt (ease c.once.new.self.memory.heap.zone) (ease c.ask_for_room.new.self.memory.heap.zone) ≡ false =
+    sym c.in_ok-made_room.ensures.room ∙ c.if-made_room.false in
+    stood_round blocks l r c.once.new.self c.ask_for_room.new.self c.keep_anew.new.self c.in_ok-tried.tried.reading c.exit-exit.result c.args.text.now.items c.ask_for_room.new.text.items c.write_reply.new.text.items
+    wants went (is.reading wants) c.in_ok-made_room.ensures.came
+    (ap (λ (x : Running). nat_lt (ease x.memory.heap.zone) (ease c.ask_for_room.new.self.memory.heap.zone)) (sym went) ∙ made)
     (c.exit-exit.ensures ∙ by_both exit_as is.over is.reply.code)
-    (c.in_ok-write_reply.ensures ∙ ap (λ (x : List ℕ). c.ask_script.new.text.items ++ x) (own-said l _ c.in_ok-tried.tried.reply None t.told c.of.ensures is.reply (sym (wants-shows-none blocks l.call r wants))))
-    (c.keep_anew.ensures ∙ ap (λ (code : OsErr). kept_anew l.call code c.ask_script.new.self) is.reply.code)
+    (c.in_ok-write_reply.ensures ∙ ap (λ (x : List ℕ). c.ask_for_room.new.text.items ++ x) (own-said l _ c.in_ok-tried.tried.reply None t.told c.of.ensures is.reply (sym (wants-shows-none blocks l.call r wants))))
+    (c.keep_anew.ensures ∙ ap (λ (code : OsErr). kept_anew l.call code c.ask_for_room.new.self) is.reply.code)

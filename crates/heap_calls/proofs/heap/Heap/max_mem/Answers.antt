@@ -1,5 +1,5 @@
 use Rattle.block_store.proofs.Plain.Trials.{least_or_last-none}
-use Rattle.std.proofs.Common.{◌≡◌, ◌∙◌, refl, sym, ap, None, Ok, length}
+use Rattle.std.proofs.Common.{◌≡◌, ◌∙◌, refl, sym, ap, None, Ok, length, arith}
 use Rattle.mac_words.specs.declared.code.TheConstants.OsErr.{NO_ERR}
 use Rattle.block_store.specs.Run.{runs}
 use Rattle.block_store.specs.Rest.{counted}
@@ -44,7 +44,8 @@ returns g c =
     let rest' = g.S.BlockStore.rest c.compact.new.store in
     let es = a.names.items in
     let emptied = c.purge.ensures.rest in
-    let is = purged_all-is zone all c.purges_for-purges.result c.purges_for-purges.ensures c.purge.ensures.zone in
+    let many = c.purgeable-purges.ensures in
+    let is = purged_all-is zone all c.purgeable-purges.result (omega (arith, many)) c.purge.ensures.zone in
     let moves : max_mem_moves c.args.self.now.heap ≡ falls (runs_settled None all) (runs all) =
     ap (λ (m : Memory). max_mem_moves m.heap) (sym c.self.view_is) ∙ purged_moves-rename (handle_number es)
     (pointer_number es) zone ∙ ap all_moves (sym is)
@@ -62,7 +63,7 @@ invariant_of-self g c =
     let zone = g.S.BlockStore.zone a.store in
     let all = g.S.BlockStore.zone c.purge.new.self in
     let zone' = g.S.BlockStore.zone c.compact.new.store in
-    let purges = c.purges_for-purges.result in
+    let purges = c.purgeable-purges.result in
     agrees-kept zone zone' (g.S.BlockStore.rest a.store) (g.S.BlockStore.rest c.compact.new.store) a.names.items
     c.self.invariant (fixed-then zone all zone' (fixed-then zone (purged purges sparing.Nothing zone) all
     (fixed-purged purges sparing.Nothing zone) (fixed-same (purged purges sparing.Nothing zone) all

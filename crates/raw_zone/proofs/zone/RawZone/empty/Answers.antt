@@ -31,12 +31,12 @@ pub overflow_add-self : goal.overflow_add-self
 overflow_add-self c = let f = gained-fits _ _ _ _ _ _ (done c) c.self.inside.free c.self.invariant.free_is in
     omega (arith, f)
 
-pub of-self-inside-requires : goal.of-self-inside-requires
-of-self-inside-requires c = record {
+pub renew_all-requires : goal.renew_all-requires
+renew_all-requires c = record {
   sound = (
     c.self.inside.first,
     c.self.inside.unused,
-    (done (goal.at.of-self-inside-requires c).After-purge_from).made.sound,
+    (done (goal.at.renew_all-requires c).After-purge_from).made.sound,
   );
 }
 
@@ -45,7 +45,7 @@ invariant_of-self-inside c = ((done (goal.at.invariant_of-self-inside c).After-p
 
 pub invariant_of-self : goal.invariant_of-self
 invariant_of-self c = with-marks _ _ _ _ _ (gained-kept _ _ _ _ _ _ (done (goal.at.invariant_of-self c).After-purge_from)
-    c.self.inside.free c.self.invariant.free_is) c.of-self-inside.ensures
+    c.self.inside.free c.self.invariant.free_is) c.renew_all.ensures
 
 pub returns-clause-zone : goal.returns-clause-zone
 returns-clause-zone c = (done (goal.at.returns-clause-zone c).After-purge_from).made.zone

@@ -1,5 +1,5 @@
-use Rattle.zone_bytes.specs.Placing.{raise_at}
+use Rattle.zone_bytes.specs.Placing.{lay_at}
 use Rattle.raw_zone.proofs.zone.RawZoneBlockStore.raise.Given as goal
 
 abbrev pub ghost-raise_run : goal.ghost-raise_run
-ghost-raise_run a = raise_at a.part.now.bytes a.place a.gap
+ghost-raise_run a = lay_at a.part.now.bytes a.place

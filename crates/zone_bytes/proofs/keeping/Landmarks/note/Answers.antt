@@ -6,8 +6,8 @@ use Rattle.zone_bytes.proofs.keeping.Landmarks.note.Goals as goal
 pub page_bytes-page-requires : goal.page_bytes-page-requires
 page_bytes-page-requires c = let i = c.requires.sound in on-way c.args.part.now.bytes i.0 i.1 i.2
 
-pub free_behind-requires : goal.free_behind-requires
-free_behind-requires c =
+pub free_behind-free-requires : goal.free_behind-free-requires
+free_behind-free-requires c =
     let i = c.requires.sound in
     let old = c.requires.marks.0 in
     let new = zone_in c.args.part.now.bytes in

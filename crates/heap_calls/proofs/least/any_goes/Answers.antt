@@ -1,12 +1,12 @@
 use Rattle.std.proofs.Common.{arith, ◌∙◌}
 use Rattle.heap_calls.proofs.Room.LeastLooks.{next-goes}
 use Rattle.heap_calls.proofs.Room.Searching.{most-le}
-use Rattle.heap_calls.proofs.least.next_goes.Goals as goal
+use Rattle.heap_calls.proofs.least.any_goes.Goals as goal
 
 pub returns-clause-more : goal.returns-clause-more
 returns-clause-more g c =
     let zone = g.S.BlockStore.zone c.args.store.now in
-    c.is_some.ensures ∙ next-goes c.args.sparing c.args.purges zone c.next_purgeable.result c.next_purgeable.ensures
+    c.is_some.ensures ∙ next-goes c.args.sparing 0 zone c.next_purgeable.result c.next_purgeable.ensures
 
 pub returns-clause-few : goal.returns-clause-few
 returns-clause-few g c =

@@ -1,0 +1,21 @@
+use Rattle.std.proofs.Common.{◌∙◌, ap, sym, subst, ◌<◌, ◌^◌}
+use Rattle.block_store.specs.Block.{sizes}
+use Rattle.block_store.specs.Sparing.{most_purges}
+use Rattle.raw_zone.specs.Parted.{zone_of}
+use Rattle.zone_bytes.proofs.Places.AtPlace.{left-zone, on-way, sizes-fit}
+use Rattle.raw_zone.proofs.zone.RawZoneBlockStore.purgeable.Goals as goal
+
+pub walk_from-requires : goal.walk_from-requires
+walk_from-requires c = let z = c.self.inside in on-way z.part.bytes z.first z.unused c.self.invariant.sound
+
+pub purgeable_in-requires : goal.purgeable_in-requires
+purgeable_in-requires c =
+    let z = c.self.inside in
+    subst (λ l. sizes l < 2 ^ 32) (sym c.walk_from.ensures)
+    (sizes-fit z.part.bytes z.first z.unused c.self.invariant.sound)
+
+pub returns : goal.returns
+returns c =
+    c.purgeable_in.ensures
+    ∙ ap (most_purges c.args.sparing)
+    (c.walk_from.ensures ∙ left-zone c.self.inside.part.bytes ∙ ap zone_of c.self.view_is)

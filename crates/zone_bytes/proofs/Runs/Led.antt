@@ -1,0 +1,43 @@
+-- A packed run whose slots lead to its blocks.
+use Rattle.std.proofs.Common.{◌≡◌, ℕ, ◌+◌, zero, suc, List, ◌++◌, subst, arith}
+use Rattle.block_store.specs.Block.{free, free_sum, sizes}
+use Rattle.block_store.specs.Run.{movers, settle}
+use Rattle.zone_bytes.specs.Layout.{Leads}
+use Rattle.zone_bytes.specs.Settling.{Lay, IsRun, Packed, Settled}
+use Rattle.zone_bytes.proofs.Tiles.Tiling.{span-append}
+use Rattle.zone_bytes.proofs.Tiles.Leading.{leads-append}
+use Rattle.zone_bytes.proofs.Tiles.Keeping.{span-free, span-movers}
+use Rattle.zone_bytes.proofs.Runs.Settled.{free_sum-span}
+
+pub leads-free : (xs : List ℕ) (o n : ℕ) → Leads o (free n) xs
+leads-free xs o zero = tt
+leads-free xs o (suc n) = (tt, tt)
+
+-- a packed run whose slots lead to its blocks
+pub settled-of : (lay : Lay) (place stop gap moves : ℕ) (xs : List ℕ) → IsRun lay place stop → Packed lay gap moves xs
+    → Leads (0 + sizes lay.below) (movers lay.run) xs → Settled lay moves xs
+settled-of lay place stop gap moves xs r p l =
+    let a = span-append (movers lay.run) (free (free_sum lay.run)) in
+    let b = span-free (free_sum lay.run) in
+    let m = span-movers lay.run r.in_run in
+    let f = free_sum-span lay.run in
+    let o : sizes lay.below + sizes lay.run ≡ 0 + sizes lay.below + sizes (settle lay.run) = omega (arith, a, b, m, f) in
+    record {
+      lies = record {
+        tiles = p.tiles;
+        leads = leads-append xs 0 lay.below (settle lay.run ++ lay.above) p.low
+            (leads-append xs (0 + sizes lay.below) (settle lay.run) lay.above
+            (leads-append xs (0 + sizes lay.below) (movers lay.run) (free (free_sum lay.run)) l
+            (leads-free xs (0 + sizes lay.below + sizes (movers lay.run)) (free_sum lay.run)))
+            (subst (λ k. Leads k lay.above xs) o p.high));
+      };
+      others = p.others;
+      moved = p.moved;
+      kept = p.kept;
+    }
+
+pub settled-led : (lay : Lay) (place stop moves : ℕ) (xs : List ℕ) → IsRun lay place stop → Packed lay 0 moves xs
+    → Settled lay moves xs
+settled-led lay place stop moves xs r p =
+    let z : sizes lay.below + 0 ≡ 0 + sizes lay.below = omega arith in
+    settled-of lay place stop 0 moves xs r p (subst (λ k. Leads k (movers lay.run) xs) z p.leads)

@@ -1,0 +1,6 @@
+use Rattle.std.proofs.Common.{◌≤◌, ◌<◌, ℕ, get_or}
+use Rattle.zone_bytes.proofs.grouping.most_noted.Given as goal
+
+abbrev pub invariant-loop-mark : goal.invariant-loop-mark
+invariant-loop-mark l = (index : ℕ) → index < l.mark-index
+    → (get_or l.marks index (record { at = 0; most = 0 })).most ≤ l.most

@@ -1,0 +1,240 @@
+use Rattle.std.proofs.Common.{◌≡◌, true, false, ◌+◌, ◌<◌, ◌≤◌, length, refl, sym, ◌∙◌, subst, arith}
+use denote.Enum.Bare.{sameb}
+use Rattle.heap_words.specs.contracts.header.Tag.{the_type}
+use Rattle.heap_words.specs.declared.header.Tag.TheVariants.{Relocatable}
+use Rattle.heap_words.specs.Headers.{tag_number}
+use Rattle.block_store.specs.Block.{sizes}
+use Rattle.zone_bytes.specs.Settling.{Packing, Packed}
+use Rattle.zone_bytes.proofs.Runs.Packed.{start}
+use Rattle.zone_bytes.proofs.Runs.Settled.{Next, NextMover, stop-inside, next, within, beyond, next-free, next-mover}
+use Rattle.zone_bytes.proofs.Runs.Settled.{finish-none, finish-free, packed-stop, packed-top, moves-bound}
+use Rattle.zone_bytes.proofs.Tiles.Tags.{tag-true, tag-false, tag-small}
+use Rattle.zone_bytes.proofs.settling.pack_run.Given.{Over}
+use Rattle.zone_bytes.proofs.settling.pack_run.Goals.{In-loop-from, After-eq, Left-loop-from}
+use Rattle.zone_bytes.proofs.settling.pack_run.Goals as goal
+use Rattle.zone_bytes.proofs.settling.pack_run.Goals.{then-eq, else-eq, else-loop-from-test}
+use Rattle.zone_bytes.proofs.settling.pack_run.Goals.{then-loop-from-test+then-not-is_in_run}
+
+pub loop-from-init : goal.loop-from-init
+loop-from-init g c = (
+  subst (λ xs. Packing g.lay c.args.gap (c.args.place + sizes g.lay.run) c.args.place c.args.place 0 xs) (sym c.requires.0)
+      (start g.lay c.args.place (c.args.place + sizes g.lay.run) c.requires.1.0 c.args.gap),
+  refl,
+  refl,
+  refl,
+)
+
+-- a block is next
+there : (g : Over) (c : In-loop-from g) → Next c.loop-from.part.bytes c.loop-from.from
+there g c =
+    let s = c.loop-from in
+    let l = c.loop-from-test.true in
+    let n = c.len-end.ensures.count in
+    let k = s.invariant.3 in
+    next g.lay c.args.place (c.args.place + sizes g.lay.run) c.requires.1.0 c.args.gap s.from s.to s.moves s.part.bytes s.invariant.0
+    (omega (arith, l, n, k))
+
+bounds : (g : Over) (c : In-loop-from g) → (c.args.place + sizes g.lay.run ≤ length c.loop-from.part.bytes)
+    × (length c.loop-from.part.bytes ≤ 134217728)
+bounds g c =
+    let s = c.loop-from in
+    stop-inside g.lay c.args.place (c.args.place + sizes g.lay.run) c.requires.1.0 c.args.gap s.from s.to s.moves s.part.bytes
+    s.invariant.0.state.kept
+
+pub read_header-header-requires-clause-within : goal.read_header-header-requires-clause-within
+read_header-header-requires-clause-within g c =
+    let n = there g (goal.at.read_header-header-requires-clause-within g c).In-loop-from in
+    (n.even, n.fits)
+
+pub read_header-header-requires-clause-fits : goal.read_header-header-requires-clause-fits
+read_header-header-requires-clause-fits g c =
+    let d = (goal.at.read_header-header-requires-clause-fits g c).In-loop-from in
+    let f = (there g d).fits in
+    let i = bounds g d in
+    omega (arith, f, i)
+
+pub read_header-header-requires-clause-tag : goal.read_header-header-requires-clause-tag
+read_header-header-requires-clause-tag g c =
+    (there g (goal.at.read_header-header-requires-clause-tag g c).In-loop-from).tag
+
+-- it is one of the run
+inside : (g : Over) (c : After-eq g) → c.loop-from.from < c.args.place + sizes g.lay.run
+inside g c =
+    let s = c.loop-from in
+    let l = c.loop-from-test.true in
+    let n = c.len-end.ensures.count in
+    let k = s.invariant.3 in
+    let h = c.read_header-header.result in
+    let e = c.read_header-header.ensures in
+    within g.lay c.args.place (c.args.place + sizes g.lay.run) c.requires.1.0 c.args.gap s.from s.to s.moves s.part.bytes
+    s.invariant.0 (omega (arith, l, n, k)) h.size (tag_number h.tag) h.flags e.first e.size (tag-small h.tag) e.flags
+    c.if-not-is_in_run.ensures
+
+-- and a relocatable one
+mover : (g : Over) (c : After-eq g) → true ≡ sameb the_type c.read_header-header.result.tag Relocatable
+    → NextMover g.lay c.args.gap (c.args.place + sizes g.lay.run) c.loop-from.from c.loop-from.to c.loop-from.moves
+    c.loop-from.part.bytes c.read_header-header.result.size c.read_header-header.result.slot
+mover g c t =
+    let s = c.loop-from in
+    let h = c.read_header-header.result in
+    let e = c.read_header-header.ensures in
+    next-mover g.lay c.args.place (c.args.place + sizes g.lay.run) c.requires.1.0 c.args.gap s.from s.to s.moves s.part.bytes
+    s.invariant.0 (inside g c) h.size (tag_number h.tag) h.slot e.first e.size (tag-true h.tag t) e.slot
+
+-- or a Free one
+free : (g : Over) (c : After-eq g) → false ≡ sameb the_type c.read_header-header.result.tag Relocatable
+    → Packing g.lay c.args.gap (c.args.place + sizes g.lay.run) (c.loop-from.from + c.read_header-header.result.size)
+    c.loop-from.to c.loop-from.moves c.loop-from.part.bytes
+free g c t =
+    let s = c.loop-from in
+    let h = c.read_header-header.result in
+    let e = c.read_header-header.ensures in
+    next-free g.lay c.args.place (c.args.place + sizes g.lay.run) c.requires.1.0 c.args.gap s.from s.to s.moves s.part.bytes
+    s.invariant.0 (inside g c) h.size (tag_number h.tag) e.first e.size (tag-false h.tag t)
+
+pub move_block-moves-requires-clause-down : goal.move_block-moves-requires-clause-down
+move_block-moves-requires-clause-down g c = c.loop-from.invariant.0.state.down
+
+pub move_block-moves-requires-clause-inside : goal.move_block-moves-requires-clause-inside
+move_block-moves-requires-clause-inside g c =
+    let i = (mover g (goal.at.move_block-moves-requires-clause-inside g c).After-eq c.if-eq.ensures).inside in
+    omega (arith, i)
+
+pub move_block-moves-requires-clause-slot : goal.move_block-moves-requires-clause-slot
+move_block-moves-requires-clause-slot g c =
+    let m = mover g (goal.at.move_block-moves-requires-clause-slot g c).After-eq c.if-eq.ensures in
+    (m.even, m.slot_inside)
+
+pub move_block-moves-requires-clause-leads : goal.move_block-moves-requires-clause-leads
+move_block-moves-requires-clause-leads g c =
+    (mover g (goal.at.move_block-moves-requires-clause-leads g c).After-eq c.if-eq.ensures).leads
+
+pub overflow_add-moves : goal.overflow_add-moves
+overflow_add-moves g c =
+    let m = mover g (goal.at.overflow_add-moves g c).After-eq c.if-eq.ensures in
+    let b = moves-bound g.lay c.args.place (c.args.place + sizes g.lay.run) c.requires.1.0 c.args.gap _ _ _ _
+    (m.packing c.move_block-moves.result c.move_block-moves.ensures.moves) in
+    omega (arith, b)
+
+pub overflow_add-to : goal.overflow_add-to
+overflow_add-to g c =
+    let i = (mover g (goal.at.overflow_add-to g c).After-eq c.if-eq.ensures).inside in
+    let d = c.loop-from.invariant.0.state.down in
+    let k = bounds g (goal.at.overflow_add-to g c).In-loop-from in
+    omega (arith, i, d, k)
+
+pub overflow_add-from : goal.overflow_add-from
+overflow_add-from g c =
+    let k = bounds g (goal.at.overflow_add-from g c).In-loop-from in
+    elim c.if-eq.branch [
+      | then-eq w ↦
+          let i = (mover g (goal.at.overflow_add-from g c).After-eq w.if-eq.ensures).inside in
+          omega (arith, i, k)
+      | else-eq w ↦
+          let u = (free g (goal.at.overflow_add-from g c).After-eq w.if-eq.ensures).state.up in
+          omega (arith, u, k)
+    ]
+
+pub loop-from-preserved : goal.loop-from-preserved
+loop-from-preserved g c =
+    let s = c.loop-from in
+    let v = s.invariant in
+    let h = c.read_header-header.result in
+    elim c.if-eq.branch [
+      | then-eq w ↦
+          let m = mover g (goal.at.loop-from-preserved g c).After-eq w.if-eq.ensures in
+          let b = w.move_block-moves.ensures in
+          let p = subst (λ k. Packing g.lay c.args.gap (c.args.place + sizes g.lay.run) (s.from + h.size) (s.to + h.size)
+          (s.moves + w.move_block-moves.result) k) (sym b.bytes) (m.packing w.move_block-moves.result b.moves) in
+          rw (w.part-is, w.to-is, w.moves-is) (p, b.same.0 ∙ v.1, b.same.1 ∙ v.2, b.same.2 ∙ v.3)
+      | else-eq w ↦
+          let p = free g (goal.at.loop-from-preserved g c).After-eq w.if-eq.ensures in
+          rw (w.part-is, w.to-is, w.moves-is) (p, v.1, v.2, v.3)
+    ]
+
+pub loop-from-smaller : goal.loop-from-smaller
+loop-from-smaller g c =
+    let d = (goal.at.loop-from-smaller g c).After-eq in
+    let l = inside g d in
+    let b = (there g (goal.at.loop-from-smaller g c).In-loop-from).big in
+    let t = tag-small c.read_header-header.result.tag in
+    let f = c.read_header-header.ensures.first in
+    let some : 0 < c.read_header-header.result.size = omega (arith, b, t, f) in
+    omega (arith, l, some)
+
+-- the run was gone over
+ended : (g : Over) (c : Left-loop-from g) → c.args.place + sizes g.lay.run ≤ c.loop-from.from
+ended g c =
+    let s = c.loop-from in
+    let stop = c.args.place + sizes g.lay.run in
+    elim c.loop-from-test.branch [
+      | else-loop-from-test w ↦
+          let l = w.loop-from-test.false in
+          let n = c.len-end.ensures.count in
+          let k = s.invariant.3 in
+          let b = stop-inside g.lay c.args.place stop c.requires.1.0 c.args.gap s.from s.to s.moves s.part.bytes
+          s.invariant.0.state.kept in
+          omega (arith, l, n, k, b)
+      | then-loop-from-test+then-not-is_in_run w ↦
+          let h = w.read_header-header.result in
+          let e = w.read_header-header.ensures in
+          beyond g.lay c.args.place stop c.requires.1.0 c.args.gap s.from s.to s.moves s.part.bytes s.invariant.0 h.size
+          (tag_number h.tag) h.flags e.first e.size (tag-small h.tag) e.flags w.if-not-is_in_run.ensures
+    ]
+
+pub write_word-requires : goal.write_word-requires
+write_word-requires g c =
+    let s = c.loop-from in
+    let p = s.invariant.0.state in
+    let w = p.whole in
+    let l = c.if-to-from.true in
+    let u = p.up in
+    let k = stop-inside g.lay c.args.place (c.args.place + sizes g.lay.run) c.requires.1.0 c.args.gap s.from s.to s.moves
+    s.part.bytes p.kept in
+    (omega (arith, w), omega (arith, w, l, u, k))
+
+pub returns-then-to-from-clause-packed : goal.returns-then-to-from-clause-packed
+returns-then-to-from-clause-packed g c =
+    let s = c.loop-from in
+    subst (λ k. Packed g.lay c.args.gap s.moves k) (sym c.write_word.ensures.bytes)
+    (finish-free g.lay c.args.place (c.args.place + sizes g.lay.run) c.requires.1.0 c.args.gap s.from s.to s.moves s.part.bytes
+    s.invariant.0 (ended g (goal.at.returns-then-to-from-clause-packed g c).Left-loop-from) c.if-to-from.true)
+
+pub returns-else-to-from-clause-packed : goal.returns-else-to-from-clause-packed
+returns-else-to-from-clause-packed g c =
+    let s = c.loop-from in
+    finish-none g.lay c.args.place (c.args.place + sizes g.lay.run) c.requires.1.0 c.args.gap s.from s.to s.moves s.part.bytes
+    s.invariant.0 (ended g (goal.at.returns-else-to-from-clause-packed g c).Left-loop-from) c.if-to-from.false
+
+pub returns-then-to-from-clause-top : goal.returns-then-to-from-clause-top
+returns-then-to-from-clause-top g c =
+    let s = c.loop-from in
+    packed-top g.lay c.args.place (c.args.place + sizes g.lay.run) c.requires.1.0 c.args.gap s.from s.to s.moves s.part.bytes
+    s.invariant.0 (ended g (goal.at.returns-then-to-from-clause-top g c).Left-loop-from)
+
+pub returns-else-to-from-clause-top : goal.returns-else-to-from-clause-top
+returns-else-to-from-clause-top g c =
+    let s = c.loop-from in
+    packed-top g.lay c.args.place (c.args.place + sizes g.lay.run) c.requires.1.0 c.args.gap s.from s.to s.moves s.part.bytes
+    s.invariant.0 (ended g (goal.at.returns-else-to-from-clause-top g c).Left-loop-from)
+
+pub returns-then-to-from-clause-stop : goal.returns-then-to-from-clause-stop
+returns-then-to-from-clause-stop g c =
+    let s = c.loop-from in
+    packed-stop g.lay c.args.place (c.args.place + sizes g.lay.run) c.requires.1.0 c.args.gap s.from s.to s.moves s.part.bytes
+    s.invariant.0 (ended g (goal.at.returns-then-to-from-clause-stop g c).Left-loop-from)
+
+pub returns-else-to-from-clause-stop : goal.returns-else-to-from-clause-stop
+returns-else-to-from-clause-stop g c =
+    let s = c.loop-from in
+    packed-stop g.lay c.args.place (c.args.place + sizes g.lay.run) c.requires.1.0 c.args.gap s.from s.to s.moves s.part.bytes
+    s.invariant.0 (ended g (goal.at.returns-else-to-from-clause-stop g c).Left-loop-from)
+
+pub move_block-moves-requires-clause-fits : goal.move_block-moves-requires-clause-fits
+move_block-moves-requires-clause-fits g c =
+    let d = c.loop-from.invariant.0.state.down in
+    let l = inside g (goal.at.move_block-moves-requires-clause-fits g c).After-eq in
+    let k = bounds g (goal.at.move_block-moves-requires-clause-fits g c).In-loop-from in
+    let b = c.requires.1.1 in
+    let s = c.requires.1.0.small in
+    omega (arith, d, l, k, b, s)

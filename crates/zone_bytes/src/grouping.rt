@@ -1,0 +1,45 @@
+//! Landmarks in groups, of each of which is known how much its landmarks note at most.
+
+ghost use Rattle.std.specs.Prelude.{◌≤◌, ◌<◌, ◌*◌, ℕ, List, length, get_or, set};
+ghost use Rattle.zone_bytes.specs.Marks.{AreTops};
+ghost use Rattle.zone_bytes.specs.declared.landmark.Landmark.{Landmark};
+ghost use Rattle.zone_bytes.specs.declared.landmark.TheConstants.{GROUP};
+
+use crate::landmark::{GROUP, Landmark};
+use crate::measuring::greater;
+
+/// Raises the top of a landmark's group, where the landmark notes more from now on.
+pub fn raise_top(tops: &mut [u32], index: usize, most: u32)
+    requires { index < GROUP * length tops.old }
+    ensures { (marks : List Landmark) (mark : Landmark) → mark.most ≤ most → AreTops tops.old marks →
+        AreTops tops.new (set marks index mark) }
+{
+    let group = index / GROUP;
+    tops[group] = greater(tops[group], most);
+}
+
+/// The most that one of some landmarks notes.
+fn most_noted(marks: &[Landmark]) -> u32
+    ensures { (index : ℕ) → index < length marks.now →
+        (get_or marks.now index (record { at = 0; most = 0 })).most ≤ result }
+{
+    let mut most = 0;
+    for mark in marks {
+        most = greater(most, mark.most);
+    }
+    most
+}
+
+/// Takes the tops of those groups anew that have landmarks from one index up to another.
+pub fn renew_tops(marks: &[Landmark], tops: &mut [u32], from: usize, to: usize)
+    requires { AreTops tops.old marks.now }
+    ensures { AreTops tops.new marks.now }
+{
+    for group in from / GROUP..tops.len() {
+        let low = group * GROUP;
+        if to <= low {
+            return;
+        }
+        tops[group] = most_noted(&marks[low..low + GROUP]);
+    }
+}
