@@ -1,5 +1,7 @@
 use Rattle.std.proofs.Common.{◌≡◌, ◌∙◌, ◌++◌, ℕ, ℤ, true, false, refl, sym, ap, map, List, [], Option, Some, None}
 use Rattle.std.proofs.Common.{Result, Ok, Err, codes, option_map}
+use Rattle.std.specs.Global.{Global}
+use Rattle.std.specs.Prelude.{Box}
 use Rattle.mac_words.specs.declared.code.OsErr.{OsErr}
 use Rattle.mac_words.specs.declared.name.Name.{Name}
 use Rattle.mac_words.specs.declared.name.OsType.{OsType}
@@ -38,7 +40,8 @@ type-bytes : (ty : Option OsType) → type_shown ty ≡ bytes_shown (option_map 
 type-bytes None = refl
 type-bytes (Some ty) = refl
 
-name-bytes : (name : Option Name) → name_shown name ≡ bytes_shown (option_map (λ (n : Name). n.0.items) name)
+name-bytes : (name : Option (Box Name Global)) → name_shown name
+    ≡ bytes_shown (option_map (λ (n : Box Name Global). n.value.0.items) name)
 name-bytes None = refl
 name-bytes (Some name) = refl
 

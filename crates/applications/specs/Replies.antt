@@ -1,5 +1,6 @@
 use Rattle.std.specs.Prelude.{◌≡◌, ℕ, Bool, true, false, Option, Some, None, Result, Ok, Err, List, ◌++◌, option_map}
-use Rattle.std.specs.Prelude.{if◌then◌else◌}
+use Rattle.std.specs.Prelude.{Box, if◌then◌else◌}
+use Rattle.std.specs.Global.{Global}
 use Rattle.mac_words.specs.declared.name.Name.{Name}
 use Rattle.mac_words.specs.declared.name.OsType.{OsType}
 use Rattle.res_calls.specs.Asked.{ResourceAsked, Served}
@@ -28,7 +29,7 @@ pub record Says (reply : Reply) (told : Told) : Type 0 where
   pub code : reply.code ≡ code_told told
   pub numbers : reply.numbers.items ≡ numbers_told told
   pub ty : option_map (λ (t : OsType). t.0) reply.ty ≡ type_told told
-  pub name : option_map (λ (n : Name). n.0.items) reply.name ≡ name_told told
+  pub name : option_map (λ (n : Box Name Global). n.value.0.items) reply.name ≡ name_told told
 
 -- what was given, as it is told
 abbrev pub GivenAs : {T : Type 0} → (T → Told) → Result T Refusal → Told → Type 0

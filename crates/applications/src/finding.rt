@@ -121,6 +121,7 @@ impl<'s, S: BlockStore> Application<'s, S> {
                     .write_resource(self.alloc, &self.heap, self.names.number(name)),
             ),
             ResourceCall::GetResInfo(name) => info(
+                self.alloc,
                 self.resources.get_res_info(self.names.number(name)),
             ),
             ResourceCall::SetResInfo(name, id, text) => done_on_resource(

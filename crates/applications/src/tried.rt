@@ -18,7 +18,7 @@ use crate::quitting::Exit;
 use heap_calls::{Refusal, Space};
 use mac_words::{Attrs, OsErr, OsType, Reply};
 use res_calls::{Fetched, Info, Unread};
-use std::alloc::AllocError;
+use std::alloc::{AllocError, Global};
 
 /// What one try of a call came to. Nothing is bound, written or tried again by it.
 #[derive(Debug, Drop)]
@@ -254,7 +254,7 @@ pub fn kind(answer: Result<OsType, Refusal>) -> Result<Tried, AllocError>
 }
 
 /// A call that gives a resource's ID, type and name.
-pub fn info(answer: Result<Info, Refusal>) -> Result<Tried, AllocError>
+pub fn info(alloc: Global, answer: Result<Info, Refusal>) -> Result<Tried, AllocError>
     ensures tried { IfOk result (λ tried. (a : Answer rows.Info) (after : Managers) → IsAnswered seen_info a
         answer after
         → TellsServed tried (telling tell_info a) false) }
@@ -262,7 +262,10 @@ pub fn info(answer: Result<Info, Refusal>) -> Result<Tried, AllocError>
         → a.after ≡ after) }
 {
     match answer {
-        Ok(value) => Ok(Tried::told(Reply::info(value.id, value.ty, value.name))),
+        Ok(value) => {
+            let name = Box::new(alloc, value.name)?;
+            Ok(Tried::told(Reply::info(value.id, value.ty, name)))
+        }
         Err(Refusal::Code(code)) => Ok(Tried::told(Reply::of(code))),
         Err(Refusal::HostMemory) => Err(AllocError),
     }

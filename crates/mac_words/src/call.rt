@@ -54,9 +54,9 @@ pub enum HeapCall {
     /// Moves a handle's block as high as it goes, and locks it.
     HLockHi(Label),
     /// Binds the first name to a new handle with the bytes of the second.
-    HandToHand(Label, Label),
+    HandToHand(Label, Box<Label>),
     /// Appends the bytes of the first handle to the second.
-    HandAndHand(Label, Label),
+    HandAndHand(Label, Box<Label>),
     /// Appends bytes to a handle.
     PtrAndHand(Label, Vec<u8>),
     /// Binds the name to a new nonrelocatable block with so many bytes 0.

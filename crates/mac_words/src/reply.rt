@@ -13,7 +13,7 @@ pub struct Reply {
     pub code: OsErr,
     pub numbers: ArrayVec<i64, 2>,
     pub ty: Option<OsType>,
-    pub name: Option<Name>,
+    pub name: Option<Box<Name>>,
 }
 
 impl Reply {
@@ -129,7 +129,7 @@ impl Reply {
     }
 
     /// Code 0 and a resource's ID, type and name. A resource without a name is told as one whose name is empty.
-    pub fn info(id: i16, ty: OsType, name: Name) -> Reply
+    pub fn info(id: i16, ty: OsType, name: Box<Name>) -> Reply
         ensures code { result.code ≡ OsErr.NO_ERR }
         ensures numbers { result.numbers.items ≡ id ∷ [] }
         ensures ty { result.ty ≡ Some ty }

@@ -1,6 +1,7 @@
 use Rattle.std.specs.Prelude.{ℕ, ℤ, pos, ◌+◌, ◌/◌, ◌%◌, nat_lt, Option, Some, None, List, [], ◌∷◌, ◌++◌, map, codes}
-use Rattle.std.specs.Prelude.{decimal, if◌then◌else◌}
+use Rattle.std.specs.Prelude.{Box, decimal, if◌then◌else◌}
 use Rattle.std.specs.Fmt.{signed_decimal}
+use Rattle.std.specs.Global.{Global}
 use Rattle.std.specs.Ordering.{int_eq}
 use Rattle.mac_words.specs.declared.name.Name.{Name}
 use Rattle.mac_words.specs.declared.name.OsType.{OsType}
@@ -43,9 +44,9 @@ type_shown None = []
 type_shown (Some ty) = Bytes ty.0 ∷ []
 
 -- a name as a value, where there is one
-abbrev pub name_shown : Option Name → List Shown
+abbrev pub name_shown : Option (Box Name Global) → List Shown
 name_shown None = []
-name_shown (Some name) = Bytes name.0.items ∷ []
+name_shown (Some name) = Bytes name.value.0.items ∷ []
 
 -- the values of a reply: its numbers, its type, its name, and the bytes that its call shows
 abbrev pub values_of : Reply → Option (List ℕ) → List Shown

@@ -149,16 +149,6 @@ pub fn path_in(token: &[u8]) -> Option<&str>
     }
 }
 
-/// The name of a resource that a token writes.
-fn name_in(alloc: Global, token: &[u8]) -> Result<Option<Name>, AllocError>
-    ensures { IfOk result (λ found. Finds (λ text. Raw text.0.items) found (value Text token.now)) }
-{
-    match bytes_in(alloc, token)? {
-        Some(bytes) => Ok(ArrayVec::try_from(bytes.as_slice()).ok().map(Name)),
-        None => Ok(None),
-    }
-}
-
 /// An argument of a call. Its type tells its kind.
 pub trait Argument: Sized {
     ghost kind: { Kind };
@@ -257,14 +247,27 @@ impl Argument for FileName {
     }
 }
 
-impl Argument for Box<Name> {
+impl Argument for Name {
     ghost kind = { Text };
 
-    ghost seen = { λ text. Raw text.value.0.items };
+    ghost seen = { λ text. Raw text.0.items };
 
     fn find(alloc: Global, token: &[u8]) -> Result<Option<Self>, AllocError> {
-        match name_in(alloc, token)? {
-            Some(name) => Ok(Some(Box::new(alloc, name)?)),
+        match bytes_in(alloc, token)? {
+            Some(bytes) => Ok(ArrayVec::try_from(bytes.as_slice()).ok().map(Name)),
+            None => Ok(None),
+        }
+    }
+}
+
+impl<A: Argument + Drop> Argument for Box<A> {
+    ghost kind = { A.kind };
+
+    ghost seen = { λ a. A.seen a.value };
+
+    fn find(alloc: Global, token: &[u8]) -> Result<Option<Self>, AllocError> {
+        match A::find(alloc, token)? {
+            Some(found) => Ok(Some(Box::new(alloc, found)?)),
             None => Ok(None),
         }
     }

@@ -88,7 +88,7 @@ fn push_type(text: &mut Vec<u8>, ty: &Option<OsType>) -> Result<(), AllocError>
     }
 }
 
-fn push_name(text: &mut Vec<u8>, name: &Option<Name>) -> Result<(), AllocError>
+fn push_name(text: &mut Vec<u8>, name: &Option<Box<Name>>) -> Result<(), AllocError>
     ensures { OnOk result (text.new.items ≡ text.old.items ++ shown_all (name_shown name.now)) }
 {
     match name {
