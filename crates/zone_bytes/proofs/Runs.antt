@@ -1,6 +1,7 @@
 pub mod Packed
 pub mod Ends
 pub mod Settled
+pub mod Until
 pub mod Led
 pub mod Runs
 pub mod RunsAt

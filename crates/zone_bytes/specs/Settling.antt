@@ -1,8 +1,8 @@
 -- A run whose relocatable blocks are being moved down.
-use Rattle.std.specs.Prelude.{◌≡◌, ℕ, ◌+◌, ◌-◌, ◌%◌, ◌≤◌, zero, suc, Bool, true, false, nat_lt, if◌then◌else◌, List, []}
+use Rattle.std.specs.Prelude.{◌≡◌, ℕ, ◌+◌, ◌-◌, ◌%◌, ◌≤◌, ◌<◌, ◌⊎◌, zero, suc, Bool, true, false, nat_le, nat_lt, if◌then◌else◌, List, []}
 use Rattle.std.specs.Prelude.{◌∷◌, ◌++◌, length, take, drop}
 use Rattle.windows.specs.Writes.{piece}
-use Rattle.block_store.specs.Block.{Block, free_of, free_sum, is_mover, sizes}
+use Rattle.block_store.specs.Block.{Block, free_of, free_sum, is_mover, size, sizes}
 use Rattle.block_store.specs.Run.{in_run, movers, settle}
 use Rattle.zone_bytes.specs.Layout.{head_of, Tiles, IsSlot, names, Leads, Apart, Each, Pairs}
 
@@ -45,14 +45,13 @@ runs_on (suc zero) f = false
 runs_on (suc (suc zero)) f = false
 runs_on (suc (suc (suc k))) f = nat_lt f 128
 
--- the run of `lay` is from place to stop, and goes on no further
+-- the run of `lay` is from place to stop
 pub record IsRun (lay : Lay) (place stop : ℕ) : Type 0 where
   pub lies : Lies lay.resource (lay.below ++ (lay.run ++ lay.above)) lay.bytes
   pub slots : HasSlots (lay.below ++ (lay.run ++ lay.above))
   pub bottom : sizes lay.below ≡ place
   pub top : place + sizes lay.run ≡ stop
   pub in_run : Each InRun lay.run
-  pub ends : EndsRun lay.above
   pub small : length lay.bytes ≤ 134217728
 
 -- the slot words that lead to no block are those that were in the bytes
@@ -78,9 +77,13 @@ pub record PackingAt (lay : Lay) (gap stop from to moves : ℕ) (xs : List ℕ) 
   pub count : moves + falling_from (from - to) rest ≡ falling_from 0 lay.run
   pub others : SameOthers (lay.below ++ (lay.run ++ lay.above)) lay.bytes xs
 
+-- of the run's blocks the `gone` ones were passed, and the relocatable ones of these were moved
 pub record Packing (lay : Lay) (gap stop from to moves : ℕ) (xs : List ℕ) : Type 0 where
+  pub gone : List Block
   pub moved : List Block
   pub rest : List Block
+  pub split : gone ++ rest ≡ lay.run
+  pub those : moved ≡ movers gone
   pub state : PackingAt lay gap stop from to moves xs moved rest
 
 -- the run's relocatable blocks lie one after another from its bottom on, with one Free block above them, and their slots
@@ -93,6 +96,45 @@ pub record Packed (lay : Lay) (gap moves : ℕ) (xs : List ℕ) : Type 0 where
   pub others : SameOthers (lay.below ++ (lay.run ++ lay.above)) lay.bytes xs
   pub moved : moves ≡ falling_from 0 lay.run
   pub kept : length xs ≡ length lay.bytes
+
+-- the first blocks of a run, with the others above them
+abbrev pub cut : Lay → List Block → List Block → Lay
+cut lay gone rest = record {
+  resource = lay.resource;
+  below = lay.below;
+  run = gone;
+  above = rest ++ lay.above;
+  bytes = lay.bytes;
+}
+
+-- the blocks of a list that lie in its first n bytes, and those behind them
+abbrev pub first_in : ℕ → List Block → List Block
+first_in n [] = []
+first_in n (b ∷ blocks) = if nat_le (size b) n then b ∷ first_in (n - size b) blocks else []
+
+abbrev pub left_behind : ℕ → List Block → List Block
+left_behind n [] = []
+left_behind n (b ∷ blocks) = if nat_le (size b) n then left_behind (n - size b) blocks else b ∷ blocks
+
+-- the blocks of a run below a place, and the others
+abbrev pub gone_to : Lay → ℕ → List Block
+gone_to lay stop = first_in (stop - sizes lay.below) lay.run
+
+abbrev pub rest_from : Lay → ℕ → List Block
+rest_from lay stop = left_behind (stop - sizes lay.below) lay.run
+
+-- the first blocks of a run are packed, up to `top`, with one Free block above them, up to `stop`: all of the run, or
+-- as many as have `enough` Free bytes among them
+pub record UntilAt (lay : Lay) (place gap enough moves top stop : ℕ) (xs : List ℕ) (gone rest : List Block) : Type 0 where
+  pub split : gone ++ rest ≡ lay.run
+  pub packed : Packed (cut lay gone rest) gap moves xs
+  pub top_at : top ≡ place + sizes (movers gone)
+  pub stop_at : stop ≡ place + sizes gone
+  pub ended : (rest ≡ []) ⊎ ((place < top) × (enough ≤ free_sum gone))
+
+abbrev pub PackedUntil : Lay → ℕ → ℕ → ℕ → ℕ → ℕ → ℕ → List ℕ → Type 0
+PackedUntil lay place gap enough moves top stop xs =
+    UntilAt lay place gap enough moves top stop xs (gone_to lay stop) (rest_from lay stop)
 
 -- they are packed, and each is led to by its slot
 pub record Settled (lay : Lay) (moves : ℕ) (xs : List ℕ) : Type 0 where

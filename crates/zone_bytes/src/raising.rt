@@ -2,11 +2,11 @@
 
 ghost use Rattle.std.specs.Prelude.{◌≡◌, ◌+◌, length};
 ghost use Rattle.block_store.specs.Block.{sizes};
-ghost use Rattle.zone_bytes.specs.Settling.{Lay};
+ghost use Rattle.zone_bytes.specs.Settling.{Lay, IsRun, EndsRun, Settled};
 ghost use Rattle.zone_bytes.specs.Raising.{Raise, MayRaise, Raised, MayLift, Lifted};
 ghost use Rattle.zone_bytes.specs.Beside.{KeepsPlace};
 
-use crate::settling::pack_run;
+use crate::settling::{PackedRun, pack_until, settle_run};
 use crate::words::write_word;
 use raw_region::Part;
 
@@ -29,18 +29,33 @@ fn lift_blocks(part: &mut Part, place: u32, top: u32, stop: u32, gap: u32)
     }
 }
 
-/// Packs the run at a place, and raises its relocatable blocks by `gap`, which become Free bytes below them. Answers
-/// where the run ends.
+/// Packs what is left of a run above blocks of it that were packed, and then raised by `gap`.
+fn settle_above(part: &mut Part, packed: PackedRun, gap: u32) -> PackedRun
+    ghost lay: { Lay }
+    requires bytes { part.old.bytes ≡ lay.bytes }
+    requires run { IsRun lay (packed.top + gap) (packed.top + gap + sizes lay.run) }
+    requires ends { EndsRun lay.above }
+    ensures same { KeepsPlace part.old part.new }
+    ensures settled { Settled lay result.lowered part.new.bytes }
+    ensures stop { result.stop ≡ packed.top + gap + sizes lay.run }
+{
+    settle_run(part, packed.top + gap)
+}
+
+/// Packs the run at a place, and raises its relocatable blocks by `gap`, which become Free bytes below them. Only the
+/// lowest ones are moved up, those with no more than `gap` Free bytes among them; the others move down to where they are
+/// to lie. Answers where the run ends.
 pub fn raise_run(part: &mut Part, place: u32, gap: u32) -> u32
     ghost lay: { Lay }
-    requires { (part.old.bytes ≡ lay.bytes) × MayLift lay place gap }
+    requires { (part.old.bytes ≡ lay.bytes) × MayLift lay place gap × EndsRun lay.above }
     ensures same { KeepsPlace part.old part.new }
     ensures lifted { Lifted lay gap part.new.bytes }
     ensures stop { result ≡ place + sizes lay.run }
 {
-    let packed = pack_run(part, place, gap);
-    if place < packed.top {
-        lift_blocks(part, place, packed.top, packed.stop, gap);
+    let packed = pack_until(part, place, gap, gap);
+    if packed.top <= place {
+        return packed.stop;
     }
-    packed.stop
+    lift_blocks(part, place, packed.top, packed.stop, gap);
+    settle_above(part, packed, gap).stop
 }

@@ -1,12 +1,12 @@
 //! The relocatable blocks of a run are moved down.
 
-ghost use Rattle.std.specs.Prelude.{◌≡◌, ◌+◌, ◌-◌, ◌%◌, ◌≤◌, ◌<◌, ◌^◌, length, nat_lt, if◌then◌else◌};
+ghost use Rattle.std.specs.Prelude.{◌≡◌, ◌+◌, ◌-◌, ◌%◌, ◌≤◌, ◌<◌, ◌^◌, length, nat_lt, if◌then◌else◌, true};
 ghost use Rattle.windows.specs.Writes.{written, piece};
 ghost use Rattle.heap_words.specs.Headers.{tag_number};
 ghost use Rattle.heap_words.specs.Words.{word};
 ghost use Rattle.block_store.specs.Block.{sizes};
 ghost use Rattle.block_store.specs.Run.{movers};
-ghost use Rattle.zone_bytes.specs.Settling.{Lay, IsRun, runs_on, Packed, Settled};
+ghost use Rattle.zone_bytes.specs.Settling.{Lay, IsRun, EndsRun, runs_on, PackedUntil, Settled};
 ghost use Rattle.zone_bytes.specs.Beside.{KeepsPlace};
 
 use crate::words::{read_header, write_word};
@@ -59,23 +59,34 @@ fn is_in_run(header: Header) -> bool
     }
 }
 
-/// Moves the relocatable blocks of the run at a place down, makes their slots lead `gap` above them, and makes one Free
-/// block of the rest. It finds the run's end as it goes.
-pub(crate) fn pack_run(part: &mut Part, place: u32, gap: u32) -> PackedRun
+/// Whether blocks that were packed from a place up to `to` have `enough` Free bytes above them, up to `from`.
+fn is_enough(place: u32, to: u32, from: u32, enough: u32) -> bool
+    requires { to ≤ from }
+    ensures { result ≡ true → (place < to) × (enough ≤ from - to) }
+{
+    place < to && enough <= from - to
+}
+
+/// Moves relocatable blocks of the run at a place down, makes their slots lead `gap` above them, and makes one Free
+/// block of what is between them and the rest of the run. It finds the run's end as it goes, and ends before it where
+/// the Free block has `enough` bytes.
+pub(crate) fn pack_until(part: &mut Part, place: u32, gap: u32, enough: u32) -> PackedRun
     ghost lay: { Lay }
     requires bytes { part.old.bytes ≡ lay.bytes }
     requires run { IsRun lay place (place + sizes lay.run) }
+    requires ends { EndsRun lay.above }
     requires gap { gap ≤ length lay.bytes }
     ensures same { KeepsPlace part.old part.new }
-    ensures packed { Packed lay gap result.lowered part.new.bytes }
-    ensures top { result.top ≡ place + sizes (movers lay.run) }
-    ensures stop { result.stop ≡ place + sizes lay.run }
+    ensures packed { PackedUntil lay place gap enough result.lowered result.top result.stop part.new.bytes }
 {
     let end = part.len() as u32;
     let mut from = place;
     let mut to = place;
     let mut moves = 0;
     while from < end {
+        if is_enough(place, to, from, enough) {
+            break;
+        }
         let header = read_header(part, from);
         if !is_in_run(header) {
             break;
@@ -101,10 +112,11 @@ pub fn settle_run(part: &mut Part, place: u32) -> PackedRun
     ghost lay: { Lay }
     requires bytes { part.old.bytes ≡ lay.bytes }
     requires run { IsRun lay place (place + sizes lay.run) }
+    requires ends { EndsRun lay.above }
     ensures same { KeepsPlace part.old part.new }
     ensures settled { Settled lay result.lowered part.new.bytes }
     ensures top { result.top ≡ place + sizes (movers lay.run) }
     ensures stop { result.stop ≡ place + sizes lay.run }
 {
-    pack_run(part, place, 0)
+    pack_until(part, place, 0, u32::MAX)
 }

@@ -1,22 +1,37 @@
 -- A run that is packed and raised.
 use Rattle.std.proofs.Common.{◌≡◌, ℕ, ◌+◌, ◌-◌, ◌<◌, ◌≤◌, ◌⊎◌, inl, inr, zero, suc, List, [], ◌∷◌, ◌++◌, length, refl}
 use Rattle.std.proofs.Common.{sym, ap, ◌∙◌, subst, arith}
+use Rattle.std.proofs.Common.{append_assoc}
 use Rattle.std.proofs.lemmas.List.{append-nil}
-use Rattle.block_store.specs.Block.{Block, Free, free, free_sum, sizes, tidy}
+use Rattle.std.proofs.lemmas.List.Elements.{filter-append}
+use Rattle.block_store.specs.Block.{Block, Free, free, free_of, free_sum, is_mover, sizes, tidy}
 use Rattle.block_store.specs.Run.{movers, settle, low}
 use Rattle.block_store.proofs.Zone.Apart.{tidy-apart}
+use Rattle.block_store.proofs.Zone.Totals.{total-append}
 use Rattle.block_store.proofs.Regroup.Lifted.{apart-low, no-movers}
 use Rattle.zone_bytes.specs.Layout.{head_of, Tiles, IsSlot, names, Leads, Apart, Each}
-use Rattle.zone_bytes.specs.Settling.{Lay, InRun, Lies, HasSlots, SameOthers, Packed}
+use Rattle.zone_bytes.specs.Settling.{Lay, InRun, EndsRun, Lies, HasSlots, IsRun, SameOthers, Packed, cut, UntilAt}
+use Rattle.zone_bytes.specs.Settling.{Settled}
 use Rattle.zone_bytes.specs.Raising.{Raise, packed, MayRaise, Raised, lifted, MayLift, Lifted}
 use Rattle.zone_bytes.proofs.Tiles.Tiling.{span-append}
-use Rattle.zone_bytes.proofs.Tiles.Leading.{each-append, each-map, names-append}
+use Rattle.zone_bytes.proofs.Tiles.Leading.{each-append, each-right, each-map, names-append}
 use Rattle.zone_bytes.proofs.Tiles.Permuted.{each-moved}
 use Rattle.zone_bytes.proofs.Tiles.Keeping.{each-free, each-movers, each-settle, names-free, names-movers, names-settle}
 use Rattle.zone_bytes.proofs.Tiles.Keeping.{run-names, slot-run, span-free, span-movers, span-settle}
 use Rattle.zone_bytes.proofs.Runs.Packed.{run-bounds}
 use Rattle.zone_bytes.proofs.Runs.Settled.{free-some}
 use Rattle.zone_bytes.proofs.Runs.Led.{settled-of}
+use Rattle.zone_bytes.proofs.Runs.Until.{cut-same, cut-movers, cut-free, cut-span, cut-run, whole-packed, whole-top}
+use Rattle.zone_bytes.proofs.Runs.Until.{whole-stop}
+
+-- a Free block has no relocatable one, and its bytes
+movers-free : (n : ℕ) → movers (free n) ≡ []
+movers-free zero = refl
+movers-free (suc n) = refl
+
+sum-free : (n : ℕ) → free_sum (free n) ≡ n
+sum-free zero = refl
+sum-free (suc n) = omega arith
 
 -- a Free block below another
 free-both : (n m : ℕ) → 0 < n → tidy (Free n ∷ free m) ≡ free (n + m)
@@ -75,6 +90,29 @@ module _ (gap : ℕ) (run : List Block) (some : 0 < gap) (enough : gap ≤ free_
         ∙ names-movers run r
   ]
 
+-- blocks in place of a run, as large as they were and with the same slots
+slots-now : (below run now above : List Block) → Each InRun run → sizes now ≡ sizes run → names now ≡ names run
+    → HasSlots (below ++ (run ++ above)) → HasSlots (below ++ (now ++ above))
+slots-now below run now above r s n h =
+    let was = below ++ (run ++ above) in
+    let new = below ++ (now ++ above) in
+    let k = run-names below run now above n in
+    record {
+      slots = each-moved (λ s. IsSlot s new) (names was) (names new) k.from
+          (each-map (λ s. IsSlot s was) (λ s. IsSlot s new) (λ i. slot-run i below run now above r s) (names was)
+          h.slots);
+      apart = k.apart h.apart;
+    }
+
+-- the slots of no block stay
+others-now : (below run now above : List Block) → Each InRun run → sizes now ≡ sizes run → names now ≡ names run
+    → (old mid new : List ℕ) → SameOthers (below ++ (run ++ above)) old mid
+    → SameOthers (below ++ (now ++ above)) mid new → SameOthers (below ++ (run ++ above)) old new
+others-now below run now above r e n old mid new p o s i a =
+    let k = run-names below run now above n in
+    o s (slot-run s below run now above r e i) (each-moved (Apart s) (names (below ++ (run ++ above)))
+    (names (below ++ (now ++ above))) k.from a) ∙ p s i a
+
 pub gap-fits : (lay : Lay) (place gap : ℕ) → MayLift lay place gap → gap ≤ length lay.bytes
 gap-fits lay place gap h =
     let e = h.enough in
@@ -108,18 +146,9 @@ module _ (lay : Lay) (place gap : ℕ) (h : MayLift lay place gap) (moves : ℕ)
   packed-is : settled ≡ packed (raise_of lay gap xs)
   packed-is = ap (λ n. lay.below ++ ((movers lay.run ++ free n) ++ lay.above)) (sym all-free)
 
-  slot-kept : (s : ℕ) → IsSlot s was → IsSlot s settled
-  slot-kept s i = slot-run s lay.below lay.run (settle lay.run) lay.above h.run.in_run (span-settle lay.run h.run.in_run)
-      i
-
   settled-slots : HasSlots settled
-  settled-slots =
-      let n = run-names lay.below lay.run (settle lay.run) lay.above (names-settle lay.run h.run.in_run) in
-      record {
-        slots = each-moved (λ s. IsSlot s settled) (names was) (names settled) n.from
-            (each-map (λ s. IsSlot s was) (λ s. IsSlot s settled) slot-kept (names was) h.run.slots.slots);
-        apart = n.apart h.run.slots.apart;
-      }
+  settled-slots = slots-now lay.below lay.run (settle lay.run) lay.above h.run.in_run
+      (span-settle lay.run h.run.in_run) (names-settle lay.run h.run.in_run) h.run.slots
 
   pub may-raise : (top stop : ℕ) → top ≡ place + sizes (movers lay.run) → stop ≡ place + sizes lay.run
       → MayRaise (raise_of lay gap xs) place top stop gap
@@ -149,9 +178,8 @@ module _ (lay : Lay) (place gap : ℕ) (h : MayLift lay place gap) (moves : ℕ)
 
   -- the slots of no block stay
   others-twice : (new : List ℕ) → SameOthers settled xs new → SameOthers was lay.bytes new
-  others-twice new o s i a =
-      let n = run-names lay.below lay.run (settle lay.run) lay.above (names-settle lay.run h.run.in_run) in
-      o s (slot-kept s i) (each-moved (Apart s) (names was) (names settled) n.from a) ∙ p.others s i a
+  others-twice new = others-now lay.below lay.run (settle lay.run) lay.above h.run.in_run
+      (span-settle lay.run h.run.in_run) (names-settle lay.run h.run.in_run) lay.bytes xs new p.others
 
   pub is-lifted : (top : ℕ) → top ≡ place + sizes (movers lay.run) → place < top → (new : List ℕ)
       → Raised (raise_of lay gap xs) new → Lifted lay gap new
@@ -177,3 +205,148 @@ module _ (lay : Lay) (place gap : ℕ) (h : MayLift lay place gap) (moves : ℕ)
         others = p.others;
         kept = p.kept;
       }
+
+-- the raised blocks, and what is to be packed above them
+abbrev pub upper : Lay → ℕ → List Block → List Block → List ℕ → Lay
+upper lay gap gone rest ys = record {
+  resource = lay.resource;
+  below = lay.below ++ (Free gap ∷ movers gone);
+  run = free (free_sum gone - gap) ++ rest;
+  above = lay.above;
+  bytes = ys;
+}
+
+-- The first blocks of a run are raised, and the others are packed above them.
+module _ (lay : Lay) (place gap : ℕ) (h : MayLift lay place gap) (o : EndsRun lay.above) (moves top stop : ℕ) (xs : List ℕ)
+    (gone rest : List Block) (p : UntilAt lay place gap gap moves top stop xs gone rest) where
+  abbrev part : Lay
+  part = cut lay gone rest
+
+  cut-at : IsRun part place (place + sizes gone)
+  cut-at = cut-run lay gone rest p.split place (place + sizes lay.run) h.run (place + sizes gone) refl
+
+  -- no relocatable block is among those that were packed: they are all
+  pub none-lifted : top ≤ place → Lifted lay gap xs
+  none-lifted l = is-lifted-none lay place gap h moves xs (whole-packed lay place gap gap moves top stop xs gone rest h.run p n) top
+      (whole-top lay place gap gap moves top stop xs gone rest h.run p n) l
+    where
+      n : rest ≡ []
+      n = elim p.ended [ inl e ↦ e | inr e ↦ let b = e.0 in absurd (omega (arith, b, l)) ]
+
+  pub none-stop : top ≤ place → stop ≡ place + sizes lay.run
+  none-stop l = whole-stop lay place gap gap moves top stop xs gone rest h.run p
+      (elim p.ended [ inl e ↦ e | inr e ↦ let b = e.0 in absurd (omega (arith, b, l)) ])
+
+  module _ (some : place < top) where
+    enough : gap ≤ free_sum gone
+    enough = elim p.ended [
+      | inl n ↦
+          let f = cut-free lay gone rest p.split in
+          let z = ap free_sum n in
+          let e = h.enough in
+          omega (arith, f, z, e)
+      | inr e ↦ e.1
+    ]
+
+    lift-part : MayLift part place gap
+    lift-part = record { run = cut-at; some = h.some; even = h.even; enough = enough }
+
+    pub raise-part : MayRaise (raise_of part gap xs) place top stop gap
+    raise-part = may-raise part place gap lift-part moves xs p.packed top stop p.top_at p.stop_at
+
+    some-movers : movers gone ≡ [] → ⊥
+    some-movers n = let z = ap sizes n in let t = p.top_at in omega (arith, z, t, some)
+
+    abbrev pub left : ℕ
+    left = free_sum gone - gap
+
+    module _ (ys : List ℕ) (d : Raised (raise_of part gap xs) ys) where
+      part-lifted : Lifted part gap ys
+      part-lifted = is-lifted part place gap lift-part moves xs p.packed top p.top_at some ys d
+
+      upper-is : lay.below ++ (lifted gap gone ++ (rest ++ lay.above))
+          ≡ (lay.below ++ (Free gap ∷ movers gone)) ++ ((free left ++ rest) ++ lay.above)
+      upper-is = ap (λ l. lay.below ++ (l ++ (rest ++ lay.above))) (lifted-some gap gone h.some some-movers)
+          ∙ ap (λ l. lay.below ++ (Free gap ∷ l)) (append_assoc (movers gone) (free left) (rest ++ lay.above))
+          ∙ ap (λ l. lay.below ++ ((Free gap ∷ movers gone) ++ l)) (sym (append_assoc (free left) rest lay.above))
+          ∙ sym (append_assoc lay.below (Free gap ∷ movers gone) ((free left ++ rest) ++ lay.above))
+
+      upper-bottom : sizes (lay.below ++ (Free gap ∷ movers gone)) ≡ top + gap
+      upper-bottom =
+          let a = span-append lay.below (Free gap ∷ movers gone) in
+          let b = h.run.bottom in
+          let t = p.top_at in
+          omega (arith, a, b, t)
+
+      upper-top : top + gap + sizes (free left ++ rest) ≡ place + sizes lay.run
+      upper-top =
+          let a = span-append (free left) rest in
+          let b = span-free left in
+          let m = span-movers gone cut-at.in_run in
+          let s = cut-span lay gone rest p.split in
+          let t = p.top_at in
+          let e = enough in
+          omega (arith, a, b, m, s, t, e)
+
+      part-each : Each InRun gone
+      part-each = cut-at.in_run
+
+      pub upper-run : IsRun (upper lay gap gone rest ys) (top + gap) (top + gap + sizes (free left ++ rest))
+      upper-run = record {
+        lies = subst (λ l. Lies lay.resource l ys) upper-is part-lifted.lies;
+        slots = subst HasSlots upper-is (slots-now lay.below gone (lifted gap gone) (rest ++ lay.above) part-each
+            (lifted-span gap gone h.some enough part-each) (lifted-names gap gone h.some enough part-each)
+            cut-at.slots);
+        bottom = upper-bottom;
+        top = refl;
+        in_run = each-append InRun (free left) rest (each-free left)
+            (each-right InRun gone rest (subst (Each InRun) (sym p.split) h.run.in_run));
+        small = (let k = part-lifted.kept in let s = h.run.small in omega (arith, k, s));
+      }
+
+      module _ (lowered : ℕ) (zs : List ℕ) (t : Settled (upper lay gap gone rest ys) lowered zs) where
+        whole-movers : movers lay.run ≡ movers gone ++ movers rest
+        whole-movers = cut-movers lay gone rest p.split
+
+        upper-settled : settle (free left ++ rest) ≡ movers rest ++ free (free_sum lay.run - gap)
+        upper-settled =
+            let f = total-append free_of (free left) rest in
+            let g = sum-free left in
+            let c = cut-free lay gone rest p.split in
+            let e = enough in
+            let n : free_sum (free left ++ rest) ≡ free_sum lay.run - gap = omega (arith, f, g, c, e) in
+            ap (λ l. l ++ free (free_sum (free left ++ rest))) (filter-append is_mover (free left) rest
+            ∙ ap (λ l. l ++ movers rest) (movers-free left))
+            ∙ ap (λ k. movers rest ++ free k) n
+
+        all-is : (lay.below ++ (Free gap ∷ movers gone)) ++ (settle (free left ++ rest) ++ lay.above)
+            ≡ lay.below ++ (lifted gap lay.run ++ lay.above)
+        all-is = ap (λ l. (lay.below ++ (Free gap ∷ movers gone)) ++ (l ++ lay.above)) upper-settled
+            ∙ append_assoc lay.below (Free gap ∷ movers gone)
+            ((movers rest ++ free (free_sum lay.run - gap)) ++ lay.above)
+            ∙ ap (λ l. lay.below ++ (Free gap ∷ l)) (sym (append_assoc (movers gone)
+            (movers rest ++ free (free_sum lay.run - gap)) lay.above))
+            ∙ ap (λ l. lay.below ++ (Free gap ∷ (l ++ lay.above))) (sym (append_assoc (movers gone) (movers rest)
+            (free (free_sum lay.run - gap))))
+            ∙ ap (λ l. lay.below ++ (Free gap ∷ ((l ++ free (free_sum lay.run - gap)) ++ lay.above))) (sym whole-movers)
+            ∙ ap (λ l. lay.below ++ (l ++ lay.above)) (sym (lifted-some gap lay.run h.some any-mover))
+          where
+            any-mover : movers lay.run ≡ [] → ⊥
+            any-mover n =
+                let z = ap sizes (sym whole-movers ∙ n) in
+                let a = span-append (movers gone) (movers rest) in
+                let t = p.top_at in
+                omega (arith, z, a, t, some)
+
+        pub both-lifted : Lifted lay gap zs
+        both-lifted = record {
+          lies = subst (λ l. Lies lay.resource l zs) all-is t.lies;
+          others = subst (λ l. SameOthers l lay.bytes zs) (cut-same lay gone rest p.split)
+              (others-now lay.below gone (lifted gap gone) (rest ++ lay.above) part-each
+              (lifted-span gap gone h.some enough part-each) (lifted-names gap gone h.some enough part-each)
+              lay.bytes ys zs part-lifted.others (subst (λ l. SameOthers l ys zs) (sym upper-is) t.others));
+          kept = t.kept ∙ part-lifted.kept;
+        }
+
+        pub both-stop : (at : ℕ) → at ≡ top + gap + sizes (free left ++ rest) → at ≡ place + sizes lay.run
+        both-stop at e = e ∙ upper-top

@@ -92,8 +92,11 @@ module _ (lay : Lay) (place stop : ℕ) (r : IsRun lay place stop) where
       let z : 0 ≡ place - place = omega arith in
       let e : 0 + sizes lay.below ≡ place = omega (arith, p) in
       record {
+        gone = [];
         moved = [];
         rest = lay.run;
+        split = refl;
+        those = refl;
         state = record {
           low = subst (λ k. Tiles head (take k lay.bytes) (lay.below ++ [])) p (rw append-nil t.0);
           high = subst (λ k. Tiles head (drop k lay.bytes) (lay.run ++ lay.above)) p t.1;

@@ -110,10 +110,13 @@ module _ (xs : List ℕ) (first count : ℕ) (i : IsSound xs first count) (place
   pub lay-bytes : xs ≡ (lay_at xs place).bytes
   lay-bytes = sym (ap (λ l. l.bytes) lay-is)
 
+  pub may-end : EndsRun (lay_at xs place).above
+  may-end = subst (λ l. EndsRun l.above) (sym lay-is) ends
+
   module _ (stop : ℕ) (t : place + sizes r.run ≡ stop) where
     pub may-settle : IsRun (lay_at xs place) place stop
     may-settle = subst (λ l. IsRun l place stop) (sym lay-is)
-        (is-run xs r i.unused place stop i.lays whole bottom t in-run ends)
+        (is-run xs r i.unused place stop i.lays whole bottom t in-run)
 
     pub settle-made : (moves : ℕ) (new : List ℕ) → Settled (lay_at xs place) moves new
         → Made new first count (r.below ++ (settle r.run ++ r.above)) (slot_in xs) × (moves ≡ falling r.run)
@@ -124,7 +127,7 @@ module _ (xs : List ℕ) (first count : ℕ) (i : IsSound xs first count) (place
         let run = tiles-split (head_of (λ s. is_resource (slot_in xs s)))
         (drop (sizes r.below) xs) r.run r.above tiles.1 in (
           made new (r.below ++ (settle r.run ++ r.above)) (slot_in xs) i.unused
-              (after xs r i.unused place stop i.lays whole bottom t in-run ends moves new s) first count
+              (after xs r i.unused place stop i.lays whole bottom t in-run moves new s) first count
               (settled-tidy place (zone_in xs) r i.tidied e) i.begins i.counted,
           s.moved ∙ lowered-falling (head_of (λ s. is_resource (slot_in xs s)))
               (take (sizes r.run) (drop (sizes r.below) xs)) r.run run.0 in-run,

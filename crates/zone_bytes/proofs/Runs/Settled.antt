@@ -2,6 +2,7 @@
 use Rattle.std.proofs.Common.{◌≡◌, ℕ, ◌+◌, ◌-◌, ◌%◌, ◌<◌, ◌≤◌, inl, inr, Bool, true, false, cond, nat_lt, zero, suc}
 use Rattle.std.proofs.Common.{List, [], ◌∷◌, ◌++◌, length, take, drop, sym, refl, ap, ◌∙◌, subst, arith, append_assoc}
 use Rattle.std.proofs.lemmas.List.{append-nil, length-take-le, length-drop, drop-drop, take-take, take-append-drop}
+use Rattle.std.proofs.lemmas.List.Elements.{filter-append}
 use Rattle.std.proofs.lemmas.Bool.{false≢true}
 use Rattle.windows.specs.Writes.{written, piece}
 use Rattle.heap_words.specs.Words.{word, word_at}
@@ -16,6 +17,7 @@ use Rattle.zone_bytes.proofs.Tiles.Tiling.{span-append, tiles-append, tiles-one,
 use Rattle.zone_bytes.proofs.Tiles.Heads.{first-reads, slot-reads, kind-small}
 use Rattle.zone_bytes.proofs.Tiles.Leading.{each-left, each-right, names-append, Clear, piece-clear, leads-written}
 use Rattle.zone_bytes.proofs.Runs.Packed.{run-bounds, slot-spot, all-clear, packed-bounds, slot-even, is-slot}
+use Rattle.zone_bytes.proofs.Runs.Packed.{movers-more}
 use Rattle.zone_bytes.proofs.Runs.Ends.{runs-told}
 use Rattle.zone_bytes.proofs.Runs.Packed.{slot-length, length-slid, step-free, step-move}
 
@@ -114,18 +116,18 @@ module _ (lay : Lay) (place stop : ℕ) (r : IsRun lay place stop) (gap from to 
   outside (c ∷ above) o h l s n t f e w k v b =
       false≢true (sym o ∙ sym (runs-told lay.resource xs from s c h.0 n t f e w k v) ∙ b)
 
-  within-at : (moved rest : List Block) → PackingAt lay gap stop from to moves xs moved rest → from < length xs
-      → (n t f : ℕ) → n + t ≡ word_at from xs → n % 16 ≡ 0 → t ≤ 3 → f ≡ word_at (from + 12) xs → runs_on t f ≡ true
+  within-at : EndsRun lay.above → (moved rest : List Block) → PackingAt lay gap stop from to moves xs moved rest
+      → from < length xs → (n t f : ℕ) → n + t ≡ word_at from xs → n % 16 ≡ 0 → t ≤ 3 → f ≡ word_at (from + 12) xs → runs_on t f ≡ true
       → from < stop
-  within-at moved [] q l n t f e w k v b =
-      absurd (outside lay.above r.ends q.high l (stop-inside q.kept).1 n t f e w k v b)
-  within-at moved (c ∷ rest) q l n t f e w k v b =
+  within-at ends moved [] q l n t f e w k v b =
+      absurd (outside lay.above ends q.high l (stop-inside q.kept).1 n t f e w k v b)
+  within-at ends moved (c ∷ rest) q l n t f e w k v b =
       let u = q.up in let s = q.high.0.some in omega (arith, u, s)
 
   -- a block that belongs to a run is one of this run
-  pub within : Packing lay gap stop from to moves xs → from < length xs → (n t f : ℕ) → n + t ≡ word_at from xs
-      → n % 16 ≡ 0 → t ≤ 3 → f ≡ word_at (from + 12) xs → true ≡ runs_on t f → from < stop
-  within p l n t f e w k v b = within-at p.moved p.rest p.state l n t f e w k v (sym b)
+  pub within : EndsRun lay.above → Packing lay gap stop from to moves xs → from < length xs → (n t f : ℕ)
+      → n + t ≡ word_at from xs → n % 16 ≡ 0 → t ≤ 3 → f ≡ word_at (from + 12) xs → true ≡ runs_on t f → from < stop
+  within ends p l n t f e w k v b = within-at ends p.moved p.rest p.state l n t f e w k v (sym b)
 
   beyond-at : (moved rest : List Block) → PackingAt lay gap stop from to moves xs moved rest → (n t f : ℕ)
       → n + t ≡ word_at from xs → n % 16 ≡ 0 → t ≤ 3 → f ≡ word_at (from + 12) xs → false ≡ runs_on t f → stop ≤ from
@@ -138,22 +140,25 @@ module _ (lay : Lay) (place stop : ℕ) (r : IsRun lay place stop) (gap from to 
       → f ≡ word_at (from + 12) xs → false ≡ runs_on t f → stop ≤ from
   beyond p n t f e w k v b = beyond-at p.moved p.rest p.state n t f e w k v b
 
-  next-free-at : (moved rest : List Block) → PackingAt lay gap stop from to moves xs moved rest → from < stop → (n t : ℕ)
-      → n + t ≡ word_at from xs → n % 16 ≡ 0 → t < 3 → Packing lay gap stop (from + n) to moves xs
-  next-free-at moved [] q l n t e w k = let u = q.up in absurd (omega (arith, u, l))
-  next-free-at moved (Free m ∷ rest) q l n t e w k =
+  next-free-at : (gone moved rest : List Block) → gone ++ rest ≡ lay.run → moved ≡ movers gone
+      → PackingAt lay gap stop from to moves xs moved rest → from < stop → (n t : ℕ) → n + t ≡ word_at from xs → n % 16 ≡ 0 → t < 3 → Packing lay gap stop (from + n) to moves xs
+  next-free-at gone moved [] s o q l n t e w k = let u = q.up in absurd (omega (arith, u, l))
+  next-free-at gone moved (Free m ∷ rest) s o q l n t e w k =
       let i = stop-inside q.kept in
       let f = first-reads lay.resource xs from i.1 (Free m) q.high.0 in
       let same = same_parts n t m 0 (e ∙ f) w q.high.0.whole (omega (arith, k)) (omega arith) in
       record {
+        gone = gone ++ Free m ∷ [];
         moved = moved;
         rest = rest;
+        split = append_assoc gone (Free m ∷ []) rest ∙ s;
+        those = o ∙ sym (append-nil (movers gone)) ∙ sym (filter-append is_mover gone (Free m ∷ []));
         state = subst (λ j. PackingAt lay gap stop (from + j) to moves xs moved rest)
             (sym same.0) (step-free lay place stop r gap from to moves xs moved m rest q);
       }
-  next-free-at moved (Fixed id content ∷ rest) q l n t e w k = absurd (false≢true q.in_run.0)
-  next-free-at moved (Masters ∷ rest) q l n t e w k = absurd (false≢true q.in_run.0)
-  next-free-at moved (Relocatable slot flags content ∷ rest) q l n t e w k =
+  next-free-at gone moved (Fixed id content ∷ rest) s o q l n t e w k = absurd (false≢true q.in_run.0)
+  next-free-at gone moved (Masters ∷ rest) s o q l n t e w k = absurd (false≢true q.in_run.0)
+  next-free-at gone moved (Relocatable slot flags content ∷ rest) s o q l n t e w k =
       let i = stop-inside q.kept in
       let f = first-reads lay.resource xs from i.1 (Relocatable slot flags content) q.high.0 in
       let same = same_parts n t (size (Relocatable slot flags content)) 3 (e ∙ f) w q.high.0.whole (omega (arith, k))
@@ -162,20 +167,20 @@ module _ (lay : Lay) (place stop : ℕ) (r : IsRun lay place stop) (gap from to 
 
   pub next-free : Packing lay gap stop from to moves xs → from < stop → (n t : ℕ) → n + t ≡ word_at from xs → n % 16 ≡ 0
       → t < 3 → Packing lay gap stop (from + n) to moves xs
-  next-free p l n t e w k = next-free-at p.moved p.rest p.state l n t e w k
+  next-free p l n t e w k = next-free-at p.gone p.moved p.rest p.split p.those p.state l n t e w k
 
-  next-mover-at : (moved rest : List Block) → PackingAt lay gap stop from to moves xs moved rest → from < stop → (n t s : ℕ)
-      → n + t ≡ word_at from xs → n % 16 ≡ 0 → t ≡ 3 → s ≡ word_at (from + 8) xs
+  next-mover-at : (gone moved rest : List Block) → gone ++ rest ≡ lay.run → moved ≡ movers gone
+      → PackingAt lay gap stop from to moves xs moved rest → from < stop → (n t s : ℕ) → n + t ≡ word_at from xs → n % 16 ≡ 0 → t ≡ 3 → s ≡ word_at (from + 8) xs
       → NextMover lay gap stop from to moves xs n s
-  next-mover-at moved [] q l n t s e w k v = let u = q.up in absurd (omega (arith, u, l))
-  next-mover-at moved (Free m ∷ rest) q l n t s e w k v =
+  next-mover-at gone moved [] j o q l n t s e w k v = let u = q.up in absurd (omega (arith, u, l))
+  next-mover-at gone moved (Free m ∷ rest) j o q l n t s e w k v =
       let i = stop-inside q.kept in
       let f = first-reads lay.resource xs from i.1 (Free m) q.high.0 in
       let same = same_parts n t m 0 (e ∙ f) w q.high.0.whole (omega (arith, k)) (omega arith) in
       absurd (let j = same.1 in omega (arith, j, k))
-  next-mover-at moved (Fixed id content ∷ rest) q l n t s e w k v = absurd (false≢true q.in_run.0)
-  next-mover-at moved (Masters ∷ rest) q l n t s e w k v = absurd (false≢true q.in_run.0)
-  next-mover-at moved (Relocatable slot flags content ∷ rest) q l n t s e w k v =
+  next-mover-at gone moved (Fixed id content ∷ rest) j o q l n t s e w k v = absurd (false≢true q.in_run.0)
+  next-mover-at gone moved (Masters ∷ rest) j o q l n t s e w k v = absurd (false≢true q.in_run.0)
+  next-mover-at gone moved (Relocatable slot flags content ∷ rest) j o q l n t s e w k v =
       let b : Block = Relocatable slot flags content in
       let blocks = lay.below ++ (lay.run ++ lay.above) in
       let i = stop-inside q.kept in
@@ -192,8 +197,12 @@ module _ (lay : Lay) (place stop : ℕ) (r : IsRun lay place stop) (gap from to 
         slot_inside = omega (arith, sl, ls);
         leads = q.lead_high.0;
         packing = λ m h. record {
+          gone = gone ++ b ∷ [];
           moved = moved ++ b ∷ [];
           rest = rest;
+          split = append_assoc gone (b ∷ []) rest ∙ j;
+          those = ap (λ l. l ++ b ∷ []) o ∙ ap (λ l. movers gone ++ l) (sym (movers-more b [] q.in_run.0))
+              ∙ sym (filter-append is_mover gone (b ∷ []));
           state = subst (λ j. PackingAt lay gap stop (from + size b) (to + size b) (moves + j)
               (written slot (word (to + gap)) (written to (piece from (size b) xs) xs)) (moved ++ b ∷ []) rest) (sym h)
               (step-move lay place stop r gap from to moves xs moved slot flags content rest q);
@@ -204,13 +213,7 @@ module _ (lay : Lay) (place stop : ℕ) (r : IsRun lay place stop) (gap from to 
 
   pub next-mover : Packing lay gap stop from to moves xs → from < stop → (n t s : ℕ) → n + t ≡ word_at from xs → n % 16 ≡ 0
       → t ≡ 3 → s ≡ word_at (from + 8) xs → NextMover lay gap stop from to moves xs n s
-  next-mover p l n t s e w k v = next-mover-at p.moved p.rest p.state l n t s e w k v
-
-  -- at the end of the run the rest is nothing
-  done-at : (moved rest : List Block) → PackingAt lay gap stop from to moves xs moved rest → stop ≤ from
-      → PackingAt lay gap stop from to moves xs moved [] × (from ≡ stop)
-  done-at moved [] q l = let u = q.up in (q, omega (arith, u))
-  done-at moved (b ∷ rest) q l = let u = q.up in let s = q.high.0.some in absurd (omega (arith, u, s, l))
+  next-mover p l n t s e w k v = next-mover-at p.gone p.moved p.rest p.split p.those p.state l n t s e w k v
 
   -- the slots after the run's end
   leads-above : (moved : List Block) → PackingAt lay gap stop from to moves xs moved [] → from ≡ stop
@@ -221,7 +224,7 @@ module _ (lay : Lay) (place stop : ℕ) (r : IsRun lay place stop) (gap from to 
       subst (λ k. Leads k lay.above xs) (omega (arith, e, p, t)) q.lead_high
 
   -- no Free bytes
-  finish-none-at : (moved : List Block) → PackingAt lay gap stop from to moves xs moved [] → from ≡ stop → from ≤ to
+  pub finish-none-at : (moved : List Block) → PackingAt lay gap stop from to moves xs moved [] → from ≡ stop → from ≤ to
       → Packed lay gap moves xs
   finish-none-at moved q e l =
       let head = head_of lay.resource in
@@ -248,7 +251,7 @@ module _ (lay : Lay) (place stop : ℕ) (r : IsRun lay place stop) (gap from to 
       }
 
   -- one Free block
-  finish-free-at : (moved : List Block) → PackingAt lay gap stop from to moves xs moved [] → from ≡ stop → to < from
+  pub finish-free-at : (moved : List Block) → PackingAt lay gap stop from to moves xs moved [] → from ≡ stop → to < from
       → Packed lay gap moves (written to (word (from - to)) xs)
   finish-free-at moved q e l =
       let head = head_of lay.resource in
@@ -315,27 +318,6 @@ module _ (lay : Lay) (place stop : ℕ) (r : IsRun lay place stop) (gap from to 
         moved = (let c = q.count in omega (arith, c));
         kept = n ∙ q.kept;
       }
-
-  pub finish-none : Packing lay gap stop from to moves xs → stop ≤ from → from ≤ to → Packed lay gap moves xs
-  finish-none p l h = let d = done-at p.moved p.rest p.state l in finish-none-at p.moved d.0 d.1 h
-
-  pub finish-free : Packing lay gap stop from to moves xs → stop ≤ from → to < from
-      → Packed lay gap moves (written to (word (from - to)) xs)
-  finish-free p l h = let d = done-at p.moved p.rest p.state l in finish-free-at p.moved d.0 d.1 h
-
-  -- the pass ends where the run does
-  pub packed-stop : Packing lay gap stop from to moves xs → stop ≤ from → from ≡ stop
-  packed-stop p l = (done-at p.moved p.rest p.state l).1
-
-  -- the packed blocks end where the Free block begins
-  pub packed-top : Packing lay gap stop from to moves xs → stop ≤ from → to ≡ place + sizes (movers lay.run)
-  packed-top p l =
-      let d = done-at p.moved p.rest p.state l in
-      let b = packed-bounds lay place stop r gap from to moves xs p.moved [] d.0 in
-      let a = span-append lay.below p.moved in
-      let o = ap sizes (sym (append-nil p.moved) ∙ d.0.order) in
-      let w = r.bottom in
-      omega (arith, b, a, o, w)
 
   -- no more blocks come lower than there are bytes
   pub moves-bound : Packing lay gap stop from to moves xs → moves ≤ 134217728

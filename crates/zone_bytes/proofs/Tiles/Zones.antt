@@ -30,12 +30,12 @@ lay_of spot xs = record {
 module _ (xs : List ℕ) (spot : RunSpot) (unused : List ℕ) (place stop : ℕ)
     (h : Lays xs (zone_in xs) (slot_in xs) unused) (z : zone_in xs ≡ spot.below ++ (spot.run ++ spot.above))
     (b : sizes spot.below ≡ place) (t : place + sizes spot.run ≡ stop) (r : Each InRun spot.run)
-    (o : EndsRun spot.above) where
+    where
   pub laid : Lays xs (spot.below ++ (spot.run ++ spot.above)) (slot_in xs) unused
   laid = subst (λ k. Lays xs k (slot_in xs) unused) z h
 
   pub is-run : IsRun (lay_of spot xs) place stop
-  is-run = record { lies = laid.lies; slots = laid.has_slots; bottom = b; top = t; in_run = r; ends = o; small = laid.small }
+  is-run = record { lies = laid.lies; slots = laid.has_slots; bottom = b; top = t; in_run = r; small = laid.small }
 
   module _ (moves : ℕ) (new : List ℕ) (d : Settled (lay_of spot xs) moves new) where
     pub after : Lays new (spot.below ++ (settle spot.run ++ spot.above)) (slot_in xs) unused

@@ -1,30 +1,66 @@
-use Rattle.std.proofs.Common.{refl, arith}
-use Rattle.zone_bytes.proofs.Runs.Lifts.{gap-fits, may-raise, is-lifted, is-lifted-none}
+use Rattle.std.proofs.Common.{◌≡◌, ◌+◌, ◌<◌, refl, arith}
+use Rattle.zone_bytes.specs.Settling.{gone_to, rest_from}
+use Rattle.zone_bytes.proofs.Runs.Lifts.{gap-fits, none-lifted, none-stop, raise-part, upper-run, both-lifted, both-stop}
+use Rattle.zone_bytes.proofs.raising.raise_run.Given.{Over}
+use Rattle.zone_bytes.proofs.raising.raise_run.Goals.{Else-packed-place}
 use Rattle.zone_bytes.proofs.raising.raise_run.Goals as goal
 
-pub pack_run-packed-requires : goal.pack_run-packed-requires
-pack_run-packed-requires g c =
+pub pack_until-packed-requires : goal.pack_until-packed-requires
+pack_until-packed-requires g c =
     let f = gap-fits g.lay c.args.place c.args.gap c.requires.1 in
-    (c.requires.0, (c.requires.1.run, omega (arith, f)))
+    (c.requires.0, (c.requires.1.run, (c.requires.2, omega (arith, f))))
+
+pub returns-then-packed-place-clause-lifted : goal.returns-then-packed-place-clause-lifted
+returns-then-packed-place-clause-lifted g c =
+    let p = c.pack_until-packed.result in
+    none-lifted g.lay c.args.place c.args.gap c.requires.1 c.requires.2 p.lowered p.top p.stop
+    c.pack_until-packed.new.part.bytes (gone_to g.lay p.stop) (rest_from g.lay p.stop) c.pack_until-packed.ensures.packed
+    c.if-packed-place.true
+
+pub returns-then-packed-place-clause-stop : goal.returns-then-packed-place-clause-stop
+returns-then-packed-place-clause-stop g c =
+    let p = c.pack_until-packed.result in
+    none-stop g.lay c.args.place c.args.gap c.requires.1 c.requires.2 p.lowered p.top p.stop
+    c.pack_until-packed.new.part.bytes (gone_to g.lay p.stop) (rest_from g.lay p.stop) c.pack_until-packed.ensures.packed
+    c.if-packed-place.true
+
+some : (g : Over) (c : Else-packed-place g) → c.args.place < c.pack_until-packed.result.top
+some g c = let l = c.if-packed-place.false in omega (arith, l)
 
 pub lift_blocks-requires : goal.lift_blocks-requires
 lift_blocks-requires g c =
-    let e = c.pack_run-packed.ensures in (
+    let p = c.pack_until-packed.result in (
       refl,
-      may-raise g.lay c.args.place c.args.gap c.requires.1 c.pack_run-packed.result.lowered
-          c.pack_run-packed.new.part.bytes e.packed c.pack_run-packed.result.top c.pack_run-packed.result.stop e.top
-          e.stop,
+      raise-part g.lay c.args.place c.args.gap c.requires.1 c.requires.2 p.lowered p.top p.stop
+          c.pack_until-packed.new.part.bytes (gone_to g.lay p.stop) (rest_from g.lay p.stop)
+          c.pack_until-packed.ensures.packed (some g (goal.at.lift_blocks-requires g c).Else-packed-place),
     )
 
-pub returns-then-place-packed-clause-lifted : goal.returns-then-place-packed-clause-lifted
-returns-then-place-packed-clause-lifted g c =
-    let e = c.pack_run-packed.ensures in
-    is-lifted g.lay c.args.place c.args.gap c.requires.1 c.pack_run-packed.result.lowered
-    c.pack_run-packed.new.part.bytes e.packed c.pack_run-packed.result.top e.top c.if-place-packed.true
-    c.lift_blocks.new.part.bytes c.lift_blocks.ensures.raised
+pub settle_above-requires : goal.settle_above-requires
+settle_above-requires g c =
+    let p = c.pack_until-packed.result in
+    (refl, (
+      upper-run g.lay c.args.place c.args.gap c.requires.1 c.requires.2 p.lowered p.top p.stop
+          c.pack_until-packed.new.part.bytes (gone_to g.lay p.stop) (rest_from g.lay p.stop)
+          c.pack_until-packed.ensures.packed (some g (goal.at.settle_above-requires g c).Else-packed-place)
+          c.lift_blocks.new.part.bytes c.lift_blocks.ensures.raised,
+      c.requires.2,
+    ))
 
-pub returns-else-place-packed-clause-lifted : goal.returns-else-place-packed-clause-lifted
-returns-else-place-packed-clause-lifted g c =
-    let e = c.pack_run-packed.ensures in
-    is-lifted-none g.lay c.args.place c.args.gap c.requires.1 c.pack_run-packed.result.lowered
-    c.pack_run-packed.new.part.bytes e.packed c.pack_run-packed.result.top e.top c.if-place-packed.false
+pub returns-clause-lifted : goal.returns-clause-lifted
+returns-clause-lifted g c =
+    let p = c.pack_until-packed.result in
+    both-lifted g.lay c.args.place c.args.gap c.requires.1 c.requires.2 p.lowered p.top p.stop
+    c.pack_until-packed.new.part.bytes (gone_to g.lay p.stop) (rest_from g.lay p.stop)
+    c.pack_until-packed.ensures.packed (some g (goal.at.returns-clause-lifted g c).Else-packed-place)
+    c.lift_blocks.new.part.bytes c.lift_blocks.ensures.raised c.settle_above.result.lowered
+    c.settle_above.new.part.bytes c.settle_above.ensures.settled
+
+pub returns-clause-stop : goal.returns-clause-stop
+returns-clause-stop g c =
+    let p = c.pack_until-packed.result in
+    both-stop g.lay c.args.place c.args.gap c.requires.1 c.requires.2 p.lowered p.top p.stop
+    c.pack_until-packed.new.part.bytes (gone_to g.lay p.stop) (rest_from g.lay p.stop)
+    c.pack_until-packed.ensures.packed (some g (goal.at.returns-clause-stop g c).Else-packed-place)
+    c.lift_blocks.new.part.bytes c.lift_blocks.ensures.raised c.settle_above.result.lowered
+    c.settle_above.new.part.bytes c.settle_above.ensures.settled c.settle_above.result.stop c.settle_above.ensures.stop

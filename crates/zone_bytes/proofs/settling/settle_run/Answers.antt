@@ -1,8 +1,28 @@
-use Rattle.std.proofs.Common.{◌+◌}
+use Rattle.std.proofs.Common.{◌≡◌, ◌+◌, [], arith}
 use Rattle.block_store.specs.Block.{sizes}
+use Rattle.zone_bytes.specs.Settling.{rest_from}
 use Rattle.zone_bytes.proofs.Runs.Led.{settled-led}
+use Rattle.zone_bytes.proofs.Runs.Until.{all-gone, whole-packed, whole-top, whole-stop}
+use Rattle.zone_bytes.proofs.settling.settle_run.Goals.{After-pack_until}
+use Rattle.zone_bytes.proofs.settling.settle_run.Given.{Over}
 use Rattle.zone_bytes.proofs.settling.settle_run.Goals as goal
 
+nothing-left : (g : Over) (c : After-pack_until g) → rest_from g.lay c.pack_until.result.stop ≡ []
+nothing-left g c =
+    let s = c.requires.1.0.small in
+    all-gone g.lay c.args.place 0 4294967295 _ _ _ _ _ _ c.requires.1.0 c.pack_until.ensures.packed (omega (arith, s))
+
 pub returns-clause-settled : goal.returns-clause-settled
-returns-clause-settled g c = settled-led g.lay c.args.place (c.args.place + sizes g.lay.run) c.pack_run.result.lowered
-    c.pack_run.new.part.bytes c.requires.1 c.pack_run.ensures.packed
+returns-clause-settled g c =
+    let n = nothing-left g (goal.at.returns-clause-settled g c).After-pack_until in
+    settled-led g.lay c.args.place (c.args.place + sizes g.lay.run) c.pack_until.result.lowered
+    c.pack_until.new.part.bytes c.requires.1.0
+    (whole-packed g.lay c.args.place 0 4294967295 _ _ _ _ _ _ c.requires.1.0 c.pack_until.ensures.packed n)
+
+pub returns-clause-top : goal.returns-clause-top
+returns-clause-top g c = whole-top g.lay c.args.place 0 4294967295 _ _ _ _ _ _ c.requires.1.0 c.pack_until.ensures.packed
+    (nothing-left g (goal.at.returns-clause-top g c).After-pack_until)
+
+pub returns-clause-stop : goal.returns-clause-stop
+returns-clause-stop g c = whole-stop g.lay c.args.place 0 4294967295 _ _ _ _ _ _ c.requires.1.0 c.pack_until.ensures.packed
+    (nothing-left g (goal.at.returns-clause-stop g c).After-pack_until)

@@ -1,4 +1,4 @@
 use Rattle.zone_bytes.proofs.settling.settle_run.Given as goal
 
-abbrev pub ghost-pack_run : goal.ghost-pack_run
-ghost-pack_run g a = g.lay
+abbrev pub ghost-pack_until : goal.ghost-pack_until
+ghost-pack_until g a = g.lay

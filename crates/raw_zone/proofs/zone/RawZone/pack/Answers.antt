@@ -8,7 +8,7 @@ use Rattle.zone_bytes.specs.Table.{slot_in}
 use Rattle.zone_bytes.specs.Beside.{rest_in}
 use Rattle.zone_bytes.specs.Placing.{lay_at}
 use Rattle.zone_bytes.proofs.Laws.Lawful.{rest-made, kept-made}
-use Rattle.zone_bytes.proofs.Runs.RunsAt.{a-run, lay-is, lay-bytes, may-settle}
+use Rattle.zone_bytes.proofs.Runs.RunsAt.{a-run, lay-is, lay-bytes, may-end, may-settle}
 use Rattle.raw_zone.specs.Parted.{zone_of, rest_of}
 use Rattle.zone_bytes.proofs.Runs.Changed.{ChangedRun, if-one, settled-run, replaced-run}
 use Rattle.zone_bytes.proofs.Marks.Owed.{with-marks}
@@ -26,8 +26,11 @@ settle_run-packed-requires c =
     let a = found (goal.at.settle_run-packed-requires c).After-self in
     let l = lay-is xs c.self.inside.first c.self.inside.unused c.self.invariant.sound c.args.run a.0 a.1 in (
       lay-bytes xs c.self.inside.first c.self.inside.unused c.self.invariant.sound c.args.run a.0 a.1,
-      may-settle xs c.self.inside.first c.self.inside.unused c.self.invariant.sound c.args.run a.0 a.1
-          (c.args.run + sizes (lay_at xs c.args.run).run) (sym (ap (λ z. c.args.run + sizes z.run) l)),
+      (
+        may-settle xs c.self.inside.first c.self.inside.unused c.self.invariant.sound c.args.run a.0 a.1
+            (c.args.run + sizes (lay_at xs c.args.run).run) (sym (ap (λ z. c.args.run + sizes z.run) l)),
+        may-end xs c.self.inside.first c.self.inside.unused c.self.invariant.sound c.args.run a.0 a.1,
+      ),
     )
 
 -- the zone afterwards

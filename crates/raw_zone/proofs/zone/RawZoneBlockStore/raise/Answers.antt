@@ -8,7 +8,7 @@ use Rattle.zone_bytes.specs.Decode.{zone_in}
 use Rattle.zone_bytes.specs.Table.{slot_in}
 use Rattle.zone_bytes.specs.Beside.{rest_in}
 use Rattle.zone_bytes.proofs.Laws.Lawful.{rest-made, kept-made}
-use Rattle.zone_bytes.proofs.Runs.RunsAt.{lay-is, lay-bytes}
+use Rattle.zone_bytes.proofs.Runs.RunsAt.{lay-is, lay-bytes, may-end}
 use Rattle.zone_bytes.proofs.Runs.Changed.{ChangedRun, if-one, replaced-run}
 use Rattle.zone_bytes.proofs.Runs.RaisedAt.{room-run, may-lift, lifted-run, lifted-zone}
 use Rattle.zone_bytes.proofs.Marks.Owed.{with-marks}
@@ -24,6 +24,7 @@ raise_run-stop-requires c =
       lay-bytes xs c.self.inside.first c.self.inside.unused c.self.invariant.sound c.args.run a.0 a.1,
       may-lift xs c.self.inside.first c.self.inside.unused c.self.invariant.sound c.args.run a.0 a.1 c.args.bytes
           c.requires.some a.2 c.requires.even,
+      may-end xs c.self.inside.first c.self.inside.unused c.self.invariant.sound c.args.run a.0 a.1,
     )
 
 -- the zone afterwards

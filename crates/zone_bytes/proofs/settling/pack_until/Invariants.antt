@@ -1,7 +1,7 @@
 use Rattle.std.proofs.Common.{◌-◌, ◌≡◌, ◌+◌, length}
 use Rattle.block_store.specs.Block.{sizes}
 use Rattle.zone_bytes.specs.Settling.{Packing}
-use Rattle.zone_bytes.proofs.settling.pack_run.Given as goal
+use Rattle.zone_bytes.proofs.settling.pack_until.Given as goal
 
 abbrev pub invariant-loop-from : goal.invariant-loop-from
 invariant-loop-from g l =

@@ -1,19 +1,21 @@
-use Rattle.std.proofs.Common.{◌≡◌, true, false, ◌+◌, ◌<◌, ◌≤◌, length, refl, sym, ◌∙◌, subst, arith}
+use Rattle.std.proofs.Common.{◌≡◌, true, false, ◌+◌, ◌-◌, ◌<◌, ◌≤◌, ◌⊎◌, inl, inr, [], length, refl, sym, ◌∙◌, subst, arith}
 use denote.Enum.Bare.{sameb}
 use Rattle.heap_words.specs.contracts.header.Tag.{the_type}
 use Rattle.heap_words.specs.declared.header.Tag.TheVariants.{Relocatable}
 use Rattle.heap_words.specs.Headers.{tag_number}
 use Rattle.block_store.specs.Block.{sizes}
-use Rattle.zone_bytes.specs.Settling.{Packing, Packed}
+use Rattle.zone_bytes.specs.Settling.{Packing, PackedUntil}
 use Rattle.zone_bytes.proofs.Runs.Packed.{start}
 use Rattle.zone_bytes.proofs.Runs.Settled.{Next, NextMover, stop-inside, next, within, beyond, next-free, next-mover}
-use Rattle.zone_bytes.proofs.Runs.Settled.{finish-none, finish-free, packed-stop, packed-top, moves-bound}
+use Rattle.zone_bytes.proofs.Runs.Settled.{moves-bound}
+use Rattle.zone_bytes.proofs.Runs.Until.{until-none, until-free, none-left}
 use Rattle.zone_bytes.proofs.Tiles.Tags.{tag-true, tag-false, tag-small}
-use Rattle.zone_bytes.proofs.settling.pack_run.Given.{Over}
-use Rattle.zone_bytes.proofs.settling.pack_run.Goals.{In-loop-from, After-eq, Left-loop-from}
-use Rattle.zone_bytes.proofs.settling.pack_run.Goals as goal
-use Rattle.zone_bytes.proofs.settling.pack_run.Goals.{then-eq, else-eq, else-loop-from-test}
-use Rattle.zone_bytes.proofs.settling.pack_run.Goals.{then-loop-from-test+then-not-is_in_run}
+use Rattle.zone_bytes.proofs.settling.pack_until.Given.{Over}
+use Rattle.zone_bytes.proofs.settling.pack_until.Goals.{In-loop-from, After-eq, Left-loop-from}
+use Rattle.zone_bytes.proofs.settling.pack_until.Goals as goal
+use Rattle.zone_bytes.proofs.settling.pack_until.Goals.{then-eq, else-eq, else-loop-from-test}
+use Rattle.zone_bytes.proofs.settling.pack_until.Goals.{then-loop-from-test+then-is_enough}
+use Rattle.zone_bytes.proofs.settling.pack_until.Goals.{then-loop-from-test+else-is_enough+then-not-is_in_run}
 
 pub loop-from-init : goal.loop-from-init
 loop-from-init g c = (
@@ -67,7 +69,7 @@ inside g c =
     let h = c.read_header-header.result in
     let e = c.read_header-header.ensures in
     within g.lay c.args.place (c.args.place + sizes g.lay.run) c.requires.1.0 c.args.gap s.from s.to s.moves s.part.bytes
-    s.invariant.0 (omega (arith, l, n, k)) h.size (tag_number h.tag) h.flags e.first e.size (tag-small h.tag) e.flags
+    c.requires.1.1.0 s.invariant.0 (omega (arith, l, n, k)) h.size (tag_number h.tag) h.flags e.first e.size (tag-small h.tag) e.flags
     c.if-not-is_in_run.ensures
 
 -- and a relocatable one
@@ -162,24 +164,28 @@ loop-from-smaller g c =
     let some : 0 < c.read_header-header.result.size = omega (arith, b, t, f) in
     omega (arith, l, some)
 
--- the run was gone over
-ended : (g : Over) (c : Left-loop-from g) → c.args.place + sizes g.lay.run ≤ c.loop-from.from
+-- the run was gone over, or has enough
+ended : (g : Over) (c : Left-loop-from g) → (c.loop-from.invariant.0.rest ≡ [])
+    ⊎ ((c.args.place < c.loop-from.to) × (c.args.enough ≤ c.loop-from.from - c.loop-from.to))
 ended g c =
     let s = c.loop-from in
+    let p = s.invariant.0 in
     let stop = c.args.place + sizes g.lay.run in
+    let nothing = none-left g.lay c.args.gap stop s.from s.to s.moves s.part.bytes p.moved p.rest p.state in
     elim c.loop-from-test.branch [
       | else-loop-from-test w ↦
           let l = w.loop-from-test.false in
           let n = c.len-end.ensures.count in
           let k = s.invariant.3 in
           let b = stop-inside g.lay c.args.place stop c.requires.1.0 c.args.gap s.from s.to s.moves s.part.bytes
-          s.invariant.0.state.kept in
-          omega (arith, l, n, k, b)
-      | then-loop-from-test+then-not-is_in_run w ↦
+          p.state.kept in
+          inl (nothing (omega (arith, l, n, k, b)))
+      | then-loop-from-test+then-is_enough w ↦ inr (w.if-is_enough.ensures refl)
+      | then-loop-from-test+else-is_enough+then-not-is_in_run w ↦
           let h = w.read_header-header.result in
           let e = w.read_header-header.ensures in
-          beyond g.lay c.args.place stop c.requires.1.0 c.args.gap s.from s.to s.moves s.part.bytes s.invariant.0 h.size
-          (tag_number h.tag) h.flags e.first e.size (tag-small h.tag) e.flags w.if-not-is_in_run.ensures
+          inl (nothing (beyond g.lay c.args.place stop c.requires.1.0 c.args.gap s.from s.to s.moves s.part.bytes p h.size
+          (tag_number h.tag) h.flags e.first e.size (tag-small h.tag) e.flags w.if-not-is_in_run.ensures))
     ]
 
 pub write_word-requires : goal.write_word-requires
@@ -196,45 +202,26 @@ write_word-requires g c =
 pub returns-then-to-from-clause-packed : goal.returns-then-to-from-clause-packed
 returns-then-to-from-clause-packed g c =
     let s = c.loop-from in
-    subst (λ k. Packed g.lay c.args.gap s.moves k) (sym c.write_word.ensures.bytes)
-    (finish-free g.lay c.args.place (c.args.place + sizes g.lay.run) c.requires.1.0 c.args.gap s.from s.to s.moves s.part.bytes
-    s.invariant.0 (ended g (goal.at.returns-then-to-from-clause-packed g c).Left-loop-from) c.if-to-from.true)
+    let p = s.invariant.0 in
+    subst (PackedUntil g.lay c.args.place c.args.gap c.args.enough s.moves s.to s.from) (sym c.write_word.ensures.bytes)
+    (until-free g.lay p.gone p.rest p.split c.args.place (c.args.place + sizes g.lay.run) c.requires.1.0 c.args.gap s.from
+    s.to s.moves s.part.bytes p.moved p.those p.state c.args.enough
+    (ended g (goal.at.returns-then-to-from-clause-packed g c).Left-loop-from) c.if-to-from.true)
 
 pub returns-else-to-from-clause-packed : goal.returns-else-to-from-clause-packed
 returns-else-to-from-clause-packed g c =
     let s = c.loop-from in
-    finish-none g.lay c.args.place (c.args.place + sizes g.lay.run) c.requires.1.0 c.args.gap s.from s.to s.moves s.part.bytes
-    s.invariant.0 (ended g (goal.at.returns-else-to-from-clause-packed g c).Left-loop-from) c.if-to-from.false
-
-pub returns-then-to-from-clause-top : goal.returns-then-to-from-clause-top
-returns-then-to-from-clause-top g c =
-    let s = c.loop-from in
-    packed-top g.lay c.args.place (c.args.place + sizes g.lay.run) c.requires.1.0 c.args.gap s.from s.to s.moves s.part.bytes
-    s.invariant.0 (ended g (goal.at.returns-then-to-from-clause-top g c).Left-loop-from)
-
-pub returns-else-to-from-clause-top : goal.returns-else-to-from-clause-top
-returns-else-to-from-clause-top g c =
-    let s = c.loop-from in
-    packed-top g.lay c.args.place (c.args.place + sizes g.lay.run) c.requires.1.0 c.args.gap s.from s.to s.moves s.part.bytes
-    s.invariant.0 (ended g (goal.at.returns-else-to-from-clause-top g c).Left-loop-from)
-
-pub returns-then-to-from-clause-stop : goal.returns-then-to-from-clause-stop
-returns-then-to-from-clause-stop g c =
-    let s = c.loop-from in
-    packed-stop g.lay c.args.place (c.args.place + sizes g.lay.run) c.requires.1.0 c.args.gap s.from s.to s.moves s.part.bytes
-    s.invariant.0 (ended g (goal.at.returns-then-to-from-clause-stop g c).Left-loop-from)
-
-pub returns-else-to-from-clause-stop : goal.returns-else-to-from-clause-stop
-returns-else-to-from-clause-stop g c =
-    let s = c.loop-from in
-    packed-stop g.lay c.args.place (c.args.place + sizes g.lay.run) c.requires.1.0 c.args.gap s.from s.to s.moves s.part.bytes
-    s.invariant.0 (ended g (goal.at.returns-else-to-from-clause-stop g c).Left-loop-from)
+    let p = s.invariant.0 in
+    let l = c.if-to-from.false in
+    until-none g.lay p.gone p.rest p.split c.args.place (c.args.place + sizes g.lay.run) c.requires.1.0 c.args.gap s.from
+    s.to s.moves s.part.bytes p.moved p.those p.state c.args.enough
+    (ended g (goal.at.returns-else-to-from-clause-packed g c).Left-loop-from) (omega (arith, l))
 
 pub move_block-moves-requires-clause-fits : goal.move_block-moves-requires-clause-fits
 move_block-moves-requires-clause-fits g c =
     let d = c.loop-from.invariant.0.state.down in
     let l = inside g (goal.at.move_block-moves-requires-clause-fits g c).After-eq in
     let k = bounds g (goal.at.move_block-moves-requires-clause-fits g c).In-loop-from in
-    let b = c.requires.1.1 in
+    let b = c.requires.1.1.1 in
     let s = c.requires.1.0.small in
     omega (arith, d, l, k, b, s)

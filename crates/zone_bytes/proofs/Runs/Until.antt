@@ -1,0 +1,224 @@
+-- The first blocks of a run are packed.
+use Rattle.std.proofs.Common.{◌≡◌, ℕ, ◌+◌, ◌-◌, ◌<◌, ◌≤◌, ◌⊎◌, inl, inr, true, false, cond, nat_le, List}
+use Rattle.std.proofs.Common.{[], ◌∷◌, ◌++◌, length, drop, sym}
+use Rattle.std.proofs.Common.{refl, ap, ◌∙◌, subst, arith, append_assoc}
+use Rattle.std.proofs.lemmas.Bool.Decides.{nat_tests}
+use Rattle.std.proofs.lemmas.List.{append-nil}
+use Rattle.std.proofs.lemmas.List.Elements.{filter-append}
+use Rattle.heap_words.specs.Words.{word}
+use Rattle.windows.specs.Writes.{written}
+use Rattle.block_store.specs.Block.{Block, free_of, free_sum, is_mover, size, sizes}
+use Rattle.block_store.specs.Run.{movers}
+use Rattle.block_store.proofs.Zone.Totals.{total-append}
+use Rattle.zone_bytes.specs.Layout.{head_of, Tiles, names, Leads, Each}
+use Rattle.zone_bytes.specs.Settling.{falling_from, Lay, InRun, Lies, HasSlots, IsRun, SameOthers, PackingAt, Packing}
+use Rattle.zone_bytes.specs.Settling.{Packed, cut, first_in, left_behind, gone_to, rest_from, UntilAt, PackedUntil}
+use Rattle.zone_bytes.proofs.Tiles.Tiling.{span-append}
+use Rattle.zone_bytes.proofs.Tiles.Leading.{each-left}
+use Rattle.zone_bytes.proofs.Tiles.Keeping.{span-movers}
+use Rattle.zone_bytes.proofs.Runs.Packed.{run-bounds, packed-bounds}
+use Rattle.zone_bytes.proofs.Runs.Settled.{finish-none-at, finish-free-at}
+
+-- those that come lower among the first blocks, and those among the others
+falling-append : (gap : ℕ) (gone rest : List Block)
+    → falling_from gap (gone ++ rest) ≡ falling_from gap gone + falling_from (gap + free_sum gone) rest
+falling-append gap [] rest =
+    let e : gap ≡ gap + 0 = omega arith in
+    let f = ap (λ g. falling_from g rest) e in
+    omega (arith, f)
+falling-append gap (b ∷ gone) rest =
+    let r = falling-append (gap + free_of b) gone rest in
+    let e : gap + free_of b + free_sum gone ≡ gap + (free_of b + free_sum gone) = omega arith in
+    let f = ap (λ g. falling_from g rest) e in
+    omega (arith, r, f)
+
+-- each block has bytes
+abbrev IsSome : Block → Type 0
+IsSome b = 0 < size b
+
+each-some : (head : Block → List ℕ) (xs : List ℕ) (rest above : List Block) → Tiles head xs (rest ++ above)
+    → Each IsSome rest
+each-some head xs [] above t = tt
+each-some head xs (b ∷ rest) above t =
+    let s = t.0.some in
+    (omega (arith, s), each-some head (drop (size b) xs) rest above t.1)
+
+le-none : (n : ℕ) → 0 < n → nat_le n 0 ≡ false
+le-none n l = grind (arith, nat_tests, l)
+
+le-more : (n m : ℕ) → nat_le n (n + m) ≡ true
+le-more n m = grind (arith, nat_tests)
+
+first-gone : (gone rest : List Block) → Each IsSome rest → first_in (sizes gone) (gone ++ rest) ≡ gone
+first-gone [] [] s = refl
+first-gone [] (b ∷ rest) s = ap (λ v. cond v (b ∷ first_in (0 - size b) rest) []) (le-none (size b) s.0)
+first-gone (b ∷ gone) rest s =
+    let e : size b + sizes gone - size b ≡ sizes gone = omega arith in
+    ap (λ v. cond v (b ∷ first_in (size b + sizes gone - size b) (gone ++ rest)) []) (le-more (size b) (sizes gone))
+    ∙ ap (λ n. b ∷ first_in n (gone ++ rest)) e ∙ ap (λ l. b ∷ l) (first-gone gone rest s)
+
+left-rest : (gone rest : List Block) → Each IsSome rest → left_behind (sizes gone) (gone ++ rest) ≡ rest
+left-rest [] [] s = refl
+left-rest [] (b ∷ rest) s = ap (λ v. cond v (left_behind (0 - size b) rest) (b ∷ rest)) (le-none (size b) s.0)
+left-rest (b ∷ gone) rest s =
+    let e : size b + sizes gone - size b ≡ sizes gone = omega arith in
+    ap (λ v. cond v (left_behind (size b + sizes gone - size b) (gone ++ rest)) (b ∷ (gone ++ rest)))
+    (le-more (size b) (sizes gone))
+    ∙ ap (λ n. left_behind n (gone ++ rest)) e ∙ left-rest gone rest s
+
+module _ (lay : Lay) (gone rest : List Block) (split : gone ++ rest ≡ lay.run) where
+  -- cutting a run leaves all blocks
+  pub cut-same : lay.below ++ (gone ++ (rest ++ lay.above)) ≡ lay.below ++ (lay.run ++ lay.above)
+  cut-same = ap (λ l. lay.below ++ l) (sym (append_assoc gone rest lay.above) ∙ ap (λ l. l ++ lay.above) split)
+
+  pub cut-movers : movers lay.run ≡ movers gone ++ movers rest
+  cut-movers = ap movers (sym split) ∙ filter-append is_mover gone rest
+
+  pub cut-free : free_sum lay.run ≡ free_sum gone + free_sum rest
+  cut-free = ap free_sum (sym split) ∙ total-append free_of gone rest
+
+  pub cut-span : sizes lay.run ≡ sizes gone + sizes rest
+  cut-span = ap sizes (sym split) ∙ span-append gone rest
+
+  cut-falling : falling_from 0 lay.run ≡ falling_from 0 gone + falling_from (0 + free_sum gone) rest
+  cut-falling = ap (falling_from 0) (sym split) ∙ falling-append 0 gone rest
+
+  module _ (place stop : ℕ) (r : IsRun lay place stop) where
+    pub cut-run : (from : ℕ) → place + sizes gone ≡ from → IsRun (cut lay gone rest) place from
+    cut-run from t = record {
+      lies = subst (λ l. Lies lay.resource l lay.bytes) (sym cut-same) r.lies;
+      slots = subst HasSlots (sym cut-same) r.slots;
+      bottom = r.bottom;
+      top = t;
+      in_run = each-left InRun gone rest (subst (Each InRun) (sym split) r.in_run);
+      small = r.small;
+    }
+
+    module _ (gap from to moves : ℕ) (xs : List ℕ) (moved : List Block) (those : moved ≡ movers gone)
+        (q : PackingAt lay gap stop from to moves xs moved rest) where
+      pub cut-at : place + sizes gone ≡ from
+      cut-at =
+          let u = q.up in
+          let t = r.top in
+          let s = cut-span in
+          omega (arith, u, t, s)
+
+      cut-gap : from ≡ to + free_sum gone
+      cut-gap =
+          let f = q.free in
+          let s = cut-free in
+          omega (arith, f, s)
+
+      cut-packing : PackingAt (cut lay gone rest) gap from from to moves xs moved []
+      cut-packing =
+          let g = cut-gap in
+          let d = q.down in
+          record {
+            low = q.low;
+            high = q.high;
+            order = append-nil moved ∙ those;
+            free = omega (arith, g);
+            down = d;
+            up = omega arith;
+            whole = q.whole;
+            kept = q.kept;
+            in_run = tt;
+            lead_low = q.lead_low;
+            lead_moved = q.lead_moved;
+            lead_high = q.lead_high;
+            named = q.named ∙ ap names (sym cut-same);
+            count =
+                (let c = q.count in
+                let f = cut-falling in
+                let e : from - to ≡ 0 + free_sum gone = omega (arith, g) in
+                let h = ap (λ k. falling_from k rest) e in
+                omega (arith, c, f, h));
+            others = subst (λ l. SameOthers l lay.bytes xs) (sym cut-same) q.others;
+          }
+
+      cut-top : to ≡ place + sizes (movers gone)
+      cut-top =
+          let b = packed-bounds lay place stop r gap from to moves xs moved rest q in
+          let a = span-append lay.below moved in
+          let o = ap sizes those in
+          let w = r.bottom in
+          omega (arith, b, a, o, w)
+
+      module _ (enough : ℕ) (ended : (rest ≡ []) ⊎ ((place < to) × (enough ≤ from - to))) where
+        end : (rest ≡ []) ⊎ ((place < to) × (enough ≤ free_sum gone))
+        end = elim ended [
+          | inl n ↦ inl n
+          | inr e ↦ let g = cut-gap in inr (e.0, omega (arith, e.1, g))
+        ]
+
+        until-at : (ys : List ℕ) → Packed (cut lay gone rest) gap moves ys
+            → UntilAt lay place gap enough moves to from ys gone rest
+        until-at ys p = record {
+          split = split;
+          packed = p;
+          top_at = cut-top;
+          stop_at = sym cut-at;
+          ended = end;
+        }
+
+        bytes-gone : sizes gone ≡ from - sizes lay.below
+        bytes-gone = let b = r.bottom in let t = cut-at in omega (arith, b, t)
+
+        some-rest : Each IsSome rest
+        some-rest = each-some (head_of lay.resource) (drop from xs) rest lay.above q.high
+
+        gone-is : gone ≡ gone_to lay from
+        gone-is = sym (first-gone gone rest some-rest)
+            ∙ (let e = bytes-gone in ap (λ n. first_in n (gone ++ rest)) e)
+            ∙ ap (first_in (from - sizes lay.below)) split
+
+        rest-is : rest ≡ rest_from lay from
+        rest-is = sym (left-rest gone rest some-rest)
+            ∙ (let e = bytes-gone in ap (λ n. left_behind n (gone ++ rest)) e)
+            ∙ ap (left_behind (from - sizes lay.below)) split
+
+        until : (ys : List ℕ) → Packed (cut lay gone rest) gap moves ys → PackedUntil lay place gap enough moves to from ys
+        until ys p = subst (λ g. UntilAt lay place gap enough moves to from ys g (rest_from lay from)) gone-is
+            (subst (UntilAt lay place gap enough moves to from ys gone) rest-is (until-at ys p))
+
+        pub until-none : from ≤ to → PackedUntil lay place gap enough moves to from xs
+        until-none l = until xs (finish-none-at (cut lay gone rest) place from (cut-run from cut-at) gap from to moves xs
+            moved cut-packing refl l)
+
+        pub until-free : to < from → PackedUntil lay place gap enough moves to from (written to (word (from - to)) xs)
+        until-free l = until (written to (word (from - to)) xs) (finish-free-at (cut lay gone rest) place from
+            (cut-run from cut-at) gap from to moves xs moved cut-packing refl l)
+
+-- at the end of the run nothing is left
+pub none-left : (lay : Lay) (gap stop from to moves : ℕ) (xs : List ℕ) (moved rest : List Block)
+    → PackingAt lay gap stop from to moves xs moved rest → stop ≤ from → rest ≡ []
+none-left lay gap stop from to moves xs moved [] q l = refl
+none-left lay gap stop from to moves xs moved (b ∷ rest) q l =
+    let u = q.up in let s = q.high.0.some in absurd (omega (arith, u, s, l))
+
+-- a run without enough Free bytes is packed whole
+module _ (lay : Lay) (place gap enough moves top stop : ℕ) (xs : List ℕ) (gone rest : List Block)
+    (r : IsRun lay place (place + sizes lay.run)) (p : UntilAt lay place gap enough moves top stop xs gone rest) where
+  pub all-gone : length lay.bytes < enough → rest ≡ []
+  all-gone l = elim p.ended [
+    | inl n ↦ n
+    | inr e ↦
+        let b = run-bounds lay place (place + sizes lay.run) r in
+        let f = cut-free lay gone rest p.split in
+        let m = span-movers lay.run r.in_run in
+        absurd (omega (arith, l, e, b, f, m))
+  ]
+
+  module _ (n : rest ≡ []) where
+    all-of : gone ≡ lay.run
+    all-of = sym (append-nil gone) ∙ ap (λ l. gone ++ l) (sym n) ∙ p.split
+
+    pub whole-packed : Packed lay gap moves xs
+    whole-packed = subst (λ l. Packed (cut lay l []) gap moves xs) all-of
+        (subst (λ l. Packed (cut lay gone l) gap moves xs) n p.packed)
+
+    pub whole-top : top ≡ place + sizes (movers lay.run)
+    whole-top = p.top_at ∙ ap (λ l. place + sizes (movers l)) all-of
+
+    pub whole-stop : stop ≡ place + sizes lay.run
+    whole-stop = p.stop_at ∙ ap (λ l. place + sizes l) all-of
