@@ -13,7 +13,7 @@ use Rattle.block_store.specs.Block.{sizes}
 use Rattle.block_store.specs.Run.{movers, settle}
 use Rattle.zone_bytes.specs.Layout.{head_of, Tile, Tiles, names, Leads, Each}
 use Rattle.zone_bytes.specs.Settling.{falling_from, Lay, EndsRun, runs_on, IsRun, PackingAt, Packing, Packed}
-use Rattle.zone_bytes.proofs.Tiles.Tiling.{span-append, tiles-append, tiles-one, tiles-split}
+use Rattle.zone_bytes.proofs.Tiles.Tiling.{tiles-append, tiles-one, tiles-split}
 use Rattle.zone_bytes.proofs.Tiles.Heads.{first-reads, slot-reads, kind-small}
 use Rattle.zone_bytes.proofs.Tiles.Leading.{each-left, each-right, names-append, Clear, piece-clear, leads-written}
 use Rattle.zone_bytes.proofs.Runs.Packed.{run-bounds, slot-spot, all-clear, packed-bounds, slot-even, is-slot}

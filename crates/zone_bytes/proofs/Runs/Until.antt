@@ -10,8 +10,8 @@ use Rattle.windows.specs.Writes.{written}
 use Rattle.block_store.specs.Block.{Block, free_of, free_sum, is_mover, size, sizes}
 use Rattle.block_store.specs.Run.{movers}
 use Rattle.block_store.proofs.Zone.Totals.{total-append}
-use Rattle.zone_bytes.specs.Layout.{head_of, Tiles, names, Leads, Each}
-use Rattle.zone_bytes.specs.Settling.{falling_from, Lay, InRun, Lies, HasSlots, IsRun, SameOthers, PackingAt, Packing}
+use Rattle.zone_bytes.specs.Layout.{head_of, Tiles, names, Each}
+use Rattle.zone_bytes.specs.Settling.{falling_from, Lay, InRun, Lies, HasSlots, IsRun, SameOthers, PackingAt}
 use Rattle.zone_bytes.specs.Settling.{Packed, cut, first_in, left_behind, gone_to, rest_from, UntilAt, PackedUntil}
 use Rattle.zone_bytes.proofs.Tiles.Tiling.{span-append}
 use Rattle.zone_bytes.proofs.Tiles.Leading.{each-left}

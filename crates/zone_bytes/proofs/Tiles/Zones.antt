@@ -4,7 +4,7 @@ use Rattle.block_store.specs.Block.{Block, sizes}
 use Rattle.block_store.specs.Run.{RunSpot, settle}
 use Rattle.block_store.specs.Slot.{Slot, is_resource}
 use Rattle.zone_bytes.specs.Layout.{Each}
-use Rattle.zone_bytes.specs.Settling.{Lay, InRun, EndsRun, IsRun, Settled}
+use Rattle.zone_bytes.specs.Settling.{Lay, InRun, IsRun, Settled}
 use Rattle.zone_bytes.specs.Decode.{zone_in}
 use Rattle.zone_bytes.specs.Table.{Lays, slot_in, first_of}
 use Rattle.zone_bytes.proofs.Tiles.Spelling.{zone-of, slots-of}
@@ -30,25 +30,25 @@ lay_of spot xs = record {
 module _ (xs : List ℕ) (spot : RunSpot) (unused : List ℕ) (place stop : ℕ)
     (h : Lays xs (zone_in xs) (slot_in xs) unused) (z : zone_in xs ≡ spot.below ++ (spot.run ++ spot.above))
     (b : sizes spot.below ≡ place) (t : place + sizes spot.run ≡ stop) (r : Each InRun spot.run)
-    where
-  pub laid : Lays xs (spot.below ++ (spot.run ++ spot.above)) (slot_in xs) unused
-  laid = subst (λ k. Lays xs k (slot_in xs) unused) z h
+  where
+    pub laid : Lays xs (spot.below ++ (spot.run ++ spot.above)) (slot_in xs) unused
+    laid = subst (λ k. Lays xs k (slot_in xs) unused) z h
 
-  pub is-run : IsRun (lay_of spot xs) place stop
-  is-run = record { lies = laid.lies; slots = laid.has_slots; bottom = b; top = t; in_run = r; small = laid.small }
+    pub is-run : IsRun (lay_of spot xs) place stop
+    is-run = record { lies = laid.lies; slots = laid.has_slots; bottom = b; top = t; in_run = r; small = laid.small }
 
-  module _ (moves : ℕ) (new : List ℕ) (d : Settled (lay_of spot xs) moves new) where
-    pub after : Lays new (spot.below ++ (settle spot.run ++ spot.above)) (slot_in xs) unused
-    after = lays-settled (lay_of spot xs) place stop moves (slot_in xs) unused new refl is-run laid d
+    module _ (moves : ℕ) (new : List ℕ) (d : Settled (lay_of spot xs) moves new) where
+      pub after : Lays new (spot.below ++ (settle spot.run ++ spot.above)) (slot_in xs) unused
+      after = lays-settled (lay_of spot xs) place stop moves (slot_in xs) unused new refl is-run laid d
 
-    pub settled-lays : Lays new (zone_in new) (slot_in new) unused
-    settled-lays = respelled new (spot.below ++ (settle spot.run ++ spot.above)) (slot_in xs) unused after
+      pub settled-lays : Lays new (zone_in new) (slot_in new) unused
+      settled-lays = respelled new (spot.below ++ (settle spot.run ++ spot.above)) (slot_in xs) unused after
 
-    pub settled-zone : zone_in new ≡ spot.below ++ (settle spot.run ++ spot.above)
-    settled-zone = zone-of new (spot.below ++ (settle spot.run ++ spot.above)) (slot_in xs) unused after
+      pub settled-zone : zone_in new ≡ spot.below ++ (settle spot.run ++ spot.above)
+      settled-zone = zone-of new (spot.below ++ (settle spot.run ++ spot.above)) (slot_in xs) unused after
 
-    pub settled-slots : (s : ℕ) → slot_in new s ≡ slot_in xs s
-    settled-slots s = slots-of new (spot.below ++ (settle spot.run ++ spot.above)) (slot_in xs) unused after s
+      pub settled-slots : (s : ℕ) → slot_in new s ≡ slot_in xs s
+      settled-slots s = slots-of new (spot.below ++ (settle spot.run ++ spot.above)) (slot_in xs) unused after s
 
 -- a list of unused slots that isn't empty
 pub record SomeUnused (first : ℕ) (unused : List ℕ) : Type 0 where

@@ -1,4 +1,4 @@
-use Rattle.std.proofs.Common.{◌≡◌, ◌+◌, ◌<◌, refl, arith}
+use Rattle.std.proofs.Common.{◌<◌, refl, arith}
 use Rattle.zone_bytes.specs.Settling.{gone_to, rest_from}
 use Rattle.zone_bytes.proofs.Runs.Lifts.{gap-fits, none-lifted, none-stop, raise-part, upper-run, both-lifted, both-stop}
 use Rattle.zone_bytes.proofs.raising.raise_run.Given.{Over}
@@ -38,14 +38,16 @@ lift_blocks-requires g c =
 
 pub settle_above-requires : goal.settle_above-requires
 settle_above-requires g c =
-    let p = c.pack_until-packed.result in
-    (refl, (
-      upper-run g.lay c.args.place c.args.gap c.requires.1 c.requires.2 p.lowered p.top p.stop
-          c.pack_until-packed.new.part.bytes (gone_to g.lay p.stop) (rest_from g.lay p.stop)
-          c.pack_until-packed.ensures.packed (some g (goal.at.settle_above-requires g c).Else-packed-place)
-          c.lift_blocks.new.part.bytes c.lift_blocks.ensures.raised,
-      c.requires.2,
-    ))
+    let p = c.pack_until-packed.result in (
+      refl,
+      (
+        upper-run g.lay c.args.place c.args.gap c.requires.1 c.requires.2 p.lowered p.top p.stop
+            c.pack_until-packed.new.part.bytes (gone_to g.lay p.stop) (rest_from g.lay p.stop)
+            c.pack_until-packed.ensures.packed (some g (goal.at.settle_above-requires g c).Else-packed-place)
+            c.lift_blocks.new.part.bytes c.lift_blocks.ensures.raised,
+        c.requires.2,
+      ),
+    )
 
 pub returns-clause-lifted : goal.returns-clause-lifted
 returns-clause-lifted g c =
