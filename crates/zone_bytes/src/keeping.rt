@@ -32,6 +32,7 @@ const LEAST_PAGE: u32 = 256;
 pub struct Landmarks {
     marks: [Landmark; LANDMARKS],
     tops: [u32; GROUPS],
+    page: u32,
 }
 
 /// How many bytes a page has, of which a zone has no more than landmarks.
@@ -51,6 +52,7 @@ impl Landmarks {
         let mut landmarks = Landmarks {
             marks: [UNKNOWN; LANDMARKS],
             tops: [0; GROUPS],
+            page: LEAST_PAGE,
         };
         landmarks.renew_all(part);
         landmarks
@@ -63,6 +65,7 @@ impl Landmarks {
         ensures { AreOf self.new (zone_in part.now.bytes) }
     {
         let end = part.len() as u32;
+        self.page = page_bytes(part);
         self.marks.fill(Landmark { at: end, most: 0 });
         self.tops.fill(0);
         self.marks[0] = UNKNOWN;
@@ -70,12 +73,20 @@ impl Landmarks {
         self.renew(part, 0, end);
     }
 
+    /// The page of a place, where its landmark is likely to be.
+    fn page_of(&self, place: u32) -> usize {
+        match place.checked_div(self.page) {
+            Some(page) => page as usize,
+            None => 0,
+        }
+    }
+
     /// A landmark below a place; 0 where there is none.
     pub fn below(&self, place: u32) -> u32
         ensures below { (result < place) ⊎ (result ≡ 0) }
         ensures begins { (zone : List Block) → AreOf self.now zone → Begins result 0 zone }
     {
-        mark_below(&self.marks, place)
+        mark_below(&self.marks, place, self.page_of(place))
     }
 
     /// The place of the lowest Free block of at least so many bytes.
@@ -97,7 +108,8 @@ impl Landmarks {
         let page = page_bytes(part);
         if lo / page == hi / page {
             let free = free_behind(part, lo);
-            change_marks(&mut self.marks, &mut self.tops, part, lo, hi, free);
+            let likely = self.page_of(hi);
+            change_marks(&mut self.marks, &mut self.tops, part, lo, hi, free, likely);
         } else {
             self.forget(part, lo, hi);
             self.renew(part, lo, hi);
@@ -112,7 +124,16 @@ impl Landmarks {
             × AreOf self.old old }
         ensures { AreOf self.new (zone_in part.now.bytes) }
     {
-        change_marks(&mut self.marks, &mut self.tops, part, lo, hi, u32::MAX);
+        let likely = self.page_of(hi);
+        change_marks(
+            &mut self.marks,
+            &mut self.tops,
+            part,
+            lo,
+            hi,
+            u32::MAX,
+            likely,
+        );
     }
 
     /// Puts the landmarks of the pages from one place to another where their blocks are, by one walk over these.

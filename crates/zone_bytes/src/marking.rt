@@ -16,8 +16,26 @@ use crate::landmark::{GROUP, Landmark, UNKNOWN};
 use crate::measuring::{Measured, largest_between, measure_up_to, room_between};
 use raw_region::Part;
 
-/// The first landmark at or above a place, where they rise; their number where there is none.
-fn index_above(marks: &[Landmark], place: u32) -> usize
+/// Which landmark is to be looked at next, of those from one up to another: the one that is likely, or one just beside
+/// it; where it was not there either, the one in the middle.
+fn next_look(low: usize, high: usize, likely: usize) -> usize
+    requires { low < high }
+    ensures { (low ≤ result) × (result < high) }
+{
+    if low <= likely && likely < high {
+        likely
+    } else if likely < low && low - likely < 3 {
+        low
+    } else if high <= likely && likely - high < 2 {
+        high - 1
+    } else {
+        low + (high - low) / 2
+    }
+}
+
+/// The first landmark at or above a place, where they rise; their number where there is none. It is likely to be one
+/// of these.
+fn index_above(marks: &[Landmark], place: u32, likely: usize) -> usize
     ensures index { result ≤ length marks.now }
     ensures above { place ≤ next_of 4294967295 (drop result marks.now) }
     ensures below { 0 < result → (get_or marks.now (result - 1) (record { at = 0; most = 0 })).at < place }
@@ -25,7 +43,7 @@ fn index_above(marks: &[Landmark], place: u32) -> usize
     let mut low = 0;
     let mut high = marks.len();
     while low < high {
-        let middle = low + (high - low) / 2;
+        let middle = next_look(low, high, likely);
         if marks[middle].at < place {
             low = middle + 1;
         } else {
@@ -35,12 +53,12 @@ fn index_above(marks: &[Landmark], place: u32) -> usize
     low
 }
 
-/// A landmark below a place, the last one; 0 where there is none.
-pub fn mark_below(marks: &[Landmark], place: u32) -> u32
+/// A landmark below a place, the last one; 0 where there is none. It is likely to stand beside one of these.
+pub fn mark_below(marks: &[Landmark], place: u32, likely: usize) -> u32
     ensures below { (result < place) ⊎ (result ≡ 0) }
     ensures begins { (end : ℕ) (zone : List Block) → AreMarks end zone marks.now → Begins result 0 zone }
 {
-    let above = index_above(marks, place);
+    let above = index_above(marks, place, likely);
     if above == 0 {
         return 0;
     }
@@ -150,7 +168,7 @@ fn changed_mark(mark: Landmark, above: u32, part: &Part, lo: u32, hi: u32, free:
 }
 
 /// The landmarks once the blocks from one place to another became others: only those are touched whose stretches
-/// have some of these.
+/// have some of these. The last of them is likely to be the one that is named.
 pub fn change_marks(
     marks: &mut [Landmark],
     tops: &mut [u32],
@@ -158,6 +176,7 @@ pub fn change_marks(
     lo: u32,
     hi: u32,
     free: u32,
+    likely: usize,
 )
     requires sound { (first : ℕ) × (unused : ℕ) × IsSound part.now.bytes first unused }
     requires marks { (old : List Block) × Replaced lo hi old (zone_in part.now.bytes) × AreMarks 4294967295 old marks.old }
@@ -165,7 +184,7 @@ pub fn change_marks(
     ensures marks { AreMarks 4294967295 (zone_in part.now.bytes) marks.new }
     ensures tops { AreTops tops.new marks.new }
 {
-    let last = index_above(marks, hi);
+    let last = index_above(marks, hi, likely);
     let mut first = last;
     let mut above = place_of_mark(marks, last);
     while first > 0 && lo <= above {

@@ -4,9 +4,13 @@ use Rattle.zone_bytes.specs.Table.{slot_in}
 use Rattle.zone_bytes.specs.Marks.{AreMarks, AreTops}
 use Rattle.zone_bytes.specs.declared.landmark.Landmark.{Landmark}
 use Rattle.zone_bytes.proofs.Laws.Lawful.{sizes-length}
+use Rattle.zone_bytes.proofs.Places.AtPlace.{on-way}
 use Rattle.zone_bytes.proofs.Marks.Lowering.{unlaid-marks}
 use Rattle.zone_bytes.proofs.Marks.Tops.{same-tops}
 use Rattle.zone_bytes.proofs.keeping.Landmarks.renew_all.Goals as goal
+
+pub page_bytes-self-requires : goal.page_bytes-self-requires
+page_bytes-self-requires c = let i = c.requires.sound in on-way c.args.part.now.bytes i.0 i.1 i.2
 
 pub renew-requires-clause-marks : goal.renew-requires-clause-marks
 renew-requires-clause-marks c =
