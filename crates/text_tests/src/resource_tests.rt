@@ -1,26 +1,12 @@
 //! Calls of the Resource Manager from outside.
 
-use crate::script::{Script, read_script};
-use crate::transcript::{write_grow_reply, write_reply};
-use crate::word::Word;
+use crate::texts::{fault, script};
 use arrayvec::ArrayVec;
 use mac_words::{Call, Name, OsErr, OsType, Reply, ResourceCall};
+use script_text::{Word, write_grow_reply, write_reply};
 use std::alloc::Global;
 use std::process::Abort;
 use std::test::Fail;
-
-/// The line and the number of a script's fault; 0 and 0 where it has none.
-fn fault(alloc: Global, text: &[u8]) -> (usize, u8) {
-    match read_script(alloc, text) {
-        Ok(_) => (0, 0),
-        Err(fault) => (fault.line, fault.kind.number()),
-    }
-}
-
-/// The script that a text spells.
-fn script<R: Abort>(rt: &R, alloc: Global, text: &[u8]) -> Script {
-    read_script(alloc, text).ok().expect(rt, "a script")
-}
 
 /// The name of a resource.
 fn name<R: Abort>(rt: &R, letters: &[u8]) -> Name {
@@ -34,7 +20,7 @@ fn name<R: Abort>(rt: &R, letters: &[u8]) -> Name {
 #[test]
 fn reads_each_call(rt: HostRuntime) -> Result<(), Fail> {
     let alloc = rt.alloc();
-    let cases: [(&[u8], Word); 29] = [
+    const CASES: &[(&[u8], Word)] = &[
         (b"OpenResFile \"Doc\"", Word::OpenResFile),
         (b"CreateResFile \"Doc\"", Word::CreateResFile),
         (b"CloseResFile 3", Word::CloseResFile),
@@ -68,11 +54,11 @@ fn reads_each_call(rt: HostRuntime) -> Result<(), Fail> {
         (b"SetResLoad TRUE", Word::SetResLoad),
         (b"ResError", Word::ResError),
     ];
-    for (text, word) in cases {
+    for (text, word) in CASES {
         let script = script(&rt, alloc, text);
         assert_eq!(rt; script.steps().len(), 1);
         for line in script.steps() {
-            assert_eq!(rt; Word::of(&line.call), word);
+            assert_eq!(rt; Word::of(&line.call), *word);
         }
     }
     Ok(())
@@ -81,7 +67,7 @@ fn reads_each_call(rt: HostRuntime) -> Result<(), Fail> {
 #[test]
 fn reads_types_and_ids(rt: HostRuntime) -> Result<(), Fail> {
     let alloc = rt.alloc();
-    let cases: [(&[u8], [u8; 4], i16); 8] = [
+    const CASES: &[(&[u8], [u8; 4], i16)] = &[
         (b"GetResource h 'STR ' -32768", *b"STR ", -32768),
         (b"GetResource h 'STR#'\t32767 ", *b"STR#", 32767),
         (b"GetResource h '''''' -0", *b"''''", 0),
@@ -91,14 +77,14 @@ fn reads_types_and_ids(rt: HostRuntime) -> Result<(), Fail> {
         (b"GetResource h $53545220 1", *b"STR ", 1),
         (b"GetResource h $00fFAb27 1", [0, 255, 171, 39], 1),
     ];
-    for (text, ty, id) in cases {
+    for (text, ty, id) in CASES {
         let script = script(&rt, alloc, text);
         assert_eq!(rt; script.steps().len(), 1);
         for line in script.steps() {
             match &line.call {
                 Call::Resource(ResourceCall::GetResource(_, found, number)) => {
-                    assert_eq!(rt; *found, OsType(ty));
-                    assert_eq!(rt; *number, id);
+                    assert_eq!(rt; *found, OsType(*ty));
+                    assert_eq!(rt; *number, *id);
                 }
                 _ => assert!(rt; false),
             }
@@ -171,7 +157,7 @@ SetResAttrs h 255
 #[test]
 fn refuses_bad_arguments(rt: HostRuntime) -> Result<(), Fail> {
     let alloc = rt.alloc();
-    let cases: [&[u8]; 30] = [
+    const CASES: &[&[u8]] = &[
         // types
         b"Count1Resources",
         b"Count1Resources STR#",
@@ -207,7 +193,7 @@ fn refuses_bad_arguments(rt: HostRuntime) -> Result<(), Fail> {
         b"Get1IndType 2147483648",
         b"ResError 0",
     ];
-    for text in cases {
+    for text in CASES {
         assert_eq!(rt; fault(alloc, text), (1, 2));
     }
     Ok(())
@@ -216,7 +202,7 @@ fn refuses_bad_arguments(rt: HostRuntime) -> Result<(), Fail> {
 #[test]
 fn refuses_bad_arguments_of_what_is_to_be_changed(rt: HostRuntime) -> Result<(), Fail> {
     let alloc = rt.alloc();
-    let cases: [&[u8]; 28] = [
+    const CASES: &[&[u8]] = &[
         b"CreateResFile",
         b"CreateResFile \"\"",
         b"CreateResFile Doc",
@@ -246,7 +232,7 @@ fn refuses_bad_arguments_of_what_is_to_be_changed(rt: HostRuntime) -> Result<(),
         b"SetResAttrs h -1",
         b"SetResAttrs h $10",
     ];
-    for text in cases {
+    for text in CASES {
         assert_eq!(rt; fault(alloc, text), (1, 2));
     }
     Ok(())
@@ -266,7 +252,7 @@ fn line_of(alloc: Global, front: &[u8], bytes: usize) -> Result<Vec<u8>, Fail> {
 #[test]
 fn reads_files_of_63_and_names_of_255_bytes(rt: HostRuntime) -> Result<(), Fail> {
     let alloc = rt.alloc();
-    let cases: [(&[u8], usize, u8); 12] = [
+    const CASES: &[(&[u8], usize, u8)] = &[
         (b"OpenResFile ", 1, 0),
         (b"OpenResFile ", 63, 0),
         (b"OpenResFile ", 64, 2),
@@ -280,8 +266,8 @@ fn reads_files_of_63_and_names_of_255_bytes(rt: HostRuntime) -> Result<(), Fail>
         (b"SetResInfo h 128 ", 255, 0),
         (b"SetResInfo h 128 ", 256, 2),
     ];
-    for (front, bytes, want) in cases {
-        assert_eq!(rt; fault(alloc, &line_of(alloc, front, bytes)?).1, want);
+    for (front, bytes, want) in CASES {
+        assert_eq!(rt; fault(alloc, &line_of(alloc, front, *bytes)?).1, *want);
     }
     Ok(())
 }
@@ -289,7 +275,7 @@ fn reads_files_of_63_and_names_of_255_bytes(rt: HostRuntime) -> Result<(), Fail>
 #[test]
 fn reads_them_in_grow_zone_scripts(rt: HostRuntime) -> Result<(), Fail> {
     let alloc = rt.alloc();
-    let cases: [(&[u8], (usize, u8)); 16] = [
+    const CASES: &[(&[u8], (usize, u8))] = &[
         (b"grow g\nReleaseResource h\nend", (0, 0)),
         (b"grow g\nReleaseResource\nend", (2, 2)),
         (b"grow g\nReleaseResource 'STR '\nend", (2, 2)),
@@ -307,8 +293,8 @@ fn reads_them_in_grow_zone_scripts(rt: HostRuntime) -> Result<(), Fail> {
         (b"grow g\nSetResAttrs h 0\nend", (2, 3)),
         (b"grow g\nSetResAttrs h 256\nend", (2, 3)),
     ];
-    for (text, want) in cases {
-        assert_eq!(rt; fault(alloc, text), want);
+    for (text, want) in CASES {
+        assert_eq!(rt; fault(alloc, text), *want);
     }
     Ok(())
 }
@@ -327,7 +313,7 @@ fn writes_types_and_names(rt: HostRuntime) -> Result<(), Fail> {
     write_reply(&mut text, 4, Word::GetResInfo, &unnamed, None)?;
     write_grow_reply(&mut text, 5, Word::ReleaseResource, &refused, None)?;
     let done = Reply::of(OsErr::NO_ERR);
-    for word in [
+    const DONE: &[Word] = &[
         Word::CreateResFile,
         Word::UpdateResFile,
         Word::AddResource,
@@ -335,8 +321,9 @@ fn writes_types_and_names(rt: HostRuntime) -> Result<(), Fail> {
         Word::ChangedResource,
         Word::WriteResource,
         Word::SetResInfo,
-    ] {
-        write_reply(&mut text, 6, word, &done, None)?;
+    ];
+    for word in DONE {
+        write_reply(&mut text, 6, *word, &done, None)?;
     }
     write_reply(&mut text, 7, Word::SetResAttrs, &refused, None)?;
     assert_eq!(rt;

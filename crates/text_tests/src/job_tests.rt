@@ -1,10 +1,12 @@
 //! Jobs, and the lines of desk.log, from outside.
 
-use crate::desk_log::{write_app_end, write_app_fork, write_app_launch, write_app_refusal};
-use crate::job::{Event, Input, JobText, read_job};
 use arrayvec::ArrayVec;
 use itoa::Buffer;
 use mac_words::{FileName, Label, OsErr};
+use script_text::{
+    Event, Input, JobText, read_job, write_app_end, write_app_fork, write_app_launch,
+    write_app_refusal,
+};
 use std::alloc::Global;
 use std::process::Abort;
 use std::test::Fail;
@@ -39,25 +41,25 @@ quit two
 fn reads_inputs_in_order(rt: HostRuntime) -> Result<(), Fail> {
     let job = job(&rt, rt.alloc(), TWO);
     assert_eq!(rt; job.memory, 4096);
-    let wanted: [(&[u8], &str, &str); 4] = [
+    const WANTED: &[(&[u8], &str, &str)] = &[
         (b"one", "one.rsrc", "one.script"),
         (b"", "System", ""),
         (b"two", "", "two.script"),
         (b"Doc", "doc.rsrc", ""),
     ];
     assert_eq!(rt; job.inputs.len(), 4);
-    for (input, (letters, first, second)) in job.inputs.iter().zip(wanted) {
+    for (input, (letters, first, second)) in job.inputs.iter().zip(WANTED) {
         match input {
-            Input::System { path } => assert_eq!(rt; *path, first),
+            Input::System { path } => assert_eq!(rt; *path, *first),
             Input::App { name, fork, script } => {
-                assert_eq!(rt; name.0.as_slice(), letters);
-                assert_eq!(rt; *fork, first);
-                assert_eq!(rt; *script, second);
+                assert_eq!(rt; name.0.as_slice(), *letters);
+                assert_eq!(rt; *fork, *first);
+                assert_eq!(rt; *script, *second);
             }
             Input::File { app, name, path } => {
                 assert_eq!(rt; *app, 1);
-                assert_eq!(rt; name.0.as_slice(), letters);
-                assert_eq!(rt; *path, first);
+                assert_eq!(rt; name.0.as_slice(), *letters);
+                assert_eq!(rt; *path, *first);
             }
         }
     }
@@ -67,21 +69,21 @@ fn reads_inputs_in_order(rt: HostRuntime) -> Result<(), Fail> {
 #[test]
 fn reads_events_in_order(rt: HostRuntime) -> Result<(), Fail> {
     let job = job(&rt, rt.alloc(), TWO);
-    let wanted = [
+    const WANTED: &[Event] = &[
         Event::Launch(1),
         Event::Step(0),
         Event::Turn(0),
         Event::Rest,
         Event::Quit(1),
     ];
-    assert_eq!(rt; job.events.as_slice(), wanted.as_slice());
+    assert_eq!(rt; job.events.as_slice(), WANTED);
     Ok(())
 }
 
 #[test]
 fn tells_the_first_faulty_line(rt: HostRuntime) -> Result<(), Fail> {
     let alloc = rt.alloc();
-    let cases: [(&[u8], (usize, u8)); 18] = [
+    const CASES: &[(&[u8], (usize, u8))] = &[
         // nothing to read
         (b"\n# memory 512\n", (1, 2)),
         // the memory
@@ -107,8 +109,8 @@ fn tells_the_first_faulty_line(rt: HostRuntime) -> Result<(), Fail> {
         (b"memory 512\nlaunch a", (2, 2)),
         (b"memory 512\napp a \"\" \"\"\nlaunch b\nfoo", (3, 2)),
     ];
-    for (text, want) in cases {
-        assert_eq!(rt; fault(alloc, text), want);
+    for (text, want) in CASES {
+        assert_eq!(rt; fault(alloc, text), *want);
     }
     Ok(())
 }

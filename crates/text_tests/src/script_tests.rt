@@ -1,32 +1,20 @@
 //! Scripts and transcripts from outside.
 
-use crate::fault::{FaultKind, ScriptFault};
-use crate::script::{Line, Script, read_script};
-use crate::transcript::{write_end, write_grow_reply, write_launch, write_reply};
-use crate::word::{CALLS, WORDS, Word, words_are_apart};
+use crate::texts::{fault, script};
 use arrayvec::ArrayVec;
 use mac_words::{Call, HeapCall, Label, Name, OsErr, OsType, Reply};
+use script_text::{
+    CALLS, FaultKind, Line, ScriptFault, Word, words_are_apart, write_end, write_grow_reply,
+    write_launch, write_reply,
+};
 use std::alloc::Global;
 use std::process::Abort;
 use std::test::Fail;
 
-/// The line and the number of a script's fault; 0 and 0 where it has none.
-fn fault(alloc: Global, text: &[u8]) -> (usize, u8) {
-    match read_script(alloc, text) {
-        Ok(_) => (0, 0),
-        Err(fault) => (fault.line, fault.kind.number()),
-    }
-}
-
-/// The script that a text spells.
-fn script<R: Abort>(rt: &R, alloc: Global, text: &[u8]) -> Script {
-    read_script(alloc, text).ok().expect(rt, "a script")
-}
-
 #[test]
 fn tells_the_first_faulty_line(rt: HostRuntime) -> Result<(), Fail> {
     let alloc = rt.alloc();
-    let cases: [(&[u8], (usize, u8)); 12] = [
+    const CASES: &[(&[u8], (usize, u8))] = &[
         (b"", (0, 0)),
         (b"\n\n", (0, 0)),
         (b"Foo", (1, 1)),
@@ -40,8 +28,8 @@ fn tells_the_first_faulty_line(rt: HostRuntime) -> Result<(), Fail> {
         (b"FreeMem\r", (1, 1)),
         (b"FreeMem\r\r\n", (1, 1)),
     ];
-    for (text, want) in cases {
-        assert_eq!(rt; fault(alloc, text), want);
+    for (text, want) in CASES {
+        assert_eq!(rt; fault(alloc, text), *want);
     }
     Ok(())
 }
@@ -49,7 +37,7 @@ fn tells_the_first_faulty_line(rt: HostRuntime) -> Result<(), Fail> {
 #[test]
 fn tells_faults_of_grow_zone_scripts(rt: HostRuntime) -> Result<(), Fail> {
     let alloc = rt.alloc();
-    let cases: [(&[u8], (usize, u8)); 24] = [
+    const CASES: &[(&[u8], (usize, u8))] = &[
         (b"grow g\nend\n", (0, 0)),
         (
             b"grow g\n\n# EmptyHandle\n EmptyHandle a\nend\nSetGrowZone g",
@@ -82,8 +70,8 @@ fn tells_faults_of_grow_zone_scripts(rt: HostRuntime) -> Result<(), Fail> {
         (b"SetGrowZone g\nSetGrowZone h\ngrow g\n", (2, 2)),
         (b"SetGrowZone g\nFreeMem\nFoo\n", (3, 1)),
     ];
-    for (text, want) in cases {
-        assert_eq!(rt; fault(alloc, text), want);
+    for (text, want) in CASES {
+        assert_eq!(rt; fault(alloc, text), *want);
     }
     Ok(())
 }
@@ -106,6 +94,15 @@ fn label<R: Abort>(rt: &R, letters: &[u8]) -> Label {
     )
 }
 
+/// Checks where the lines stand in their script, and their words.
+fn stand_so<R: Abort>(rt: &R, lines: &[Line], words: &[(usize, Word)]) {
+    assert_eq!(rt; lines.len(), words.len());
+    for (line, word) in lines.iter().zip(words) {
+        assert_eq!(rt; line.number, word.0);
+        assert_eq!(rt; Word::of(&line.call), word.1);
+    }
+}
+
 #[test]
 fn reads_grow_zone_scripts(rt: HostRuntime) -> Result<(), Fail> {
     let alloc = rt.alloc();
@@ -121,25 +118,16 @@ end
 WaitNextEvent
 ";
     let script = script(&rt, alloc, text);
-    let wanted: [(&[Line], &[(usize, Word)]); 5] = [
-        (
-            script.steps(),
-            &[(1, Word::SetGrowZone), (10, Word::WaitNextEvent)],
-        ),
-        (script.block(&label(&rt, b"h")), &[]),
-        (
-            script.block(&label(&rt, b"g")),
-            &[(7, Word::EmptyHandle), (8, Word::DisposePtr)],
-        ),
-        (script.block(&label(&rt, b"none")), &[]),
-        (script.block(&label(&rt, b"a")), &[]),
+    const STEPS: &[(usize, Word)] = &[(1, Word::SetGrowZone), (10, Word::WaitNextEvent)];
+    const BLOCKS: &[(&[u8], &[(usize, Word)])] = &[
+        (b"h", &[]),
+        (b"g", &[(7, Word::EmptyHandle), (8, Word::DisposePtr)]),
+        (b"none", &[]),
+        (b"a", &[]),
     ];
-    for (lines, words) in wanted {
-        assert_eq!(rt; lines.len(), words.len());
-        for (line, word) in lines.iter().zip(words) {
-            assert_eq!(rt; line.number, word.0);
-            assert_eq!(rt; Word::of(&line.call), word.1);
-        }
+    stand_so(&rt, script.steps(), STEPS);
+    for (letters, words) in BLOCKS {
+        stand_so(&rt, script.block(&label(&rt, letters)), words);
     }
     Ok(())
 }
@@ -147,7 +135,7 @@ WaitNextEvent
 #[test]
 fn reads_numbers_and_bytes(rt: HostRuntime) -> Result<(), Fail> {
     let alloc = rt.alloc();
-    let cases: [(&[u8], u8); 20] = [
+    const CASES: &[(&[u8], u8)] = &[
         (b"NewHandle a 2147483647", 0),
         (b"NewHandle a 2147483648", 2),
         (b"NewHandle a 0000000005", 0),
@@ -169,8 +157,8 @@ fn reads_numbers_and_bytes(rt: HostRuntime) -> Result<(), Fail> {
         (b"Put a 1 $4g", 2),
         (b"Put a 1 Hi", 2),
     ];
-    for (text, want) in cases {
-        assert_eq!(rt; fault(alloc, text).1, want);
+    for (text, want) in CASES {
+        assert_eq!(rt; fault(alloc, text).1, *want);
     }
     Ok(())
 }
@@ -221,21 +209,14 @@ fn reads_lines_in_order(rt: HostRuntime) -> Result<(), Fail> {
     let script = script(&rt, alloc, text);
     let lines = script.steps();
     assert_eq!(rt; lines.len(), 5);
-    let numbers = [1, 2, 6, 7, 8];
-    let words = [
-        Word::NewHandle,
-        Word::Put,
-        Word::Put,
-        Word::FreeMem,
-        Word::Where,
+    const WANTED: &[(usize, Word)] = &[
+        (1, Word::NewHandle),
+        (2, Word::Put),
+        (6, Word::Put),
+        (7, Word::FreeMem),
+        (8, Word::Where),
     ];
-    let mut at = 0;
-    for line in lines {
-        assert!(rt; at < 5);
-        assert_eq!(rt; line.number, numbers[at]);
-        assert_eq!(rt; Word::of(&line.call), words[at]);
-        at += 1;
-    }
+    stand_so(&rt, lines, WANTED);
     Ok(())
 }
 
@@ -352,6 +333,80 @@ fn spells_words(rt: HostRuntime) -> Result<(), Fail> {
 
 #[test]
 fn lists_each_call(rt: HostRuntime) -> Result<(), Fail> {
+    const WORDS: [Word; 72] = [
+        Word::NewHandle,
+        Word::NewEmptyHandle,
+        Word::DisposeHandle,
+        Word::GetHandleSize,
+        Word::SetHandleSize,
+        Word::ReallocateHandle,
+        Word::EmptyHandle,
+        Word::HLock,
+        Word::HUnlock,
+        Word::HPurge,
+        Word::HNoPurge,
+        Word::HGetState,
+        Word::HSetState,
+        Word::MoveHHi,
+        Word::HLockHi,
+        Word::HandToHand,
+        Word::HandAndHand,
+        Word::PtrAndHand,
+        Word::NewPtr,
+        Word::DisposePtr,
+        Word::GetPtrSize,
+        Word::SetPtrSize,
+        Word::FreeMem,
+        Word::MaxBlock,
+        Word::PurgeSpace,
+        Word::CompactMem,
+        Word::PurgeMem,
+        Word::MaxMem,
+        Word::ReserveMem,
+        Word::MoreMasters,
+        Word::MemError,
+        Word::SetGrowZone,
+        Word::OpenResFile,
+        Word::CreateResFile,
+        Word::CloseResFile,
+        Word::UpdateResFile,
+        Word::UseResFile,
+        Word::CurResFile,
+        Word::HomeResFile,
+        Word::GetResource,
+        Word::Get1Resource,
+        Word::GetNamedResource,
+        Word::Get1NamedResource,
+        Word::Count1Types,
+        Word::Get1IndType,
+        Word::Count1Resources,
+        Word::Get1IndResource,
+        Word::LoadResource,
+        Word::ReleaseResource,
+        Word::DetachResource,
+        Word::AddResource,
+        Word::RemoveResource,
+        Word::ChangedResource,
+        Word::WriteResource,
+        Word::GetResInfo,
+        Word::SetResInfo,
+        Word::GetResAttrs,
+        Word::SetResAttrs,
+        Word::GetResourceSizeOnDisk,
+        Word::SetResLoad,
+        Word::ResError,
+        Word::LoadSeg,
+        Word::UnloadSeg,
+        Word::CallEntry,
+        Word::ShowEntry,
+        Word::Put,
+        Word::Show,
+        Word::PutPtr,
+        Word::ShowPtr,
+        Word::Where,
+        Word::WaitNextEvent,
+        Word::ExitToShell,
+    ];
     for word in WORDS {
         let mut found = 0u64;
         for line in CALLS.lines() {
@@ -371,7 +426,7 @@ fn lists_each_call(rt: HostRuntime) -> Result<(), Fail> {
         }
     }
     assert_eq!(rt; listed, 74);
-    for line in [
+    const LINES: &[&str] = &[
         "  NewHandle h size\n",
         "  HandToHand b a\n",
         "  Put h offset bytes\n",
@@ -388,7 +443,8 @@ fn lists_each_call(rt: HostRuntime) -> Result<(), Fail> {
         "Turns:\n  WaitNextEvent\n  ExitToShell\n",
         "  grow NAME .. end,",
         "    EmptyHandle DisposeHandle DisposePtr HPurge HNoPurge HUnlock ReleaseResource UnloadSeg\n",
-    ] {
+    ];
+    for line in LINES {
         assert!(rt; CALLS.contains(line), "at {line}");
     }
     Ok(())
