@@ -1,5 +1,6 @@
 //! Jobs, and the lines of desk.log, from outside.
 
+use crate::texts::is_bytes;
 use arrayvec::ArrayVec;
 use itoa::Buffer;
 use mac_words::{FileName, Label, OsErr};
@@ -37,6 +38,28 @@ rest
 quit two
 ";
 
+/// Checks that a text is the one that is wanted.
+fn is_text<R: Abort>(rt: &R, text: &str, wanted: &str) {
+    assert_eq!(rt; text, wanted);
+}
+
+/// Checks an input's name and paths.
+fn is_input<R: Abort>(rt: &R, input: &Input, letters: &[u8], first: &str, second: &str) {
+    match input {
+        Input::System { path } => is_text(rt, path, first),
+        Input::App { name, fork, script } => {
+            is_bytes(rt, name.0.as_slice(), letters);
+            is_text(rt, fork, first);
+            is_text(rt, script, second);
+        }
+        Input::File { app, name, path } => {
+            assert_eq!(rt; *app, 1);
+            is_bytes(rt, name.0.as_slice(), letters);
+            is_text(rt, path, first);
+        }
+    }
+}
+
 #[test]
 fn reads_inputs_in_order(rt: HostRuntime) -> Result<(), Fail> {
     let job = job(&rt, rt.alloc(), TWO);
@@ -49,19 +72,7 @@ fn reads_inputs_in_order(rt: HostRuntime) -> Result<(), Fail> {
     ];
     assert_eq!(rt; job.inputs.len(), 4);
     for (input, (letters, first, second)) in job.inputs.iter().zip(WANTED) {
-        match input {
-            Input::System { path } => assert_eq!(rt; *path, *first),
-            Input::App { name, fork, script } => {
-                assert_eq!(rt; name.0.as_slice(), *letters);
-                assert_eq!(rt; *fork, *first);
-                assert_eq!(rt; *script, *second);
-            }
-            Input::File { app, name, path } => {
-                assert_eq!(rt; *app, 1);
-                assert_eq!(rt; name.0.as_slice(), *letters);
-                assert_eq!(rt; *path, *first);
-            }
-        }
+        is_input(&rt, input, letters, first, second);
     }
     Ok(())
 }
@@ -126,31 +137,24 @@ fn job_of(alloc: Global, line: &[u8], paths: &[u8], count: u32) -> Result<Vec<u8
     Ok(text)
 }
 
+/// The line and the number of the fault of such a job; 0 and 0 where it has none.
+fn fault_of(alloc: Global, line: &[u8], paths: &[u8], count: u32) -> Result<(usize, u8), Fail> {
+    Ok(fault(alloc, &job_of(alloc, line, paths, count)?))
+}
+
 #[test]
 fn refuses_a_65th_application(rt: HostRuntime) -> Result<(), Fail> {
     let alloc = rt.alloc();
-    assert_eq!(rt;
-        fault(alloc, &job_of(alloc, b"app a", b" \"\" \"\"\n", 63)?),
-        (0, 0)
-    );
-    assert_eq!(rt;
-        fault(alloc, &job_of(alloc, b"app a", b" \"\" \"\"\n", 64)?),
-        (66, 2)
-    );
+    assert_eq!(rt; fault_of(alloc, b"app a", b" \"\" \"\"\n", 63)?, (0, 0));
+    assert_eq!(rt; fault_of(alloc, b"app a", b" \"\" \"\"\n", 64)?, (66, 2));
     Ok(())
 }
 
 #[test]
 fn refuses_a_256th_file(rt: HostRuntime) -> Result<(), Fail> {
     let alloc = rt.alloc();
-    assert_eq!(rt;
-        fault(alloc, &job_of(alloc, b"file z \"", b"\" \"\"\n", 255)?),
-        (0, 0)
-    );
-    assert_eq!(rt;
-        fault(alloc, &job_of(alloc, b"file z \"", b"\" \"\"\n", 256)?),
-        (258, 2)
-    );
+    assert_eq!(rt; fault_of(alloc, b"file z \"", b"\" \"\"\n", 255)?, (0, 0));
+    assert_eq!(rt; fault_of(alloc, b"file z \"", b"\" \"\"\n", 256)?, (258, 2));
     Ok(())
 }
 

@@ -1,10 +1,10 @@
 //! Calls of the Resource Manager from outside.
 
-use crate::texts::{fault, script};
+use crate::texts::{fault, is_bytes, is_number, script};
 use arrayvec::ArrayVec;
 use mac_words::{Call, Name, OsErr, OsType, Reply, ResourceCall};
 use script_text::{Word, write_grow_reply, write_reply};
-use std::alloc::Global;
+use std::alloc::{AllocError, Global};
 use std::process::Abort;
 use std::test::Fail;
 
@@ -64,6 +64,11 @@ fn reads_each_call(rt: HostRuntime) -> Result<(), Fail> {
     Ok(())
 }
 
+/// Checks that a type is the one that is wanted.
+fn is_type<R: Abort>(rt: &R, ty: &OsType, wanted: [u8; 4]) {
+    assert_eq!(rt; *ty, OsType(wanted));
+}
+
 #[test]
 fn reads_types_and_ids(rt: HostRuntime) -> Result<(), Fail> {
     let alloc = rt.alloc();
@@ -83,14 +88,29 @@ fn reads_types_and_ids(rt: HostRuntime) -> Result<(), Fail> {
         for line in script.steps() {
             match &line.call {
                 Call::Resource(ResourceCall::GetResource(_, found, number)) => {
-                    assert_eq!(rt; *found, OsType(*ty));
-                    assert_eq!(rt; *number, *id);
+                    is_type(&rt, found, *ty);
+                    is_number(&rt, *number as i64, *id as i64);
                 }
                 _ => assert!(rt; false),
             }
         }
     }
     Ok(())
+}
+
+/// Checks the arguments of a call that names a file, a resource or a switch.
+fn has_text<R: Abort>(rt: &R, call: &ResourceCall) {
+    match call {
+        ResourceCall::OpenResFile(file) => is_bytes(rt, file.0.as_slice(), b"My Doc"),
+        ResourceCall::GetNamedResource(_, _, text) => is_bytes(rt, text.0.as_slice(), b""),
+        ResourceCall::Get1NamedResource(label, ty, text) => {
+            is_bytes(rt, label.0.as_slice(), b"_");
+            is_type(rt, ty, *b"STR ");
+            is_bytes(rt, text.0.as_slice(), b"No");
+        }
+        ResourceCall::SetResLoad(on) => assert!(rt; !*on),
+        _ => assert!(rt; false),
+    }
 }
 
 #[test]
@@ -102,22 +122,32 @@ fn reads_files_names_and_switches(rt: HostRuntime) -> Result<(), Fail> {
     assert_eq!(rt; script.steps().len(), 4);
     for line in script.steps() {
         match &line.call {
-            Call::Resource(ResourceCall::OpenResFile(file)) => {
-                assert_eq!(rt; file.0.as_slice(), b"My Doc".as_slice());
-            }
-            Call::Resource(ResourceCall::GetNamedResource(_, _, text)) => {
-                assert_eq!(rt; text.0.as_slice(), b"".as_slice());
-            }
-            Call::Resource(ResourceCall::Get1NamedResource(label, ty, text)) => {
-                assert_eq!(rt; label.0.as_slice(), b"_".as_slice());
-                assert_eq!(rt; *ty, OsType(*b"STR "));
-                assert_eq!(rt; text.0.as_slice(), b"No".as_slice());
-            }
-            Call::Resource(ResourceCall::SetResLoad(on)) => assert!(rt; !*on),
+            Call::Resource(call) => has_text(&rt, call),
             _ => assert!(rt; false),
         }
     }
     Ok(())
+}
+
+/// Checks the arguments of a call that changes a file or a resource.
+fn has_change<R: Abort>(rt: &R, call: &ResourceCall) {
+    match call {
+        ResourceCall::CreateResFile(file) => is_bytes(rt, file.0.as_slice(), b"My Doc"),
+        ResourceCall::UpdateResFile(number) => is_number(rt, *number as i64, 7),
+        ResourceCall::AddResource(label, ty, id, text) => {
+            is_bytes(rt, label.0.as_slice(), b"h");
+            is_type(rt, ty, *b"STR#");
+            is_number(rt, *id as i64, -128);
+            is_bytes(rt, text.0.as_slice(), b"a ");
+        }
+        ResourceCall::SetResInfo(label, id, text) => {
+            is_bytes(rt, label.0.as_slice(), b"_");
+            is_number(rt, *id as i64, 32767);
+            is_bytes(rt, text.0.as_slice(), b"");
+        }
+        ResourceCall::SetResAttrs(_, byte) => is_number(rt, *byte as i64, 255),
+        _ => assert!(rt; false),
+    }
 }
 
 #[test]
@@ -133,21 +163,7 @@ SetResAttrs h 255
     assert_eq!(rt; script.steps().len(), 5);
     for line in script.steps() {
         match &line.call {
-            Call::Resource(ResourceCall::CreateResFile(file)) => {
-                assert_eq!(rt; file.0.as_slice(), b"My Doc".as_slice());
-            }
-            Call::Resource(ResourceCall::UpdateResFile(number)) => assert_eq!(rt; *number, 7),
-            Call::Resource(ResourceCall::AddResource(label, ty, id, text)) => {
-                assert_eq!(rt; label.0.as_slice(), b"h".as_slice());
-                assert_eq!(rt; (*ty, *id), (OsType(*b"STR#"), -128));
-                assert_eq!(rt; text.0.as_slice(), b"a ".as_slice());
-            }
-            Call::Resource(ResourceCall::SetResInfo(label, id, text)) => {
-                assert_eq!(rt; label.0.as_slice(), b"_".as_slice());
-                assert_eq!(rt; *id, 32767);
-                assert_eq!(rt; text.0.as_slice(), b"".as_slice());
-            }
-            Call::Resource(ResourceCall::SetResAttrs(_, byte)) => assert_eq!(rt; *byte, 255),
+            Call::Resource(call) => has_change(&rt, call),
             _ => assert!(rt; false),
         }
     }
@@ -299,19 +315,21 @@ fn reads_them_in_grow_zone_scripts(rt: HostRuntime) -> Result<(), Fail> {
     Ok(())
 }
 
-#[test]
-fn writes_types_and_names(rt: HostRuntime) -> Result<(), Fail> {
-    let alloc = rt.alloc();
-    let mut text = Vec::new(alloc);
+/// Appends what calls show that find or refuse.
+fn write_found<R: Abort>(rt: &R, text: &mut Vec<u8>) -> Result<(), AllocError> {
     let ty = OsType(*b"STR ");
-    let noted = Reply::info(-128, ty, name(&rt, b"Note"));
-    let unnamed = Reply::info(32767, OsType([0, 255, 171, 39]), name(&rt, b""));
+    let noted = Reply::info(-128, ty, name(rt, b"Note"));
+    let unnamed = Reply::info(32767, OsType([0, 255, 171, 39]), name(rt, b""));
     let refused = Reply::of(OsErr::RES_NOT_FOUND);
-    write_reply(&mut text, 1, Word::Count1Types, &Reply::count(2), None)?;
-    write_reply(&mut text, 2, Word::Get1IndType, &Reply::kind(ty), None)?;
-    write_reply(&mut text, 3, Word::GetResInfo, &noted, None)?;
-    write_reply(&mut text, 4, Word::GetResInfo, &unnamed, None)?;
-    write_grow_reply(&mut text, 5, Word::ReleaseResource, &refused, None)?;
+    write_reply(text, 1, Word::Count1Types, &Reply::count(2), None)?;
+    write_reply(text, 2, Word::Get1IndType, &Reply::kind(ty), None)?;
+    write_reply(text, 3, Word::GetResInfo, &noted, None)?;
+    write_reply(text, 4, Word::GetResInfo, &unnamed, None)?;
+    write_grow_reply(text, 5, Word::ReleaseResource, &refused, None)
+}
+
+/// Appends what calls show that change a file or a resource.
+fn write_changes(text: &mut Vec<u8>) -> Result<(), AllocError> {
     let done = Reply::of(OsErr::NO_ERR);
     const DONE: &[Word] = &[
         Word::CreateResFile,
@@ -323,9 +341,22 @@ fn writes_types_and_names(rt: HostRuntime) -> Result<(), Fail> {
         Word::SetResInfo,
     ];
     for word in DONE {
-        write_reply(&mut text, 6, *word, &done, None)?;
+        write_reply(text, 6, *word, &done, None)?;
     }
-    write_reply(&mut text, 7, Word::SetResAttrs, &refused, None)?;
+    write_reply(
+        text,
+        7,
+        Word::SetResAttrs,
+        &Reply::of(OsErr::RES_NOT_FOUND),
+        None,
+    )
+}
+
+#[test]
+fn writes_types_and_names(rt: HostRuntime) -> Result<(), Fail> {
+    let mut text = Vec::new(rt.alloc());
+    write_found(&rt, &mut text)?;
+    write_changes(&mut text)?;
     assert_eq!(rt;
         text.as_slice(),
         b"1 Count1Types 0 2

@@ -1,13 +1,13 @@
 //! Scripts and transcripts from outside.
 
-use crate::texts::{fault, script};
+use crate::texts::{fault, is_bytes, is_number, script};
 use arrayvec::ArrayVec;
 use mac_words::{Call, HeapCall, Label, Name, OsErr, OsType, Reply};
 use script_text::{
     CALLS, FaultKind, Line, ScriptFault, Word, words_are_apart, write_end, write_grow_reply,
     write_launch, write_reply,
 };
-use std::alloc::Global;
+use std::alloc::{AllocError, Global};
 use std::process::Abort;
 use std::test::Fail;
 
@@ -76,12 +76,34 @@ fn tells_faults_of_grow_zone_scripts(rt: HostRuntime) -> Result<(), Fail> {
     Ok(())
 }
 
+/// A line of `len` bytes that begins so.
+fn long_line(alloc: Global, front: &[u8], len: usize) -> Result<Vec<u8>, Fail> {
+    let mut text = Vec::from_slice(alloc, front)?;
+    for _ in front.len()..len {
+        text.push(b'x')?;
+    }
+    Ok(text)
+}
+
+/// The line and the number of the fault of a script with a long line between two texts; 0 and 0 where it has none.
+fn long_fault(
+    alloc: Global,
+    above: &[u8],
+    front: &[u8],
+    len: usize,
+    behind: &[u8],
+) -> Result<(usize, u8), Fail> {
+    let mut text = Vec::from_slice(alloc, above)?;
+    text.extend_from_slice(&long_line(alloc, front, len)?)?;
+    text.extend_from_slice(behind)?;
+    Ok(fault(alloc, &text))
+}
+
 #[test]
 fn refuses_a_long_line_in_a_grow_zone_script(rt: HostRuntime) -> Result<(), Fail> {
     let alloc = rt.alloc();
-    let mut text = Vec::from_slice(alloc, b"grow g\n")?;
-    text.extend_from_slice(&long_line(alloc, b"grow ", 65536)?)?;
-    assert_eq!(rt; fault(alloc, &text), (2, 4));
+    let found = long_fault(alloc, b"grow g\n", b"grow ", 65536, b"")?;
+    assert_eq!(rt; found, (2, 4));
     Ok(())
 }
 
@@ -176,28 +198,20 @@ fn reads_names_of_63_bytes(rt: HostRuntime) -> Result<(), Fail> {
     Ok(())
 }
 
-/// A line of `len` bytes that begins so.
-fn long_line(alloc: Global, front: &[u8], len: usize) -> Result<Vec<u8>, Fail> {
-    let mut text = Vec::from_slice(alloc, front)?;
-    for _ in front.len()..len {
-        text.push(b'x')?;
-    }
-    Ok(text)
-}
-
 #[test]
 fn refuses_long_lines_before_all_else(rt: HostRuntime) -> Result<(), Fail> {
     let alloc = rt.alloc();
-    assert_eq!(rt; fault(alloc, &long_line(alloc, b"#", 65535)?), (0, 0));
-    assert_eq!(rt; fault(alloc, &long_line(alloc, b"#", 65536)?), (1, 4));
-    assert_eq!(rt; fault(alloc, &long_line(alloc, b"Foo ", 65536)?), (1, 4));
-    assert_eq!(rt; fault(alloc, &long_line(alloc, b"Foo ", 65535)?), (1, 1));
-    let mut ended = long_line(alloc, b"#", 65535)?;
-    ended.extend_from_slice(b"\r\nFreeMem")?;
-    assert_eq!(rt; fault(alloc, &ended), (0, 0));
-    let mut second = Vec::from_slice(alloc, b"FreeMem\n")?;
-    second.extend_from_slice(&long_line(alloc, b" ", 65536)?)?;
-    assert_eq!(rt; fault(alloc, &second), (2, 4));
+    const CASES: &[(&[u8], &[u8], usize, &[u8], (usize, u8))] = &[
+        (b"", b"#", 65535, b"", (0, 0)),
+        (b"", b"#", 65536, b"", (1, 4)),
+        (b"", b"Foo ", 65536, b"", (1, 4)),
+        (b"", b"Foo ", 65535, b"", (1, 1)),
+        (b"", b"#", 65535, b"\r\nFreeMem", (0, 0)),
+        (b"FreeMem\n", b" ", 65536, b"", (2, 4)),
+    ];
+    for (above, front, len, behind, want) in CASES {
+        assert_eq!(rt; long_fault(alloc, above, front, *len, behind)?, *want);
+    }
     Ok(())
 }
 
@@ -220,6 +234,22 @@ fn reads_lines_in_order(rt: HostRuntime) -> Result<(), Fail> {
     Ok(())
 }
 
+/// Checks the arguments of a call that names a block.
+fn has_arguments<R: Abort>(rt: &R, call: &Call, letters: &[u8], number: i64, content: &[u8]) {
+    match call {
+        Call::Heap(HeapCall::Put(label, offset, bytes)) => {
+            is_bytes(rt, label.0.as_slice(), letters);
+            is_number(rt, *offset as i64, number);
+            is_bytes(rt, bytes.as_slice(), content);
+        }
+        Call::Heap(HeapCall::NewHandle(label, size)) => {
+            is_bytes(rt, label.0.as_slice(), letters);
+            is_number(rt, *size as i64, number);
+        }
+        _ => assert!(rt; false),
+    }
+}
+
 #[test]
 fn reads_arguments(rt: HostRuntime) -> Result<(), Fail> {
     let alloc = rt.alloc();
@@ -228,55 +258,44 @@ fn reads_arguments(rt: HostRuntime) -> Result<(), Fail> {
         alloc,
         b"Put a_1 010 \"H #i\"\nPut B 2 $00fFAb\nNewHandle c 7",
     );
-    let mut seen = 0;
-    for line in script.steps() {
-        assert!(rt; seen < 3);
-        seen += 1;
-        match &line.call {
-            Call::Heap(HeapCall::Put(label, offset, bytes)) => {
-                let first = line.number == 1;
-                let letters: &[u8] = if first { b"a_1" } else { b"B" };
-                let content: &[u8] = if first { b"H #i" } else { &[0, 255, 171] };
-                assert_eq!(rt; label.0.as_slice(), letters);
-                assert_eq!(rt; *offset, if first { 10 } else { 2 });
-                assert_eq!(rt; bytes.as_slice(), content);
-            }
-            Call::Heap(HeapCall::NewHandle(label, size)) => {
-                assert_eq!(rt; label.0.as_slice(), b"c".as_slice());
-                assert_eq!(rt; *size, 7);
-            }
-            _ => assert!(rt; false),
-        }
+    const LINES: &[(usize, Word)] = &[(1, Word::Put), (2, Word::Put), (3, Word::NewHandle)];
+    const WANTED: &[(&[u8], i64, &[u8])] = &[
+        (b"a_1", 10, b"H #i"),
+        (b"B", 2, &[0, 255, 171]),
+        (b"c", 7, b""),
+    ];
+    stand_so(&rt, script.steps(), LINES);
+    for (line, (letters, number, content)) in script.steps().iter().zip(WANTED) {
+        has_arguments(&rt, &line.call, letters, *number, content);
     }
-    assert_eq!(rt; seen, 3);
     Ok(())
+}
+
+/// Appends what a script's own lines show.
+fn write_lines(text: &mut Vec<u8>) -> Result<(), AllocError> {
+    let done = Reply::of(OsErr::NO_ERR);
+    write_reply(text, 4, Word::NewHandle, &done, None)?;
+    write_reply(text, 5, Word::Where, &Reply::number(288), None)?;
+    write_reply(text, 6, Word::Show, &done, Some(b"xyz"))?;
+    write_reply(text, 7, Word::Show, &done, Some(b""))
+}
+
+/// Appends what the lines of a grow-zone script show, and the line that called it.
+fn write_grow_lines(text: &mut Vec<u8>) -> Result<(), AllocError> {
+    let done = Reply::of(OsErr::NO_ERR);
+    let nil = Reply::of(OsErr::NIL_HANDLE);
+    let full = Reply::of(OsErr::MEM_FULL);
+    write_grow_reply(text, 3, Word::EmptyHandle, &done, None)?;
+    write_grow_reply(text, 4, Word::HPurge, &nil, None)?;
+    write_reply(text, 9, Word::NewHandle, &full, None)
 }
 
 #[test]
 fn writes_a_transcript(rt: HostRuntime) -> Result<(), Fail> {
-    let alloc = rt.alloc();
-    let mut text = Vec::new(alloc);
-    let done = Reply::of(OsErr::NO_ERR);
+    let mut text = Vec::new(rt.alloc());
     write_launch(&mut text, 1024)?;
-    write_reply(&mut text, 4, Word::NewHandle, &done, None)?;
-    write_reply(&mut text, 5, Word::Where, &Reply::number(288), None)?;
-    write_reply(&mut text, 6, Word::Show, &done, Some(b"xyz"))?;
-    write_reply(&mut text, 7, Word::Show, &done, Some(b""))?;
-    write_grow_reply(&mut text, 3, Word::EmptyHandle, &done, None)?;
-    write_grow_reply(
-        &mut text,
-        4,
-        Word::HPurge,
-        &Reply::of(OsErr::NIL_HANDLE),
-        None,
-    )?;
-    write_reply(
-        &mut text,
-        9,
-        Word::NewHandle,
-        &Reply::of(OsErr::MEM_FULL),
-        None,
-    )?;
+    write_lines(&mut text)?;
+    write_grow_lines(&mut text)?;
     write_end(&mut text, OsErr::NO_ERR)?;
     assert_eq!(rt;
         text.as_slice(),

@@ -1,4 +1,4 @@
-//! What the tests of scripts have in common.
+//! What the tests have in common.
 
 use script_text::{Script, read_script};
 use std::alloc::Global;
@@ -15,4 +15,14 @@ pub(crate) fn fault(alloc: Global, text: &[u8]) -> (usize, u8) {
 /// The script that a text spells.
 pub(crate) fn script<R: Abort>(rt: &R, alloc: Global, text: &[u8]) -> Script {
     read_script(alloc, text).ok().expect(rt, "a script")
+}
+
+/// Checks that bytes are those that are wanted.
+pub(crate) fn is_bytes<R: Abort>(rt: &R, bytes: &[u8], wanted: &[u8]) {
+    assert_eq!(rt; bytes, wanted);
+}
+
+/// Checks that a number is the one that is wanted.
+pub(crate) fn is_number<R: Abort>(rt: &R, number: i64, wanted: i64) {
+    assert_eq!(rt; number, wanted);
 }
