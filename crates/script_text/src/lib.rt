@@ -23,12 +23,3 @@ pub use job::{Event, Input, JobText, read_job};
 pub use script::{Line, Script, read_script};
 pub use transcript::{write_end, write_grow_reply, write_hex, write_launch, write_reply};
 pub use word::{CALLS, Word, words_are_apart};
-
-#[cfg(test)]
-mod job_tests;
-#[cfg(test)]
-mod resource_tests;
-#[cfg(test)]
-mod segment_tests;
-#[cfg(test)]
-mod tests;

@@ -137,3 +137,75 @@ returns-in-GetResourceSizeOnDisk-clause-told g c =
 pub returns-in-GetResourceSizeOnDisk-clause-after : goal.returns-in-GetResourceSizeOnDisk-clause-after
 returns-in-GetResourceSizeOnDisk-clause-after g c =
     arm_after Number c.sized-in-GetResourceSizeOnDisk.result _ _ _ c.args.call.now _ c.args.self.now _ _ c.sized-in-GetResourceSizeOnDisk.ensures.after (c.get_resource_size_on_disk.ensures.answer c.self-in-GetResourceSizeOnDisk.inside.heap) (ap (λ (h : Option ℕ). telling Number (rows.noting (rows.get_resource_size_on_disk h) (managers c.self-in-GetResourceSizeOnDisk.inside.resources c.self-in-GetResourceSizeOnDisk.inside.heap))) c.number-in-GetResourceSizeOnDisk.ensures) refl c.in-GetResourceSizeOnDisk.is c.self-in-GetResourceSizeOnDisk.view_is
+
+pub returns-in-OpenResFile-clause-told : goal.returns-in-OpenResFile-clause-told
+returns-in-OpenResFile-clause-told g c =
+    arm_told Number false c.counted.result _ _ _ c.args.call.now _ c.args.self.now _ c.counted.ensures.tried c.open_res_file.ensures.answer refl refl c.in-OpenResFile.is c.self.view_is
+
+pub returns-in-OpenResFile-clause-after : goal.returns-in-OpenResFile-clause-after
+returns-in-OpenResFile-clause-after g c =
+    arm_after Number c.counted.result _ _ _ c.args.call.now _ c.args.self.now _ _ c.counted.ensures.after c.open_res_file.ensures.answer refl refl c.in-OpenResFile.is c.self.view_is
+
+pub returns-in-CloseResFile-clause-told : goal.returns-in-CloseResFile-clause-told
+returns-in-CloseResFile-clause-told g c =
+    arm_told (λ (u : Unit {0}). Done) false c.done_on_resource-in-CloseResFile.result _ _ _ c.args.call.now _ c.args.self.now _ c.done_on_resource-in-CloseResFile.ensures.tried c.close_res_file.ensures.answer refl refl c.in-CloseResFile.is c.self-in-CloseResFile.view_is
+
+pub returns-in-CloseResFile-clause-after : goal.returns-in-CloseResFile-clause-after
+returns-in-CloseResFile-clause-after g c =
+    arm_after (λ (u : Unit {0}). Done) c.done_on_resource-in-CloseResFile.result _ _ _ c.args.call.now _ c.args.self.now _ _ c.done_on_resource-in-CloseResFile.ensures.after c.close_res_file.ensures.answer refl refl c.in-CloseResFile.is c.self-in-CloseResFile.view_is
+
+pub returns-in-UpdateResFile-clause-told : goal.returns-in-UpdateResFile-clause-told
+returns-in-UpdateResFile-clause-told g c =
+    arm_told (λ (u : Unit {0}). Done) false c.done_on_resource-in-UpdateResFile.result _ _ _ c.args.call.now _ c.args.self.now _ c.done_on_resource-in-UpdateResFile.ensures.tried c.update_res_file.ensures.answer refl refl c.in-UpdateResFile.is c.self-in-UpdateResFile.view_is
+
+pub returns-in-UpdateResFile-clause-after : goal.returns-in-UpdateResFile-clause-after
+returns-in-UpdateResFile-clause-after g c =
+    arm_after (λ (u : Unit {0}). Done) c.done_on_resource-in-UpdateResFile.result _ _ _ c.args.call.now _ c.args.self.now _ _ c.done_on_resource-in-UpdateResFile.ensures.after c.update_res_file.ensures.answer refl refl c.in-UpdateResFile.is c.self-in-UpdateResFile.view_is
+
+pub returns-in-Get1IndResource-clause-told : goal.returns-in-Get1IndResource-clause-told
+returns-in-Get1IndResource-clause-told g c =
+    arm_told tell_fetched true c.fetched-in-Get1IndResource.result _ _ _ c.args.call.now _ c.args.self.now _ c.fetched-in-Get1IndResource.ensures.tried c.get1_ind_resource.ensures.answer refl refl c.in-Get1IndResource.is c.self-in-Get1IndResource.view_is
+
+pub returns-in-Get1IndResource-clause-after : goal.returns-in-Get1IndResource-clause-after
+returns-in-Get1IndResource-clause-after g c =
+    arm_after tell_fetched c.fetched-in-Get1IndResource.result _ _ _ c.args.call.now _ c.args.self.now _ _ c.fetched-in-Get1IndResource.ensures.after c.get1_ind_resource.ensures.answer refl refl c.in-Get1IndResource.is c.self-in-Get1IndResource.view_is
+
+pub returns-in-LoadResource-clause-told : goal.returns-in-LoadResource-clause-told
+returns-in-LoadResource-clause-told g c =
+    arm_told tell_fetched true c.fetched-in-LoadResource.result _ _ _ c.args.call.now _ c.args.self.now _ c.fetched-in-LoadResource.ensures.tried c.load_resource.ensures.answer (ap (λ (h : Option ℕ). telling tell_fetched (rows.noting (rows.load_resource h) (managers c.self-in-LoadResource.inside.resources c.self-in-LoadResource.inside.heap))) c.number-in-LoadResource.ensures) refl c.in-LoadResource.is c.self-in-LoadResource.view_is
+
+pub returns-in-LoadResource-clause-after : goal.returns-in-LoadResource-clause-after
+returns-in-LoadResource-clause-after g c =
+    arm_after tell_fetched c.fetched-in-LoadResource.result _ _ _ c.args.call.now _ c.args.self.now _ _ c.fetched-in-LoadResource.ensures.after c.load_resource.ensures.answer (ap (λ (h : Option ℕ). telling tell_fetched (rows.noting (rows.load_resource h) (managers c.self-in-LoadResource.inside.resources c.self-in-LoadResource.inside.heap))) c.number-in-LoadResource.ensures) refl c.in-LoadResource.is c.self-in-LoadResource.view_is
+
+pub returns-in-ReleaseResource-clause-told : goal.returns-in-ReleaseResource-clause-told
+returns-in-ReleaseResource-clause-told g c =
+    arm_told (λ (u : Unit {0}). Done) false c.done_on_resource-in-ReleaseResource.result _ _ _ c.args.call.now _ c.args.self.now _ c.done_on_resource-in-ReleaseResource.ensures.tried c.release_resource.ensures.answer (ap (λ (h : Option ℕ). telling (λ (u : Unit {0}). Done) (rows.noting (rows.release_resource h) (managers c.self-in-ReleaseResource.inside.resources c.self-in-ReleaseResource.inside.heap))) c.number-in-ReleaseResource.ensures) refl c.in-ReleaseResource.is c.self-in-ReleaseResource.view_is
+
+pub returns-in-ReleaseResource-clause-after : goal.returns-in-ReleaseResource-clause-after
+returns-in-ReleaseResource-clause-after g c =
+    arm_after (λ (u : Unit {0}). Done) c.done_on_resource-in-ReleaseResource.result _ _ _ c.args.call.now _ c.args.self.now _ _ c.done_on_resource-in-ReleaseResource.ensures.after c.release_resource.ensures.answer (ap (λ (h : Option ℕ). telling (λ (u : Unit {0}). Done) (rows.noting (rows.release_resource h) (managers c.self-in-ReleaseResource.inside.resources c.self-in-ReleaseResource.inside.heap))) c.number-in-ReleaseResource.ensures) refl c.in-ReleaseResource.is c.self-in-ReleaseResource.view_is
+
+pub returns-in-DetachResource-clause-told : goal.returns-in-DetachResource-clause-told
+returns-in-DetachResource-clause-told g c =
+    arm_told (λ (u : Unit {0}). Done) false c.done_on_resource-in-DetachResource.result _ _ _ c.args.call.now _ c.args.self.now _ c.done_on_resource-in-DetachResource.ensures.tried c.detach_resource.ensures.answer (ap (λ (h : Option ℕ). telling (λ (u : Unit {0}). Done) (rows.noting (rows.detach_resource h) (managers c.self-in-DetachResource.inside.resources c.self-in-DetachResource.inside.heap))) c.number-in-DetachResource.ensures) refl c.in-DetachResource.is c.self-in-DetachResource.view_is
+
+pub returns-in-DetachResource-clause-after : goal.returns-in-DetachResource-clause-after
+returns-in-DetachResource-clause-after g c =
+    arm_after (λ (u : Unit {0}). Done) c.done_on_resource-in-DetachResource.result _ _ _ c.args.call.now _ c.args.self.now _ _ c.done_on_resource-in-DetachResource.ensures.after c.detach_resource.ensures.answer (ap (λ (h : Option ℕ). telling (λ (u : Unit {0}). Done) (rows.noting (rows.detach_resource h) (managers c.self-in-DetachResource.inside.resources c.self-in-DetachResource.inside.heap))) c.number-in-DetachResource.ensures) refl c.in-DetachResource.is c.self-in-DetachResource.view_is
+
+pub returns-in-RemoveResource-clause-told : goal.returns-in-RemoveResource-clause-told
+returns-in-RemoveResource-clause-told g c =
+    arm_told (λ (u : Unit {0}). Done) false c.done_on_resource-in-RemoveResource.result _ _ _ c.args.call.now _ c.args.self.now _ c.done_on_resource-in-RemoveResource.ensures.tried c.remove_resource.ensures.answer (ap (λ (h : Option ℕ). telling (λ (u : Unit {0}). Done) (rows.noting (changing.remove_resource h) (managers c.self-in-RemoveResource.inside.resources c.self-in-RemoveResource.inside.heap))) c.number-in-RemoveResource.ensures) refl c.in-RemoveResource.is c.self-in-RemoveResource.view_is
+
+pub returns-in-RemoveResource-clause-after : goal.returns-in-RemoveResource-clause-after
+returns-in-RemoveResource-clause-after g c =
+    arm_after (λ (u : Unit {0}). Done) c.done_on_resource-in-RemoveResource.result _ _ _ c.args.call.now _ c.args.self.now _ _ c.done_on_resource-in-RemoveResource.ensures.after c.remove_resource.ensures.answer (ap (λ (h : Option ℕ). telling (λ (u : Unit {0}). Done) (rows.noting (changing.remove_resource h) (managers c.self-in-RemoveResource.inside.resources c.self-in-RemoveResource.inside.heap))) c.number-in-RemoveResource.ensures) refl c.in-RemoveResource.is c.self-in-RemoveResource.view_is
+
+pub returns-in-WriteResource-clause-told : goal.returns-in-WriteResource-clause-told
+returns-in-WriteResource-clause-told g c =
+    arm_told (λ (u : Unit {0}). Done) false c.done_on_resource-in-WriteResource.result _ _ _ c.args.call.now _ c.args.self.now _ c.done_on_resource-in-WriteResource.ensures.tried c.write_resource.ensures.answer (ap (λ (h : Option ℕ). telling (λ (u : Unit {0}). Done) (rows.noting (changing.write_resource h) (managers c.self-in-WriteResource.inside.resources c.self-in-WriteResource.inside.heap))) c.number-in-WriteResource.ensures) refl c.in-WriteResource.is c.self-in-WriteResource.view_is
+
+pub returns-in-WriteResource-clause-after : goal.returns-in-WriteResource-clause-after
+returns-in-WriteResource-clause-after g c =
+    arm_after (λ (u : Unit {0}). Done) c.done_on_resource-in-WriteResource.result _ _ _ c.args.call.now _ c.args.self.now _ _ c.done_on_resource-in-WriteResource.ensures.after c.write_resource.ensures.answer (ap (λ (h : Option ℕ). telling (λ (u : Unit {0}). Done) (rows.noting (changing.write_resource h) (managers c.self-in-WriteResource.inside.resources c.self-in-WriteResource.inside.heap))) c.number-in-WriteResource.ensures) refl c.in-WriteResource.is c.self-in-WriteResource.view_is

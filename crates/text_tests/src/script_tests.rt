@@ -1,32 +1,20 @@
 //! Scripts and transcripts from outside.
 
-use crate::fault::{FaultKind, ScriptFault};
-use crate::script::{Line, Script, read_script};
-use crate::transcript::{write_end, write_grow_reply, write_launch, write_reply};
-use crate::word::{CALLS, WORDS, Word, words_are_apart};
+use crate::texts::{fault, is_bytes, is_number, script};
 use arrayvec::ArrayVec;
 use mac_words::{Call, HeapCall, Label, Name, OsErr, OsType, Reply};
-use std::alloc::Global;
+use script_text::{
+    CALLS, FaultKind, Line, ScriptFault, Word, words_are_apart, write_end, write_grow_reply,
+    write_launch, write_reply,
+};
+use std::alloc::{AllocError, Global};
 use std::process::Abort;
 use std::test::Fail;
-
-/// The line and the number of a script's fault; 0 and 0 where it has none.
-fn fault(alloc: Global, text: &[u8]) -> (usize, u8) {
-    match read_script(alloc, text) {
-        Ok(_) => (0, 0),
-        Err(fault) => (fault.line, fault.kind.number()),
-    }
-}
-
-/// The script that a text spells.
-fn script<R: Abort>(rt: &R, alloc: Global, text: &[u8]) -> Script {
-    read_script(alloc, text).ok().expect(rt, "a script")
-}
 
 #[test]
 fn tells_the_first_faulty_line(rt: HostRuntime) -> Result<(), Fail> {
     let alloc = rt.alloc();
-    let cases: [(&[u8], (usize, u8)); 12] = [
+    const CASES: &[(&[u8], (usize, u8))] = &[
         (b"", (0, 0)),
         (b"\n\n", (0, 0)),
         (b"Foo", (1, 1)),
@@ -40,8 +28,8 @@ fn tells_the_first_faulty_line(rt: HostRuntime) -> Result<(), Fail> {
         (b"FreeMem\r", (1, 1)),
         (b"FreeMem\r\r\n", (1, 1)),
     ];
-    for (text, want) in cases {
-        assert_eq!(rt; fault(alloc, text), want);
+    for (text, want) in CASES {
+        assert_eq!(rt; fault(alloc, text), *want);
     }
     Ok(())
 }
@@ -49,7 +37,7 @@ fn tells_the_first_faulty_line(rt: HostRuntime) -> Result<(), Fail> {
 #[test]
 fn tells_faults_of_grow_zone_scripts(rt: HostRuntime) -> Result<(), Fail> {
     let alloc = rt.alloc();
-    let cases: [(&[u8], (usize, u8)); 24] = [
+    const CASES: &[(&[u8], (usize, u8))] = &[
         (b"grow g\nend\n", (0, 0)),
         (
             b"grow g\n\n# EmptyHandle\n EmptyHandle a\nend\nSetGrowZone g",
@@ -82,18 +70,40 @@ fn tells_faults_of_grow_zone_scripts(rt: HostRuntime) -> Result<(), Fail> {
         (b"SetGrowZone g\nSetGrowZone h\ngrow g\n", (2, 2)),
         (b"SetGrowZone g\nFreeMem\nFoo\n", (3, 1)),
     ];
-    for (text, want) in cases {
-        assert_eq!(rt; fault(alloc, text), want);
+    for (text, want) in CASES {
+        assert_eq!(rt; fault(alloc, text), *want);
     }
     Ok(())
+}
+
+/// A line of `len` bytes that begins so.
+fn long_line(alloc: Global, front: &[u8], len: usize) -> Result<Vec<u8>, Fail> {
+    let mut text = Vec::from_slice(alloc, front)?;
+    for _ in front.len()..len {
+        text.push(b'x')?;
+    }
+    Ok(text)
+}
+
+/// The line and the number of the fault of a script with a long line between two texts; 0 and 0 where it has none.
+fn long_fault(
+    alloc: Global,
+    above: &[u8],
+    front: &[u8],
+    len: usize,
+    behind: &[u8],
+) -> Result<(usize, u8), Fail> {
+    let mut text = Vec::from_slice(alloc, above)?;
+    text.extend_from_slice(&long_line(alloc, front, len)?)?;
+    text.extend_from_slice(behind)?;
+    Ok(fault(alloc, &text))
 }
 
 #[test]
 fn refuses_a_long_line_in_a_grow_zone_script(rt: HostRuntime) -> Result<(), Fail> {
     let alloc = rt.alloc();
-    let mut text = Vec::from_slice(alloc, b"grow g\n")?;
-    text.extend_from_slice(&long_line(alloc, b"grow ", 65536)?)?;
-    assert_eq!(rt; fault(alloc, &text), (2, 4));
+    let found = long_fault(alloc, b"grow g\n", b"grow ", 65536, b"")?;
+    assert_eq!(rt; found, (2, 4));
     Ok(())
 }
 
@@ -104,6 +114,15 @@ fn label<R: Abort>(rt: &R, letters: &[u8]) -> Label {
             .ok()
             .expect(rt, "63 bytes at most"),
     )
+}
+
+/// Checks where the lines stand in their script, and their words.
+fn stand_so<R: Abort>(rt: &R, lines: &[Line], words: &[(usize, Word)]) {
+    assert_eq!(rt; lines.len(), words.len());
+    for (line, word) in lines.iter().zip(words) {
+        assert_eq!(rt; line.number, word.0);
+        assert_eq!(rt; Word::of(&line.call), word.1);
+    }
 }
 
 #[test]
@@ -121,25 +140,16 @@ end
 WaitNextEvent
 ";
     let script = script(&rt, alloc, text);
-    let wanted: [(&[Line], &[(usize, Word)]); 5] = [
-        (
-            script.steps(),
-            &[(1, Word::SetGrowZone), (10, Word::WaitNextEvent)],
-        ),
-        (script.block(&label(&rt, b"h")), &[]),
-        (
-            script.block(&label(&rt, b"g")),
-            &[(7, Word::EmptyHandle), (8, Word::DisposePtr)],
-        ),
-        (script.block(&label(&rt, b"none")), &[]),
-        (script.block(&label(&rt, b"a")), &[]),
+    const STEPS: &[(usize, Word)] = &[(1, Word::SetGrowZone), (10, Word::WaitNextEvent)];
+    const BLOCKS: &[(&[u8], &[(usize, Word)])] = &[
+        (b"h", &[]),
+        (b"g", &[(7, Word::EmptyHandle), (8, Word::DisposePtr)]),
+        (b"none", &[]),
+        (b"a", &[]),
     ];
-    for (lines, words) in wanted {
-        assert_eq!(rt; lines.len(), words.len());
-        for (line, word) in lines.iter().zip(words) {
-            assert_eq!(rt; line.number, word.0);
-            assert_eq!(rt; Word::of(&line.call), word.1);
-        }
+    stand_so(&rt, script.steps(), STEPS);
+    for (letters, words) in BLOCKS {
+        stand_so(&rt, script.block(&label(&rt, letters)), words);
     }
     Ok(())
 }
@@ -147,7 +157,7 @@ WaitNextEvent
 #[test]
 fn reads_numbers_and_bytes(rt: HostRuntime) -> Result<(), Fail> {
     let alloc = rt.alloc();
-    let cases: [(&[u8], u8); 20] = [
+    const CASES: &[(&[u8], u8)] = &[
         (b"NewHandle a 2147483647", 0),
         (b"NewHandle a 2147483648", 2),
         (b"NewHandle a 0000000005", 0),
@@ -169,8 +179,8 @@ fn reads_numbers_and_bytes(rt: HostRuntime) -> Result<(), Fail> {
         (b"Put a 1 $4g", 2),
         (b"Put a 1 Hi", 2),
     ];
-    for (text, want) in cases {
-        assert_eq!(rt; fault(alloc, text).1, want);
+    for (text, want) in CASES {
+        assert_eq!(rt; fault(alloc, text).1, *want);
     }
     Ok(())
 }
@@ -188,28 +198,20 @@ fn reads_names_of_63_bytes(rt: HostRuntime) -> Result<(), Fail> {
     Ok(())
 }
 
-/// A line of `len` bytes that begins so.
-fn long_line(alloc: Global, front: &[u8], len: usize) -> Result<Vec<u8>, Fail> {
-    let mut text = Vec::from_slice(alloc, front)?;
-    for _ in front.len()..len {
-        text.push(b'x')?;
-    }
-    Ok(text)
-}
-
 #[test]
 fn refuses_long_lines_before_all_else(rt: HostRuntime) -> Result<(), Fail> {
     let alloc = rt.alloc();
-    assert_eq!(rt; fault(alloc, &long_line(alloc, b"#", 65535)?), (0, 0));
-    assert_eq!(rt; fault(alloc, &long_line(alloc, b"#", 65536)?), (1, 4));
-    assert_eq!(rt; fault(alloc, &long_line(alloc, b"Foo ", 65536)?), (1, 4));
-    assert_eq!(rt; fault(alloc, &long_line(alloc, b"Foo ", 65535)?), (1, 1));
-    let mut ended = long_line(alloc, b"#", 65535)?;
-    ended.extend_from_slice(b"\r\nFreeMem")?;
-    assert_eq!(rt; fault(alloc, &ended), (0, 0));
-    let mut second = Vec::from_slice(alloc, b"FreeMem\n")?;
-    second.extend_from_slice(&long_line(alloc, b" ", 65536)?)?;
-    assert_eq!(rt; fault(alloc, &second), (2, 4));
+    const CASES: &[(&[u8], &[u8], usize, &[u8], (usize, u8))] = &[
+        (b"", b"#", 65535, b"", (0, 0)),
+        (b"", b"#", 65536, b"", (1, 4)),
+        (b"", b"Foo ", 65536, b"", (1, 4)),
+        (b"", b"Foo ", 65535, b"", (1, 1)),
+        (b"", b"#", 65535, b"\r\nFreeMem", (0, 0)),
+        (b"FreeMem\n", b" ", 65536, b"", (2, 4)),
+    ];
+    for (above, front, len, behind, want) in CASES {
+        assert_eq!(rt; long_fault(alloc, above, front, *len, behind)?, *want);
+    }
     Ok(())
 }
 
@@ -221,22 +223,31 @@ fn reads_lines_in_order(rt: HostRuntime) -> Result<(), Fail> {
     let script = script(&rt, alloc, text);
     let lines = script.steps();
     assert_eq!(rt; lines.len(), 5);
-    let numbers = [1, 2, 6, 7, 8];
-    let words = [
-        Word::NewHandle,
-        Word::Put,
-        Word::Put,
-        Word::FreeMem,
-        Word::Where,
+    const WANTED: &[(usize, Word)] = &[
+        (1, Word::NewHandle),
+        (2, Word::Put),
+        (6, Word::Put),
+        (7, Word::FreeMem),
+        (8, Word::Where),
     ];
-    let mut at = 0;
-    for line in lines {
-        assert!(rt; at < 5);
-        assert_eq!(rt; line.number, numbers[at]);
-        assert_eq!(rt; Word::of(&line.call), words[at]);
-        at += 1;
-    }
+    stand_so(&rt, lines, WANTED);
     Ok(())
+}
+
+/// Checks the arguments of a call that names a block.
+fn has_arguments<R: Abort>(rt: &R, call: &Call, letters: &[u8], number: i64, content: &[u8]) {
+    match call {
+        Call::Heap(HeapCall::Put(label, offset, bytes)) => {
+            is_bytes(rt, label.0.as_slice(), letters);
+            is_number(rt, *offset as i64, number);
+            is_bytes(rt, bytes.as_slice(), content);
+        }
+        Call::Heap(HeapCall::NewHandle(label, size)) => {
+            is_bytes(rt, label.0.as_slice(), letters);
+            is_number(rt, *size as i64, number);
+        }
+        _ => assert!(rt; false),
+    }
 }
 
 #[test]
@@ -247,55 +258,44 @@ fn reads_arguments(rt: HostRuntime) -> Result<(), Fail> {
         alloc,
         b"Put a_1 010 \"H #i\"\nPut B 2 $00fFAb\nNewHandle c 7",
     );
-    let mut seen = 0;
-    for line in script.steps() {
-        assert!(rt; seen < 3);
-        seen += 1;
-        match &line.call {
-            Call::Heap(HeapCall::Put(label, offset, bytes)) => {
-                let first = line.number == 1;
-                let letters: &[u8] = if first { b"a_1" } else { b"B" };
-                let content: &[u8] = if first { b"H #i" } else { &[0, 255, 171] };
-                assert_eq!(rt; label.0.as_slice(), letters);
-                assert_eq!(rt; *offset, if first { 10 } else { 2 });
-                assert_eq!(rt; bytes.as_slice(), content);
-            }
-            Call::Heap(HeapCall::NewHandle(label, size)) => {
-                assert_eq!(rt; label.0.as_slice(), b"c".as_slice());
-                assert_eq!(rt; *size, 7);
-            }
-            _ => assert!(rt; false),
-        }
+    const LINES: &[(usize, Word)] = &[(1, Word::Put), (2, Word::Put), (3, Word::NewHandle)];
+    const WANTED: &[(&[u8], i64, &[u8])] = &[
+        (b"a_1", 10, b"H #i"),
+        (b"B", 2, &[0, 255, 171]),
+        (b"c", 7, b""),
+    ];
+    stand_so(&rt, script.steps(), LINES);
+    for (line, (letters, number, content)) in script.steps().iter().zip(WANTED) {
+        has_arguments(&rt, &line.call, letters, *number, content);
     }
-    assert_eq!(rt; seen, 3);
     Ok(())
+}
+
+/// Appends what a script's own lines show.
+fn write_lines(text: &mut Vec<u8>) -> Result<(), AllocError> {
+    let done = Reply::of(OsErr::NO_ERR);
+    write_reply(text, 4, Word::NewHandle, &done, None)?;
+    write_reply(text, 5, Word::Where, &Reply::number(288), None)?;
+    write_reply(text, 6, Word::Show, &done, Some(b"xyz"))?;
+    write_reply(text, 7, Word::Show, &done, Some(b""))
+}
+
+/// Appends what the lines of a grow-zone script show, and the line that called it.
+fn write_grow_lines(text: &mut Vec<u8>) -> Result<(), AllocError> {
+    let done = Reply::of(OsErr::NO_ERR);
+    let nil = Reply::of(OsErr::NIL_HANDLE);
+    let full = Reply::of(OsErr::MEM_FULL);
+    write_grow_reply(text, 3, Word::EmptyHandle, &done, None)?;
+    write_grow_reply(text, 4, Word::HPurge, &nil, None)?;
+    write_reply(text, 9, Word::NewHandle, &full, None)
 }
 
 #[test]
 fn writes_a_transcript(rt: HostRuntime) -> Result<(), Fail> {
-    let alloc = rt.alloc();
-    let mut text = Vec::new(alloc);
-    let done = Reply::of(OsErr::NO_ERR);
+    let mut text = Vec::new(rt.alloc());
     write_launch(&mut text, 1024)?;
-    write_reply(&mut text, 4, Word::NewHandle, &done, None)?;
-    write_reply(&mut text, 5, Word::Where, &Reply::number(288), None)?;
-    write_reply(&mut text, 6, Word::Show, &done, Some(b"xyz"))?;
-    write_reply(&mut text, 7, Word::Show, &done, Some(b""))?;
-    write_grow_reply(&mut text, 3, Word::EmptyHandle, &done, None)?;
-    write_grow_reply(
-        &mut text,
-        4,
-        Word::HPurge,
-        &Reply::of(OsErr::NIL_HANDLE),
-        None,
-    )?;
-    write_reply(
-        &mut text,
-        9,
-        Word::NewHandle,
-        &Reply::of(OsErr::MEM_FULL),
-        None,
-    )?;
+    write_lines(&mut text)?;
+    write_grow_lines(&mut text)?;
     write_end(&mut text, OsErr::NO_ERR)?;
     assert_eq!(rt;
         text.as_slice(),
@@ -352,6 +352,80 @@ fn spells_words(rt: HostRuntime) -> Result<(), Fail> {
 
 #[test]
 fn lists_each_call(rt: HostRuntime) -> Result<(), Fail> {
+    const WORDS: [Word; 72] = [
+        Word::NewHandle,
+        Word::NewEmptyHandle,
+        Word::DisposeHandle,
+        Word::GetHandleSize,
+        Word::SetHandleSize,
+        Word::ReallocateHandle,
+        Word::EmptyHandle,
+        Word::HLock,
+        Word::HUnlock,
+        Word::HPurge,
+        Word::HNoPurge,
+        Word::HGetState,
+        Word::HSetState,
+        Word::MoveHHi,
+        Word::HLockHi,
+        Word::HandToHand,
+        Word::HandAndHand,
+        Word::PtrAndHand,
+        Word::NewPtr,
+        Word::DisposePtr,
+        Word::GetPtrSize,
+        Word::SetPtrSize,
+        Word::FreeMem,
+        Word::MaxBlock,
+        Word::PurgeSpace,
+        Word::CompactMem,
+        Word::PurgeMem,
+        Word::MaxMem,
+        Word::ReserveMem,
+        Word::MoreMasters,
+        Word::MemError,
+        Word::SetGrowZone,
+        Word::OpenResFile,
+        Word::CreateResFile,
+        Word::CloseResFile,
+        Word::UpdateResFile,
+        Word::UseResFile,
+        Word::CurResFile,
+        Word::HomeResFile,
+        Word::GetResource,
+        Word::Get1Resource,
+        Word::GetNamedResource,
+        Word::Get1NamedResource,
+        Word::Count1Types,
+        Word::Get1IndType,
+        Word::Count1Resources,
+        Word::Get1IndResource,
+        Word::LoadResource,
+        Word::ReleaseResource,
+        Word::DetachResource,
+        Word::AddResource,
+        Word::RemoveResource,
+        Word::ChangedResource,
+        Word::WriteResource,
+        Word::GetResInfo,
+        Word::SetResInfo,
+        Word::GetResAttrs,
+        Word::SetResAttrs,
+        Word::GetResourceSizeOnDisk,
+        Word::SetResLoad,
+        Word::ResError,
+        Word::LoadSeg,
+        Word::UnloadSeg,
+        Word::CallEntry,
+        Word::ShowEntry,
+        Word::Put,
+        Word::Show,
+        Word::PutPtr,
+        Word::ShowPtr,
+        Word::Where,
+        Word::WaitNextEvent,
+        Word::ExitToShell,
+    ];
     for word in WORDS {
         let mut found = 0u64;
         for line in CALLS.lines() {
@@ -371,7 +445,7 @@ fn lists_each_call(rt: HostRuntime) -> Result<(), Fail> {
         }
     }
     assert_eq!(rt; listed, 74);
-    for line in [
+    const LINES: &[&str] = &[
         "  NewHandle h size\n",
         "  HandToHand b a\n",
         "  Put h offset bytes\n",
@@ -388,7 +462,8 @@ fn lists_each_call(rt: HostRuntime) -> Result<(), Fail> {
         "Turns:\n  WaitNextEvent\n  ExitToShell\n",
         "  grow NAME .. end,",
         "    EmptyHandle DisposeHandle DisposePtr HPurge HNoPurge HUnlock ReleaseResource UnloadSeg\n",
-    ] {
+    ];
+    for line in LINES {
         assert!(rt; CALLS.contains(line), "at {line}");
     }
     Ok(())

@@ -1,10 +1,13 @@
 //! Jobs, and the lines of desk.log, from outside.
 
-use crate::desk_log::{write_app_end, write_app_fork, write_app_launch, write_app_refusal};
-use crate::job::{Event, Input, JobText, read_job};
+use crate::texts::is_bytes;
 use arrayvec::ArrayVec;
 use itoa::Buffer;
 use mac_words::{FileName, Label, OsErr};
+use script_text::{
+    Event, Input, JobText, read_job, write_app_end, write_app_fork, write_app_launch,
+    write_app_refusal,
+};
 use std::alloc::Global;
 use std::process::Abort;
 use std::test::Fail;
@@ -35,31 +38,41 @@ rest
 quit two
 ";
 
+/// Checks that a text is the one that is wanted.
+fn is_text<R: Abort>(rt: &R, text: &str, wanted: &str) {
+    assert_eq!(rt; text, wanted);
+}
+
+/// Checks an input's name and paths.
+fn is_input<R: Abort>(rt: &R, input: &Input, letters: &[u8], first: &str, second: &str) {
+    match input {
+        Input::System { path } => is_text(rt, path, first),
+        Input::App { name, fork, script } => {
+            is_bytes(rt, name.0.as_slice(), letters);
+            is_text(rt, fork, first);
+            is_text(rt, script, second);
+        }
+        Input::File { app, name, path } => {
+            assert_eq!(rt; *app, 1);
+            is_bytes(rt, name.0.as_slice(), letters);
+            is_text(rt, path, first);
+        }
+    }
+}
+
 #[test]
 fn reads_inputs_in_order(rt: HostRuntime) -> Result<(), Fail> {
     let job = job(&rt, rt.alloc(), TWO);
     assert_eq!(rt; job.memory, 4096);
-    let wanted: [(&[u8], &str, &str); 4] = [
+    const WANTED: &[(&[u8], &str, &str)] = &[
         (b"one", "one.rsrc", "one.script"),
         (b"", "System", ""),
         (b"two", "", "two.script"),
         (b"Doc", "doc.rsrc", ""),
     ];
     assert_eq!(rt; job.inputs.len(), 4);
-    for (input, (letters, first, second)) in job.inputs.iter().zip(wanted) {
-        match input {
-            Input::System { path } => assert_eq!(rt; *path, first),
-            Input::App { name, fork, script } => {
-                assert_eq!(rt; name.0.as_slice(), letters);
-                assert_eq!(rt; *fork, first);
-                assert_eq!(rt; *script, second);
-            }
-            Input::File { app, name, path } => {
-                assert_eq!(rt; *app, 1);
-                assert_eq!(rt; name.0.as_slice(), letters);
-                assert_eq!(rt; *path, first);
-            }
-        }
+    for (input, (letters, first, second)) in job.inputs.iter().zip(WANTED) {
+        is_input(&rt, input, letters, first, second);
     }
     Ok(())
 }
@@ -67,21 +80,21 @@ fn reads_inputs_in_order(rt: HostRuntime) -> Result<(), Fail> {
 #[test]
 fn reads_events_in_order(rt: HostRuntime) -> Result<(), Fail> {
     let job = job(&rt, rt.alloc(), TWO);
-    let wanted = [
+    const WANTED: &[Event] = &[
         Event::Launch(1),
         Event::Step(0),
         Event::Turn(0),
         Event::Rest,
         Event::Quit(1),
     ];
-    assert_eq!(rt; job.events.as_slice(), wanted.as_slice());
+    assert_eq!(rt; job.events.as_slice(), WANTED);
     Ok(())
 }
 
 #[test]
 fn tells_the_first_faulty_line(rt: HostRuntime) -> Result<(), Fail> {
     let alloc = rt.alloc();
-    let cases: [(&[u8], (usize, u8)); 18] = [
+    const CASES: &[(&[u8], (usize, u8))] = &[
         // nothing to read
         (b"\n# memory 512\n", (1, 2)),
         // the memory
@@ -107,8 +120,8 @@ fn tells_the_first_faulty_line(rt: HostRuntime) -> Result<(), Fail> {
         (b"memory 512\nlaunch a", (2, 2)),
         (b"memory 512\napp a \"\" \"\"\nlaunch b\nfoo", (3, 2)),
     ];
-    for (text, want) in cases {
-        assert_eq!(rt; fault(alloc, text), want);
+    for (text, want) in CASES {
+        assert_eq!(rt; fault(alloc, text), *want);
     }
     Ok(())
 }
@@ -124,31 +137,24 @@ fn job_of(alloc: Global, line: &[u8], paths: &[u8], count: u32) -> Result<Vec<u8
     Ok(text)
 }
 
+/// The line and the number of the fault of such a job; 0 and 0 where it has none.
+fn fault_of(alloc: Global, line: &[u8], paths: &[u8], count: u32) -> Result<(usize, u8), Fail> {
+    Ok(fault(alloc, &job_of(alloc, line, paths, count)?))
+}
+
 #[test]
 fn refuses_a_65th_application(rt: HostRuntime) -> Result<(), Fail> {
     let alloc = rt.alloc();
-    assert_eq!(rt;
-        fault(alloc, &job_of(alloc, b"app a", b" \"\" \"\"\n", 63)?),
-        (0, 0)
-    );
-    assert_eq!(rt;
-        fault(alloc, &job_of(alloc, b"app a", b" \"\" \"\"\n", 64)?),
-        (66, 2)
-    );
+    assert_eq!(rt; fault_of(alloc, b"app a", b" \"\" \"\"\n", 63)?, (0, 0));
+    assert_eq!(rt; fault_of(alloc, b"app a", b" \"\" \"\"\n", 64)?, (66, 2));
     Ok(())
 }
 
 #[test]
 fn refuses_a_256th_file(rt: HostRuntime) -> Result<(), Fail> {
     let alloc = rt.alloc();
-    assert_eq!(rt;
-        fault(alloc, &job_of(alloc, b"file z \"", b"\" \"\"\n", 255)?),
-        (0, 0)
-    );
-    assert_eq!(rt;
-        fault(alloc, &job_of(alloc, b"file z \"", b"\" \"\"\n", 256)?),
-        (258, 2)
-    );
+    assert_eq!(rt; fault_of(alloc, b"file z \"", b"\" \"\"\n", 255)?, (0, 0));
+    assert_eq!(rt; fault_of(alloc, b"file z \"", b"\" \"\"\n", 256)?, (258, 2));
     Ok(())
 }
 

@@ -1,25 +1,9 @@
 //! Calls of the Segment Manager from outside.
 
-use crate::script::{Script, read_script};
-use crate::transcript::{write_grow_reply, write_reply};
-use crate::word::Word;
+use crate::texts::{fault, script};
 use mac_words::{Call, OsErr, Reply, SegmentCall};
-use std::alloc::Global;
-use std::process::Abort;
+use script_text::{Word, write_grow_reply, write_reply};
 use std::test::Fail;
-
-/// The line and the number of a script's fault; 0 and 0 where it has none.
-fn fault(alloc: Global, text: &[u8]) -> (usize, u8) {
-    match read_script(alloc, text) {
-        Ok(_) => (0, 0),
-        Err(fault) => (fault.line, fault.kind.number()),
-    }
-}
-
-/// The script that a text spells.
-fn script<R: Abort>(rt: &R, alloc: Global, text: &[u8]) -> Script {
-    read_script(alloc, text).ok().expect(rt, "a script")
-}
 
 /// The number that a call of the Segment Manager names.
 fn named(call: &Call) -> Option<i64> {
@@ -35,7 +19,7 @@ fn named(call: &Call) -> Option<i64> {
 #[test]
 fn reads_each_call(rt: HostRuntime) -> Result<(), Fail> {
     let alloc = rt.alloc();
-    let cases: [(&[u8], Word, i64); 7] = [
+    const CASES: &[(&[u8], Word, i64)] = &[
         (b"LoadSeg -3", Word::LoadSeg, -3),
         (b"LoadSeg 32767", Word::LoadSeg, 32767),
         (b"UnloadSeg 1", Word::UnloadSeg, 1),
@@ -44,12 +28,12 @@ fn reads_each_call(rt: HostRuntime) -> Result<(), Fail> {
         (b"ShowEntry 7", Word::ShowEntry, 7),
         (b"ShowEntry 2147483647", Word::ShowEntry, 2147483647),
     ];
-    for (text, word, number) in cases {
+    for (text, word, number) in CASES {
         let script = script(&rt, alloc, text);
         assert_eq!(rt; script.steps().len(), 1);
         for line in script.steps() {
-            assert_eq!(rt; Word::of(&line.call), word);
-            assert_eq!(rt; named(&line.call), Some(number));
+            assert_eq!(rt; Word::of(&line.call), *word);
+            assert_eq!(rt; named(&line.call), Some(*number));
         }
     }
     Ok(())
@@ -58,7 +42,7 @@ fn reads_each_call(rt: HostRuntime) -> Result<(), Fail> {
 #[test]
 fn refuses_bad_arguments(rt: HostRuntime) -> Result<(), Fail> {
     let alloc = rt.alloc();
-    let cases: [&[u8]; 12] = [
+    const CASES: &[&[u8]] = &[
         b"LoadSeg",
         b"LoadSeg 32768",
         b"LoadSeg 1 2",
@@ -72,7 +56,7 @@ fn refuses_bad_arguments(rt: HostRuntime) -> Result<(), Fail> {
         b"ShowEntry -1",
         b"ShowEntry n",
     ];
-    for text in cases {
+    for text in CASES {
         assert_eq!(rt; fault(alloc, text), (1, 2));
     }
     Ok(())
@@ -81,7 +65,7 @@ fn refuses_bad_arguments(rt: HostRuntime) -> Result<(), Fail> {
 #[test]
 fn reads_them_in_grow_zone_scripts(rt: HostRuntime) -> Result<(), Fail> {
     let alloc = rt.alloc();
-    let cases: [(&[u8], (usize, u8)); 6] = [
+    const CASES: &[(&[u8], (usize, u8))] = &[
         (b"grow g\nUnloadSeg 1\nend", (0, 0)),
         (b"grow g\nUnloadSeg 32768\nend", (2, 2)),
         (b"grow g\nLoadSeg 1\nend", (2, 3)),
@@ -89,8 +73,8 @@ fn reads_them_in_grow_zone_scripts(rt: HostRuntime) -> Result<(), Fail> {
         (b"grow g\nCallEntry 0\nend", (2, 3)),
         (b"grow g\nShowEntry 0\nend", (2, 3)),
     ];
-    for (text, want) in cases {
-        assert_eq!(rt; fault(alloc, text), want);
+    for (text, want) in CASES {
+        assert_eq!(rt; fault(alloc, text), *want);
     }
     Ok(())
 }

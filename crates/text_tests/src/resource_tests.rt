@@ -1,26 +1,12 @@
 //! Calls of the Resource Manager from outside.
 
-use crate::script::{Script, read_script};
-use crate::transcript::{write_grow_reply, write_reply};
-use crate::word::Word;
+use crate::texts::{fault, is_bytes, is_number, script};
 use arrayvec::ArrayVec;
 use mac_words::{Call, Name, OsErr, OsType, Reply, ResourceCall};
-use std::alloc::Global;
+use script_text::{Word, write_grow_reply, write_reply};
+use std::alloc::{AllocError, Global};
 use std::process::Abort;
 use std::test::Fail;
-
-/// The line and the number of a script's fault; 0 and 0 where it has none.
-fn fault(alloc: Global, text: &[u8]) -> (usize, u8) {
-    match read_script(alloc, text) {
-        Ok(_) => (0, 0),
-        Err(fault) => (fault.line, fault.kind.number()),
-    }
-}
-
-/// The script that a text spells.
-fn script<R: Abort>(rt: &R, alloc: Global, text: &[u8]) -> Script {
-    read_script(alloc, text).ok().expect(rt, "a script")
-}
 
 /// The name of a resource.
 fn name<R: Abort>(rt: &R, letters: &[u8]) -> Name {
@@ -34,7 +20,7 @@ fn name<R: Abort>(rt: &R, letters: &[u8]) -> Name {
 #[test]
 fn reads_each_call(rt: HostRuntime) -> Result<(), Fail> {
     let alloc = rt.alloc();
-    let cases: [(&[u8], Word); 29] = [
+    const CASES: &[(&[u8], Word)] = &[
         (b"OpenResFile \"Doc\"", Word::OpenResFile),
         (b"CreateResFile \"Doc\"", Word::CreateResFile),
         (b"CloseResFile 3", Word::CloseResFile),
@@ -68,20 +54,25 @@ fn reads_each_call(rt: HostRuntime) -> Result<(), Fail> {
         (b"SetResLoad TRUE", Word::SetResLoad),
         (b"ResError", Word::ResError),
     ];
-    for (text, word) in cases {
+    for (text, word) in CASES {
         let script = script(&rt, alloc, text);
         assert_eq!(rt; script.steps().len(), 1);
         for line in script.steps() {
-            assert_eq!(rt; Word::of(&line.call), word);
+            assert_eq!(rt; Word::of(&line.call), *word);
         }
     }
     Ok(())
 }
 
+/// Checks that a type is the one that is wanted.
+fn is_type<R: Abort>(rt: &R, ty: &OsType, wanted: [u8; 4]) {
+    assert_eq!(rt; *ty, OsType(wanted));
+}
+
 #[test]
 fn reads_types_and_ids(rt: HostRuntime) -> Result<(), Fail> {
     let alloc = rt.alloc();
-    let cases: [(&[u8], [u8; 4], i16); 8] = [
+    const CASES: &[(&[u8], [u8; 4], i16)] = &[
         (b"GetResource h 'STR ' -32768", *b"STR ", -32768),
         (b"GetResource h 'STR#'\t32767 ", *b"STR#", 32767),
         (b"GetResource h '''''' -0", *b"''''", 0),
@@ -91,20 +82,35 @@ fn reads_types_and_ids(rt: HostRuntime) -> Result<(), Fail> {
         (b"GetResource h $53545220 1", *b"STR ", 1),
         (b"GetResource h $00fFAb27 1", [0, 255, 171, 39], 1),
     ];
-    for (text, ty, id) in cases {
+    for (text, ty, id) in CASES {
         let script = script(&rt, alloc, text);
         assert_eq!(rt; script.steps().len(), 1);
         for line in script.steps() {
             match &line.call {
                 Call::Resource(ResourceCall::GetResource(_, found, number)) => {
-                    assert_eq!(rt; *found, OsType(ty));
-                    assert_eq!(rt; *number, id);
+                    is_type(&rt, found, *ty);
+                    is_number(&rt, *number as i64, *id as i64);
                 }
                 _ => assert!(rt; false),
             }
         }
     }
     Ok(())
+}
+
+/// Checks the arguments of a call that names a file, a resource or a switch.
+fn has_text<R: Abort>(rt: &R, call: &ResourceCall) {
+    match call {
+        ResourceCall::OpenResFile(file) => is_bytes(rt, file.0.as_slice(), b"My Doc"),
+        ResourceCall::GetNamedResource(_, _, text) => is_bytes(rt, text.0.as_slice(), b""),
+        ResourceCall::Get1NamedResource(label, ty, text) => {
+            is_bytes(rt, label.0.as_slice(), b"_");
+            is_type(rt, ty, *b"STR ");
+            is_bytes(rt, text.0.as_slice(), b"No");
+        }
+        ResourceCall::SetResLoad(on) => assert!(rt; !*on),
+        _ => assert!(rt; false),
+    }
 }
 
 #[test]
@@ -116,22 +122,32 @@ fn reads_files_names_and_switches(rt: HostRuntime) -> Result<(), Fail> {
     assert_eq!(rt; script.steps().len(), 4);
     for line in script.steps() {
         match &line.call {
-            Call::Resource(ResourceCall::OpenResFile(file)) => {
-                assert_eq!(rt; file.0.as_slice(), b"My Doc".as_slice());
-            }
-            Call::Resource(ResourceCall::GetNamedResource(_, _, text)) => {
-                assert_eq!(rt; text.0.as_slice(), b"".as_slice());
-            }
-            Call::Resource(ResourceCall::Get1NamedResource(label, ty, text)) => {
-                assert_eq!(rt; label.0.as_slice(), b"_".as_slice());
-                assert_eq!(rt; *ty, OsType(*b"STR "));
-                assert_eq!(rt; text.0.as_slice(), b"No".as_slice());
-            }
-            Call::Resource(ResourceCall::SetResLoad(on)) => assert!(rt; !*on),
+            Call::Resource(call) => has_text(&rt, call),
             _ => assert!(rt; false),
         }
     }
     Ok(())
+}
+
+/// Checks the arguments of a call that changes a file or a resource.
+fn has_change<R: Abort>(rt: &R, call: &ResourceCall) {
+    match call {
+        ResourceCall::CreateResFile(file) => is_bytes(rt, file.0.as_slice(), b"My Doc"),
+        ResourceCall::UpdateResFile(number) => is_number(rt, *number as i64, 7),
+        ResourceCall::AddResource(label, ty, id, text) => {
+            is_bytes(rt, label.0.as_slice(), b"h");
+            is_type(rt, ty, *b"STR#");
+            is_number(rt, *id as i64, -128);
+            is_bytes(rt, text.0.as_slice(), b"a ");
+        }
+        ResourceCall::SetResInfo(label, id, text) => {
+            is_bytes(rt, label.0.as_slice(), b"_");
+            is_number(rt, *id as i64, 32767);
+            is_bytes(rt, text.0.as_slice(), b"");
+        }
+        ResourceCall::SetResAttrs(_, byte) => is_number(rt, *byte as i64, 255),
+        _ => assert!(rt; false),
+    }
 }
 
 #[test]
@@ -147,21 +163,7 @@ SetResAttrs h 255
     assert_eq!(rt; script.steps().len(), 5);
     for line in script.steps() {
         match &line.call {
-            Call::Resource(ResourceCall::CreateResFile(file)) => {
-                assert_eq!(rt; file.0.as_slice(), b"My Doc".as_slice());
-            }
-            Call::Resource(ResourceCall::UpdateResFile(number)) => assert_eq!(rt; *number, 7),
-            Call::Resource(ResourceCall::AddResource(label, ty, id, text)) => {
-                assert_eq!(rt; label.0.as_slice(), b"h".as_slice());
-                assert_eq!(rt; (*ty, *id), (OsType(*b"STR#"), -128));
-                assert_eq!(rt; text.0.as_slice(), b"a ".as_slice());
-            }
-            Call::Resource(ResourceCall::SetResInfo(label, id, text)) => {
-                assert_eq!(rt; label.0.as_slice(), b"_".as_slice());
-                assert_eq!(rt; *id, 32767);
-                assert_eq!(rt; text.0.as_slice(), b"".as_slice());
-            }
-            Call::Resource(ResourceCall::SetResAttrs(_, byte)) => assert_eq!(rt; *byte, 255),
+            Call::Resource(call) => has_change(&rt, call),
             _ => assert!(rt; false),
         }
     }
@@ -171,7 +173,7 @@ SetResAttrs h 255
 #[test]
 fn refuses_bad_arguments(rt: HostRuntime) -> Result<(), Fail> {
     let alloc = rt.alloc();
-    let cases: [&[u8]; 30] = [
+    const CASES: &[&[u8]] = &[
         // types
         b"Count1Resources",
         b"Count1Resources STR#",
@@ -207,7 +209,7 @@ fn refuses_bad_arguments(rt: HostRuntime) -> Result<(), Fail> {
         b"Get1IndType 2147483648",
         b"ResError 0",
     ];
-    for text in cases {
+    for text in CASES {
         assert_eq!(rt; fault(alloc, text), (1, 2));
     }
     Ok(())
@@ -216,7 +218,7 @@ fn refuses_bad_arguments(rt: HostRuntime) -> Result<(), Fail> {
 #[test]
 fn refuses_bad_arguments_of_what_is_to_be_changed(rt: HostRuntime) -> Result<(), Fail> {
     let alloc = rt.alloc();
-    let cases: [&[u8]; 28] = [
+    const CASES: &[&[u8]] = &[
         b"CreateResFile",
         b"CreateResFile \"\"",
         b"CreateResFile Doc",
@@ -246,7 +248,7 @@ fn refuses_bad_arguments_of_what_is_to_be_changed(rt: HostRuntime) -> Result<(),
         b"SetResAttrs h -1",
         b"SetResAttrs h $10",
     ];
-    for text in cases {
+    for text in CASES {
         assert_eq!(rt; fault(alloc, text), (1, 2));
     }
     Ok(())
@@ -266,7 +268,7 @@ fn line_of(alloc: Global, front: &[u8], bytes: usize) -> Result<Vec<u8>, Fail> {
 #[test]
 fn reads_files_of_63_and_names_of_255_bytes(rt: HostRuntime) -> Result<(), Fail> {
     let alloc = rt.alloc();
-    let cases: [(&[u8], usize, u8); 12] = [
+    const CASES: &[(&[u8], usize, u8)] = &[
         (b"OpenResFile ", 1, 0),
         (b"OpenResFile ", 63, 0),
         (b"OpenResFile ", 64, 2),
@@ -280,8 +282,8 @@ fn reads_files_of_63_and_names_of_255_bytes(rt: HostRuntime) -> Result<(), Fail>
         (b"SetResInfo h 128 ", 255, 0),
         (b"SetResInfo h 128 ", 256, 2),
     ];
-    for (front, bytes, want) in cases {
-        assert_eq!(rt; fault(alloc, &line_of(alloc, front, bytes)?).1, want);
+    for (front, bytes, want) in CASES {
+        assert_eq!(rt; fault(alloc, &line_of(alloc, front, *bytes)?).1, *want);
     }
     Ok(())
 }
@@ -289,7 +291,7 @@ fn reads_files_of_63_and_names_of_255_bytes(rt: HostRuntime) -> Result<(), Fail>
 #[test]
 fn reads_them_in_grow_zone_scripts(rt: HostRuntime) -> Result<(), Fail> {
     let alloc = rt.alloc();
-    let cases: [(&[u8], (usize, u8)); 16] = [
+    const CASES: &[(&[u8], (usize, u8))] = &[
         (b"grow g\nReleaseResource h\nend", (0, 0)),
         (b"grow g\nReleaseResource\nend", (2, 2)),
         (b"grow g\nReleaseResource 'STR '\nend", (2, 2)),
@@ -307,27 +309,29 @@ fn reads_them_in_grow_zone_scripts(rt: HostRuntime) -> Result<(), Fail> {
         (b"grow g\nSetResAttrs h 0\nend", (2, 3)),
         (b"grow g\nSetResAttrs h 256\nend", (2, 3)),
     ];
-    for (text, want) in cases {
-        assert_eq!(rt; fault(alloc, text), want);
+    for (text, want) in CASES {
+        assert_eq!(rt; fault(alloc, text), *want);
     }
     Ok(())
 }
 
-#[test]
-fn writes_types_and_names(rt: HostRuntime) -> Result<(), Fail> {
-    let alloc = rt.alloc();
-    let mut text = Vec::new(alloc);
+/// Appends what calls show that find or refuse.
+fn write_found<R: Abort>(rt: &R, text: &mut Vec<u8>) -> Result<(), AllocError> {
     let ty = OsType(*b"STR ");
-    let noted = Reply::info(-128, ty, name(&rt, b"Note"));
-    let unnamed = Reply::info(32767, OsType([0, 255, 171, 39]), name(&rt, b""));
+    let noted = Reply::info(-128, ty, name(rt, b"Note"));
+    let unnamed = Reply::info(32767, OsType([0, 255, 171, 39]), name(rt, b""));
     let refused = Reply::of(OsErr::RES_NOT_FOUND);
-    write_reply(&mut text, 1, Word::Count1Types, &Reply::count(2), None)?;
-    write_reply(&mut text, 2, Word::Get1IndType, &Reply::kind(ty), None)?;
-    write_reply(&mut text, 3, Word::GetResInfo, &noted, None)?;
-    write_reply(&mut text, 4, Word::GetResInfo, &unnamed, None)?;
-    write_grow_reply(&mut text, 5, Word::ReleaseResource, &refused, None)?;
+    write_reply(text, 1, Word::Count1Types, &Reply::count(2), None)?;
+    write_reply(text, 2, Word::Get1IndType, &Reply::kind(ty), None)?;
+    write_reply(text, 3, Word::GetResInfo, &noted, None)?;
+    write_reply(text, 4, Word::GetResInfo, &unnamed, None)?;
+    write_grow_reply(text, 5, Word::ReleaseResource, &refused, None)
+}
+
+/// Appends what calls show that change a file or a resource.
+fn write_changes(text: &mut Vec<u8>) -> Result<(), AllocError> {
     let done = Reply::of(OsErr::NO_ERR);
-    for word in [
+    const DONE: &[Word] = &[
         Word::CreateResFile,
         Word::UpdateResFile,
         Word::AddResource,
@@ -335,10 +339,24 @@ fn writes_types_and_names(rt: HostRuntime) -> Result<(), Fail> {
         Word::ChangedResource,
         Word::WriteResource,
         Word::SetResInfo,
-    ] {
-        write_reply(&mut text, 6, word, &done, None)?;
+    ];
+    for word in DONE {
+        write_reply(text, 6, *word, &done, None)?;
     }
-    write_reply(&mut text, 7, Word::SetResAttrs, &refused, None)?;
+    write_reply(
+        text,
+        7,
+        Word::SetResAttrs,
+        &Reply::of(OsErr::RES_NOT_FOUND),
+        None,
+    )
+}
+
+#[test]
+fn writes_types_and_names(rt: HostRuntime) -> Result<(), Fail> {
+    let mut text = Vec::new(rt.alloc());
+    write_found(&rt, &mut text)?;
+    write_changes(&mut text)?;
     assert_eq!(rt;
         text.as_slice(),
         b"1 Count1Types 0 2
