@@ -316,10 +316,11 @@ fn reads_them_in_grow_zone_scripts(rt: HostRuntime) -> Result<(), Fail> {
 }
 
 /// Appends what calls show that find or refuse.
-fn write_found<R: Abort>(rt: &R, text: &mut Vec<u8>) -> Result<(), AllocError> {
+fn write_found<R: Abort>(rt: &R, alloc: Global, text: &mut Vec<u8>) -> Result<(), AllocError> {
     let ty = OsType(*b"STR ");
-    let noted = Reply::info(-128, ty, name(rt, b"Note"));
-    let unnamed = Reply::info(32767, OsType([0, 255, 171, 39]), name(rt, b""));
+    let noted = Reply::info(-128, ty, Box::new(alloc, name(rt, b"Note"))?);
+    let empty = Box::new(alloc, name(rt, b""))?;
+    let unnamed = Reply::info(32767, OsType([0, 255, 171, 39]), empty);
     let refused = Reply::of(OsErr::RES_NOT_FOUND);
     write_reply(text, 1, Word::Count1Types, &Reply::count(2), None)?;
     write_reply(text, 2, Word::Get1IndType, &Reply::kind(ty), None)?;
@@ -354,8 +355,9 @@ fn write_changes(text: &mut Vec<u8>) -> Result<(), AllocError> {
 
 #[test]
 fn writes_types_and_names(rt: HostRuntime) -> Result<(), Fail> {
-    let mut text = Vec::new(rt.alloc());
-    write_found(&rt, &mut text)?;
+    let alloc = rt.alloc();
+    let mut text = Vec::new(alloc);
+    write_found(&rt, alloc, &mut text)?;
     write_changes(&mut text)?;
     assert_eq!(rt;
         text.as_slice(),

@@ -322,7 +322,9 @@ fn writes_values_in_order(rt: HostRuntime) -> Result<(), Fail> {
     reply.numbers.push(-128);
     reply.numbers.push(4294967295);
     reply.ty = Some(OsType(*b"STR "));
-    reply.name = ArrayVec::try_from(b"Menu".as_slice()).ok().map(Name);
+    if let Ok(name) = ArrayVec::try_from(b"Menu".as_slice()) {
+        reply.name = Some(Box::new(alloc, Name(name))?);
+    }
     let mut text = Vec::new(alloc);
     write_reply(&mut text, 17, Word::FreeMem, &reply, Some(&[171, 205]))?;
     reply.code = OsErr(-192);
