@@ -1,7 +1,7 @@
 //! Segments' blocks that are held high and loosened, over a list of blocks.
 
-use crate::{Heap, Refusal};
 use block_store::ListStore;
+use heap_calls::{Heap, Refusal};
 use mac_words::OsErr;
 use std::test::Fail;
 

@@ -2,63 +2,19 @@
 
 ghost use Rattle.std.specs.Prelude.{◌≡◌, ◌<◌, [], length};
 
-use crate::{Fetched, File, Resources, Unread};
-use arrayvec::ArrayVec;
-use block_store::ListStore;
-use fork_format::{Content, Group, Ref, write_fork};
-use heap_calls::{Heap, Refusal};
-use mac_words::{Attrs, FileName, OsErr, OsType};
+use crate::making::{
+    CODE, TEXT, file_name, file_of, fork_with, launched_alone, read_as, refused, resource,
+    wide_heap,
+};
+use heap_calls::Refusal;
+use mac_words::OsErr;
+use res_calls::{Fetched, Resources, Unread};
 use std::alloc::{AllocError, Global};
-use std::process::Abort;
 use std::test::Fail;
-
-const CODE: OsType = OsType(*b"CODE");
-
-const TEXT: OsType = OsType(*b"TEXT");
-
-/// The name of a file.
-fn name_of(bytes: &[u8]) -> FileName {
-    let mut name = ArrayVec::new();
-    for byte in bytes {
-        let _full = name.try_push(*byte).is_err();
-    }
-    FileName(name)
-}
-
-fn file_of(name: &[u8], fork: Vec<u8>) -> File {
-    File {
-        name: name_of(name),
-        fork,
-        written: false,
-    }
-}
-
-/// A content of no resources.
-fn nothing<'b>(alloc: Global) -> Content<'b>
-    ensures { result.groups.items ≡ [] }
-{
-    Content {
-        area: [0; 240],
-        attrs: 0,
-        groups: Vec::new(alloc),
-    }
-}
 
 /// The fork of 'CODE' 1.
 fn code_fork(alloc: Global, datum: &[u8]) -> Result<Vec<u8>, Fail> {
-    let code = Ref {
-        id: 1,
-        name: None,
-        attrs: Attrs(0),
-        datum,
-    };
-    let refs = vec![in alloc; code]?;
-    let mut content = nothing(alloc);
-    content.groups.push(Group { ty: CODE, refs })?;
-    match write_fork(alloc, &content) {
-        Ok(fork) => Ok(fork),
-        Err(_) => Err(Fail::new("a content that doesn't fit")),
-    }
+    fork_with(alloc, CODE, &[resource(1, None, 0, datum)])
 }
 
 /// A fork of 5,459 references of one type that share a datum of no bytes: more than a fork that is written has.
@@ -75,48 +31,23 @@ fn crowded_fork(alloc: Global) -> Result<Vec<u8>, AllocError> {
     Ok(fork)
 }
 
-/// An application with these files, and a System's file of no resources.
-fn launched_with(alloc: Global, files: Vec<File>) -> Result<Resources, Fail>
-    requires { 0 < length files.items }
-{
-    let system = nothing(alloc);
-    match Resources::new(alloc, files, &system) {
-        Ok(resources) => Ok(resources),
-        Err(_) => Err(Fail::new("the application's fork is not read")),
-    }
-}
-
 /// An application with a segment, a document with another one, and a crowded document.
 fn launched(alloc: Global) -> Result<Resources, Fail> {
     let mut files = Vec::new(alloc);
     files.push(file_of(b"App", code_fork(alloc, b"own")?))?;
     files.push(file_of(b"Doc", code_fork(alloc, b"doc")?))?;
     files.push(file_of(b"Big", crowded_fork(alloc)?))?;
-    launched_with(alloc, files)
-}
-
-/// A heap over a zone of 4096 bytes.
-fn heap_of(alloc: Global) -> Result<Heap<ListStore>, Fail> {
-    let store = ListStore::new(alloc, 4096)?;
-    Ok(Heap::new(alloc, store))
-}
-
-/// What was fetched: the handle, and whether it was read.
-fn read_as(handle: usize, read: bool) -> Result<Fetched, Unread> {
-    Ok(Fetched { handle, read })
+    launched_alone(alloc, files)
 }
 
 /// A fetch that finds nothing.
 fn not_found() -> Result<Fetched, Unread> {
-    Err(Unread {
-        refusal: Refusal::Code(OsErr::RES_NOT_FOUND),
-        reading: None,
-    })
+    refused(OsErr::RES_NOT_FOUND, None)
 }
 
 /// The fork of a file, and whether it was written.
 fn fork_at(resources: &Resources, index: usize) -> (&[u8], bool) {
-    match resources.files.get(index) {
+    match resources.files().get(index) {
         None => (b"none", false),
         Some(file) => (&file.fork, file.written),
     }
@@ -130,9 +61,9 @@ fn own_code(resources: &Resources) -> &[u8] {
 #[test]
 fn the_own_fork_is_read_whatever_the_current_file_is(rt: HostRuntime) -> Result<(), Fail> {
     let alloc = rt.alloc();
-    let mut heap = heap_of(alloc)?;
+    let mut heap = wide_heap(alloc)?;
     let mut resources = launched(alloc)?;
-    let open = resources.open_res_file(alloc, &mut heap, &name_of(b"Doc"));
+    let open = resources.open_res_file(alloc, &mut heap, &file_name(b"Doc"));
     assert_eq!(rt; open, Ok(3));
     assert_eq!(rt; own_code(&resources), b"own".as_slice());
     assert!(rt; resources.own_datum(CODE, 2).is_none());
@@ -158,16 +89,16 @@ fn the_own_fork_is_read_whatever_the_current_file_is(rt: HostRuntime) -> Result<
 #[test]
 fn the_own_fork_is_found_again_under_another_number(rt: HostRuntime) -> Result<(), Fail> {
     let alloc = rt.alloc();
-    let mut heap = heap_of(alloc)?;
+    let mut heap = wide_heap(alloc)?;
     let mut resources = launched(alloc)?;
     assert_eq!(rt; resources.fetch_own(&mut heap, CODE, 1), read_as(0, true));
-    let open = resources.open_res_file(alloc, &mut heap, &name_of(b"Doc"));
+    let open = resources.open_res_file(alloc, &mut heap, &file_name(b"Doc"));
     assert_eq!(rt; open, Ok(3));
     assert_eq!(rt; resources.close_res_file(alloc, &mut heap, 2), Ok(()));
     assert!(rt; resources.own_datum(CODE, 1).is_none());
     assert_eq!(rt; resources.own_handle(CODE, 1), None);
     assert_eq!(rt; resources.fetch_own(&mut heap, CODE, 1), not_found());
-    let again = resources.open_res_file(alloc, &mut heap, &name_of(b"App"));
+    let again = resources.open_res_file(alloc, &mut heap, &file_name(b"App"));
     assert_eq!(rt; again, Ok(4));
     assert_eq!(rt; resources.use_res_file(3), Ok(()));
     assert_eq!(rt; own_code(&resources), b"own".as_slice());
@@ -180,9 +111,9 @@ fn the_own_fork_is_found_again_under_another_number(rt: HostRuntime) -> Result<(
 #[test]
 fn files_are_updated_and_closed_as_an_application_leaves(rt: HostRuntime) -> Result<(), Fail> {
     let alloc = rt.alloc();
-    let mut heap = heap_of(alloc)?;
+    let mut heap = wide_heap(alloc)?;
     let mut resources = launched(alloc)?;
-    let doc = resources.open_res_file(alloc, &mut heap, &name_of(b"Doc"));
+    let doc = resources.open_res_file(alloc, &mut heap, &file_name(b"Doc"));
     assert_eq!(rt; doc, Ok(3));
     assert_eq!(rt;
         resources.get_resource(&mut heap, CODE, 1),
@@ -190,7 +121,7 @@ fn files_are_updated_and_closed_as_an_application_leaves(rt: HostRuntime) -> Res
     );
     assert_eq!(rt; heap.put(Some(0), 0, b"new"), Ok(()));
     assert_eq!(rt; resources.changed_resource(Some(0)), Ok(()));
-    let big = resources.open_res_file(alloc, &mut heap, &name_of(b"Big"));
+    let big = resources.open_res_file(alloc, &mut heap, &file_name(b"Big"));
     assert_eq!(rt; big, Ok(4));
     assert_eq!(rt;
         resources.get_resource(&mut heap, TEXT, 7),
@@ -200,7 +131,7 @@ fn files_are_updated_and_closed_as_an_application_leaves(rt: HostRuntime) -> Res
     // The crowded file is closed first, though it isn't written.
     assert_eq!(rt; resources.leave(alloc, &mut heap), Ok(OsErr::DISK_FULL));
     assert_eq!(rt; resources.cur_res_file(), 0);
-    assert_eq!(rt; resources.chain.len(), 1);
+    assert_eq!(rt; resources.open_files().len(), 1);
     let own = code_fork(alloc, b"own")?;
     assert_eq!(rt; fork_at(&resources, 0), (own.as_slice(), false));
     let new = code_fork(alloc, b"new")?;

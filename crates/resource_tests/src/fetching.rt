@@ -2,87 +2,37 @@
 
 ghost use Rattle.std.specs.Prelude.{◌<◌, ◌≤◌, length};
 
-use crate::{Fetched, File, Resources, Unread};
-use arrayvec::ArrayVec;
+use crate::making::{
+    DATA, file_name, file_of, fork_with, launched, launched_alone, name_of, narrow_heap, read_as,
+    refused, resource, wide_heap,
+};
 use block_store::ListStore;
-use fork_format::{Content, Group, Ref, RefName, read_fork, write_fork};
+use fork_format::Ref;
 use heap_calls::{Heap, Refusal};
-use mac_words::{Attrs, FileName, OsErr, OsType};
+use mac_words::{Attrs, OsErr, OsType};
+use res_calls::Resources;
 use std::alloc::Global;
-use std::process::Abort;
 use std::test::Fail;
 
 const STR: OsType = OsType(*b"STR ");
 
-const DATA: OsType = OsType(*b"DATA");
-
-fn name_of(bytes: &[u8]) -> RefName<'_>
-    requires { length bytes.now ≤ 255 }
-{
-    RefName { bytes }
-}
-
-fn resource<'b>(id: i16, name: Option<RefName<'b>>, attrs: u8, datum: &'b [u8]) -> Ref<'b> {
-    Ref {
-        id,
-        name,
-        attrs: Attrs(attrs),
-        datum,
-    }
-}
-
-/// The fork of these resources of one type.
-fn fork_of(alloc: Global, ty: OsType, resources: &[Ref<'_>]) -> Result<Vec<u8>, Fail> {
-    let refs = Vec::from_slice(alloc, resources)?;
-    let mut groups = Vec::new(alloc);
-    groups.push(Group { ty, refs })?;
-    let content = Content {
-        area: [0; 240],
-        attrs: 0,
-        groups,
-    };
-    Ok(write_fork(alloc, &content)?)
-}
-
-/// A file of this fork.
-fn file_of(name: &[u8], fork: Vec<u8>) -> File {
-    let mut letters = ArrayVec::new();
-    for byte in name {
-        let _full = letters.try_push(*byte).is_err();
-    }
-    File {
-        name: FileName(letters),
-        fork,
-        written: false,
-    }
-}
-
-/// The resources of an application with these files, and those of a System's fork.
-fn launched(alloc: Global, files: Vec<File>, system: &[u8]) -> Result<Resources, Fail>
-    requires { 0 < length files.items }
-{
-    let read = read_fork(alloc, system)?;
-    match Resources::new(alloc, files, &read) {
-        Ok(resources) => Ok(resources),
-        Err(_) => Err(Fail::new("the application's fork is not read")),
-    }
-}
-
 /// The System's file, the application's own, and two that were opened after it.
 fn chain_of_four(alloc: Global, heap: &mut Heap<ListStore>) -> Result<Resources, Fail> {
-    let own = fork_of(alloc, DATA, &[resource(1, None, 0, b"d")])?;
+    let own = fork_with(alloc, DATA, &[resource(1, None, 0, b"d")])?;
     let named = resource(5, Some(name_of(b"Menu")), 0, b"m1");
-    let middle = fork_of(alloc, STR, &[named, resource(5, None, 0, b"m2")])?;
-    let top = fork_of(alloc, STR, &[resource(5, None, 0, b"t")])?;
-    let system = fork_of(alloc, STR, &[resource(5, None, 0, b"s")])?;
+    let middle = fork_with(alloc, STR, &[named, resource(5, None, 0, b"m2")])?;
+    let top = fork_with(alloc, STR, &[resource(5, None, 0, b"t")])?;
+    let system = fork_with(alloc, STR, &[resource(5, None, 0, b"s")])?;
     let mut files = Vec::new(alloc);
     files.push(file_of(b"App", own))?;
     files.push(file_of(b"Mid", middle))?;
     files.push(file_of(b"Top", top))?;
     let mut resources = launched(alloc, files, &system)?;
     for name in [b"Mid", b"Top"] {
-        let name = file_of(name, Vec::new(alloc)).name;
-        if resources.open_res_file(alloc, heap, &name).is_err() {
+        if resources
+            .open_res_file(alloc, heap, &file_name(name))
+            .is_err()
+        {
             return Err(Fail::new("a file that isn't opened"));
         }
     }
@@ -91,51 +41,15 @@ fn chain_of_four(alloc: Global, heap: &mut Heap<ListStore>) -> Result<Resources,
 
 /// The application's own file beside an empty System's.
 fn own_file(alloc: Global, resources: &[Ref<'_>]) -> Result<Resources, Fail> {
-    let own = fork_of(alloc, DATA, resources)?;
+    let own = fork_with(alloc, DATA, resources)?;
     let mut files = Vec::new(alloc);
     files.push(file_of(b"App", own))?;
-    let empty = fork_of_nothing(alloc)?;
-    launched(alloc, files, &empty)
-}
-
-/// The fork of no resources.
-fn fork_of_nothing(alloc: Global) -> Result<Vec<u8>, Fail> {
-    let content = Content {
-        area: [0; 240],
-        attrs: 0,
-        groups: Vec::new(alloc),
-    };
-    Ok(write_fork(alloc, &content)?)
-}
-
-/// A heap over a zone of 4096 bytes.
-fn wide_heap(alloc: Global) -> Result<Heap<ListStore>, Fail> {
-    let store = ListStore::new(alloc, 4096)?;
-    Ok(Heap::new(alloc, store))
-}
-
-/// A heap over a zone of 1024 bytes.
-fn narrow_heap(alloc: Global) -> Result<Heap<ListStore>, Fail> {
-    let store = ListStore::new(alloc, 1024)?;
-    Ok(Heap::new(alloc, store))
+    launched_alone(alloc, files)
 }
 
 /// The bytes of a handle.
 fn bytes_of(heap: &Heap<ListStore>, handle: usize) -> &[u8] {
     heap.show(Some(handle)).unwrap_or(b"none")
-}
-
-/// What was fetched: the handle, and whether it was read.
-fn read_as(handle: usize, read: bool) -> Result<Fetched, Unread> {
-    Ok(Fetched { handle, read })
-}
-
-/// A fetch that was refused.
-fn refused(code: OsErr, reading: Option<usize>) -> Result<Fetched, Unread> {
-    Err(Unread {
-        refusal: Refusal::Code(code),
-        reading,
-    })
 }
 
 #[test]

@@ -2,72 +2,19 @@
 
 ghost use Rattle.std.specs.Prelude.{◌≡◌, ◌<◌, [], length};
 
-use crate::{Fetched, File, Resources, Unread};
-use arrayvec::ArrayVec;
-use block_store::ListStore;
-use fork_format::{Content, Group, Ref, write_fork};
-use heap_calls::{Heap, Refusal};
-use mac_words::{Attrs, FileName, OsErr, OsType};
+use crate::making::{
+    DATA, TEXT, file_name, file_of, fork_with, launched_alone, least_heap, narrow_heap, read_as,
+    refused, resource,
+};
+use heap_calls::Refusal;
+use mac_words::{Attrs, OsErr, OsType};
+use res_calls::{Fetched, Resources, Unread};
 use std::alloc::Global;
-use std::process::Abort;
 use std::test::Fail;
-
-const TEXT: OsType = OsType(*b"TEXT");
-
-const DATA: OsType = OsType(*b"DATA");
-
-/// The name of a file.
-fn name_of(bytes: &[u8]) -> FileName {
-    let mut name = ArrayVec::new();
-    for byte in bytes {
-        let _full = name.try_push(*byte).is_err();
-    }
-    FileName(name)
-}
-
-/// A content of no resources.
-fn nothing<'b>(alloc: Global) -> Content<'b>
-    ensures { result.groups.items ≡ [] }
-{
-    Content {
-        area: [0; 240],
-        attrs: 0,
-        groups: Vec::new(alloc),
-    }
-}
-
-/// A resource as it is stored.
-fn resource<'b>(id: i16, attrs: u8, datum: &'b [u8]) -> Ref<'b> {
-    Ref {
-        id,
-        name: None,
-        attrs: Attrs(attrs),
-        datum,
-    }
-}
-
-/// The fork of resources of one type.
-fn fork_with(alloc: Global, ty: OsType, resources: &[Ref<'_>]) -> Result<Vec<u8>, Fail> {
-    let refs = Vec::from_slice(alloc, resources)?;
-    let mut content = nothing(alloc);
-    content.groups.push(Group { ty, refs })?;
-    match write_fork(alloc, &content) {
-        Ok(fork) => Ok(fork),
-        Err(_) => Err(Fail::new("a content that doesn't fit")),
-    }
-}
 
 /// The fork of one resource with ID 128.
 fn fork_of(alloc: Global, ty: OsType, attrs: u8, datum: &[u8]) -> Result<Vec<u8>, Fail> {
-    fork_with(alloc, ty, &[resource(128, attrs, datum)])
-}
-
-fn file_of(name: &[u8], fork: Vec<u8>) -> File {
-    File {
-        name: name_of(name),
-        fork,
-        written: false,
-    }
+    fork_with(alloc, ty, &[resource(128, None, attrs, datum)])
 }
 
 /// An application with its own fork, a document, an empty file, and one that was cut short.
@@ -79,25 +26,14 @@ fn launched(alloc: Global) -> Result<Resources, Fail> {
     let whole = fork_of(alloc, TEXT, 0, b"Hi")?;
     let cut = Vec::from_slice(alloc, whole.as_slice().get(..305).unwrap_or(b""))?;
     files.push(file_of(b"Cut", cut))?;
-    launched_with(alloc, files)
-}
-
-/// An application with these files, and a System's file of no resources.
-fn launched_with(alloc: Global, files: Vec<File>) -> Result<Resources, Fail>
-    requires { 0 < length files.items }
-{
-    let system = nothing(alloc);
-    match Resources::new(alloc, files, &system) {
-        Ok(resources) => Ok(resources),
-        Err(_) => Err(Fail::new("the application's fork is not read")),
-    }
+    launched_alone(alloc, files)
 }
 
 /// An application of one file with this fork.
 fn application(alloc: Global, fork: Vec<u8>) -> Result<Resources, Fail> {
     let mut files = Vec::new(alloc);
     files.push(file_of(b"App", fork))?;
-    launched_with(alloc, files)
+    launched_alone(alloc, files)
 }
 
 /// An application of no resources with a document of this fork.
@@ -105,51 +41,42 @@ fn with_document(alloc: Global, fork: Vec<u8>) -> Result<Resources, Fail> {
     let mut files = Vec::new(alloc);
     files.push(file_of(b"App", fork_of(alloc, TEXT, 0, b"")?))?;
     files.push(file_of(b"Doc", fork))?;
-    launched_with(alloc, files)
+    launched_alone(alloc, files)
 }
 
-/// A handle that was fetched, read by the fetch or not.
-fn fetched(handle: usize, read: bool) -> Result<Fetched, Unread> {
-    Ok(Fetched { handle, read })
-}
-
-/// A fetch that finds no room, for a new handle or to read an emptied one again.
+/// A fetch that finds no room.
 fn without_room(reading: Option<usize>) -> Result<Fetched, Unread> {
-    Err(Unread {
-        refusal: Refusal::Code(OsErr::MEM_FULL),
-        reading,
-    })
+    refused(OsErr::MEM_FULL, reading)
 }
 
 #[test]
 fn files_are_opened_once(rt: HostRuntime) -> Result<(), Fail> {
     let alloc = rt.alloc();
-    let store = ListStore::new(alloc, 1024)?;
-    let mut heap = Heap::new(alloc, store);
+    let mut heap = narrow_heap(alloc)?;
     let mut resources = launched(alloc)?;
     assert_eq!(rt; resources.cur_res_file(), 2);
     assert_eq!(rt;
-        resources.open_res_file(alloc, &mut heap, &name_of(b"No")),
+        resources.open_res_file(alloc, &mut heap, &file_name(b"No")),
         Err(Refusal::Code(OsErr::FILE_NOT_FOUND))
     );
     assert_eq!(rt; resources.res_error(), OsErr::FILE_NOT_FOUND);
     assert_eq!(rt;
-        resources.open_res_file(alloc, &mut heap, &name_of(b"E")),
+        resources.open_res_file(alloc, &mut heap, &file_name(b"E")),
         Err(Refusal::Code(OsErr::END_OF_FILE))
     );
     assert_eq!(rt;
-        resources.open_res_file(alloc, &mut heap, &name_of(b"Cut")),
+        resources.open_res_file(alloc, &mut heap, &file_name(b"Cut")),
         Err(Refusal::Code(OsErr::MAP_READ))
     );
     // What could not be opened used up no number.
     assert_eq!(rt;
-        resources.open_res_file(alloc, &mut heap, &name_of(b"Doc")),
+        resources.open_res_file(alloc, &mut heap, &file_name(b"Doc")),
         Ok(3)
     );
     assert_eq!(rt; resources.cur_res_file(), 3);
     assert_eq!(rt; resources.use_res_file(2), Ok(()));
     assert_eq!(rt;
-        resources.open_res_file(alloc, &mut heap, &name_of(b"Doc")),
+        resources.open_res_file(alloc, &mut heap, &file_name(b"Doc")),
         Ok(3)
     );
     assert_eq!(rt; resources.cur_res_file(), 2);
@@ -165,10 +92,9 @@ fn files_are_opened_once(rt: HostRuntime) -> Result<(), Fail> {
 #[test]
 fn closed_files_get_new_numbers(rt: HostRuntime) -> Result<(), Fail> {
     let alloc = rt.alloc();
-    let store = ListStore::new(alloc, 1024)?;
-    let mut heap = Heap::new(alloc, store);
+    let mut heap = narrow_heap(alloc)?;
     let mut resources = launched(alloc)?;
-    let doc = name_of(b"Doc");
+    let doc = file_name(b"Doc");
     assert_eq!(rt; resources.open_res_file(alloc, &mut heap, &doc), Ok(3));
     assert_eq!(rt; resources.close_res_file(alloc, &mut heap, 3), Ok(()));
     assert_eq!(rt; resources.cur_res_file(), 2);
@@ -177,7 +103,7 @@ fn closed_files_get_new_numbers(rt: HostRuntime) -> Result<(), Fail> {
     assert_eq!(rt; resources.close_res_file(alloc, &mut heap, 2), Ok(()));
     assert_eq!(rt; resources.cur_res_file(), 4);
     assert_eq!(rt;
-        resources.open_res_file(alloc, &mut heap, &name_of(b"App")),
+        resources.open_res_file(alloc, &mut heap, &file_name(b"App")),
         Ok(5)
     );
     assert_eq!(rt; resources.close_res_file(alloc, &mut heap, 5), Ok(()));
@@ -198,11 +124,10 @@ fn closed_files_get_new_numbers(rt: HostRuntime) -> Result<(), Fail> {
 #[test]
 fn types_and_resources_are_counted_in_the_current_file(rt: HostRuntime) -> Result<(), Fail> {
     let alloc = rt.alloc();
-    let store = ListStore::new(alloc, 1024)?;
-    let mut heap = Heap::new(alloc, store);
+    let mut heap = narrow_heap(alloc)?;
     let mut resources = launched(alloc)?;
     assert_eq!(rt;
-        resources.open_res_file(alloc, &mut heap, &name_of(b"Doc")),
+        resources.open_res_file(alloc, &mut heap, &file_name(b"Doc")),
         Ok(3)
     );
     assert_eq!(rt; resources.count1_types(), 1);
@@ -226,17 +151,16 @@ fn types_and_resources_are_counted_in_the_current_file(rt: HostRuntime) -> Resul
 #[test]
 fn closing_lets_go_of_a_locked_handle(rt: HostRuntime) -> Result<(), Fail> {
     let alloc = rt.alloc();
-    let store = ListStore::new(alloc, 1024)?;
-    let mut heap = Heap::new(alloc, store);
+    let mut heap = narrow_heap(alloc)?;
     let fork = fork_of(alloc, DATA, Attrs::PRELOAD | Attrs::LOCKED, b"abc")?;
     let mut resources = with_document(alloc, fork)?;
-    let doc = name_of(b"Doc");
+    let doc = file_name(b"Doc");
     assert_eq!(rt; resources.open_res_file(alloc, &mut heap, &doc), Ok(3));
     assert_eq!(rt; heap.get_handle_size(Some(0)), Ok(3));
     assert_eq!(rt; heap.h_get_state(Some(0)), Ok(160));
     assert_eq!(rt;
         resources.get_resource(&mut heap, DATA, 128),
-        fetched(0, false)
+        read_as(0, false)
     );
     assert_eq!(rt; resources.close_res_file(alloc, &mut heap, 3), Ok(()));
     assert_eq!(rt;
@@ -248,7 +172,7 @@ fn closing_lets_go_of_a_locked_handle(rt: HostRuntime) -> Result<(), Fail> {
     assert_eq!(rt; resources.open_res_file(alloc, &mut heap, &doc), Ok(4));
     assert_eq!(rt;
         resources.get_resource(&mut heap, DATA, 128),
-        fetched(1, false)
+        read_as(1, false)
     );
     Ok(())
 }
@@ -256,25 +180,24 @@ fn closing_lets_go_of_a_locked_handle(rt: HostRuntime) -> Result<(), Fail> {
 #[test]
 fn a_later_resource_empties_an_earlier_one_that_is_purgeable(rt: HostRuntime) -> Result<(), Fail> {
     let alloc = rt.alloc();
-    let store = ListStore::new(alloc, 512)?;
-    let mut heap = Heap::new(alloc, store);
-    let first = resource(1, Attrs::PRELOAD | Attrs::PURGEABLE, &[1; 150]);
-    let other = resource(2, 0, b"two");
-    let last = resource(3, Attrs::PRELOAD, &[3; 150]);
+    let mut heap = least_heap(alloc)?;
+    let first = resource(1, None, Attrs::PRELOAD | Attrs::PURGEABLE, &[1; 150]);
+    let other = resource(2, None, 0, b"two");
+    let last = resource(3, None, Attrs::PRELOAD, &[3; 150]);
     let mut resources = with_document(alloc, fork_with(alloc, DATA, &[first, other, last])?)?;
     assert_eq!(rt;
-        resources.open_res_file(alloc, &mut heap, &name_of(b"Doc")),
+        resources.open_res_file(alloc, &mut heap, &file_name(b"Doc")),
         Ok(3)
     );
     assert_eq!(rt; heap.show(Some(0)), Err(Refusal::Code(OsErr::NIL_HANDLE)));
     assert_eq!(rt; heap.show(Some(1)), Ok([3; 150].as_slice()));
     assert_eq!(rt;
         resources.get_resource(&mut heap, DATA, 3),
-        fetched(1, false)
+        read_as(1, false)
     );
     assert_eq!(rt;
         resources.get_resource(&mut heap, DATA, 2),
-        fetched(2, true)
+        read_as(2, true)
     );
     assert_eq!(rt;
         resources.get_resource(&mut heap, DATA, 1),
@@ -286,9 +209,8 @@ fn a_later_resource_empties_an_earlier_one_that_is_purgeable(rt: HostRuntime) ->
 #[test]
 fn a_resource_that_finds_no_room_has_no_handle(rt: HostRuntime) -> Result<(), Fail> {
     let alloc = rt.alloc();
-    let store = ListStore::new(alloc, 512)?;
-    let mut heap = Heap::new(alloc, store);
-    let large = resource(1, Attrs::PRELOAD, &[7; 300]);
+    let mut heap = least_heap(alloc)?;
+    let large = resource(1, None, Attrs::PRELOAD, &[7; 300]);
     let mut resources = application(alloc, fork_with(alloc, DATA, &[large])?)?;
     assert!(rt; resources.preload(alloc, &mut heap).is_ok());
     assert_eq!(rt; resources.res_error(), OsErr::NO_ERR);
@@ -305,20 +227,19 @@ fn a_resource_that_finds_no_room_has_no_handle(rt: HostRuntime) -> Result<(), Fa
 #[test]
 fn nothing_is_read_where_loading_is_off(rt: HostRuntime) -> Result<(), Fail> {
     let alloc = rt.alloc();
-    let store = ListStore::new(alloc, 1024)?;
-    let mut heap = Heap::new(alloc, store);
+    let mut heap = narrow_heap(alloc)?;
     let fork = fork_of(alloc, DATA, Attrs::PRELOAD, b"abc")?;
     let mut resources = with_document(alloc, fork)?;
     resources.set_res_load(false);
     assert_eq!(rt;
-        resources.open_res_file(alloc, &mut heap, &name_of(b"Doc")),
+        resources.open_res_file(alloc, &mut heap, &file_name(b"Doc")),
         Ok(3)
     );
     assert_eq!(rt; heap.free_mem(), 752);
     resources.set_res_load(true);
     assert_eq!(rt;
         resources.get_resource(&mut heap, DATA, 128),
-        fetched(0, true)
+        read_as(0, true)
     );
     assert_eq!(rt; heap.show(Some(0)), Ok(b"abc".as_slice()));
     Ok(())
@@ -327,14 +248,13 @@ fn nothing_is_read_where_loading_is_off(rt: HostRuntime) -> Result<(), Fail> {
 #[test]
 fn a_resource_that_was_read_first_is_there(rt: HostRuntime) -> Result<(), Fail> {
     let alloc = rt.alloc();
-    let store = ListStore::new(alloc, 1024)?;
-    let mut heap = Heap::new(alloc, store);
-    let first = resource(1, Attrs::PRELOAD | Attrs::PURGEABLE, b"d");
+    let mut heap = narrow_heap(alloc)?;
+    let first = resource(1, None, Attrs::PRELOAD | Attrs::PURGEABLE, b"d");
     let mut resources = application(alloc, fork_with(alloc, DATA, &[first])?)?;
     assert!(rt; resources.preload(alloc, &mut heap).is_ok());
     assert_eq!(rt;
         resources.get_resource(&mut heap, DATA, 1),
-        fetched(0, false)
+        read_as(0, false)
     );
     assert_eq!(rt; heap.place_of(Some(0)), Ok(288));
     assert_eq!(rt; heap.h_get_state(Some(0)), Ok(96));
@@ -342,16 +262,16 @@ fn a_resource_that_was_read_first_is_there(rt: HostRuntime) -> Result<(), Fail> 
     resources.set_res_load(false);
     assert_eq!(rt;
         resources.get_resource(&mut heap, DATA, 1),
-        fetched(1, false)
+        read_as(1, false)
     );
     assert!(rt; heap.show(Some(1)).is_err());
     assert_eq!(rt;
         resources.load_resource(&mut heap, Some(1)),
-        fetched(1, true)
+        read_as(1, true)
     );
     assert_eq!(rt;
         resources.load_resource(&mut heap, Some(1)),
-        fetched(1, false)
+        read_as(1, false)
     );
     assert_eq!(rt; resources.detach_resource(&mut heap, Some(1)), Ok(()));
     assert_eq!(rt; heap.dispose_handle(Some(1)), Ok(()));

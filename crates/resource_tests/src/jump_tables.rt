@@ -2,18 +2,16 @@
 
 ghost use Rattle.std.specs.Prelude.{◌≡◌, ◌<◌, [], length};
 
-use crate::{Called, JumpTable, Shown, Unloaded};
-use arrayvec::ArrayVec;
+use crate::making::{CODE, file_name, file_of, fork_with, launched_alone, narrow_heap, resource};
 use block_store::ListStore;
-use fork_format::{Content, Group, Ref, write_fork};
+use fork_format::Ref;
 use heap_calls::{Heap, Refusal};
-use mac_words::{Attrs, FileName, OsErr, OsType};
-use res_calls::{File, Resources, Unread};
+use mac_words::OsErr;
+use res_calls::{Resources, Unread};
+use segments::{Called, JumpTable, Shown, Unloaded};
 use std::alloc::Global;
 use std::process::Abort;
 use std::test::Fail;
-
-const CODE: OsType = OsType(*b"CODE");
 
 /// 'CODE' 0 with two entries of segment 1.
 const TWO_ENTRIES: &[u8] =
@@ -122,7 +120,7 @@ impl App {
     fn open(&mut self, alloc: Global, name: &[u8]) -> Told {
         number(
             self.resources
-                .open_res_file(alloc, &mut self.heap, &name_of(name)),
+                .open_res_file(alloc, &mut self.heap, &file_name(name)),
         )
     }
 
@@ -185,55 +183,14 @@ impl App {
     }
 }
 
-/// The name of a file.
-fn name_of(bytes: &[u8]) -> FileName {
-    let mut name = ArrayVec::new();
-    for byte in bytes {
-        let _full = name.try_push(*byte).is_err();
-    }
-    FileName(name)
-}
-
 /// A 'CODE' of this ID.
 fn code(id: i16, datum: &[u8]) -> Ref<'_> {
-    Ref {
-        id,
-        name: None,
-        attrs: Attrs(0),
-        datum,
-    }
-}
-
-/// A content of no resources.
-fn nothing<'b>(alloc: Global) -> Content<'b>
-    ensures { result.groups.items ≡ [] }
-{
-    Content {
-        area: [0; 240],
-        attrs: 0,
-        groups: Vec::new(alloc),
-    }
+    resource(id, None, 0, datum)
 }
 
 /// The fork of these 'CODE's.
 fn fork_of(alloc: Global, codes: &[Ref<'_>]) -> Result<Vec<u8>, Fail> {
-    let refs = Vec::from_slice(alloc, codes)?;
-    let mut content = nothing(alloc);
-    if !codes.is_empty() {
-        content.groups.push(Group { ty: CODE, refs })?;
-    }
-    match write_fork(alloc, &content) {
-        Ok(fork) => Ok(fork),
-        Err(_) => Err(Fail::new("a content that doesn't fit")),
-    }
-}
-
-fn file_of(name: &[u8], fork: Vec<u8>) -> File {
-    File {
-        name: name_of(name),
-        fork,
-        written: false,
-    }
+    fork_with(alloc, CODE, codes)
 }
 
 /// The resources of an application with these 'CODE's, beside a document with a 'CODE' 1 of its own.
@@ -241,26 +198,15 @@ fn resources_of(alloc: Global, codes: &[Ref<'_>]) -> Result<Resources, Fail> {
     let mut files = Vec::new(alloc);
     files.push(file_of(b"App", fork_of(alloc, codes)?))?;
     files.push(file_of(b"Doc", fork_of(alloc, &[code(1, b"other")])?))?;
-    launched_with(alloc, files)
-}
-
-fn launched_with(alloc: Global, files: Vec<File>) -> Result<Resources, Fail>
-    requires { 0 < length files.items }
-{
-    let system = nothing(alloc);
-    match Resources::new(alloc, files, &system) {
-        Ok(resources) => Ok(resources),
-        Err(_) => Err(Fail::new("the application's fork is not read")),
-    }
+    launched_alone(alloc, files)
 }
 
 /// An application with these 'CODE's in a zone of 1024 bytes.
 fn app_of(alloc: Global, codes: &[Ref<'_>]) -> Result<App, Fail> {
     let resources = resources_of(alloc, codes)?;
     let table = JumpTable::read(alloc, resources.own_datum(CODE, 0))?;
-    let store = ListStore::new(alloc, 1024)?;
     Ok(App {
-        heap: Heap::new(alloc, store),
+        heap: narrow_heap(alloc)?,
         resources,
         table,
     })
@@ -298,7 +244,7 @@ const NONE: Told = Told::Refused(OsErr::PROFILE);
 
 #[test]
 fn a_segment_is_loaded_unloaded_and_called(rt: HostRuntime) -> Result<(), Fail> {
-    let lines = [
+    const LINES: &[(Line, Told)] = &[
         (Line::ShowEntry(0), Told::Entry(1, false)),
         (Line::Load(1), Told::Number(1)),
         (Line::Load(1), Told::Number(0)),
@@ -317,24 +263,24 @@ fn a_segment_is_loaded_unloaded_and_called(rt: HostRuntime) -> Result<(), Fail> 
         &rt,
         rt.alloc(),
         &[code(0, TWO_ENTRIES), code(1, BOTH)],
-        &lines,
+        LINES,
     )
 }
 
 #[test]
 fn an_application_without_segments_loads_none(rt: HostRuntime) -> Result<(), Fail> {
-    let lines = [
+    const LINES: &[(Line, Told)] = &[
         (Line::Load(1), FATAL),
         (Line::CallEntry(0), NONE),
         (Line::ShowEntry(0), NONE),
         (Line::Unload(1), Told::Done),
     ];
-    tells(&rt, rt.alloc(), &[], &lines)
+    tells(&rt, rt.alloc(), &[], LINES)
 }
 
 #[test]
 fn a_loaded_segment_without_a_block_is_not_called(rt: HostRuntime) -> Result<(), Fail> {
-    let lines = [
+    const LINES: &[(Line, Told)] = &[
         (Line::Load(1), Told::Number(1)),
         (Line::Unlock(0), Told::Done),
         (Line::Empty(0), Told::Done),
@@ -347,13 +293,13 @@ fn a_loaded_segment_without_a_block_is_not_called(rt: HostRuntime) -> Result<(),
         &rt,
         rt.alloc(),
         &[code(0, TWO_ENTRIES), code(1, BOTH)],
-        &lines,
+        LINES,
     )
 }
 
 #[test]
 fn a_busy_segment_is_not_unloaded(rt: HostRuntime) -> Result<(), Fail> {
-    let lines = [
+    const LINES: &[(Line, Told)] = &[
         (Line::Load(1), Told::Number(1)),
         (Line::Busy(0), Told::Done),
         (Line::Unload(1), Told::Refused(OsErr::LOCKED)),
@@ -363,40 +309,40 @@ fn a_busy_segment_is_not_unloaded(rt: HostRuntime) -> Result<(), Fail> {
         &rt,
         rt.alloc(),
         &[code(0, TWO_ENTRIES), code(1, BOTH)],
-        &lines,
+        LINES,
     )
 }
 
 #[test]
 fn a_table_has_no_more_entries_than_its_resource(rt: HostRuntime) -> Result<(), Fail> {
     let alloc = rt.alloc();
-    let lines = [
+    const LINES: &[(Line, Told)] = &[
         (Line::ShowEntry(0), Told::Entry(1, false)),
         (Line::ShowEntry(1), NONE),
     ];
     let long = one_entry(alloc, 255, FIRST)?;
-    tells(&rt, alloc, &[code(0, &long)], &lines)?;
+    tells(&rt, alloc, &[code(0, &long)], LINES)?;
     // Nor more than it says.
     let mut two = one_entry(alloc, 15, FIRST)?;
     two.extend_from_slice(FIRST)?;
-    tells(&rt, alloc, &[code(0, &two)], &lines)
+    tells(&rt, alloc, &[code(0, &two)], LINES)
 }
 
 #[test]
 fn fewer_than_sixteen_bytes_hold_no_entry(rt: HostRuntime) -> Result<(), Fail> {
-    let lines = [(Line::ShowEntry(0), NONE), (Line::Load(1), FATAL)];
+    const LINES: &[(Line, Told)] = &[(Line::ShowEntry(0), NONE), (Line::Load(1), FATAL)];
     tells(
         &rt,
         rt.alloc(),
         &[code(0, &TWO_ENTRIES[..15]), code(1, BOTH)],
-        &lines,
+        LINES,
     )
 }
 
 #[test]
 fn an_entry_of_another_form_belongs_to_no_segment(rt: HostRuntime) -> Result<(), Fail> {
     let alloc = rt.alloc();
-    let lines = [
+    const LINES: &[(Line, Told)] = &[
         (Line::ShowEntry(0), NONE),
         (Line::CallEntry(0), FATAL),
         (Line::Load(1), FATAL),
@@ -407,7 +353,7 @@ fn an_entry_of_another_form_belongs_to_no_segment(rt: HostRuntime) -> Result<(),
             &rt,
             alloc,
             &[code(0, &table), code(1, b"\0\0\0\x01")],
-            &lines,
+            LINES,
         )?;
     }
     Ok(())
@@ -416,7 +362,7 @@ fn an_entry_of_another_form_belongs_to_no_segment(rt: HostRuntime) -> Result<(),
 #[test]
 fn a_negative_segment_is_an_ordinary_one(rt: HostRuntime) -> Result<(), Fail> {
     let alloc = rt.alloc();
-    let lines = [
+    const LINES: &[(Line, Told)] = &[
         (Line::CallEntry(0), Told::Entry(-2, true)),
         (Line::ShowEntry(0), Told::Entry(-2, true)),
         (Line::Unload(-2), Told::Done),
@@ -427,7 +373,7 @@ fn a_negative_segment_is_an_ordinary_one(rt: HostRuntime) -> Result<(), Fail> {
         &rt,
         alloc,
         &[code(0, &table), code(-2, b"\0\0\0\x01")],
-        &lines,
+        LINES,
     )
 }
 
@@ -444,7 +390,7 @@ fn a_segment_is_loaded_with_the_entries_that_are_its_own(rt: HostRuntime) -> Res
         code(5, b"\0\x04\0\0"),
         code(6, b"\0\0\0"),
     ];
-    let lines = [
+    const LINES: &[(Line, Told)] = &[
         // It names an entry behind the table.
         (Line::Load(1), FATAL),
         // The entry is another segment's.
@@ -458,12 +404,12 @@ fn a_segment_is_loaded_with_the_entries_that_are_its_own(rt: HostRuntime) -> Res
         (Line::Load(0), FATAL),
         (Line::ShowEntry(0), Told::Entry(1, false)),
     ];
-    tells(&rt, alloc, &codes, &lines)
+    tells(&rt, alloc, &codes, LINES)
 }
 
 #[test]
 fn segments_come_from_the_own_fork(rt: HostRuntime) -> Result<(), Fail> {
-    let lines = [
+    const LINES: &[(Line, Told)] = &[
         (Line::OpenOther, Told::Number(3)),
         (Line::SetLoad(false), Told::Done),
         (Line::Load(1), Told::Number(1)),
@@ -484,7 +430,7 @@ fn segments_come_from_the_own_fork(rt: HostRuntime) -> Result<(), Fail> {
         &rt,
         rt.alloc(),
         &[code(0, TWO_ENTRIES), code(1, BOTH)],
-        &lines,
+        LINES,
     )
 }
 

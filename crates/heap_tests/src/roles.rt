@@ -1,7 +1,7 @@
 //! Handles of resources and of System resources, over a list of blocks.
 
-use crate::{Heap, Refusal};
 use block_store::ListStore;
+use heap_calls::{Heap, Refusal};
 use mac_words::OsErr;
 use std::test::Fail;
 

@@ -1,7 +1,7 @@
 //! Handles of resources that are made with their bytes, and emptied ones that get a block again.
 
-use crate::{Filling, Heap, Refusal};
 use block_store::{Flags, ListStore};
+use heap_calls::{Filling, Heap, Refusal};
 use mac_words::OsErr;
 use std::test::Fail;
 

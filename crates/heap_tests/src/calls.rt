@@ -1,7 +1,7 @@
 //! Calls over a list of blocks, with the values of the worked examples.
 
-use crate::{Heap, Refusal};
 use block_store::ListStore;
+use heap_calls::{Heap, Refusal};
 use mac_words::OsErr;
 use std::test::Fail;
 
