@@ -1,320 +1,276 @@
 //! Calls over a list of blocks, with the values of the worked examples.
 
-use block_store::ListStore;
-use heap_calls::{Heap, Refusal};
+use crate::script::{
+    A, B, BARRED, BUSY, C, Call, FULL, NIL, Told, WRONG, fill_slots, follows, tells, wide_heap,
+};
 use mac_words::OsErr;
 use std::test::Fail;
 
 #[test]
 fn places_blocks_and_finds_room_again(rt: HostRuntime) -> Result<(), Fail> {
-    let store = ListStore::new(rt.alloc(), 1024)?;
-    let mut heap = Heap::new(rt.alloc(), store);
-    let a = heap.new_handle(100).ok();
-    assert!(rt; a.is_some());
-    assert_eq!(rt; heap.put(a, 1, b"Hi"), Ok(()));
-    let b = heap.new_handle(3).ok();
-    assert_eq!(rt; heap.show(b).unwrap_or(b"none"), [0u8, 0, 0].as_slice());
-    assert_eq!(rt; heap.get_handle_size(a), Ok(100));
-    assert_eq!(rt; heap.dispose_handle(a), Ok(()));
-    assert_eq!(rt; heap.place_of(a), Err(Refusal::Code(OsErr::WRONG_ZONE)));
-    let c = heap.new_handle(500).ok();
-    assert_eq!(rt; heap.place_of(c), Ok(448));
-    assert_eq!(rt; heap.free_mem(), 192);
-    assert_eq!(rt; heap.new_handle(737), Err(Refusal::Code(OsErr::MEM_FULL)));
-    assert_eq!(rt; heap.put(b, 3, b"x"), Err(Refusal::Code(OsErr::PROFILE)));
-    assert_eq!(rt; heap.put(b, 3, b""), Ok(()));
-    assert_eq!(rt; heap.put(b, 4, b""), Err(Refusal::Code(OsErr::PROFILE)));
-    Ok(())
+    const ROWS: &[(Call, Told)] = &[
+        (Call::NewHandle(100), Told::Made(0)),
+        (Call::Put(A, 1, b"Hi"), Told::Done),
+        (Call::NewHandle(3), Told::Made(1)),
+        (Call::Shows(B, b"\0\0\0"), Told::Is(true)),
+        (Call::GetHandleSize(A), Told::Number(100)),
+        (Call::DisposeHandle(A), Told::Done),
+        (Call::PlaceOf(A), WRONG),
+        (Call::NewHandle(500), Told::Made(2)),
+        (Call::PlaceOf(C), Told::Number(448)),
+        (Call::FreeMem, Told::Number(192)),
+        (Call::NewHandle(737), FULL),
+        (Call::Put(B, 3, b"x"), BARRED),
+        (Call::Put(B, 3, b""), Told::Done),
+        (Call::Put(B, 4, b""), BARRED),
+    ];
+    tells(&rt, rt.alloc(), ROWS)
 }
 
 #[test]
 fn refuses_names_that_are_no_handles(rt: HostRuntime) -> Result<(), Fail> {
-    let store = ListStore::new(rt.alloc(), 1024)?;
-    let mut heap = Heap::new(rt.alloc(), store);
-    assert_eq!(rt;
-        heap.get_handle_size(None),
-        Err(Refusal::Code(OsErr::NIL_HANDLE))
-    );
-    let a = heap.new_handle(0).ok();
-    assert!(rt; heap.show(a).is_ok());
-    assert_eq!(rt; heap.place_of(a), Ok(288));
-    assert_eq!(rt; heap.free_mem(), 736);
-    assert_eq!(rt; heap.dispose_handle(a), Ok(()));
-    assert_eq!(rt;
-        heap.dispose_handle(a),
-        Err(Refusal::Code(OsErr::WRONG_ZONE))
-    );
-    assert_eq!(rt; heap.free_mem(), 752);
-    assert_eq!(rt;
-        heap.new_handle(2147483647),
-        Err(Refusal::Code(OsErr::MEM_FULL))
-    );
-    Ok(())
+    const ROWS: &[(Call, Told)] = &[
+        (Call::GetHandleSize(None), NIL),
+        (Call::NewHandle(0), Told::Made(0)),
+        (Call::Show(A), Told::Done),
+        (Call::PlaceOf(A), Told::Number(288)),
+        (Call::FreeMem, Told::Number(736)),
+        (Call::DisposeHandle(A), Told::Done),
+        (Call::DisposeHandle(A), WRONG),
+        (Call::FreeMem, Told::Number(752)),
+        (Call::NewHandle(2147483647), FULL),
+    ];
+    tells(&rt, rt.alloc(), ROWS)
 }
 
 #[test]
 fn makes_64_slots_more_where_all_are_used(rt: HostRuntime) -> Result<(), Fail> {
-    let store = ListStore::new(rt.alloc(), 4096)?;
-    let mut heap = Heap::new(rt.alloc(), store);
-    for _ in 0..64 {
-        assert!(rt; heap.new_handle(0).is_ok());
-    }
-    assert_eq!(rt; heap.free_mem(), 2800);
-    assert_eq!(rt; heap.new_handle(0), Ok(64));
-    assert_eq!(rt; heap.free_mem(), 2512);
-    assert_eq!(rt; heap.place_of(Some(0)), Ok(560));
-    assert_eq!(rt; heap.dispose_handle(Some(5)), Ok(()));
-    assert_eq!(rt; heap.new_handle(0), Ok(65));
-    assert_eq!(rt; heap.free_mem(), 2512);
+    const ROWS: &[(Call, Told)] = &[
+        (Call::FreeMem, Told::Number(2800)),
+        (Call::NewHandle(0), Told::Made(64)),
+        (Call::FreeMem, Told::Number(2512)),
+        (Call::PlaceOf(A), Told::Number(560)),
+        (Call::DisposeHandle(Some(5)), Told::Done),
+        (Call::NewHandle(0), Told::Made(65)),
+        (Call::FreeMem, Told::Number(2512)),
+    ];
+    let mut heap = wide_heap(rt.alloc())?;
+    fill_slots(&rt, &mut heap, 64);
+    follows(&rt, &mut heap, ROWS);
     Ok(())
 }
 
 #[test]
 fn looks_for_room_are_counted(rt: HostRuntime) -> Result<(), Fail> {
-    let store = ListStore::new(rt.alloc(), 1024)?;
-    let mut heap = Heap::new(rt.alloc(), store);
-    assert_eq!(rt; heap.searches(), 0);
-    let a = heap.new_handle(300).ok();
-    let b = heap.new_handle(300).ok();
-    assert_eq!(rt; heap.searches(), 2);
-    assert_eq!(rt; heap.h_purge(a), Ok(()));
-    assert_eq!(rt; heap.searches(), 2);
-    // No room, and then with a emptied.
-    assert!(rt; heap.new_handle(200).is_ok());
-    assert_eq!(rt; heap.searches(), 4);
-    // No room, and nothing left to empty.
-    assert_eq!(rt; heap.new_handle(737), Err(Refusal::Code(OsErr::MEM_FULL)));
-    assert_eq!(rt; heap.searches(), 5);
-    // A size that no block can have, and a block that is cut, take no look.
-    assert_eq!(rt;
-        heap.new_handle(2147483647),
-        Err(Refusal::Code(OsErr::MEM_FULL))
-    );
-    assert_eq!(rt; heap.set_handle_size(b, 100), Ok(()));
-    assert_eq!(rt; heap.searches(), 5);
-    // A Free block stands already.
-    assert_eq!(rt; heap.compact_mem(16), 288);
-    assert_eq!(rt; heap.searches(), 6);
-    assert_eq!(rt; heap.purge_mem(5000), Err(Refusal::Code(OsErr::MEM_FULL)));
-    assert_eq!(rt; heap.searches(), 7);
-    // All runs are settled: there is one with blocks.
-    assert_eq!(rt; heap.compact_mem(5000), 384);
-    assert_eq!(rt; heap.searches(), 9);
-    Ok(())
+    const ROWS: &[(Call, Told)] = &[
+        (Call::Searches, Told::Number(0)),
+        (Call::NewHandle(300), Told::Made(0)),
+        (Call::NewHandle(300), Told::Made(1)),
+        (Call::Searches, Told::Number(2)),
+        (Call::HPurge(A), Told::Done),
+        (Call::Searches, Told::Number(2)),
+        // No room, and then with a emptied.
+        (Call::NewHandle(200), Told::Made(2)),
+        (Call::Searches, Told::Number(4)),
+        // No room, and nothing left to empty.
+        (Call::NewHandle(737), FULL),
+        (Call::Searches, Told::Number(5)),
+        // A size that no block can have, and a block that is cut, take no look.
+        (Call::NewHandle(2147483647), FULL),
+        (Call::SetHandleSize(B, 100), Told::Done),
+        (Call::Searches, Told::Number(5)),
+        // A Free block stands already.
+        (Call::CompactMem(16), Told::Number(288)),
+        (Call::Searches, Told::Number(6)),
+        (Call::PurgeMem(5000), FULL),
+        (Call::Searches, Told::Number(7)),
+        // All runs are settled: there is one with blocks.
+        (Call::CompactMem(5000), Told::Number(384)),
+        (Call::Searches, Told::Number(9)),
+    ];
+    tells(&rt, rt.alloc(), ROWS)
 }
 
 #[test]
 fn pointers_and_handles_are_told_apart(rt: HostRuntime) -> Result<(), Fail> {
-    let store = ListStore::new(rt.alloc(), 1024)?;
-    let mut heap = Heap::new(rt.alloc(), store);
-    let p = heap.new_pointer(20).ok();
-    let h = heap.new_handle(20).ok();
-    assert_eq!(rt; heap.place_of(p), Ok(288));
-    assert_eq!(rt; heap.put_pointer(p, 18, b"xy"), Ok(()));
-    assert_eq!(rt;
-        heap.put_pointer(p, 19, b"xy"),
-        Err(Refusal::Code(OsErr::PROFILE))
-    );
-    assert_eq!(rt;
-        heap.get_pointer_size(h),
-        Err(Refusal::Code(OsErr::WRONG_ZONE))
-    );
-    assert_eq!(rt;
-        heap.get_handle_size(p),
-        Err(Refusal::Code(OsErr::WRONG_ZONE))
-    );
-    assert_eq!(rt;
-        heap.get_pointer_size(None),
-        Err(Refusal::Code(OsErr::NIL_HANDLE))
-    );
-    assert_eq!(rt; heap.dispose_pointer(p), Ok(()));
-    assert_eq!(rt; heap.place_of(p), Err(Refusal::Code(OsErr::WRONG_ZONE)));
-    assert_eq!(rt;
-        heap.get_pointer_size(p),
-        Err(Refusal::Code(OsErr::WRONG_ZONE))
-    );
-    assert_eq!(rt; heap.place_of(h), Ok(336));
-    Ok(())
+    const ROWS: &[(Call, Told)] = &[
+        (Call::NewPointer(20), Told::Made(0)),
+        (Call::NewHandle(20), Told::Made(1)),
+        (Call::PlaceOf(A), Told::Number(288)),
+        (Call::PutPointer(A, 18, b"xy"), Told::Done),
+        (Call::PutPointer(A, 19, b"xy"), BARRED),
+        (Call::GetPointerSize(B), WRONG),
+        (Call::GetHandleSize(A), WRONG),
+        (Call::GetPointerSize(None), NIL),
+        (Call::DisposePointer(A), Told::Done),
+        (Call::PlaceOf(A), WRONG),
+        (Call::GetPointerSize(A), WRONG),
+        (Call::PlaceOf(B), Told::Number(336)),
+    ];
+    tells(&rt, rt.alloc(), ROWS)
 }
 
 #[test]
 fn counts_the_blocks_that_packing_moves_down(rt: HostRuntime) -> Result<(), Fail> {
-    let store = ListStore::new(rt.alloc(), 1024)?;
-    let mut heap = Heap::new(rt.alloc(), store);
-    let a = heap.new_handle(100).ok();
-    let b = heap.new_handle(3).ok();
-    assert_eq!(rt; heap.dispose_handle(a), Ok(()));
-    assert_eq!(rt; heap.moves(), 0);
-    assert_eq!(rt; heap.compact_mem(700), 704);
-    assert_eq!(rt; heap.moves(), 1);
-    assert_eq!(rt; heap.compact_mem(700), 704);
-    assert_eq!(rt; heap.moves(), 1);
-    assert_eq!(rt; heap.move_hhi(b), Ok(()));
-    assert_eq!(rt; heap.moves(), 1);
-    assert_eq!(rt; heap.max_mem(), 704);
-    assert_eq!(rt; heap.moves(), 2);
-    assert_eq!(rt; heap.set_handle_size(b, 700), Ok(()));
-    assert_eq!(rt; heap.moves(), 2);
-    Ok(())
+    const ROWS: &[(Call, Told)] = &[
+        (Call::NewHandle(100), Told::Made(0)),
+        (Call::NewHandle(3), Told::Made(1)),
+        (Call::DisposeHandle(A), Told::Done),
+        (Call::Moves, Told::Number(0)),
+        (Call::CompactMem(700), Told::Number(704)),
+        (Call::Moves, Told::Number(1)),
+        (Call::CompactMem(700), Told::Number(704)),
+        (Call::Moves, Told::Number(1)),
+        (Call::MoveHHi(B), Told::Done),
+        (Call::Moves, Told::Number(1)),
+        (Call::MaxMem, Told::Number(704)),
+        (Call::Moves, Told::Number(2)),
+        (Call::SetHandleSize(B, 700), Told::Done),
+        (Call::Moves, Told::Number(2)),
+    ];
+    tells(&rt, rt.alloc(), ROWS)
 }
-
-/// What a call on a busy name answers.
-const BUSY: Refusal = Refusal::Code(OsErr::LOCKED);
 
 #[test]
 fn a_busy_handle_bars_its_calls(rt: HostRuntime) -> Result<(), Fail> {
-    let store = ListStore::new(rt.alloc(), 1024)?;
-    let mut heap = Heap::new(rt.alloc(), store);
-    let a = heap.new_handle(2).ok();
-    assert_eq!(rt; heap.put(a, 0, b"Hi"), Ok(()));
-    heap.set_busy(0, true);
-    assert!(rt; heap.is_busy(0));
-    assert_eq!(rt; heap.get_handle_size(a), Err(BUSY));
-    assert_eq!(rt; heap.mem_error(), OsErr::LOCKED);
-    assert_eq!(rt; heap.free_mem(), 720);
-    assert_eq!(rt; heap.show(a), Err(BUSY));
-    assert_eq!(rt; heap.put(a, 0, b"No"), Err(BUSY));
-    assert_eq!(rt; heap.place_of(a), Err(BUSY));
-    assert_eq!(rt; heap.mem_error(), OsErr::NO_ERR);
-    assert_eq!(rt; heap.h_lock(a), Err(BUSY));
-    assert_eq!(rt; heap.hand_to_hand(a), Err(BUSY));
-    assert_eq!(rt; heap.dispose_handle(a), Err(BUSY));
-    assert_eq!(rt; heap.mem_error(), OsErr::LOCKED);
-    heap.set_busy(0, false);
-    assert!(rt; !heap.is_busy(0));
-    assert_eq!(rt; heap.show(a).unwrap_or(b"none"), b"Hi".as_slice());
-    assert_eq!(rt; heap.h_get_state(a), Ok(0));
-    assert_eq!(rt; heap.dispose_handle(a), Ok(()));
-    Ok(())
+    const ROWS: &[(Call, Told)] = &[
+        (Call::NewHandle(2), Told::Made(0)),
+        (Call::Put(A, 0, b"Hi"), Told::Done),
+        (Call::SetBusy(0, true), Told::Done),
+        (Call::IsBusy(0), Told::Is(true)),
+        (Call::GetHandleSize(A), BUSY),
+        (Call::MemError, Told::Code(OsErr::LOCKED)),
+        (Call::FreeMem, Told::Number(720)),
+        (Call::Show(A), BUSY),
+        (Call::Put(A, 0, b"No"), BUSY),
+        (Call::PlaceOf(A), BUSY),
+        (Call::MemError, Told::Code(OsErr::NO_ERR)),
+        (Call::HLock(A), BUSY),
+        (Call::HandToHand(A), BUSY),
+        (Call::DisposeHandle(A), BUSY),
+        (Call::MemError, Told::Code(OsErr::LOCKED)),
+        (Call::SetBusy(0, false), Told::Done),
+        (Call::IsBusy(0), Told::Is(false)),
+        (Call::Shows(A, b"Hi"), Told::Is(true)),
+        (Call::HGetState(A), Told::Number(0)),
+        (Call::DisposeHandle(A), Told::Done),
+    ];
+    tells(&rt, rt.alloc(), ROWS)
 }
 
 #[test]
 fn what_is_not_there_goes_before_what_is_busy(rt: HostRuntime) -> Result<(), Fail> {
-    let store = ListStore::new(rt.alloc(), 1024)?;
-    let mut heap = Heap::new(rt.alloc(), store);
-    let a = heap.new_handle(10).ok();
-    let b = heap.new_empty_handle().ok();
-    let p = heap.new_pointer(10).ok();
-    assert_eq!(rt; heap.h_lock(a), Ok(()));
-    heap.set_busy(0, true);
-    heap.set_busy(1, true);
-    heap.set_busy(2, true);
-    // Unbound, and a pointer where a handle is wanted.
-    assert_eq!(rt;
-        heap.get_handle_size(None),
-        Err(Refusal::Code(OsErr::NIL_HANDLE))
-    );
-    assert_eq!(rt;
-        heap.get_handle_size(p),
-        Err(Refusal::Code(OsErr::WRONG_ZONE))
-    );
-    // Emptied, and locked: busy goes first.
-    assert_eq!(rt; heap.get_handle_size(b), Err(BUSY));
-    assert_eq!(rt; heap.empty_handle(a), Err(BUSY));
-    heap.set_busy(0, false);
-    heap.set_busy(1, false);
-    assert_eq!(rt;
-        heap.get_handle_size(b),
-        Err(Refusal::Code(OsErr::NIL_HANDLE))
-    );
-    assert_eq!(rt; heap.empty_handle(a), Err(Refusal::Code(OsErr::PURGED)));
-    // Disposed of.
-    assert_eq!(rt; heap.dispose_handle(a), Ok(()));
-    heap.set_busy(0, true);
-    assert_eq!(rt;
-        heap.get_handle_size(a),
-        Err(Refusal::Code(OsErr::WRONG_ZONE))
-    );
-    assert_eq!(rt; heap.place_of(a), Err(Refusal::Code(OsErr::WRONG_ZONE)));
-    Ok(())
+    const ROWS: &[(Call, Told)] = &[
+        (Call::NewHandle(10), Told::Made(0)),
+        (Call::NewEmptyHandle, Told::Made(1)),
+        (Call::NewPointer(10), Told::Made(2)),
+        (Call::HLock(A), Told::Done),
+        (Call::SetBusy(0, true), Told::Done),
+        (Call::SetBusy(1, true), Told::Done),
+        (Call::SetBusy(2, true), Told::Done),
+        // Unbound, and a pointer where a handle is wanted.
+        (Call::GetHandleSize(None), NIL),
+        (Call::GetHandleSize(C), WRONG),
+        // Emptied, and locked: busy goes first.
+        (Call::GetHandleSize(B), BUSY),
+        (Call::EmptyHandle(A), BUSY),
+        (Call::SetBusy(0, false), Told::Done),
+        (Call::SetBusy(1, false), Told::Done),
+        (Call::GetHandleSize(B), NIL),
+        (Call::EmptyHandle(A), Told::Refused(OsErr::PURGED)),
+        // Disposed of.
+        (Call::DisposeHandle(A), Told::Done),
+        (Call::SetBusy(0, true), Told::Done),
+        (Call::GetHandleSize(A), WRONG),
+        (Call::PlaceOf(A), WRONG),
+    ];
+    tells(&rt, rt.alloc(), ROWS)
 }
 
 #[test]
 fn the_second_handle_is_asked_for_where_the_first_has_a_block(rt: HostRuntime) -> Result<(), Fail> {
-    let store = ListStore::new(rt.alloc(), 1024)?;
-    let mut heap = Heap::new(rt.alloc(), store);
-    let a = heap.new_handle(10).ok();
-    let b = heap.new_handle(10).ok();
-    heap.set_busy(1, true);
-    assert_eq!(rt; heap.hand_and_hand(a, b), Err(BUSY));
-    assert_eq!(rt; heap.pointer_and_hand(b, b"x"), Err(BUSY));
-    heap.set_busy(0, true);
-    assert_eq!(rt; heap.hand_and_hand(a, b), Err(BUSY));
-    heap.set_busy(0, false);
-    assert_eq!(rt; heap.empty_handle(a), Ok(()));
-    assert_eq!(rt;
-        heap.hand_and_hand(a, b),
-        Err(Refusal::Code(OsErr::NIL_HANDLE))
-    );
-    assert_eq!(rt; heap.reallocate_handle(a, 10), Ok(()));
-    heap.set_busy(1, false);
-    assert_eq!(rt; heap.get_handle_size(b), Ok(10));
-    assert_eq!(rt; heap.hand_and_hand(a, b), Ok(()));
-    assert_eq!(rt; heap.get_handle_size(b), Ok(20));
-    Ok(())
+    const ROWS: &[(Call, Told)] = &[
+        (Call::NewHandle(10), Told::Made(0)),
+        (Call::NewHandle(10), Told::Made(1)),
+        (Call::SetBusy(1, true), Told::Done),
+        (Call::HandAndHand(A, B), BUSY),
+        (Call::PointerAndHand(B, b"x"), BUSY),
+        (Call::SetBusy(0, true), Told::Done),
+        (Call::HandAndHand(A, B), BUSY),
+        (Call::SetBusy(0, false), Told::Done),
+        (Call::EmptyHandle(A), Told::Done),
+        (Call::HandAndHand(A, B), NIL),
+        (Call::ReallocateHandle(A, 10), Told::Done),
+        (Call::SetBusy(1, false), Told::Done),
+        (Call::GetHandleSize(B), Told::Number(10)),
+        (Call::HandAndHand(A, B), Told::Done),
+        (Call::GetHandleSize(B), Told::Number(20)),
+    ];
+    tells(&rt, rt.alloc(), ROWS)
 }
 
 #[test]
 fn a_busy_pointer_bars_its_calls(rt: HostRuntime) -> Result<(), Fail> {
-    let store = ListStore::new(rt.alloc(), 1024)?;
-    let mut heap = Heap::new(rt.alloc(), store);
-    let p = heap.new_pointer(20).ok();
-    heap.set_busy(0, true);
-    assert_eq!(rt; heap.put_pointer(p, 0, b"x"), Err(BUSY));
-    assert_eq!(rt; heap.show_pointer(p), Err(BUSY));
-    assert_eq!(rt; heap.place_of(p), Err(BUSY));
-    assert_eq!(rt; heap.mem_error(), OsErr::NO_ERR);
-    assert_eq!(rt; heap.get_pointer_size(p), Err(BUSY));
-    assert_eq!(rt; heap.set_pointer_size(p, 10), Err(BUSY));
-    assert_eq!(rt; heap.dispose_pointer(p), Err(BUSY));
-    assert_eq!(rt; heap.mem_error(), OsErr::LOCKED);
-    assert_eq!(rt;
-        heap.get_handle_size(p),
-        Err(Refusal::Code(OsErr::WRONG_ZONE))
-    );
-    heap.set_busy(0, false);
-    assert_eq!(rt; heap.get_pointer_size(p), Ok(20));
-    assert_eq!(rt; heap.dispose_pointer(p), Ok(()));
-    Ok(())
+    const ROWS: &[(Call, Told)] = &[
+        (Call::NewPointer(20), Told::Made(0)),
+        (Call::SetBusy(0, true), Told::Done),
+        (Call::PutPointer(A, 0, b"x"), BUSY),
+        (Call::ShowPointer(A), BUSY),
+        (Call::PlaceOf(A), BUSY),
+        (Call::MemError, Told::Code(OsErr::NO_ERR)),
+        (Call::GetPointerSize(A), BUSY),
+        (Call::SetPointerSize(A, 10), BUSY),
+        (Call::DisposePointer(A), BUSY),
+        (Call::MemError, Told::Code(OsErr::LOCKED)),
+        (Call::GetHandleSize(A), WRONG),
+        (Call::SetBusy(0, false), Told::Done),
+        (Call::GetPointerSize(A), Told::Number(20)),
+        (Call::DisposePointer(A), Told::Done),
+    ];
+    tells(&rt, rt.alloc(), ROWS)
 }
 
 #[test]
 fn three_numbers_are_busy_at_most(rt: HostRuntime) -> Result<(), Fail> {
-    let store = ListStore::new(rt.alloc(), 1024)?;
-    let mut heap = Heap::new(rt.alloc(), store);
-    heap.set_busy(7, true);
-    heap.set_busy(7, true);
-    heap.set_busy(7, false);
-    assert!(rt; !heap.is_busy(7));
-    heap.set_busy(1, true);
-    heap.set_busy(2, true);
-    heap.set_busy(3, true);
-    heap.set_busy(4, true);
-    assert!(rt; heap.is_busy(1) && heap.is_busy(2) && heap.is_busy(3));
-    assert!(rt; !heap.is_busy(4));
-    // The place of one that is idle again is taken.
-    heap.set_busy(2, false);
-    heap.set_busy(4, true);
-    assert!(rt; heap.is_busy(1) && heap.is_busy(3) && heap.is_busy(4));
-    Ok(())
+    const ROWS: &[(Call, Told)] = &[
+        (Call::SetBusy(7, true), Told::Done),
+        (Call::SetBusy(7, true), Told::Done),
+        (Call::SetBusy(7, false), Told::Done),
+        (Call::IsBusy(7), Told::Is(false)),
+        (Call::SetBusy(1, true), Told::Done),
+        (Call::SetBusy(2, true), Told::Done),
+        (Call::SetBusy(3, true), Told::Done),
+        (Call::SetBusy(4, true), Told::Done),
+        (Call::IsBusy(1), Told::Is(true)),
+        (Call::IsBusy(2), Told::Is(true)),
+        (Call::IsBusy(3), Told::Is(true)),
+        (Call::IsBusy(4), Told::Is(false)),
+        // The place of one that is idle again is taken.
+        (Call::SetBusy(2, false), Told::Done),
+        (Call::SetBusy(4, true), Told::Done),
+        (Call::IsBusy(1), Told::Is(true)),
+        (Call::IsBusy(3), Told::Is(true)),
+        (Call::IsBusy(4), Told::Is(true)),
+    ];
+    tells(&rt, rt.alloc(), ROWS)
 }
 
 #[test]
 fn the_bytes_to_be_had_are_free_or_may_be_emptied(rt: HostRuntime) -> Result<(), Fail> {
-    let store = ListStore::new(rt.alloc(), 1024)?;
-    let mut heap = Heap::new(rt.alloc(), store);
-    assert_eq!(rt; heap.len(), 1024);
-    assert_eq!(rt; heap.to_be_had(), 752);
-    let a = heap.new_handle(100).ok();
-    let b = heap.new_handle(100).ok();
-    assert_eq!(rt; heap.to_be_had(), 496);
-    assert_eq!(rt; heap.h_purge(a), Ok(()));
-    assert_eq!(rt; heap.to_be_had(), 624);
-    assert_eq!(rt; heap.h_purge(b), Ok(()));
-    assert_eq!(rt; heap.h_lock(b), Ok(()));
-    assert_eq!(rt; heap.to_be_had(), 624);
-    heap.keep_code(OsErr::MEM_FULL);
-    assert_eq!(rt; heap.mem_error(), OsErr::MEM_FULL);
-    assert_eq!(rt; heap.len(), 1024);
-    Ok(())
+    const ROWS: &[(Call, Told)] = &[
+        (Call::Len, Told::Number(1024)),
+        (Call::ToBeHad, Told::Number(752)),
+        (Call::NewHandle(100), Told::Made(0)),
+        (Call::NewHandle(100), Told::Made(1)),
+        (Call::ToBeHad, Told::Number(496)),
+        (Call::HPurge(A), Told::Done),
+        (Call::ToBeHad, Told::Number(624)),
+        (Call::HPurge(B), Told::Done),
+        (Call::HLock(B), Told::Done),
+        (Call::ToBeHad, Told::Number(624)),
+        (Call::KeepCode(OsErr::MEM_FULL), Told::Done),
+        (Call::MemError, Told::Code(OsErr::MEM_FULL)),
+        (Call::Len, Told::Number(1024)),
+    ];
+    tells(&rt, rt.alloc(), ROWS)
 }

@@ -8,4 +8,6 @@ mod filling;
 #[cfg(test)]
 mod roles;
 #[cfg(test)]
+mod script;
+#[cfg(test)]
 mod segments;

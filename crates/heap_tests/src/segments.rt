@@ -1,87 +1,81 @@
 //! Segments' blocks that are held high and loosened, over a list of blocks.
 
-use block_store::ListStore;
-use heap_calls::{Heap, Refusal};
+use crate::script::{A, B, C, Call, NIL, Told, tells};
 use mac_words::OsErr;
 use std::test::Fail;
 
 #[test]
 fn a_block_is_held_high_and_loosened(rt: HostRuntime) -> Result<(), Fail> {
-    let store = ListStore::new(rt.alloc(), 1024)?;
-    let mut heap = Heap::new(rt.alloc(), store);
-    let a = heap.new_handle(100).ok();
-    let b = heap.new_handle(100).ok();
-    assert_eq!(rt; heap.h_purge(a), Ok(()));
-    assert_eq!(rt;
-        heap.dispose_handle(None),
-        Err(Refusal::Code(OsErr::NIL_HANDLE))
-    );
-    let looks = heap.searches();
-    heap.hold_high(0);
-    // MemError tells what it told, and neither a look nor a move is counted.
-    assert_eq!(rt; heap.mem_error(), OsErr::NIL_HANDLE);
-    assert_eq!(rt; heap.searches(), looks);
-    assert_eq!(rt; heap.moves(), 0);
-    assert_eq!(rt; heap.place_of(a), Ok(912));
-    assert_eq!(rt; heap.place_of(b), Ok(288));
-    assert_eq!(rt; heap.h_get_state(a), Ok(192));
-    assert_eq!(rt; heap.max_mem(), 480);
-    assert!(rt; heap.has_block(0));
-    assert_eq!(rt;
-        heap.dispose_handle(None),
-        Err(Refusal::Code(OsErr::NIL_HANDLE))
-    );
-    heap.loosen(0);
-    assert_eq!(rt; heap.mem_error(), OsErr::NIL_HANDLE);
-    assert_eq!(rt; heap.place_of(a), Ok(912));
-    assert_eq!(rt; heap.h_get_state(a), Ok(64));
-    assert_eq!(rt; heap.max_mem(), 608);
-    assert!(rt; !heap.has_block(0) && heap.has_block(1));
-    Ok(())
+    const ROWS: &[(Call, Told)] = &[
+        (Call::NewHandle(100), Told::Made(0)),
+        (Call::NewHandle(100), Told::Made(1)),
+        (Call::HPurge(A), Told::Done),
+        (Call::DisposeHandle(None), NIL),
+        (Call::Searches, Told::Number(2)),
+        (Call::HoldHigh(0), Told::Done),
+        // MemError tells what it told, and neither a look nor a move is counted.
+        (Call::MemError, Told::Code(OsErr::NIL_HANDLE)),
+        (Call::Searches, Told::Number(2)),
+        (Call::Moves, Told::Number(0)),
+        (Call::PlaceOf(A), Told::Number(912)),
+        (Call::PlaceOf(B), Told::Number(288)),
+        (Call::HGetState(A), Told::Number(192)),
+        (Call::MaxMem, Told::Number(480)),
+        (Call::HasBlock(0), Told::Is(true)),
+        (Call::DisposeHandle(None), NIL),
+        (Call::Loosen(0), Told::Done),
+        (Call::MemError, Told::Code(OsErr::NIL_HANDLE)),
+        (Call::PlaceOf(A), Told::Number(912)),
+        (Call::HGetState(A), Told::Number(64)),
+        (Call::MaxMem, Told::Number(608)),
+        (Call::HasBlock(0), Told::Is(false)),
+        (Call::HasBlock(1), Told::Is(true)),
+    ];
+    tells(&rt, rt.alloc(), ROWS)
 }
 
 #[test]
 fn what_is_locked_or_emptied_stays(rt: HostRuntime) -> Result<(), Fail> {
-    let store = ListStore::new(rt.alloc(), 1024)?;
-    let mut heap = Heap::new(rt.alloc(), store);
-    let a = heap.new_handle(100).ok();
-    let b = heap.new_handle(100).ok();
-    assert_eq!(rt; heap.h_lock(a), Ok(()));
-    heap.hold_high(0);
-    assert_eq!(rt; heap.place_of(a), Ok(288));
-    assert_eq!(rt; heap.h_get_state(a), Ok(128));
-    assert_eq!(rt; heap.empty_handle(b), Ok(()));
-    heap.hold_high(1);
-    heap.loosen(1);
-    assert!(rt; !heap.has_block(1));
-    assert_eq!(rt; heap.free_mem(), 624);
-    assert_eq!(rt; heap.dispose_handle(b), Ok(()));
-    heap.hold_high(1);
-    heap.loosen(1);
-    // A number that was never given, and a pointer's.
-    heap.hold_high(99);
-    heap.loosen(99);
-    let p = heap.new_pointer(20).ok();
-    heap.hold_high(2);
-    heap.loosen(2);
-    assert_eq!(rt; heap.place_of(p), Ok(416));
-    assert_eq!(rt; heap.place_of(a), Ok(288));
-    Ok(())
+    const ROWS: &[(Call, Told)] = &[
+        (Call::NewHandle(100), Told::Made(0)),
+        (Call::NewHandle(100), Told::Made(1)),
+        (Call::HLock(A), Told::Done),
+        (Call::HoldHigh(0), Told::Done),
+        (Call::PlaceOf(A), Told::Number(288)),
+        (Call::HGetState(A), Told::Number(128)),
+        (Call::EmptyHandle(B), Told::Done),
+        (Call::HoldHigh(1), Told::Done),
+        (Call::Loosen(1), Told::Done),
+        (Call::HasBlock(1), Told::Is(false)),
+        (Call::FreeMem, Told::Number(624)),
+        (Call::DisposeHandle(B), Told::Done),
+        (Call::HoldHigh(1), Told::Done),
+        (Call::Loosen(1), Told::Done),
+        // A number that was never given, and a pointer's.
+        (Call::HoldHigh(99), Told::Done),
+        (Call::Loosen(99), Told::Done),
+        (Call::NewPointer(20), Told::Made(2)),
+        (Call::HoldHigh(2), Told::Done),
+        (Call::Loosen(2), Told::Done),
+        (Call::PlaceOf(C), Told::Number(416)),
+        (Call::PlaceOf(A), Told::Number(288)),
+    ];
+    tells(&rt, rt.alloc(), ROWS)
 }
 
 #[test]
 fn a_busy_handle_is_held(rt: HostRuntime) -> Result<(), Fail> {
-    let store = ListStore::new(rt.alloc(), 1024)?;
-    let mut heap = Heap::new(rt.alloc(), store);
-    let a = heap.new_handle(100).ok();
-    heap.set_busy(0, true);
-    heap.hold_high(0);
-    heap.set_busy(0, false);
-    assert_eq!(rt; heap.place_of(a), Ok(912));
-    assert_eq!(rt; heap.h_get_state(a), Ok(128));
-    heap.set_busy(0, true);
-    heap.loosen(0);
-    heap.set_busy(0, false);
-    assert_eq!(rt; heap.h_get_state(a), Ok(64));
-    Ok(())
+    const ROWS: &[(Call, Told)] = &[
+        (Call::NewHandle(100), Told::Made(0)),
+        (Call::SetBusy(0, true), Told::Done),
+        (Call::HoldHigh(0), Told::Done),
+        (Call::SetBusy(0, false), Told::Done),
+        (Call::PlaceOf(A), Told::Number(912)),
+        (Call::HGetState(A), Told::Number(128)),
+        (Call::SetBusy(0, true), Told::Done),
+        (Call::Loosen(0), Told::Done),
+        (Call::SetBusy(0, false), Told::Done),
+        (Call::HGetState(A), Told::Number(64)),
+    ];
+    tells(&rt, rt.alloc(), ROWS)
 }
