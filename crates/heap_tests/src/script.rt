@@ -11,7 +11,7 @@ use std::test::Fail;
 pub type Name = Option<usize>;
 
 /// A call of the Memory Manager, or of those that use its handles.
-#[derive(Clone, Copy, Debug)]
+#[derive(Clone, Copy)]
 pub enum Call {
     NewHandle(u32),
     NewEmptyHandle,
@@ -141,57 +141,16 @@ fn shown(answer: Result<&[u8], Refusal>) -> Told {
     }
 }
 
-/// Makes a call that tells nothing.
-fn silently(heap: &mut Heap<ListStore>, call: Call) -> Told {
-    match call {
-        Call::KeepCode(code) => heap.keep_code(code),
-        Call::SetBusy(number, busy) => heap.set_busy(number, busy),
-        Call::SetResource(number, resource) => heap.set_resource(number, resource),
-        Call::SetGuard(number, guarded) => heap.set_guard(number, guarded),
-        Call::Release(number) => heap.release(number),
-        Call::HoldHigh(number) => heap.hold_high(number),
-        Call::Loosen(number) => heap.loosen(number),
-        _ => {}
-    }
-    Told::Done
+fn shows(heap: &Heap<ListStore>, handle: Name, bytes: &[u8]) -> bool {
+    heap.show(handle).unwrap_or(b"none") == bytes
 }
 
-/// Asks what is so, and changes nothing.
-fn asked(heap: &mut Heap<ListStore>, call: Call) -> Told {
-    match call {
-        Call::Shows(handle, bytes) => Told::Is(heap.show(handle).unwrap_or(b"none") == bytes),
-        Call::Show(handle) => shown(heap.show(handle)),
-        Call::ShowPointer(pointer) => shown(heap.show_pointer(pointer)),
-        Call::PlaceOf(name) => number(heap.place_of(name)),
-        Call::MemError => Told::Code(heap.mem_error()),
-        Call::Searches => Told::Number(heap.searches()),
-        Call::Moves => Told::Number(heap.moves()),
-        Call::Len => Told::Number(u64::from(heap.len())),
-        Call::ToBeHad => Told::Number(u64::from(heap.to_be_had())),
-        Call::IsBusy(number) => Told::Is(heap.is_busy(number)),
-        Call::IsResource(handle) => Told::Is(heap.is_resource(handle)),
-        Call::HasBlock(number) => Told::Is(heap.has_block(number)),
-        other => silently(heap, other),
+/// Gives an emptied handle a block. One that has a block is none.
+fn refill(heap: &mut Heap<ListStore>, number: usize, bytes: &[u8], flags: Flags) -> Told {
+    if heap.has_block(number) {
+        return Told::Is(false);
     }
-}
-
-/// Makes a call on pointers, on resources' handles or on the whole zone.
-fn told_of_zone(heap: &mut Heap<ListStore>, call: Call) -> Told {
-    match call {
-        Call::NewPointer(size) => made(heap.new_pointer(size)),
-        Call::DisposePointer(pointer) => done(heap.dispose_pointer(pointer)),
-        Call::GetPointerSize(pointer) => number(heap.get_pointer_size(pointer)),
-        Call::SetPointerSize(pointer, size) => done(heap.set_pointer_size(pointer, size)),
-        Call::PutPointer(pointer, from, bytes) => done(heap.put_pointer(pointer, from, bytes)),
-        Call::FreeMem => Told::Number(u64::from(heap.free_mem())),
-        Call::CompactMem(size) => Told::Number(u64::from(heap.compact_mem(size))),
-        Call::PurgeMem(size) => done(heap.purge_mem(size)),
-        Call::MaxMem => Told::Number(u64::from(heap.max_mem())),
-        Call::NewResource(bytes, flags, guarded) => made(heap.new_resource(bytes, flags, guarded)),
-        Call::NewEmptyResource(guarded) => made(heap.new_empty_resource(guarded)),
-        Call::Refill(number, bytes, flags) => done(heap.refill(number, bytes, flags)),
-        other => asked(heap, other),
-    }
+    done(heap.refill(number, bytes, flags))
 }
 
 /// Makes a call.
@@ -205,6 +164,9 @@ fn tell(heap: &mut Heap<ListStore>, call: Call) -> Told {
         Call::ReallocateHandle(handle, size) => done(heap.reallocate_handle(handle, size)),
         Call::EmptyHandle(handle) => done(heap.empty_handle(handle)),
         Call::Put(handle, from, bytes) => done(heap.put(handle, from, bytes)),
+        Call::Shows(handle, bytes) => Told::Is(shows(heap, handle, bytes)),
+        Call::Show(handle) => shown(heap.show(handle)),
+        Call::PlaceOf(name) => number(heap.place_of(name)),
         Call::HLock(handle) => done(heap.h_lock(handle)),
         Call::HUnlock(handle) => done(heap.h_unlock(handle)),
         Call::HPurge(handle) => done(heap.h_purge(handle)),
@@ -214,7 +176,55 @@ fn tell(heap: &mut Heap<ListStore>, call: Call) -> Told {
         Call::HandToHand(handle) => made(heap.hand_to_hand(handle)),
         Call::HandAndHand(from, to) => done(heap.hand_and_hand(from, to)),
         Call::PointerAndHand(handle, bytes) => done(heap.pointer_and_hand(handle, bytes)),
-        other => told_of_zone(heap, other),
+        Call::NewPointer(size) => made(heap.new_pointer(size)),
+        Call::DisposePointer(pointer) => done(heap.dispose_pointer(pointer)),
+        Call::GetPointerSize(pointer) => number(heap.get_pointer_size(pointer)),
+        Call::SetPointerSize(pointer, size) => done(heap.set_pointer_size(pointer, size)),
+        Call::PutPointer(pointer, from, bytes) => done(heap.put_pointer(pointer, from, bytes)),
+        Call::ShowPointer(pointer) => shown(heap.show_pointer(pointer)),
+        Call::FreeMem => Told::Number(u64::from(heap.free_mem())),
+        Call::CompactMem(size) => Told::Number(u64::from(heap.compact_mem(size))),
+        Call::PurgeMem(size) => done(heap.purge_mem(size)),
+        Call::MaxMem => Told::Number(u64::from(heap.max_mem())),
+        Call::MemError => Told::Code(heap.mem_error()),
+        Call::Searches => Told::Number(heap.searches()),
+        Call::Moves => Told::Number(heap.moves()),
+        Call::Len => Told::Number(u64::from(heap.len())),
+        Call::ToBeHad => Told::Number(u64::from(heap.to_be_had())),
+        Call::KeepCode(code) => {
+            heap.keep_code(code);
+            Told::Done
+        }
+        Call::SetBusy(number, busy) => {
+            heap.set_busy(number, busy);
+            Told::Done
+        }
+        Call::IsBusy(number) => Told::Is(heap.is_busy(number)),
+        Call::NewResource(bytes, flags, guarded) => made(heap.new_resource(bytes, flags, guarded)),
+        Call::NewEmptyResource(guarded) => made(heap.new_empty_resource(guarded)),
+        Call::Refill(number, bytes, flags) => refill(heap, number, bytes, flags),
+        Call::IsResource(handle) => Told::Is(heap.is_resource(handle)),
+        Call::SetResource(number, resource) => {
+            heap.set_resource(number, resource);
+            Told::Done
+        }
+        Call::SetGuard(number, guarded) => {
+            heap.set_guard(number, guarded);
+            Told::Done
+        }
+        Call::HasBlock(number) => Told::Is(heap.has_block(number)),
+        Call::Release(number) => {
+            heap.release(number);
+            Told::Done
+        }
+        Call::HoldHigh(number) => {
+            heap.hold_high(number);
+            Told::Done
+        }
+        Call::Loosen(number) => {
+            heap.loosen(number);
+            Told::Done
+        }
     }
 }
 

@@ -1,17 +1,14 @@
 //! Resources are found along a chain of files, fetched, and let go.
 
-ghost use Rattle.std.specs.Prelude.{◌<◌, ◌≤◌, length};
-
-use crate::making::{
-    DATA, file_name, file_of, fork_with, launched, launched_alone, name_of, narrow_heap, read_as,
-    refused, resource, wide_heap,
-};
+use crate::making::{DATA, file_name, file_of, fork_with, launched, launched_alone, name_of, narrow_heap, resource, wide_heap};
+use crate::script::{Call, Managers, NONE, NOT_FOUND, Told, follows};
 use block_store::ListStore;
 use fork_format::Ref;
-use heap_calls::{Heap, Refusal};
+use heap_calls::Heap;
 use mac_words::{Attrs, OsErr, OsType};
 use res_calls::Resources;
 use std::alloc::Global;
+use std::process::Abort;
 use std::test::Fail;
 
 const STR: OsType = OsType(*b"STR ");
@@ -47,114 +44,108 @@ fn own_file(alloc: Global, resources: &[Ref<'_>]) -> Result<Resources, Fail> {
     launched_alone(alloc, files)
 }
 
-/// The bytes of a handle.
-fn bytes_of(heap: &Heap<ListStore>, handle: usize) -> &[u8] {
-    heap.show(Some(handle)).unwrap_or(b"none")
+/// The calls of an application with these resources of its own, in a zone of 1024 bytes.
+fn tells_of(
+    rt: &impl Abort,
+    alloc: Global,
+    own: &[Ref<'_>],
+    rows: &[(Call, Told)],
+) -> Result<(), Fail> {
+    let mut managers = Managers {
+        resources: own_file(alloc, own)?,
+        heap: narrow_heap(alloc)?,
+    };
+    follows(rt, alloc, &mut managers, rows);
+    Ok(())
+}
+
+/// The calls of an application with four files, in a zone of 4096 bytes.
+fn tells_of_four(rt: &impl Abort, alloc: Global, rows: &[(Call, Told)]) -> Result<(), Fail> {
+    let mut heap = wide_heap(alloc)?;
+    let resources = chain_of_four(alloc, &mut heap)?;
+    let mut managers = Managers { heap, resources };
+    follows(rt, alloc, &mut managers, rows);
+    Ok(())
 }
 
 #[test]
 fn current_file_and_those_before_it_are_searched(rt: HostRuntime) -> Result<(), Fail> {
-    let alloc = rt.alloc();
-    let mut heap = wide_heap(alloc)?;
-    let mut files = chain_of_four(alloc, &mut heap)?;
-    assert_eq!(rt; files.get_resource(&mut heap, STR, 5), read_as(0, true));
-    assert_eq!(rt; bytes_of(&heap, 0), b"t".as_slice());
-    assert_eq!(rt; files.use_res_file(3), Ok(()));
-    assert_eq!(rt; files.get_resource(&mut heap, STR, 5), read_as(1, true));
-    assert_eq!(rt; bytes_of(&heap, 1), b"m1".as_slice());
-    assert_eq!(rt; files.get1_resource(&mut heap, STR, 5), read_as(1, false));
-    assert_eq!(rt;
-        files.get_named_resource(&mut heap, STR, b"mENU"),
-        read_as(1, false)
-    );
-    assert_eq!(rt;
-        files.get1_named_resource(&mut heap, STR, b"x"),
-        refused(OsErr::RES_NOT_FOUND, None)
-    );
-    assert_eq!(rt; files.res_error(), OsErr::RES_NOT_FOUND);
-    assert_eq!(rt;
-        files.get1_ind_resource(&mut heap, STR, 2),
-        read_as(2, true)
-    );
-    assert_eq!(rt; bytes_of(&heap, 2), b"m2".as_slice());
-    assert_eq!(rt;
-        files.get1_ind_resource(&mut heap, STR, 3),
-        refused(OsErr::RES_NOT_FOUND, None)
-    );
-    Ok(())
+    const ROWS: &[(Call, Told)] = &[
+        (Call::Get(STR, 5), Told::Fetched(0, true)),
+        (Call::Shows(Some(0), b"t"), Told::Is(true)),
+        (Call::UseFile(3), Told::Done),
+        (Call::Get(STR, 5), Told::Fetched(1, true)),
+        (Call::Shows(Some(1), b"m1"), Told::Is(true)),
+        (Call::GetOne(STR, 5), Told::Fetched(1, false)),
+        (Call::GetNamed(STR, b"mENU"), Told::Fetched(1, false)),
+        (Call::GetOneNamed(STR, b"x"), NOT_FOUND),
+        (Call::ResError, Told::Code(OsErr::RES_NOT_FOUND)),
+        (Call::GetOneInd(STR, 2), Told::Fetched(2, true)),
+        (Call::Shows(Some(2), b"m2"), Told::Is(true)),
+        (Call::GetOneInd(STR, 3), NOT_FOUND),
+    ];
+    tells_of_four(&rt, rt.alloc(), ROWS)
 }
 
 #[test]
 fn systems_file_is_searched_last(rt: HostRuntime) -> Result<(), Fail> {
-    let alloc = rt.alloc();
-    let mut heap = wide_heap(alloc)?;
-    let mut files = chain_of_four(alloc, &mut heap)?;
-    assert_eq!(rt; files.use_res_file(3), Ok(()));
-    assert_eq!(rt; files.count1_types(), 1);
-    assert_eq!(rt; files.get1_ind_type(1), Ok(STR));
-    assert_eq!(rt; files.count1_resources(STR), 2);
-    assert_eq!(rt; files.use_res_file(2), Ok(()));
-    assert_eq!(rt;
-        files.get1_resource(&mut heap, STR, 5),
-        refused(OsErr::RES_NOT_FOUND, None)
-    );
-    assert_eq!(rt; files.get_resource(&mut heap, STR, 5), read_as(0, true));
-    assert_eq!(rt; bytes_of(&heap, 0), b"s".as_slice());
-    assert_eq!(rt; files.home_res_file(Some(0)), Ok(0));
-    assert_eq!(rt;
-        heap.put(Some(0), 0, b"x"),
-        Err(Refusal::Code(OsErr::PROFILE))
-    );
-    assert_eq!(rt;
-        files.use_res_file(9),
-        Err(Refusal::Code(OsErr::RES_FILE_NOT_FOUND))
-    );
-    Ok(())
+    const ROWS: &[(Call, Told)] = &[
+        (Call::UseFile(3), Told::Done),
+        (Call::CountTypes, Told::Count(1)),
+        (Call::IndType(1), Told::Type(STR)),
+        (Call::CountOf(STR), Told::Count(2)),
+        (Call::UseFile(2), Told::Done),
+        (Call::GetOne(STR, 5), NOT_FOUND),
+        (Call::Get(STR, 5), Told::Fetched(0, true)),
+        (Call::Shows(Some(0), b"s"), Told::Is(true)),
+        (Call::HomeFile(Some(0)), Told::Number(0)),
+        (Call::Put(Some(0), 0, b"x"), Told::Refused(OsErr::PROFILE)),
+        (Call::UseFile(9), Told::Refused(OsErr::RES_FILE_NOT_FOUND)),
+    ];
+    tells_of_four(&rt, rt.alloc(), ROWS)
 }
 
 #[test]
 fn handle_is_released_loaded_and_detached(rt: HostRuntime) -> Result<(), Fail> {
-    let alloc = rt.alloc();
-    let mut files = own_file(alloc, &[resource(1, None, 36, b"d")])?;
-    let mut heap = narrow_heap(alloc)?;
-    assert_eq!(rt; files.get_resource(&mut heap, DATA, 1), read_as(0, true));
-    assert_eq!(rt; heap.h_get_state(Some(0)), Ok(96));
-    assert_eq!(rt; files.release_resource(&mut heap, Some(0)), Ok(()));
-    files.set_res_load(false);
-    assert_eq!(rt; files.get_resource(&mut heap, DATA, 1), read_as(1, false));
-    assert_eq!(rt; heap.show(Some(1)), Err(Refusal::Code(OsErr::NIL_HANDLE)));
-    assert_eq!(rt; files.load_resource(&mut heap, Some(1)), read_as(1, true));
-    assert_eq!(rt; files.load_resource(&mut heap, Some(1)), read_as(1, false));
-    assert_eq!(rt; bytes_of(&heap, 1), b"d".as_slice());
-    assert_eq!(rt; files.detach_resource(&mut heap, Some(1)), Ok(()));
-    assert_eq!(rt;
-        files.load_resource(&mut heap, Some(1)),
-        refused(OsErr::RES_NOT_FOUND, None)
-    );
-    assert_eq!(rt; heap.dispose_handle(Some(1)), Ok(()));
-    Ok(())
+    const ROWS: &[(Call, Told)] = &[
+        (Call::Get(DATA, 1), Told::Fetched(0, true)),
+        (Call::GetState(Some(0)), Told::Number(96)),
+        (Call::ReleaseHandle(Some(0)), Told::Done),
+        (Call::SetLoad(false), Told::Done),
+        (Call::Get(DATA, 1), Told::Fetched(1, false)),
+        (Call::Show(Some(1)), Told::Refused(OsErr::NIL_HANDLE)),
+        (Call::Load(Some(1)), Told::Fetched(1, true)),
+        (Call::Load(Some(1)), Told::Fetched(1, false)),
+        (Call::Shows(Some(1), b"d"), Told::Is(true)),
+        (Call::Detach(Some(1)), Told::Done),
+        (Call::Load(Some(1)), NOT_FOUND),
+        (Call::Dispose(Some(1)), Told::Done),
+    ];
+    tells_of(&rt, rt.alloc(), &[resource(1, None, 36, b"d")], ROWS)
 }
 
 #[test]
 fn flags_are_those_of_the_attributes(rt: HostRuntime) -> Result<(), Fail> {
+    const ROWS: &[(Call, Told)] = &[
+        (Call::Get(DATA, 1), Told::Fetched(0, true)),
+        (Call::GetState(Some(0)), Told::Number(160)),
+        (Call::GetNamed(DATA, b"CAF\xc9"), Told::Fetched(1, true)),
+        (Call::Shows(Some(1), b"two"), Told::Is(true)),
+        (Call::Empty(Some(1)), Told::Done),
+        (Call::Get(DATA, 2), Told::Fetched(1, true)),
+        (Call::Shows(Some(1), b"two"), Told::Is(true)),
+        (Call::Attrs(Some(0)), Told::Attrs(Attrs(16))),
+        (Call::SizeOnDisk(Some(1)), Told::Count(3)),
+    ];
     let alloc = rt.alloc();
     let locked = resource(1, Some(name_of(b"caf\xe9")), 16, b"one");
     let other = resource(2, Some(name_of(b"caf\xc9")), 32, b"two");
-    let mut files = own_file(alloc, &[locked, other])?;
-    let mut heap = narrow_heap(alloc)?;
-    assert_eq!(rt; files.get_resource(&mut heap, DATA, 1), read_as(0, true));
-    assert_eq!(rt; heap.h_get_state(Some(0)), Ok(160));
-    assert_eq!(rt;
-        files.get_named_resource(&mut heap, DATA, b"CAF\xc9"),
-        read_as(1, true)
-    );
-    assert_eq!(rt; bytes_of(&heap, 1), b"two".as_slice());
-    assert_eq!(rt; heap.empty_handle(Some(1)), Ok(()));
-    assert_eq!(rt; files.get_resource(&mut heap, DATA, 2), read_as(1, true));
-    assert_eq!(rt; bytes_of(&heap, 1), b"two".as_slice());
-    assert_eq!(rt; files.get_res_attrs(Some(0)), Ok(Attrs(16)));
-    assert_eq!(rt; files.get_resource_size_on_disk(Some(1)), Ok(3));
-    let info = files.get_res_info(Some(0));
+    let mut managers = Managers {
+        resources: own_file(alloc, &[locked, other])?,
+        heap: narrow_heap(alloc)?,
+    };
+    follows(&rt, alloc, &mut managers, ROWS);
+    let info = managers.resources.get_res_info(Some(0));
     let Ok(info) = info else {
         return Err(Fail::new("a resource without what is stored of it"));
     };
@@ -165,59 +156,42 @@ fn flags_are_those_of_the_attributes(rt: HostRuntime) -> Result<(), Fail> {
 
 #[test]
 fn resource_without_room_isnt_fetched(rt: HostRuntime) -> Result<(), Fail> {
-    let alloc = rt.alloc();
-    let long = resource(1, None, 32, &[7; 600]);
-    let mut files = own_file(alloc, &[long])?;
-    let mut heap = narrow_heap(alloc)?;
-    assert_eq!(rt; heap.new_handle(400), Ok(0));
-    assert_eq!(rt;
-        files.get_resource(&mut heap, DATA, 1),
-        refused(OsErr::MEM_FULL, None)
-    );
-    assert_eq!(rt; files.res_error(), OsErr::MEM_FULL);
-    assert_eq!(rt;
-        files.home_res_file(Some(1)),
-        Err(Refusal::Code(OsErr::RES_NOT_FOUND))
-    );
-    assert_eq!(rt; heap.dispose_handle(Some(0)), Ok(()));
-    assert_eq!(rt; files.get_resource(&mut heap, DATA, 1), read_as(1, true));
-    assert_eq!(rt; heap.empty_handle(Some(1)), Ok(()));
-    assert_eq!(rt; heap.new_handle(400), Ok(2));
-    assert_eq!(rt;
-        files.get_resource(&mut heap, DATA, 1),
-        refused(OsErr::MEM_FULL, Some(1))
-    );
-    assert_eq!(rt; files.home_res_file(Some(1)), Ok(2));
-    Ok(())
+    const ROWS: &[(Call, Told)] = &[
+        (Call::NewHandle(400), Told::Count(0)),
+        (Call::Get(DATA, 1), Told::Unread(OsErr::MEM_FULL, None)),
+        (Call::ResError, Told::Code(OsErr::MEM_FULL)),
+        (Call::HomeFile(Some(1)), NONE),
+        (Call::Dispose(Some(0)), Told::Done),
+        (Call::Get(DATA, 1), Told::Fetched(1, true)),
+        (Call::Empty(Some(1)), Told::Done),
+        (Call::NewHandle(400), Told::Count(2)),
+        (Call::Get(DATA, 1), Told::Unread(OsErr::MEM_FULL, Some(1))),
+        (Call::HomeFile(Some(1)), Told::Number(2)),
+    ];
+    tells_of(&rt, rt.alloc(), &[resource(1, None, 32, &[7; 600])], ROWS)
 }
 
 #[test]
 fn what_is_no_resource_is_refused(rt: HostRuntime) -> Result<(), Fail> {
-    let alloc = rt.alloc();
-    let mut files = own_file(alloc, &[resource(1, None, 0, b"d")])?;
-    let mut heap = narrow_heap(alloc)?;
-    let none = Refusal::Code(OsErr::RES_NOT_FOUND);
-    assert_eq!(rt; heap.new_handle(8), Ok(0));
-    assert_eq!(rt; files.home_res_file(Some(0)), Err(none));
-    assert_eq!(rt; files.res_error(), OsErr::RES_NOT_FOUND);
-    assert_eq!(rt; files.home_res_file(None), Err(none));
-    assert!(rt; files.get_res_info(None).is_err());
-    assert_eq!(rt; files.get_res_attrs(None), Err(none));
-    assert_eq!(rt; files.get_resource_size_on_disk(None), Err(none));
-    assert_eq!(rt;
-        files.load_resource(&mut heap, None),
-        refused(OsErr::RES_NOT_FOUND, None)
-    );
-    assert_eq!(rt; files.release_resource(&mut heap, None), Err(none));
-    assert_eq!(rt; files.detach_resource(&mut heap, None), Err(none));
-    assert_eq!(rt; files.get_resource(&mut heap, DATA, 1), read_as(1, true));
-    assert_eq!(rt; files.res_error(), OsErr::NO_ERR);
-    heap.set_busy(0, true);
-    heap.set_busy(1, true);
-    assert_eq!(rt; files.release_resource(&mut heap, Some(0)), Err(none));
-    let busy = Err(Refusal::Code(OsErr::LOCKED));
-    assert_eq!(rt; files.release_resource(&mut heap, Some(1)), busy);
-    assert_eq!(rt; files.res_error(), OsErr::LOCKED);
-    assert_eq!(rt; files.home_res_file(Some(1)), Ok(2));
-    Ok(())
+    const ROWS: &[(Call, Told)] = &[
+        (Call::NewHandle(8), Told::Count(0)),
+        (Call::HomeFile(Some(0)), NONE),
+        (Call::ResError, Told::Code(OsErr::RES_NOT_FOUND)),
+        (Call::HomeFile(None), NONE),
+        (Call::Info(None), NONE),
+        (Call::Attrs(None), NONE),
+        (Call::SizeOnDisk(None), NONE),
+        (Call::Load(None), NOT_FOUND),
+        (Call::ReleaseHandle(None), NONE),
+        (Call::Detach(None), NONE),
+        (Call::Get(DATA, 1), Told::Fetched(1, true)),
+        (Call::ResError, Told::Code(OsErr::NO_ERR)),
+        (Call::SetBusy(0, true), Told::Done),
+        (Call::SetBusy(1, true), Told::Done),
+        (Call::ReleaseHandle(Some(0)), NONE),
+        (Call::ReleaseHandle(Some(1)), Told::Refused(OsErr::LOCKED)),
+        (Call::ResError, Told::Code(OsErr::LOCKED)),
+        (Call::HomeFile(Some(1)), Told::Number(2)),
+    ];
+    tells_of(&rt, rt.alloc(), &[resource(1, None, 0, b"d")], ROWS)
 }

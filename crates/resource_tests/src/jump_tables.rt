@@ -2,12 +2,12 @@
 
 ghost use Rattle.std.specs.Prelude.{◌≡◌, ◌<◌, [], length};
 
+use crate::script::{Call, Managers, Told, follows, refused, tell};
 use crate::making::{CODE, file_name, file_of, fork_with, launched_alone, narrow_heap, resource};
-use block_store::ListStore;
 use fork_format::Ref;
-use heap_calls::{Heap, Refusal};
+use heap_calls::Refusal;
 use mac_words::OsErr;
-use res_calls::{Resources, Unread};
+use res_calls::Resources;
 use segments::{Called, JumpTable, Shown, Unloaded};
 use std::alloc::Global;
 use std::process::Abort;
@@ -20,64 +20,21 @@ const TWO_ENTRIES: &[u8] =
 /// 'CODE' 1 that names both, and returns twice.
 const BOTH: &[u8] = b"\0\0\0\x02\x4e\x75\x4e\x75";
 
-/// A call, with the numbers of handles.
-#[derive(Clone, Copy, Debug)]
+/// A call of the Segment Manager, or of another.
+#[derive(Clone, Copy)]
 enum Line {
     Load(i16),
     Unload(i16),
     CallEntry(u32),
     ShowEntry(u32),
-    Get(i16),
-    Where(usize),
-    Unlock(usize),
-    Empty(usize),
-    PurgeAll,
-    Busy(usize),
-    SetLoad(bool),
-    UseFile(u32),
-    CloseFile(u32),
-    OpenOwn,
-    OpenOther,
-}
-
-/// What it came to.
-#[derive(Clone, Copy, Debug, PartialEq, Eq)]
-enum Told {
-    Done,
-    Number(u32),
-    Fetched(usize, bool),
-    Entry(i16, bool),
-    Refused(OsErr),
-    HostMemory,
+    Other(Call),
 }
 
 /// An application.
 #[derive(Drop)]
 struct App {
-    heap: Heap<ListStore>,
-    resources: Resources,
+    managers: Managers,
     table: JumpTable,
-}
-
-fn refused(refusal: Refusal) -> Told {
-    match refusal {
-        Refusal::Code(code) => Told::Refused(code),
-        Refusal::HostMemory => Told::HostMemory,
-    }
-}
-
-fn done(answer: Result<(), Refusal>) -> Told {
-    match answer {
-        Ok(()) => Told::Done,
-        Err(refusal) => refused(refusal),
-    }
-}
-
-fn number(answer: Result<u32, Refusal>) -> Told {
-    match answer {
-        Ok(number) => Told::Number(number),
-        Err(refusal) => refused(refusal),
-    }
 }
 
 fn loaded(answer: Result<bool, Unloaded>) -> Told {
@@ -108,78 +65,26 @@ fn unloaded(answer: Result<(), OsErr>) -> Told {
     }
 }
 
-impl App {
-    /// Gets 'CODE' of this ID from the current file and those opened before it.
-    fn get(&mut self, id: i16) -> Told {
-        match self.resources.get_resource(&mut self.heap, CODE, id) {
-            Ok(fetched) => Told::Fetched(fetched.handle, fetched.read),
-            Err(Unread { refusal, .. }) => refused(refusal),
-        }
-    }
+fn load(of: &mut Managers, table: &mut JumpTable, segment: i16) -> Result<bool, Unloaded> {
+    table.load(&mut of.heap, &mut of.resources, segment)
+}
 
-    fn open(&mut self, alloc: Global, name: &[u8]) -> Told {
-        number(
-            self.resources
-                .open_res_file(alloc, &mut self.heap, &file_name(name)),
-        )
-    }
+fn unload(of: &mut Managers, table: &mut JumpTable, segment: i16) -> Result<(), OsErr> {
+    table.unload(&mut of.heap, &of.resources, segment)
+}
 
-    fn busy(&mut self, number: usize) -> Told {
-        self.heap.set_busy(number, true);
-        Told::Done
-    }
+fn call(of: &mut Managers, table: &mut JumpTable, index: u32) -> Result<Called, Unloaded> {
+    table.call(&mut of.heap, &mut of.resources, index)
+}
 
-    fn set_load(&mut self, on: bool) -> Told {
-        self.resources.set_res_load(on);
-        Told::Done
-    }
-
-    fn close(&mut self, alloc: Global, number: u32) -> Told {
-        done(self.resources.close_res_file(alloc, &mut self.heap, number))
-    }
-
-    fn load(&mut self, segment: i16) -> Told {
-        loaded(
-            self.table
-                .load(&mut self.heap, &mut self.resources, segment),
-        )
-    }
-
-    fn unload(&mut self, segment: i16) -> Told {
-        unloaded(self.table.unload(&mut self.heap, &self.resources, segment))
-    }
-
-    fn call(&mut self, index: u32) -> Told {
-        called(self.table.call(&mut self.heap, &mut self.resources, index))
-    }
-
-    /// Makes a call of the Segment Manager or of the Resource Manager.
-    fn tell(&mut self, alloc: Global, line: Line) -> Told {
-        match line {
-            Line::Load(segment) => self.load(segment),
-            Line::Unload(segment) => self.unload(segment),
-            Line::CallEntry(index) => self.call(index),
-            Line::ShowEntry(index) => shown(self.table.show(index)),
-            Line::Get(id) => self.get(id),
-            Line::SetLoad(on) => self.set_load(on),
-            Line::UseFile(number) => done(self.resources.use_res_file(number)),
-            Line::CloseFile(number) => self.close(alloc, number),
-            Line::OpenOwn => self.open(alloc, b"App"),
-            Line::OpenOther => self.open(alloc, b"Doc"),
-            other => self.tell_heap(other),
-        }
-    }
-
-    /// Makes a call of the Memory Manager.
-    fn tell_heap(&mut self, line: Line) -> Told {
-        match line {
-            Line::Where(handle) => number(self.heap.place_of(Some(handle))),
-            Line::Unlock(handle) => done(self.heap.h_unlock(Some(handle))),
-            Line::Empty(handle) => done(self.heap.empty_handle(Some(handle))),
-            Line::PurgeAll => done(self.heap.purge_mem(4096)),
-            Line::Busy(handle) => self.busy(handle),
-            _ => Told::Done,
-        }
+/// Makes a call.
+fn tell_app(alloc: Global, app: &mut App, line: Line) -> Told {
+    match line {
+        Line::Load(segment) => loaded(load(&mut app.managers, &mut app.table, segment)),
+        Line::Unload(segment) => unloaded(unload(&mut app.managers, &mut app.table, segment)),
+        Line::CallEntry(index) => called(call(&mut app.managers, &mut app.table, index)),
+        Line::ShowEntry(index) => shown(app.table.show(index)),
+        Line::Other(other) => tell(alloc, &mut app.managers, other),
     }
 }
 
@@ -205,9 +110,9 @@ fn resources_of(alloc: Global, codes: &[Ref<'_>]) -> Result<Resources, Fail> {
 fn app_of(alloc: Global, codes: &[Ref<'_>]) -> Result<App, Fail> {
     let resources = resources_of(alloc, codes)?;
     let table = JumpTable::read(alloc, resources.own_datum(CODE, 0))?;
+    let heap = narrow_heap(alloc)?;
     Ok(App {
-        heap: narrow_heap(alloc)?,
-        resources,
+        managers: Managers { heap, resources },
         table,
     })
 }
@@ -221,7 +126,7 @@ fn tells(
 ) -> Result<(), Fail> {
     let mut app = app_of(alloc, codes)?;
     for (line, told) in lines {
-        assert_eq!(rt; app.tell(alloc, *line), *told);
+        assert_eq!(rt; tell_app(alloc, &mut app, *line), *told);
     }
     Ok(())
 }
@@ -248,12 +153,12 @@ fn a_segment_is_loaded_unloaded_and_called(rt: HostRuntime) -> Result<(), Fail> 
         (Line::ShowEntry(0), Told::Entry(1, false)),
         (Line::Load(1), Told::Number(1)),
         (Line::Load(1), Told::Number(0)),
-        (Line::Get(1), Told::Fetched(0, false)),
-        (Line::Where(0), Told::Number(1008)),
+        (Line::Other(Call::Get(CODE, 1)), Told::Fetched(0, false)),
+        (Line::Other(Call::PlaceOf(Some(0))), Told::Number(1008)),
         (Line::ShowEntry(0), Told::Entry(1, true)),
         (Line::Unload(1), Told::Done),
         (Line::ShowEntry(0), Told::Entry(1, false)),
-        (Line::PurgeAll, Told::Refused(OsErr::MEM_FULL)),
+        (Line::Other(Call::PurgeMem(4096)), Told::Refused(OsErr::MEM_FULL)),
         (Line::CallEntry(1), Told::Entry(1, true)),
         (Line::CallEntry(0), Told::Entry(1, false)),
         (Line::CallEntry(2), NONE),
@@ -282,8 +187,8 @@ fn an_application_without_segments_loads_none(rt: HostRuntime) -> Result<(), Fai
 fn a_loaded_segment_without_a_block_is_not_called(rt: HostRuntime) -> Result<(), Fail> {
     const LINES: &[(Line, Told)] = &[
         (Line::Load(1), Told::Number(1)),
-        (Line::Unlock(0), Told::Done),
-        (Line::Empty(0), Told::Done),
+        (Line::Other(Call::Unlock(Some(0))), Told::Done),
+        (Line::Other(Call::Empty(Some(0))), Told::Done),
         (Line::CallEntry(0), NONE),
         (Line::ShowEntry(0), Told::Entry(1, true)),
         (Line::Load(1), Told::Number(1)),
@@ -301,7 +206,7 @@ fn a_loaded_segment_without_a_block_is_not_called(rt: HostRuntime) -> Result<(),
 fn a_busy_segment_is_not_unloaded(rt: HostRuntime) -> Result<(), Fail> {
     const LINES: &[(Line, Told)] = &[
         (Line::Load(1), Told::Number(1)),
-        (Line::Busy(0), Told::Done),
+        (Line::Other(Call::SetBusy(0, true)), Told::Done),
         (Line::Unload(1), Told::Refused(OsErr::LOCKED)),
         (Line::ShowEntry(1), Told::Entry(1, true)),
     ];
@@ -410,18 +315,18 @@ fn a_segment_is_loaded_with_the_entries_that_are_its_own(rt: HostRuntime) -> Res
 #[test]
 fn segments_come_from_the_own_fork(rt: HostRuntime) -> Result<(), Fail> {
     const LINES: &[(Line, Told)] = &[
-        (Line::OpenOther, Told::Number(3)),
-        (Line::SetLoad(false), Told::Done),
+        (Line::Other(Call::OpenFile(b"Doc")), Told::Number(3)),
+        (Line::Other(Call::SetLoad(false)), Told::Done),
         (Line::Load(1), Told::Number(1)),
         // The document's is another one.
-        (Line::Get(1), Told::Fetched(1, false)),
-        (Line::UseFile(0), Told::Done),
+        (Line::Other(Call::Get(CODE, 1)), Told::Fetched(1, false)),
+        (Line::Other(Call::UseFile(0)), Told::Done),
         (Line::Load(1), Told::Number(0)),
-        (Line::CloseFile(2), Told::Done),
+        (Line::Other(Call::CloseFile(2)), Told::Done),
         (Line::CallEntry(0), NONE),
         (Line::ShowEntry(0), Told::Entry(1, true)),
         (Line::Load(1), FATAL),
-        (Line::OpenOwn, Told::Number(4)),
+        (Line::Other(Call::OpenFile(b"App")), Told::Number(4)),
         (Line::CallEntry(0), NONE),
         (Line::Load(1), Told::Number(1)),
         (Line::CallEntry(0), Told::Entry(1, false)),
@@ -447,20 +352,20 @@ fn a_segment_without_room_wants_room(rt: HostRuntime) -> Result<(), Fail> {
             wants_room: true,
         })
     };
-    assert_eq!(rt; app.heap.new_handle(400), Ok(0));
-    assert_eq!(rt;
-        app.table.load(&mut app.heap, &mut app.resources, 1),
-        full(None)
-    );
-    assert_eq!(rt; app.heap.dispose_handle(Some(0)), Ok(()));
-    assert_eq!(rt; app.load(1), Told::Number(1));
-    assert_eq!(rt; app.unload(1), Told::Done);
-    assert_eq!(rt; app.heap.empty_handle(Some(1)), Ok(()));
-    assert_eq!(rt; app.heap.new_handle(400), Ok(2));
-    assert_eq!(rt;
-        app.table.load(&mut app.heap, &mut app.resources, 1),
-        full(Some(1))
-    );
-    assert_eq!(rt; app.call(0), FATAL);
+    let App { managers, table } = &mut app;
+    const HELD: &[(Call, Told)] = &[(Call::NewHandle(400), Told::Count(0))];
+    follows(&rt, alloc, managers, HELD);
+    assert_eq!(rt; load(managers, table, 1), full(None));
+    const GIVEN: &[(Call, Told)] = &[(Call::Dispose(Some(0)), Told::Done)];
+    follows(&rt, alloc, managers, GIVEN);
+    assert_eq!(rt; load(managers, table, 1), Ok(true));
+    assert_eq!(rt; unload(managers, table, 1), Ok(()));
+    const AGAIN: &[(Call, Told)] = &[
+        (Call::Empty(Some(1)), Told::Done),
+        (Call::NewHandle(400), Told::Count(2)),
+    ];
+    follows(&rt, alloc, managers, AGAIN);
+    assert_eq!(rt; load(managers, table, 1), full(Some(1)));
+    assert_eq!(rt; called(call(managers, table, 0)), FATAL);
     Ok(())
 }

@@ -23,6 +23,8 @@ mod maps;
 #[cfg(test)]
 mod own;
 #[cfg(test)]
+mod script;
+#[cfg(test)]
 mod spelling;
 #[cfg(test)]
 mod storing;

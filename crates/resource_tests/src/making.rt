@@ -5,9 +5,9 @@ ghost use Rattle.std.specs.Prelude.{◌≡◌, ◌<◌, ◌≤◌, [], length};
 use arrayvec::ArrayVec;
 use block_store::ListStore;
 use fork_format::{Content, Group, Ref, RefName, read_fork, write_fork};
-use heap_calls::{Heap, Refusal};
-use mac_words::{Attrs, FileName, Name, OsErr, OsType};
-use res_calls::{Fetched, File, Resources, Unread};
+use heap_calls::Heap;
+use mac_words::{Attrs, FileName, Name, OsType};
+use res_calls::{File, Resources};
 use std::alloc::Global;
 use std::test::Fail;
 
@@ -123,17 +123,4 @@ pub fn narrow_heap(alloc: Global) -> Result<Heap<ListStore>, Fail> {
 pub fn least_heap(alloc: Global) -> Result<Heap<ListStore>, Fail> {
     let store = ListStore::new(alloc, 512)?;
     Ok(Heap::new(alloc, store))
-}
-
-/// What was fetched: the handle, and whether it was read.
-pub fn read_as(handle: usize, read: bool) -> Result<Fetched, Unread> {
-    Ok(Fetched { handle, read })
-}
-
-/// A fetch that was refused, for a new handle or to read an emptied one again.
-pub fn refused(code: OsErr, reading: Option<usize>) -> Result<Fetched, Unread> {
-    Err(Unread {
-        refusal: Refusal::Code(code),
-        reading,
-    })
 }

@@ -1,15 +1,11 @@
 //! Resources of the application's own fork, and an application that leaves.
 
-ghost use Rattle.std.specs.Prelude.{◌≡◌, ◌<◌, [], length};
-
-use crate::making::{
-    CODE, TEXT, file_name, file_of, fork_with, launched_alone, read_as, refused, resource,
-    wide_heap,
-};
-use heap_calls::Refusal;
+use crate::making::{CODE, TEXT, file_of, fork_with, launched_alone, resource, wide_heap};
+use crate::script::{Call, Managers, NOT_FOUND, Told, follows};
 use mac_words::OsErr;
-use res_calls::{Fetched, Resources, Unread};
+use res_calls::Resources;
 use std::alloc::{AllocError, Global};
+use std::process::Abort;
 use std::test::Fail;
 
 /// The fork of 'CODE' 1.
@@ -40,11 +36,6 @@ fn launched(alloc: Global) -> Result<Resources, Fail> {
     launched_alone(alloc, files)
 }
 
-/// A fetch that finds nothing.
-fn not_found() -> Result<Fetched, Unread> {
-    refused(OsErr::RES_NOT_FOUND, None)
-}
-
 /// The fork of a file, and whether it was written.
 fn fork_at(resources: &Resources, index: usize) -> (&[u8], bool) {
     match resources.files().get(index) {
@@ -53,96 +44,97 @@ fn fork_at(resources: &Resources, index: usize) -> (&[u8], bool) {
     }
 }
 
-/// What is stored of the application's own segment.
-fn own_code(resources: &Resources) -> &[u8] {
-    resources.own_datum(CODE, 1).unwrap_or(b"none")
+/// The application in a zone of 4096 bytes.
+fn launched_wide(alloc: Global) -> Result<Managers, Fail> {
+    Ok(Managers {
+        heap: wide_heap(alloc)?,
+        resources: launched(alloc)?,
+    })
 }
 
 #[test]
 fn the_own_fork_is_read_whatever_the_current_file_is(rt: HostRuntime) -> Result<(), Fail> {
+    const ROWS: &[(Call, Told)] = &[
+        (Call::OpenFile(b"Doc"), Told::Number(3)),
+        (Call::OwnShows(CODE, 1, b"own"), Told::Is(true)),
+        (Call::HasOwn(CODE, 2), Told::Is(false)),
+        (Call::HasOwn(TEXT, 1), Told::Is(false)),
+        (Call::OwnHandle(CODE, 1), Told::Handle(None)),
+        (Call::SetLoad(false), Told::Done),
+        (Call::KeepError(OsErr::MEM_FULL), Told::Done),
+        (Call::FetchOwn(CODE, 1), Told::Fetched(0, true)),
+        (Call::FetchOwn(CODE, 2), NOT_FOUND),
+        (Call::ResError, Told::Code(OsErr::MEM_FULL)),
+        (Call::Shows(Some(0), b"own"), Told::Is(true)),
+        (Call::OwnHandle(CODE, 1), Told::Handle(Some(0))),
+        (Call::FetchOwn(CODE, 1), Told::Fetched(0, false)),
+        // The document's resource of that number is another one.
+        (Call::Get(CODE, 1), Told::Fetched(1, false)),
+        (Call::OwnHandle(CODE, 1), Told::Handle(Some(0))),
+    ];
     let alloc = rt.alloc();
-    let mut heap = wide_heap(alloc)?;
-    let mut resources = launched(alloc)?;
-    let open = resources.open_res_file(alloc, &mut heap, &file_name(b"Doc"));
-    assert_eq!(rt; open, Ok(3));
-    assert_eq!(rt; own_code(&resources), b"own".as_slice());
-    assert!(rt; resources.own_datum(CODE, 2).is_none());
-    assert!(rt; resources.own_datum(TEXT, 1).is_none());
-    assert_eq!(rt; resources.own_handle(CODE, 1), None);
-    resources.set_res_load(false);
-    resources.keep_error(OsErr::MEM_FULL);
-    assert_eq!(rt; resources.fetch_own(&mut heap, CODE, 1), read_as(0, true));
-    assert_eq!(rt; resources.fetch_own(&mut heap, CODE, 2), not_found());
-    assert_eq!(rt; resources.res_error(), OsErr::MEM_FULL);
-    assert_eq!(rt; heap.show(Some(0)), Ok(b"own".as_slice()));
-    assert_eq!(rt; resources.own_handle(CODE, 1), Some(0));
-    assert_eq!(rt; resources.fetch_own(&mut heap, CODE, 1), read_as(0, false));
-    // The document's resource of that number is another one.
-    assert_eq!(rt;
-        resources.get_resource(&mut heap, CODE, 1),
-        read_as(1, false)
-    );
-    assert_eq!(rt; resources.own_handle(CODE, 1), Some(0));
+    let mut managers = launched_wide(alloc)?;
+    follows(&rt, alloc, &mut managers, ROWS);
     Ok(())
 }
 
 #[test]
 fn the_own_fork_is_found_again_under_another_number(rt: HostRuntime) -> Result<(), Fail> {
+    const ROWS: &[(Call, Told)] = &[
+        (Call::FetchOwn(CODE, 1), Told::Fetched(0, true)),
+        (Call::OpenFile(b"Doc"), Told::Number(3)),
+        (Call::CloseFile(2), Told::Done),
+        (Call::HasOwn(CODE, 1), Told::Is(false)),
+        (Call::OwnHandle(CODE, 1), Told::Handle(None)),
+        (Call::FetchOwn(CODE, 1), NOT_FOUND),
+        (Call::OpenFile(b"App"), Told::Number(4)),
+        (Call::UseFile(3), Told::Done),
+        (Call::OwnShows(CODE, 1, b"own"), Told::Is(true)),
+        (Call::OwnHandle(CODE, 1), Told::Handle(None)),
+        (Call::FetchOwn(CODE, 1), Told::Fetched(1, true)),
+        (Call::Shows(Some(1), b"own"), Told::Is(true)),
+    ];
     let alloc = rt.alloc();
-    let mut heap = wide_heap(alloc)?;
-    let mut resources = launched(alloc)?;
-    assert_eq!(rt; resources.fetch_own(&mut heap, CODE, 1), read_as(0, true));
-    let open = resources.open_res_file(alloc, &mut heap, &file_name(b"Doc"));
-    assert_eq!(rt; open, Ok(3));
-    assert_eq!(rt; resources.close_res_file(alloc, &mut heap, 2), Ok(()));
-    assert!(rt; resources.own_datum(CODE, 1).is_none());
-    assert_eq!(rt; resources.own_handle(CODE, 1), None);
-    assert_eq!(rt; resources.fetch_own(&mut heap, CODE, 1), not_found());
-    let again = resources.open_res_file(alloc, &mut heap, &file_name(b"App"));
-    assert_eq!(rt; again, Ok(4));
-    assert_eq!(rt; resources.use_res_file(3), Ok(()));
-    assert_eq!(rt; own_code(&resources), b"own".as_slice());
-    assert_eq!(rt; resources.own_handle(CODE, 1), None);
-    assert_eq!(rt; resources.fetch_own(&mut heap, CODE, 1), read_as(1, true));
-    assert_eq!(rt; heap.show(Some(1)), Ok(b"own".as_slice()));
+    let mut managers = launched_wide(alloc)?;
+    follows(&rt, alloc, &mut managers, ROWS);
     Ok(())
 }
 
 #[test]
 fn files_are_updated_and_closed_as_an_application_leaves(rt: HostRuntime) -> Result<(), Fail> {
+    const ROWS: &[(Call, Told)] = &[
+        (Call::OpenFile(b"Doc"), Told::Number(3)),
+        (Call::Get(CODE, 1), Told::Fetched(0, true)),
+        (Call::Put(Some(0), 0, b"new"), Told::Done),
+        (Call::Changed(Some(0)), Told::Done),
+        (Call::OpenFile(b"Big"), Told::Number(4)),
+        (Call::Get(TEXT, 7), Told::Fetched(1, true)),
+        (Call::Changed(Some(1)), Told::Done),
+        // The crowded file is closed first, though it isn't written.
+        (Call::Leave, Told::Code(OsErr::DISK_FULL)),
+        (Call::CurFile, Told::Number(0)),
+        (Call::OpenCount, Told::Count(1)),
+    ];
+    const AFTER: &[(Call, Told)] = &[
+        (Call::GetSize(Some(0)), Told::Refused(OsErr::WRONG_ZONE)),
+        // There is nothing more to leave.
+        (Call::Leave, Told::Code(OsErr::NO_ERR)),
+    ];
     let alloc = rt.alloc();
-    let mut heap = wide_heap(alloc)?;
-    let mut resources = launched(alloc)?;
-    let doc = resources.open_res_file(alloc, &mut heap, &file_name(b"Doc"));
-    assert_eq!(rt; doc, Ok(3));
-    assert_eq!(rt;
-        resources.get_resource(&mut heap, CODE, 1),
-        read_as(0, true)
-    );
-    assert_eq!(rt; heap.put(Some(0), 0, b"new"), Ok(()));
-    assert_eq!(rt; resources.changed_resource(Some(0)), Ok(()));
-    let big = resources.open_res_file(alloc, &mut heap, &file_name(b"Big"));
-    assert_eq!(rt; big, Ok(4));
-    assert_eq!(rt;
-        resources.get_resource(&mut heap, TEXT, 7),
-        read_as(1, true)
-    );
-    assert_eq!(rt; resources.changed_resource(Some(1)), Ok(()));
-    // The crowded file is closed first, though it isn't written.
-    assert_eq!(rt; resources.leave(alloc, &mut heap), Ok(OsErr::DISK_FULL));
-    assert_eq!(rt; resources.cur_res_file(), 0);
-    assert_eq!(rt; resources.open_files().len(), 1);
+    let mut managers = launched_wide(alloc)?;
+    follows(&rt, alloc, &mut managers, ROWS);
+    are_stored(&rt, alloc, &managers.resources)?;
+    follows(&rt, alloc, &mut managers, AFTER);
+    Ok(())
+}
+
+/// The document's fork alone was written.
+fn are_stored(rt: &impl Abort, alloc: Global, resources: &Resources) -> Result<(), Fail> {
     let own = code_fork(alloc, b"own")?;
-    assert_eq!(rt; fork_at(&resources, 0), (own.as_slice(), false));
+    assert_eq!(rt; fork_at(resources, 0), (own.as_slice(), false));
     let new = code_fork(alloc, b"new")?;
-    assert_eq!(rt; fork_at(&resources, 1), (new.as_slice(), true));
+    assert_eq!(rt; fork_at(resources, 1), (new.as_slice(), true));
     let crowded = crowded_fork(alloc)?;
-    assert_eq!(rt; fork_at(&resources, 2), (crowded.as_slice(), false));
-    assert_eq!(rt;
-        heap.get_handle_size(Some(0)),
-        Err(Refusal::Code(OsErr::WRONG_ZONE))
-    );
-    // There is nothing more to leave.
-    assert_eq!(rt; resources.leave(alloc, &mut heap), Ok(OsErr::NO_ERR));
+    assert_eq!(rt; fork_at(resources, 2), (crowded.as_slice(), false));
     Ok(())
 }
