@@ -1,6 +1,9 @@
 //! Resources are found along a chain of files, fetched, and let go.
 
-use crate::making::{DATA, file_name, file_of, fork_with, launched, launched_alone, name_of, narrow_heap, resource, wide_heap};
+use crate::making::{
+    DATA, file_name, file_of, fork_with, launched, launched_alone, name_of, narrow_heap, resource,
+    wide_heap,
+};
 use crate::script::{Call, Managers, NONE, NOT_FOUND, Told, follows};
 use block_store::ListStore;
 use fork_format::Ref;

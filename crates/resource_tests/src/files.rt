@@ -1,6 +1,8 @@
 //! Files that are opened and closed, over a list of blocks.
 
-use crate::making::{DATA, TEXT, file_of, fork_with, launched_alone, least_heap, narrow_heap, resource};
+use crate::making::{
+    DATA, TEXT, file_of, fork_with, launched_alone, least_heap, narrow_heap, resource,
+};
 use crate::script::{Call, Managers, Told, follows};
 use mac_words::{Attrs, OsErr, OsType};
 use res_calls::Resources;

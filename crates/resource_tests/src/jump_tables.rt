@@ -2,8 +2,8 @@
 
 ghost use Rattle.std.specs.Prelude.{◌≡◌, ◌<◌, [], length};
 
-use crate::script::{Call, Managers, Told, follows, refused, tell};
 use crate::making::{CODE, file_name, file_of, fork_with, launched_alone, narrow_heap, resource};
+use crate::script::{Call, Managers, Told, follows, refused, tell};
 use fork_format::Ref;
 use heap_calls::Refusal;
 use mac_words::OsErr;
@@ -158,7 +158,10 @@ fn a_segment_is_loaded_unloaded_and_called(rt: HostRuntime) -> Result<(), Fail> 
         (Line::ShowEntry(0), Told::Entry(1, true)),
         (Line::Unload(1), Told::Done),
         (Line::ShowEntry(0), Told::Entry(1, false)),
-        (Line::Other(Call::PurgeMem(4096)), Told::Refused(OsErr::MEM_FULL)),
+        (
+            Line::Other(Call::PurgeMem(4096)),
+            Told::Refused(OsErr::MEM_FULL),
+        ),
         (Line::CallEntry(1), Told::Entry(1, true)),
         (Line::CallEntry(0), Told::Entry(1, false)),
         (Line::CallEntry(2), NONE),
