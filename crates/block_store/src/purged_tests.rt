@@ -30,17 +30,7 @@ fn flag(store: &mut ListStore, number: u32, flags: Flags) {
 
 #[test]
 fn neighbours_that_would_be_emptied_are_one_stretch(rt: HostRuntime) -> Result<(), Fail> {
-    let entries = [
-        StoredBlock::Free(32),
-        StoredBlock::Relocatable(1, GOES, Vec::new(rt.alloc())),
-        StoredBlock::Masters,
-        StoredBlock::Relocatable(2, GOES, Vec::new(rt.alloc())),
-        StoredBlock::Relocatable(3, LOCKED, Vec::new(rt.alloc())),
-        StoredBlock::Free(48),
-        StoredBlock::Relocatable(4, GOES, Vec::new(rt.alloc())),
-        StoredBlock::Relocatable(5, Flags::NONE, Vec::new(rt.alloc())),
-    ];
-    for (purges, sparing, free, largest) in [
+    const ROWS: &[(u32, Sparing, u32, u32)] = &[
         (0, Sparing::Nothing, 80, 48),
         (1, Sparing::Nothing, 96, 48),
         (2, Sparing::Nothing, 112, 48),
@@ -54,15 +44,26 @@ fn neighbours_that_would_be_emptied_are_one_stretch(rt: HostRuntime) -> Result<(
         (1, Sparing::Freed(1), 112, 48),
         (2, Sparing::Freed(1), 128, 64),
         (3, Sparing::Freed(5), 144, 80),
-    ] {
+    ];
+    let entries = [
+        StoredBlock::Free(32),
+        StoredBlock::Relocatable(1, GOES, Vec::new(rt.alloc())),
+        StoredBlock::Masters,
+        StoredBlock::Relocatable(2, GOES, Vec::new(rt.alloc())),
+        StoredBlock::Relocatable(3, LOCKED, Vec::new(rt.alloc())),
+        StoredBlock::Free(48),
+        StoredBlock::Relocatable(4, GOES, Vec::new(rt.alloc())),
+        StoredBlock::Relocatable(5, Flags::NONE, Vec::new(rt.alloc())),
+    ];
+    for (purges, sparing, free, largest) in ROWS {
         assert_eq!(rt;
-            free_after_in(&mut walk_over(&entries), purges, sparing),
-            free,
+            free_after_in(&mut walk_over(&entries), *purges, *sparing),
+            *free,
             "after {purges} purges"
         );
         assert_eq!(rt;
-            largest_after_in(&mut walk_over(&entries), purges, sparing),
-            largest,
+            largest_after_in(&mut walk_over(&entries), *purges, *sparing),
+            *largest,
             "after {purges} purges"
         );
     }
@@ -76,34 +77,36 @@ fn neighbours_that_would_be_emptied_are_one_stretch(rt: HostRuntime) -> Result<(
 
 #[test]
 fn sums_after_purges_come_true(rt: HostRuntime) -> Result<(), Fail> {
-    let mut store = ListStore::new(rt.alloc(), 1024)?;
-    let a = make(&mut store, 100)?.expect(&rt, "room for a block");
-    let b = make(&mut store, 100)?.expect(&rt, "room for a block");
-    let c = make(&mut store, 100)?.expect(&rt, "room for a block");
-    let d = make(&mut store, 100)?.expect(&rt, "room for a block");
-    flag(&mut store, a, GOES);
-    flag(&mut store, b, GOES);
-    flag(&mut store, c, GOES);
-    flag(&mut store, d, LOCKED);
-    for (purges, sparing, free, largest) in [
+    const ROWS: &[(u32, Sparing, u32, u32)] = &[
         (0, Sparing::Nothing, 240, 240),
         (1, Sparing::Nothing, 368, 240),
         (2, Sparing::Nothing, 496, 256),
         (3, Sparing::Nothing, 624, 384),
         (9, Sparing::Nothing, 624, 384),
-        (2, Sparing::One(b), 496, 240),
-        (0, Sparing::Freed(d), 368, 368),
-        (2, Sparing::Freed(d), 624, 368),
-        (3, Sparing::Freed(d), 752, 752),
-    ] {
+        (2, Sparing::One(1), 496, 240),
+        (0, Sparing::Freed(3), 368, 368),
+        (2, Sparing::Freed(3), 624, 368),
+        (3, Sparing::Freed(3), 752, 752),
+    ];
+    let mut store = ListStore::new(rt.alloc(), 1024)?;
+    let a = make(&mut store, 100)?.expect(&rt, "room for a block");
+    let b = make(&mut store, 100)?.expect(&rt, "room for a block");
+    let c = make(&mut store, 100)?.expect(&rt, "room for a block");
+    let d = make(&mut store, 100)?.expect(&rt, "room for a block");
+    assert_eq!(rt; (a, b, c, d), (0, 1, 2, 3));
+    flag(&mut store, a, GOES);
+    flag(&mut store, b, GOES);
+    flag(&mut store, c, GOES);
+    flag(&mut store, d, LOCKED);
+    for (purges, sparing, free, largest) in ROWS {
         assert_eq!(rt;
-            store.free_after(purges, sparing),
-            free,
+            store.free_after(*purges, *sparing),
+            *free,
             "after {purges} purges"
         );
         assert_eq!(rt;
-            store.largest_after(purges, sparing),
-            largest,
+            store.largest_after(*purges, *sparing),
+            *largest,
             "after {purges} purges"
         );
     }

@@ -152,12 +152,24 @@ fn resource_flag_is_set_and_cleared(rt: HostRuntime) -> Result<(), Fail> {
 
 #[test]
 fn blocks_come_and_go(rt: HostRuntime) -> Result<(), Fail> {
+    const PLACES: &[(u32, Option<u32>)] = &[
+        (0, Some(272)),
+        (128, Some(272)),
+        (129, Some(432)),
+        (592, Some(432)),
+        (593, None),
+    ];
+    const SPARED: &[(u32, Sparing, Option<u32>)] = &[
+        (160, Sparing::Freed(0), Some(432)),
+        (752, Sparing::Freed(1), Some(272)),
+        (752, Sparing::Two(0, 1), None),
+    ];
     let mut store = ListStore::new(rt.alloc(), 1024)?;
     assert_eq!(rt; store.len(), 1024);
     assert_eq!(rt; store.free_bytes(), 752);
     let a = make(&mut store, 100)?.expect(&rt, "room for a block");
     let b = make(&mut store, 3)?.expect(&rt, "room for a block");
-    assert!(rt; a != b);
+    assert_eq!(rt; (a, b), (0, 1));
     assert_eq!(rt; place(&store, a), Some(272));
     assert_eq!(rt; place(&store, b), Some(400));
     assert_eq!(rt; store.free_bytes(), 592);
@@ -165,25 +177,15 @@ fn blocks_come_and_go(rt: HostRuntime) -> Result<(), Fail> {
     assert_eq!(rt; place(&store, a), None);
     assert_eq!(rt; place(&store, b), Some(400));
     assert_eq!(rt; store.free_bytes(), 720);
-    for (bytes, place) in [
-        (0, Some(272)),
-        (128, Some(272)),
-        (129, Some(432)),
-        (592, Some(432)),
-        (593, None),
-    ] {
+    for (bytes, place) in PLACES {
         assert_eq!(rt;
-            store.find_free(bytes, 0, Sparing::Nothing),
-            place,
+            store.find_free(*bytes, 0, Sparing::Nothing),
+            *place,
             "for {bytes}"
         );
     }
-    for (bytes, sparing, place) in [
-        (160, Sparing::Freed(a), Some(432)),
-        (752, Sparing::Freed(b), Some(272)),
-        (752, Sparing::Two(a, b), None),
-    ] {
-        assert_eq!(rt; store.find_free(bytes, 2, sparing), place, "for {bytes}");
+    for (bytes, sparing, place) in SPARED {
+        assert_eq!(rt; store.find_free(*bytes, 2, *sparing), *place, "for {bytes}");
     }
     release(&mut store, b);
     assert_eq!(rt; store.find_free(752, 0, Sparing::Nothing), Some(272));
@@ -192,33 +194,36 @@ fn blocks_come_and_go(rt: HostRuntime) -> Result<(), Fail> {
 
 #[test]
 fn runs_are_looked_at(rt: HostRuntime) -> Result<(), Fail> {
+    const RUNS: &[(u32, Sparing, Option<u32>)] = &[
+        (0, Sparing::Nothing, Some(0)),
+        (1, Sparing::Nothing, Some(272)),
+        (720, Sparing::One(1), Some(272)),
+        (721, Sparing::Nothing, None),
+        (752, Sparing::Freed(1), Some(272)),
+        (753, Sparing::Freed(1), None),
+    ];
+    const RUNS_OF: &[(u32, u32, Sparing, Option<u32>)] = &[
+        (0, 0, Sparing::Nothing, None),
+        (1, 720, Sparing::Two(0, 1), Some(272)),
+        (1, 721, Sparing::Nothing, None),
+        (1, 0, Sparing::Freed(1), None),
+    ];
     let mut store = ListStore::new(rt.alloc(), 1024)?;
     let a = make(&mut store, 100)?.expect(&rt, "room for a block");
     let b = make(&mut store, 3)?.expect(&rt, "room for a block");
+    assert_eq!(rt; (a, b), (0, 1));
     release(&mut store, a);
     assert_eq!(rt; store.largest_free(), 592);
     assert_eq!(rt; store.largest_run(), 720);
     assert_eq!(rt; next_run(&store, 0), Some(272));
     assert_eq!(rt; next_run(&store, 272), None);
-    for (bytes, sparing, place) in [
-        (0, Sparing::Nothing, Some(0)),
-        (1, Sparing::Nothing, Some(272)),
-        (720, Sparing::One(b), Some(272)),
-        (721, Sparing::Nothing, None),
-        (752, Sparing::Freed(b), Some(272)),
-        (753, Sparing::Freed(b), None),
-    ] {
-        assert_eq!(rt; store.find_run(bytes, 1, sparing), place, "for {bytes}");
+    for (bytes, sparing, place) in RUNS {
+        assert_eq!(rt; store.find_run(*bytes, 1, *sparing), *place, "for {bytes}");
     }
-    for (number, bytes, sparing, place) in [
-        (a, 0, Sparing::Nothing, None),
-        (b, 720, Sparing::Two(a, b), Some(272)),
-        (b, 721, Sparing::Nothing, None),
-        (b, 0, Sparing::Freed(b), None),
-    ] {
+    for (number, bytes, sparing, place) in RUNS_OF {
         assert_eq!(rt;
-            store.run_of(number, bytes, 1, sparing),
-            place,
+            store.run_of(*number, *bytes, 1, *sparing),
+            *place,
             "for {bytes}"
         );
     }
@@ -230,6 +235,18 @@ fn runs_are_looked_at(rt: HostRuntime) -> Result<(), Fail> {
 
 #[test]
 fn purges_give_runs_room(rt: HostRuntime) -> Result<(), Fail> {
+    const ROWS: &[(Option<u32>, u32, u32, Sparing, Option<u32>)] = &[
+        (None, 33, 0, Sparing::Nothing, Some(384)),
+        (None, 32, 1, Sparing::Nothing, Some(0)),
+        (None, 32, 1, Sparing::One(1), Some(304)),
+        (None, 48, 2, Sparing::Nothing, Some(304)),
+        (None, 64, 3, Sparing::Nothing, Some(304)),
+        (None, 64, 0, Sparing::Freed(5), Some(384)),
+        (None, 80, 0, Sparing::Freed(4), Some(304)),
+        (Some(3), 48, 2, Sparing::Nothing, Some(304)),
+        (Some(3), 64, 3, Sparing::Nothing, None),
+        (Some(4), 0, 0, Sparing::Nothing, None),
+    ];
     let entries = [
         StoredBlock::Free(16),
         StoredBlock::Relocatable(1, GOES, Vec::new(rt.alloc())),
@@ -241,21 +258,10 @@ fn purges_give_runs_room(rt: HostRuntime) -> Result<(), Fail> {
         StoredBlock::Free(48),
         StoredBlock::Relocatable(5, Flags::NONE, Vec::new(rt.alloc())),
     ];
-    for (number, bytes, purges, sparing, place) in [
-        (None, 33, 0, Sparing::Nothing, Some(384)),
-        (None, 32, 1, Sparing::Nothing, Some(0)),
-        (None, 32, 1, Sparing::One(1), Some(304)),
-        (None, 48, 2, Sparing::Nothing, Some(304)),
-        (None, 64, 3, Sparing::Nothing, Some(304)),
-        (None, 64, 0, Sparing::Freed(5), Some(384)),
-        (None, 80, 0, Sparing::Freed(4), Some(304)),
-        (Some(3), 48, 2, Sparing::Nothing, Some(304)),
-        (Some(3), 64, 3, Sparing::Nothing, None),
-        (Some(4), 0, 0, Sparing::Nothing, None),
-    ] {
+    for (number, bytes, purges, sparing, place) in ROWS {
         assert_eq!(rt;
-            search_runs_in(&mut walk_over(&entries), number, bytes, purges, sparing),
-            place,
+            search_runs_in(&mut walk_over(&entries), *number, *bytes, *purges, *sparing),
+            *place,
             "for {bytes}"
         );
     }
@@ -264,6 +270,13 @@ fn purges_give_runs_room(rt: HostRuntime) -> Result<(), Fail> {
 
 #[test]
 fn runs_end_at_barriers(rt: HostRuntime) -> Result<(), Fail> {
+    const ROWS: &[(u32, u32, Sparing, bool)] = &[
+        (32, 0, Sparing::Nothing, true),
+        (48, 1, Sparing::Nothing, true),
+        (49, 1, Sparing::Nothing, false),
+        (64, 2, Sparing::Freed(3), true),
+        (64, 2, Sparing::One(2), false),
+    ];
     let entries = [
         StoredBlock::Masters,
         StoredBlock::Relocatable(2, GOES, Vec::new(rt.alloc())),
@@ -277,16 +290,10 @@ fn runs_end_at_barriers(rt: HostRuntime) -> Result<(), Fail> {
     assert_eq!(rt; run_above(&entries, 0), Some(272));
     assert_eq!(rt; run_above(&entries, 272), Some(352));
     assert_eq!(rt; run_above(&entries, 352), None);
-    for (bytes, purges, sparing, has_room) in [
-        (32, 0, Sparing::Nothing, true),
-        (48, 1, Sparing::Nothing, true),
-        (49, 1, Sparing::Nothing, false),
-        (64, 2, Sparing::Freed(3), true),
-        (64, 2, Sparing::One(2), false),
-    ] {
+    for (bytes, purges, sparing, has_room) in ROWS {
         assert_eq!(rt;
-            has_free_above(&entries, 0, bytes, purges, sparing),
-            has_room,
+            has_free_above(&entries, 0, *bytes, *purges, *sparing),
+            *has_room,
             "for {bytes}"
         );
     }
@@ -414,21 +421,23 @@ fn refused_memory_changes_no_block(rt: HostRuntime) -> Result<(), Fail> {
 
 #[test]
 fn blocks_are_seen(rt: HostRuntime) -> Result<(), Fail> {
-    let mut store = ListStore::new(rt.alloc(), 1024)?;
-    assert_eq!(rt; store.moves(), 0);
-    let a = make(&mut store, 100)?.expect(&rt, "room for a block");
-    flag(&mut store, a, true, false);
-    let locked = Flags {
+    const HELD: Flags = Flags {
         locked: true,
         purgeable: false,
     };
-    for (place, seen) in [
+    const SEEN: &[(u32, Option<Seen>)] = &[
         (0, Some(Seen::Masters)),
-        (272, Some(Seen::Relocatable(a, locked, 100))),
+        (272, Some(Seen::Relocatable(0, HELD, 100))),
         (400, Some(Seen::Free(624))),
         (1024, None),
-    ] {
-        assert_eq!(rt; block_at(&store, place), seen, "at {place}");
+    ];
+    let mut store = ListStore::new(rt.alloc(), 1024)?;
+    assert_eq!(rt; store.moves(), 0);
+    let a = make(&mut store, 100)?.expect(&rt, "room for a block");
+    assert_eq!(rt; a, 0);
+    flag(&mut store, a, true, false);
+    for (place, seen) in SEEN {
+        assert_eq!(rt; block_at(&store, *place), *seen, "at {place}");
     }
     assert!(rt; store.room_above(a, 624, 0, Sparing::Nothing));
     assert!(rt; !store.room_above(a, 625, 0, Sparing::Nothing));
@@ -437,28 +446,30 @@ fn blocks_are_seen(rt: HostRuntime) -> Result<(), Fail> {
 
 #[test]
 fn blocks_are_emptied(rt: HostRuntime) -> Result<(), Fail> {
+    const NEXT: &[(u32, Sparing, Option<u32>)] = &[
+        (0, Sparing::Nothing, Some(272)),
+        (1, Sparing::Nothing, Some(400)),
+        (2, Sparing::Nothing, Some(528)),
+        (3, Sparing::Nothing, None),
+        (0, Sparing::One(0), Some(400)),
+        (1, Sparing::Two(0, 1), None),
+        (1, Sparing::Freed(1), Some(528)),
+    ];
     let mut store = ListStore::new(rt.alloc(), 1024)?;
     let a = make(&mut store, 100)?.expect(&rt, "room for a block");
     let b = make(&mut store, 100)?.expect(&rt, "room for a block");
     let c = make(&mut store, 100)?.expect(&rt, "room for a block");
     let d = make(&mut store, 100)?.expect(&rt, "room for a block");
+    assert_eq!(rt; (a, b), (0, 1));
     assert_eq!(rt; store.next_purgeable(0, Sparing::Nothing), None);
     flag(&mut store, a, false, true);
     flag(&mut store, b, false, true);
     flag(&mut store, c, false, true);
     flag(&mut store, d, true, true);
-    for (purges, sparing, place) in [
-        (0, Sparing::Nothing, Some(272)),
-        (1, Sparing::Nothing, Some(400)),
-        (2, Sparing::Nothing, Some(528)),
-        (3, Sparing::Nothing, None),
-        (0, Sparing::One(a), Some(400)),
-        (1, Sparing::Two(a, b), None),
-        (1, Sparing::Freed(b), Some(528)),
-    ] {
+    for (purges, sparing, place) in NEXT {
         assert_eq!(rt;
-            store.next_purgeable(purges, sparing),
-            place,
+            store.next_purgeable(*purges, *sparing),
+            *place,
             "after {purges} purges"
         );
     }

@@ -13,6 +13,3 @@ pub use fault::{ForkFault, WriteFault};
 pub use fit::{fits, kind_of};
 pub use read::read_fork;
 pub use write::write_fork;
-
-#[cfg(test)]
-mod tests;

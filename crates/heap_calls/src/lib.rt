@@ -41,12 +41,3 @@ pub use laws::{
 pub use log::Log;
 pub use purging::Space;
 pub use refusal::Refusal;
-
-#[cfg(test)]
-mod filling_tests;
-#[cfg(test)]
-mod role_tests;
-#[cfg(test)]
-mod segment_tests;
-#[cfg(test)]
-mod tests;

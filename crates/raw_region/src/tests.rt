@@ -68,7 +68,8 @@ fn joined_in(alloc: Global, order: &str) -> Result<[u8; 3], AllocError> {
 
 #[test]
 fn parts_come_home_in_any_order(rt: HostRuntime) -> Result<(), Fail> {
-    for order in ["abc", "acb", "bac", "bca", "cab", "cba"] {
+    const ORDERS: &[&str] = &["abc", "acb", "bac", "bca", "cab", "cba"];
+    for order in ORDERS {
         assert_eq!(rt; joined_in(rt.alloc(), order)?, [1, 2, 3], "in {order}");
     }
     Ok(())

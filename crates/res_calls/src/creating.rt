@@ -12,10 +12,10 @@ ghost use Rattle.res_calls.specs.Given.{IsAnswered, managers};
 ghost use Rattle.res_calls.specs.Places.{at_index};
 ghost use Rattle.res_calls.specs.Rows.{noting};
 ghost use Rattle.res_calls.specs.Updating.{filed_in};
-ghost use Rattle.res_calls.specs.View.{view_file};
+ghost use Rattle.res_calls.specs.View.{view_file, view_open};
 
 use crate::chain::place_called;
-use crate::files::{File, Resources};
+use crate::files::{File, OpenFile, Resources};
 use crate::updating::put_fork;
 use fork_format::{Content, WriteFault, write_fork};
 use heap_calls::Refusal;
@@ -121,6 +121,13 @@ impl Resources {
         ensures { map view_file result.now ≡ self.now.files }
     {
         &self.files
+    }
+
+    /// The open files, the last opened first and the System's last.
+    pub fn open_files(&self) -> &[OpenFile]
+        ensures { map view_open result.now ≡ self.now.chain }
+    {
+        &self.chain
     }
 
     /// Lets the resources go, and gives the files as they are, in order.

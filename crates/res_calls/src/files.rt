@@ -20,13 +20,13 @@ pub(crate) const OWN_PLACE: usize = 0;
 
 /// An open file.
 #[derive(Drop)]
-pub(crate) struct OpenFile {
+pub struct OpenFile {
     /// The number that it was opened under; 0 is the System's.
     pub(crate) number: u32,
     /// Its place among the application's files; none for the System's.
     pub(crate) file: Option<usize>,
     /// Its map.
-    pub(crate) map: ResFile,
+    pub map: ResFile,
     /// Whether its references were changed since its fork was written.
     pub(crate) touched: bool,
 }

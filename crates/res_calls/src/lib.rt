@@ -24,7 +24,7 @@ mod renaming;
 mod updating;
 
 pub use fetched::{Fetched, Unread};
-pub use files::{File, Resources};
+pub use files::{File, OpenFile, Resources};
 pub use info::Info;
 pub use laws::{
     a_search_goes_back_in_time, an_application_that_leaves_closes_its_files,
@@ -32,12 +32,3 @@ pub use laws::{
     each_resource_has_its_own_handle, only_an_update_or_a_creation_writes_a_fork,
     the_current_file_is_open, the_first_reference_is_found, the_open_files_stay_sound,
 };
-
-#[cfg(test)]
-mod tests_changing;
-#[cfg(test)]
-mod tests_fetch;
-#[cfg(test)]
-mod tests_files;
-#[cfg(test)]
-mod tests_own;

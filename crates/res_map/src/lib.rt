@@ -18,10 +18,3 @@ pub use laws::{
     a_content_that_is_opened_is_told_again, a_map_whose_content_is_opened_is_there_again,
 };
 pub use res_file::ResFile;
-
-#[cfg(test)]
-mod changing_tests;
-#[cfg(test)]
-mod storing_tests;
-#[cfg(test)]
-mod tests;

@@ -9,6 +9,3 @@ mod table;
 
 pub use loaded::{Called, Shown, Unloaded};
 pub use table::JumpTable;
-
-#[cfg(test)]
-mod tests;

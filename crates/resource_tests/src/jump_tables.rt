@@ -2,18 +2,16 @@
 
 ghost use Rattle.std.specs.Prelude.{◌≡◌, ◌<◌, [], length};
 
-use crate::{Called, JumpTable, Shown, Unloaded};
-use arrayvec::ArrayVec;
-use block_store::ListStore;
-use fork_format::{Content, Group, Ref, write_fork};
-use heap_calls::{Heap, Refusal};
-use mac_words::{Attrs, FileName, OsErr, OsType};
-use res_calls::{File, Resources, Unread};
+use crate::making::{CODE, file_name, file_of, fork_with, launched_alone, narrow_heap, resource};
+use crate::script::{Call, Managers, Told, follows, refused, tell};
+use fork_format::Ref;
+use heap_calls::Refusal;
+use mac_words::OsErr;
+use res_calls::Resources;
+use segments::{Called, JumpTable, Shown, Unloaded};
 use std::alloc::Global;
 use std::process::Abort;
 use std::test::Fail;
-
-const CODE: OsType = OsType(*b"CODE");
 
 /// 'CODE' 0 with two entries of segment 1.
 const TWO_ENTRIES: &[u8] =
@@ -22,64 +20,21 @@ const TWO_ENTRIES: &[u8] =
 /// 'CODE' 1 that names both, and returns twice.
 const BOTH: &[u8] = b"\0\0\0\x02\x4e\x75\x4e\x75";
 
-/// A call, with the numbers of handles.
-#[derive(Clone, Copy, Debug)]
+/// A call of the Segment Manager, or of another.
+#[derive(Clone, Copy)]
 enum Line {
     Load(i16),
     Unload(i16),
     CallEntry(u32),
     ShowEntry(u32),
-    Get(i16),
-    Where(usize),
-    Unlock(usize),
-    Empty(usize),
-    PurgeAll,
-    Busy(usize),
-    SetLoad(bool),
-    UseFile(u32),
-    CloseFile(u32),
-    OpenOwn,
-    OpenOther,
-}
-
-/// What it came to.
-#[derive(Clone, Copy, Debug, PartialEq, Eq)]
-enum Told {
-    Done,
-    Number(u32),
-    Fetched(usize, bool),
-    Entry(i16, bool),
-    Refused(OsErr),
-    HostMemory,
+    Other(Call),
 }
 
 /// An application.
 #[derive(Drop)]
 struct App {
-    heap: Heap<ListStore>,
-    resources: Resources,
+    managers: Managers,
     table: JumpTable,
-}
-
-fn refused(refusal: Refusal) -> Told {
-    match refusal {
-        Refusal::Code(code) => Told::Refused(code),
-        Refusal::HostMemory => Told::HostMemory,
-    }
-}
-
-fn done(answer: Result<(), Refusal>) -> Told {
-    match answer {
-        Ok(()) => Told::Done,
-        Err(refusal) => refused(refusal),
-    }
-}
-
-fn number(answer: Result<u32, Refusal>) -> Told {
-    match answer {
-        Ok(number) => Told::Number(number),
-        Err(refusal) => refused(refusal),
-    }
 }
 
 fn loaded(answer: Result<bool, Unloaded>) -> Told {
@@ -110,130 +65,37 @@ fn unloaded(answer: Result<(), OsErr>) -> Told {
     }
 }
 
-impl App {
-    /// Gets 'CODE' of this ID from the current file and those opened before it.
-    fn get(&mut self, id: i16) -> Told {
-        match self.resources.get_resource(&mut self.heap, CODE, id) {
-            Ok(fetched) => Told::Fetched(fetched.handle, fetched.read),
-            Err(Unread { refusal, .. }) => refused(refusal),
-        }
-    }
-
-    fn open(&mut self, alloc: Global, name: &[u8]) -> Told {
-        number(
-            self.resources
-                .open_res_file(alloc, &mut self.heap, &name_of(name)),
-        )
-    }
-
-    fn busy(&mut self, number: usize) -> Told {
-        self.heap.set_busy(number, true);
-        Told::Done
-    }
-
-    fn set_load(&mut self, on: bool) -> Told {
-        self.resources.set_res_load(on);
-        Told::Done
-    }
-
-    fn close(&mut self, alloc: Global, number: u32) -> Told {
-        done(self.resources.close_res_file(alloc, &mut self.heap, number))
-    }
-
-    fn load(&mut self, segment: i16) -> Told {
-        loaded(
-            self.table
-                .load(&mut self.heap, &mut self.resources, segment),
-        )
-    }
-
-    fn unload(&mut self, segment: i16) -> Told {
-        unloaded(self.table.unload(&mut self.heap, &self.resources, segment))
-    }
-
-    fn call(&mut self, index: u32) -> Told {
-        called(self.table.call(&mut self.heap, &mut self.resources, index))
-    }
-
-    /// Makes a call of the Segment Manager or of the Resource Manager.
-    fn tell(&mut self, alloc: Global, line: Line) -> Told {
-        match line {
-            Line::Load(segment) => self.load(segment),
-            Line::Unload(segment) => self.unload(segment),
-            Line::CallEntry(index) => self.call(index),
-            Line::ShowEntry(index) => shown(self.table.show(index)),
-            Line::Get(id) => self.get(id),
-            Line::SetLoad(on) => self.set_load(on),
-            Line::UseFile(number) => done(self.resources.use_res_file(number)),
-            Line::CloseFile(number) => self.close(alloc, number),
-            Line::OpenOwn => self.open(alloc, b"App"),
-            Line::OpenOther => self.open(alloc, b"Doc"),
-            other => self.tell_heap(other),
-        }
-    }
-
-    /// Makes a call of the Memory Manager.
-    fn tell_heap(&mut self, line: Line) -> Told {
-        match line {
-            Line::Where(handle) => number(self.heap.place_of(Some(handle))),
-            Line::Unlock(handle) => done(self.heap.h_unlock(Some(handle))),
-            Line::Empty(handle) => done(self.heap.empty_handle(Some(handle))),
-            Line::PurgeAll => done(self.heap.purge_mem(4096)),
-            Line::Busy(handle) => self.busy(handle),
-            _ => Told::Done,
-        }
-    }
+fn load(of: &mut Managers, table: &mut JumpTable, segment: i16) -> Result<bool, Unloaded> {
+    table.load(&mut of.heap, &mut of.resources, segment)
 }
 
-/// The name of a file.
-fn name_of(bytes: &[u8]) -> FileName {
-    let mut name = ArrayVec::new();
-    for byte in bytes {
-        let _full = name.try_push(*byte).is_err();
+fn unload(of: &mut Managers, table: &mut JumpTable, segment: i16) -> Result<(), OsErr> {
+    table.unload(&mut of.heap, &of.resources, segment)
+}
+
+fn call(of: &mut Managers, table: &mut JumpTable, index: u32) -> Result<Called, Unloaded> {
+    table.call(&mut of.heap, &mut of.resources, index)
+}
+
+/// Makes a call.
+fn tell_app(alloc: Global, app: &mut App, line: Line) -> Told {
+    match line {
+        Line::Load(segment) => loaded(load(&mut app.managers, &mut app.table, segment)),
+        Line::Unload(segment) => unloaded(unload(&mut app.managers, &mut app.table, segment)),
+        Line::CallEntry(index) => called(call(&mut app.managers, &mut app.table, index)),
+        Line::ShowEntry(index) => shown(app.table.show(index)),
+        Line::Other(other) => tell(alloc, &mut app.managers, other),
     }
-    FileName(name)
 }
 
 /// A 'CODE' of this ID.
 fn code(id: i16, datum: &[u8]) -> Ref<'_> {
-    Ref {
-        id,
-        name: None,
-        attrs: Attrs(0),
-        datum,
-    }
-}
-
-/// A content of no resources.
-fn nothing<'b>(alloc: Global) -> Content<'b>
-    ensures { result.groups.items ≡ [] }
-{
-    Content {
-        area: [0; 240],
-        attrs: 0,
-        groups: Vec::new(alloc),
-    }
+    resource(id, None, 0, datum)
 }
 
 /// The fork of these 'CODE's.
 fn fork_of(alloc: Global, codes: &[Ref<'_>]) -> Result<Vec<u8>, Fail> {
-    let refs = Vec::from_slice(alloc, codes)?;
-    let mut content = nothing(alloc);
-    if !codes.is_empty() {
-        content.groups.push(Group { ty: CODE, refs })?;
-    }
-    match write_fork(alloc, &content) {
-        Ok(fork) => Ok(fork),
-        Err(_) => Err(Fail::new("a content that doesn't fit")),
-    }
-}
-
-fn file_of(name: &[u8], fork: Vec<u8>) -> File {
-    File {
-        name: name_of(name),
-        fork,
-        written: false,
-    }
+    fork_with(alloc, CODE, codes)
 }
 
 /// The resources of an application with these 'CODE's, beside a document with a 'CODE' 1 of its own.
@@ -241,27 +103,16 @@ fn resources_of(alloc: Global, codes: &[Ref<'_>]) -> Result<Resources, Fail> {
     let mut files = Vec::new(alloc);
     files.push(file_of(b"App", fork_of(alloc, codes)?))?;
     files.push(file_of(b"Doc", fork_of(alloc, &[code(1, b"other")])?))?;
-    launched_with(alloc, files)
-}
-
-fn launched_with(alloc: Global, files: Vec<File>) -> Result<Resources, Fail>
-    requires { 0 < length files.items }
-{
-    let system = nothing(alloc);
-    match Resources::new(alloc, files, &system) {
-        Ok(resources) => Ok(resources),
-        Err(_) => Err(Fail::new("the application's fork is not read")),
-    }
+    launched_alone(alloc, files)
 }
 
 /// An application with these 'CODE's in a zone of 1024 bytes.
 fn app_of(alloc: Global, codes: &[Ref<'_>]) -> Result<App, Fail> {
     let resources = resources_of(alloc, codes)?;
     let table = JumpTable::read(alloc, resources.own_datum(CODE, 0))?;
-    let store = ListStore::new(alloc, 1024)?;
+    let heap = narrow_heap(alloc)?;
     Ok(App {
-        heap: Heap::new(alloc, store),
-        resources,
+        managers: Managers { heap, resources },
         table,
     })
 }
@@ -275,7 +126,7 @@ fn tells(
 ) -> Result<(), Fail> {
     let mut app = app_of(alloc, codes)?;
     for (line, told) in lines {
-        assert_eq!(rt; app.tell(alloc, *line), *told);
+        assert_eq!(rt; tell_app(alloc, &mut app, *line), *told);
     }
     Ok(())
 }
@@ -298,16 +149,19 @@ const NONE: Told = Told::Refused(OsErr::PROFILE);
 
 #[test]
 fn a_segment_is_loaded_unloaded_and_called(rt: HostRuntime) -> Result<(), Fail> {
-    let lines = [
+    const LINES: &[(Line, Told)] = &[
         (Line::ShowEntry(0), Told::Entry(1, false)),
         (Line::Load(1), Told::Number(1)),
         (Line::Load(1), Told::Number(0)),
-        (Line::Get(1), Told::Fetched(0, false)),
-        (Line::Where(0), Told::Number(1008)),
+        (Line::Other(Call::Get(CODE, 1)), Told::Fetched(0, false)),
+        (Line::Other(Call::PlaceOf(Some(0))), Told::Number(1008)),
         (Line::ShowEntry(0), Told::Entry(1, true)),
         (Line::Unload(1), Told::Done),
         (Line::ShowEntry(0), Told::Entry(1, false)),
-        (Line::PurgeAll, Told::Refused(OsErr::MEM_FULL)),
+        (
+            Line::Other(Call::PurgeMem(4096)),
+            Told::Refused(OsErr::MEM_FULL),
+        ),
         (Line::CallEntry(1), Told::Entry(1, true)),
         (Line::CallEntry(0), Told::Entry(1, false)),
         (Line::CallEntry(2), NONE),
@@ -317,27 +171,27 @@ fn a_segment_is_loaded_unloaded_and_called(rt: HostRuntime) -> Result<(), Fail> 
         &rt,
         rt.alloc(),
         &[code(0, TWO_ENTRIES), code(1, BOTH)],
-        &lines,
+        LINES,
     )
 }
 
 #[test]
 fn an_application_without_segments_loads_none(rt: HostRuntime) -> Result<(), Fail> {
-    let lines = [
+    const LINES: &[(Line, Told)] = &[
         (Line::Load(1), FATAL),
         (Line::CallEntry(0), NONE),
         (Line::ShowEntry(0), NONE),
         (Line::Unload(1), Told::Done),
     ];
-    tells(&rt, rt.alloc(), &[], &lines)
+    tells(&rt, rt.alloc(), &[], LINES)
 }
 
 #[test]
 fn a_loaded_segment_without_a_block_is_not_called(rt: HostRuntime) -> Result<(), Fail> {
-    let lines = [
+    const LINES: &[(Line, Told)] = &[
         (Line::Load(1), Told::Number(1)),
-        (Line::Unlock(0), Told::Done),
-        (Line::Empty(0), Told::Done),
+        (Line::Other(Call::Unlock(Some(0))), Told::Done),
+        (Line::Other(Call::Empty(Some(0))), Told::Done),
         (Line::CallEntry(0), NONE),
         (Line::ShowEntry(0), Told::Entry(1, true)),
         (Line::Load(1), Told::Number(1)),
@@ -347,15 +201,15 @@ fn a_loaded_segment_without_a_block_is_not_called(rt: HostRuntime) -> Result<(),
         &rt,
         rt.alloc(),
         &[code(0, TWO_ENTRIES), code(1, BOTH)],
-        &lines,
+        LINES,
     )
 }
 
 #[test]
 fn a_busy_segment_is_not_unloaded(rt: HostRuntime) -> Result<(), Fail> {
-    let lines = [
+    const LINES: &[(Line, Told)] = &[
         (Line::Load(1), Told::Number(1)),
-        (Line::Busy(0), Told::Done),
+        (Line::Other(Call::SetBusy(0, true)), Told::Done),
         (Line::Unload(1), Told::Refused(OsErr::LOCKED)),
         (Line::ShowEntry(1), Told::Entry(1, true)),
     ];
@@ -363,40 +217,40 @@ fn a_busy_segment_is_not_unloaded(rt: HostRuntime) -> Result<(), Fail> {
         &rt,
         rt.alloc(),
         &[code(0, TWO_ENTRIES), code(1, BOTH)],
-        &lines,
+        LINES,
     )
 }
 
 #[test]
 fn a_table_has_no_more_entries_than_its_resource(rt: HostRuntime) -> Result<(), Fail> {
     let alloc = rt.alloc();
-    let lines = [
+    const LINES: &[(Line, Told)] = &[
         (Line::ShowEntry(0), Told::Entry(1, false)),
         (Line::ShowEntry(1), NONE),
     ];
     let long = one_entry(alloc, 255, FIRST)?;
-    tells(&rt, alloc, &[code(0, &long)], &lines)?;
+    tells(&rt, alloc, &[code(0, &long)], LINES)?;
     // Nor more than it says.
     let mut two = one_entry(alloc, 15, FIRST)?;
     two.extend_from_slice(FIRST)?;
-    tells(&rt, alloc, &[code(0, &two)], &lines)
+    tells(&rt, alloc, &[code(0, &two)], LINES)
 }
 
 #[test]
 fn fewer_than_sixteen_bytes_hold_no_entry(rt: HostRuntime) -> Result<(), Fail> {
-    let lines = [(Line::ShowEntry(0), NONE), (Line::Load(1), FATAL)];
+    const LINES: &[(Line, Told)] = &[(Line::ShowEntry(0), NONE), (Line::Load(1), FATAL)];
     tells(
         &rt,
         rt.alloc(),
         &[code(0, &TWO_ENTRIES[..15]), code(1, BOTH)],
-        &lines,
+        LINES,
     )
 }
 
 #[test]
 fn an_entry_of_another_form_belongs_to_no_segment(rt: HostRuntime) -> Result<(), Fail> {
     let alloc = rt.alloc();
-    let lines = [
+    const LINES: &[(Line, Told)] = &[
         (Line::ShowEntry(0), NONE),
         (Line::CallEntry(0), FATAL),
         (Line::Load(1), FATAL),
@@ -407,7 +261,7 @@ fn an_entry_of_another_form_belongs_to_no_segment(rt: HostRuntime) -> Result<(),
             &rt,
             alloc,
             &[code(0, &table), code(1, b"\0\0\0\x01")],
-            &lines,
+            LINES,
         )?;
     }
     Ok(())
@@ -416,7 +270,7 @@ fn an_entry_of_another_form_belongs_to_no_segment(rt: HostRuntime) -> Result<(),
 #[test]
 fn a_negative_segment_is_an_ordinary_one(rt: HostRuntime) -> Result<(), Fail> {
     let alloc = rt.alloc();
-    let lines = [
+    const LINES: &[(Line, Told)] = &[
         (Line::CallEntry(0), Told::Entry(-2, true)),
         (Line::ShowEntry(0), Told::Entry(-2, true)),
         (Line::Unload(-2), Told::Done),
@@ -427,7 +281,7 @@ fn a_negative_segment_is_an_ordinary_one(rt: HostRuntime) -> Result<(), Fail> {
         &rt,
         alloc,
         &[code(0, &table), code(-2, b"\0\0\0\x01")],
-        &lines,
+        LINES,
     )
 }
 
@@ -444,7 +298,7 @@ fn a_segment_is_loaded_with_the_entries_that_are_its_own(rt: HostRuntime) -> Res
         code(5, b"\0\x04\0\0"),
         code(6, b"\0\0\0"),
     ];
-    let lines = [
+    const LINES: &[(Line, Told)] = &[
         // It names an entry behind the table.
         (Line::Load(1), FATAL),
         // The entry is another segment's.
@@ -458,24 +312,24 @@ fn a_segment_is_loaded_with_the_entries_that_are_its_own(rt: HostRuntime) -> Res
         (Line::Load(0), FATAL),
         (Line::ShowEntry(0), Told::Entry(1, false)),
     ];
-    tells(&rt, alloc, &codes, &lines)
+    tells(&rt, alloc, &codes, LINES)
 }
 
 #[test]
 fn segments_come_from_the_own_fork(rt: HostRuntime) -> Result<(), Fail> {
-    let lines = [
-        (Line::OpenOther, Told::Number(3)),
-        (Line::SetLoad(false), Told::Done),
+    const LINES: &[(Line, Told)] = &[
+        (Line::Other(Call::OpenFile(b"Doc")), Told::Number(3)),
+        (Line::Other(Call::SetLoad(false)), Told::Done),
         (Line::Load(1), Told::Number(1)),
         // The document's is another one.
-        (Line::Get(1), Told::Fetched(1, false)),
-        (Line::UseFile(0), Told::Done),
+        (Line::Other(Call::Get(CODE, 1)), Told::Fetched(1, false)),
+        (Line::Other(Call::UseFile(0)), Told::Done),
         (Line::Load(1), Told::Number(0)),
-        (Line::CloseFile(2), Told::Done),
+        (Line::Other(Call::CloseFile(2)), Told::Done),
         (Line::CallEntry(0), NONE),
         (Line::ShowEntry(0), Told::Entry(1, true)),
         (Line::Load(1), FATAL),
-        (Line::OpenOwn, Told::Number(4)),
+        (Line::Other(Call::OpenFile(b"App")), Told::Number(4)),
         (Line::CallEntry(0), NONE),
         (Line::Load(1), Told::Number(1)),
         (Line::CallEntry(0), Told::Entry(1, false)),
@@ -484,7 +338,7 @@ fn segments_come_from_the_own_fork(rt: HostRuntime) -> Result<(), Fail> {
         &rt,
         rt.alloc(),
         &[code(0, TWO_ENTRIES), code(1, BOTH)],
-        &lines,
+        LINES,
     )
 }
 
@@ -501,20 +355,20 @@ fn a_segment_without_room_wants_room(rt: HostRuntime) -> Result<(), Fail> {
             wants_room: true,
         })
     };
-    assert_eq!(rt; app.heap.new_handle(400), Ok(0));
-    assert_eq!(rt;
-        app.table.load(&mut app.heap, &mut app.resources, 1),
-        full(None)
-    );
-    assert_eq!(rt; app.heap.dispose_handle(Some(0)), Ok(()));
-    assert_eq!(rt; app.load(1), Told::Number(1));
-    assert_eq!(rt; app.unload(1), Told::Done);
-    assert_eq!(rt; app.heap.empty_handle(Some(1)), Ok(()));
-    assert_eq!(rt; app.heap.new_handle(400), Ok(2));
-    assert_eq!(rt;
-        app.table.load(&mut app.heap, &mut app.resources, 1),
-        full(Some(1))
-    );
-    assert_eq!(rt; app.call(0), FATAL);
+    let App { managers, table } = &mut app;
+    const HELD: &[(Call, Told)] = &[(Call::NewHandle(400), Told::Count(0))];
+    follows(&rt, alloc, managers, HELD);
+    assert_eq!(rt; load(managers, table, 1), full(None));
+    const GIVEN: &[(Call, Told)] = &[(Call::Dispose(Some(0)), Told::Done)];
+    follows(&rt, alloc, managers, GIVEN);
+    assert_eq!(rt; load(managers, table, 1), Ok(true));
+    assert_eq!(rt; unload(managers, table, 1), Ok(()));
+    const AGAIN: &[(Call, Told)] = &[
+        (Call::Empty(Some(1)), Told::Done),
+        (Call::NewHandle(400), Told::Count(2)),
+    ];
+    follows(&rt, alloc, managers, AGAIN);
+    assert_eq!(rt; load(managers, table, 1), full(Some(1)));
+    assert_eq!(rt; called(call(managers, table, 0)), FATAL);
     Ok(())
 }

@@ -2,55 +2,43 @@
 
 ghost use Rattle.std.specs.Prelude.{◌≤◌, length};
 
-use crate::{Entry, ResFile};
+use crate::making::{TEXT, name_of, nothing, resource};
 use fork_format::{Content, Group, Ref, RefName, fits};
 use mac_words::{Attrs, OsType};
+use res_map::{Entry, ResFile};
 use std::alloc::{AllocError, Global};
 use std::process::Abort;
 use std::test::Fail;
-
-pub const TEXT: OsType = OsType(*b"TEXT");
 
 pub const ICON: OsType = OsType(*b"ICON");
 
 pub const MENU: OsType = OsType(*b"MENU");
 
-pub fn name_of(bytes: &[u8]) -> Option<RefName<'_>>
+/// The name of a resource that has one.
+pub fn named(bytes: &[u8]) -> Option<RefName<'_>>
     requires { length bytes.now ≤ 255 }
 {
-    Some(RefName { bytes })
+    Some(name_of(bytes))
 }
 
-pub fn resource<'b>(id: i16, name: Option<RefName<'b>>, datum: &'b [u8]) -> Ref<'b> {
-    Ref {
-        id,
-        name,
-        attrs: Attrs(Attrs::PRELOAD),
-        datum,
-    }
-}
-
-pub fn content_of(alloc: Global) -> Content<'static> {
-    Content {
-        area: [0; 240],
-        attrs: 0,
-        groups: Vec::new(alloc),
-    }
+/// A resource that is to be read first.
+pub fn preloaded<'b>(id: i16, name: Option<RefName<'b>>, datum: &'b [u8]) -> Ref<'b> {
+    resource(id, name, Attrs::PRELOAD, datum)
 }
 
 fn texts(alloc: Global) -> Result<Group<'static>, AllocError> {
     let mut refs = Vec::new(alloc);
-    refs.push(resource(128, name_of(b"Note"), b"Hi"))?;
-    refs.push(resource(-5, None, b""))?;
-    refs.push(resource(129, name_of(b""), b"none"))?;
+    refs.push(preloaded(128, named(b"Note"), b"Hi"))?;
+    refs.push(preloaded(-5, None, b""))?;
+    refs.push(preloaded(129, named(b""), b"none"))?;
     Ok(Group { ty: TEXT, refs })
 }
 
 fn icons(alloc: Global) -> Result<Group<'static>, AllocError> {
     let mut refs = Vec::new(alloc);
-    refs.push(resource(129, None, b"dots"))?;
-    refs.push(resource(128, name_of(b"Caf\x8e"), b"cup"))?;
-    refs.push(resource(128, name_of(b"NOTE"), b"again"))?;
+    refs.push(preloaded(129, None, b"dots"))?;
+    refs.push(preloaded(128, named(b"Caf\x8e"), b"cup"))?;
+    refs.push(preloaded(128, named(b"NOTE"), b"again"))?;
     Ok(Group { ty: ICON, refs })
 }
 
@@ -65,7 +53,7 @@ pub fn opened(
 
 /// Three texts, then three icons.
 pub fn two_types(rt: &impl Abort, alloc: Global) -> Result<ResFile, AllocError> {
-    let mut content = content_of(alloc);
+    let mut content = nothing(alloc);
     content.groups.push(texts(alloc)?)?;
     content.groups.push(icons(alloc)?)?;
     opened(rt, alloc, &content)
@@ -80,14 +68,14 @@ pub fn reference_at(rt: &impl Abort, file: &ResFile, index: usize, expected: &En
 fn a_file_holds_what_was_stored(rt: HostRuntime) -> Result<(), Fail> {
     let file = two_types(&rt, rt.alloc())?;
     assert_eq!(rt; file.len(), 6);
-    let stored = resource(128, name_of(b"Note"), b"Hi");
+    let stored = preloaded(128, named(b"Note"), b"Hi");
     let first = Entry {
         ty: TEXT,
         stored,
         handle: None,
     };
     reference_at(&rt, &file, 0, &first);
-    let stored = resource(128, name_of(b"NOTE"), b"again");
+    let stored = preloaded(128, named(b"NOTE"), b"again");
     let last = Entry {
         ty: ICON,
         stored,
@@ -164,7 +152,7 @@ fn a_handle_is_given_and_taken_away(rt: HostRuntime) -> Result<(), Fail> {
 #[test]
 fn a_file_may_have_no_resource(rt: HostRuntime) -> Result<(), Fail> {
     let alloc = rt.alloc();
-    let file = opened(&rt, alloc, &content_of(alloc))?;
+    let file = opened(&rt, alloc, &nothing(alloc))?;
     assert_eq!(rt; file.len(), 0);
     assert_eq!(rt; file.count_types(), 0);
     assert_eq!(rt; file.nth_type(1), None);

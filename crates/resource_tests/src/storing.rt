@@ -2,26 +2,19 @@
 
 ghost use Rattle.std.specs.Prelude.{◌≤◌, length};
 
-use crate::ResFile;
+use crate::making::{TEXT, resource};
+use crate::maps::ICON;
 use fork_format::{Content, Group, Ref, RefName, fits, write_fork};
-use mac_words::{Attrs, OsType};
+use mac_words::Attrs;
+use res_map::ResFile;
 use std::alloc::{AllocError, Global};
 use std::process::Abort;
 use std::test::Fail;
 
-const TEXT: OsType = OsType(*b"TEXT");
-
-const ICON: OsType = OsType(*b"ICON");
-
 const NAME: Option<RefName<'static>> = Some(RefName { bytes: b"Note" });
 
-fn resource(id: i16, attrs: u8, datum: &'static [u8]) -> Ref<'static> {
-    Ref {
-        id,
-        name: NAME,
-        attrs: Attrs(attrs),
-        datum,
-    }
+fn note(id: i16, attrs: u8, datum: &'static [u8]) -> Ref<'static> {
+    resource(id, NAME, attrs, datum)
 }
 
 /// Two texts, then an icon. The first text has these attributes and bytes.
@@ -30,13 +23,13 @@ fn content_of(
     attrs: u8,
     datum: &'static [u8],
 ) -> Result<Content<'static>, AllocError> {
-    let first = resource(128, attrs, datum);
-    let second = resource(-5, Attrs::PRELOAD, b"Lo");
+    let first = note(128, attrs, datum);
+    let second = note(-5, Attrs::PRELOAD, b"Lo");
     let texts = Group {
         ty: TEXT,
         refs: vec![in alloc; first, second]?,
     };
-    let dots = resource(128, Attrs::PURGEABLE, b"dots");
+    let dots = note(128, Attrs::PURGEABLE, b"dots");
     let icons = Group {
         ty: ICON,
         refs: vec![in alloc; dots]?,

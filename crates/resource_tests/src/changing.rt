@@ -2,20 +2,16 @@
 
 ghost use Rattle.std.specs.Prelude.{◌<◌, length};
 
-use crate::{File, Resources};
-use arrayvec::ArrayVec;
+use crate::making::{DATA, TEXT, file_name, file_of, launched, narrow_heap, text_of};
 use block_store::ListStore;
 use fork_format::read_fork;
 use heap_calls::{Heap, Refusal};
-use mac_words::{Attrs, FileName, Name, OsType};
+use mac_words::{Attrs, OsType};
+use res_calls::Resources;
 use res_map::ResFile;
 use std::alloc::{AllocError, Global};
 use std::process::Abort;
 use std::test::Fail;
-
-const TEXT: OsType = OsType(*b"TEXT");
-
-const DATA: OsType = OsType(*b"DATA");
 
 /// A fork without resources: what stands before its area, and behind it.
 const NONE: [&[u8]; 2] = [
@@ -53,6 +49,8 @@ const SHARED: [&[u8]; 2] = [
     b"\0\0\0\x02Hi\0\0\x01\0\0\0\x01\x06\0\0\0\x06\0\0\0\x3e\0\0\0\0\0\0\0\0\0\x1c\0\x3e\0\0TEXT\0\x01\0\x0a\0\x80\xff\xff\0\0\0\0\0\0\0\0\0\x81\xff\xff\0\0\0\0\0\0\0\0",
 ];
 
+const FORKS: &[[&[u8]; 2]] = &[NONE, HI, ZEROED, SWAPPED, NOTE, SHARED];
+
 /// What is changed.
 #[derive(Clone, Copy, Debug, PartialEq, Eq)]
 enum Change {
@@ -74,7 +72,7 @@ enum Change {
     Attributes,
 }
 
-const CHANGES: [Change; 8] = [
+const CHANGES: &[Change] = &[
     Change::AnotherOfType,
     Change::NewType,
     Change::Removal,
@@ -85,22 +83,6 @@ const CHANGES: [Change; 8] = [
     Change::Attributes,
 ];
 
-fn name_of(bytes: &[u8]) -> FileName {
-    let mut name = ArrayVec::new();
-    for byte in bytes {
-        let _full = name.try_push(*byte).is_err();
-    }
-    FileName(name)
-}
-
-fn text_of(bytes: &[u8]) -> Name {
-    let mut name = ArrayVec::new();
-    for byte in bytes {
-        let _full = name.try_push(*byte).is_err();
-    }
-    Name(name)
-}
-
 /// A fork of these parts, with zeros between.
 fn fork_of(alloc: Global, parts: [&[u8]; 2]) -> Result<Vec<u8>, AllocError> {
     let [header, rest] = parts;
@@ -110,25 +92,13 @@ fn fork_of(alloc: Global, parts: [&[u8]; 2]) -> Result<Vec<u8>, AllocError> {
     Ok(fork)
 }
 
-fn file_of(name: &[u8], fork: Vec<u8>) -> File {
-    File {
-        name: name_of(name),
-        fork,
-        written: false,
-    }
-}
-
 /// An application without resources, and a document of this fork.
 fn with_document(alloc: Global, parts: [&[u8]; 2]) -> Result<Resources, Fail> {
     let none = fork_of(alloc, NONE)?;
-    let read = read_fork(alloc, &none)?;
     let mut files = Vec::new(alloc);
     files.push(file_of(b"App", fork_of(alloc, NONE)?))?;
     files.push(file_of(b"Doc", fork_of(alloc, parts)?))?;
-    match Resources::new(alloc, files, &read) {
-        Ok(resources) => Ok(resources),
-        Err(_) => Err(Fail::new("a fork that isn't read")),
-    }
+    launched(alloc, files, &none)
 }
 
 /// A new handle of three bytes is added.
@@ -211,14 +181,13 @@ fn is_read_as(rt: &impl Abort, alloc: Global, fork: &[u8], map: &ResFile) -> Res
 
 /// A document of this fork is opened, changed and updated: its fork is then read to its map.
 fn is_kept(rt: &impl Abort, alloc: Global, parts: [&[u8]; 2], change: Change) -> Result<(), Fail> {
-    let store = ListStore::new(alloc, 1024)?;
-    let mut heap = Heap::new(alloc, store);
+    let mut heap = narrow_heap(alloc)?;
     let mut resources = with_document(alloc, parts)?;
-    let open = resources.open_res_file(alloc, &mut heap, &name_of(b"Doc"));
+    let open = resources.open_res_file(alloc, &mut heap, &file_name(b"Doc"));
     assert_eq!(rt; open, Ok(3));
     let _none_to_change = make(alloc, &mut resources, &mut heap, change).is_err();
     assert_eq!(rt; resources.update_res_file(alloc, &heap, 3), Ok(()));
-    match (resources.files.get(1), resources.chain.get(0)) {
+    match (resources.files().get(1), resources.open_files().get(0)) {
         (Some(file), Some(open)) => is_read_as(rt, alloc, &file.fork, &open.map),
         _ => Err(Fail::new("the document isn't open")),
     }
@@ -227,9 +196,9 @@ fn is_kept(rt: &impl Abort, alloc: Global, parts: [&[u8]; 2], change: Change) ->
 #[test]
 fn an_updated_fork_is_read_to_its_map(rt: HostRuntime) -> Result<(), Fail> {
     let alloc = rt.alloc();
-    for parts in [NONE, HI, ZEROED, SWAPPED, NOTE, SHARED] {
+    for parts in FORKS {
         for change in CHANGES {
-            is_kept(&rt, alloc, parts, change)?;
+            is_kept(&rt, alloc, *parts, *change)?;
         }
     }
     Ok(())
