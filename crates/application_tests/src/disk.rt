@@ -3,9 +3,8 @@
 ghost use Rattle.std.specs.Prelude.{◌<◌, ◌≤◌, ◌≡◌, ◌%◌, length};
 
 use crate::both::used_region;
-use crate::giving::give_in_region;
 use crate::grow_tests::text_of;
-use crate::watch::Unwatched;
+use applications::{Unwatched, give_in_region};
 use arrayvec::ArrayVec;
 use fork_format::{Content, Group, Ref, read_fork, write_fork};
 use mac_words::{Attrs, FileName, OsType};
