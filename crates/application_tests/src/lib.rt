@@ -12,6 +12,8 @@ mod ending_tests;
 #[cfg(test)]
 mod examples_tests;
 #[cfg(test)]
+mod generated_tests;
+#[cfg(test)]
 mod grow_tests;
 #[cfg(test)]
 mod image;
