@@ -191,8 +191,15 @@ fn zone_behind(
 {
     let resources = own_resources(alloc)?;
     let region = used_region(alloc, size)?;
-    let (given, region) =
-        give_in_region(alloc, region, resources, script, calls, false, &mut Unwatched);
+    let (given, region) = give_in_region(
+        alloc,
+        region,
+        resources,
+        script,
+        calls,
+        false,
+        &mut Unwatched,
+    );
     let image = image_of(alloc, region)?;
     drop(given?);
     Ok(image)
@@ -259,7 +266,13 @@ fn lies_so(rt: &impl Abort, alloc: Global, image: &[u8], lines: &[&str]) -> Resu
     let tally = read_zone(rt, image)?;
     assert_eq!(rt; number_of(values_at(lines, 1))?, tally.free);
     for name in 0..NAMES.len() {
-        name_lies(rt, alloc, image, lines, name.wrapping_mul(3).wrapping_add(3))?;
+        name_lies(
+            rt,
+            alloc,
+            image,
+            lines,
+            name.wrapping_mul(3).wrapping_add(3),
+        )?;
     }
     Ok(())
 }

@@ -2,9 +2,8 @@
 
 ghost use Rattle.std.specs.Prelude.{◌≡◌, ◌≤◌, ◌%◌, [], length};
 
-use crate::in_region::run;
-use crate::job::Job;
 use crate::jobs::{add, empty_job, region_of, sized};
+use desk::{Job, run};
 use raw_region::{Part, Region};
 use script_text::Event;
 use std::alloc::Global;

@@ -1,7 +1,7 @@
 //! Jobs that a generator makes, over lists and in the bytes of a region.
 
-use crate::job::Job;
 use crate::jobs::{SMALL, add, empty_job, run_job, sized};
+use desk::Job;
 use script_text::Event;
 use std::alloc::Global;
 use std::fmt::Write;

@@ -3,7 +3,7 @@
 use crate::jobs::{
     SMALL, add, empty_job, fork_holding, outcome_of, resource_of, run_job, sized, transcript_of,
 };
-use crate::outcome::RunFault;
+use desk::RunFault;
 use mac_words::OsErr;
 use script_text::Event;
 use std::alloc::Global;
