@@ -159,7 +159,7 @@ ExitToShell
 ";
 
 /// What running `TWO` asks a host for, in order.
-const TWO_NOTES: [&str; 10] = [
+const TWO_NOTES: &[&str] = &[
     "read job",
     "read one.rsrc",
     "read one.script",
@@ -248,7 +248,7 @@ fn stops_at_what_fails(rt: HostRuntime) -> Result<(), Fail> {
         let path = note.split_once(' ').unwrap_or(("", "")).1;
         match fault {
             Some(fault) => assert_eq!(rt; (fault.kind(), fault.path()), (kind, path)),
-            None => return Err(Fail::new(note)),
+            None => return Err(Fail::new(*note)),
         }
         assert_eq!(rt; disk.notes.as_str(), notes.as_str());
         assert_eq!(rt; disk.written.len(), number.saturating_sub(8));
