@@ -13,7 +13,7 @@ use std::process::Abort;
 use std::test::Fail;
 
 /// A generator of numbers: each is made of the one before it by shifts.
-#[derive(Clone, Copy, Debug)]
+#[derive(Clone, Copy)]
 struct Chance(u32);
 
 impl Chance {
@@ -27,10 +27,10 @@ impl Chance {
 }
 
 /// The names that generated calls use.
-const NAMES: [&str; 12] = ["a", "b", "c", "d", "e", "f", "g", "h", "i", "j", "k", "l"];
+const NAMES: &[&str] = &["a", "b", "c", "d", "e", "f", "g", "h", "i", "j", "k", "l"];
 
 /// What follows the word of a call.
-#[derive(Clone, Copy, Debug, PartialEq, Eq)]
+#[derive(Clone, Copy)]
 enum Arguments {
     Nothing,
     Name,
@@ -41,7 +41,7 @@ enum Arguments {
 }
 
 /// The calls that are made; those that stand here more than once come more often.
-const CALLS: [(&str, Arguments); 32] = [
+const CALLS: &[(&str, Arguments)] = &[
     ("NewHandle", Arguments::NameAndSize),
     ("NewHandle", Arguments::NameAndSize),
     ("NewHandle", Arguments::NameAndSize),
@@ -78,7 +78,10 @@ const CALLS: [(&str, Arguments); 32] = [
 
 /// One of the names.
 fn a_name(chance: &mut Chance) -> &'static str {
-    NAMES[(chance.next() % 12) as usize]
+    match NAMES.get((chance.next() % 12) as usize) {
+        Some(name) => *name,
+        None => "no name",
+    }
 }
 
 /// A number of bytes, most often a small one.
@@ -89,7 +92,9 @@ fn a_size(chance: &mut Chance) -> u32 {
 
 /// A line with one call.
 fn a_line(chance: &mut Chance, text: &mut String) -> Result<(), Fail> {
-    let (word, arguments) = CALLS[(chance.next() % 32) as usize];
+    let Some((word, arguments)) = CALLS.get((chance.next() % 32) as usize) else {
+        return Err(Fail::new("one of 32 calls"));
+    };
     let name = a_name(chance);
     let size = a_size(chance);
     match arguments {
@@ -125,25 +130,56 @@ fn script_of(alloc: Global, text: &str) -> Result<Script, Fail> {
 }
 
 /// Lines that ask how much is Free, and of each name where its block lies, and what it shows.
-fn questions(alloc: Global) -> Result<String, Fail> {
-    let mut text = String::from_str(alloc, "FreeMem\nMaxBlock\n")?;
-    for name in NAMES {
-        writeln!(text, "Where {name}\nShow {name}\nShowPtr {name}")?;
-    }
-    Ok(text)
-}
+const QUESTIONS: &str = "FreeMem
+MaxBlock
+Where a
+Show a
+ShowPtr a
+Where b
+Show b
+ShowPtr b
+Where c
+Show c
+ShowPtr c
+Where d
+Show d
+ShowPtr d
+Where e
+Show e
+ShowPtr e
+Where f
+Show f
+ShowPtr f
+Where g
+Show g
+ShowPtr g
+Where h
+Show h
+ShowPtr h
+Where i
+Show i
+ShowPtr i
+Where j
+Show j
+ShowPtr j
+Where k
+Show k
+ShowPtr k
+Where l
+Show l
+ShowPtr l
+";
 
 /// So many lines are one call and the questions behind it.
 const LINES: usize = 39;
 
 /// These calls, with the questions behind each.
 fn with_questions(alloc: Global, calls: &str) -> Result<String, Fail> {
-    let questions = questions(alloc)?;
     let mut text = String::new(alloc);
     for call in calls.lines() {
         text.push_str(call)?;
         text.push_str("\n")?;
-        text.push_str(&questions)?;
+        text.push_str(QUESTIONS)?;
     }
     Ok(text)
 }
