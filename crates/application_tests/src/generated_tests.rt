@@ -313,7 +313,12 @@ fn lies_so(rt: &impl Abort, alloc: Global, image: &[u8], lines: &[&str]) -> Resu
     Ok(())
 }
 
-/// Runs calls in a partition of so many bytes, over lists and in bytes: both tell the same, and behind each call what is
+/// Whether the bytes are read behind so many calls: behind each of the first 100, and then behind each fifth.
+fn are_read(calls: usize) -> bool {
+    calls <= 100 || calls % 5 == 0
+}
+
+/// Runs calls in a partition of so many bytes, over lists and in bytes: both tell the same behind each call, and what is
 /// told lies so in the bytes.
 fn compare_calls(rt: &impl Abort, alloc: Global, size: u32, calls: &str) -> Result<(), Fail>
     requires even { size % 16 ≡ 0 }
@@ -327,8 +332,10 @@ fn compare_calls(rt: &impl Abort, alloc: Global, size: u32, calls: &str) -> Resu
     for lines in lines.chunks(LINES).take(script.steps().len()) {
         assert_eq!(rt; lines.len(), LINES);
         done = done.wrapping_add(1);
-        let image = zone_behind(alloc, size, &script, done)?;
-        lies_so(rt, alloc, &image, lines)?;
+        if are_read(done) {
+            let image = zone_behind(alloc, size, &script, done)?;
+            lies_so(rt, alloc, &image, lines)?;
+        }
     }
     assert_eq!(rt; done, script.steps().len());
     Ok(())
