@@ -40,7 +40,7 @@ const UPDATED: &[(&str, &str)] = &[
 fn is_left(
     rt: &impl Abort,
     alloc: Global,
-    last: &[(&str, &str)],
+    last: &[(&'static str, &'static str)],
     code: &str,
     left: Parts,
     written: bool,

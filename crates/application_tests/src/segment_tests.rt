@@ -274,45 +274,83 @@ fn script_alone_has_no_segments(rt: HostRuntime) -> Result<(), Fail> {
     leaves(&rt, rt.alloc(), 512, SCRIPT, TRANSCRIPT)
 }
 
-/// With these entries in 'CODE' 0 and this segment 1, a call is a system error.
-fn is_not_loaded(
-    rt: &impl Abort,
-    alloc: Global,
-    entries: &[&[u8]],
-    segment: &[u8],
-    call: &str,
-) -> Result<(), Fail> {
-    let case = Case {
-        told: 16,
-        entries,
-        segments: &[(1, segment)],
-        rows: &[("ShowEntry 2", "-30001"), (call, "15")],
-    };
-    case.ends(rt, alloc, "15")
-}
-
 #[test]
 fn what_is_not_the_segments_own_is_not_loaded(rt: HostRuntime) -> Result<(), Fail> {
-    const CASES: &[(&[&[u8]], &[u8], &str)] = &[
+    const CASES: &[Case<'static>] = &[
         // The number is 0, though 'CODE' 0 begins as that of a segment does.
-        (&[ONE, ONE], SEGMENT, "LoadSeg 0"),
+        Case {
+            told: 16,
+            entries: &[ONE, ONE],
+            segments: &[(1, SEGMENT)],
+            rows: &[("ShowEntry 2", "-30001"), ("LoadSeg 0", "15")],
+        },
         // The resource is too short, or that of a far model.
-        (&[ONE, ONE], b"\0\0\0", "LoadSeg 1"),
-        (&[ONE, ONE], b"\xff\xff\0\0", "LoadSeg 1"),
+        Case {
+            told: 16,
+            entries: &[ONE, ONE],
+            segments: &[(1, b"\0\0\0")],
+            rows: &[("ShowEntry 2", "-30001"), ("LoadSeg 1", "15")],
+        },
+        Case {
+            told: 16,
+            entries: &[ONE, ONE],
+            segments: &[(1, b"\xff\xff\0\0")],
+            rows: &[("ShowEntry 2", "-30001"), ("LoadSeg 1", "15")],
+        },
         // The offset is that of no entry.
-        (&[ONE, ONE], b"\0\x04\0\x01", "LoadSeg 1"),
+        Case {
+            told: 16,
+            entries: &[ONE, ONE],
+            segments: &[(1, b"\0\x04\0\x01")],
+            rows: &[("ShowEntry 2", "-30001"), ("LoadSeg 1", "15")],
+        },
         // Entries are behind the table's end.
-        (&[ONE, ONE], b"\0\0\0\x03", "LoadSeg 1"),
-        (&[ONE, ONE], b"\0\x08\0\x02", "CallEntry 0"),
-        (&[ONE, ONE], b"\0\x10\0\x01", "LoadSeg 1"),
+        Case {
+            told: 16,
+            entries: &[ONE, ONE],
+            segments: &[(1, b"\0\0\0\x03")],
+            rows: &[("ShowEntry 2", "-30001"), ("LoadSeg 1", "15")],
+        },
+        Case {
+            told: 16,
+            entries: &[ONE, ONE],
+            segments: &[(1, b"\0\x08\0\x02")],
+            rows: &[("ShowEntry 2", "-30001"), ("CallEntry 0", "15")],
+        },
+        Case {
+            told: 16,
+            entries: &[ONE, ONE],
+            segments: &[(1, b"\0\x10\0\x01")],
+            rows: &[("ShowEntry 2", "-30001"), ("LoadSeg 1", "15")],
+        },
         // Entries are another segment's, or of none.
-        (&[ONE, TWO], b"\0\0\0\x02", "LoadSeg 1"),
-        (&[TWO, ONE], b"\0\0\0\x01", "CallEntry 1"),
-        (&[ONE, OTHER_FORM], b"\0\0\0\x02", "LoadSeg 1"),
-        (&[ONE, OTHER_FORM], b"\0\0\0\x01", "CallEntry 1"),
+        Case {
+            told: 16,
+            entries: &[ONE, TWO],
+            segments: &[(1, b"\0\0\0\x02")],
+            rows: &[("ShowEntry 2", "-30001"), ("LoadSeg 1", "15")],
+        },
+        Case {
+            told: 16,
+            entries: &[TWO, ONE],
+            segments: &[(1, b"\0\0\0\x01")],
+            rows: &[("ShowEntry 2", "-30001"), ("CallEntry 1", "15")],
+        },
+        Case {
+            told: 16,
+            entries: &[ONE, OTHER_FORM],
+            segments: &[(1, b"\0\0\0\x02")],
+            rows: &[("ShowEntry 2", "-30001"), ("LoadSeg 1", "15")],
+        },
+        Case {
+            told: 16,
+            entries: &[ONE, OTHER_FORM],
+            segments: &[(1, b"\0\0\0\x01")],
+            rows: &[("ShowEntry 2", "-30001"), ("CallEntry 1", "15")],
+        },
     ];
-    for (entries, segment, call) in CASES {
-        is_not_loaded(&rt, rt.alloc(), *entries, *segment, *call)?;
+    for case in CASES {
+        case.ends(&rt, rt.alloc(), "15")?;
     }
     Ok(())
 }

@@ -26,13 +26,31 @@ pub fn play(rt: &impl Abort, alloc: Global, size: u32, rows: &[(&str, &str)]) ->
     )
 }
 
-/// The answer to a `Show` of bytes that begin with these digits and go on with so many zeros.
-fn shown(alloc: Global, digits: &str, zeros: usize) -> Result<String, Fail> {
-    let mut shown = format!(in alloc; "0 ${digits}")?;
+/// Runs a script of these calls in a partition of 1,024 bytes, as `play` does, and then this `Show`: it shows bytes that
+/// begin with these digits and go on with so many zeros.
+fn play_and_show(
+    rt: &impl Abort,
+    alloc: Global,
+    rows: &[(&str, &str)],
+    show: &str,
+    digits: &str,
+    zeros: usize,
+) -> Result<(), Fail> {
+    let mut texts = Texts::of_rows(alloc, 1024, rows)?;
+    let line = rows.len().wrapping_add(1);
+    writeln!(texts.script, "{show}")?;
+    write!(texts.transcript, "{line} Show 0 ${digits}")?;
     for _ in 0..zeros {
-        shown.push_str("00")?;
+        texts.transcript.push_str("00")?;
     }
-    Ok(shown)
+    texts.transcript.push_str("\nend 0\n")?;
+    both_leave(
+        rt,
+        alloc,
+        1024,
+        texts.script.as_bytes(),
+        texts.transcript.as_bytes(),
+    )
 }
 
 #[test]
@@ -158,10 +176,7 @@ fn blocks_move_together_for_a_new_one(rt: HostRuntime) -> Result<(), Fail> {
         ("Where d", "0 544"),
         ("Where c", "0 416"),
     ];
-    let shown = shown(rt.alloc(), "78797a", 97)?;
-    let mut rows = Vec::from_slice(rt.alloc(), ROWS)?;
-    rows.push(("Show c", shown.as_str()))?;
-    play(&rt, rt.alloc(), 1024, rows.as_slice())
+    play_and_show(&rt, rt.alloc(), ROWS, "Show c", "78797a", 97)
 }
 
 #[test]
@@ -215,10 +230,7 @@ fn block_grows_elsewhere_and_as_the_last_of_its_run(rt: HostRuntime) -> Result<(
         ("SetHandleSize a 608", "0"),
         ("SetHandleSize a 609", "-108"),
     ];
-    let shown = shown(rt.alloc(), "41", 607)?;
-    let mut rows = Vec::from_slice(rt.alloc(), ROWS)?;
-    rows.push(("Show a", shown.as_str()))?;
-    play(&rt, rt.alloc(), 1024, rows.as_slice())
+    play_and_show(&rt, rt.alloc(), ROWS, "Show a", "41", 607)
 }
 
 #[test]
