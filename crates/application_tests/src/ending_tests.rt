@@ -2,7 +2,7 @@
 
 use crate::disk::{
     HI, NONE, NOTE, Parts, Stored, Texts, beside, crowded_fork, ends, file_of, fork_at, fork_of,
-    fork_with, give, holding, launched, written_at,
+    fork_with, give, has_fork, holding, launched, written_at,
 };
 use applications::{Application, Exit, own_resources, up_to_wait};
 use block_store::ListStore;
@@ -50,7 +50,7 @@ fn is_left(
     rows.extend_from_slice(last)?;
     let document = beside(alloc, &[(b"Doc", hi.as_slice())])?;
     let files = ends(rt, alloc, 1024, document, &rows, code)?;
-    assert_eq!(rt; fork_at(&files, 1), fork_of(alloc, left)?.as_slice());
+    has_fork(rt, alloc, &files, 1, left)?;
     assert_eq!(rt; written_at(&files, 1), written);
     assert!(rt; !written_at(&files, 0));
     Ok(())
@@ -77,8 +77,8 @@ fn added_resource_is_written_at_a_quit(rt: HostRuntime) -> Result<(), Fail> {
     ];
     let alloc = rt.alloc();
     let files = ends(&rt, alloc, 1024, beside(alloc, &[])?, ROWS, "0")?;
-    assert_eq!(rt; fork_at(&files, 0), fork_of(alloc, HI)?.as_slice());
-    assert_eq!(rt; fork_at(&files, 1), fork_of(alloc, NONE)?.as_slice());
+    has_fork(&rt, alloc, &files, 0, HI)?;
+    has_fork(&rt, alloc, &files, 1, NONE)?;
     assert!(rt; written_at(&files, 0) && written_at(&files, 1));
     Ok(())
 }
