@@ -20,37 +20,8 @@ mod watch;
 pub use application::Application;
 pub use giving::{Given, give_alone, give_in, give_in_region};
 pub use laws::{an_application_with_any_resources_keeps_the_laws, steps_follow_one_another};
-pub use own::empty_content;
+pub use own::{empty_content, own_resources};
 pub use quitting::Exit;
 pub use run::{run_script, run_script_watched};
 pub use turns::{ends_turn, up_to_wait};
 pub use watch::{Unwatched, Watch, tell};
-
-#[cfg(test)]
-mod both;
-#[cfg(test)]
-mod changing_tests;
-#[cfg(test)]
-mod disk;
-#[cfg(test)]
-mod ending_tests;
-#[cfg(test)]
-mod examples_tests;
-#[cfg(test)]
-mod generated_tests;
-#[cfg(test)]
-mod grow_tests;
-#[cfg(test)]
-mod housed;
-#[cfg(test)]
-mod image;
-#[cfg(test)]
-mod region_tests;
-#[cfg(test)]
-mod resource_tests;
-#[cfg(test)]
-mod segment_tests;
-#[cfg(test)]
-mod table_tests;
-#[cfg(test)]
-mod tests;

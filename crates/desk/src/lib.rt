@@ -30,12 +30,3 @@ pub use laws::{
 };
 pub use outcome::{AppOutcome, Launched, Outcome, RunFault};
 pub use whole::{run_watched, run_with};
-
-#[cfg(test)]
-mod generated_tests;
-#[cfg(test)]
-mod jobs;
-#[cfg(test)]
-mod region_tests;
-#[cfg(test)]
-mod tests;

@@ -400,7 +400,7 @@ fn other_form(alloc: Global) -> Result<Vec<u8>, Fail> {
 
 #[test]
 fn runs_the_scripts(rt: HostRuntime) -> Result<(), Fail> {
-    for (script, transcript) in [
+    const SCRIPTS: &[(&str, &str)] = &[
         (FIRST, FIRST_TRANSCRIPT),
         (COMPACTION, COMPACTION_TRANSCRIPT),
         (MOVING, MOVING_TRANSCRIPT),
@@ -410,7 +410,8 @@ fn runs_the_scripts(rt: HostRuntime) -> Result<(), Fail> {
         (SEGMENTS, SEGMENTS_TRANSCRIPT),
         (KEPT_POINTER, KEPT_POINTER_TRANSCRIPT),
         (KEPT_POINTER_LOCKED, KEPT_POINTER_LOCKED_TRANSCRIPT),
-    ] {
+    ];
+    for (script, transcript) in SCRIPTS {
         let text = printed(
             rt.alloc(),
             &["macmem", "script", "1024", "file"],

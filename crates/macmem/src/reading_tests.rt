@@ -23,11 +23,12 @@ impl<'a> Read for Failing<'a> {
 
 #[test]
 fn reads_to_the_end(rt: HostRuntime) -> Result<(), Fail> {
+    const ROOMS: &[usize] = &[0, 1, 16, 17, 100];
     let alloc = rt.alloc();
     let text = b"NewHandle a 100\n";
-    for room in [0, 1, 16, 17, 100] {
+    for room in ROOMS {
         let mut reader = text.as_slice();
-        let bytes = read_all(alloc, &mut reader, room, 16)?;
+        let bytes = read_all(alloc, &mut reader, *room, 16)?;
         assert_eq!(rt; bytes.as_slice(), text.as_slice(), "with room for {room}");
     }
     let mut reader = text.as_slice();
@@ -40,10 +41,11 @@ fn reads_to_the_end(rt: HostRuntime) -> Result<(), Fail> {
 
 #[test]
 fn stops_where_a_reader_never_ends(rt: HostRuntime) -> Result<(), Fail> {
+    const MOSTS: &[u32] = &[0, 1, 1000, 300000];
     let alloc = rt.alloc();
-    for most in [0, 1, 1000, 300000] {
+    for most in MOSTS {
         let mut endless = io::repeat(b'x');
-        let found = read_all(alloc, &mut endless, 0, most).err();
+        let found = read_all(alloc, &mut endless, 0, *most).err();
         assert_eq!(rt; found, Some(ReadError::CannotRead), "after {most}");
     }
     Ok(())

@@ -7,6 +7,7 @@ use crate::tests::fork;
 use crate::{Host, ReadError, WriteError, tool};
 use applications::Watch;
 use std::alloc::{AllocError, Global};
+use std::process::Abort;
 use std::test::Fail;
 
 /// A host with some files and a folder `there`. It notes what it is asked for, a line for each, and keeps what is
@@ -159,7 +160,7 @@ ExitToShell
 ";
 
 /// What running `TWO` asks a host for, in order.
-const TWO_NOTES: [&str; 10] = [
+const TWO_NOTES: &[&str] = &[
     "read job",
     "read one.rsrc",
     "read one.script",
@@ -198,19 +199,23 @@ fn runs_two_applications(rt: HostRuntime) -> Result<(), Fail> {
     trial.run(&rt)
 }
 
+/// The disk of the job of two applications.
+fn disk_of_two(alloc: Global) -> Result<Disk, Fail> {
+    let (sized, empty) = (sized_fork(alloc)?, empty_fork(alloc)?);
+    let mut disk = disk_of(alloc, &[])?;
+    disk.put("job", TWO)?;
+    disk.put("System", empty.as_slice())?;
+    disk.put("one.rsrc", sized.as_slice())?;
+    disk.put("one.script", ONE_SCRIPT)?;
+    disk.put("two.rsrc", sized.as_slice())?;
+    disk.put("two.script", TWO_SCRIPT)?;
+    Ok(disk)
+}
+
 #[test]
 fn tells_how_many_events_have_happened(rt: HostRuntime) -> Result<(), Fail> {
     let alloc = rt.alloc();
-    let (sized, empty) = (sized_fork(alloc)?, empty_fork(alloc)?);
-    let files: [(&str, &[u8]); 6] = [
-        ("job", TWO),
-        ("System", empty.as_slice()),
-        ("one.rsrc", sized.as_slice()),
-        ("one.script", ONE_SCRIPT),
-        ("two.rsrc", sized.as_slice()),
-        ("two.script", TWO_SCRIPT),
-    ];
-    let mut disk = disk_of(alloc, &files)?;
+    let mut disk = disk_of_two(alloc)?;
     tool(
         alloc,
         &["macmem", "run", "--progress", "job", "out"],
@@ -218,7 +223,13 @@ fn tells_how_many_events_have_happened(rt: HostRuntime) -> Result<(), Fail> {
     )?;
     assert_eq!(rt; (disk.told, disk.done), (3, (3, 3)));
     assert_eq!(rt; disk.written.len(), 3);
-    let mut disk = disk_of(alloc, &files)?;
+    Ok(())
+}
+
+#[test]
+fn tells_nothing_unasked(rt: HostRuntime) -> Result<(), Fail> {
+    let alloc = rt.alloc();
+    let mut disk = disk_of_two(alloc)?;
     tool(alloc, &["macmem", "run", "job", "out"], &mut disk)?;
     assert_eq!(rt; disk.told, 0);
     Ok(())
@@ -227,28 +238,19 @@ fn tells_how_many_events_have_happened(rt: HostRuntime) -> Result<(), Fail> {
 #[test]
 fn stops_at_what_fails(rt: HostRuntime) -> Result<(), Fail> {
     let alloc = rt.alloc();
-    let (sized, empty) = (sized_fork(alloc)?, empty_fork(alloc)?);
-    let files: [(&str, &[u8]); 6] = [
-        ("job", TWO),
-        ("System", empty.as_slice()),
-        ("one.rsrc", sized.as_slice()),
-        ("one.script", ONE_SCRIPT),
-        ("two.rsrc", sized.as_slice()),
-        ("two.script", TWO_SCRIPT),
-    ];
     let mut notes = String::new(alloc);
     let mut number = 0usize;
     for note in TWO_NOTES {
         number = number.wrapping_add(1);
         writeln!(notes, "{note}")?;
-        let mut disk = disk_of(alloc, &files)?;
+        let mut disk = disk_of_two(alloc)?;
         disk.fails = number;
         let kind = if number <= 6 { 1 } else { 4 };
         let fault = tool(alloc, &["macmem", "run", "job", "out"], &mut disk).err();
         let path = note.split_once(' ').unwrap_or(("", "")).1;
         match fault {
             Some(fault) => assert_eq!(rt; (fault.kind(), fault.path()), (kind, path)),
-            None => return Err(Fail::new(note)),
+            None => return Err(Fail::new(*note)),
         }
         assert_eq!(rt; disk.notes.as_str(), notes.as_str());
         assert_eq!(rt; disk.written.len(), number.saturating_sub(8));
@@ -332,86 +334,67 @@ fn refused(alloc: Global, files: &[(&str, &[u8])], out: &str) -> Result<String, 
     }
 }
 
-#[test]
-fn tells_faults_in_their_order(rt: HostRuntime) -> Result<(), Fail> {
-    let alloc = rt.alloc();
+/// The job of two applications with such a System and such a first script, which are not there at `None`, gives this
+/// line and writes nothing.
+fn two_are_refused(
+    rt: &impl Abort,
+    alloc: Global,
+    system: Option<&[u8]>,
+    script: Option<&[u8]>,
+    line: &str,
+) -> Result<(), Fail> {
     let sized = sized_fork(alloc)?;
-    let cut = sized.get(..305).unwrap_or(b"".as_slice());
-    for (system, script, out, line) in [
-        (Some(cut), None, "there", "macmem: one.script: cannot read"),
-        (
-            Some(cut),
-            Some(b"FreeMem\nFoo\n".as_slice()),
-            "there",
-            "macmem: one.script: line 2: fault 1",
-        ),
-        (
-            None,
-            Some(ONE_SCRIPT),
-            "there",
-            "macmem: System: cannot read",
-        ),
-        (
-            Some(cut),
-            Some(ONE_SCRIPT),
-            "there",
-            "macmem: System: fork -199",
-        ),
-        (
-            Some(b"".as_slice()),
-            Some(ONE_SCRIPT),
-            "there",
-            "macmem: System: fork -39",
-        ),
-        (
-            Some(sized.as_slice()),
-            Some(ONE_SCRIPT),
-            "there",
-            "macmem: there: cannot write",
-        ),
-    ] {
-        let files: [(&str, &[u8]); 6] = [
-            ("job", TWO),
-            ("one.rsrc", sized.as_slice()),
-            ("two.rsrc", sized.as_slice()),
-            ("two.script", TWO_SCRIPT),
-            (
-                if script.is_some() { "one.script" } else { "-" },
-                script.unwrap_or(b"".as_slice()),
-            ),
-            (
-                if system.is_some() { "System" } else { "-" },
-                system.unwrap_or(b"".as_slice()),
-            ),
-        ];
-        let text = refused(alloc, &files, out)?;
-        assert_eq!(rt; text.as_str(), line);
+    let mut disk = disk_of(alloc, &[])?;
+    disk.put("job", TWO)?;
+    disk.put("one.rsrc", sized.as_slice())?;
+    disk.put("two.rsrc", sized.as_slice())?;
+    disk.put("two.script", TWO_SCRIPT)?;
+    if let Some(script) = script {
+        disk.put("one.script", script)?;
     }
+    if let Some(system) = system {
+        disk.put("System", system)?;
+    }
+    let text = run(alloc, &mut disk, "there")?;
+    assert!(rt; disk.written.is_empty());
+    assert_eq!(rt; text.as_str(), line);
     Ok(())
 }
 
 #[test]
-fn tells_faults_of_jobs(rt: HostRuntime) -> Result<(), Fail> {
+fn tells_faults_in_their_order(rt: HostRuntime) -> Result<(), Fail> {
+    const FAULTY: &[u8] = b"FreeMem\nFoo\n";
     let alloc = rt.alloc();
-    for (job, line) in [
-        (b"memory 500\n".as_slice(), "macmem: job: line 1: fault 2"),
-        (b"memory 1032\n".as_slice(), "macmem: job: line 1: fault 2"),
-        (
-            b"memory 4096\n\nplay\n".as_slice(),
-            "macmem: job: line 3: fault 1",
-        ),
-        (
-            b"memory 4096\nlaunch a\n".as_slice(),
-            "macmem: job: line 2: fault 2",
-        ),
-        (
-            b"memory 4096\nsystem \"\"\n".as_slice(),
-            "macmem: : cannot read",
-        ),
-    ] {
-        let files: [(&str, &[u8]); 1] = [("job", job)];
+    let sized = sized_fork(alloc)?;
+    let cut = sized.get(..305).unwrap_or(b"".as_slice());
+    let unread = "macmem: one.script: cannot read";
+    two_are_refused(&rt, alloc, Some(cut), None, unread)?;
+    let faulty = "macmem: one.script: line 2: fault 1";
+    two_are_refused(&rt, alloc, Some(cut), Some(FAULTY), faulty)?;
+    let missing = "macmem: System: cannot read";
+    two_are_refused(&rt, alloc, None, Some(ONE_SCRIPT), missing)?;
+    let short = "macmem: System: fork -199";
+    two_are_refused(&rt, alloc, Some(cut), Some(ONE_SCRIPT), short)?;
+    let empty = "macmem: System: fork -39";
+    two_are_refused(&rt, alloc, Some(b""), Some(ONE_SCRIPT), empty)?;
+    let folder = "macmem: there: cannot write";
+    two_are_refused(&rt, alloc, Some(sized.as_slice()), Some(ONE_SCRIPT), folder)
+}
+
+#[test]
+fn tells_faults_of_jobs(rt: HostRuntime) -> Result<(), Fail> {
+    const CASES: &[(&[u8], &str)] = &[
+        (b"memory 500\n", "macmem: job: line 1: fault 2"),
+        (b"memory 1032\n", "macmem: job: line 1: fault 2"),
+        (b"memory 4096\n\nplay\n", "macmem: job: line 3: fault 1"),
+        (b"memory 4096\nlaunch a\n", "macmem: job: line 2: fault 2"),
+        (b"memory 4096\nsystem \"\"\n", "macmem: : cannot read"),
+    ];
+    let alloc = rt.alloc();
+    for (job, line) in CASES {
+        let files: [(&str, &[u8]); 1] = [("job", *job)];
         let text = refused(alloc, &files, "out")?;
-        assert_eq!(rt; text.as_str(), line);
+        assert_eq!(rt; text.as_str(), *line);
     }
     let text = refused(alloc, &[], "out")?;
     assert_eq!(rt; text.as_str(), "macmem: job: cannot read");

@@ -9,6 +9,7 @@ use crate::{Host, ReadError, ToolFault, WriteError, tool};
 use applications::Watch;
 use script_text::CALLS;
 use std::alloc::Global;
+use std::process::Abort;
 use std::test::Fail;
 
 /// A host with one file, named `file`, and one that is too large for its memory, named `large`; everything that is
@@ -101,21 +102,22 @@ fn ran(alloc: Global, size: &str, script: &str) -> Result<String, Fail> {
 
 #[test]
 fn rounds_sizes_down(rt: HostRuntime) -> Result<(), Fail> {
-    for (size, launch) in [
+    const CASES: &[(&str, &str)] = &[
         ("1500", "launch 0 1488\nend 0\n"),
         ("512", "launch 0 512\nend 0\n"),
         ("00000000000000000512", "launch 0 512\nend 0\n"),
         ("134217728", "launch 0 134217728\nend 0\n"),
-    ] {
-        let text = ran(rt.alloc(), size, "")?;
-        assert_eq!(rt; text.as_str(), launch, "at {size}");
+    ];
+    for (size, launch) in CASES {
+        let text = ran(rt.alloc(), *size, "")?;
+        assert_eq!(rt; text.as_str(), *launch, "at {size}");
     }
     Ok(())
 }
 
 #[test]
 fn refuses_other_sizes(rt: HostRuntime) -> Result<(), Fail> {
-    for size in [
+    const SIZES: &[&str] = &[
         "0",
         "abc",
         "134217729",
@@ -126,9 +128,10 @@ fn refuses_other_sizes(rt: HostRuntime) -> Result<(), Fail> {
         "1024x",
         "-1",
         "99999999999999999999999",
-    ] {
+    ];
+    for size in SIZES {
         let mut host = host(rt.alloc(), b"");
-        match tool(rt.alloc(), &["macmem", "script", size, "file"], &mut host) {
+        match tool(rt.alloc(), &["macmem", "script", *size, "file"], &mut host) {
             Err(fault) => {
                 assert_eq!(rt; fault.kind(), 0, "at {size}");
                 assert_eq!(rt; fault.status(), 2, "at {size}");
@@ -139,7 +142,7 @@ fn refuses_other_sizes(rt: HostRuntime) -> Result<(), Fail> {
                     "at {size}"
                 );
             }
-            Ok(()) => return Err(Fail::new(size)),
+            Ok(()) => return Err(Fail::new(*size)),
         }
         assert!(rt; host.printed.is_empty(), "at {size}");
     }
@@ -148,23 +151,18 @@ fn refuses_other_sizes(rt: HostRuntime) -> Result<(), Fail> {
 
 #[test]
 fn refuses_other_words(rt: HostRuntime) -> Result<(), Fail> {
+    const CASES: &[&[&str]] = &[
+        &["macmem"],
+        &["macmem", "play"],
+        &["macmem", "map"],
+        &["macmem", "check", "file", "file"],
+        &["macmem", "map", "-file"],
+        &["macmem", "run", "file"],
+    ];
     let alloc = rt.alloc();
-    let none: [&str; 1] = ["macmem"];
-    let command: [&str; 2] = ["macmem", "play"];
-    let missing: [&str; 2] = ["macmem", "map"];
-    let more: [&str; 4] = ["macmem", "check", "file", "file"];
-    let option: [&str; 3] = ["macmem", "map", "-file"];
-    let folder: [&str; 3] = ["macmem", "run", "file"];
-    for words in [
-        &none[..],
-        &command[..],
-        &missing[..],
-        &more[..],
-        &option[..],
-        &folder[..],
-    ] {
+    for words in CASES {
         let mut host = host(alloc, b"");
-        match tool(alloc, words, &mut host) {
+        match tool(alloc, *words, &mut host) {
             Err(fault) => {
                 assert_eq!(rt; fault.kind(), 0);
                 assert!(rt; !fault.text().is_empty());
@@ -175,33 +173,40 @@ fn refuses_other_words(rt: HostRuntime) -> Result<(), Fail> {
     Ok(())
 }
 
+/// The help of a command, asked for by these words, has these texts in it.
+fn help_has(rt: &impl Abort, alloc: Global, words: &[&str], texts: &[&str]) -> Result<(), Fail> {
+    let help = told(alloc, words, b"")?;
+    for text in texts {
+        assert!(rt; help.as_str().contains(*text), "at {text}");
+    }
+    Ok(())
+}
+
 #[test]
 fn helps(rt: HostRuntime) -> Result<(), Fail> {
-    let alloc = rt.alloc();
-    let all = told(alloc, &["macmem", "--help"], b"")?;
-    for word in ["script", "run", "map", "check", "macmem script 1024"] {
-        assert!(rt; all.as_str().contains(word), "at {word}");
-    }
-    let script = told(alloc, &["macmem", "script", "--help"], b"")?;
-    for word in [
+    const ALL: &[&str] = &["script", "run", "map", "check", "macmem script 1024"];
+    const SCRIPT: &[&str] = &[
         "<SIZE>",
         "<SCRIPT>",
         "512 to 134217728",
         "behind a '+'",
         "grow NAME .. end",
-    ] {
-        assert!(rt; script.as_str().contains(word), "at {word}");
-    }
+    ];
+    const RUN: &[&str] = &["<JOB>", "<OUT>", "app NAME", "desk.log"];
+    const FORK: &[&str] = &["<FORK>"];
+    let alloc = rt.alloc();
+    help_has(&rt, alloc, &["macmem", "--help"], ALL)?;
+    help_has(&rt, alloc, &["macmem", "script", "--help"], SCRIPT)?;
+    help_has(&rt, alloc, &["macmem", "run", "--help"], RUN)?;
+    help_has(&rt, alloc, &["macmem", "map", "--help"], FORK)?;
+    help_has(&rt, alloc, &["macmem", "check", "--help"], FORK)
+}
+
+#[test]
+fn helps_with_every_call(rt: HostRuntime) -> Result<(), Fail> {
+    let script = told(rt.alloc(), &["macmem", "script", "--help"], b"")?;
     for line in CALLS.lines() {
         assert!(rt; script.as_str().contains(line), "at {line}");
-    }
-    let run = told(alloc, &["macmem", "run", "--help"], b"")?;
-    for word in ["<JOB>", "<OUT>", "app NAME", "desk.log"] {
-        assert!(rt; run.as_str().contains(word), "at {word}");
-    }
-    for command in ["map", "check"] {
-        let help = told(alloc, &["macmem", command, "--help"], b"")?;
-        assert!(rt; help.as_str().contains("<FORK>"), "at {command}");
     }
     Ok(())
 }
@@ -220,6 +225,23 @@ fn tells_its_version(rt: HostRuntime) -> Result<(), Fail> {
     Ok(())
 }
 
+/// These words ask for this work with the file of this path.
+fn asks_for<'a>(
+    rt: &impl Abort,
+    alloc: Global,
+    words: &[&'a str],
+    work: Work,
+    path: &'a str,
+) -> Result<(), Fail> {
+    let task = Task {
+        work,
+        path,
+        watched: false,
+    };
+    assert_eq!(rt; read_words(alloc, words)?, Request::Look(task));
+    Ok(())
+}
+
 #[test]
 fn reads_tasks(rt: HostRuntime) -> Result<(), Fail> {
     let alloc = rt.alloc();
@@ -234,33 +256,21 @@ fn reads_tasks(rt: HostRuntime) -> Result<(), Fail> {
         ) => assert_eq!(rt; (size.bytes, path, watched), (1488, "a b", false)),
         _ => return Err(Fail::new("a script")),
     }
-    for (words, task) in [
-        (
-            ["macmem", "map", "--", "-fork"].as_slice(),
-            Task {
-                work: Work::Map,
-                path: "-fork",
-                watched: false,
-            },
-        ),
-        (
-            ["macmem", "check", "/dev/stdin"].as_slice(),
-            Task {
-                work: Work::Check,
-                path: "/dev/stdin",
-                watched: false,
-            },
-        ),
-    ] {
-        assert_eq!(rt; read_words(alloc, words)?, Request::Look(task));
-    }
+    let words: [&str; 4] = ["macmem", "map", "--", "-fork"];
+    asks_for(&rt, alloc, &words, Work::Map, "-fork")?;
+    let words: [&str; 3] = ["macmem", "check", "/dev/stdin"];
+    asks_for(&rt, alloc, &words, Work::Check, "/dev/stdin")
+}
+
+#[test]
+fn reads_errands(rt: HostRuntime) -> Result<(), Fail> {
     let errand = Errand {
         job: "a b",
         out: "c/",
         watched: true,
     };
     let words: [&str; 5] = ["macmem", "run", "a b", "--progress", "c/"];
-    assert_eq!(rt; read_words(alloc, &words)?, Request::Run(errand));
+    assert_eq!(rt; read_words(rt.alloc(), &words)?, Request::Run(errand));
     Ok(())
 }
 
@@ -277,16 +287,17 @@ fn told_of(alloc: Global, lines: usize, words: &[&str]) -> Result<(usize, (usize
 
 #[test]
 fn tells_how_many_lines_are_done(rt: HostRuntime) -> Result<(), Fail> {
-    let alloc = rt.alloc();
-    let words = ["macmem", "script", "--progress", "512", "file"];
-    for (lines, told) in [
+    const CASES: &[(usize, (usize, (usize, usize)))] = &[
         (0, (0, (0, 0))),
         (1, (1, (1, 1))),
         (100, (100, (100, 100))),
         (101, (51, (101, 101))),
         (250, (84, (250, 250))),
-    ] {
-        assert_eq!(rt; told_of(alloc, lines, &words)?, told);
+    ];
+    let alloc = rt.alloc();
+    let words = ["macmem", "script", "--progress", "512", "file"];
+    for (lines, told) in CASES {
+        assert_eq!(rt; told_of(alloc, *lines, &words)?, *told);
     }
     let words = ["macmem", "script", "512", "file"];
     assert_eq!(rt; told_of(alloc, 250, &words)?, (0, (0, 0)));
@@ -295,8 +306,7 @@ fn tells_how_many_lines_are_done(rt: HostRuntime) -> Result<(), Fail> {
 
 #[test]
 fn tells_faults_of_scripts(rt: HostRuntime) -> Result<(), Fail> {
-    let alloc = rt.alloc();
-    for (script, line) in [
+    const CASES: &[(&str, &str)] = &[
         ("NewHandle a", "macmem: file: line 1: fault 2"),
         ("# none\n\nFoo\n", "macmem: file: line 3: fault 1"),
         ("FreeMem 1\n", "macmem: file: line 1: fault 2"),
@@ -306,13 +316,15 @@ fn tells_faults_of_scripts(rt: HostRuntime) -> Result<(), Fail> {
             "macmem: file: line 2: fault 3",
         ),
         ("FreeMem\nSetGrowZone g\n", "macmem: file: line 2: fault 2"),
-    ] {
+    ];
+    let alloc = rt.alloc();
+    for (script, line) in CASES {
         let text = told(
             alloc,
             &["macmem", "script", "1024", "file"],
             script.as_bytes(),
         )?;
-        assert_eq!(rt; text.as_str(), line);
+        assert_eq!(rt; text.as_str(), *line);
     }
     Ok(())
 }
@@ -351,12 +363,14 @@ fn names_what_a_fault_is(rt: HostRuntime) -> Result<(), Fail> {
 
 #[test]
 fn tells_a_file_that_cannot_be_read(rt: HostRuntime) -> Result<(), Fail> {
+    const CASES: &[&[&str]] = &[
+        &["macmem", "script", "1024", "none"],
+        &["macmem", "map", "none"],
+        &["macmem", "check", "none"],
+    ];
     let alloc = rt.alloc();
-    let script: [&str; 4] = ["macmem", "script", "1024", "none"];
-    let map: [&str; 3] = ["macmem", "map", "none"];
-    let check: [&str; 3] = ["macmem", "check", "none"];
-    for words in [&script[..], &map[..], &check[..]] {
-        let text = told(alloc, words, b"")?;
+    for words in CASES {
+        let text = told(alloc, *words, b"")?;
         assert_eq!(rt; text.as_str(), "macmem: none: cannot read");
     }
     Ok(())
@@ -391,9 +405,7 @@ fn tells_what_cannot_be_printed(rt: HostRuntime) -> Result<(), Fail> {
 
 #[test]
 fn gives_and_takes_bytes(rt: HostRuntime) -> Result<(), Fail> {
-    let mut script = String::new(rt.alloc());
-    let mut transcript = String::from_str(rt.alloc(), "launch 0 1024\n")?;
-    for (call, answer) in [
+    const ROWS: &[(&str, &str)] = &[
         ("FreeMem", "FreeMem 0 752"),
         ("NewHandle a 736", "NewHandle 0"),
         ("FreeMem", "FreeMem 0 0"),
@@ -415,7 +427,10 @@ fn gives_and_takes_bytes(rt: HostRuntime) -> Result<(), Fail> {
         ("Where a", "Where 0 288"),
         ("Where z", "Where 0 320"),
         ("FreeMem", "FreeMem 0 704"),
-    ] {
+    ];
+    let mut script = String::new(rt.alloc());
+    let mut transcript = String::from_str(rt.alloc(), "launch 0 1024\n")?;
+    for (call, answer) in ROWS {
         let number = script.as_str().lines().count();
         writeln!(script, "{call}")?;
         let line = number.wrapping_add(1);
@@ -429,17 +444,18 @@ fn gives_and_takes_bytes(rt: HostRuntime) -> Result<(), Fail> {
 
 #[test]
 fn makes_more_than_64_handles(rt: HostRuntime) -> Result<(), Fail> {
+    const LINES: &[&str] = &[
+        "\n64 NewHandle 0\n65 NewHandle 0\n",
+        "\n66 FreeMem 0 2512\n67 DisposeHandle 0\n68 NewHandle 0\n69 Where 0 1584\nend 0\n",
+    ];
     let mut script = String::new(rt.alloc());
     for _ in 0..65 {
         script.push_str("NewHandle h 0\n")?;
     }
     script.push_str("FreeMem\nDisposeHandle h\nNewHandle k 0\nWhere k\n")?;
     let text = ran(rt.alloc(), "4096", script.as_str())?;
-    for line in [
-        "\n64 NewHandle 0\n65 NewHandle 0\n",
-        "\n66 FreeMem 0 2512\n67 DisposeHandle 0\n68 NewHandle 0\n69 Where 0 1584\nend 0\n",
-    ] {
-        assert!(rt; text.as_str().contains(line), "at {line}");
+    for line in LINES {
+        assert!(rt; text.as_str().contains(*line), "at {line}");
     }
     Ok(())
 }
@@ -553,20 +569,24 @@ fn checks_forks(rt: HostRuntime) -> Result<(), Fail> {
     Ok(())
 }
 
-#[test]
-fn tells_faults_of_forks(rt: HostRuntime) -> Result<(), Fail> {
-    let alloc = rt.alloc();
-    for command in ["map", "check"] {
-        let mut fork = small_fork(alloc)?;
-        for (length, line) in [
-            (305, "macmem: file: fork -199"),
-            (15, "macmem: file: fork -199"),
-            (0, "macmem: file: fork -39"),
-        ] {
-            fork.truncate(length);
-            let text = told(alloc, &["macmem", command, "file"], fork.as_slice())?;
-            assert_eq!(rt; text.as_str(), line);
-        }
+/// The faults that a command tells of the small fork, which is cut shorter and shorter.
+fn cut_fork_tells(rt: &impl Abort, alloc: Global, command: &str) -> Result<(), Fail> {
+    const CASES: &[(usize, &str)] = &[
+        (305, "macmem: file: fork -199"),
+        (15, "macmem: file: fork -199"),
+        (0, "macmem: file: fork -39"),
+    ];
+    let mut fork = small_fork(alloc)?;
+    for (length, line) in CASES {
+        fork.truncate(*length);
+        let text = told(alloc, &["macmem", command, "file"], fork.as_slice())?;
+        assert_eq!(rt; text.as_str(), *line);
     }
     Ok(())
+}
+
+#[test]
+fn tells_faults_of_forks(rt: HostRuntime) -> Result<(), Fail> {
+    cut_fork_tells(&rt, rt.alloc(), "map")?;
+    cut_fork_tells(&rt, rt.alloc(), "check")
 }

@@ -2,9 +2,7 @@
 
 ghost use Rattle.std.specs.Prelude.{◌≡◌, ◌%◌, ◌≤◌, [], IfOk, length};
 
-use crate::giving::give_alone;
-use crate::own::own_resources;
-use crate::run_script;
+use applications::{give_alone, own_resources, run_script};
 use raw_region::Region;
 use script_text::{Script, read_script};
 use std::alloc::{AllocError, Global};

@@ -4,7 +4,7 @@ ghost use Rattle.std.specs.Prelude.{◌≡◌, ◌≤◌, ◌%◌, [], length};
 
 use crate::both::used_region;
 use crate::image::read_zone;
-use crate::run_script;
+use applications::run_script;
 use raw_region::{Part, Region};
 use script_text::read_script;
 use std::process::Abort;

@@ -3,7 +3,7 @@
 use crate::jobs::{
     SMALL, add, empty_job, fork_holding, outcome_of, resource_of, run_job, sized, transcript_of,
 };
-use crate::outcome::RunFault;
+use desk::RunFault;
 use mac_words::OsErr;
 use script_text::Event;
 use std::alloc::Global;
@@ -17,12 +17,9 @@ const LEAVING: &[u8] = b"FreeMem\nWaitNextEvent\nFreeMem\nExitToShell\n";
 
 #[test]
 fn applications_take_turns_until_none_runs(rt: HostRuntime) -> Result<(), Fail> {
+    const EVENTS: &[Event] = &[Event::Launch(0), Event::Launch(1), Event::Rest];
     let alloc = rt.alloc();
-    let mut job = empty_job(
-        alloc,
-        4096,
-        &[Event::Launch(0), Event::Launch(1), Event::Rest],
-    )?;
+    let mut job = empty_job(alloc, 4096, EVENTS)?;
     add(alloc, &mut job, b"one", &[sized(SMALL)], LOOKING)?;
     add(alloc, &mut job, b"two", &[sized(SMALL)], LEAVING)?;
     let outcome = outcome_of(alloc, &job)?;
@@ -43,10 +40,11 @@ fn applications_take_turns_until_none_runs(rt: HostRuntime) -> Result<(), Fail> 
 
 #[test]
 fn the_log_ends_with_the_forks_that_were_written(rt: HostRuntime) -> Result<(), Fail> {
+    const EVENTS: &[Event] = &[Event::Launch(0), Event::Rest];
     let alloc = rt.alloc();
     let script = b"CreateResFile \"Doc\"\nOpenResFile \"Doc\"\nNewHandle h 2\nPut h 0 \"Hi\"
 AddResource h 'TEXT' 128 \"\"\nUpdateResFile 3\n";
-    let mut job = empty_job(alloc, 1_048_576, &[Event::Launch(0), Event::Rest])?;
+    let mut job = empty_job(alloc, 1_048_576, EVENTS)?;
     add(alloc, &mut job, b"a", &[], script)?;
     let outcome = outcome_of(alloc, &job)?;
     assert_eq!(rt;
@@ -58,18 +56,18 @@ AddResource h 'TEXT' 128 \"\"\nUpdateResFile 3\n";
 
 #[test]
 fn each_application_has_a_system_file_of_its_own(rt: HostRuntime) -> Result<(), Fail> {
-    let alloc = rt.alloc();
-    let of_system = resource_of(b"STR ", 1, 0, b"s");
-    let first =
-        b"GetResource s 'STR ' 1\nChangedResource s\nPut s 0 \"x\"\nSetResAttrs s 32\nGetResAttrs s\n";
-    let second = b"GetResource s 'STR ' 1\nGetResAttrs s\n";
-    let events = [
+    const EVENTS: &[Event] = &[
         Event::Launch(0),
         Event::Turn(0),
         Event::Launch(1),
         Event::Turn(1),
     ];
-    let mut job = empty_job(alloc, 1_048_576, &events)?;
+    let alloc = rt.alloc();
+    let of_system = resource_of(b"STR ", 1, 0, b"s");
+    let first =
+        b"GetResource s 'STR ' 1\nChangedResource s\nPut s 0 \"x\"\nSetResAttrs s 32\nGetResAttrs s\n";
+    let second = b"GetResource s 'STR ' 1\nGetResAttrs s\n";
+    let mut job = empty_job(alloc, 1_048_576, EVENTS)?;
     add(alloc, &mut job, b"one", &[], first)?;
     add(alloc, &mut job, b"two", &[], second)?;
     job.system = Some(fork_holding(alloc, &[of_system])?);
@@ -96,9 +94,9 @@ const CAREFUL: &[u8] = b"MemError\nResError\nGetResource t 'TEXT' 1\nWaitNextEve
 
 #[test]
 fn each_application_has_codes_and_loading_of_its_own(rt: HostRuntime) -> Result<(), Fail> {
+    const EVENTS: &[Event] = &[Event::Launch(0), Event::Launch(1), Event::Rest];
     let alloc = rt.alloc();
-    let events = [Event::Launch(0), Event::Launch(1), Event::Rest];
-    let mut job = empty_job(alloc, 4096, &events)?;
+    let mut job = empty_job(alloc, 4096, EVENTS)?;
     add(alloc, &mut job, b"one", &[sized(SMALL)], CARELESS)?;
     let text = resource_of(b"TEXT", 1, 0, b"t");
     add(alloc, &mut job, b"two", &[sized(SMALL), text], CAREFUL)?;
@@ -139,8 +137,7 @@ fn a_system_file_that_is_not_read_is_a_fault(rt: HostRuntime) -> Result<(), Fail
 
 #[test]
 fn an_application_is_launched_once(rt: HostRuntime) -> Result<(), Fail> {
-    let alloc = rt.alloc();
-    let events = [
+    const EVENTS: &[Event] = &[
         Event::Launch(0),
         Event::Launch(0),
         Event::Step(0),
@@ -148,7 +145,8 @@ fn an_application_is_launched_once(rt: HostRuntime) -> Result<(), Fail> {
         Event::Launch(1),
         Event::Launch(2),
     ];
-    let mut job = empty_job(alloc, 1_048_576, &events)?;
+    let alloc = rt.alloc();
+    let mut job = empty_job(alloc, 1_048_576, EVENTS)?;
     add(alloc, &mut job, b"a", &[], b"")?;
     add(alloc, &mut job, b"b", &[], b"")?;
     if let Some(app) = job.apps.last_mut() {

@@ -3,9 +3,8 @@
 ghost use Rattle.std.specs.Prelude.{◌<◌, ◌≤◌, ◌≡◌, ◌%◌, length};
 
 use crate::both::used_region;
-use crate::giving::give_in_region;
 use crate::grow_tests::text_of;
-use crate::watch::Unwatched;
+use applications::{Unwatched, give_in_region};
 use arrayvec::ArrayVec;
 use fork_format::{Content, Group, Ref, read_fork, write_fork};
 use mac_words::{Attrs, FileName, OsType};
@@ -221,21 +220,27 @@ impl Texts {
     }
 }
 
-/// The files again, with their forks.
-fn copied(alloc: Global, files: &[File]) -> Result<Vec<File>, AllocError> {
-    let mut copies = Vec::new(alloc);
+/// What is left of a file: its fork, and whether that was written.
+#[derive(Drop)]
+pub struct Left {
+    pub fork: Vec<u8>,
+    pub written: bool,
+}
+
+/// What is left of files, in order.
+fn left_of(alloc: Global, files: &[File]) -> Result<Vec<Left>, AllocError> {
+    let mut left = Vec::new(alloc);
     for file in files {
-        copies.push(File {
-            name: file.name.clone()?,
+        left.push(Left {
             fork: Vec::from_slice(alloc, file.fork.as_slice())?,
             written: file.written,
         })?;
     }
-    Ok(copies)
+    Ok(left)
 }
 
 /// Takes so many steps of a script in a region of so many used bytes with these resources, and quits then if that is
-/// asked for: it leaves its transcript. Gives the files that are left.
+/// asked for: it leaves its transcript. Gives what is left of the files.
 pub fn give(
     rt: &impl Abort,
     alloc: Global,
@@ -244,7 +249,7 @@ pub fn give(
     texts: &Texts,
     steps: usize,
     quit: bool,
-) -> Result<Vec<File>, Fail>
+) -> Result<Vec<Left>, Fail>
     requires even { size % 16 ≡ 0 }
     requires low { 512 ≤ size }
     requires high { size ≤ 134217728 }
@@ -264,7 +269,7 @@ pub fn give(
     );
     region.close();
     let given = given?;
-    let files = copied(alloc, given.files())?;
+    let files = left_of(alloc, given.files())?;
     assert_eq!(rt;
         given.into_transcript().as_slice(),
         texts.transcript.as_bytes()
@@ -272,19 +277,19 @@ pub fn give(
     Ok(files)
 }
 
-/// Runs calls in a partition of 4,096 bytes with these resources, and no further. Gives the files that are left.
+/// Runs calls in a partition of 4,096 bytes with these resources, and no further. Gives what is left of the files.
 pub fn leaves(
     rt: &impl Abort,
     alloc: Global,
     resources: Resources,
     rows: &[(&str, &str)],
-) -> Result<Vec<File>, Fail> {
+) -> Result<Vec<Left>, Fail> {
     let texts = Texts::of_rows(alloc, 4096, rows)?;
     give(rt, alloc, 4096, resources, &texts, rows.len(), false)
 }
 
 /// Runs calls in a partition of so many bytes with these resources, to the end of the application, whose code is this.
-/// Gives the files that are left.
+/// Gives what is left of the files.
 pub fn ends(
     rt: &impl Abort,
     alloc: Global,
@@ -292,7 +297,7 @@ pub fn ends(
     resources: Resources,
     rows: &[(&str, &str)],
     code: &str,
-) -> Result<Vec<File>, Fail>
+) -> Result<Vec<Left>, Fail>
     requires even { size % 16 ≡ 0 }
     requires low { 512 ≤ size }
     requires high { size ≤ 134217728 }
@@ -333,15 +338,27 @@ pub fn tells(
 }
 
 /// The fork of a file; no bytes where there is no such file.
-pub fn fork_at(files: &[File], index: usize) -> &[u8] {
+pub fn fork_at(files: &[Left], index: usize) -> &[u8] {
     match files.get(index) {
         Some(file) => file.fork.as_slice(),
         None => b"",
     }
 }
 
+/// The fork of a file that is left is the one of these parts.
+pub fn has_fork(
+    rt: &impl Abort,
+    alloc: Global,
+    files: &[Left],
+    index: usize,
+    parts: Parts,
+) -> Result<(), Fail> {
+    assert_eq!(rt; fork_at(files, index), fork_of(alloc, parts)?.as_slice());
+    Ok(())
+}
+
 /// Whether the fork of a file was written.
-pub fn written_at(files: &[File], index: usize) -> bool {
+pub fn written_at(files: &[Left], index: usize) -> bool {
     match files.get(index) {
         Some(file) => file.written,
         None => false,

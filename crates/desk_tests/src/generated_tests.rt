@@ -1,14 +1,14 @@
 //! Jobs that a generator makes, over lists and in the bytes of a region.
 
-use crate::job::Job;
 use crate::jobs::{SMALL, add, empty_job, run_job, sized};
+use desk::Job;
 use script_text::Event;
 use std::alloc::Global;
 use std::fmt::Write;
 use std::test::Fail;
 
 /// A generator of numbers: each is made of the one before it by shifts.
-#[derive(Clone, Copy, Debug)]
+#[derive(Clone, Copy)]
 struct Chance(u32);
 
 impl Chance {
@@ -21,8 +21,11 @@ impl Chance {
     }
 }
 
+/// The names that generated calls use.
+const NAMES: &[&str] = &["a", "b", "c", "d", "e", "f"];
+
 /// What follows the word of a call.
-#[derive(Clone, Copy, Debug, PartialEq, Eq)]
+#[derive(Clone, Copy)]
 enum Arguments {
     Nothing,
     Name,
@@ -32,7 +35,7 @@ enum Arguments {
 }
 
 /// The calls that are made; those that stand here more than once come more often.
-const CALLS: [(&str, Arguments); 32] = [
+const CALLS: &[(&str, Arguments)] = &[
     ("NewHandle", Arguments::NameAndSize),
     ("NewHandle", Arguments::NameAndSize),
     ("NewHandle", Arguments::NameAndSize),
@@ -69,8 +72,12 @@ const CALLS: [(&str, Arguments); 32] = [
 
 /// A line with one call.
 fn a_line(chance: &mut Chance, text: &mut String) -> Result<(), Fail> {
-    let (word, arguments) = CALLS[(chance.next() % 32) as usize];
-    let name = ["a", "b", "c", "d", "e", "f"][(chance.next() % 6) as usize];
+    let Some((word, arguments)) = CALLS.get((chance.next() % 32) as usize) else {
+        return Err(Fail::new("one of 32 calls"));
+    };
+    let Some(name) = NAMES.get((chance.next() % 6) as usize) else {
+        return Err(Fail::new("one of 6 names"));
+    };
     let size = chance.next() % 160;
     match arguments {
         Arguments::Nothing => writeln!(text, "{word}")?,
@@ -93,7 +100,7 @@ fn a_script(alloc: Global, chance: &mut Chance) -> Result<String, Fail> {
 }
 
 /// The sizes of partitions: 512; 1024, but at least 512; 1024; 2048, but at least 1024.
-const SIZES: [&[u8]; 4] = [
+const SIZES: &[&[u8]] = &[
     b"\0\0\0\0\x02\0\0\0\x02\0",
     b"\0\0\0\0\x04\0\0\0\x02\0",
     SMALL,
@@ -121,22 +128,34 @@ fn some_events(alloc: Global, chance: &mut Chance) -> Result<Vec<Event>, Fail> {
     Ok(events)
 }
 
+/// The bytes of memories, none of which has room for all applications.
+const MEMORIES: &[u32] = &[1024, 2048, 2560, 3072];
+
+/// The names of applications.
+const APPS: &[&[u8]] = &[b"one", b"two", b"three", b"four"];
+
+/// One of some things.
+fn one_of<T: Copy>(chance: &mut Chance, things: &[T]) -> Result<T, Fail> {
+    match things.get((chance.next() % 4) as usize) {
+        Some(thing) => Ok(*thing),
+        None => Err(Fail::new("one of four things")),
+    }
+}
+
+/// Adds an application of some calls to a job.
+fn add_one(alloc: Global, chance: &mut Chance, job: &mut Job, name: &[u8]) -> Result<(), Fail> {
+    let size = one_of(chance, SIZES)?;
+    let script = a_script(alloc, chance)?;
+    add(alloc, job, name, &[sized(size)], script.as_bytes())
+}
+
 /// A job of two to four applications in a memory that has not room for all of them.
 fn a_job(alloc: Global, chance: &mut Chance) -> Result<Job, Fail> {
     let events = some_events(alloc, chance)?;
-    let memory = [1024, 2048, 2560, 3072][(chance.next() % 4) as usize];
-    let mut job = empty_job(alloc, memory, &events)?;
+    let mut job = empty_job(alloc, one_of(chance, MEMORIES)?, &events)?;
     let apps = 2 + (chance.next() % 3) as usize;
-    for name in ["one", "two", "three", "four"].iter().take(apps) {
-        let size = SIZES[(chance.next() % 4) as usize];
-        let script = a_script(alloc, chance)?;
-        add(
-            alloc,
-            &mut job,
-            name.as_bytes(),
-            &[sized(size)],
-            script.as_bytes(),
-        )?;
+    for name in APPS.iter().take(apps) {
+        add_one(alloc, chance, &mut job, *name)?;
     }
     Ok(job)
 }

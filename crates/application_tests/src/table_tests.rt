@@ -21,7 +21,7 @@ fn filled<'a>(
 
 #[test]
 fn purgeable_block_is_emptied_for_a_new_one(rt: HostRuntime) -> Result<(), Fail> {
-    let rows = [
+    const ROWS: &[(&str, &str)] = &[
         ("NewHandle a 300", "0"),
         ("NewHandle b 300", "0"),
         ("HPurge a", "0"),
@@ -29,12 +29,12 @@ fn purgeable_block_is_emptied_for_a_new_one(rt: HostRuntime) -> Result<(), Fail>
         ("Where c", "0 288"),
         ("Show a", "-109"),
     ];
-    play(&rt, rt.alloc(), 1024, &rows)
+    play(&rt, rt.alloc(), 1024, ROWS)
 }
 
 #[test]
 fn locked_block_is_not_emptied(rt: HostRuntime) -> Result<(), Fail> {
-    let rows = [
+    const ROWS: &[(&str, &str)] = &[
         ("NewHandle a 300", "0"),
         ("NewHandle b 300", "0"),
         ("HPurge a", "0"),
@@ -42,12 +42,12 @@ fn locked_block_is_not_emptied(rt: HostRuntime) -> Result<(), Fail> {
         ("NewHandle c 200", "-108"),
         ("GetHandleSize a", "0 300"),
     ];
-    play(&rt, rt.alloc(), 1024, &rows)
+    play(&rt, rt.alloc(), 1024, ROWS)
 }
 
 #[test]
 fn unpurgeable_block_is_not_emptied(rt: HostRuntime) -> Result<(), Fail> {
-    let rows = [
+    const ROWS: &[(&str, &str)] = &[
         ("NewHandle a 300", "0"),
         ("NewHandle b 300", "0"),
         ("HPurge a", "0"),
@@ -55,12 +55,12 @@ fn unpurgeable_block_is_not_emptied(rt: HostRuntime) -> Result<(), Fail> {
         ("NewHandle c 200", "-108"),
         ("GetHandleSize a", "0 300"),
     ];
-    play(&rt, rt.alloc(), 1024, &rows)
+    play(&rt, rt.alloc(), 1024, ROWS)
 }
 
 #[test]
 fn pointer_goes_to_the_base_of_a_run(rt: HostRuntime) -> Result<(), Fail> {
-    let rows = [
+    const ROWS: &[(&str, &str)] = &[
         ("NewHandle a 100", "0"),
         ("NewHandle b 100", "0"),
         ("MoveHHi a", "0"),
@@ -72,13 +72,13 @@ fn pointer_goes_to_the_base_of_a_run(rt: HostRuntime) -> Result<(), Fail> {
         ("Where b", "0 336"),
         ("FreeMem", "0 448"),
     ];
-    play(&rt, rt.alloc(), 1024, &rows)
+    play(&rt, rt.alloc(), 1024, ROWS)
 }
 
 #[test]
 fn masters_block_is_made_where_all_slots_are_used(rt: HostRuntime) -> Result<(), Fail> {
-    let before = [("NewHandle h 0", "0")];
-    let behind = [
+    const BEFORE: &[(&str, &str)] = &[("NewHandle h 0", "0")];
+    const BEHIND: &[(&str, &str)] = &[
         ("Where h", "0 288"),
         ("FreeMem", "0 2800"),
         ("NewHandle k 0", "0"),
@@ -86,27 +86,27 @@ fn masters_block_is_made_where_all_slots_are_used(rt: HostRuntime) -> Result<(),
         ("Where k", "0 1584"),
         ("FreeMem", "0 2512"),
     ];
-    let rows = filled(rt.alloc(), &before, ("NewHandle k 0", "0"), &behind)?;
+    let rows = filled(rt.alloc(), BEFORE, ("NewHandle k 0", "0"), BEHIND)?;
     play(&rt, rt.alloc(), 4096, rows.as_slice())
 }
 
 #[test]
 fn masters_block_stays_though_the_call_is_refused(rt: HostRuntime) -> Result<(), Fail> {
-    let before = [("NewHandle h 0", "0")];
-    let behind = [
+    const BEFORE: &[(&str, &str)] = &[("NewHandle h 0", "0")];
+    const BEHIND: &[(&str, &str)] = &[
         ("NewHandle k 600", "-108"),
         ("Where h", "0 560"),
         ("FreeMem", "0 480"),
         ("NewHandle k 464", "0"),
         ("FreeMem", "0 0"),
     ];
-    let rows = filled(rt.alloc(), &before, ("NewHandle k 0", "0"), &behind)?;
+    let rows = filled(rt.alloc(), BEFORE, ("NewHandle k 0", "0"), BEHIND)?;
     play(&rt, rt.alloc(), 2048, rows.as_slice())
 }
 
 #[test]
 fn bytes_are_copied_and_appended(rt: HostRuntime) -> Result<(), Fail> {
-    let rows = [
+    const ROWS: &[(&str, &str)] = &[
         ("NewHandle a 3", "0"),
         ("Put a 0 \"abc\"", "0"),
         ("HandToHand b a", "0"),
@@ -131,12 +131,12 @@ fn bytes_are_copied_and_appended(rt: HostRuntime) -> Result<(), Fail> {
         ("DisposeHandle a", "0"),
         ("HLock a", "-111"),
     ];
-    play(&rt, rt.alloc(), 1024, &rows)
+    play(&rt, rt.alloc(), 1024, ROWS)
 }
 
 #[test]
 fn pointers_and_room_at_the_base(rt: HostRuntime) -> Result<(), Fail> {
-    let rows = [
+    const ROWS: &[(&str, &str)] = &[
         ("NewHandle a 100", "0"),
         ("NewPtr p 20", "0"),
         ("Where p", "0 288"),
@@ -163,12 +163,12 @@ fn pointers_and_room_at_the_base(rt: HostRuntime) -> Result<(), Fail> {
         ("MaxMem", "0 208"),
         ("DisposePtr a", "-111"),
     ];
-    play(&rt, rt.alloc(), 1024, &rows)
+    play(&rt, rt.alloc(), 1024, ROWS)
 }
 
 #[test]
 fn lowest_purgeable_block_goes_first(rt: HostRuntime) -> Result<(), Fail> {
-    let rows = [
+    const ROWS: &[(&str, &str)] = &[
         ("NewHandle a 100", "0"),
         ("NewHandle b 100", "0"),
         ("NewHandle c 400", "0"),
@@ -183,12 +183,12 @@ fn lowest_purgeable_block_goes_first(rt: HostRuntime) -> Result<(), Fail> {
         ("SetHandleSize b 300", "-108"),
         ("GetHandleSize b", "0 100"),
     ];
-    play(&rt, rt.alloc(), 1024, &rows)
+    play(&rt, rt.alloc(), 1024, ROWS)
 }
 
 #[test]
 fn handle_is_doubled_by_itself(rt: HostRuntime) -> Result<(), Fail> {
-    let rows = [
+    const ROWS: &[(&str, &str)] = &[
         ("NewHandle a 3", "0"),
         ("Put a 0 \"abc\"", "0"),
         ("HandAndHand a a", "0"),
@@ -196,12 +196,12 @@ fn handle_is_doubled_by_itself(rt: HostRuntime) -> Result<(), Fail> {
         ("PtrAndHand a \"\"", "0"),
         ("GetHandleSize a", "0 6"),
     ];
-    play(&rt, rt.alloc(), 1024, &rows)
+    play(&rt, rt.alloc(), 1024, ROWS)
 }
 
 #[test]
 fn purge_mem_stops_where_there_is_room(rt: HostRuntime) -> Result<(), Fail> {
-    let rows = [
+    const ROWS: &[(&str, &str)] = &[
         ("NewHandle a 300", "0"),
         ("NewHandle b 300", "0"),
         ("HPurge a", "0"),
@@ -214,13 +214,13 @@ fn purge_mem_stops_where_there_is_room(rt: HostRuntime) -> Result<(), Fail> {
         ("GetHandleSize b", "-109"),
         ("FreeMem", "0 752"),
     ];
-    play(&rt, rt.alloc(), 1024, &rows)
+    play(&rt, rt.alloc(), 1024, ROWS)
 }
 
 #[test]
 fn masters_block_has_its_run_packed_first(rt: HostRuntime) -> Result<(), Fail> {
-    let before = [("NewPtr p 100", "0"), ("NewHandle h 0", "0")];
-    let behind = [
+    const BEFORE: &[(&str, &str)] = &[("NewPtr p 100", "0"), ("NewHandle h 0", "0")];
+    const BEHIND: &[(&str, &str)] = &[
         ("Where h", "0 416"),
         ("DisposePtr p", "0"),
         ("FreeMem", "0 288"),
@@ -230,18 +230,18 @@ fn masters_block_has_its_run_packed_first(rt: HostRuntime) -> Result<(), Fail> {
         ("Where k", "0 1584"),
         ("FreeMem", "0 0"),
     ];
-    let rows = filled(rt.alloc(), &before, ("NewHandle k 0", "0"), &behind)?;
+    let rows = filled(rt.alloc(), BEFORE, ("NewHandle k 0", "0"), BEHIND)?;
     play(&rt, rt.alloc(), 1584, rows.as_slice())
 }
 
 #[test]
 fn refused_new_handle_leaves_what_was_emptied_for_its_slot(rt: HostRuntime) -> Result<(), Fail> {
-    let before = [("NewHandle a 480", "0"), ("HPurge a", "0")];
-    let behind = [
+    const BEFORE: &[(&str, &str)] = &[("NewHandle a 480", "0"), ("HPurge a", "0")];
+    const BEHIND: &[(&str, &str)] = &[
         ("NewHandle k 700", "-108"),
         ("Show a", "-109"),
         ("FreeMem", "0 480"),
     ];
-    let rows = filled(rt.alloc(), &before, ("NewEmptyHandle e", "0"), &behind)?;
+    let rows = filled(rt.alloc(), BEFORE, ("NewEmptyHandle e", "0"), BEHIND)?;
     play(&rt, rt.alloc(), 1024, rows.as_slice())
 }

@@ -5,7 +5,7 @@ use std::test::Fail;
 
 /// What stands in a header: the bytes of its block and its kind, the bytes that it holds, the place of its master
 /// pointer, and its flags.
-#[derive(Clone, Copy, Debug, PartialEq, Eq)]
+#[derive(Clone, Copy)]
 pub struct BlockHeader {
     pub size: u32,
     pub kind: u32,
@@ -15,7 +15,7 @@ pub struct BlockHeader {
 }
 
 /// What a zone's bytes come to.
-#[derive(Clone, Copy, Debug, PartialEq, Eq)]
+#[derive(Clone, Copy)]
 pub struct Tally {
     pub free: u32,
     pub fixed: u32,
@@ -26,15 +26,10 @@ pub struct Tally {
 
 /// The word at a place, highest byte first.
 pub fn word(image: &[u8], at: u32) -> Result<u32, Fail> {
-    let at = at as usize;
-    let mut word: u32 = 0;
-    for i in 0..4 {
-        match image.get(at.wrapping_add(i)) {
-            Some(byte) => word = word.wrapping_mul(256).wrapping_add(u32::from(*byte)),
-            None => return Err(Fail::new("a word behind the zone's end")),
-        }
+    match image.get(at as usize..at.wrapping_add(4) as usize) {
+        Some([a, b, c, d]) => Ok(u32::from_be_bytes([*a, *b, *c, *d])),
+        _ => Err(Fail::new("a word behind the zone's end")),
     }
-    Ok(word)
 }
 
 /// The header at a place.

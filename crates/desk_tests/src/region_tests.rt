@@ -2,9 +2,8 @@
 
 ghost use Rattle.std.specs.Prelude.{◌≡◌, ◌≤◌, ◌%◌, [], length};
 
-use crate::in_region::run;
-use crate::job::Job;
 use crate::jobs::{add, empty_job, region_of, sized};
+use desk::{Job, run};
 use raw_region::{Part, Region};
 use script_text::Event;
 use std::alloc::Global;
@@ -21,7 +20,7 @@ const ONE: &[u8] = b"NewHandle a 3\nPut a 0 \"abc\"\nWaitNextEvent\n";
 const TWO: &[u8] = b"NewPtr p 4\nPutPtr p 0 \"Hi\"\nNewHandle b 16\nHLock b\nWaitNextEvent\n";
 
 /// What lies at which place: in the first partition, in the second, and behind both.
-const LAID: [(usize, &[u8]); 13] = [
+const LAID: &[(usize, &[u8])] = &[
     (0, b"\0\0\x01\x12\0\0\x01\0\0\0\0\0\0\0\0\0"),
     (16, b"\0\0\x01\x10"),
     (20, b"\0\0\x01\x81\0\0\x01\xc1"),
@@ -42,13 +41,13 @@ const LAID: [(usize, &[u8]); 13] = [
 
 /// A job of both, which run still behind its last event.
 fn two_apps(alloc: Global) -> Result<Job, Fail> {
-    let events = [
+    const EVENTS: &[Event] = &[
         Event::Launch(0),
         Event::Launch(1),
         Event::Turn(0),
         Event::Turn(1),
     ];
-    let mut job = empty_job(alloc, 1040, &events)?;
+    let mut job = empty_job(alloc, 1040, EVENTS)?;
     add(alloc, &mut job, b"one", &[sized(LEAST)], ONE)?;
     add(alloc, &mut job, b"two", &[sized(LEAST)], TWO)?;
     Ok(job)
@@ -59,8 +58,8 @@ fn lies_there(rt: &impl Abort, part: &Part) -> Result<(), Fail> {
     let bytes = part.bytes();
     for (place, wanted) in LAID {
         let end = place.wrapping_add(wanted.len());
-        match bytes.get(place..end) {
-            Some(found) => assert_eq!(rt; found, wanted),
+        match bytes.get(*place..end) {
+            Some(found) => assert_eq!(rt; found, *wanted),
             None => return Err(Fail::new("a place behind the region")),
         }
     }

@@ -2,12 +2,9 @@
 
 ghost use Rattle.std.specs.Prelude.{◌≡◌, ◌≤◌, ◌%◌, [], length, IfOk};
 
-use crate::in_region::run;
-use crate::job::{App, Job};
-use crate::outcome::{AppOutcome, Launched, Outcome, RunFault};
-use crate::whole::run_with;
 use arrayvec::ArrayVec;
 use block_store::ListZones;
+use desk::{App, AppOutcome, Job, Launched, Outcome, RunFault, run, run_with};
 use fork_format::{Content, Group, Ref, write_fork};
 use mac_words::{Attrs, Label, OsType};
 use raw_region::Region;

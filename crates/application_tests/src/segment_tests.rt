@@ -2,6 +2,7 @@
 
 use crate::disk::{NONE, Stored, ends, file_of, fork_holding, fork_of, holding, launched, tells};
 use crate::grow_tests::leaves;
+use mac_words::OsType;
 use res_calls::Resources;
 use std::alloc::{AllocError, Global};
 use std::process::Abort;
@@ -55,8 +56,7 @@ fn worked(alloc: Global) -> Result<Resources, Fail> {
 
 #[test]
 fn segment_is_loaded_unloaded_and_called(rt: HostRuntime) -> Result<(), Fail> {
-    let alloc = rt.alloc();
-    let rows = [
+    const ROWS: &[(&str, &str)] = &[
         ("ShowEntry 0", "0 1 0"),
         ("LoadSeg 1", "0 1"),
         ("LoadSeg 1", "0 0"),
@@ -72,14 +72,14 @@ fn segment_is_loaded_unloaded_and_called(rt: HostRuntime) -> Result<(), Fail> {
         ("CallEntry 2", "-30001"),
         ("LoadSeg 2", "15"),
     ];
-    let _files = ends(&rt, alloc, 1024, worked(alloc)?, &rows, "15")?;
+    let alloc = rt.alloc();
+    let _files = ends(&rt, alloc, 1024, worked(alloc)?, ROWS, "15")?;
     Ok(())
 }
 
 #[test]
 fn loaded_segment_may_be_gone(rt: HostRuntime) -> Result<(), Fail> {
-    let alloc = rt.alloc();
-    let rows = [
+    const ROWS: &[(&str, &str)] = &[
         ("LoadSeg 1", "0 1"),
         ("GetResource s 'CODE' 1", "0 0"),
         ("HUnlock s", "0"),
@@ -89,7 +89,8 @@ fn loaded_segment_may_be_gone(rt: HostRuntime) -> Result<(), Fail> {
         ("LoadSeg 1", "0 1"),
         ("CallEntry 0", "0 1 0"),
     ];
-    let _files = ends(&rt, alloc, 1024, worked(alloc)?, &rows, "0")?;
+    let alloc = rt.alloc();
+    let _files = ends(&rt, alloc, 1024, worked(alloc)?, ROWS, "0")?;
     Ok(())
 }
 
@@ -114,7 +115,7 @@ impl Case<'_> {
 
 #[test]
 fn tables_with_their_segments(rt: HostRuntime) -> Result<(), Fail> {
-    let cases = [
+    const CASES: &[Case<'static>] = &[
         // The resource holds fewer entries than its length tells.
         Case {
             told: 64,
@@ -217,62 +218,138 @@ fn tables_with_their_segments(rt: HostRuntime) -> Result<(), Fail> {
             ],
         },
     ];
-    for case in cases {
+    for case in CASES {
         case.ends(&rt, rt.alloc(), "0")?;
     }
     Ok(())
 }
 
+/// Calls on segments where 'CODE' 0 has no entries.
+const WITHOUT_ENTRIES: &[(&str, &str)] = &[
+    ("ShowEntry 0", "-30001"),
+    ("CallEntry 0", "-30001"),
+    ("UnloadSeg 1", "0"),
+    ("LoadSeg 2", "0 1"),
+    ("LoadSeg 1", "15"),
+];
+
+/// These two segments, and no 'CODE' 0.
+const SEGMENTS: &[Stored<'static>] = &[
+    Stored {
+        ty: OsType(*b"CODE"),
+        id: 1,
+        attrs: 0,
+        datum: SEGMENT,
+    },
+    Stored {
+        ty: OsType(*b"CODE"),
+        id: 2,
+        attrs: 0,
+        datum: b"\0\0\0\0",
+    },
+];
+
 #[test]
-fn short_and_missing_tables_have_no_entries(rt: HostRuntime) -> Result<(), Fail> {
+fn short_tables_have_no_entries(rt: HostRuntime) -> Result<(), Fail> {
     let alloc = rt.alloc();
-    let rows = [
-        ("ShowEntry 0", "-30001"),
-        ("CallEntry 0", "-30001"),
-        ("UnloadSeg 1", "0"),
-        ("LoadSeg 2", "0 1"),
-        ("LoadSeg 1", "15"),
-    ];
-    let segments = [
-        Stored::new(b"CODE", 1, 0, SEGMENT),
-        Stored::new(b"CODE", 2, 0, b"\0\0\0\0"),
-    ];
     let mut code = vec![in alloc; Stored::new(b"CODE", 0, 0, &[0; 15])]?;
-    code.extend_from_slice(&segments)?;
-    let _files = ends(&rt, alloc, 1024, holding(alloc, &code)?, &rows, "15")?;
-    let _files = ends(&rt, alloc, 1024, holding(alloc, &segments)?, &rows, "15")?;
-    // A script alone has no segments at all.
-    let transcript = ["launch 0 512", "1 LoadSeg 15", "end 15"];
-    leaves(&rt, alloc, 512, &["LoadSeg 1", "FreeMem"], &transcript)
+    code.extend_from_slice(SEGMENTS)?;
+    let resources = holding(alloc, &code)?;
+    let _files = ends(&rt, alloc, 1024, resources, WITHOUT_ENTRIES, "15")?;
+    Ok(())
+}
+
+#[test]
+fn missing_tables_have_no_entries(rt: HostRuntime) -> Result<(), Fail> {
+    let alloc = rt.alloc();
+    let resources = holding(alloc, SEGMENTS)?;
+    let _files = ends(&rt, alloc, 1024, resources, WITHOUT_ENTRIES, "15")?;
+    Ok(())
+}
+
+#[test]
+fn script_alone_has_no_segments(rt: HostRuntime) -> Result<(), Fail> {
+    const SCRIPT: &[&str] = &["LoadSeg 1", "FreeMem"];
+    const TRANSCRIPT: &[&str] = &["launch 0 512", "1 LoadSeg 15", "end 15"];
+    leaves(&rt, rt.alloc(), 512, SCRIPT, TRANSCRIPT)
 }
 
 #[test]
 fn what_is_not_the_segments_own_is_not_loaded(rt: HostRuntime) -> Result<(), Fail> {
-    let cases: [(&[&[u8]], &[u8], &str); 11] = [
+    const CASES: &[Case<'static>] = &[
         // The number is 0, though 'CODE' 0 begins as that of a segment does.
-        (&[ONE, ONE], SEGMENT, "LoadSeg 0"),
-        // The resource is too short, or that of a far model.
-        (&[ONE, ONE], b"\0\0\0", "LoadSeg 1"),
-        (&[ONE, ONE], b"\xff\xff\0\0", "LoadSeg 1"),
-        // The offset is that of no entry.
-        (&[ONE, ONE], b"\0\x04\0\x01", "LoadSeg 1"),
-        // Entries are behind the table's end.
-        (&[ONE, ONE], b"\0\0\0\x03", "LoadSeg 1"),
-        (&[ONE, ONE], b"\0\x08\0\x02", "CallEntry 0"),
-        (&[ONE, ONE], b"\0\x10\0\x01", "LoadSeg 1"),
-        // Entries are another segment's, or of none.
-        (&[ONE, TWO], b"\0\0\0\x02", "LoadSeg 1"),
-        (&[TWO, ONE], b"\0\0\0\x01", "CallEntry 1"),
-        (&[ONE, OTHER_FORM], b"\0\0\0\x02", "LoadSeg 1"),
-        (&[ONE, OTHER_FORM], b"\0\0\0\x01", "CallEntry 1"),
-    ];
-    for (entries, segment, call) in cases {
-        let case = Case {
+        Case {
             told: 16,
-            entries,
-            segments: &[(1, segment)],
-            rows: &[("ShowEntry 2", "-30001"), (call, "15")],
-        };
+            entries: &[ONE, ONE],
+            segments: &[(1, SEGMENT)],
+            rows: &[("ShowEntry 2", "-30001"), ("LoadSeg 0", "15")],
+        },
+        // The resource is too short, or that of a far model.
+        Case {
+            told: 16,
+            entries: &[ONE, ONE],
+            segments: &[(1, b"\0\0\0")],
+            rows: &[("ShowEntry 2", "-30001"), ("LoadSeg 1", "15")],
+        },
+        Case {
+            told: 16,
+            entries: &[ONE, ONE],
+            segments: &[(1, b"\xff\xff\0\0")],
+            rows: &[("ShowEntry 2", "-30001"), ("LoadSeg 1", "15")],
+        },
+        // The offset is that of no entry.
+        Case {
+            told: 16,
+            entries: &[ONE, ONE],
+            segments: &[(1, b"\0\x04\0\x01")],
+            rows: &[("ShowEntry 2", "-30001"), ("LoadSeg 1", "15")],
+        },
+        // Entries are behind the table's end.
+        Case {
+            told: 16,
+            entries: &[ONE, ONE],
+            segments: &[(1, b"\0\0\0\x03")],
+            rows: &[("ShowEntry 2", "-30001"), ("LoadSeg 1", "15")],
+        },
+        Case {
+            told: 16,
+            entries: &[ONE, ONE],
+            segments: &[(1, b"\0\x08\0\x02")],
+            rows: &[("ShowEntry 2", "-30001"), ("CallEntry 0", "15")],
+        },
+        Case {
+            told: 16,
+            entries: &[ONE, ONE],
+            segments: &[(1, b"\0\x10\0\x01")],
+            rows: &[("ShowEntry 2", "-30001"), ("LoadSeg 1", "15")],
+        },
+        // Entries are another segment's, or of none.
+        Case {
+            told: 16,
+            entries: &[ONE, TWO],
+            segments: &[(1, b"\0\0\0\x02")],
+            rows: &[("ShowEntry 2", "-30001"), ("LoadSeg 1", "15")],
+        },
+        Case {
+            told: 16,
+            entries: &[TWO, ONE],
+            segments: &[(1, b"\0\0\0\x01")],
+            rows: &[("ShowEntry 2", "-30001"), ("CallEntry 1", "15")],
+        },
+        Case {
+            told: 16,
+            entries: &[ONE, OTHER_FORM],
+            segments: &[(1, b"\0\0\0\x02")],
+            rows: &[("ShowEntry 2", "-30001"), ("LoadSeg 1", "15")],
+        },
+        Case {
+            told: 16,
+            entries: &[ONE, OTHER_FORM],
+            segments: &[(1, b"\0\0\0\x01")],
+            rows: &[("ShowEntry 2", "-30001"), ("CallEntry 1", "15")],
+        },
+    ];
+    for case in CASES {
         case.ends(&rt, rt.alloc(), "15")?;
     }
     Ok(())
@@ -280,11 +357,7 @@ fn what_is_not_the_segments_own_is_not_loaded(rt: HostRuntime) -> Result<(), Fai
 
 #[test]
 fn segments_are_the_own_forks(rt: HostRuntime) -> Result<(), Fail> {
-    let alloc = rt.alloc();
-    let own = fork_holding(alloc, &code_of(alloc, TABLE, &[(1, SEGMENT)])?)?;
-    let other = fork_holding(alloc, &[Stored::new(b"CODE", 1, 0, b"other")])?;
-    let files = vec![in alloc; file_of(b"App", own), file_of(b"Doc", other)]?;
-    let rows = [
+    const ROWS: &[(&str, &str)] = &[
         ("OpenResFile \"Doc\"", "0 3"),
         ("SetResLoad FALSE", "0"),
         ("UseResFile 9", "-193"),
@@ -302,15 +375,18 @@ fn segments_are_the_own_forks(rt: HostRuntime) -> Result<(), Fail> {
         ("HGetState s", "0 160"),
         ("HomeResFile s", "0 2"),
     ];
+    let alloc = rt.alloc();
+    let own = fork_holding(alloc, &code_of(alloc, TABLE, &[(1, SEGMENT)])?)?;
+    let other = fork_holding(alloc, &[Stored::new(b"CODE", 1, 0, b"other")])?;
+    let files = vec![in alloc; file_of(b"App", own), file_of(b"Doc", other)]?;
     let resources = launched(alloc, files, &fork_of(alloc, NONE)?)?;
-    let _files = ends(&rt, alloc, 1024, resources, &rows, "0")?;
+    let _files = ends(&rt, alloc, 1024, resources, ROWS, "0")?;
     Ok(())
 }
 
 #[test]
 fn segments_are_gone_with_their_fork(rt: HostRuntime) -> Result<(), Fail> {
-    let alloc = rt.alloc();
-    let closed = [
+    const ROWS: &[(&str, &str)] = &[
         ("LoadSeg 1", "0 1"),
         ("CloseResFile 2", "0"),
         ("FreeMem", "0 752"),
@@ -320,8 +396,14 @@ fn segments_are_gone_with_their_fork(rt: HostRuntime) -> Result<(), Fail> {
         ("ShowEntry 0", "0 1 0"),
         ("LoadSeg 1", "15"),
     ];
-    let _files = ends(&rt, alloc, 1024, worked(alloc)?, &closed, "15")?;
-    let opened_again = [
+    let alloc = rt.alloc();
+    let _files = ends(&rt, alloc, 1024, worked(alloc)?, ROWS, "15")?;
+    Ok(())
+}
+
+#[test]
+fn segments_are_back_with_their_fork(rt: HostRuntime) -> Result<(), Fail> {
+    const ROWS: &[(&str, &str)] = &[
         ("CloseResFile 2", "0"),
         ("OpenResFile \"App\"", "0 3"),
         ("LoadSeg 1", "0 1"),
@@ -329,7 +411,8 @@ fn segments_are_gone_with_their_fork(rt: HostRuntime) -> Result<(), Fail> {
         ("GetResource s 'CODE' 1", "0 0"),
         ("HomeResFile s", "0 3"),
     ];
-    let _files = ends(&rt, alloc, 1024, worked(alloc)?, &opened_again, "0")?;
+    let alloc = rt.alloc();
+    let _files = ends(&rt, alloc, 1024, worked(alloc)?, ROWS, "0")?;
     Ok(())
 }
 
@@ -346,8 +429,7 @@ fn large(alloc: Global) -> Result<Resources, Fail> {
 
 #[test]
 fn grow_zone_script_unloads_another_segment(rt: HostRuntime) -> Result<(), Fail> {
-    let alloc = rt.alloc();
-    let script = [
+    const SCRIPT: &[&str] = &[
         "grow g",
         "UnloadSeg 2",
         "DisposeHandle r",
@@ -362,7 +444,7 @@ fn grow_zone_script_unloads_another_segment(rt: HostRuntime) -> Result<(), Fail>
         "MemError",
         "FreeMem",
     ];
-    let told = [
+    const TOLD: &[&str] = &[
         "5 LoadSeg 0 1",
         "6 SetGrowZone 0",
         "+2 UnloadSeg 0",
@@ -372,18 +454,18 @@ fn grow_zone_script_unloads_another_segment(rt: HostRuntime) -> Result<(), Fail>
         "9 ShowEntry 0 2 0",
         "10 GetResource 0 0",
         "11 Where 0 720",
-        // That of the grow-zone script's call.
+        // That of the grow-zone SCRIPT's call.
         "12 MemError 0 -109",
         "13 FreeMem 0 432",
     ];
-    tells(&rt, alloc, 1024, large(alloc)?, &script, &told, "0")
+    let alloc = rt.alloc();
+    tells(&rt, alloc, 1024, large(alloc)?, SCRIPT, TOLD, "0")
 }
 
+/// It is emptied for another block, and isn't unloaded while it is read again.
 #[test]
 fn segment_that_finds_no_room_ends_the_application(rt: HostRuntime) -> Result<(), Fail> {
-    let alloc = rt.alloc();
-    // It is emptied for another block, and isn't unloaded while it is read again.
-    let script = [
+    const SCRIPT: &[&str] = &[
         "grow g",
         "UnloadSeg 1",
         "end",
@@ -394,7 +476,7 @@ fn segment_that_finds_no_room_ends_the_application(rt: HostRuntime) -> Result<()
         "CallEntry 0",
         "FreeMem",
     ];
-    let told = [
+    const TOLD: &[&str] = &[
         "4 LoadSeg 0 1",
         "5 SetGrowZone 0",
         "+2 UnloadSeg 0",
@@ -403,9 +485,13 @@ fn segment_that_finds_no_room_ends_the_application(rt: HostRuntime) -> Result<()
         "+2 UnloadSeg -117",
         "8 CallEntry 15",
     ];
-    tells(&rt, alloc, 1024, large(alloc)?, &script, &told, "15")?;
-    // It was never loaded.
-    let script = [
+    let alloc = rt.alloc();
+    tells(&rt, alloc, 1024, large(alloc)?, SCRIPT, TOLD, "15")
+}
+
+#[test]
+fn segment_that_was_never_loaded_finds_no_room(rt: HostRuntime) -> Result<(), Fail> {
+    const SCRIPT: &[&str] = &[
         "grow g",
         "UnloadSeg 1",
         "DisposeHandle r",
@@ -415,12 +501,13 @@ fn segment_that_finds_no_room_ends_the_application(rt: HostRuntime) -> Result<()
         "LoadSeg 1",
         "FreeMem",
     ];
-    let told = [
+    const TOLD: &[&str] = &[
         "5 NewHandle 0",
         "6 SetGrowZone 0",
         "+2 UnloadSeg 0",
         "+3 DisposeHandle -109",
         "7 LoadSeg 15",
     ];
-    tells(&rt, alloc, 1024, large(alloc)?, &script, &told, "15")
+    let alloc = rt.alloc();
+    tells(&rt, alloc, 1024, large(alloc)?, SCRIPT, TOLD, "15")
 }

@@ -1,6 +1,6 @@
 use Rattle.fork_format.specs.View.{view}
 use Rattle.res_map.proofs.Types.{spelled_types, spelled_references}
-use Rattle.applications.proofs.disk.launched.Goals as goal
+use Rattle.application_tests.proofs.disk.launched.Goals as goal
 
 pub new-requires-2-clause-types : goal.new-requires-2-clause-types
 new-requires-2-clause-types c =

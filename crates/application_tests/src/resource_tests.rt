@@ -14,7 +14,7 @@ fn text(alloc: Global) -> Result<Resources, Fail> {
 
 #[test]
 fn fork_without_resources_has_none(rt: HostRuntime) -> Result<(), Fail> {
-    let rows = [
+    const ROWS: &[(&str, &str)] = &[
         ("ResError", "0 0"),
         ("GetResource a 'TEXT' 128", "-192"),
         ("ResError", "0 -192"),
@@ -28,12 +28,12 @@ fn fork_without_resources_has_none(rt: HostRuntime) -> Result<(), Fail> {
         ("MemError", "0 0"),
         ("GetHandleSize a", "-109"),
     ];
-    play(&rt, rt.alloc(), 1024, &rows)
+    play(&rt, rt.alloc(), 1024, ROWS)
 }
 
 #[test]
 fn files_are_used_and_closed(rt: HostRuntime) -> Result<(), Fail> {
-    let rows = [
+    const ROWS: &[(&str, &str)] = &[
         ("CurResFile", "0 2"),
         ("OpenResFile \"No\"", "-43"),
         ("UseResFile 3", "-193"),
@@ -49,12 +49,12 @@ fn files_are_used_and_closed(rt: HostRuntime) -> Result<(), Fail> {
         ("OpenResFile \"script\"", "0 3"),
         ("CurResFile", "0 3"),
     ];
-    play(&rt, rt.alloc(), 1024, &rows)
+    play(&rt, rt.alloc(), 1024, ROWS)
 }
 
 #[test]
 fn what_is_no_resource_is_not_read(rt: HostRuntime) -> Result<(), Fail> {
-    let rows = [
+    const ROWS: &[(&str, &str)] = &[
         ("LoadResource a", "-192"),
         ("NewHandle a 10", "0"),
         ("LoadResource a", "-192"),
@@ -69,12 +69,12 @@ fn what_is_no_resource_is_not_read(rt: HostRuntime) -> Result<(), Fail> {
         ("ResError", "0 0"),
         ("MemError", "0 0"),
     ];
-    play(&rt, rt.alloc(), 1024, &rows)
+    play(&rt, rt.alloc(), 1024, ROWS)
 }
 
 #[test]
 fn grow_zone_script_may_ask_for_resources(rt: HostRuntime) -> Result<(), Fail> {
-    let script = [
+    const SCRIPT: &[&str] = &[
         "grow g",
         "ReleaseResource a",
         "end",
@@ -84,7 +84,7 @@ fn grow_zone_script_may_ask_for_resources(rt: HostRuntime) -> Result<(), Fail> {
         "ResError",
         "MemError",
     ];
-    let transcript = [
+    const TRANSCRIPT: &[&str] = &[
         "launch 0 1024",
         "4 SetGrowZone 0",
         "5 NewHandle 0",
@@ -94,12 +94,12 @@ fn grow_zone_script_may_ask_for_resources(rt: HostRuntime) -> Result<(), Fail> {
         "8 MemError 0 -108",
         "end 0",
     ];
-    leaves(&rt, rt.alloc(), 1024, &script, &transcript)
+    leaves(&rt, rt.alloc(), 1024, SCRIPT, TRANSCRIPT)
 }
 
 #[test]
 fn resource_is_read_once(rt: HostRuntime) -> Result<(), Fail> {
-    let script = [
+    const SCRIPT: &[&str] = &[
         "Count1Types",
         "Get1IndType 1",
         "Get1IndType 2",
@@ -118,7 +118,7 @@ fn resource_is_read_once(rt: HostRuntime) -> Result<(), Fail> {
         "DetachResource h",
         "DisposeHandle h",
     ];
-    let transcript = [
+    const TRANSCRIPT: &[&str] = &[
         "1 Count1Types 0 1",
         "2 Get1IndType 0 $54455854",
         "3 Get1IndType -192",
@@ -138,12 +138,12 @@ fn resource_is_read_once(rt: HostRuntime) -> Result<(), Fail> {
         "17 DisposeHandle 0",
     ];
     let alloc = rt.alloc();
-    tells(&rt, alloc, 1024, text(alloc)?, &script, &transcript, "0")
+    tells(&rt, alloc, 1024, text(alloc)?, SCRIPT, TRANSCRIPT, "0")
 }
 
 #[test]
 fn handle_that_is_read_again_is_busy(rt: HostRuntime) -> Result<(), Fail> {
-    let script = [
+    const SCRIPT: &[&str] = &[
         "grow g",
         "EmptyHandle h",
         "DisposeHandle h",
@@ -157,7 +157,7 @@ fn handle_that_is_read_again_is_busy(rt: HostRuntime) -> Result<(), Fail> {
         "GetHandleSize h",
         "EmptyHandle h",
     ];
-    let transcript = [
+    const TRANSCRIPT: &[&str] = &[
         "6 GetResource 0 1",
         "7 EmptyHandle 0",
         "8 NewHandle 0",
@@ -170,12 +170,12 @@ fn handle_that_is_read_again_is_busy(rt: HostRuntime) -> Result<(), Fail> {
         "12 EmptyHandle 0",
     ];
     let alloc = rt.alloc();
-    tells(&rt, alloc, 1024, text(alloc)?, &script, &transcript, "0")
+    tells(&rt, alloc, 1024, text(alloc)?, SCRIPT, TRANSCRIPT, "0")
 }
 
 #[test]
 fn released_resource_makes_room(rt: HostRuntime) -> Result<(), Fail> {
-    let script = [
+    const SCRIPT: &[&str] = &[
         "grow g",
         "ReleaseResource h",
         "end",
@@ -185,7 +185,7 @@ fn released_resource_makes_room(rt: HostRuntime) -> Result<(), Fail> {
         "GetHandleSize h",
         "ResError",
     ];
-    let transcript = [
+    const TRANSCRIPT: &[&str] = &[
         "4 SetGrowZone 0",
         "5 GetResource 0 1",
         "+2 ReleaseResource 0",
@@ -194,12 +194,12 @@ fn released_resource_makes_room(rt: HostRuntime) -> Result<(), Fail> {
         "8 ResError 0 0",
     ];
     let alloc = rt.alloc();
-    tells(&rt, alloc, 1024, text(alloc)?, &script, &transcript, "0")
+    tells(&rt, alloc, 1024, text(alloc)?, SCRIPT, TRANSCRIPT, "0")
 }
 
 #[test]
 fn busy_resource_is_not_released(rt: HostRuntime) -> Result<(), Fail> {
-    let script = [
+    const SCRIPT: &[&str] = &[
         "grow g",
         "ReleaseResource h",
         "end",
@@ -211,7 +211,7 @@ fn busy_resource_is_not_released(rt: HostRuntime) -> Result<(), Fail> {
         "ResError",
         "ReleaseResource h",
     ];
-    let transcript = [
+    const TRANSCRIPT: &[&str] = &[
         "4 GetResource 0 1",
         "5 EmptyHandle 0",
         "6 NewHandle 0",
@@ -222,5 +222,5 @@ fn busy_resource_is_not_released(rt: HostRuntime) -> Result<(), Fail> {
         "10 ReleaseResource 0",
     ];
     let alloc = rt.alloc();
-    tells(&rt, alloc, 1024, text(alloc)?, &script, &transcript, "0")
+    tells(&rt, alloc, 1024, text(alloc)?, SCRIPT, TRANSCRIPT, "0")
 }

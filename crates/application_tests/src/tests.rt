@@ -26,18 +26,36 @@ pub fn play(rt: &impl Abort, alloc: Global, size: u32, rows: &[(&str, &str)]) ->
     )
 }
 
-/// The answer to a `Show` of bytes that begin with these digits and go on with so many zeros.
-fn shown(alloc: Global, digits: &str, zeros: usize) -> Result<String, Fail> {
-    let mut shown = format!(in alloc; "0 ${digits}")?;
+/// Runs a script of these calls in a partition of 1,024 bytes, as `play` does, and then this `Show`: it shows bytes that
+/// begin with these digits and go on with so many zeros.
+fn play_and_show(
+    rt: &impl Abort,
+    alloc: Global,
+    rows: &[(&str, &str)],
+    show: &str,
+    digits: &str,
+    zeros: usize,
+) -> Result<(), Fail> {
+    let mut texts = Texts::of_rows(alloc, 1024, rows)?;
+    let line = rows.len().wrapping_add(1);
+    writeln!(texts.script, "{show}")?;
+    write!(texts.transcript, "{line} Show 0 ${digits}")?;
     for _ in 0..zeros {
-        shown.push_str("00")?;
+        texts.transcript.push_str("00")?;
     }
-    Ok(shown)
+    texts.transcript.push_str("\nend 0\n")?;
+    both_leave(
+        rt,
+        alloc,
+        1024,
+        texts.script.as_bytes(),
+        texts.transcript.as_bytes(),
+    )
 }
 
 #[test]
 fn runs_the_first_script(rt: HostRuntime) -> Result<(), Fail> {
-    let rows = [
+    const ROWS: &[(&str, &str)] = &[
         ("NewHandle a 100", "0"),
         ("Put a 1 \"Hi\"", "0"),
         ("NewHandle b 3", "0"),
@@ -51,12 +69,12 @@ fn runs_the_first_script(rt: HostRuntime) -> Result<(), Fail> {
         ("NewHandle d 737", "-108"),
         ("Put b 3 \"x\"", "-30001"),
     ];
-    play(&rt, rt.alloc(), 1024, &rows)
+    play(&rt, rt.alloc(), 1024, ROWS)
 }
 
 #[test]
 fn refused_new_handle_leaves_its_name(rt: HostRuntime) -> Result<(), Fail> {
-    let rows = [
+    const ROWS: &[(&str, &str)] = &[
         ("NewHandle a 737", "-108"),
         ("FreeMem", "0 752"),
         ("GetHandleSize a", "-109"),
@@ -65,12 +83,12 @@ fn refused_new_handle_leaves_its_name(rt: HostRuntime) -> Result<(), Fail> {
         ("NewHandle a 737", "-108"),
         ("GetHandleSize a", "0 5"),
     ];
-    play(&rt, rt.alloc(), 1024, &rows)
+    play(&rt, rt.alloc(), 1024, ROWS)
 }
 
 #[test]
 fn name_bound_anew_lets_its_handle_go(rt: HostRuntime) -> Result<(), Fail> {
-    let rows = [
+    const ROWS: &[(&str, &str)] = &[
         ("NewHandle a 10", "0"),
         ("Put a 0 \"A\"", "0"),
         ("NewHandle a 20", "0"),
@@ -81,12 +99,12 @@ fn name_bound_anew_lets_its_handle_go(rt: HostRuntime) -> Result<(), Fail> {
         ("LoadResource zz", "-192"),
         ("FreeMem", "0 720"),
     ];
-    play(&rt, rt.alloc(), 1024, &rows)
+    play(&rt, rt.alloc(), 1024, ROWS)
 }
 
 #[test]
 fn zone_is_filled_to_its_last_byte(rt: HostRuntime) -> Result<(), Fail> {
-    let rows = [
+    const ROWS: &[(&str, &str)] = &[
         ("FreeMem", "0 752"),
         ("NewHandle a 736", "0"),
         ("FreeMem", "0 0"),
@@ -95,12 +113,12 @@ fn zone_is_filled_to_its_last_byte(rt: HostRuntime) -> Result<(), Fail> {
         ("Put a 737 \"\"", "-30001"),
         ("NewHandle b 0", "-108"),
     ];
-    play(&rt, rt.alloc(), 1024, &rows)
+    play(&rt, rt.alloc(), 1024, ROWS)
 }
 
 #[test]
 fn new_bytes_are_0(rt: HostRuntime) -> Result<(), Fail> {
-    let rows = [
+    const ROWS: &[(&str, &str)] = &[
         ("NewHandle a 4", "0"),
         ("Put a 0 \"abcd\"", "0"),
         ("Show a", "0 $61626364"),
@@ -108,7 +126,7 @@ fn new_bytes_are_0(rt: HostRuntime) -> Result<(), Fail> {
         ("NewHandle b 4", "0"),
         ("Show b", "0 $00000000"),
     ];
-    play(&rt, rt.alloc(), 1024, &rows)
+    play(&rt, rt.alloc(), 1024, ROWS)
 }
 
 #[test]
@@ -118,19 +136,19 @@ fn empty_script_is_launched_and_ends(rt: HostRuntime) -> Result<(), Fail> {
 
 #[test]
 fn max_block_is_what_a_new_block_can_have(rt: HostRuntime) -> Result<(), Fail> {
-    let rows = [
+    const ROWS: &[(&str, &str)] = &[
         ("FreeMem", "0 752"),
         ("MaxBlock", "0 736"),
         ("NewHandle a 736", "0"),
         ("FreeMem", "0 0"),
         ("MaxBlock", "0 0"),
     ];
-    play(&rt, rt.alloc(), 1024, &rows)
+    play(&rt, rt.alloc(), 1024, ROWS)
 }
 
 #[test]
 fn mem_error_tells_the_last_code(rt: HostRuntime) -> Result<(), Fail> {
-    let rows = [
+    const ROWS: &[(&str, &str)] = &[
         ("NewHandle a 737", "-108"),
         ("MemError", "0 -108"),
         ("FreeMem", "0 752"),
@@ -140,13 +158,12 @@ fn mem_error_tells_the_last_code(rt: HostRuntime) -> Result<(), Fail> {
         ("NewHandle a 737", "-108"),
         ("GetHandleSize a", "0 5"),
     ];
-    play(&rt, rt.alloc(), 1024, &rows)
+    play(&rt, rt.alloc(), 1024, ROWS)
 }
 
 #[test]
 fn blocks_move_together_for_a_new_one(rt: HostRuntime) -> Result<(), Fail> {
-    let shown = shown(rt.alloc(), "78797a", 97)?;
-    let rows = [
+    const ROWS: &[(&str, &str)] = &[
         ("NewHandle a 100", "0"),
         ("NewHandle b 100", "0"),
         ("NewHandle c 100", "0"),
@@ -158,14 +175,13 @@ fn blocks_move_together_for_a_new_one(rt: HostRuntime) -> Result<(), Fail> {
         ("NewHandle d 400", "0"),
         ("Where d", "0 544"),
         ("Where c", "0 416"),
-        ("Show c", shown.as_str()),
     ];
-    play(&rt, rt.alloc(), 1024, &rows)
+    play_and_show(&rt, rt.alloc(), ROWS, "Show c", "78797a", 97)
 }
 
 #[test]
 fn locked_block_stays_where_it_is(rt: HostRuntime) -> Result<(), Fail> {
-    let rows = [
+    const ROWS: &[(&str, &str)] = &[
         ("NewHandle a 100", "0"),
         ("NewHandle b 100", "0"),
         ("NewHandle c 100", "0"),
@@ -178,12 +194,12 @@ fn locked_block_stays_where_it_is(rt: HostRuntime) -> Result<(), Fail> {
         ("NewHandle d 400", "0"),
         ("Where c", "0 416"),
     ];
-    play(&rt, rt.alloc(), 1024, &rows)
+    play(&rt, rt.alloc(), 1024, ROWS)
 }
 
 #[test]
 fn bytes_cut_off_are_0_when_they_come_back(rt: HostRuntime) -> Result<(), Fail> {
-    let rows = [
+    const ROWS: &[(&str, &str)] = &[
         ("NewHandle a 0", "0"),
         ("Show a", "0 $"),
         ("SetHandleSize a 17", "0"),
@@ -196,13 +212,12 @@ fn bytes_cut_off_are_0_when_they_come_back(rt: HostRuntime) -> Result<(), Fail> 
         ("SetHandleSize a 17", "0"),
         ("Show a", "0 $0000000000000000000000000000000000"),
     ];
-    play(&rt, rt.alloc(), 1024, &rows)
+    play(&rt, rt.alloc(), 1024, ROWS)
 }
 
 #[test]
 fn block_grows_elsewhere_and_as_the_last_of_its_run(rt: HostRuntime) -> Result<(), Fail> {
-    let shown = shown(rt.alloc(), "41", 607)?;
-    let rows = [
+    const ROWS: &[(&str, &str)] = &[
         ("NewHandle a 100", "0"),
         ("NewHandle b 100", "0"),
         ("Put a 0 \"A\"", "0"),
@@ -214,14 +229,13 @@ fn block_grows_elsewhere_and_as_the_last_of_its_run(rt: HostRuntime) -> Result<(
         ("FreeMem", "0 0"),
         ("SetHandleSize a 608", "0"),
         ("SetHandleSize a 609", "-108"),
-        ("Show a", shown.as_str()),
     ];
-    play(&rt, rt.alloc(), 1024, &rows)
+    play_and_show(&rt, rt.alloc(), ROWS, "Show a", "41", 607)
 }
 
 #[test]
 fn locked_block_grows_where_it_stands(rt: HostRuntime) -> Result<(), Fail> {
-    let rows = [
+    const ROWS: &[(&str, &str)] = &[
         ("NewHandle a 100", "0"),
         ("NewHandle b 100", "0"),
         ("HLock a", "0"),
@@ -239,12 +253,12 @@ fn locked_block_grows_where_it_stands(rt: HostRuntime) -> Result<(), Fail> {
         ("MemError", "0 -108"),
         ("GetHandleSize b", "0 101"),
     ];
-    play(&rt, rt.alloc(), 1024, &rows)
+    play(&rt, rt.alloc(), 1024, ROWS)
 }
 
 #[test]
 fn block_moves_to_the_top_of_its_run(rt: HostRuntime) -> Result<(), Fail> {
-    let rows = [
+    const ROWS: &[(&str, &str)] = &[
         ("NewHandle a 100", "0"),
         ("NewHandle b 100", "0"),
         ("MoveHHi a", "0"),
@@ -255,12 +269,12 @@ fn block_moves_to_the_top_of_its_run(rt: HostRuntime) -> Result<(), Fail> {
         ("MemError", "0 -117"),
         ("Where a", "0 912"),
     ];
-    play(&rt, rt.alloc(), 1024, &rows)
+    play(&rt, rt.alloc(), 1024, ROWS)
 }
 
 #[test]
 fn calls_on_no_handle(rt: HostRuntime) -> Result<(), Fail> {
-    let rows = [
+    const ROWS: &[(&str, &str)] = &[
         ("HLock a", "-109"),
         ("NewHandle a 8", "0"),
         ("DisposeHandle a", "0"),
@@ -272,12 +286,12 @@ fn calls_on_no_handle(rt: HostRuntime) -> Result<(), Fail> {
         ("MemError", "0 -109"),
         ("MemError", "0 -109"),
     ];
-    play(&rt, rt.alloc(), 1024, &rows)
+    play(&rt, rt.alloc(), 1024, ROWS)
 }
 
 #[test]
 fn compaction_goes_on_until_there_is_room(rt: HostRuntime) -> Result<(), Fail> {
-    let rows = [
+    const ROWS: &[(&str, &str)] = &[
         ("NewHandle a 96", "0"),
         ("NewHandle b 96", "0"),
         ("NewHandle c 96", "0"),
@@ -299,5 +313,5 @@ fn compaction_goes_on_until_there_is_room(rt: HostRuntime) -> Result<(), Fail> {
         ("Where d", "0 624"),
         ("CompactMem 2147483647", "0 208"),
     ];
-    play(&rt, rt.alloc(), 1024, &rows)
+    play(&rt, rt.alloc(), 1024, ROWS)
 }

@@ -1,7 +1,8 @@
 //! Resources are changed, and forks are written.
 
 use crate::disk::{
-    HI, NONE, NOTE, beside, crowded_fork, file_of, fork_at, fork_of, fork_with, launched, leaves,
+    HI, NONE, NOTE, beside, crowded_fork, file_of, fork_at, fork_of, fork_with, has_fork, launched,
+    leaves,
 };
 use mac_words::OsType;
 use res_calls::Resources;
@@ -11,22 +12,21 @@ use std::test::Fail;
 
 #[test]
 fn a_new_file_has_an_empty_fork(rt: HostRuntime) -> Result<(), Fail> {
-    let alloc = rt.alloc();
-    let rows = [
+    const ROWS: &[(&str, &str)] = &[
         ("CreateResFile \"Doc\"", "0"),
         ("CreateResFile \"Doc\"", "-48"),
         ("ResError", "0 -48"),
     ];
-    let left = leaves(&rt, alloc, beside(alloc, &[])?, &rows)?;
-    assert_eq!(rt; fork_at(&left, 1), fork_of(alloc, NONE)?.as_slice());
+    let alloc = rt.alloc();
+    let left = leaves(&rt, alloc, beside(alloc, &[])?, ROWS)?;
+    has_fork(&rt, alloc, &left, 1, NONE)?;
     assert_eq!(rt; fork_at(&left, 1).len(), 286);
     Ok(())
 }
 
 #[test]
 fn an_added_resource_is_written(rt: HostRuntime) -> Result<(), Fail> {
-    let alloc = rt.alloc();
-    let rows = [
+    const ROWS: &[(&str, &str)] = &[
         ("CreateResFile \"Doc\"", "0"),
         ("CreateResFile \"Doc\"", "-48"),
         ("OpenResFile \"Doc\"", "0 3"),
@@ -37,14 +37,15 @@ fn an_added_resource_is_written(rt: HostRuntime) -> Result<(), Fail> {
         ("AddResource h 'TEXT' 128 \"\"", "-194"),
         ("UpdateResFile 3", "0"),
     ];
-    let left = leaves(&rt, alloc, beside(alloc, &[])?, &rows)?;
-    assert_eq!(rt; fork_at(&left, 1), fork_of(alloc, HI)?.as_slice());
+    let alloc = rt.alloc();
+    let left = leaves(&rt, alloc, beside(alloc, &[])?, ROWS)?;
+    has_fork(&rt, alloc, &left, 1, HI)?;
     assert_eq!(rt; fork_at(&left, 1).len(), 312);
     Ok(())
 }
 
 /// A document is changed: its resource gets a byte more, another ID and a name.
-const RENAMED: [(&str, &str); 14] = [
+const RENAMED: &[(&str, &str)] = &[
     ("OpenResFile \"Doc\"", "0 3"),
     ("GetResource h 'TEXT' 128", "0 1"),
     ("PtrAndHand h \"!\"", "0"),
@@ -62,7 +63,7 @@ const RENAMED: [(&str, &str); 14] = [
 ];
 
 /// Then it is removed, and the file closed.
-const REMOVED: [(&str, &str); 5] = [
+const REMOVED: &[(&str, &str)] = &[
     ("RemoveResource h", "0"),
     ("Show h", "0 $486921"),
     ("CloseResFile 3", "0"),
@@ -75,8 +76,8 @@ fn a_changed_resource_is_written_with_its_name(rt: HostRuntime) -> Result<(), Fa
     let alloc = rt.alloc();
     let hi = fork_of(alloc, HI)?;
     let document = beside(alloc, &[(b"Doc", hi.as_slice())])?;
-    let left = leaves(&rt, alloc, document, &RENAMED)?;
-    assert_eq!(rt; fork_at(&left, 1), fork_of(alloc, NOTE)?.as_slice());
+    let left = leaves(&rt, alloc, document, RENAMED)?;
+    has_fork(&rt, alloc, &left, 1, NOTE)?;
     assert_eq!(rt; fork_at(&left, 1).len(), 318);
     Ok(())
 }
@@ -86,23 +87,16 @@ fn a_removed_resource_leaves_its_handle(rt: HostRuntime) -> Result<(), Fail> {
     let alloc = rt.alloc();
     let hi = fork_of(alloc, HI)?;
     let document = beside(alloc, &[(b"Doc", hi.as_slice())])?;
-    let mut rows = Vec::from_slice(alloc, &RENAMED)?;
-    rows.extend_from_slice(&REMOVED)?;
+    let mut rows = Vec::from_slice(alloc, RENAMED)?;
+    rows.extend_from_slice(REMOVED)?;
     let left = leaves(&rt, alloc, document, &rows)?;
-    assert_eq!(rt; fork_at(&left, 1), fork_of(alloc, NONE)?.as_slice());
+    has_fork(&rt, alloc, &left, 1, NONE)?;
     Ok(())
 }
 
 #[test]
 fn what_does_not_fit_is_not_written(rt: HostRuntime) -> Result<(), Fail> {
-    let alloc = rt.alloc();
-    let hi = fork_of(alloc, HI)?;
-    let crowded = crowded_fork(alloc)?;
-    let files = [
-        (b"Doc".as_slice(), hi.as_slice()),
-        (b"Big".as_slice(), crowded.as_slice()),
-    ];
-    let rows = [
+    const ROWS: &[(&str, &str)] = &[
         ("OpenResFile \"Doc\"", "0 3"),
         ("GetResource h 'TEXT' 128", "0 1"),
         ("Put h 0 \"Yo\"", "0"),
@@ -117,7 +111,14 @@ fn what_does_not_fit_is_not_written(rt: HostRuntime) -> Result<(), Fail> {
         ("CurResFile", "0 4"),
         ("GetResAttrs g", "0 2"),
     ];
-    let left = leaves(&rt, alloc, beside(alloc, &files)?, &rows)?;
+    let alloc = rt.alloc();
+    let hi = fork_of(alloc, HI)?;
+    let crowded = crowded_fork(alloc)?;
+    let files = [
+        (b"Doc".as_slice(), hi.as_slice()),
+        (b"Big".as_slice(), crowded.as_slice()),
+    ];
+    let left = leaves(&rt, alloc, beside(alloc, &files)?, ROWS)?;
     // The changed resource whose handle was emptied kept its bytes.
     assert_eq!(rt; fork_at(&left, 1), hi.as_slice());
     assert_eq!(rt; fork_at(&left, 2), crowded.as_slice());
@@ -126,10 +127,7 @@ fn what_does_not_fit_is_not_written(rt: HostRuntime) -> Result<(), Fail> {
 
 #[test]
 fn protected_resources_and_the_systems_are_not_changed(rt: HostRuntime) -> Result<(), Fail> {
-    let alloc = rt.alloc();
-    let own = fork_with(alloc, OsType(*b"PREF"), 8, b"p")?;
-    let system = fork_with(alloc, OsType(*b"STR "), 0, b"s")?;
-    let rows = [
+    const ROWS: &[(&str, &str)] = &[
         ("GetResource p 'PREF' 1", "0 1"),
         ("ChangedResource p", "-198"),
         ("SetResAttrs p 0", "0"),
@@ -150,17 +148,17 @@ fn protected_resources_and_the_systems_are_not_changed(rt: HostRuntime) -> Resul
         ("UpdateResFile 0", "0"),
         ("WriteResource s", "0"),
     ];
+    let alloc = rt.alloc();
+    let own = fork_with(alloc, OsType(*b"PREF"), 8, b"p")?;
+    let system = fork_with(alloc, OsType(*b"STR "), 0, b"s")?;
     let files = vec![in alloc; file_of(b"App", own)]?;
-    let _left = leaves(&rt, alloc, launched(alloc, files, &system)?, &rows)?;
+    let _left = leaves(&rt, alloc, launched(alloc, files, &system)?, ROWS)?;
     Ok(())
 }
 
 #[test]
 fn an_id_in_use_is_no_bar(rt: HostRuntime) -> Result<(), Fail> {
-    let alloc = rt.alloc();
-    let hi = fork_of(alloc, HI)?;
-    let document = beside(alloc, &[(b"Doc", hi.as_slice())])?;
-    let rows = [
+    const ROWS: &[(&str, &str)] = &[
         ("OpenResFile \"Doc\"", "0 3"),
         ("NewHandle h 1", "0"),
         ("AddResource h 'TEXT' 128 \"\"", "0"),
@@ -176,16 +174,16 @@ fn an_id_in_use_is_no_bar(rt: HostRuntime) -> Result<(), Fail> {
         ("Get1IndResource k 'TEXT' 2", "0 1"),
         ("Show k", "0 $00"),
     ];
-    let _left = leaves(&rt, alloc, document, &rows)?;
+    let alloc = rt.alloc();
+    let hi = fork_of(alloc, HI)?;
+    let document = beside(alloc, &[(b"Doc", hi.as_slice())])?;
+    let _left = leaves(&rt, alloc, document, ROWS)?;
     Ok(())
 }
 
 #[test]
 fn a_type_that_was_gone_comes_back_as_the_last(rt: HostRuntime) -> Result<(), Fail> {
-    let alloc = rt.alloc();
-    let hi = fork_of(alloc, HI)?;
-    let document = beside(alloc, &[(b"Doc", hi.as_slice())])?;
-    let rows = [
+    const ROWS: &[(&str, &str)] = &[
         ("OpenResFile \"Doc\"", "0 3"),
         ("NewHandle d 1", "0"),
         ("AddResource d 'DATA' 1 \"\"", "0"),
@@ -209,16 +207,16 @@ fn a_type_that_was_gone_comes_back_as_the_last(rt: HostRuntime) -> Result<(), Fa
         ("Get1IndResource f 'DATA' 2", "0 1"),
         ("GetResInfo f", "0 2 $44415441 $"),
     ];
-    let _left = leaves(&rt, alloc, document, &rows)?;
+    let alloc = rt.alloc();
+    let hi = fork_of(alloc, HI)?;
+    let document = beside(alloc, &[(b"Doc", hi.as_slice())])?;
+    let _left = leaves(&rt, alloc, document, ROWS)?;
     Ok(())
 }
 
 #[test]
 fn an_empty_text_leaves_the_name(rt: HostRuntime) -> Result<(), Fail> {
-    let alloc = rt.alloc();
-    let note = fork_of(alloc, NOTE)?;
-    let document = beside(alloc, &[(b"Doc", note.as_slice())])?;
-    let rows = [
+    const ROWS: &[(&str, &str)] = &[
         ("OpenResFile \"Doc\"", "0 3"),
         ("GetResource h 'TEXT' 129", "0 1"),
         ("SetResInfo h 7 \"\"", "0"),
@@ -226,17 +224,17 @@ fn an_empty_text_leaves_the_name(rt: HostRuntime) -> Result<(), Fail> {
         // The file isn't touched by that.
         ("UpdateResFile 3", "0"),
     ];
-    let left = leaves(&rt, alloc, document, &rows)?;
+    let alloc = rt.alloc();
+    let note = fork_of(alloc, NOTE)?;
+    let document = beside(alloc, &[(b"Doc", note.as_slice())])?;
+    let left = leaves(&rt, alloc, document, ROWS)?;
     assert_eq!(rt; fork_at(&left, 1), note.as_slice());
     Ok(())
 }
 
 #[test]
 fn a_resource_of_another_file_is_not_removed(rt: HostRuntime) -> Result<(), Fail> {
-    let alloc = rt.alloc();
-    let hi = fork_of(alloc, HI)?;
-    let document = beside(alloc, &[(b"Doc", hi.as_slice())])?;
-    let rows = [
+    const ROWS: &[(&str, &str)] = &[
         ("OpenResFile \"Doc\"", "0 3"),
         ("GetResource h 'TEXT' 128", "0 1"),
         ("UseResFile 2", "0"),
@@ -253,14 +251,16 @@ fn a_resource_of_another_file_is_not_removed(rt: HostRuntime) -> Result<(), Fail
         ("NewPtr p 4", "0"),
         ("RemoveResource p", "-192"),
     ];
-    let _left = leaves(&rt, alloc, document, &rows)?;
+    let alloc = rt.alloc();
+    let hi = fork_of(alloc, HI)?;
+    let document = beside(alloc, &[(b"Doc", hi.as_slice())])?;
+    let _left = leaves(&rt, alloc, document, ROWS)?;
     Ok(())
 }
 
 #[test]
 fn what_is_no_handle_with_a_block_is_not_added(rt: HostRuntime) -> Result<(), Fail> {
-    let alloc = rt.alloc();
-    let rows = [
+    const ROWS: &[(&str, &str)] = &[
         ("AddResource h 'TEXT' 1 \"\"", "-192"),
         ("NewHandle h 4", "0"),
         ("EmptyHandle h", "0"),
@@ -283,22 +283,23 @@ fn what_is_no_handle_with_a_block_is_not_added(rt: HostRuntime) -> Result<(), Fa
         ("Show k", "0 $"),
         ("UpdateResFile 9", "-193"),
     ];
-    let _left = leaves(&rt, alloc, beside(alloc, &[])?, &rows)?;
+    let alloc = rt.alloc();
+    let _left = leaves(&rt, alloc, beside(alloc, &[])?, ROWS)?;
     Ok(())
 }
 
 #[test]
 fn a_file_of_no_bytes_gets_a_fork(rt: HostRuntime) -> Result<(), Fail> {
-    let alloc = rt.alloc();
-    let empty = beside(alloc, &[(b"E", b"")])?;
-    let rows = [
+    const ROWS: &[(&str, &str)] = &[
         ("OpenResFile \"E\"", "-39"),
         ("CreateResFile \"E\"", "0"),
         ("OpenResFile \"E\"", "0 3"),
         ("Count1Types", "0 0"),
     ];
-    let left = leaves(&rt, alloc, empty, &rows)?;
-    assert_eq!(rt; fork_at(&left, 1), fork_of(alloc, NONE)?.as_slice());
+    let alloc = rt.alloc();
+    let empty = beside(alloc, &[(b"E", b"")])?;
+    let left = leaves(&rt, alloc, empty, ROWS)?;
+    has_fork(&rt, alloc, &left, 1, NONE)?;
     assert_eq!(rt; left.len(), 2);
     Ok(())
 }
@@ -317,14 +318,14 @@ fn with_256_files(alloc: Global) -> Result<Resources, Fail> {
 
 #[test]
 fn there_are_256_files_at_most(rt: HostRuntime) -> Result<(), Fail> {
-    let alloc = rt.alloc();
-    let rows = [
+    const ROWS: &[(&str, &str)] = &[
         ("CreateResFile \"New\"", "-34"),
         ("CreateResFile \"E\"", "0"),
         ("CreateResFile \"E\"", "-48"),
         ("CreateResFile \"New\"", "-34"),
     ];
-    let left = leaves(&rt, alloc, with_256_files(alloc)?, &rows)?;
+    let alloc = rt.alloc();
+    let left = leaves(&rt, alloc, with_256_files(alloc)?, ROWS)?;
     assert_eq!(rt; left.len(), 256);
     Ok(())
 }

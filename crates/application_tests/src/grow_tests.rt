@@ -36,7 +36,7 @@ pub fn leaves(
 
 #[test]
 fn call_is_tried_again_where_room_was_made(rt: HostRuntime) -> Result<(), Fail> {
-    let script = [
+    const SCRIPT: &[&str] = &[
         "grow g",
         "DisposeHandle r",
         "end",
@@ -47,7 +47,7 @@ fn call_is_tried_again_where_room_was_made(rt: HostRuntime) -> Result<(), Fail> 
         "Where b",
         "NewHandle c 500",
     ];
-    let transcript = [
+    const TRANSCRIPT: &[&str] = &[
         "launch 0 1024",
         "4 SetGrowZone 0",
         "5 NewHandle 0",
@@ -59,7 +59,7 @@ fn call_is_tried_again_where_room_was_made(rt: HostRuntime) -> Result<(), Fail> 
         "9 NewHandle -108",
         "end 0",
     ];
-    leaves(&rt, rt.alloc(), 1024, &script, &transcript)
+    leaves(&rt, rt.alloc(), 1024, SCRIPT, TRANSCRIPT)
 }
 
 #[test]
@@ -69,7 +69,7 @@ fn no_bytes_are_a_script_without_steps(rt: HostRuntime) -> Result<(), Fail> {
 
 #[test]
 fn handle_that_grows_is_not_emptied(rt: HostRuntime) -> Result<(), Fail> {
-    let script = [
+    const SCRIPT: &[&str] = &[
         "grow g",
         "EmptyHandle a",
         "end",
@@ -79,7 +79,7 @@ fn handle_that_grows_is_not_emptied(rt: HostRuntime) -> Result<(), Fail> {
         "SetHandleSize a 700",
         "GetHandleSize a",
     ];
-    let transcript = [
+    const TRANSCRIPT: &[&str] = &[
         "launch 0 1024",
         "4 SetGrowZone 0",
         "5 NewHandle 0",
@@ -89,12 +89,12 @@ fn handle_that_grows_is_not_emptied(rt: HostRuntime) -> Result<(), Fail> {
         "8 GetHandleSize 0 300",
         "end 0",
     ];
-    leaves(&rt, rt.alloc(), 1024, &script, &transcript)
+    leaves(&rt, rt.alloc(), 1024, SCRIPT, TRANSCRIPT)
 }
 
 #[test]
 fn handle_that_grows_is_not_disposed_of_until_its_call_ends(rt: HostRuntime) -> Result<(), Fail> {
-    let script = [
+    const SCRIPT: &[&str] = &[
         "grow g",
         "DisposeHandle a",
         "end",
@@ -105,7 +105,7 @@ fn handle_that_grows_is_not_disposed_of_until_its_call_ends(rt: HostRuntime) -> 
         "GetHandleSize a",
         "DisposeHandle a",
     ];
-    let transcript = [
+    const TRANSCRIPT: &[&str] = &[
         "launch 0 1024",
         "4 SetGrowZone 0",
         "5 NewHandle 0",
@@ -116,12 +116,12 @@ fn handle_that_grows_is_not_disposed_of_until_its_call_ends(rt: HostRuntime) -> 
         "9 DisposeHandle 0",
         "end 0",
     ];
-    leaves(&rt, rt.alloc(), 1024, &script, &transcript)
+    leaves(&rt, rt.alloc(), 1024, SCRIPT, TRANSCRIPT)
 }
 
 #[test]
 fn both_handles_of_a_call_are_busy(rt: HostRuntime) -> Result<(), Fail> {
-    let script = [
+    const SCRIPT: &[&str] = &[
         "grow g",
         "DisposeHandle a",
         "DisposeHandle b",
@@ -134,7 +134,7 @@ fn both_handles_of_a_call_are_busy(rt: HostRuntime) -> Result<(), Fail> {
         "DisposeHandle a",
         "DisposeHandle b",
     ];
-    let transcript = [
+    const TRANSCRIPT: &[&str] = &[
         "launch 0 1024",
         "5 SetGrowZone 0",
         "6 NewHandle 0",
@@ -147,12 +147,12 @@ fn both_handles_of_a_call_are_busy(rt: HostRuntime) -> Result<(), Fail> {
         "11 DisposeHandle 0",
         "end 0",
     ];
-    leaves(&rt, rt.alloc(), 1024, &script, &transcript)
+    leaves(&rt, rt.alloc(), 1024, SCRIPT, TRANSCRIPT)
 }
 
 #[test]
 fn handle_that_is_copied_is_busy_and_the_bound_name_is_not(rt: HostRuntime) -> Result<(), Fail> {
-    let script = [
+    const SCRIPT: &[&str] = &[
         "grow g",
         "DisposeHandle a",
         "DisposeHandle b",
@@ -164,7 +164,7 @@ fn handle_that_is_copied_is_busy_and_the_bound_name_is_not(rt: HostRuntime) -> R
         "GetHandleSize b",
         "GetHandleSize a",
     ];
-    let transcript = [
+    const TRANSCRIPT: &[&str] = &[
         "launch 0 1024",
         "5 SetGrowZone 0",
         "6 NewHandle 0",
@@ -176,12 +176,12 @@ fn handle_that_is_copied_is_busy_and_the_bound_name_is_not(rt: HostRuntime) -> R
         "10 GetHandleSize 0 300",
         "end 0",
     ];
-    leaves(&rt, rt.alloc(), 1024, &script, &transcript)
+    leaves(&rt, rt.alloc(), 1024, SCRIPT, TRANSCRIPT)
 }
 
 #[test]
 fn pointer_that_grows_is_busy(rt: HostRuntime) -> Result<(), Fail> {
-    let script = [
+    const SCRIPT: &[&str] = &[
         "grow g",
         "DisposePtr p",
         "end",
@@ -191,7 +191,7 @@ fn pointer_that_grows_is_busy(rt: HostRuntime) -> Result<(), Fail> {
         "GetPtrSize p",
         "DisposePtr p",
     ];
-    let transcript = [
+    const TRANSCRIPT: &[&str] = &[
         "launch 0 1024",
         "4 SetGrowZone 0",
         "5 NewPtr 0",
@@ -201,12 +201,12 @@ fn pointer_that_grows_is_busy(rt: HostRuntime) -> Result<(), Fail> {
         "8 DisposePtr 0",
         "end 0",
     ];
-    leaves(&rt, rt.alloc(), 1024, &script, &transcript)
+    leaves(&rt, rt.alloc(), 1024, SCRIPT, TRANSCRIPT)
 }
 
 #[test]
 fn script_that_frees_nothing_is_run_once(rt: HostRuntime) -> Result<(), Fail> {
-    let script = [
+    const SCRIPT: &[&str] = &[
         "grow g",
         "HNoPurge a",
         "DisposeHandle nobody",
@@ -217,7 +217,7 @@ fn script_that_frees_nothing_is_run_once(rt: HostRuntime) -> Result<(), Fail> {
         "MemError",
         "GetHandleSize b",
     ];
-    let transcript = [
+    const TRANSCRIPT: &[&str] = &[
         "launch 0 1024",
         "5 SetGrowZone 0",
         "6 NewHandle 0",
@@ -228,12 +228,12 @@ fn script_that_frees_nothing_is_run_once(rt: HostRuntime) -> Result<(), Fail> {
         "9 GetHandleSize -109",
         "end 0",
     ];
-    leaves(&rt, rt.alloc(), 1024, &script, &transcript)
+    leaves(&rt, rt.alloc(), 1024, SCRIPT, TRANSCRIPT)
 }
 
 #[test]
 fn mem_error_tells_the_code_of_the_step(rt: HostRuntime) -> Result<(), Fail> {
-    let script = [
+    const SCRIPT: &[&str] = &[
         "grow g",
         "DisposeHandle r",
         "HNoPurge a",
@@ -247,7 +247,7 @@ fn mem_error_tells_the_code_of_the_step(rt: HostRuntime) -> Result<(), Fail> {
         "NewHandle c 300",
         "MemError",
     ];
-    let transcript = [
+    const TRANSCRIPT: &[&str] = &[
         "launch 0 1024",
         "5 SetGrowZone 0",
         "6 NewHandle 0",
@@ -263,12 +263,12 @@ fn mem_error_tells_the_code_of_the_step(rt: HostRuntime) -> Result<(), Fail> {
         "12 MemError 0 -108",
         "end 0",
     ];
-    leaves(&rt, rt.alloc(), 1024, &script, &transcript)
+    leaves(&rt, rt.alloc(), 1024, SCRIPT, TRANSCRIPT)
 }
 
 #[test]
 fn call_is_tried_until_the_script_has_made_enough_room(rt: HostRuntime) -> Result<(), Fail> {
-    let script = [
+    const SCRIPT: &[&str] = &[
         "grow g",
         "EmptyHandle second",
         "HUnlock second",
@@ -284,7 +284,7 @@ fn call_is_tried_until_the_script_has_made_enough_room(rt: HostRuntime) -> Resul
         "Where c",
         "FreeMem",
     ];
-    let transcript = [
+    const TRANSCRIPT: &[&str] = &[
         "launch 0 1024",
         "6 SetGrowZone 0",
         "7 NewHandle 0",
@@ -303,12 +303,12 @@ fn call_is_tried_until_the_script_has_made_enough_room(rt: HostRuntime) -> Resul
         "14 FreeMem 0 0",
         "end 0",
     ];
-    leaves(&rt, rt.alloc(), 1024, &script, &transcript)
+    leaves(&rt, rt.alloc(), 1024, SCRIPT, TRANSCRIPT)
 }
 
 #[test]
 fn call_is_tried_no_more_once_nothing_rises(rt: HostRuntime) -> Result<(), Fail> {
-    let script = [
+    const SCRIPT: &[&str] = &[
         "grow g",
         "EmptyHandle second",
         "HUnlock second",
@@ -323,7 +323,7 @@ fn call_is_tried_no_more_once_nothing_rises(rt: HostRuntime) -> Result<(), Fail>
         "FreeMem",
         "NewHandle c 80",
     ];
-    let transcript = [
+    const TRANSCRIPT: &[&str] = &[
         "launch 0 1024",
         "6 SetGrowZone 0",
         "7 NewHandle 0",
@@ -344,12 +344,12 @@ fn call_is_tried_no_more_once_nothing_rises(rt: HostRuntime) -> Result<(), Fail>
         "13 NewHandle 0",
         "end 0",
     ];
-    leaves(&rt, rt.alloc(), 1024, &script, &transcript)
+    leaves(&rt, rt.alloc(), 1024, SCRIPT, TRANSCRIPT)
 }
 
 #[test]
 fn bytes_that_may_be_emptied_are_room(rt: HostRuntime) -> Result<(), Fail> {
-    let script = [
+    const SCRIPT: &[&str] = &[
         "grow g",
         "HPurge a",
         "end",
@@ -359,7 +359,7 @@ fn bytes_that_may_be_emptied_are_room(rt: HostRuntime) -> Result<(), Fail> {
         "GetHandleSize a",
         "Where b",
     ];
-    let transcript = [
+    const TRANSCRIPT: &[&str] = &[
         "launch 0 1024",
         "4 SetGrowZone 0",
         "5 NewHandle 0",
@@ -369,12 +369,12 @@ fn bytes_that_may_be_emptied_are_room(rt: HostRuntime) -> Result<(), Fail> {
         "8 Where 0 288",
         "end 0",
     ];
-    leaves(&rt, rt.alloc(), 1024, &script, &transcript)
+    leaves(&rt, rt.alloc(), 1024, SCRIPT, TRANSCRIPT)
 }
 
 #[test]
 fn block_that_may_move_again_is_no_room(rt: HostRuntime) -> Result<(), Fail> {
-    let script = [
+    const SCRIPT: &[&str] = &[
         "grow g",
         "HUnlock b",
         "end",
@@ -388,7 +388,7 @@ fn block_that_may_move_again_is_no_room(rt: HostRuntime) -> Result<(), Fail> {
         "NewHandle d 400",
         "Where d",
     ];
-    let transcript = [
+    const TRANSCRIPT: &[&str] = &[
         "launch 0 1024",
         "4 SetGrowZone 0",
         "5 NewHandle 0",
@@ -402,12 +402,12 @@ fn block_that_may_move_again_is_no_room(rt: HostRuntime) -> Result<(), Fail> {
         "12 Where 0 544",
         "end 0",
     ];
-    leaves(&rt, rt.alloc(), 1024, &script, &transcript)
+    leaves(&rt, rt.alloc(), 1024, SCRIPT, TRANSCRIPT)
 }
 
 #[test]
 fn script_without_lines_leaves_the_answer(rt: HostRuntime) -> Result<(), Fail> {
-    let script = [
+    const SCRIPT: &[&str] = &[
         "grow g",
         "end",
         "SetGrowZone g",
@@ -415,7 +415,7 @@ fn script_without_lines_leaves_the_answer(rt: HostRuntime) -> Result<(), Fail> {
         "MemError",
         "NewHandle a 736",
     ];
-    let transcript = [
+    const TRANSCRIPT: &[&str] = &[
         "launch 0 1024",
         "3 SetGrowZone 0",
         "4 NewHandle -108",
@@ -423,12 +423,12 @@ fn script_without_lines_leaves_the_answer(rt: HostRuntime) -> Result<(), Fail> {
         "6 NewHandle 0",
         "end 0",
     ];
-    leaves(&rt, rt.alloc(), 1024, &script, &transcript)
+    leaves(&rt, rt.alloc(), 1024, SCRIPT, TRANSCRIPT)
 }
 
 #[test]
 fn the_last_script_that_was_set_is_run(rt: HostRuntime) -> Result<(), Fail> {
-    let script = [
+    const SCRIPT: &[&str] = &[
         "grow g",
         "DisposeHandle r",
         "end",
@@ -444,7 +444,7 @@ fn the_last_script_that_was_set_is_run(rt: HostRuntime) -> Result<(), Fail> {
         "NewHandle a 300",
         "GetHandleSize r",
     ];
-    let transcript = [
+    const TRANSCRIPT: &[&str] = &[
         "launch 0 1024",
         "7 SetGrowZone 0",
         "8 NewHandle 0",
@@ -457,12 +457,12 @@ fn the_last_script_that_was_set_is_run(rt: HostRuntime) -> Result<(), Fail> {
         "14 GetHandleSize 0 300",
         "end 0",
     ];
-    leaves(&rt, rt.alloc(), 1024, &script, &transcript)
+    leaves(&rt, rt.alloc(), 1024, SCRIPT, TRANSCRIPT)
 }
 
 #[test]
 fn script_may_stand_behind_its_use(rt: HostRuntime) -> Result<(), Fail> {
-    let script = [
+    const SCRIPT: &[&str] = &[
         "SetGrowZone g",
         "NewHandle r 400",
         "NewHandle a 400",
@@ -471,7 +471,7 @@ fn script_may_stand_behind_its_use(rt: HostRuntime) -> Result<(), Fail> {
         "end",
         "Where a",
     ];
-    let transcript = [
+    const TRANSCRIPT: &[&str] = &[
         "launch 0 1024",
         "1 SetGrowZone 0",
         "2 NewHandle 0",
@@ -480,14 +480,14 @@ fn script_may_stand_behind_its_use(rt: HostRuntime) -> Result<(), Fail> {
         "7 Where 0 288",
         "end 0",
     ];
-    leaves(&rt, rt.alloc(), 1024, &script, &transcript)
+    leaves(&rt, rt.alloc(), 1024, SCRIPT, TRANSCRIPT)
 }
 
 #[test]
 fn refused_call_leaves_its_name_to_what_the_script_disposed_of(
     rt: HostRuntime,
 ) -> Result<(), Fail> {
-    let script = [
+    const SCRIPT: &[&str] = &[
         "grow g",
         "DisposeHandle r",
         "end",
@@ -499,7 +499,7 @@ fn refused_call_leaves_its_name_to_what_the_script_disposed_of(
         "NewHandle a 100",
         "GetHandleSize r",
     ];
-    let transcript = [
+    const TRANSCRIPT: &[&str] = &[
         "launch 0 1024",
         "4 SetGrowZone 0",
         "5 NewHandle 0",
@@ -513,31 +513,31 @@ fn refused_call_leaves_its_name_to_what_the_script_disposed_of(
         "10 GetHandleSize -111",
         "end 0",
     ];
-    leaves(&rt, rt.alloc(), 1024, &script, &transcript)
+    leaves(&rt, rt.alloc(), 1024, SCRIPT, TRANSCRIPT)
 }
 
 #[test]
 fn exit_to_shell_is_the_last_step(rt: HostRuntime) -> Result<(), Fail> {
-    let script = [
+    const SCRIPT: &[&str] = &[
         "NewHandle a 16",
         "ExitToShell",
         "NewHandle b 16",
         "NewHandle c 4000",
     ];
-    let transcript = ["launch 0 1024", "1 NewHandle 0", "2 ExitToShell 0", "end 0"];
-    leaves(&rt, rt.alloc(), 1024, &script, &transcript)
+    const TRANSCRIPT: &[&str] = &["launch 0 1024", "1 NewHandle 0", "2 ExitToShell 0", "end 0"];
+    leaves(&rt, rt.alloc(), 1024, SCRIPT, TRANSCRIPT)
 }
 
 #[test]
 fn waiting_for_an_event_is_a_step(rt: HostRuntime) -> Result<(), Fail> {
-    let script = [
+    const SCRIPT: &[&str] = &[
         "WaitNextEvent",
         "NewHandle a 737",
         "WaitNextEvent",
         "MemError",
         "FreeMem",
     ];
-    let transcript = [
+    const TRANSCRIPT: &[&str] = &[
         "launch 0 1024",
         "1 WaitNextEvent 0",
         "2 NewHandle -108",
@@ -546,5 +546,5 @@ fn waiting_for_an_event_is_a_step(rt: HostRuntime) -> Result<(), Fail> {
         "5 FreeMem 0 752",
         "end 0",
     ];
-    leaves(&rt, rt.alloc(), 1024, &script, &transcript)
+    leaves(&rt, rt.alloc(), 1024, SCRIPT, TRANSCRIPT)
 }
