@@ -16,9 +16,9 @@ use std::alloc::AllocError;
 use std::marker::Model;
 use zone_bytes::{
     Landmarks, PackedRun, SlotBlock, add_masters, block_of_slot, carve, carve_fixed, content_at,
-    flag_at, free_block, free_slot, hoist_block, kept_flags, make_fresh, mark_slot, move_bytes,
-    padded_size, purge_above, purge_from, put_bytes, raise_run, read_header, read_word,
-    resize_block, settle_run, size_at, slot_place, slot_resource, walk_above, walk_from,
+    flag_at, free_block, free_slot, has_room_behind, hoist_block, kept_flags, make_fresh,
+    mark_slot, move_bytes, padded_size, purge_above, purge_from, put_bytes, raise_run, read_header,
+    read_word, resize_block, settle_run, size_at, slot_place, slot_resource, walk_above, walk_from,
 };
 
 /// A zone in the bytes of a part: each block begins with its header, and the slots lie in the blocks of master
@@ -245,13 +245,17 @@ impl BlockStore for RawZone {
     }
 
     fn room_above(&self, number: u32, bytes: u32, purges: u32, sparing: Sparing) -> bool {
-        room_above_in(
-            &mut walk_from(&self.part, 0),
-            number,
-            bytes,
-            purges,
-            sparing,
-        )
+        if is_as_it_stands(purges, sparing) {
+            has_room_behind(&self.part, &self.marks, number, bytes)
+        } else {
+            room_above_in(
+                &mut walk_from(&self.part, 0),
+                number,
+                bytes,
+                purges,
+                sparing,
+            )
+        }
     }
 
     fn run_of(&self, number: u32, bytes: u32, purges: u32, sparing: Sparing) -> Option<u32> {

@@ -5,3 +5,4 @@ pub mod Rooms
 pub mod Keeping
 pub mod Owed
 pub mod Tops
+pub mod Sought
