@@ -7,4 +7,4 @@ abbrev pub held : Inside → Held
 held z = record { part = z.part; first = z.first; unused = z.unused; free = z.free; moves = z.moves; lawful = z.lawful }
 
 abbrev pub IsRawZone : Inside → Type 0
-IsRawZone z = IsMarked z.part.bytes z.first z.unused z.free z.marks
+IsRawZone z = IsMarked z.part.bytes z.first z.unused z.free z.most_purgeable z.marks

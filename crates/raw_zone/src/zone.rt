@@ -15,15 +15,16 @@ use raw_region::Part;
 use std::alloc::AllocError;
 use std::marker::Model;
 use zone_bytes::{
-    Landmarks, PackedRun, SlotBlock, add_masters, block_of_slot, carve, carve_fixed, content_at,
-    flag_at, free_block, free_slot, has_room_behind, hoist_block, kept_flags, make_fresh,
-    mark_slot, move_bytes, padded_size, purge_above, purge_from, put_bytes, raise_run, read_header,
-    read_word, resize_block, settle_run, size_at, slot_place, slot_resource, walk_above, walk_from,
+    Landmarks, PackedRun, SlotBlock, add_masters, block_of_slot, carve, carve_fixed, changed_bound,
+    content_at, falls_short, flag_at, free_block, free_slot, given_at, given_with, has_room_behind,
+    hoist_block, kept_flags, make_fresh, mark_slot, move_bytes, padded_size, purge_above,
+    purge_from, purgeable_at, purgeable_left, put_bytes, raise_run, read_header, read_word,
+    resize_block, settle_run, size_at, slot_place, slot_resource, walk_above, walk_from,
 };
 
 /// A zone in the bytes of a part: each block begins with its header, and the slots lie in the blocks of master
 /// pointers. The slots of no handle are one list, threaded through their words; beside the part stand its first
-/// one, how many there are, and the count of Free bytes.
+/// one, how many there are, the count of Free bytes, and a bound on the bytes that may be emptied.
 ///
 /// *Inside Macintosh: Memory*, chapter 2, "Organization of Memory".
 pub struct RawZone {
@@ -31,6 +32,7 @@ pub struct RawZone {
     first: u32,
     unused: u32,
     free: u32,
+    most_purgeable: u32,
     moves: u64,
     marks: Landmarks,
     ghost lawful: { ∥ IsLawful part.bytes ∥₁ },
@@ -64,6 +66,7 @@ impl RawZone {
     ghost use Rattle.block_store.specs.Block.{fresh, sizes, tidy, Relocatable, content_of, is_fixed, is_relocatable};
     ghost use Rattle.block_store.specs.Slot.{is_used};
     ghost use Rattle.zone_bytes.specs.Laid.{LaysOut};
+    ghost use Rattle.zone_bytes.specs.Purgeable.{purgeable_at};
     ghost use Rattle.block_store.specs.declared.measures.TheConstants.{GREATEST_ZONE, LEAST_ZONE, SLOTS_A_BLOCK};
     ghost use Rattle.block_store.specs.declared.measures.TheConstants.{UNIT};
     ghost use Rattle.block_store.specs.Run.{movers, settle, run_at, with_run, has};
@@ -97,6 +100,7 @@ impl RawZone {
             first: HEADER_SIZE,
             unused: SLOTS_A_BLOCK as u32,
             free: end - MASTERS_SIZE,
+            most_purgeable: 0,
             moves: 0,
             marks,
         }
@@ -124,6 +128,7 @@ impl RawZone {
             first: _first,
             unused: _unused,
             free: _free,
+            most_purgeable: _most_purgeable,
             moves: _moves,
             marks: _marks,
         } = self;
@@ -149,7 +154,9 @@ impl RawZone {
         ensures zone { zone_of self.new ≡ purged purges sparing (zone_of self.old) }
         ensures rest { IsRest (rest_of self.old) (rest_of self.new) }
     {
-        self.free += purge_from(&mut self.part, 0, 0, purges, sparing);
+        let freed = purge_from(&mut self.part, 0, 0, purges, sparing);
+        self.free += freed;
+        self.most_purgeable = purgeable_left(&self.part, self.most_purgeable, freed, sparing);
         self.marks.renew_all(&self.part);
     }
 
@@ -163,6 +170,17 @@ impl RawZone {
         block_of_slot(&self.part, number)
     }
 
+    /// The bytes that a handle's block would give if it were emptied.
+    fn purgeable_of(&self, number: u32) -> u32
+        requires { IsTrue (is_used ((rest_of self.now).slots number)) }
+        ensures { result ≡ purgeable_at (spot (is_relocatable number) (zone_of self.now)) }
+    {
+        match self.place_of(number) {
+            Some(place) => purgeable_at(&self.part, place),
+            None => 0,
+        }
+    }
+
     /// Makes the Fixed block at a place the block of an emptied handle's slot.
     fn adopt(&mut self, place: u32, number: u32, flags: Flags)
         requires block { IsSomeAnd (spot_at place (zone_of self.old)) (λ s. is_fixed place s.here ≡ true) }
@@ -172,7 +190,9 @@ impl RawZone {
             zone_of self.new ≡ s.below ++ Relocatable number flags (content_of s.here) ∷ s.above) }
         ensures rest { IsRest (rest_of self.old) (rest_of self.new) }
     {
+        let given = given_with(flags, size_at(&self.part, place));
         zone_bytes::adopt(&mut self.part, place, number, flags);
+        self.most_purgeable = changed_bound(self.most_purgeable, 0, given);
     }
 }
 
@@ -218,6 +238,9 @@ impl BlockStore for RawZone {
     }
 
     fn find_free(&self, bytes: u32, purges: u32, sparing: Sparing) -> Option<u32> {
+        if falls_short(self.free, self.most_purgeable, bytes, purges, sparing) {
+            return None;
+        }
         if is_as_it_stands(purges, sparing) {
             self.marks.find(&self.part, bytes)
         } else {
@@ -226,6 +249,9 @@ impl BlockStore for RawZone {
     }
 
     fn find_run(&self, bytes: u32, purges: u32, sparing: Sparing) -> Option<u32> {
+        if falls_short(self.free, self.most_purgeable, bytes, purges, sparing) {
+            return None;
+        }
         find_run_in(&mut walk_from(&self.part, 0), bytes, purges, sparing)
     }
 
@@ -237,10 +263,16 @@ impl BlockStore for RawZone {
     }
 
     fn next_purgeable(&self, purges: u32, sparing: Sparing) -> Option<u32> {
+        if self.most_purgeable == 0 {
+            return None;
+        }
         next_purgeable_in(&mut walk_from(&self.part, 0), purges, sparing)
     }
 
     fn purgeable(&self, sparing: Sparing) -> u32 {
+        if self.most_purgeable == 0 {
+            return 0;
+        }
         purgeable_in(&mut walk_from(&self.part, 0), sparing)
     }
 
@@ -259,6 +291,9 @@ impl BlockStore for RawZone {
     }
 
     fn run_of(&self, number: u32, bytes: u32, purges: u32, sparing: Sparing) -> Option<u32> {
+        if falls_short(self.free, self.most_purgeable, bytes, purges, sparing) {
+            return None;
+        }
         run_of_in(
             &mut walk_from(&self.part, 0),
             number,
@@ -291,7 +326,9 @@ impl BlockStore for RawZone {
     }
 
     fn purge_after(&mut self, place: u32, purges: u32, sparing: Sparing) {
-        self.free += purge_above(&mut self.part, place, purges, sparing);
+        let freed = purge_above(&mut self.part, place, purges, sparing);
+        self.free += freed;
+        self.most_purgeable = changed_bound(self.most_purgeable, freed, 0);
         self.marks.renew_all(&self.part);
     }
 
@@ -348,14 +385,19 @@ impl BlockStore for RawZone {
     }
 
     fn release(&mut self, number: u32) {
+        let given = self.purgeable_of(number);
         let freed = free_slot(&mut self.part, &self.marks, number);
         self.free += freed.bytes;
+        self.most_purgeable = changed_bound(self.most_purgeable, given, 0);
         self.marks.note(&self.part, freed.from, freed.to);
     }
 
     fn resize(&mut self, place: u32, bytes: u32) -> Result<(), AllocError> {
+        let given = purgeable_at(&self.part, place);
+        let gives = given_at(given, bytes);
         let resized = resize_block(&mut self.part, place, bytes, self.free);
         self.free = resized.free;
+        self.most_purgeable = changed_bound(self.most_purgeable, given, gives);
         self.marks.note(&self.part, place, resized.top);
         Ok(())
     }
@@ -370,7 +412,10 @@ impl BlockStore for RawZone {
     }
 
     fn set_flags(&mut self, place: u32, flags: Flags) {
+        let given = purgeable_at(&self.part, place);
+        let gives = given_with(flags, size_at(&self.part, place));
         flag_at(&mut self.part, place, flags);
+        self.most_purgeable = changed_bound(self.most_purgeable, given, gives);
     }
 
     fn take_slot(&mut self) -> Option<u32> {

@@ -9,3 +9,4 @@ pub mod Regions
 pub mod Placed
 pub mod Joined
 pub mod Marks
+pub mod Bounds

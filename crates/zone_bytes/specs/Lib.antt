@@ -21,5 +21,6 @@ pub mod Marked
 pub mod Marks
 pub mod Mastering
 pub mod Joining
+pub mod Purgeable
 pub mod Purging
 pub mod Adopting

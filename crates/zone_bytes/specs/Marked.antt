@@ -1,17 +1,20 @@
 -- Landmarks of the zone that bytes spell.
-use Rattle.std.specs.Prelude.{◌≡◌, ℕ, List}
+use Rattle.std.specs.Prelude.{◌≡◌, ◌≤◌, ℕ, List}
 use Rattle.block_store.specs.Block.{Block, free_sum}
 use Rattle.zone_bytes.specs.Decode.{zone_in}
 use Rattle.zone_bytes.specs.Lawful.{IsSound}
 use Rattle.zone_bytes.specs.Marks.{AreMarks, AreTops}
+use Rattle.zone_bytes.specs.Purgeable.{purgeable_sum}
 use Rattle.zone_bytes.specs.declared.keeping.Landmarks.{Landmarks}
 
 -- the landmarks are those of the zone, and the tops those of their groups
 abbrev pub AreOf : Landmarks → List Block → Type 0
 AreOf landmarks zone = AreMarks 4294967295 zone landmarks.marks × AreTops landmarks.tops landmarks.marks
 
--- the bytes lay the zone that they spell, so many of them are Free, and the landmarks are those of that zone
-pub record IsMarked (xs : List ℕ) (first unused free : ℕ) (landmarks : Landmarks) : Type 0 where
+-- the bytes lay the zone that they spell, so many of them are Free, no more may be emptied than so many, and the
+-- landmarks are those of that zone
+pub record IsMarked (xs : List ℕ) (first unused free purgeable : ℕ) (landmarks : Landmarks) : Type 0 where
   pub sound : IsSound xs first unused
   pub free_is : free ≡ free_sum (zone_in xs)
+  pub bound : purgeable_sum (zone_in xs) ≤ purgeable
   pub marked : AreOf landmarks (zone_in xs)

@@ -20,6 +20,7 @@ mod mastering;
 mod measuring;
 mod placing;
 mod pointing;
+mod purgeable;
 mod purging;
 mod raising;
 mod raw_walk;
@@ -47,6 +48,10 @@ pub use mastering::add_masters;
 pub use measuring::{Measured, largest_between, measure_up_to, room_between};
 pub use placing::{carve_fixed, lay_block, move_bytes, size_at};
 pub use pointing::lead_run;
+pub use purgeable::{
+    changed_bound, falls_short, given_at, given_with, purgeable_at, purgeable_bytes_in,
+    purgeable_left,
+};
 pub use purging::{purge_above, purge_from};
 pub use raising::raise_run;
 pub use raw_walk::{RawWalk, walk_from};

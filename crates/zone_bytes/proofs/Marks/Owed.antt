@@ -1,22 +1,24 @@
 -- What each change of a zone owes of its landmarks.
-use Rattle.std.proofs.Common.{◌≡◌, ℕ, ◌+◌, ◌-◌, ◌≤◌, false, List, ◌∷◌, ◌++◌, length, refl, sym, ap, ◌∙◌, subst, arith}
+use Rattle.std.proofs.Common.{◌≡◌, ℕ, ◌+◌, ◌-◌, ◌≤◌, false, cond, List, ◌∷◌, ◌++◌, length, refl, sym, ap, ◌∙◌, subst}
+use Rattle.std.proofs.Common.{arith}
 use Rattle.mac_words.specs.Size.{padded}
 use Rattle.windows.specs.Writes.{written}
 use Rattle.windows.proofs.Pieces.{length-written}
 use Rattle.block_store.specs.declared.flags.Flags.{Flags}
 use Rattle.block_store.specs.Block.{Block, Free, Fixed, Masters, Relocatable, size, sizes, free, free_of}
-use Rattle.block_store.specs.Block.{content_of, with_content}
+use Rattle.block_store.specs.Block.{content_of, is_purgeable, with_content}
 use Rattle.block_store.specs.Inner.Stretch.{is_free}
 use Rattle.block_store.specs.Room.{filled}
 use Rattle.block_store.specs.Seen.{with_flags}
 use Rattle.block_store.proofs.Content.Sized.{cut-sized}
+use Rattle.block_store.proofs.Zone.Totals.{total-append}
 use Rattle.zone_bytes.specs.Decode.{zone_in}
 use Rattle.zone_bytes.specs.Lawful.{IsKept}
 use Rattle.zone_bytes.specs.Table.{slot_in}
 use Rattle.zone_bytes.specs.Marked.{AreOf, IsMarked}
 use Rattle.zone_bytes.specs.Marks.{Replaced}
+use Rattle.zone_bytes.specs.Purgeable.{purgeable_of, purgeable_sum}
 use Rattle.zone_bytes.specs.declared.keeping.Landmarks.{Landmarks}
-use Rattle.zone_bytes.proofs.Laws.Lawful.{sizes-length}
 use Rattle.zone_bytes.proofs.Marks.Keeping.{marks-same, carved-replaced}
 use Rattle.zone_bytes.proofs.Placed.FixedCarved.{Roomy}
 
@@ -46,48 +48,56 @@ free-flags flags (Fixed id content) = refl
 free-flags flags Masters = refl
 free-flags flags (Relocatable id old content) = refl
 
-module _ (xs : List ℕ) (first unused free : ℕ) (l : Landmarks) where
-  pub with-marks : IsKept xs first unused free → AreOf l (zone_in xs) → IsMarked xs first unused free l
-  with-marks k a = record { sound = k.sound; free_is = k.free_is; marked = a }
+purgeable-content : (x : List ℕ) (b : Block) → length x ≡ length (content_of b)
+    → purgeable_of (with_content x b) ≡ purgeable_of b
+purgeable-content x (Free n) e = refl
+purgeable-content x (Fixed id content) e = refl
+purgeable-content x Masters e = refl
+purgeable-content x (Relocatable id flags content) e =
+    ap (λ n. cond {A = ℕ} (is_purgeable (Relocatable id flags content)) (padded n) 0) e
 
-  -- landmarks that say nothing are those of any zone
-  pub with-unknown : IsKept xs first unused free → ((zone : List Block) → sizes zone ≤ 134217728 → AreOf l zone)
-      → IsMarked xs first unused free l
-  with-unknown k f =
-      let s = sizes-length xs (zone_in xs) (slot_in xs) k.sound.unused k.sound.lays in
-      let m = k.sound.lays.small in
-      with-marks k (f (zone_in xs) (omega (arith, s, m)))
+module _ (xs : List ℕ) (first unused free most : ℕ) (l : Landmarks) where
+  pub with-marks : IsKept xs first unused free → AreOf l (zone_in xs) → purgeable_sum (zone_in xs) ≤ most
+      → IsMarked xs first unused free most l
+  with-marks k a m = record { sound = k.sound; free_is = k.free_is; bound = m; marked = a }
 
   -- the same zone
   pub with-same : (zone : List Block) → IsKept xs first unused free → zone_in xs ≡ zone → AreOf l zone
-      → IsMarked xs first unused free l
-  with-same zone k e a = with-marks k (subst (AreOf l) (sym e) a)
+      → purgeable_sum zone ≤ most → IsMarked xs first unused free most l
+  with-same zone k e a m = with-marks k (subst (AreOf l) (sym e) a) (subst (λ z. purgeable_sum z ≤ most) (sym e) m)
 
-  -- a block that takes as many bytes, of which as many are Free
+  -- a block that takes as many bytes, of which as many are Free, and perhaps others may be emptied
   pub with-block : (below above : List Block) (b c : Block) (zone : List Block) → IsKept xs first unused free
       → zone_in xs ≡ below ++ c ∷ above → zone ≡ below ++ b ∷ above → size c ≡ size b → free_of c ≡ free_of b
-      → AreOf l zone → IsMarked xs first unused free l
-  with-block below above b c zone k e was s f a = with-marks k
+      → AreOf l zone → purgeable_sum (below ++ c ∷ above) ≤ most → IsMarked xs first unused free most l
+  with-block below above b c zone k e was s f a m = with-marks k
       (subst (AreOf l) (sym e) (let o = subst (AreOf l) was a in
       (marks-same 4294967295 l.marks below above b c s f o.0, o.1)))
+      (subst (λ z. purgeable_sum z ≤ most) (sym e) m)
 
   -- bytes were written over some of a block's content
   pub with-written : (below above : List Block) (b : Block) (from : ℕ) (x : List ℕ) (zone : List Block)
       → IsKept xs first unused free
       → zone_in xs ≡ below ++ with_content (written from x (content_of b)) b ∷ above
       → zone ≡ below ++ b ∷ above → from + length x ≤ length (content_of b) → AreOf l zone
-      → IsMarked xs first unused free l
-  with-written below above b from x zone k e was w a =
+      → purgeable_sum zone ≤ most → IsMarked xs first unused free most l
+  with-written below above b from x zone k e was w a m =
       let now = written from x (content_of b) in
-      with-block below above b (with_content now b) zone k e was
-      (size-content now b (length-written from x (content_of b) w)) (free-content now b) a
+      let long = length-written from x (content_of b) w in
+      let p = purgeable-content now b long in
+      let o = ap purgeable_sum was in
+      let t = total-append purgeable_of below (b ∷ above) in
+      let u = total-append purgeable_of below (with_content now b ∷ above) in
+      with-block below above b (with_content now b) zone k e was (size-content now b long) (free-content now b) a
+      (omega (arith, p, o, t, u, m))
 
   -- a block has other flags
   pub with-flags : (below above : List Block) (b : Block) (flags : Flags) (zone : List Block)
       → IsKept xs first unused free → zone_in xs ≡ below ++ with_flags flags b ∷ above → zone ≡ below ++ b ∷ above
-      → AreOf l zone → IsMarked xs first unused free l
-  with-flags below above b flags zone k e was a =
-      with-block below above b (with_flags flags b) zone k e was (size-flags flags b) (free-flags flags b) a
+      → AreOf l zone → purgeable_sum (below ++ with_flags flags b ∷ above) ≤ most
+      → IsMarked xs first unused free most l
+  with-flags below above b flags zone k e was a m =
+      with-block below above b (with_flags flags b) zone k e was (size-flags flags b) (free-flags flags b) a m
 
 -- a block that isn't Free was put at the lower end of a Free one
 pub filled-replaced : (xs : List ℕ) (place need : ℕ) (r : Roomy xs place need) (new : Block) → is_free new ≡ false

@@ -20,6 +20,8 @@ use Rattle.zone_bytes.proofs.Places.Options.{the-if, if-spot, one-spot}
 use Rattle.zone_bytes.proofs.Placed.Standing.{Standing}
 use Rattle.zone_bytes.specs.Laying.{free_first, past_free}
 use Rattle.zone_bytes.specs.Marks.{Replaced}
+use Rattle.zone_bytes.specs.Purgeable.{purgeable_of, purgeable_sum}
+use Rattle.zone_bytes.proofs.Bounds.Given.{given-filled, given-grown, given-parts}
 use Rattle.zone_bytes.proofs.Tiles.Keeping.{span-free}
 use Rattle.zone_bytes.proofs.Placed.Sizes.{HasRoom, some-blocks, headed-above}
 
@@ -28,6 +30,7 @@ pub record Resized (xs now : List ℕ) (first unused n : ℕ) (s : Spot) : Type 
   pub blocks : List Block
   pub made : Made now first unused blocks (slot_in xs)
   pub masters : count is_masters blocks ≡ count is_masters (zone_in xs)
+  pub given : purgeable_sum blocks + purgeable_of s.here ≤ purgeable_sum (zone_in xs) + purgeable_of (resized n s.here)
   pub cut : size (resized n s.here) ≤ size s.here → blocks ≡ filled (resized n s.here) s
   pub grown : size s.here < size (resized n s.here) → IfSome (grow_up (resized n s.here) s) (λ after. blocks ≡ after)
 
@@ -52,6 +55,10 @@ module _ (xs now : List ℕ) (first unused place n : ℕ) (i : IsSound xs first 
   abbrev new : Block
   new = resized n s.here
 
+  given-whole : purgeable_sum (zone_in xs)
+      ≡ purgeable_sum s.below + (purgeable_of s.here + purgeable_sum s.above)
+  given-whole = ap purgeable_sum at.whole ∙ given-parts s.below s.here s.above
+
   pub resize-made : Resized xs now first unused n s
   resize-made = go (less_or_more (size new) (size s.here))
     where
@@ -63,6 +70,7 @@ module _ (xs now : List ℕ) (first unused place n : ℕ) (i : IsSound xs first 
             made = made now (filled new s) (slot_in xs) i.unused h first unused
                 (tidy-tidy (s.below ++ new ∷ Free (size s.here - size new) ∷ s.above)) i.begins i.counted;
             masters = masters-cut n s ∙ ap (count is_masters) (sym at.whole);
+            given = (let f = given-filled new s in let p = given-whole in omega (arith, f, p));
             cut = λ l. refl;
             grown = λ more. absurd (omega (arith, le, more));
           }
@@ -77,6 +85,7 @@ module _ (xs now : List ℕ) (first unused place n : ℕ) (i : IsSound xs first 
                 (tidy-grown n s g.0 more at.tidied g.1) i.begins i.counted;
             masters = count-grown is_masters (λ m. refl) new s g.0 (is_masters-resized n s.here) g.1
                 ∙ ap (count is_masters) (sym at.whole);
+            given = (let f = given-grown new s g.0 g.1 in let p = given-whole in omega (arith, f, p));
             cut = λ le. absurd (omega (arith, le, more));
             grown = λ m. subst (λ o. IfSome o (λ after. g.0 ≡ after)) (sym g.1) refl;
           }

@@ -3,6 +3,7 @@ use Rattle.std.proofs.Common.{◌≡◌, ℕ, Bool, true, false, ◌==◌, ◌+�
 use Rattle.std.proofs.Common.{Option, Some, None}
 use Rattle.std.proofs.Common.{List, [], ◌∷◌, ◌++◌, length, drop, refl, sym, ap, ◌∙◌, subst, arith}
 use Rattle.std.proofs.lemmas.Bool.{false≢true}
+use Rattle.std.proofs.lemmas.Bool.Decides.{nat_tests}
 use Rattle.std.proofs.lemmas.List.{length-drop, append-nil}
 use Rattle.std.specs.Option.{IfSome, IsSome, IsSomeAnd}
 use Rattle.mac_words.specs.Size.{padded}
@@ -11,16 +12,18 @@ use Rattle.heap_words.specs.Words.{word, word_at, header}
 use Rattle.heap_words.specs.Headers.{header_bytes, tag_number}
 use Rattle.heap_words.specs.declared.header.Header.{Header}
 use Rattle.heap_words.proofs.Words.{read_back}
-use Rattle.block_store.specs.Block.{Block, Free, Fixed, Masters, Relocatable, size, free, free_of, free_sum, is_masters}
+use Rattle.block_store.specs.Block.{Block, Free, Fixed, Masters, Relocatable, size, sizes, free, free_of, free_sum}
+use Rattle.block_store.specs.Block.{is_masters, is_room}
 use Rattle.block_store.specs.Block.{content_of, resized, resized_content, tidy}
 use Rattle.block_store.specs.Room.{Spot, spot_at, filled}
-use Rattle.block_store.specs.Grow.{grow_up}
+use Rattle.block_store.specs.Grow.{grow_up, growth, taken}
 use Rattle.block_store.specs.Inner.Stretch.{is_free}
 use Rattle.block_store.proofs.Zone.Apart.{Apart, longer, apart-above}
 use Rattle.block_store.proofs.Content.Resizing.{length-resized, grown-is}
 use Rattle.block_store.proofs.Content.Sized.{Heading, unjoined-above, cut-sized, grown-sized, free_sum-sized}
 use Rattle.block_store.proofs.Regroup.Packed.{tidy-below}
-use Rattle.block_store.proofs.Zone.Totals.{total-le}
+use Rattle.block_store.proofs.Zone.Totals.{total-append, total-le}
+use Rattle.block_store.proofs.Zone.Views.{map-some, taken-some}
 use Rattle.zone_bytes.proofs.Laws.Lawful.{sizes-length}
 use Rattle.zone_bytes.specs.Layout.{kind, flag_word, head_of, Tile, names_of, Each, IsPlaced}
 use Rattle.zone_bytes.specs.Walking.{Walk}
@@ -169,6 +172,28 @@ some-blocks (Some l) h = (l, refl)
 
 abbrev pub HasRoom : ℕ → Spot → Type 0
 HasRoom n s = (size (resized n s.here) ≤ size s.here) ⊎ IsSome (grow_up (resized n s.here) s)
+
+-- a block at another size, for which there is room, takes no more bytes than there are
+pub room-fits : (xs : List ℕ) (place n : ℕ) (s : Spot) → Standing xs place s → HasRoom n s
+    → sizes (s.below ++ s.here ∷ s.above) ≤ 134217728 → size (resized n s.here) ≤ 134217728
+room-fits xs place n s at (inl le) small = let i = at.inside in let m = at.small in omega (arith, le, i, m)
+room-fits xs place n s at (inr more) small =
+    let new = resized n s.here in
+    let g = some-blocks (grow_up new s) more in
+    map-some (λ above. s.below ++ new ∷ above) (taken (growth new s) s.above) g.0
+    (size new ≤ 134217728) g.1
+    (λ above took is. taken-some (growth new s) s.above above (size new ≤ 134217728) took
+    (λ next rest was room now.
+    let t = total-append size s.below (s.here ∷ s.above) in
+    let w = ap sizes was in
+    let f = roomy-size (growth new s) next room in
+    omega (arith, t, w, f, small)))
+  where
+    roomy-size : (d : ℕ) (b : Block) → is_room d b ≡ true → d ≤ size b
+    roomy-size d (Free n) r = grind (arith, nat_tests)
+    roomy-size d (Fixed id content) r = absurd (false≢true r)
+    roomy-size d Masters r = absurd (false≢true r)
+    roomy-size d (Relocatable id flags content) r = absurd (false≢true r)
 
 module _ (xs : List ℕ) (place n : ℕ) (s : Spot) (at : Standing xs place s) (hd : Header) (r : Read hd place xs) where
   below-end : place < length xs

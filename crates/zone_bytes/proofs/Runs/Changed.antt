@@ -18,6 +18,7 @@ use Rattle.zone_bytes.specs.Table.{slot_in}
 use Rattle.zone_bytes.specs.Lawful.{IsSound}
 use Rattle.zone_bytes.specs.Placing.{lay_at}
 use Rattle.zone_bytes.specs.Marks.{Replaced}
+use Rattle.zone_bytes.specs.Purgeable.{purgeable_of, purgeable_sum}
 use Rattle.zone_bytes.proofs.Runs.Runs.{run_at-splits}
 use Rattle.zone_bytes.proofs.Laws.Lawful.{Made}
 use Rattle.zone_bytes.proofs.Runs.RunsAt.{if-run, one-run, settle-made}
@@ -25,7 +26,8 @@ use Rattle.zone_bytes.proofs.Runs.RunsAt.{if-run, one-run, settle-made}
 pub if-one : (o : Option RunSpot) (P : RunSpot → Type 0) (r : RunSpot) → o ≡ Some r → P r → IfSome o P
 if-one o P r e p = if-run o P (λ q f. subst P (one-run o r q e f) p)
 
--- the bytes are those of the zone with the run at a place changed, and its Masters blocks and Free bytes stay
+-- the bytes are those of the zone with the run at a place changed, and its Masters blocks, Free bytes and those that
+-- may be emptied stay
 pub record ChangedRun (change : List Block → List Block) (zone : List Block) (r : RunSpot) (new : List ℕ)
     (first unused : ℕ) (table : ℕ → Slot) : Type 0 where
   pub made : Made new first unused (tidy (with_run change r)) table
@@ -33,6 +35,7 @@ pub record ChangedRun (change : List Block → List Block) (zone : List Block) (
   pub span : sizes (change r.run) ≡ sizes r.run
   pub masters : count is_masters (zone_in new) ≡ count is_masters zone
   pub free : free_sum (tidy (with_run change r)) ≡ free_sum zone
+  pub purgeable : purgeable_sum (zone_in new) ≡ purgeable_sum zone
 
 pub changed-run : (change : List Block → List Block) (place : ℕ) (zone : List Block) (r : RunSpot)
     → run_at place zone ≡ Some r
@@ -49,6 +52,8 @@ changed-run change place zone r e keeps new first unused table t m =
       masters = ap (count is_masters) m.zone ∙ total-changed masters (λ n k. refl) change place zone r e
           (keeps masters (λ n k. refl) l);
       free = total-changed free_of (λ n k. refl) change place zone r e (keeps free_of (λ n k. refl) l);
+      purgeable = ap purgeable_sum m.zone ∙ total-changed purgeable_of (λ n k. refl) change place zone r e
+          (keeps purgeable_of (λ n k. refl) l);
     }
 
 -- so the blocks from the run's bottom to its top became others

@@ -1,5 +1,5 @@
 -- A zone in bytes, one of whose runs was packed.
-use Rattle.std.proofs.Common.{◌≡◌, ℕ, ◌+◌, Option, Some, None, List, ◌++◌, cond, refl, sym, ap, ◌∙◌, arith}
+use Rattle.std.proofs.Common.{◌≡◌, ℕ, ◌+◌, ◌≤◌, Option, Some, None, List, ◌++◌, cond, refl, sym, ap, ◌∙◌, arith}
 use Rattle.std.proofs.Common.{append_assoc}
 use Rattle.std.specs.Option.{IfSome, IsSomeAnd}
 use Rattle.raw_region.specs.Memory.{Bytes}
@@ -16,6 +16,7 @@ use Rattle.zone_bytes.specs.Layout.{Each}
 use Rattle.zone_bytes.specs.Settling.{InRun}
 use Rattle.zone_bytes.specs.Decode.{zone_in}
 use Rattle.zone_bytes.specs.Marks.{Replaced}
+use Rattle.zone_bytes.specs.Purgeable.{purgeable_of, purgeable_sum}
 use Rattle.zone_bytes.specs.Table.{slot_in}
 use Rattle.zone_bytes.specs.Lawful.{IsSound, IsKept}
 use Rattle.zone_bytes.specs.Beside.{KeepsPlace, rest_in}
@@ -85,10 +86,21 @@ module _ {xs : List ℕ} {first unused place top stop : ℕ} {old : List Block}
   free-packed = ap free_sum k.zone
       ∙ total-changed free_of (λ n m. refl) settle place old r k.is (settle-total free_of (λ n m. refl) r.run loose)
 
+  purgeable-packed : purgeable_sum (zone_in xs) ≡ purgeable_sum old
+  purgeable-packed = ap purgeable_sum k.zone
+      ∙ total-changed purgeable_of (λ n m. refl) settle place old r k.is
+      (settle-total purgeable_of (λ n m. refl) r.run loose)
+
   -- after another change of the run
   pub kept-changed : (change : List Block → List Block) (new : List ℕ) (table : ℕ → Slot) (n : ℕ)
       → ChangedRun change old r new first unused table → n ≡ free_sum (zone_in xs) → IsKept new first unused n
   kept-changed change new table n d e = kept-made _ _ _ _ _ _ d.made (e ∙ free-packed ∙ sym d.free)
+
+  pub bound-changed : (change : List Block → List Block) (new : List ℕ) (table : ℕ → Slot) (most : ℕ)
+      → ChangedRun change old r new first unused table → purgeable_sum (zone_in xs) ≤ most
+      → purgeable_sum (zone_in new) ≤ most
+  bound-changed change new table most d b =
+      let p = purgeable-packed in let q = d.purgeable in omega (arith, p, q, b)
 
   pub replaced-changed : (change : List Block → List Block) (new : List ℕ) (table : ℕ → Slot)
       → ChangedRun change old r new first unused table → Replaced place stop (zone_in xs) (zone_in new)

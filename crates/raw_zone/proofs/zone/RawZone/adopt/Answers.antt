@@ -1,6 +1,7 @@
 use Rattle.std.proofs.Common.{◌≡◌, ◌∙◌, ◌++◌, ◌∷◌, true, false, ℕ, IsTrue, refl, ap, sym, subst, arith}
 use Rattle.std.specs.Option.{IfSome, IsSomeAnd}
 use Rattle.block_store.specs.Block.{Fixed, Relocatable, is_fixed, is_relocatable, is_masters, content_of, count, free_sum}
+use Rattle.block_store.specs.Block.{size}
 use Rattle.block_store.specs.Run.{has}
 use Rattle.block_store.specs.Room.{spot_at}
 use Rattle.block_store.specs.Slot.{is_used}
@@ -11,12 +12,14 @@ use Rattle.zone_bytes.specs.Beside.{rest_in}
 use Rattle.raw_zone.specs.Held.{Held}
 use Rattle.raw_zone.specs.Raw.{held}
 use Rattle.raw_zone.specs.Parted.{zone_of, rest_of}
-use Rattle.zone_bytes.proofs.Places.AtPlace.{way-at, inside, some-here}
+use Rattle.zone_bytes.proofs.Places.AtPlace.{way-at, left-at, inside, some-here}
 use Rattle.zone_bytes.proofs.Places.Options.{if-spot, one-spot}
 use Rattle.zone_bytes.proofs.Laws.Lawful.{Made, rest-made, kept-made}
 use Rattle.zone_bytes.proofs.Blocks.Adopted.{FixedAt, fixed-at, adopt-reads-in, adopted-at, masters-adopted}
 use Rattle.zone_bytes.proofs.Blocks.Adopted.{free-adopted}
 use Rattle.zone_bytes.proofs.Marks.Owed.{with-block}
+use Rattle.zone_bytes.specs.Purgeable.{purgeable_sum}
+use Rattle.zone_bytes.proofs.Bounds.Given.{given-became, given-small}
 use Rattle.raw_zone.proofs.zone.RawZone.adopt.Goals as goal
 
 -- what is asked, of the zone inside
@@ -35,6 +38,22 @@ asked z view place number e block used none = record {
   used = subst (λ v. IsTrue (is_used ((rest_of v).slots number))) (sym e) used;
   no_block = subst (λ v. has (is_relocatable number) (zone_of v) ≡ false) (sym e) none;
 }
+
+pub size_at-requires-clause-way : goal.size_at-requires-clause-way
+size_at-requires-clause-way c =
+    let i = c.self.inside in
+    let q = c.requires in
+    let a = (asked (held i) c.args.self.now c.args.place c.args.number c.self.view_is q.block q.used q.no_block).fixed in
+    way-at i.part.bytes i.first i.unused c.self.invariant.sound c.args.place a.s a.is
+
+pub size_at-requires-clause-some : goal.size_at-requires-clause-some
+size_at-requires-clause-some c =
+    let i = c.self.inside in
+    let q = c.requires in
+    let a = (asked (held i) c.args.self.now c.args.place c.args.number c.self.view_is q.block q.used q.no_block).fixed in
+    let n = inside i.part.bytes i.first i.unused c.self.invariant.sound c.args.place a.s a.is in
+    let m = some-here i.part.bytes i.first i.unused c.self.invariant.sound c.args.place a.s a.is in
+    omega (arith, n, m)
 
 pub adopt-requires-clause-way : goal.adopt-requires-clause-way
 adopt-requires-clause-way c =
@@ -88,10 +107,22 @@ pub invariant_of-self : goal.invariant_of-self
 invariant_of-self c =
     let d = done c in
     let a = d.0 in
-    with-block _ _ _ _ _ a.s.below a.s.above (Fixed a.id a.content) (Relocatable c.args.number c.args.flags a.content)
+    let y = c.size_at.ensures a.s.here a.s.above
+    (left-at c.self.inside.part.bytes c.self.inside.first c.self.inside.unused c.self.invariant.sound c.args.place a.s
+    a.is) in
+    let h = ap size a.here in
+    let g = c.given_with-given.ensures (Relocatable c.args.number c.args.flags a.content) (omega (arith, y, h)) in
+    let p = given-became a.s.below (Fixed a.id a.content) (Relocatable c.args.number c.args.flags a.content) a.s.above
+    (zone_in c.self.inside.part.bytes) a.whole in
+    let s = given-small _ c.self.inside.first c.self.inside.unused d.1.sound in
+    let t = ap purgeable_sum d.1.zone in
+    with-block _ _ _ _ _ _ a.s.below a.s.above (Fixed a.id a.content) (Relocatable c.args.number c.args.flags a.content)
     (zone_in c.self.inside.part.bytes) (kept-made _ _ _ _ _ _ d.1 (c.self.invariant.free_is ∙ ap free_sum a.whole
     ∙ sym (free-adopted a.s.below a.id c.args.number c.args.flags a.content a.s.above))) d.1.zone a.whole refl refl
     c.self.invariant.marked
+    (c.changed_bound-self-inside.ensures (purgeable_sum (zone_in c.self.inside.part.bytes))
+    (purgeable_sum (a.s.below ++ Relocatable c.args.number c.args.flags a.content ∷ a.s.above)) c.self.invariant.bound
+    (omega (arith, g, p)) (omega (arith, s, t)))
 
 pub returns-clause-zone : goal.returns-clause-zone
 returns-clause-zone c =

@@ -1,7 +1,9 @@
-use Rattle.std.proofs.Common.{sym, ◌-◌, ◌∙◌, ap}
+use Rattle.std.proofs.Common.{sym, ◌-◌, ◌∙◌, ap, arith}
 use Rattle.block_store.specs.Block.{fresh}
 use Rattle.zone_bytes.proofs.FreshZones.FreshZone.{fresh-made, fresh-all, fresh-unused, free-fresh}
 use Rattle.zone_bytes.proofs.Marks.Owed.{with-marks}
+use Rattle.zone_bytes.specs.Purgeable.{purgeable_sum}
+use Rattle.zone_bytes.proofs.Bounds.Given.{given-fresh}
 use Rattle.raw_zone.proofs.zone.RawZone.new.Goals as goal
 use Rattle.zone_bytes.proofs.Laws.Lawful.{kept-made}
 use Rattle.zone_bytes.specs.Fresh.{fresh_slots}
@@ -17,8 +19,10 @@ invariant_of-result c = ((fresh-made c.make_fresh.new.part.bytes c.len-end.resul
 pub invariant_of-result-2 : goal.invariant_of-result-2
 invariant_of-result-2 c =
     let end = c.len-end.result in
-    with-marks _ _ _ _ _ (kept-made c.make_fresh.new.part.bytes 16 64 (end - 272) (fresh end) fresh_slots
-    (fresh-made c.make_fresh.new.part.bytes end c.make_fresh.ensures.lays) (sym (free-fresh end))) c.of-marks.ensures
+    let z = ap purgeable_sum (fresh-made c.make_fresh.new.part.bytes end c.make_fresh.ensures.lays).zone in
+    let f = given-fresh end in
+    with-marks _ _ _ _ _ _ (kept-made c.make_fresh.new.part.bytes 16 64 (end - 272) (fresh end) fresh_slots
+    (fresh-made c.make_fresh.new.part.bytes end c.make_fresh.ensures.lays) (sym (free-fresh end))) c.of-marks.ensures (omega (arith, z, f))
 
 pub returns-clause-zone : goal.returns-clause-zone
 returns-clause-zone c = (fresh-made c.make_fresh.new.part.bytes c.len-end.result c.make_fresh.ensures.lays).zone

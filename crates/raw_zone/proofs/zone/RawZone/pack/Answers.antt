@@ -1,4 +1,4 @@
-use Rattle.std.proofs.Common.{◌≡◌, ◌∙◌, ◌+◌, Some, ap, refl, sym, subst}
+use Rattle.std.proofs.Common.{◌≡◌, ◌∙◌, ◌+◌, Some, ap, refl, sym, subst, arith}
 use Rattle.std.specs.Option.{IfSome, IsSome}
 use Rattle.block_store.specs.Block.{sizes, tidy}
 use Rattle.block_store.specs.Run.{RunSpot, run_at, movers, settle, with_run}
@@ -74,8 +74,10 @@ invariant_of-self-inside c = ((done (goal.at.invariant_of-self-inside c).After-s
 pub invariant_of-self : goal.invariant_of-self
 invariant_of-self c =
     let d = done (goal.at.invariant_of-self c).After-settle_run-packed in
-    with-marks _ _ _ _ _ (kept-made _ _ _ _ _ _ d.2.made (c.self.invariant.free_is ∙ sym d.2.free))
-    c.forget.ensures
+    let p = d.2.purgeable in
+    let b = c.self.invariant.bound in
+    with-marks _ _ _ _ _ _ (kept-made _ _ _ _ _ _ d.2.made (c.self.invariant.free_is ∙ sym d.2.free))
+    c.forget.ensures (omega (arith, p, b))
 
 pub returns-clause-zone : goal.returns-clause-zone
 returns-clause-zone c =

@@ -13,6 +13,8 @@ use Rattle.zone_bytes.proofs.Placed.FixedCarved.{Roomy, roomy, free-roomy}
 use Rattle.zone_bytes.proofs.Placed.MastersCarved.{masters-made, masters-free, masters-all, masters-zone, masters-slots}
 use Rattle.zone_bytes.proofs.Marks.Owed.{with-marks, filled-replaced}
 use Rattle.raw_zone.specs.Parted.{zone_of, rest_of}
+use Rattle.zone_bytes.specs.Purgeable.{purgeable_sum}
+use Rattle.zone_bytes.proofs.Bounds.Given.{given-put}
 use Rattle.raw_zone.proofs.zone.RawZoneBlockStore.add_masters.Goals as goal
 use Rattle.raw_zone.proofs.zone.RawZoneBlockStore.add_masters.Goals.{After-self, After-add_masters}
 
@@ -82,7 +84,11 @@ invariant_of-self c =
     c.args.place c.self.invariant.sound (there a) (laid a) in
     let z = ap free_sum m.zone in
     let f = c.self.invariant.free_is in
-    with-marks _ _ _ _ _ (kept-made _ _ _ _ _ _ m (omega (arith, q, z, f))) c.note.ensures
+    let r = there a in
+    let g = given-put Masters refl r.s (zone_in c.self.inside.part.bytes) r.at.whole in
+    let y = ap purgeable_sum m.zone in
+    let b = c.self.invariant.bound in
+    with-marks _ _ _ _ _ _ (kept-made _ _ _ _ _ _ m (omega (arith, q, z, f))) c.note.ensures (omega (arith, g, y, b))
 
 pub returns-clause-ok : goal.returns-clause-ok
 returns-clause-ok c =

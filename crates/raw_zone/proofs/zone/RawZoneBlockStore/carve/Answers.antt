@@ -24,6 +24,9 @@ use Rattle.zone_bytes.proofs.Blocks.Carved.{FreeAt, new, masters-carved, free-ca
 use Rattle.zone_bytes.proofs.Marks.Owed.{with-marks}
 use Rattle.zone_bytes.proofs.Marks.Keeping.{carved-replaced}
 use Rattle.zone_bytes.specs.Marks.{Replaced}
+use Rattle.block_store.proofs.Content.Sized.{total-sized}
+use Rattle.zone_bytes.specs.Purgeable.{purgeable_of, purgeable_sum}
+use Rattle.zone_bytes.proofs.Bounds.Given.{none-free, given-parts}
 use Rattle.raw_zone.proofs.zone.RawZoneBlockStore.carve.Goals as goal
 use Rattle.raw_zone.proofs.zone.RawZoneBlockStore.carve.Goals.{After-carve}
 
@@ -195,7 +198,13 @@ invariant_of-self c =
     let f = c.self.invariant.free_is in
     let b = c.padded_size.ensures in
     let r = a.room in
-    with-marks _ _ _ _ _ (kept-made _ _ _ _ _ _ (done d) (omega (arith, q, w, f, b, r, n))) c.note.ensures
+    let z = ap purgeable_sum (done d).zone in
+    let p = ap purgeable_sum a.whole in
+    let o = given-parts a.s.below (Free a.bytes) a.s.above in
+    let t = total-sized purgeable_of none-free a.s.below (new c.args.number c.args.size) (left d) a.s.above in
+    let m = c.self.invariant.bound in
+    with-marks _ _ _ _ _ _ (kept-made _ _ _ _ _ _ (done d) (omega (arith, q, w, f, b, r, n))) c.note.ensures
+    (omega (arith, z, p, o, t, m))
 
 pub overflow_add-place-2 : goal.overflow_add-place-2
 overflow_add-place-2 c =

@@ -14,6 +14,8 @@ use Rattle.zone_bytes.proofs.Placed.FixedCarved.{Roomy, roomy, fixed-made, fixed
 use Rattle.zone_bytes.proofs.Placed.FixedCarved.{free-roomy}
 use Rattle.zone_bytes.proofs.Marks.Owed.{with-marks, filled-replaced}
 use Rattle.raw_zone.specs.Parted.{zone_of, rest_of}
+use Rattle.zone_bytes.specs.Purgeable.{purgeable_sum}
+use Rattle.zone_bytes.proofs.Bounds.Given.{given-put}
 use Rattle.raw_zone.proofs.zone.RawZoneBlockStore.carve_fixed.Goals as goal
 use Rattle.raw_zone.proofs.zone.RawZoneBlockStore.carve_fixed.Goals.{After-self, After-carve_fixed}
 
@@ -83,7 +85,11 @@ invariant_of-self c =
     let z = ap free_sum m.zone in
     let f = c.self.invariant.free_is in
     let p = c.padded_size.ensures in
-    with-marks _ _ _ _ _ (kept-made _ _ _ _ _ _ m (omega (arith, q, z, f, p))) c.note.ensures
+    let g = given-put (Fixed c.args.place (replicate c.args.size 0)) refl r.s (zone_in c.self.inside.part.bytes) r.at.whole in
+    let y = ap purgeable_sum m.zone in
+    let b = c.self.invariant.bound in
+    with-marks _ _ _ _ _ _ (kept-made _ _ _ _ _ _ m (omega (arith, q, z, f, p))) c.note.ensures
+    (omega (arith, g, y, b))
 
 pub returns-clause-ok : goal.returns-clause-ok
 returns-clause-ok c =

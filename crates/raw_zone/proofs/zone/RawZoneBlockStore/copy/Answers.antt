@@ -108,14 +108,14 @@ invariant_of-self c =
     let s = target-of (goal.at.invariant_of-self c).After-move_bytes in
     let k = length-take-le c.args.bytes (content_of t.0.here) t.2 in
     let w = s.2 in
-    rw c.move_bytes.ensures.bytes (with-written _ _ _ _ _ s.0.below s.0.above s.0.here c.args.from
+    rw c.move_bytes.ensures.bytes (with-written _ _ _ _ _ _ s.0.below s.0.above s.0.here c.args.from
     (take c.args.bytes (content_of t.0.here)) (zone_in z.part.bytes)
     (copied-kept z.part.bytes z.first z.unused c.args.source c.args.bytes c.args.place c.args.from
     c.self.invariant.sound t.0 s.0 t.1 s.1 t.2 s.2 z.free c.self.invariant.free_is)
     (copied z.part.bytes z.first z.unused c.args.source c.args.bytes c.args.place c.args.from
     c.self.invariant.sound t.0 s.0 t.1 s.1 t.2 s.2).zone
     (whole z.part.bytes z.first z.unused c.self.invariant.sound c.args.place s.0 s.1) (omega (arith, k, w))
-    c.self.invariant.marked)
+    c.self.invariant.marked c.self.invariant.bound)
 
 pub returns-clause-zone : goal.returns-clause-zone
 returns-clause-zone c =

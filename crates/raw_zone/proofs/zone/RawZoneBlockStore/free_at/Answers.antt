@@ -13,6 +13,8 @@ use Rattle.zone_bytes.specs.Marked.{AreOf}
 use Rattle.zone_bytes.proofs.Places.AtPlace.{whole}
 use Rattle.raw_zone.specs.Parted.{zone_of, rest_of}
 use Rattle.zone_bytes.proofs.Marks.Owed.{with-marks, replaced-as}
+use Rattle.zone_bytes.specs.Purgeable.{purgeable_sum}
+use Rattle.zone_bytes.proofs.Bounds.Given.{given-freed}
 use Rattle.raw_zone.proofs.zone.RawZoneBlockStore.free_at.Goals as goal
 use Rattle.raw_zone.proofs.zone.RawZoneBlockStore.free_at.Goals.{After-self, After-free_block-freed}
 
@@ -63,8 +65,13 @@ pub invariant_of-self-inside : goal.invariant_of-self-inside
 invariant_of-self-inside c = ((done (goal.at.invariant_of-self-inside c).After-free_block-freed).made.lawful, tt)
 
 pub invariant_of-self : goal.invariant_of-self
-invariant_of-self c = with-marks _ _ _ _ _ (gained-kept _ _ _ _ _ _ (done (goal.at.invariant_of-self c).After-free_block-freed)
-    c.self.inside.free c.self.invariant.free_is) c.note.ensures
+invariant_of-self c =
+    let d = done (goal.at.invariant_of-self c).After-free_block-freed in
+    let z = ap purgeable_sum d.made.zone in
+    let g = given-freed (is_fixed c.args.place) (zone_in c.self.inside.part.bytes) in
+    let b = c.self.invariant.bound in
+    with-marks _ _ _ _ _ _ (gained-kept _ _ _ _ _ _ d c.self.inside.free c.self.invariant.free_is) c.note.ensures
+    (omega (arith, z, g, b))
 
 pub returns-clause-zone : goal.returns-clause-zone
 returns-clause-zone c = (done (goal.at.returns-clause-zone c).After-free_block-freed).made.zone

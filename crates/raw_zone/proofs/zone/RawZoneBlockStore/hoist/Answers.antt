@@ -6,7 +6,8 @@ use Rattle.block_store.specs.Rest.{IsRest}
 use Rattle.zone_bytes.specs.Decode.{zone_in}
 use Rattle.zone_bytes.specs.Table.{slot_in}
 use Rattle.zone_bytes.proofs.Runs.Changed.{ChangedRun, if-one}
-use Rattle.zone_bytes.proofs.Runs.PackedAt.{IsPacked, is-packed, kept-changed, rest-changed, replaced-changed}
+use Rattle.zone_bytes.proofs.Runs.PackedAt.{IsPacked, is-packed, kept-changed, rest-changed}
+use Rattle.zone_bytes.proofs.Runs.PackedAt.{bound-changed, replaced-changed}
 use Rattle.zone_bytes.proofs.Runs.HoistedAt.{slot-inside, hoist-bytes, may-hoist, hoist-changed}
 use Rattle.raw_zone.specs.Parted.{zone_of, rest_of, zone-tidied, zone-once}
 use Rattle.zone_bytes.proofs.Marks.Owed.{with-marks}
@@ -69,8 +70,10 @@ invariant_of-self-inside c = ((done (goal.at.invariant_of-self-inside c).After-n
 pub invariant_of-self : goal.invariant_of-self
 invariant_of-self c =
     let d = done (goal.at.invariant_of-self c).After-note-arg-2-1 in
-    with-marks _ _ _ _ _ (kept-changed d.0 (high (is_relocatable c.args.number)) c.hoist_block.new.part.bytes
+    with-marks _ _ _ _ _ _ (kept-changed d.0 (high (is_relocatable c.args.number)) c.hoist_block.new.part.bytes
     (slot_in c.self.inside.part.bytes) c.self.inside.free d.1 c.self.invariant.free_is) c.note.ensures
+    (bound-changed d.0 (high (is_relocatable c.args.number)) c.hoist_block.new.part.bytes
+    (slot_in c.self.inside.part.bytes) c.self.inside.most_purgeable d.1 c.self.invariant.bound)
 
 pub returns-clause-zone : goal.returns-clause-zone
 returns-clause-zone c =

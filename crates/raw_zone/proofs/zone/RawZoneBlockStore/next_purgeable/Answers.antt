@@ -1,11 +1,20 @@
-use Rattle.std.proofs.Common.{◌∙◌, ap, sym, subst, ◌<◌, ◌^◌}
+use Rattle.std.proofs.Common.{◌∙◌, ap, sym, subst, ◌<◌, ◌≤◌, ◌^◌, arith}
 use Rattle.block_store.specs.Block.{sizes}
 use Rattle.block_store.specs.Find.{FindsLowest}
 use Rattle.block_store.specs.Room.{may_go}
 use Rattle.block_store.specs.Sparing.{purged, spared}
 use Rattle.raw_zone.specs.Parted.{zone_of}
 use Rattle.zone_bytes.proofs.Places.AtPlace.{left-zone, on-way, sizes-fit}
+use Rattle.zone_bytes.specs.Purgeable.{purgeable_sum}
+use Rattle.zone_bytes.proofs.Bounds.Short.{none-next}
 use Rattle.raw_zone.proofs.zone.RawZoneBlockStore.next_purgeable.Goals as goal
+
+pub returns-then-self-eq0 : goal.returns-then-self-eq0
+returns-then-self-eq0 c =
+    let b = c.self.invariant.bound in
+    let z = c.if-self-eq0.true in
+    none-next c.args.sparing c.args.purges (zone_of c.args.self.now)
+    (subst (λ v. purgeable_sum (zone_of v) ≤ 0) c.self.view_is (omega (arith, b, z)))
 
 pub walk_from-requires : goal.walk_from-requires
 walk_from-requires c = let z = c.self.inside in on-way z.part.bytes z.first z.unused c.self.invariant.sound

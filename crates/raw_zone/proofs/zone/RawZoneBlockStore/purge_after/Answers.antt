@@ -1,4 +1,4 @@
-use Rattle.std.proofs.Common.{◌≡◌, Some, ◌∷◌, ◌++◌, sym, subst, arith}
+use Rattle.std.proofs.Common.{◌≡◌, Some, ◌∷◌, ◌++◌, ap, sym, subst, arith}
 use Rattle.std.specs.Option.{IfSome, IsSome}
 use Rattle.block_store.specs.Block.{tidy}
 use Rattle.block_store.specs.Rest.{IsRest}
@@ -11,34 +11,37 @@ use Rattle.zone_bytes.proofs.Joined.Handles.{Gained, gained-fits, gained-kept, g
 use Rattle.zone_bytes.proofs.Joined.PurgeStarts.{spot-at, may-purge, above-gained}
 use Rattle.raw_zone.specs.Parted.{zone_of, rest_of}
 use Rattle.zone_bytes.proofs.Marks.Owed.{with-marks}
+use Rattle.zone_bytes.specs.Purgeable.{purgeable_sum}
+use Rattle.zone_bytes.proofs.Bounds.Given.{given-purged, given-small}
+use Rattle.zone_bytes.proofs.Places.AtPlace.{whole}
 use Rattle.raw_zone.proofs.zone.RawZoneBlockStore.purge_after.Goals as goal
-use Rattle.raw_zone.proofs.zone.RawZoneBlockStore.purge_after.Goals.{After-self, After-purge_above}
+use Rattle.raw_zone.proofs.zone.RawZoneBlockStore.purge_after.Goals.{After-self, After-purge_above-freed}
 
 -- the block at the place
 here : (c : goal.After-self) → (s : Spot) × (spot_at c.args.place (zone_in c.self.inside.part.bytes) ≡ Some s)
 here c = a-spot (spot_at c.args.place (zone_in c.self.inside.part.bytes))
     (subst (λ v. IsSome (spot_at c.args.place (zone_of v))) (sym c.self.view_is) c.requires)
 
-pub purge_above-requires : goal.purge_above-requires
-purge_above-requires c =
+pub purge_above-freed-requires : goal.purge_above-freed-requires
+purge_above-freed-requires c =
     let n = c.self.inside in
     let s = c.self.invariant.sound in
-    let a = here (goal.at.purge_above-requires c).After-self in (
+    let a = here (goal.at.purge_above-freed-requires c).After-self in (
       spot-at n.part.bytes n.first n.unused s c.args.purges c.args.sparing c.args.place a.0 a.1,
       may-purge n.part.bytes n.first n.unused s c.args.purges c.args.sparing c.args.place a.0 a.1,
     )
 
-gained-at : (c : goal.After-purge_above) (s : Spot) → spot_at c.args.place (zone_in c.self.inside.part.bytes) ≡ Some s
-    → Gained c.self.inside.part.bytes c.purge_above.new.part.bytes c.self.inside.first c.self.inside.unused
-    c.purge_above.result (tidy (s.below ++ s.here ∷ emptied c.args.purges (spared c.args.sparing) s.above))
+gained-at : (c : goal.After-purge_above-freed) (s : Spot) → spot_at c.args.place (zone_in c.self.inside.part.bytes) ≡ Some s
+    → Gained c.self.inside.part.bytes c.purge_above-freed.new.part.bytes c.self.inside.first c.self.inside.unused
+    c.purge_above-freed.result (tidy (s.below ++ s.here ∷ emptied c.args.purges (spared c.args.sparing) s.above))
 gained-at c s e =
     let n = c.self.inside in
     above-gained n.part.bytes n.first n.unused c.self.invariant.sound c.args.purges c.args.sparing c.args.place s e
-    c.purge_above.new.part.bytes c.purge_above.result c.purge_above.ensures.purged
+    c.purge_above-freed.new.part.bytes c.purge_above-freed.result c.purge_above-freed.ensures.purged
 
-done : (c : goal.After-purge_above) → let s = (here (goal.at.overflow_add-self c).After-self).0 in
-    Gained c.self.inside.part.bytes c.purge_above.new.part.bytes c.self.inside.first c.self.inside.unused
-    c.purge_above.result (tidy (s.below ++ s.here ∷ emptied c.args.purges (spared c.args.sparing) s.above))
+done : (c : goal.After-purge_above-freed) → let s = (here (goal.at.overflow_add-self c).After-self).0 in
+    Gained c.self.inside.part.bytes c.purge_above-freed.new.part.bytes c.self.inside.first c.self.inside.unused
+    c.purge_above-freed.result (tidy (s.below ++ s.here ∷ emptied c.args.purges (spared c.args.sparing) s.above))
 done c = let a = here (goal.at.overflow_add-self c).After-self in gained-at c a.0 a.1
 
 pub overflow_add-self : goal.overflow_add-self
@@ -50,29 +53,38 @@ renew_all-requires c = record {
   sound = (
     c.self.inside.first,
     c.self.inside.unused,
-    (done (goal.at.renew_all-requires c).After-purge_above).made.sound,
+    (done (goal.at.renew_all-requires c).After-purge_above-freed).made.sound,
   );
 }
 
 pub invariant_of-self-inside : goal.invariant_of-self-inside
-invariant_of-self-inside c = ((done (goal.at.invariant_of-self-inside c).After-purge_above).made.lawful, tt)
+invariant_of-self-inside c = ((done (goal.at.invariant_of-self-inside c).After-purge_above-freed).made.lawful, tt)
 
 pub invariant_of-self : goal.invariant_of-self
-invariant_of-self c = with-marks _ _ _ _ _ (gained-kept _ _ _ _ _ _ (done (goal.at.invariant_of-self c).After-purge_above)
-    c.self.inside.free c.self.invariant.free_is) c.renew_all.ensures
+invariant_of-self c =
+    let n = c.self.inside in
+    let a = here (goal.at.invariant_of-self c).After-self in
+    let d = done (goal.at.invariant_of-self c).After-purge_above-freed in
+    let z = ap purgeable_sum d.made.zone in
+    let g = given-purged a.0.below a.0.here c.args.purges (spared c.args.sparing) a.0.above (zone_in n.part.bytes)
+    (whole n.part.bytes n.first n.unused c.self.invariant.sound c.args.place a.0 a.1) c.purge_above-freed.result d.sum in
+    let s = given-small c.purge_above-freed.new.part.bytes n.first n.unused d.made.sound in
+    with-marks _ _ _ _ _ _ (gained-kept _ _ _ _ _ _ d n.free c.self.invariant.free_is) c.renew_all.ensures
+    (c.changed_bound-self-inside.ensures (purgeable_sum (zone_in n.part.bytes))
+    (purgeable_sum (zone_in c.purge_above-freed.new.part.bytes)) c.self.invariant.bound (omega (arith, z, g)) s)
 
 pub returns-clause-zone : goal.returns-clause-zone
 returns-clause-zone c =
-    let ys = c.purge_above.new.part.bytes in
+    let ys = c.purge_above-freed.new.part.bytes in
     let goal-of : Spot
     → Type 0 = λ s. zone_in ys ≡ tidy (s.below ++ s.here ∷ emptied c.args.purges (spared c.args.sparing) s.above) in
     subst (λ v. IfSome (spot_at c.args.place (zone_of v)) goal-of) c.self.view_is
     (if-spot (spot_at c.args.place (zone_in c.self.inside.part.bytes)) goal-of
-    (λ s e. (gained-at (goal.at.returns-clause-zone c).After-purge_above s e).made.zone))
+    (λ s e. (gained-at (goal.at.returns-clause-zone c).After-purge_above-freed s e).made.zone))
 
 pub returns-clause-rest : goal.returns-clause-rest
 returns-clause-rest c =
-    subst (λ v. IsRest (rest_of v) (rest_in c.purge_above.new.part c.self.inside.unused c.self.inside.moves))
+    subst (λ v. IsRest (rest_of v) (rest_in c.purge_above-freed.new.part c.self.inside.unused c.self.inside.moves))
     c.self.view_is
-    (gained-rest c.self.inside.part c.purge_above.new.part _ _ _ _
-    (done (goal.at.returns-clause-rest c).After-purge_above) c.purge_above.ensures.same c.self.inside.moves)
+    (gained-rest c.self.inside.part c.purge_above-freed.new.part _ _ _ _
+    (done (goal.at.returns-clause-rest c).After-purge_above-freed) c.purge_above-freed.ensures.same c.self.inside.moves)

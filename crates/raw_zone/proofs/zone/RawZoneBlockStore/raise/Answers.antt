@@ -1,4 +1,4 @@
-use Rattle.std.proofs.Common.{◌≡◌, ◌∙◌, ◌+◌, IsTrue, Some, ap, sym, subst}
+use Rattle.std.proofs.Common.{◌≡◌, ◌∙◌, ◌+◌, IsTrue, Some, ap, sym, subst, arith}
 use Rattle.std.specs.Option.{IfSome, IsSomeAnd}
 use Rattle.block_store.specs.Block.{Free, sizes, tidy}
 use Rattle.block_store.specs.Run.{RunSpot, run_at, low, has_free, with_run}
@@ -66,7 +66,10 @@ invariant_of-self-inside c = ((done (goal.at.invariant_of-self-inside c).After-r
 pub invariant_of-self : goal.invariant_of-self
 invariant_of-self c =
     let d = done (goal.at.invariant_of-self c).After-raise_run-stop in
-    with-marks _ _ _ _ _ (kept-made _ _ _ _ _ _ d.2.made (c.self.invariant.free_is ∙ sym d.2.free)) c.note.ensures
+    let p = d.2.purgeable in
+    let b = c.self.invariant.bound in
+    with-marks _ _ _ _ _ _ (kept-made _ _ _ _ _ _ d.2.made (c.self.invariant.free_is ∙ sym d.2.free)) c.note.ensures
+    (omega (arith, p, b))
 
 pub returns-clause-ok : goal.returns-clause-ok
 returns-clause-ok c =

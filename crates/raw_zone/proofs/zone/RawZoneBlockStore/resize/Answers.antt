@@ -1,18 +1,23 @@
-use Rattle.std.proofs.Common.{◌≡◌, ◌<◌, ◌≤◌, Some, sym, ap, ◌∙◌, subst}
+use Rattle.std.proofs.Common.{◌≡◌, ℕ, ◌<◌, ◌≤◌, Some, sym, ap, ◌∙◌, subst, arith}
 use Rattle.std.specs.Option.{IfSome, IsSomeAnd}
-use Rattle.block_store.specs.Block.{count, is_masters, resized, size}
+use Rattle.block_store.specs.Block.{count, is_masters, resized, size, sizes}
 use Rattle.block_store.specs.Room.{Spot, spot_at, filled}
 use Rattle.block_store.specs.Grow.{grow_up}
 use Rattle.block_store.specs.Rest.{IsRest}
 use Rattle.zone_bytes.specs.Decode.{zone_in}
+use Rattle.zone_bytes.specs.Lawful.{IsSound}
 use Rattle.zone_bytes.specs.Table.{slot_in}
 use Rattle.zone_bytes.specs.Beside.{rest_in}
-use Rattle.zone_bytes.proofs.Laws.Lawful.{rest-made}
+use Rattle.zone_bytes.proofs.Laws.Lawful.{rest-made, sizes-length}
 use Rattle.zone_bytes.proofs.Placed.Standing.{Standing}
-use Rattle.zone_bytes.proofs.Placed.Sizes.{HasRoom, room-at}
+use Rattle.zone_bytes.proofs.Placed.Sizes.{HasRoom, room-at, room-fits}
 use Rattle.zone_bytes.proofs.Placed.Resized.{resize-made, cut-zone, grown-zone}
+use Rattle.raw_zone.specs.Held.{Held}
+use Rattle.raw_zone.specs.Raw.{held}
 use Rattle.raw_zone.specs.Parted.{zone_of, rest_of}
 use Rattle.zone_bytes.proofs.Marks.Owed.{with-marks}
+use Rattle.zone_bytes.specs.Purgeable.{purgeable_sum}
+use Rattle.zone_bytes.proofs.Bounds.Given.{given-small}
 use Rattle.raw_zone.proofs.zone.RawZoneBlockStore.resize.Goals as goal
 use Rattle.raw_zone.proofs.zone.RawZoneBlockStore.resize.Goals.{After-resize_block-resized}
 
@@ -25,6 +30,38 @@ there c =
     c.self.invariant.sound
     (subst (λ v. IsSomeAnd (spot_at c.args.place (zone_of v)) (λ s. HasRoom c.args.bytes s))
     (sym c.self.view_is) c.requires)
+
+-- the same, of the zone inside
+here : (z view : Held) → z ≡ view → (first unused place bytes : ℕ) → IsSound z.part.bytes first unused
+    → IsSomeAnd (spot_at place (zone_of view)) (λ s. HasRoom bytes s)
+    → (s : Spot) × (spot_at place (zone_of z) ≡ Some s) × HasRoom bytes s × Standing z.part.bytes place s
+here z view is first unused place bytes i room =
+    room-at z.part.bytes first unused place bytes i
+    (subst (λ v. IsSomeAnd (spot_at place (zone_of v)) (λ s. HasRoom bytes s)) (sym is) room)
+
+pub purgeable_at-given-requires-clause-way : goal.purgeable_at-given-requires-clause-way
+purgeable_at-given-requires-clause-way c = (here (held c.self.inside) c.args.self.now c.self.view_is c.self.inside.first
+    c.self.inside.unused c.args.place c.args.bytes c.self.invariant.sound c.requires).3.way
+
+pub purgeable_at-given-requires-clause-some : goal.purgeable_at-given-requires-clause-some
+purgeable_at-given-requires-clause-some c =
+    let a = here (held c.self.inside) c.args.self.now c.self.view_is c.self.inside.first c.self.inside.unused c.args.place
+    c.args.bytes c.self.invariant.sound c.requires in
+    let i = a.3.inside in
+    let s = a.3.some in
+    omega (arith, i, s)
+
+pub given_at-gives-requires : goal.given_at-gives-requires
+given_at-gives-requires c =
+    let n = c.self.inside in
+    let a = here (held c.self.inside) c.args.self.now c.self.view_is c.self.inside.first c.self.inside.unused c.args.place
+    c.args.bytes c.self.invariant.sound c.requires in
+    let l = sizes-length n.part.bytes (zone_in n.part.bytes) (slot_in n.part.bytes) c.self.invariant.sound.unused
+    c.self.invariant.sound.lays in
+    let w = ap sizes a.3.whole in
+    let m = a.3.small in
+    let f = room-fits n.part.bytes c.args.place c.args.bytes a.0 a.3 a.2 (omega (arith, l, w, m)) in
+    (a.0.here, sym (c.purgeable_at-given.ensures a.0.here a.0.above a.3.left), omega (arith, f))
 
 pub note-requires-clause-sound : goal.note-requires-clause-sound
 note-requires-clause-sound c =
@@ -57,13 +94,19 @@ invariant_of-self-inside c =
 pub invariant_of-self : goal.invariant_of-self
 invariant_of-self c =
     let a = there (goal.at.invariant_of-self c).After-resize_block-resized in
-    with-marks _ _ _ _ _ (record {
-      sound = (resize-made c.self.inside.part.bytes c.resize_block-resized.new.part.bytes c.self.inside.first
-          c.self.inside.unused
-          c.args.place c.args.bytes c.self.invariant.sound a.0 a.1 a.3 a.2 c.resize_block-resized.ensures.cut
-          c.resize_block-resized.ensures.grown).made.sound;
-      free_is = c.resize_block-resized.ensures.free;
-    }) c.note.ensures
+    let r = resize-made c.self.inside.part.bytes c.resize_block-resized.new.part.bytes c.self.inside.first
+    c.self.inside.unused c.args.place c.args.bytes c.self.invariant.sound a.0 a.1 a.3 a.2
+    c.resize_block-resized.ensures.cut c.resize_block-resized.ensures.grown in
+    let z = ap purgeable_sum r.made.zone in
+    let w = c.purgeable_at-given.ensures a.0.here a.0.above a.3.left in
+    let g = c.given_at-gives.ensures a.0.here (sym w) in
+    let p = r.given in
+    let s = given-small c.resize_block-resized.new.part.bytes c.self.inside.first c.self.inside.unused r.made.sound in
+    with-marks _ _ _ _ _ _ (record { sound = r.made.sound; free_is = c.resize_block-resized.ensures.free })
+    c.note.ensures
+    (c.changed_bound-self-inside.ensures (purgeable_sum (zone_in c.self.inside.part.bytes))
+    (purgeable_sum (zone_in c.resize_block-resized.new.part.bytes)) c.self.invariant.bound
+    (omega (arith, z, w, g, p)) s)
 
 pub returns-clause-cut : goal.returns-clause-cut
 returns-clause-cut c =

@@ -1,35 +1,64 @@
-use Rattle.std.proofs.Common.{◌≡◌, ◌∙◌, ◌++◌, ◌∷◌, ap, sym, subst, arith}
+use Rattle.std.proofs.Common.{◌≡◌, ℕ, ◌<◌, ◌∙◌, ◌++◌, ◌∷◌, Some, length, ap, sym, subst, arith}
 use Rattle.std.specs.Option.{IfSome, IsSome}
 use Rattle.block_store.specs.Block.{count, is_masters, free_sum}
-use Rattle.block_store.specs.Room.{spot_at}
+use Rattle.block_store.specs.Room.{Spot, spot_at}
 use Rattle.block_store.specs.Rest.{IsRest}
 use Rattle.block_store.specs.Seen.{with_flags}
 use Rattle.zone_bytes.specs.Decode.{zone_in}
+use Rattle.zone_bytes.specs.Stepping.{IsOnWay}
+use Rattle.zone_bytes.specs.Lawful.{IsSound}
 use Rattle.zone_bytes.specs.Table.{slot_in}
+use Rattle.raw_zone.specs.Held.{Held}
+use Rattle.raw_zone.specs.Raw.{held}
 use Rattle.raw_zone.specs.Parted.{zone_of, rest_of}
 use Rattle.zone_bytes.specs.Beside.{rest_in}
-use Rattle.zone_bytes.proofs.Places.AtPlace.{whole, low, way-at, inside, some-here}
+use Rattle.zone_bytes.proofs.Places.AtPlace.{whole, low, way-at, left-at, inside, some-here}
 use Rattle.zone_bytes.proofs.Places.Options.{if-spot, a-spot}
 use Rattle.zone_bytes.proofs.Laws.Lawful.{rest-made, kept-made}
 use Rattle.zone_bytes.proofs.Blocks.Marked.{flagged-made, masters-flagged, free-flagged}
 use Rattle.zone_bytes.proofs.Marks.Owed.{with-flags}
+use Rattle.zone_bytes.specs.Purgeable.{purgeable_sum}
+use Rattle.zone_bytes.proofs.Bounds.Given.{given-became, given-small}
 use Rattle.raw_zone.proofs.zone.RawZoneBlockStore.set_flags.Goals as goal
 
+-- what is known of the place, of the zone inside
+module _ (z view : Held) (is : z ≡ view) (first unused place : ℕ) (i : IsSound z.part.bytes first unused)
+    (some : IsSome (spot_at place (zone_of view))) where
+  here : (s : Spot) × (spot_at place (zone_of z) ≡ Some s)
+  here = a-spot (spot_at place (zone_of z)) (subst (λ v. IsSome (spot_at place (zone_of v))) (sym is) some)
+
+  way : IsOnWay place z.part.bytes
+  way = way-at z.part.bytes first unused i place here.0 here.1
+
+  below-end : place < length z.part.bytes
+  below-end =
+      let m = inside z.part.bytes first unused i place here.0 here.1 in
+      let s = some-here z.part.bytes first unused i place here.0 here.1 in
+      omega (arith, m, s)
+
+pub purgeable_at-given-requires-clause-way : goal.purgeable_at-given-requires-clause-way
+purgeable_at-given-requires-clause-way c = way (held c.self.inside) c.args.self.now c.self.view_is c.self.inside.first
+    c.self.inside.unused c.args.place c.self.invariant.sound c.requires
+
+pub purgeable_at-given-requires-clause-some : goal.purgeable_at-given-requires-clause-some
+purgeable_at-given-requires-clause-some c = below-end (held c.self.inside) c.args.self.now c.self.view_is c.self.inside.first
+    c.self.inside.unused c.args.place c.self.invariant.sound c.requires
+
+pub size_at-requires-clause-way : goal.size_at-requires-clause-way
+size_at-requires-clause-way c = way (held c.self.inside) c.args.self.now c.self.view_is c.self.inside.first
+    c.self.inside.unused c.args.place c.self.invariant.sound c.requires
+
+pub size_at-requires-clause-some : goal.size_at-requires-clause-some
+size_at-requires-clause-some c = below-end (held c.self.inside) c.args.self.now c.self.view_is c.self.inside.first
+    c.self.inside.unused c.args.place c.self.invariant.sound c.requires
+
 pub flag_at-requires-clause-way : goal.flag_at-requires-clause-way
-flag_at-requires-clause-way c =
-    let a = a-spot (spot_at c.args.place (zone_in c.self.inside.part.bytes))
-    (subst (λ v. IsSome (spot_at c.args.place (zone_of v))) (sym c.self.view_is) c.requires) in
-    way-at c.self.inside.part.bytes c.self.inside.first c.self.inside.unused c.self.invariant.sound c.args.place a.0 a.1
+flag_at-requires-clause-way c = way (held c.self.inside) c.args.self.now c.self.view_is c.self.inside.first
+    c.self.inside.unused c.args.place c.self.invariant.sound c.requires
 
 pub flag_at-requires-clause-some : goal.flag_at-requires-clause-some
-flag_at-requires-clause-some c =
-    let a = a-spot (spot_at c.args.place (zone_in c.self.inside.part.bytes))
-    (subst (λ v. IsSome (spot_at c.args.place (zone_of v))) (sym c.self.view_is) c.requires) in
-    let i = inside c.self.inside.part.bytes c.self.inside.first c.self.inside.unused c.self.invariant.sound
-    c.args.place a.0 a.1 in
-    let s = some-here c.self.inside.part.bytes c.self.inside.first c.self.inside.unused c.self.invariant.sound
-    c.args.place a.0 a.1 in
-    omega (arith, i, s)
+flag_at-requires-clause-some c = below-end (held c.self.inside) c.args.self.now c.self.view_is c.self.inside.first
+    c.self.inside.unused c.args.place c.self.invariant.sound c.requires
 
 pub invariant_of-self-inside : goal.invariant_of-self-inside
 invariant_of-self-inside c =
@@ -53,9 +82,20 @@ invariant_of-self c =
     c.args.place a.0 a.1) in
     let z = c.self.inside in
     let h = whole z.part.bytes z.first z.unused c.self.invariant.sound c.args.place a.0 a.1 in
-    rw c.flag_at.ensures.bytes (with-flags _ _ _ _ _ a.0.below a.0.above a.0.here c.args.flags (zone_in z.part.bytes)
+    let w = c.purgeable_at-given.ensures a.0.here a.0.above
+    (left-at z.part.bytes z.first z.unused c.self.invariant.sound c.args.place a.0 a.1) in
+    let y = c.size_at.ensures a.0.here a.0.above
+    (left-at z.part.bytes z.first z.unused c.self.invariant.sound c.args.place a.0 a.1) in
+    let g = c.given_with-gives.ensures a.0.here (sym y) in
+    let p = given-became a.0.below a.0.here (with_flags c.args.flags a.0.here) a.0.above (zone_in z.part.bytes) h in
+    let s = given-small _ z.first z.unused m.sound in
+    let t = ap purgeable_sum m.zone in
+    rw c.flag_at.ensures.bytes (with-flags _ _ _ _ _ _ a.0.below a.0.above a.0.here c.args.flags (zone_in z.part.bytes)
     (kept-made _ _ _ _ _ _ m (c.self.invariant.free_is ∙ ap free_sum h
-    ∙ sym (free-flagged c.args.flags a.0.below a.0.here a.0.above))) m.zone h c.self.invariant.marked)
+    ∙ sym (free-flagged c.args.flags a.0.below a.0.here a.0.above))) m.zone h c.self.invariant.marked
+    (c.changed_bound-self-inside.ensures (purgeable_sum (zone_in z.part.bytes))
+    (purgeable_sum (a.0.below ++ with_flags c.args.flags a.0.here ∷ a.0.above)) c.self.invariant.bound
+    (omega (arith, w, g, p)) (omega (arith, s, t))))
 
 pub returns-clause-zone : goal.returns-clause-zone
 returns-clause-zone c =

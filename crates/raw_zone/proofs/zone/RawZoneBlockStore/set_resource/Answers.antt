@@ -35,8 +35,8 @@ invariant_of-self-inside c =
     (m.lawful, tt)
 
 pub invariant_of-self : goal.invariant_of-self
-invariant_of-self c = with-same _ _ _ _ _ _ (kept-made _ _ _ _ _ _ (done c) c.self.invariant.free_is) (done c).zone
-    c.self.invariant.marked
+invariant_of-self c = with-same _ _ _ _ _ _ _ (kept-made _ _ _ _ _ _ (done c) c.self.invariant.free_is) (done c).zone
+    c.self.invariant.marked c.self.invariant.bound
 
 pub returns-clause-rest : goal.returns-clause-rest
 returns-clause-rest c =

@@ -84,10 +84,10 @@ invariant_of-self c =
     c.args.place a.0 a.1) a.2 in
     let z = c.self.inside in
     let h = whole z.part.bytes z.first z.unused c.self.invariant.sound c.args.place a.0 a.1 in
-    rw c.put_bytes.ensures.bytes (with-written _ _ _ _ _ a.0.below a.0.above a.0.here c.args.from c.args.bytes.now
+    rw c.put_bytes.ensures.bytes (with-written _ _ _ _ _ _ a.0.below a.0.above a.0.here c.args.from c.args.bytes.now
     (zone_in z.part.bytes) (kept-made _ _ _ _ _ _ m (c.self.invariant.free_is ∙ ap free_sum h
     ∙ sym (free-kept (written c.args.from c.args.bytes.now (content_of a.0.here)) a.0.below a.0.here a.0.above)))
-    m.zone h a.2 c.self.invariant.marked)
+    m.zone h a.2 c.self.invariant.marked c.self.invariant.bound)
 
 pub returns-clause-zone : goal.returns-clause-zone
 returns-clause-zone c =

@@ -1,0 +1,31 @@
+use Rattle.std.proofs.Common.{◌≡◌, Some, ap, sym, ◌∙◌, subst, arith}
+use Rattle.block_store.specs.Room.{spot_at}
+use Rattle.zone_bytes.specs.Purgeable.{purgeable_at}
+use Rattle.zone_bytes.proofs.Places.AtPlace.{way-at, left-at, inside, some-here}
+use Rattle.raw_zone.specs.Parted.{zone_of}
+use Rattle.raw_zone.proofs.zone.RawZone.purgeable_of.Goals as goal
+
+pub purgeable_at-requires-clause-way : goal.purgeable_at-requires-clause-way
+purgeable_at-requires-clause-way c =
+    let n = c.self.inside in
+    let a = c.in-Some.ensures in
+    way-at n.part.bytes n.first n.unused c.self.invariant.sound c.in-Some.place a.0
+    (subst (λ v. spot_at c.in-Some.place (zone_of v) ≡ Some a.0) (sym c.self.view_is) a.2)
+
+pub purgeable_at-requires-clause-some : goal.purgeable_at-requires-clause-some
+purgeable_at-requires-clause-some c =
+    let n = c.self.inside in
+    let a = c.in-Some.ensures in
+    let e = subst (λ v. spot_at c.in-Some.place (zone_of v) ≡ Some a.0) (sym c.self.view_is) a.2 in
+    let i = inside n.part.bytes n.first n.unused c.self.invariant.sound c.in-Some.place a.0 e in
+    let m = some-here n.part.bytes n.first n.unused c.self.invariant.sound c.in-Some.place a.0 e in
+    omega (arith, i, m)
+
+pub returns-in-Some : goal.returns-in-Some
+returns-in-Some c =
+    let n = c.self.inside in
+    let a = c.in-Some.ensures in
+    let e = subst (λ v. spot_at c.in-Some.place (zone_of v) ≡ Some a.0) (sym c.self.view_is) a.2 in
+    c.purgeable_at.ensures a.0.here a.0.above
+    (left-at n.part.bytes n.first n.unused c.self.invariant.sound c.in-Some.place a.0 e)
+    ∙ ap purgeable_at (sym a.1)

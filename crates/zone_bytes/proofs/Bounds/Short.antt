@@ -1,0 +1,130 @@
+-- A zone that has too few bytes, and one that has nothing to give.
+use Rattle.std.proofs.Common.{◌≡◌, ℕ, ◌+◌, ◌≤◌, ◌<◌, Bool, true, false, not, ◌&&◌, nat_le, nat_lt, cond, Option, Some, None, List}
+use Rattle.std.proofs.Common.{[], ◌∷◌, ◌++◌, length, refl, ap, arith}
+use Rattle.std.proofs.lemmas.Bool.Decides.{nat_tests}
+use Rattle.mac_words.specs.Size.{padded}
+use Rattle.block_store.specs.Block.{Block, Free, Fixed, Masters, Relocatable, total, count, free_of, free_sum, is_room}
+use Rattle.block_store.specs.Block.{is_relocatable}
+use Rattle.block_store.specs.Grow.{freed}
+use Rattle.block_store.specs.Run.{RunSpot, run_spot}
+use Rattle.block_store.specs.Room.{Spot, spot, may_go, emptied}
+use Rattle.block_store.specs.Sparing.{spared, opened, purged, most_purges}
+use Rattle.block_store.specs.declared.sparing.Sparing.{Sparing}
+use Rattle.block_store.specs.declared.sparing.Sparing.TheVariants as sparing
+use Rattle.block_store.proofs.Emptied.PurgedSums.{free-purged}
+use Rattle.block_store.proofs.Zone.Keeping.{unless-le, freed-is, purged-le, tidied}
+use Rattle.block_store.proofs.Zone.Tidy.{spot-is, spot-passes}
+use Rattle.block_store.proofs.Zone.Totals.{total-append, total-le}
+use Rattle.block_store.proofs.Zone.Views.{run_spot-is}
+use Rattle.zone_bytes.specs.Purgeable.{purgeable_of, purgeable_sum}
+use Rattle.zone_bytes.proofs.Bounds.Given.{none-free, given-emptied}
+
+-- where a zone has less than p Free bytes, no run has so many
+pub no-run : (passes : List Block → Bool) (p : ℕ) → ((run : List Block) → passes run ≡ true → p ≤ free_sum run)
+    → (zone : List Block) → free_sum zone < p → run_spot passes zone ≡ None
+no-run passes p means zone short = cases (run_spot passes zone) refl
+  where
+    cases : (o : Option RunSpot) → run_spot passes zone ≡ o → o ≡ None
+    cases None e = refl
+    cases (Some r) e =
+        let v = run_spot-is passes zone r e in
+        let z = ap free_sum v.0 in
+        let m = means r.run v.2 in
+        let t = total-append free_of r.below (r.run ++ r.above) in
+        let u = total-append free_of r.run r.above in
+        absurd (omega (arith, z, m, t, u, short))
+
+-- and no Free block has
+pub no-room : (p : ℕ) (zone : List Block) → free_sum zone < p → spot (is_room p) zone ≡ None
+no-room p zone short = cases (spot (is_room p) zone) refl
+  where
+    means : (b : Block) → is_room p b ≡ true → p ≤ free_of b
+    means (Free n) r = grind (arith, nat_tests)
+    means (Fixed id content) r = let f : false ≡ true = r in cc
+    means Masters r = let f : false ≡ true = r in cc
+    means (Relocatable id flags content) r = let f : false ≡ true = r in cc
+
+    cases : (o : Option Spot) → spot (is_room p) zone ≡ o → o ≡ None
+    cases None e = refl
+    cases (Some s) e =
+        let z = ap free_sum (spot-is (is_room p) zone s e) in
+        let m = means s.here (spot-passes (is_room p) zone s e) in
+        let t = total-append free_of s.below (s.here ∷ s.above) in
+        absurd (omega (arith, z, m, t, short))
+
+-- nothing counts as Free that isn't
+abbrev pub FreesNone : Sparing → Type 0
+FreesNone s = (zone : List Block) → opened s zone ≡ zone
+
+-- no purges make more Free than what the zone has and would give
+pub free-given : (s : Sparing) → FreesNone s → (k : ℕ) (zone : List Block)
+    → free_sum (purged k s zone) + purgeable_sum (purged k s zone) ≡ free_sum zone + purgeable_sum zone
+free-given s none k zone =
+    let f = free-purged s k zone in
+    let g = tidied purgeable_of none-free (emptied k (spared s) (opened s zone)) in
+    let e = given-emptied k (spared s) (opened s zone) in
+    let o = ap free_sum (none zone) in
+    let q = ap purgeable_sum (none zone) in
+    omega (arith, f, g, e, o, q)
+
+pub free-none : (s : Sparing) → FreesNone s → (zone : List Block) → free_sum (purged 0 s zone) ≡ free_sum zone
+free-none s none zone =
+    let f = free-purged s 0 zone in
+    let o = ap free_sum (none zone) in
+    omega (arith, f, o)
+
+-- what counts as Free would give nothing more
+given-opened : (s : Sparing) (zone : List Block) → purgeable_sum (opened s zone) ≤ purgeable_sum zone
+given-opened sparing.Nothing zone = omega arith
+given-opened (sparing.One slot) zone = omega arith
+given-opened (sparing.Two slot other) zone = omega arith
+given-opened (sparing.Freed slot) zone =
+    let f = freed-is purgeable_of none-free (is_relocatable slot) zone in
+    let l = unless-le (is_relocatable slot) purgeable_of zone in
+    omega (arith, f, l)
+
+-- each block that may go would give something
+one-gives : (sp : Block → Bool) (b : Block) → cond {A = ℕ} (may_go sp b) 1 0 ≤ purgeable_of b
+one-gives sp (Free n) = omega arith
+one-gives sp (Fixed id content) = omega arith
+one-gives sp Masters = omega arith
+one-gives sp (Relocatable id flags content) = cases (not flags.locked && flags.purgeable) (not (sp (Relocatable id flags
+    content)))
+  where
+    cases : (t u : Bool) → cond {A = ℕ} (t && u) 1 0 ≤ cond {A = ℕ} t (padded (length content)) 0
+    cases true true = omega arith
+    cases true false = omega arith
+    cases false u = omega arith
+
+count-given : (sp : Block → Bool) (zone : List Block) → count (may_go sp) zone ≤ purgeable_sum zone
+count-given sp zone = total-le (λ b. cond {A = ℕ} (may_go sp b) 1 0) purgeable_of (one-gives sp) zone
+
+-- where a zone would give nothing, no block may go
+pub none-goes : (s : Sparing) (zone : List Block) → purgeable_sum zone ≤ 0 → most_purges s zone ≡ 0
+none-goes s zone none =
+    let c = count-given (spared s) (opened s zone) in
+    let o = given-opened s zone in
+    omega (arith, c, o, none)
+
+pub none-next : (s : Sparing) (k : ℕ) (zone : List Block) → purgeable_sum zone ≤ 0
+    → spot (may_go (spared s)) (purged k s zone) ≡ None
+none-next s k zone none = cases (spot (may_go (spared s)) (purged k s zone)) refl
+  where
+    cases : (o : Option Spot) → spot (may_go (spared s)) (purged k s zone) ≡ o → o ≡ None
+    cases None e = refl
+    cases (Some b) e =
+        let z = ap purgeable_sum (spot-is (may_go (spared s)) (purged k s zone) b e) in
+        let t = total-append purgeable_of b.below (b.here ∷ b.above) in
+        let p = one-gives (spared s) b.here in
+        let q : cond {A = ℕ} (may_go (spared s) b.here) 1 0 ≡ 1 =
+        ap (λ v. cond {A = ℕ} v 1 0) (spot-passes (may_go (spared s)) (purged k s zone) b e) in
+        let l = purged-le purgeable_of none-free k (spared s) (opened s zone) in
+        let o = given-opened s zone in
+        absurd (omega (arith, z, t, p, q, l, o, none))
+
+-- what a test of two numbers says
+pub less : (m n : ℕ) → nat_lt m n ≡ true → m < n
+less m n t = grind (arith, nat_tests)
+
+pub at-least : (m n : ℕ) → nat_le m n ≡ true → m ≤ n
+at-least m n t = grind (arith, nat_tests)
