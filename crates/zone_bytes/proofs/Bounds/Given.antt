@@ -1,14 +1,11 @@
 -- What blocks would give if they were emptied, through each change of a zone.
-use Rattle.std.proofs.Common.{◌≡◌, ℕ, zero, suc, ◌+◌, ◌-◌, ◌≤◌, ◌<◌, ◌^◌, Bool, true, false, not, ◌&&◌, cond, Option, Some, None}
+use Rattle.std.proofs.Common.{◌≡◌, ℕ, zero, suc, ◌+◌, ◌-◌, ◌≤◌, ◌<◌, ◌^◌, Bool, true, false, not, cond, Option, Some, None}
 use Rattle.std.proofs.Common.{List, [], ◌∷◌, ◌++◌, refl, ap, arith}
 use Rattle.std.proofs.lemmas.Bool.{and_parts, cond-true}
 use Rattle.block_store.specs.Block.{Block, Free, Fixed, Masters, Relocatable, size, sizes, total, free_of, free_sum}
 use Rattle.block_store.specs.Block.{is_purgeable, fresh, tidy}
 use Rattle.block_store.specs.Grow.{freed, growth, taken, grow_up}
 use Rattle.block_store.specs.Room.{Spot, spot, filled, may_go, emptied}
-use Rattle.block_store.specs.Sparing.{spared, opened, purged}
-use Rattle.block_store.specs.declared.sparing.Sparing.{Sparing}
-use Rattle.block_store.specs.declared.sparing.Sparing.TheVariants as sparing
 use Rattle.block_store.proofs.Zone.Keeping.{SeesNoFree, unless, unless-le, freely, freed-is, tidied, taken-le}
 use Rattle.block_store.proofs.Zone.Tidy.{total-tidy, spot-is, spot-passes}
 use Rattle.block_store.proofs.Zone.Totals.{total-append, total-le}

@@ -1,11 +1,10 @@
 -- A zone that has too few bytes, and one that has nothing to give.
 use Rattle.std.proofs.Common.{◌≡◌, ℕ, ◌+◌, ◌≤◌, ◌<◌, Bool, true, false, not, ◌&&◌, nat_le, nat_lt, cond, Option, Some, None, List}
-use Rattle.std.proofs.Common.{[], ◌∷◌, ◌++◌, length, refl, ap, arith}
+use Rattle.std.proofs.Common.{◌∷◌, ◌++◌, length, refl, ap, arith}
 use Rattle.std.proofs.lemmas.Bool.Decides.{nat_tests}
 use Rattle.mac_words.specs.Size.{padded}
-use Rattle.block_store.specs.Block.{Block, Free, Fixed, Masters, Relocatable, total, count, free_of, free_sum, is_room}
+use Rattle.block_store.specs.Block.{Block, Free, Fixed, Masters, Relocatable, count, free_of, free_sum, is_room}
 use Rattle.block_store.specs.Block.{is_relocatable}
-use Rattle.block_store.specs.Grow.{freed}
 use Rattle.block_store.specs.Run.{RunSpot, run_spot}
 use Rattle.block_store.specs.Room.{Spot, spot, may_go, emptied}
 use Rattle.block_store.specs.Sparing.{spared, opened, purged, most_purges}

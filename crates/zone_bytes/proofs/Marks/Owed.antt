@@ -5,7 +5,7 @@ use Rattle.mac_words.specs.Size.{padded}
 use Rattle.windows.specs.Writes.{written}
 use Rattle.windows.proofs.Pieces.{length-written}
 use Rattle.block_store.specs.declared.flags.Flags.{Flags}
-use Rattle.block_store.specs.Block.{Block, Free, Fixed, Masters, Relocatable, size, sizes, free, free_of}
+use Rattle.block_store.specs.Block.{Block, Free, Fixed, Masters, Relocatable, size, free, free_of}
 use Rattle.block_store.specs.Block.{content_of, is_purgeable, with_content}
 use Rattle.block_store.specs.Inner.Stretch.{is_free}
 use Rattle.block_store.specs.Room.{filled}
@@ -14,7 +14,6 @@ use Rattle.block_store.proofs.Content.Sized.{cut-sized}
 use Rattle.block_store.proofs.Zone.Totals.{total-append}
 use Rattle.zone_bytes.specs.Decode.{zone_in}
 use Rattle.zone_bytes.specs.Lawful.{IsKept}
-use Rattle.zone_bytes.specs.Table.{slot_in}
 use Rattle.zone_bytes.specs.Marked.{AreOf, IsMarked}
 use Rattle.zone_bytes.specs.Marks.{Replaced}
 use Rattle.zone_bytes.specs.Purgeable.{purgeable_of, purgeable_sum}

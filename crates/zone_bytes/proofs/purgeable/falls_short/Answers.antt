@@ -1,5 +1,4 @@
-use Rattle.std.proofs.Common.{◌≡◌, ◌<◌, ap, sym, subst, arith}
-use Rattle.std.proofs.lemmas.Bool.Decides.{nat_tests}
+use Rattle.std.proofs.Common.{◌<◌, sym, subst, arith}
 use Rattle.block_store.specs.Block.{free_sum}
 use Rattle.block_store.specs.Sparing.{purged}
 use Rattle.zone_bytes.proofs.Bounds.Short.{free-given, free-none, less}
