@@ -17,7 +17,8 @@ use Rattle.zone_bytes.proofs.Tiles.Tiling.{slot-append_right, tiles-one, tiles-s
 use Rattle.zone_bytes.proofs.Tiles.Leading.{Clear, piece-clear, each-map, leads-append, leads-left, leads-right}
 use Rattle.zone_bytes.proofs.Tiles.Leading.{leads-written}
 use Rattle.zone_bytes.proofs.Runs.Packed.{length-masters, span-whole}
-use Rattle.zone_bytes.proofs.Runs.Settled.{free-tile, free-some}
+use Rattle.block_store.proofs.Zone.Spots.{free-some}
+use Rattle.zone_bytes.proofs.Runs.Settled.{free-tile}
 use Rattle.zone_bytes.proofs.Tiles.Splices.{outside-same, outside-written, piece-outside, leads-outside, tiles-splice}
 use Rattle.zone_bytes.proofs.Tiles.Splices.{leads-splice}
 

@@ -1,5 +1,5 @@
 -- A zone that has too few bytes, and one that has nothing to give.
-use Rattle.std.proofs.Common.{◌≡◌, ℕ, ◌+◌, ◌≤◌, ◌<◌, Bool, true, false, not, ◌&&◌, nat_le, nat_lt, cond, Option, Some, None, List}
+use Rattle.std.proofs.Common.{◌≡◌, ℕ, ◌+◌, ◌≤◌, ◌<◌, Bool, true, false, not, ◌&&◌, cond, Option, Some, None, List}
 use Rattle.std.proofs.Common.{◌∷◌, ◌++◌, length, refl, ap, arith}
 use Rattle.std.proofs.lemmas.Bool.Decides.{nat_tests}
 use Rattle.mac_words.specs.Size.{padded}
@@ -120,10 +120,3 @@ none-next s k zone none = cases (spot (may_go (spared s)) (purged k s zone)) ref
         let l = purged-le purgeable_of none-free k (spared s) (opened s zone) in
         let o = given-opened s zone in
         absurd (omega (arith, z, t, p, q, l, o, none))
-
--- what a test of two numbers says
-pub less : (m n : ℕ) → nat_lt m n ≡ true → m < n
-less m n t = grind (arith, nat_tests)
-
-pub at-least : (m n : ℕ) → nat_le m n ≡ true → m ≤ n
-at-least m n t = grind (arith, nat_tests)

@@ -9,7 +9,7 @@ use Rattle.zone_bytes.specs.Table.{Lays}
 use Rattle.zone_bytes.specs.Joining.{Freeing, MayFree, Joining, MayJoin}
 use Rattle.zone_bytes.proofs.Tiles.Tiling.{span-append}
 use Rattle.zone_bytes.proofs.Tiles.Keeping.{span-free}
-use Rattle.zone_bytes.proofs.Runs.Settled.{free-some}
+use Rattle.block_store.proofs.Zone.Spots.{free-some}
 use Rattle.zone_bytes.proofs.Joined.Ways.{inside, Read, read}
 
 pub free-is : (b : Block) → kind b ≡ 0 → b ≡ Free (size b)

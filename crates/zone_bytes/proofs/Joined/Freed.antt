@@ -28,7 +28,7 @@ use Rattle.zone_bytes.proofs.Tiles.Decoding.{says, flag_word-small}
 use Rattle.zone_bytes.proofs.Places.Stepped.{word-at}
 use Rattle.zone_bytes.proofs.SlotTable.Tables.{apart-clear}
 use Rattle.zone_bytes.proofs.Runs.Packed.{length-masters, run-no_slot, slot-even}
-use Rattle.zone_bytes.proofs.Runs.Settled.{free-some}
+use Rattle.block_store.proofs.Zone.Spots.{free-some}
 use Rattle.zone_bytes.proofs.Blocks.Carves.{outside, slot-kept}
 use Rattle.zone_bytes.proofs.Blocks.InPlace.{no-slots}
 use Rattle.zone_bytes.proofs.Joined.Ways.{Read, read, tile-at}

@@ -1,10 +1,9 @@
 -- The zone that bytes spell, where the block of a handle's slot is made Free.
-use Rattle.std.proofs.Common.{◌≡◌, ℕ, Bool, IsTrue, ◌+◌, ◌≤◌, List, sym, refl, ap, ◌∙◌, arith}
-use Rattle.std.proofs.lemmas.Bool.{false≢true}
+use Rattle.std.proofs.Common.{◌≡◌, ℕ, IsTrue, ◌+◌, ◌≤◌, List, sym, ap, ◌∙◌, arith}
 use Rattle.raw_region.specs.Memory.{Bytes}
 use Rattle.block_store.specs.Block.{Block, tidy, count, free_sum, is_masters, is_relocatable}
 use Rattle.block_store.specs.Grow.{freed}
-use Rattle.block_store.specs.Slot.{Slot, NoSlot, Unused, Used, is_used}
+use Rattle.block_store.specs.Slot.{Slot, is_used}
 use Rattle.block_store.specs.Rest.{IsRest}
 use Rattle.block_store.proofs.Zone.Apart.{tidy-tidy}
 use Rattle.block_store.proofs.Zone.Leading.{masters-released}
@@ -15,11 +14,7 @@ use Rattle.zone_bytes.specs.Lawful.{IsSound, IsKept}
 use Rattle.zone_bytes.specs.Table.{Table, Lays, slot_in}
 use Rattle.zone_bytes.proofs.Laws.Lawful.{Made, made, sizes-length, rest-made, kept-made}
 use Rattle.zone_bytes.proofs.Places.Walks.{free_span-le}
-
-used-state : (st : Slot) → IsTrue (is_used st) → (r : Bool) × (st ≡ Used r)
-used-state NoSlot u = absurd (false≢true u)
-used-state Unused u = absurd (false≢true u)
-used-state (Used r) u = (r, refl)
+use Rattle.zone_bytes.proofs.SlotTable.Handles.{used-is}
 
 -- the Free bytes are no more than a zone may have
 pub free-fits : (xs : List ℕ) (blocks : List Block) (slots : ℕ → Slot) (unused : List ℕ)
@@ -70,7 +65,7 @@ module _ (xs : List ℕ) (first number : ℕ) (i : IsSound xs first number) wher
 
   module _ (slot : ℕ) (used : IsTrue (is_used (slot_in xs slot))) where
     pub has-handle : HasHandle table-of slot xs
-    has-handle = let s = used-state (slot_in xs slot) used in
+    has-handle = let s = used-is (slot_in xs slot) used in
         record { lays = i.lays; tidied = i.tidied; resource = s.0; used = s.1 }
 
   -- the block of a handle's slot is made Free

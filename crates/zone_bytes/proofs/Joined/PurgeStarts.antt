@@ -18,7 +18,7 @@ use Rattle.zone_bytes.specs.Purging.{Purge, Purging, Purged, MayPurge, purge_abo
 use Rattle.zone_bytes.specs.Table.{Lays, slot_in}
 use Rattle.zone_bytes.proofs.Tiles.Tiling.{span-append}
 use Rattle.zone_bytes.proofs.Places.AtPlace.{whole, low}
-use Rattle.zone_bytes.proofs.Runs.Settled.{free-some}
+use Rattle.block_store.proofs.Zone.Spots.{free-some}
 use Rattle.zone_bytes.proofs.Joined.Ways.{Read, read}
 use Rattle.zone_bytes.proofs.Joined.Above.{free-is, not_free-is}
 use Rattle.zone_bytes.proofs.Joined.Handles.{Gained, gained}

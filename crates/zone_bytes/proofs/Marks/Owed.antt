@@ -11,6 +11,7 @@ use Rattle.block_store.specs.Inner.Stretch.{is_free}
 use Rattle.block_store.specs.Room.{filled}
 use Rattle.block_store.specs.Seen.{with_flags}
 use Rattle.block_store.proofs.Content.Sized.{cut-sized}
+use Rattle.block_store.proofs.Zone.Spots.{size-content}
 use Rattle.block_store.proofs.Zone.Totals.{total-append}
 use Rattle.zone_bytes.specs.Decode.{zone_in}
 use Rattle.zone_bytes.specs.Lawful.{IsKept}
@@ -22,12 +23,6 @@ use Rattle.zone_bytes.proofs.Marks.Keeping.{marks-same, carved-replaced}
 use Rattle.zone_bytes.proofs.Placed.FixedCarved.{Roomy}
 
 -- a block whose content is another of as many bytes
-size-content : (x : List ℕ) (b : Block) → length x ≡ length (content_of b) → size (with_content x b) ≡ size b
-size-content x (Free n) e = refl
-size-content x (Fixed id content) e = ap padded e
-size-content x Masters e = refl
-size-content x (Relocatable id flags content) e = ap padded e
-
 free-content : (x : List ℕ) (b : Block) → free_of (with_content x b) ≡ free_of b
 free-content x (Free n) = refl
 free-content x (Fixed id content) = refl

@@ -19,7 +19,7 @@ use Rattle.zone_bytes.specs.Splicing.{SameOutside}
 use Rattle.zone_bytes.specs.Laying.{headed, laid, MayLay}
 use Rattle.zone_bytes.proofs.Tiles.Splices.{outside-same, outside-written}
 
-below-top : (m n : ℕ) → nat_lt m n ≡ true → m < n
+pub below-top : (m n : ℕ) → nat_lt m n ≡ true → m < n
 below-top m n e = grind (arith, nat_tests)
 
 not-below : (m n : ℕ) → nat_lt m n ≡ false → n ≤ m

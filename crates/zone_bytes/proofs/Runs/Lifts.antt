@@ -19,7 +19,7 @@ use Rattle.zone_bytes.proofs.Tiles.Permuted.{each-moved}
 use Rattle.zone_bytes.proofs.Tiles.Keeping.{each-free, each-movers, each-settle, names-free, names-movers, names-settle}
 use Rattle.zone_bytes.proofs.Tiles.Keeping.{run-names, slot-run, span-free, span-movers, span-settle}
 use Rattle.zone_bytes.proofs.Runs.Packed.{run-bounds}
-use Rattle.zone_bytes.proofs.Runs.Settled.{free-some}
+use Rattle.block_store.proofs.Zone.Spots.{free-some}
 use Rattle.zone_bytes.proofs.Runs.Led.{settled-of}
 use Rattle.zone_bytes.proofs.Runs.Until.{cut-same, cut-movers, cut-free, cut-span, cut-run, whole-packed, whole-top}
 use Rattle.zone_bytes.proofs.Runs.Until.{whole-stop}

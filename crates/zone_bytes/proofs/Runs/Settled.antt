@@ -1,5 +1,5 @@
 -- The next block of a run, and the end of the run.
-use Rattle.std.proofs.Common.{◌≡◌, ℕ, ◌+◌, ◌-◌, ◌%◌, ◌<◌, ◌≤◌, inl, inr, Bool, true, false, cond, nat_lt, zero, suc}
+use Rattle.std.proofs.Common.{◌≡◌, ℕ, ◌+◌, ◌-◌, ◌%◌, ◌<◌, ◌≤◌, inl, inr, Bool, true, false, cond, nat_lt}
 use Rattle.std.proofs.Common.{List, [], ◌∷◌, ◌++◌, length, take, drop, sym, refl, ap, ◌∙◌, subst, arith, append_assoc}
 use Rattle.std.proofs.lemmas.List.{append-nil, length-take-le, length-drop, drop-drop, take-take, take-append-drop}
 use Rattle.std.proofs.lemmas.List.Elements.{filter-append}
@@ -11,6 +11,7 @@ use Rattle.windows.proofs.Pieces.{length-written, take-written_below, drop-writt
 use Rattle.block_store.specs.Block.{Block, Free, Fixed, Masters, Relocatable, size, is_mover, free, free_of, free_sum}
 use Rattle.block_store.specs.Block.{sizes}
 use Rattle.block_store.specs.Run.{movers, settle}
+use Rattle.block_store.proofs.Zone.Spots.{free-some}
 use Rattle.zone_bytes.specs.Layout.{head_of, Tile, Tiles, names, Leads, Each}
 use Rattle.zone_bytes.specs.Settling.{falling_from, Lay, EndsRun, runs_on, IsRun, PackingAt, Packing, Packed}
 use Rattle.zone_bytes.proofs.Tiles.Tiling.{tiles-append, tiles-one, tiles-split}
@@ -23,10 +24,6 @@ use Rattle.zone_bytes.proofs.Runs.Packed.{slot-length, length-slid, step-free, s
 
 pub free_sum-span : (blocks : List Block) → free_sum blocks ≡ free_sum blocks
 free_sum-span blocks = refl
-
-pub free-some : (n : ℕ) → 0 < n → free n ≡ Free n ∷ []
-free-some zero h = absurd (omega arith)
-free-some (suc n) h = refl
 
 -- a word that is a multiple of 16 and a small number in two ways
 pub same_parts : (a b s k : ℕ) → a + b ≡ s + k → a % 16 ≡ 0 → s % 16 ≡ 0 → b ≤ 3 → k ≤ 3 → (a ≡ s) × (b ≡ k)

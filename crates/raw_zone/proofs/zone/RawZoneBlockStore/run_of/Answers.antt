@@ -7,14 +7,15 @@ use Rattle.raw_zone.specs.Parted.{zone_of}
 use Rattle.zone_bytes.proofs.Places.AtPlace.{left-zone, on-way, sizes-fit}
 use Rattle.std.proofs.lemmas.Bool.{and_parts}
 use Rattle.zone_bytes.specs.Decode.{zone_in}
-use Rattle.zone_bytes.proofs.Bounds.Short.{no-run, at-least}
+use Rattle.zone_bytes.proofs.Bounds.Short.{no-run}
+use Rattle.zone_bytes.proofs.Tiles.Spelling.{le-back}
 use Rattle.raw_zone.proofs.zone.RawZoneBlockStore.run_of.Goals as goal
 
 pub returns-then-falls_short : goal.returns-then-falls_short
 returns-then-falls_short c =
     let z = purged c.args.purges c.args.sparing (zone_of c.args.self.now) in
     no-run (λ run. has (is_relocatable c.args.number) run && has_free c.args.bytes run) c.args.bytes (λ run f.
-    at-least c.args.bytes (free_sum run) (and_parts (has (is_relocatable c.args.number) run) (has_free c.args.bytes run)
+    le-back c.args.bytes (free_sum run) (and_parts (has (is_relocatable c.args.number) run) (has_free c.args.bytes run)
     f).1) z
     (subst (λ v. free_sum (purged c.args.purges c.args.sparing (zone_of v)) < c.args.bytes) c.self.view_is
     (c.falls_short.ensures c.if-falls_short.true (zone_in c.self.inside.part.bytes) c.self.invariant.free_is
