@@ -165,6 +165,36 @@ def steady(lines, names=60000):
     return "\n".join(text[:lines]).encode() + b"\n"
 
 
+def resized(count, times):
+    """master pointers for all, blocks, and then one of them at another size, again and again"""
+    chance = random.Random(5)
+    text = ["MoreMasters"] * (count // 64 + 1) + ["NewHandle h%d %d" % (i, 40 + i % 60) for i in range(count)]
+    text += ["SetHandleSize h%d %d" % (chance.randrange(count), chance.randrange(20, 200)) for _ in range(times)]
+    return "\n".join(text).encode() + b"\n"
+
+
+def among_locked(lines, names):
+    """blocks of 0 to 400 bytes come and go; a tenth is made purgeable, and a tenth locked until it goes"""
+    chance, text, live, locked = random.Random(7), [], set(), set()
+    while len(text) < lines:
+        what, name = chance.random(), chance.randrange(names)
+        if name in live:
+            if name in locked:
+                text.append("HUnlock h%d" % name)
+            live.discard(name)
+            locked.discard(name)
+            text.append("DisposeHandle h%d" % name)
+            continue
+        live.add(name)
+        text.append("NewHandle h%d %d" % (name, chance.randrange(401)))
+        if what < 0.1:
+            text.append("HPurge h%d" % name)
+        elif what < 0.2:
+            locked.add(name)
+            text.append("HLock h%d" % name)
+    return "\n".join(text[:lines]).encode() + b"\n"
+
+
 def emptied(count):
     """blocks that may be emptied, and a call that needs the room of all of them"""
     text = "".join("NewHandle h%d 100\nHPurge h%d\n" % (i, i) for i in range(count))
@@ -202,6 +232,8 @@ SCRIPTS = [
     ("4194304", "the same, MoreMasters 782 times first", b"MoreMasters\n" * 782 + empty_handles(50000)),
     ("1048576", "60,000 lines in a full zone of 1 MB", churn(60000)),
     ("1048576", "200,000 lines in a full zone of 1 MB", churn(200000)),
+    ("4194304", "200,000 lines in a full zone of 4 MB, a tenth of whose blocks are locked", among_locked(200000, 40000)),
+    ("16777216", "20,000 blocks, and 40,000 times one of them gets another size", resized(20000, 40000)),
     ("16777216", "25,000 rounds of four calls over 8 names", rounds(25000)),
     ("671744", "5,000 blocks emptied for one call", emptied(5000)),
     ("134217728", "10,000 blocks of 13,000 bytes, the lowest disposed of", packed(10000, 13000, "FreeMem")),
