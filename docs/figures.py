@@ -328,10 +328,10 @@ def main():
     print("\n| Fork | `cat` | `map` | `check` |\n|---|---|---|---|")
     for make in FORKS:
         path = put(make.__name__, make())
-        plain = best(["/bin/cat", path], 20)
+        cat = best(["/bin/cat", path], 20)
         row = [best([PROGRAM, word, path], 10) for word in ("map", "check")]
-        times = ["%.1f ms, %.0f times" % (t * 1000, t / plain) for t in row]
-        print("| %s | %.1f ms | %s |" % (make.__doc__, plain * 1000, " | ".join(times)))
+        times = ["%.1f ms, %.0f times" % (t * 1000, t / cat) for t in row]
+        print("| %s | %.1f ms | %s |" % (make.__doc__, cat * 1000, " | ".join(times)))
 
 
 main()
