@@ -41,13 +41,13 @@ pub use looking::{next_purgeable_in, place_in, purgeable_in, room_above_in};
 pub use maker::ZoneMaker;
 pub use measures::{GREATEST_ZONE, HEADER_SIZE, LEAST_ZONE, MASTERS_SIZE, SLOTS_A_BLOCK, UNIT};
 pub use purged_sums::{free_after_in, largest_after_in};
-pub use run_search::{find_run_in, run_of_in};
+pub use run_search::{RunScan, find_run_in, run_of_in, scan_run};
 pub use runs::{
     largest_free_in, largest_run_in, next_run_in, purgeable_in_run_in, run_has_free_in,
 };
 pub use sparing::{Seen, Sparing};
 pub use store::BlockStore;
-pub use stretch::find_free_in;
+pub use stretch::{RoomScan, find_free_in, scan_room, suffices};
 pub use walk::{
     Walk, free_of_seen, is_counted_free, is_in_run, is_of, may_be_emptied, may_go_now, size_of_seen,
 };

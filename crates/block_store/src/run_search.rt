@@ -42,7 +42,7 @@ fn is_enough(scan: RunScan, bytes: u32) -> bool
 }
 
 /// The search after a block, where the run so far is not yet the one.
-fn scan_run(block: Seen, number: Option<u32>, scan: RunScan, sparing: Sparing) -> RunScan
+pub fn scan_run(block: Seen, number: Option<u32>, scan: RunScan, sparing: Sparing) -> RunScan
     requires room { scan.place + seen_size block < 2 ^ 32 }
     requires free { scan.free ≤ scan.place }
     ensures scan { (b : Block) (above : List Block) (p : ℕ) → seen b ≡ block

@@ -15,7 +15,7 @@ use crate::walk::{Walk, is_counted_free, may_be_emptied, size_of_seen};
 
 /// How far a search is: the purges left, where the stretch began, its bytes so far, and the place.
 #[derive(Clone, Copy, Debug, PartialEq, Eq)]
-pub struct Scan {
+pub struct RoomScan {
     pub left: u32,
     pub start: u32,
     pub free: u32,
@@ -30,7 +30,7 @@ pub fn suffices(free: u32, bytes: u32) -> bool
 }
 
 /// The search after a block; none where the stretch is the one.
-fn scan_block(block: Seen, bytes: u32, scan: Scan, sparing: Sparing) -> Option<Scan>
+pub fn scan_room(block: Seen, bytes: u32, scan: RoomScan, sparing: Sparing) -> Option<RoomScan>
     requires room { scan.place + seen_size block < 2 ^ 32 }
     requires free { scan.free ≤ scan.place }
     ensures scan { (b : Block) (above : List Block) → seen b ≡ block
@@ -42,7 +42,7 @@ fn scan_block(block: Seen, bytes: u32, scan: Scan, sparing: Sparing) -> Option<S
     let size = size_of_seen(block);
     let place = scan.place + size;
     if scan.left > 0 && may_be_emptied(block, sparing) {
-        return Some(Scan {
+        return Some(RoomScan {
             left: scan.left - 1,
             start: scan.start,
             free: scan.free + size,
@@ -50,7 +50,7 @@ fn scan_block(block: Seen, bytes: u32, scan: Scan, sparing: Sparing) -> Option<S
         });
     }
     if is_counted_free(block, sparing) {
-        return Some(Scan {
+        return Some(RoomScan {
             left: scan.left,
             start: scan.start,
             free: scan.free + size,
@@ -60,7 +60,7 @@ fn scan_block(block: Seen, bytes: u32, scan: Scan, sparing: Sparing) -> Option<S
     if suffices(scan.free, bytes) {
         return None;
     }
-    Some(Scan {
+    Some(RoomScan {
         left: scan.left,
         start: place,
         free: 0,
@@ -74,14 +74,14 @@ fn find_room_in<W: Walk>(walk: &mut W, bytes: u32, purges: u32, sparing: Sparing
     ensures { result ≡ option_map (λ s. sizes s.below)
         (spot (is_room bytes) (purged purges sparing (W.rest walk.old))) }
 {
-    let mut scan = Scan {
+    let mut scan = RoomScan {
         left: purges,
         start: 0,
         free: 0,
         place: 0,
     };
     while let Some(block) = walk.next_block() {
-        let Some(next) = scan_block(block, bytes, scan, sparing) else {
+        let Some(next) = scan_room(block, bytes, scan, sparing) else {
             return Some(scan.start);
         };
         scan = next;

@@ -78,7 +78,7 @@ enough-room : (p n : ℕ) → 0 < n → is_enough p (0 + n) ≡ is_room p (Free 
 enough-room p n some = rw (lt-ltb 0 (0 + n) (omega arith)) (ap (nat_le p) (let z : 0 + n ≡ n = omega arith in z))
 
 -- in blocks that stand apart, each Free block is a stretch
-stretch-apart : (p : ℕ) (sp : Block → Bool) (place : ℕ) (bs : List Block) → Apart bs
+pub stretch-apart : (p : ℕ) (sp : Block → Bool) (place : ℕ) (bs : List Block) → Apart bs
     → stretch p sp 0 place 0 place bs ≡ option_map (λ (s : Spot). place + sizes s.below) (spot (is_room p) bs)
 stretch-apart p sp place [] apart = refl
 stretch-apart p sp place (Fixed id content ∷ bs) apart = stretch-apart p sp (place + size (Fixed id content)) bs apart.1

@@ -4,7 +4,7 @@ use Rattle.block_store.specs.Block.{Block, Free, Fixed, Masters, Relocatable, si
 use Rattle.block_store.specs.Room.{may_go}
 use Rattle.block_store.specs.declared.sparing.Sparing.{Sparing}
 use Rattle.block_store.specs.declared.sparing.Sparing.TheVariants as sparing
-use Rattle.block_store.specs.declared.stretch.Scan.{Scan}
+use Rattle.block_store.specs.declared.stretch.RoomScan.{RoomScan}
 
 -- How a search for room goes over the blocks: Free neighbours, and blocks that would be emptied, are one stretch.
 
@@ -45,6 +45,6 @@ stretch p spared (suc k) start free place (b ∷ above) =
     else (if is_enough p free then Some start else stretch p spared (suc k) (place + size b) 0 (place + size b) above))
 
 -- what a search gives from where it is, or the stretch that it found
-abbrev pub after_scan : ℕ → (Block → Bool) → ℕ → Option Scan → List Block → Option ℕ
+abbrev pub after_scan : ℕ → (Block → Bool) → ℕ → Option RoomScan → List Block → Option ℕ
 after_scan p spared start None above = Some start
 after_scan p spared start (Some s) above = stretch p spared s.left s.start s.free s.place above
