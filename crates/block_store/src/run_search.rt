@@ -1,6 +1,6 @@
 //! The search for a run among blocks, some of which would be emptied.
 
-ghost use Rattle.std.specs.Prelude.{◌≡◌, ◌+◌, ◌≤◌, ◌<◌, ◌^◌, ◌&&◌, ◌∷◌, ℕ, List, false, nat_le};
+ghost use Rattle.std.specs.Prelude.{◌≡◌, ◌+◌, ◌≤◌, ◌<◌, ◌^◌, ◌&&◌, ◌∷◌, ℕ, List, None, true, false, nat_le};
 ghost use Rattle.std.specs.Option.{option_map};
 ghost use Rattle.block_store.specs.Block.{Block, sizes, is_relocatable};
 ghost use Rattle.block_store.specs.Run.{run_spot, has, has_free};
@@ -49,6 +49,8 @@ pub fn scan_run(block: Seen, number: Option<u32>, scan: RunScan, sparing: Sparin
         → (scan.met && nat_le p scan.free) ≡ false
         → scan_from number p (spared sparing) scan (opened sparing (b ∷ above))
         ≡ scan_from number p (spared sparing) result (opened sparing above) }
+    ensures left { result.left ≤ scan.left }
+    ensures met { number ≡ None → scan.met ≡ true → result.met ≡ true }
     ensures place { result.place ≡ scan.place + seen_size block }
     ensures free { result.free ≤ result.place }
 {

@@ -1,5 +1,5 @@
 -- Blocks that a search for a run goes past, since no run comes to enough Free bytes there.
-use Rattle.std.proofs.Common.{◌≡◌, ℕ, ◌+◌, ◌≤◌, ◌<◌, Bool, true, false, not, ◌&&◌, ◌||◌, List, [], ◌∷◌, ◌++◌, refl, sym}
+use Rattle.std.proofs.Common.{◌≡◌, ℕ, zero, suc, ◌+◌, ◌≤◌, ◌<◌, Bool, true, false, not, ◌&&◌, ◌||◌, List, [], ◌∷◌, ◌++◌, refl, sym}
 use Rattle.std.proofs.Common.{◌∙◌, ap, cond, arith, Option, Some, None, nat_le}
 use Rattle.std.proofs.lemmas.Bool.{lt-leb}
 use Rattle.block_store.specs.Block.{Block, Free, Fixed, Masters, Relocatable, size, sizes, free_of, free_sum}
@@ -7,7 +7,7 @@ use Rattle.block_store.specs.Run.{in_run, has}
 use Rattle.block_store.specs.Inner.RunScan.{any_run, met_after, scan_runs}
 
 -- a run so far that isn't enough
-short-run : (met : Bool) (p free : ℕ) → free < p → (met && nat_le p free) ≡ false
+pub short-run : (met : Bool) (p free : ℕ) → free < p → (met && nat_le p free) ≡ false
 short-run true p free l = lt-leb p free l
 short-run false p free l = refl
 
@@ -128,3 +128,21 @@ goes-through p sp start free met place (b ∷ passed) rest h = cases (in_run b) 
         ≡ after
     cases true h more = more h
     cases false h more = let f : true ≡ false = h in cc
+
+-- where no purges are left, it doesn't matter which blocks are spared
+pub spared-alike : (w : Option ℕ) (p : ℕ) (sp sp' : Block → Bool) (start free : ℕ) (met : Bool) (place : ℕ)
+    (bs : List Block) → scan_runs w p sp 0 start free met place bs ≡ scan_runs w p sp' 0 start free met place bs
+spared-alike w p sp sp' start free met place [] = refl
+spared-alike w p sp sp' start free met place (b ∷ bs) =
+    ap (λ o. cond (in_run b) o (cond (met && nat_le p free) (Some start)
+    (scan_runs w p sp 0 (place + size b) 0 (any_run w) (place + size b) bs)))
+    (spared-alike w p sp sp' start (free + free_of b) (met_after w met b) (place + size b) bs)
+    ∙ ap (λ o. cond (in_run b) (scan_runs w p sp' 0 start (free + free_of b) (met_after w met b) (place + size b) bs)
+    (cond (met && nat_le p free) (Some start) o))
+    (spared-alike w p sp sp' (place + size b) 0 (any_run w) (place + size b) bs)
+
+-- where the blocks end
+pub scan-end : (w : Option ℕ) (p : ℕ) (sp : Block → Bool) (k start free : ℕ) (met : Bool) (place : ℕ)
+    → scan_runs w p sp k start free met place [] ≡ cond (met && nat_le p free) (Some start) None
+scan-end w p sp zero start free met place = refl
+scan-end w p sp (suc k) start free met place = refl
