@@ -10,3 +10,4 @@ pub mod Placed
 pub mod Joined
 pub mod Marks
 pub mod Bounds
+pub mod Searches

@@ -1,5 +1,7 @@
 pub mod Passing
 pub mod Spanned
+pub mod Between
+pub mod Counting
 pub mod Lowering
 pub mod Rooms
 pub mod Keeping

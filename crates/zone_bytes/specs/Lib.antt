@@ -23,4 +23,5 @@ pub mod Mastering
 pub mod Joining
 pub mod Purgeable
 pub mod Purging
+pub mod Searching
 pub mod Adopting

@@ -1,9 +1,13 @@
 -- Landmarks of a zone: places at which blocks begin, between which no Free block is larger than is noted.
-use Rattle.std.specs.Prelude.{◌≡◌, ℕ, ◌+◌, ◌*◌, ◌≤◌, ◌<◌, ◌⊎◌, true, false, List, [], ◌∷◌, ◌++◌}
-use Rattle.std.specs.Prelude.{length, drop, get_or}
-use Rattle.block_store.specs.Block.{Block, size, sizes, free_of, is_room}
+use Rattle.std.specs.Prelude.{◌≡◌, ℕ, ◌+◌, ◌*◌, ◌≤◌, ◌<◌, ◌⊎◌, Bool, true, false, not, ◌&&◌, if◌then◌else◌, nat_le, nat_lt}
+use Rattle.std.specs.Prelude.{List, [], ◌∷◌, ◌++◌, length, drop, get_or}
+use Rattle.block_store.specs.Block.{Block, size, sizes, free_of, free_sum, is_room}
+use Rattle.block_store.specs.Run.{in_run, has}
 use Rattle.zone_bytes.specs.Stepping.{left_in, IsOnWay}
 use Rattle.zone_bytes.specs.declared.landmark.Landmark.{Landmark}
+use Rattle.zone_bytes.specs.declared.landmark.Tally.{Tally}
+use Rattle.zone_bytes.specs.declared.landmark.Tally.TheVariants as tally
+use Rattle.zone_bytes.specs.declared.measuring.Measured.{Measured}
 use Rattle.zone_bytes.specs.declared.landmark.TheConstants.{GROUP}
 
 -- something holds of each of the blocks from `at` on and its place
@@ -24,22 +28,49 @@ abbrev pub Begins : ℕ → ℕ → List Block → Type 0
 Begins place at [] = place ≡ at
 Begins place at (b ∷ above) = (place ≡ at) ⊎ Begins place (at + size b) above
 
+-- the blocks that begin from lo up to hi, of those from `at` on
+abbrev pub between : ℕ → ℕ → ℕ → List Block → List Block
+between lo hi at [] = []
+between lo hi at (b ∷ above) = if nat_le lo at && nat_lt at hi then b ∷ between lo hi (at + size b) above
+    else between lo hi (at + size b) above
+
+-- a block that ends a run
+abbrev pub ends_run : Block → Bool
+ends_run b = not (in_run b)
+
+-- what a tally says of blocks
+abbrev pub IsTally : Tally → List Block → Type 0
+IsTally (tally.Open free) blocks = (has ends_run blocks ≡ false) × (free_sum blocks ≡ free)
+IsTally (tally.Barred free) blocks = (has ends_run blocks ≡ true) × (free_sum blocks ≤ free)
+IsTally tally.Unknown blocks = Unit {0}
+
+-- what a walk tells of the blocks that begin from lo up to hi
+pub record Measures (lo hi at : ℕ) (zone : List Block) (m : Measured) : Type 0 where
+  pub most : AtEach (AtMost m.most lo hi) at zone
+  pub free : free_sum (between lo hi at zone) ≡ m.free
+  pub barred : has ends_run (between lo hi at zone) ≡ m.barred
+
+-- no landmark
+abbrev pub no_mark : Landmark
+no_mark = record { at = 0; most = 0; tally = tally.Open 0 }
+
 -- where the first of some landmarks stands; `end` where there is none
 abbrev pub next_of : ℕ → List Landmark → ℕ
 next_of end [] = end
 next_of end (m ∷ marks) = m.at
 
--- a block begins at each landmark, they rise, and no Free block from one up to the next is larger than is noted
+-- a block begins at each landmark, no Free block from one up to the next is larger than is noted, the tally is of the
+-- blocks there, and the landmarks rise
 abbrev pub AreMarks : ℕ → List Block → List Landmark → Type 0
 AreMarks end zone [] = Unit {0}
 AreMarks end zone (m ∷ marks) = Begins m.at 0 zone × AtEach (AtMost m.most m.at (next_of end marks)) 0 zone
-    × (m.at ≤ next_of end marks) × AreMarks end zone marks
+    × IsTally m.tally (between m.at (next_of end marks) 0 zone) × (m.at ≤ next_of end marks) × AreMarks end zone marks
 
 -- landmarks are in groups, and none of a group notes more than the group's top
 pub record AreTops (tops : List ℕ) (marks : List Landmark) : Type 0 where
   pub whole : length marks ≡ GROUP * length tops
   pub each : (group index : ℕ) → GROUP * group ≤ index → index < GROUP * group + GROUP → index < length marks
-      → (get_or marks index (record { at = 0; most = 0 })).most ≤ get_or tops group 0
+      → (get_or marks index no_mark).most ≤ get_or tops group 0
 
 -- no room for so many bytes lies below a landmark; where there are no so many of them, none lies in the zone
 abbrev pub NoneBelow : ℕ → List Block → List Landmark → ℕ → Type 0
@@ -57,12 +88,13 @@ pub record Replaced (lo hi : ℕ) (old new : List Block) : Type 0 where
   pub high : lo + sizes here ≡ hi
   pub span : sizes there ≡ sizes here
 
--- a block is from `at` to `end`, and has so many Free bytes
-pub record Spans (at end free : ℕ) (xs : List ℕ) : Type 0 where
+-- a block is from `at` to `end`, has so many Free bytes, and ends a run or not
+pub record Spans (at end free : ℕ) (barrier : Bool) (xs : List ℕ) : Type 0 where
   pub here : Block
   pub is : left_in at xs ≡ here ∷ left_in end xs
   pub up : at + size here ≡ end
   pub bytes : free ≡ free_of here
+  pub ends : barrier ≡ ends_run here
   pub way : IsOnWay end xs
   pub some : at < end
 

@@ -1,6 +1,7 @@
 -- A walk over the blocks that bytes spell, from a place on.
-use Rattle.std.specs.Prelude.{ℕ, ◌≤◌, ◌<◌, ◌^◌, zero, suc, Bool, List, length, drop}
-use Rattle.block_store.specs.Block.{Block}
+use Rattle.std.specs.Prelude.{◌≡◌, ℕ, ◌+◌, ◌≤◌, ◌<◌, ◌^◌, zero, suc, Bool, List, ◌∷◌, length, drop}
+use Rattle.block_store.specs.Block.{Block, size}
+use Rattle.block_store.specs.Seen.{seen}
 use Rattle.block_store.specs.declared.sparing.Seen.{Seen}
 use Rattle.block_store.specs.declared.sparing.Seen.TheVariants as see
 use Rattle.zone_bytes.specs.Layout.{names, Each, ArePlaced}
@@ -26,3 +27,12 @@ pub record IsOnWay (at : ℕ) (xs : List ℕ) : Type 0 where
   pub placed : ArePlaced at rest
   pub words : Each (λ s. s < 2 ^ 32) (names rest)
   pub small : length xs ≤ 134217728
+
+-- a block that is seen so is from `at` to `end`
+pub record Steps (at : ℕ) (block : Seen) (end : ℕ) (xs : List ℕ) : Type 0 where
+  pub here : Block
+  pub is : left_in at xs ≡ here ∷ left_in end xs
+  pub told : seen here ≡ block
+  pub up : at + size here ≡ end
+  pub way : IsOnWay end xs
+  pub some : at < end

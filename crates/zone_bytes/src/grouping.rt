@@ -1,7 +1,7 @@
 //! Landmarks in groups, of each of which is known how much its landmarks note at most.
 
 ghost use Rattle.std.specs.Prelude.{◌≤◌, ◌<◌, ◌*◌, ℕ, List, length, get_or, set};
-ghost use Rattle.zone_bytes.specs.Marks.{AreTops};
+ghost use Rattle.zone_bytes.specs.Marks.{AreTops, no_mark};
 ghost use Rattle.zone_bytes.specs.declared.landmark.Landmark.{Landmark};
 ghost use Rattle.zone_bytes.specs.declared.landmark.TheConstants.{GROUP};
 
@@ -21,7 +21,7 @@ pub fn raise_top(tops: &mut [u32], index: usize, most: u32)
 /// The most that one of some landmarks notes.
 fn most_noted(marks: &[Landmark]) -> u32
     ensures { (index : ℕ) → index < length marks.now →
-        (get_or marks.now index (record { at = 0; most = 0 })).most ≤ result }
+        (get_or marks.now index no_mark).most ≤ result }
 {
     let mut most = 0;
     for mark in marks {

@@ -10,10 +10,9 @@ ghost use Rattle.zone_bytes.specs.Marks.{AreMarks, Begins, Replaced};
 ghost use Rattle.zone_bytes.specs.Stepping.{IsOnWay};
 
 use crate::grouping::{raise_top, renew_tops};
-use crate::landmark::{GROUP, Landmark, UNKNOWN};
+use crate::landmark::{GROUP, Landmark, Tally, UNKNOWN};
 use crate::marking::{change_marks, find_by_marks, lay_marks, mark_below};
 use crate::measuring::greater;
-use crate::resizing::free_behind;
 use raw_region::Part;
 
 /// How many landmarks a zone has, one for each of its pages. Each change goes over the blocks of a page.
@@ -25,9 +24,9 @@ const GROUPS: usize = LANDMARKS / GROUP;
 /// The least bytes of a page.
 const LEAST_PAGE: u32 = 256;
 
-/// Places of known blocks of a zone, one for each page of its bytes, and between each two of them a bound on the Free
-/// blocks; and for each group of them a bound on what they note. They lie beside the zone's bytes, and can be thrown
-/// away at any time.
+/// Places of known blocks of a zone, one for each page of its bytes, and between each two of them a bound on each Free
+/// block, how many bytes are Free, and whether a run ends there; and for each group of them a bound on the Free blocks.
+/// They lie beside the zone's bytes, and can be thrown away at any time.
 #[derive(Drop)]
 pub struct Landmarks {
     marks: [Landmark; LANDMARKS],
@@ -66,7 +65,11 @@ impl Landmarks {
     {
         let end = part.len() as u32;
         self.page = page_bytes(part);
-        self.marks.fill(Landmark { at: end, most: 0 });
+        self.marks.fill(Landmark {
+            at: end,
+            most: 0,
+            tally: Tally::Open(0),
+        });
         self.tops.fill(0);
         self.marks[0] = UNKNOWN;
         raise_top(&mut self.tops, 0, UNKNOWN.most);
@@ -107,9 +110,8 @@ impl Landmarks {
     {
         let page = page_bytes(part);
         if lo / page == hi / page {
-            let free = free_behind(part, lo);
             let likely = self.page_of(hi);
-            change_marks(&mut self.marks, &mut self.tops, part, lo, hi, free, likely);
+            change_marks(&mut self.marks, &mut self.tops, part, lo, hi, true, likely);
         } else {
             self.forget(part, lo, hi);
             self.renew(part, lo, hi);
@@ -131,7 +133,7 @@ impl Landmarks {
             part,
             lo,
             hi,
-            u32::MAX,
+            false,
             likely,
         );
     }

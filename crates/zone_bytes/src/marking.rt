@@ -6,14 +6,14 @@ ghost use Rattle.block_store.specs.Block.{Block, is_room};
 ghost use Rattle.block_store.specs.Find.{FindsLowest};
 ghost use Rattle.zone_bytes.specs.Decode.{zone_in};
 ghost use Rattle.zone_bytes.specs.Lawful.{IsSound};
-ghost use Rattle.zone_bytes.specs.Marks.{AtEach, AtMost, NoRoom, NoneBelow, Begins, AreMarks, AreTops, Replaced};
-ghost use Rattle.zone_bytes.specs.Marks.{Lowered, next_of};
+ghost use Rattle.zone_bytes.specs.Marks.{AtEach, AtMost, NoRoom, NoneBelow, Begins, AreMarks, AreTops, Replaced, no_mark};
+ghost use Rattle.zone_bytes.specs.Marks.{Lowered, IsTally, Measures, between, next_of};
 ghost use Rattle.zone_bytes.specs.Stepping.{left_in, IsOnWay};
 ghost use Rattle.zone_bytes.specs.declared.landmark.TheConstants.{GROUP};
 
 use crate::grouping::{raise_top, renew_tops};
-use crate::landmark::{GROUP, Landmark, UNKNOWN};
-use crate::measuring::{Measured, largest_between, measure_up_to, room_between};
+use crate::landmark::{GROUP, Landmark, Tally, UNKNOWN};
+use crate::measuring::{Measured, greater, measure_up_to, room_between};
 use raw_region::Part;
 
 /// Which landmark is to be looked at next, of those from one up to another: the one that is likely, or one just beside
@@ -35,10 +35,10 @@ fn next_look(low: usize, high: usize, likely: usize) -> usize
 
 /// The first landmark at or above a place, where they rise; their number where there is none. It is likely to be one
 /// of these.
-fn index_above(marks: &[Landmark], place: u32, likely: usize) -> usize
+pub fn index_above(marks: &[Landmark], place: u32, likely: usize) -> usize
     ensures index { result ≤ length marks.now }
     ensures above { place ≤ next_of 4294967295 (drop result marks.now) }
-    ensures below { 0 < result → (get_or marks.now (result - 1) (record { at = 0; most = 0 })).at < place }
+    ensures below { 0 < result → (get_or marks.now (result - 1) no_mark).at < place }
 {
     let mut low = 0;
     let mut high = marks.len();
@@ -66,7 +66,7 @@ pub fn mark_below(marks: &[Landmark], place: u32, likely: usize) -> u32
 }
 
 /// Where a landmark stands; above all zones where there are no so many.
-fn place_of_mark(marks: &[Landmark], index: usize) -> u32
+pub fn place_of_mark(marks: &[Landmark], index: usize) -> u32
     requires { index ≤ length marks.now }
     ensures { result ≡ next_of 4294967295 (drop index marks.now) }
 {
@@ -140,30 +140,56 @@ fn lowered_mark(at: u32, lo: u32, hi: u32) -> u32
     if lo < at && at < hi { lo } else { at }
 }
 
-/// A landmark once the blocks from one place to another are others, of which the Free bytes of the first are known:
-/// what its stretch has is taken anew where the largest Free block of it may be gone.
-fn changed_mark(mark: Landmark, above: u32, part: &Part, lo: u32, hi: u32, free: u32) -> Landmark
+/// A landmark at a place, with what a walk up to another tells of the blocks between.
+fn measured_mark(part: &Part, at: u32, above: u32) -> Landmark
+    requires { IsOnWay at part.now.bytes }
+    ensures at { result.at ≡ at }
+    ensures bound { AtEach (AtMost result.most at above) at (left_in at part.now.bytes) }
+    ensures tally { IsTally result.tally (between at above at (left_in at part.now.bytes)) }
+{
+    let stretch = measure_up_to(part, at, above);
+    Landmark {
+        at,
+        most: stretch.most,
+        tally: stretch.tally(),
+    }
+}
+
+/// A landmark once the blocks from one place to another are others; the next one was at `next` and is at `above`. What
+/// is known of its blocks is taken anew where some of them became others, or, if no walk is wanted, is forgotten.
+fn changed_mark(
+    mark: Landmark,
+    next: u32,
+    above: u32,
+    part: &Part,
+    lo: u32,
+    hi: u32,
+    walks: bool,
+) -> Landmark
     requires sound { (first : ℕ) × (unused : ℕ) × IsSound part.now.bytes first unused }
     requires ordered { lo ≤ hi }
+    requires rising { mark.at ≤ next }
+    requires lowered { Lowered lo hi next above }
     requires begins { (at : ℕ) → Lowered lo hi mark.at at → Begins at 0 (zone_in part.now.bytes) }
     ensures at { Lowered lo hi mark.at result.at }
-    ensures bound { (old : List Block) (next : ℕ) → Replaced lo hi old (zone_in part.now.bytes) →
-        Lowered lo hi next above → AtEach (AtMost mark.most mark.at next) 0 old →
+    ensures bound { (old : List Block) → Replaced lo hi old (zone_in part.now.bytes) →
+        AtEach (AtMost mark.most mark.at next) 0 old →
         AtEach (AtMost result.most result.at above) 0 (zone_in part.now.bytes) }
+    ensures tally { (old : List Block) → Replaced lo hi old (zone_in part.now.bytes) →
+        IsTally mark.tally (between mark.at next 0 old) →
+        IsTally result.tally (between result.at above 0 (zone_in part.now.bytes)) }
 {
-    let at = lowered_mark(mark.at, lo, hi);
-    if lo < at || above <= lo || hi - lo < mark.most {
-        return Landmark {
-            at,
-            most: mark.most,
-        };
+    if hi <= mark.at || next <= lo {
+        return mark;
     }
-    if hi - lo <= free {
-        return Landmark { at, most: hi - lo };
+    let at = lowered_mark(mark.at, lo, hi);
+    if walks {
+        return measured_mark(part, at, above);
     }
     Landmark {
         at,
-        most: largest_between(part, at, above),
+        most: greater(mark.most, hi - lo),
+        tally: Tally::Unknown,
     }
 }
 
@@ -175,7 +201,7 @@ pub fn change_marks(
     part: &Part,
     lo: u32,
     hi: u32,
-    free: u32,
+    walks: bool,
     likely: usize,
 )
     requires sound { (first : ℕ) × (unused : ℕ) × IsSound part.now.bytes first unused }
@@ -187,12 +213,15 @@ pub fn change_marks(
     let last = index_above(marks, hi, likely);
     let mut first = last;
     let mut above = place_of_mark(marks, last);
+    let mut next = above;
     while first > 0 && lo <= above {
         first -= 1;
-        let mark = changed_mark(marks[first], above, part, lo, hi, free);
+        let old = marks[first];
+        let mark = changed_mark(old, next, above, part, lo, hi, walks);
         marks[first] = mark;
         raise_top(tops, first, mark.most);
         above = mark.at;
+        next = old.at;
     }
     renew_tops(marks, tops, first, last);
 }
@@ -203,12 +232,15 @@ fn stretch_from(part: &Part, at: u32, place: u32, last: bool) -> Measured
     ensures last { last ≡ true → result.edge ≡ 4294967295 }
     ensures edge { last ≡ false → Begins result.edge at (left_in at part.now.bytes) }
     ensures order { at ≤ result.edge }
-    ensures bound { AtEach (AtMost result.most at result.edge) at (left_in at part.now.bytes) }
+    ensures measured { Measures at result.edge at (left_in at part.now.bytes) result }
 {
     if last {
+        let whole = measure_up_to(part, at, u32::MAX);
         Measured {
             edge: u32::MAX,
-            most: largest_between(part, at, u32::MAX),
+            most: whole.most,
+            free: whole.free,
+            barred: whole.barred,
         }
     } else {
         measure_up_to(part, at, place)
@@ -243,6 +275,7 @@ pub fn lay_marks(
         marks[index] = Landmark {
             at,
             most: stretch.most,
+            tally: stretch.tally(),
         };
         raise_top(tops, index, stretch.most);
         at = stretch.edge;

@@ -1,17 +1,20 @@
 //! Walks over a stretch of a zone.
 
-ghost use Rattle.std.specs.Prelude.{◌≡◌, ◌<◌, ◌≤◌, ◌⊎◌, ◌==◌, length, MatchOption, IfSome, if◌then◌else◌};
-ghost use Rattle.heap_words.specs.Headers.{tag_number};
-ghost use Rattle.zone_bytes.specs.Marks.{AtEach, AtMost, NoRoom, Begins, Spans, RoomAt};
+ghost use Rattle.std.specs.Prelude.{◌≡◌, ◌<◌, ◌≤◌, ◌⊎◌, List, length, MatchOption, IfSome};
+ghost use Rattle.block_store.specs.Block.{Block, free_sum};
+ghost use Rattle.block_store.specs.Run.{has};
+ghost use Rattle.zone_bytes.specs.Marks.{AtEach, NoRoom, Begins, Spans, RoomAt, IsTally, Measures, ends_run};
 ghost use Rattle.zone_bytes.specs.Stepping.{left_in, IsOnWay};
 
-use crate::words::read_header;
-use heap_words::{Header, Tag};
+use crate::landmark::Tally;
+use crate::raw_walk::step_at;
+use block_store::{free_of_seen, is_in_run};
 use raw_region::Part;
 
 /// The lower of a place and the zone's end.
-fn within(to: u32, end: u32) -> u32
+pub fn within(to: u32, end: u32) -> u32
     ensures low { result ≤ end }
+    ensures least { result ≤ to }
     ensures one { (result ≡ to) ⊎ (result ≡ end) }
 {
     if to < end { to } else { end }
@@ -25,42 +28,50 @@ pub fn greater(most: u32, bytes: u32) -> u32
     if most < bytes { bytes } else { most }
 }
 
-/// Where a block ends, and its Free bytes.
+/// Where a block ends, its Free bytes, and whether it ends a run.
 #[derive(Clone, Copy, Drop)]
 struct Span {
     end: u32,
     free: u32,
-}
-
-/// The Free bytes of a block, by its header.
-fn free_of_header(header: Header) -> u32
-    ensures { result ≡ (if tag_number header.tag == 0 then header.size else 0) }
-{
-    if header.tag == Tag::Free {
-        header.size
-    } else {
-        0
-    }
+    barrier: bool,
 }
 
 /// The block at a place.
 fn span_at(part: &Part, at: u32) -> Span
     requires way { IsOnWay at part.now.bytes }
     requires some { at < length part.now.bytes }
-    ensures { Spans at result.end result.free part.now.bytes }
+    ensures { Spans at result.end result.free result.barrier part.now.bytes }
 {
-    let header = read_header(part, at);
+    let step = step_at(part, at);
     Span {
-        end: at + header.size,
-        free: free_of_header(header),
+        end: step.end,
+        free: free_of_seen(step.block),
+        barrier: !is_in_run(step.block),
     }
 }
 
-/// What a walk from a place tells: where it ended, and the bytes of the largest Free block that it passed.
+/// What a walk from a place tells: where it ended, the bytes of the largest Free block that it passed and of all Free
+/// ones, and whether it passed one that ends a run.
 #[derive(Clone, Copy, Drop)]
 pub struct Measured {
     pub edge: u32,
     pub most: u32,
+    pub free: u32,
+    pub barred: bool,
+}
+
+impl Measured {
+    /// The tally of the blocks that were passed.
+    pub fn tally(self) -> Tally
+        ensures { (blocks : List Block) → free_sum blocks ≡ self.free → has ends_run blocks ≡ self.barred →
+            IsTally result blocks }
+    {
+        if self.barred {
+            Tally::Barred(self.free)
+        } else {
+            Tally::Open(self.free)
+        }
+    }
 }
 
 /// A walk from one place to the first block that begins at or above another, or to the zone's end.
@@ -68,26 +79,27 @@ pub fn measure_up_to(part: &Part, from: u32, place: u32) -> Measured
     requires { IsOnWay from part.now.bytes }
     ensures edge { Begins result.edge from (left_in from part.now.bytes) }
     ensures order { from ≤ result.edge }
-    ensures passed { AtEach (AtMost result.most from result.edge) from (left_in from part.now.bytes) }
-    ensures below { AtEach (AtMost result.most from place) from (left_in from part.now.bytes) }
+    ensures passed { Measures from result.edge from (left_in from part.now.bytes) result }
+    ensures below { Measures from place from (left_in from part.now.bytes) result }
 {
     let stop = within(place, part.len() as u32);
     let mut most = 0;
+    let mut free = 0;
+    let mut barred = false;
     let mut at = from;
     while at < stop {
         let span = span_at(part, at);
         most = greater(most, span.free);
+        free += span.free;
+        barred = barred || span.barrier;
         at = span.end;
     }
-    Measured { edge: at, most }
-}
-
-/// The bytes of the largest Free block that begins from one place up to another.
-pub fn largest_between(part: &Part, from: u32, to: u32) -> u32
-    requires { IsOnWay from part.now.bytes }
-    ensures { AtEach (AtMost result from to) from (left_in from part.now.bytes) }
-{
-    measure_up_to(part, from, to).most
+    Measured {
+        edge: at,
+        most,
+        free,
+        barred,
+    }
 }
 
 /// The place of the lowest Free block of at least so many bytes that begins from one place up to another.

@@ -1,8 +1,8 @@
 //! A walk over the blocks of a zone in the bytes of a part.
 
-ghost use Rattle.std.specs.Prelude.{◌≡◌, length};
+ghost use Rattle.std.specs.Prelude.{◌≡◌, ◌<◌, length};
 ghost use Rattle.heap_words.specs.Headers.{tag_number};
-ghost use Rattle.zone_bytes.specs.Stepping.{header_seen, left_in, IsOnWay};
+ghost use Rattle.zone_bytes.specs.Stepping.{header_seen, left_in, IsOnWay, Steps};
 
 use crate::words::read_header;
 use block_store::{Flags, Seen, Walk};
@@ -23,6 +23,26 @@ pub fn seen_of(header: Header) -> Seen
         Tag::Fixed => Seen::Fixed(header.logical),
         Tag::Masters => Seen::Masters,
         Tag::Relocatable => Seen::Relocatable(header.slot, flags, header.logical),
+    }
+}
+
+/// A block as it is seen, and where it ends.
+#[derive(Clone, Copy, Drop)]
+pub struct Step {
+    pub block: Seen,
+    pub end: u32,
+}
+
+/// The block at a place.
+pub fn step_at(part: &Part, at: u32) -> Step
+    requires way { IsOnWay at part.now.bytes }
+    requires some { at < length part.now.bytes }
+    ensures { Steps at result.block result.end part.now.bytes }
+{
+    let header = read_header(part, at);
+    Step {
+        block: seen_of(header),
+        end: at + header.size,
     }
 }
 

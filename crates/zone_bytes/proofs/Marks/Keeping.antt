@@ -1,10 +1,12 @@
 -- Landmarks where a block changes in place, and where one is put into a Free block.
 use Rattle.std.proofs.Common.{◌≡◌, ℕ, ◌+◌, ◌-◌, ◌≤◌, ◌<◌, inl, inr, List, [], ◌∷◌, ◌++◌, sym, refl, ap, ◌∙◌, subst, arith}
-use Rattle.std.proofs.Common.{zero, suc, append_assoc}
-use Rattle.block_store.specs.Block.{Block, Free, Fixed, Masters, Relocatable, size, sizes, free, free_of, add}
+use Rattle.std.proofs.Common.{zero, suc, append_assoc, Bool, true, false, ◌&&◌, ◌||◌, cond, nat_le, nat_lt}
+use Rattle.block_store.specs.Block.{Block, Free, Fixed, Masters, Relocatable, size, sizes, free, free_of, free_sum, add}
+use Rattle.block_store.specs.Run.{has}
 use Rattle.zone_bytes.specs.Laying.{free_first}
-use Rattle.zone_bytes.specs.Marks.{AtEach, AtMost, Begins, AreMarks, Replaced, next_of}
+use Rattle.zone_bytes.specs.Marks.{AtEach, AtMost, Begins, AreMarks, Replaced, between, ends_run, next_of}
 use Rattle.zone_bytes.specs.declared.landmark.Landmark.{Landmark}
+use Rattle.zone_bytes.proofs.Marks.Between.{Alike, alike-as, alike-same, alike-first}
 use Rattle.zone_bytes.proofs.Tiles.Tiling.{span-append}
 use Rattle.zone_bytes.proofs.Tiles.Keeping.{span-free}
 
@@ -23,16 +25,57 @@ bound-same most lo hi x [] above b c s f e = (
 )
 bound-same most lo hi x (d ∷ below) above b c s f e = (e.0, bound-same most lo hi (x + size d) below above b c s f e.1)
 
--- a block became one of as many bytes, of which as many are Free
+tally-same : (lo hi x : ℕ) (below above : List Block) (b c : Block) → size c ≡ size b → free_of c ≡ free_of b
+    → ends_run c ≡ ends_run b
+    → Alike (between lo hi x (below ++ c ∷ above)) (between lo hi x (below ++ b ∷ above))
+tally-same lo hi x [] above b c s f r = cases (nat_le lo x && nat_lt x hi)
+    (ap (λ n. between lo hi (x + n) above) s)
+  where
+    cases : (t : Bool) → between lo hi (x + size c) above ≡ between lo hi (x + size b) above
+        → Alike (cond t (c ∷ between lo hi (x + size c) above) (between lo hi (x + size c) above))
+        (cond t (b ∷ between lo hi (x + size b) above) (between lo hi (x + size b) above))
+    cases true e = record {
+      ends = ap (λ k. ends_run c || has ends_run k) e ∙ ap (λ v. v || has ends_run (between lo hi (x + size b) above)) r;
+      free = ap (λ k. free_of c + free_sum k) e ∙ ap (λ n. n + free_sum (between lo hi (x + size b) above)) f;
+    }
+    cases false e = alike-same _ _ e
+tally-same lo hi x (d ∷ below) above b c s f r = cases (nat_le lo x && nat_lt x hi)
+    (tally-same lo hi (x + size d) below above b c s f r)
+  where
+    cases : (t : Bool) → Alike (between lo hi (x + size d) (below ++ c ∷ above)) (between lo hi (x + size d) (below ++ b ∷ above))
+        → Alike (cond t (d ∷ between lo hi (x + size d) (below ++ c ∷ above)) (between lo hi (x + size d) (below ++ c ∷ above)))
+        (cond t (d ∷ between lo hi (x + size d) (below ++ b ∷ above)) (between lo hi (x + size d) (below ++ b ∷ above)))
+    cases true a = alike-first d _ _ a
+    cases false a = a
+
+-- a block became one of as many bytes, of which as many are Free, and that ends a run if it did
 pub marks-same : (end : ℕ) (marks : List Landmark) (below above : List Block) (b c : Block) → size c ≡ size b
-    → free_of c ≡ free_of b → AreMarks end (below ++ b ∷ above) marks → AreMarks end (below ++ c ∷ above) marks
-marks-same end [] below above b c s f a = tt
-marks-same end (m ∷ marks) below above b c s f a = (
+    → free_of c ≡ free_of b → ends_run c ≡ ends_run b → AreMarks end (below ++ b ∷ above) marks
+    → AreMarks end (below ++ c ∷ above) marks
+marks-same end [] below above b c s f r a = tt
+marks-same end (m ∷ marks) below above b c s f r a = (
   begins-same m.at 0 below above b c s a.0,
   bound-same m.most m.at (next_of end marks) 0 below above b c s f a.1,
-  a.2,
-  marks-same end marks below above b c s f a.3,
+  alike-as m.tally _ _ (tally-same m.at (next_of end marks) 0 below above b c s f r) a.2,
+  a.3,
+  marks-same end marks below above b c s f r a.4,
 )
+
+-- a block became one of as many bytes
+pub became-replaced : (below : List Block) (b c : Block) (above : List Block) (old new : List Block) (place bytes : ℕ)
+    → old ≡ below ++ b ∷ above → new ≡ below ++ c ∷ above → size c ≡ size b → bytes ≡ size b → sizes below ≡ place
+    → Replaced place (place + bytes) old new
+became-replaced below b c above old new place bytes was is same e low = record {
+  below = below;
+  here = b ∷ [];
+  there = c ∷ [];
+  above = above;
+  was = was;
+  is = is;
+  low = low;
+  high = omega (arith, e);
+  span = omega (arith, same);
+}
 
 -- a block was put at the lower end of a Free block
 pub carved-replaced : (below : List Block) (n : ℕ) (b : Block) (above : List Block) (old new : List Block)

@@ -1,17 +1,21 @@
 -- Landmarks once a stretch of the zone became another.
-use Rattle.std.proofs.Common.{◌≡◌, ℕ, ◌+◌, ◌-◌, ◌≤◌, ◌<◌, inl, inr, List, [], ◌∷◌, ◌++◌, sym, refl, ap, ◌∙◌, subst, arith, length, take, drop, take-append-drop, get_or, set, replicate, zero, suc, true, false, ◌==◌}
+use Rattle.std.proofs.Common.{◌≡◌, ℕ, ◌+◌, ◌-◌, ◌≤◌, ◌<◌, ◌⊎◌, inl, inr, List, [], ◌∷◌, ◌++◌, sym, refl, ap, ◌∙◌, subst, arith, length, take, drop, take-append-drop, get_or, set, replicate, zero, suc, true, false, ◌==◌}
 use Rattle.std.proofs.lemmas.Bool.Decides.{eqb_tells}
 use Rattle.std.proofs.lemmas.List.{take_more, take-set, drop-set, take_more_set, drop_more, drop-drop}
 use Rattle.block_store.specs.Block.{Block, size, sizes}
 use Rattle.zone_bytes.specs.Decode.{zone_in}
 use Rattle.zone_bytes.specs.Lawful.{IsSound}
 use Rattle.zone_bytes.specs.Stepping.{left_in, IsOnWay}
-use Rattle.zone_bytes.specs.Marks.{AtEach, AtMost, Begins, AreMarks, Replaced, Lowered, next_of}
+use Rattle.zone_bytes.specs.Marks.{AtEach, AtMost, Begins, AreMarks, IsTally, Replaced, Lowered, between, next_of, no_mark}
 use Rattle.zone_bytes.specs.declared.landmark.Landmark.{Landmark}
+use Rattle.zone_bytes.specs.declared.landmark.Tally.{Tally}
+use Rattle.zone_bytes.specs.declared.landmark.Tally.TheVariants as tally
 use Rattle.zone_bytes.proofs.Places.AtPlace.{way-above, left-above}
 use Rattle.zone_bytes.proofs.Marks.Passing.{at-map, at-all, at-append, at-left, at-right, begins-here, begins-left}
 use Rattle.zone_bytes.proofs.Marks.Passing.{begins-right, begins-either, begins-within, parts}
 use Rattle.zone_bytes.proofs.Marks.Spanned.{free-size}
+use Rattle.zone_bytes.proofs.Marks.Between.{Alike, alike-as, alike-same, alike-back, alike-more, alike-append}
+use Rattle.zone_bytes.proofs.Marks.Between.{between-append, none-below, none-above}
 
 -- what holds of each block by its place alone
 pub at-each : (S : ℕ → Block → Type 0) (x : ℕ) (blocks : List Block)
@@ -22,7 +26,7 @@ at-each S x blocks f = at-map (λ _ _. Unit {0}) S x blocks (λ p b l u _. f p b
 -- the first of some landmarks is no higher than where they end
 marks-below : (end : ℕ) (zone : List Block) (marks : List Landmark) → AreMarks end zone marks → next_of end marks ≤ end
 marks-below end zone [] a = omega arith
-marks-below end zone (m ∷ marks) a = let n = marks-below end zone marks a.3 in let r = a.2 in omega (arith, n, r)
+marks-below end zone (m ∷ marks) a = let n = marks-below end zone marks a.4 in let r = a.3 in omega (arith, n, r)
 
 -- places that rise still rise once they are lowered
 lowered-order : (lo hi a b p q : ℕ) → a ≤ b → Lowered lo hi a p → Lowered lo hi b q → p ≤ q
@@ -114,33 +118,55 @@ module _ (lo hi : ℕ) (old new : List Block) (z : Replaced lo hi old new) (o : 
         (λ p b l u. high-in p b (omega (arith, l, i, j, s)))
         (subst (λ q. AtEach R (0 + sizes z.below + q) z.above) (sym s) r))))
 
+  -- the blocks of a stretch apart from those that became others
+  pub apart-alike : (a c : ℕ) → (hi ≤ a) ⊎ (c ≤ lo) → Alike (between a c 0 new) (between a c 0 old)
+  apart-alike a c e =
+      let x = 0 + sizes z.below in
+      alike-more _ _ _ (alike-same _ _ (ap (between a c 0) z.is ∙ between-append a c 0 z.below (z.there ++ z.above)
+      ∙ ap (λ k. between a c 0 z.below ++ k) (between-append a c x z.there z.above)))
+      (alike-back _ _ (alike-more _ _ _ (alike-same _ _ (ap (between a c 0) z.was
+      ∙ between-append a c 0 z.below (z.here ++ z.above)
+      ∙ ap (λ k. between a c 0 z.below ++ k) (between-append a c x z.here z.above)))
+      (alike-append (between a c 0 z.below) _ (between a c 0 z.below) _ (alike-same _ _ refl)
+      (alike-append (between a c x z.here) _ (between a c x z.there) _
+      (alike-more _ [] _ (none z.here (omega arith)) (alike-back _ [] (none z.there (let s = z.span in omega (arith, s)))))
+      (alike-same _ _ (ap (λ n. between a c (x + n) z.above) (sym z.span)))))))
+    where
+      none : (blocks : List Block) → sizes blocks ≤ sizes z.here → Alike (between a c (0 + sizes z.below) blocks) []
+      none blocks s = let l = z.low in let h = z.high in elim e [
+        | inl k ↦ none-below a c (0 + sizes z.below) blocks (omega (arith, k, l, h, s))
+        | inr k ↦ alike-same _ _ (none-above a c (0 + sizes z.below) blocks (omega (arith, k, l)))
+      ]
+
   -- landmarks above the stretch stay
   pub marks-over : (end : ℕ) (marks : List Landmark) → hi ≤ end → hi ≤ next_of end marks → AreMarks end old marks
       → AreMarks end new marks
   marks-over end [] e u a = tt
   marks-over end (m ∷ marks) e u a =
-      let r = a.2 in
+      let r = a.3 in
       let v : hi ≤ next_of end marks = omega (arith, u, r) in (
         begins-lowered m.at m.at (inr (refl, inr u)) a.0,
         bound-lowered m.most m.most m.at (next_of end marks) m.at (next_of end marks) (inr (refl, inr u))
             (inr (refl, inr v)) (omega arith) (λ l _. omega (arith, l, u)) a.1,
+        alike-as m.tally _ _ (apart-alike m.at (next_of end marks) (inl u)) a.2,
         r,
-        marks-over end marks e v a.3,
+        marks-over end marks e v a.4,
       )
 
   -- and so do those below it
   pub marks-under : (end : ℕ) (marks : List Landmark) → end ≤ lo → AreMarks end old marks → AreMarks end new marks
   marks-under end [] e a = tt
   marks-under end (m ∷ marks) e a =
-      let r = a.2 in
-      let n = marks-below end old marks a.3 in
+      let r = a.3 in
+      let n = marks-below end old marks a.4 in
       let u : next_of end marks ≤ lo = omega (arith, n, e) in
       let l : m.at ≤ lo = omega (arith, r, u) in (
         begins-lowered m.at m.at (inr (refl, inl l)) a.0,
         bound-lowered m.most m.most m.at (next_of end marks) m.at (next_of end marks) (inr (refl, inl l))
             (inr (refl, inl u)) (omega arith) (λ _ b. absurd (omega (arith, b, u))) a.1,
+        alike-as m.tally _ _ (apart-alike m.at (next_of end marks) (inr u)) a.2,
         r,
-        marks-under end marks e a.3,
+        marks-under end marks e a.4,
       )
 
 -- landmarks of the zone that bytes spell
@@ -183,19 +209,30 @@ module _ (xs : List ℕ) (first unused : ℕ) (i : IsSound xs first unused) wher
       (at-each S 0 s.below (λ q c v u. λ m n. let f = free-size c in omega (arith, f, u, m, l)))
       (subst (λ y. AtEach S y (left_in p xs)) (let k : p ≡ 0 + sizes s.below = omega (arith, l) in k) e))
 
+  pub tally-here : (t : Tally) (p to : ℕ) → Begins p 0 (zone_in xs) → IsTally t (between p to p (left_in p xs))
+      → IsTally t (between p to 0 (zone_in xs))
+  tally-here t p to b e =
+      let s = seen-from p b in
+      let l = s.low in
+      alike-as t _ _ (alike-more _ _ _ (alike-same _ _ (ap (between p to 0) s.is
+      ∙ between-append p to 0 s.below (left_in p xs)))
+      (alike-append _ _ [] _ (none-below p to 0 s.below (omega (arith, l)))
+      (alike-same _ _ (ap (λ y. between p to y (left_in p xs)) (let k : 0 + sizes s.below ≡ p = omega (arith, l) in k)))))
+      e
+
 -- landmarks one after another
 pub marks-split : (end : ℕ) (zone : List Block) (front back : List Landmark) → AreMarks end zone (front ++ back)
     → AreMarks (next_of end back) zone front × AreMarks end zone back
 marks-split end zone [] back a = (tt, a)
-marks-split end zone (n ∷ []) back a = ((a.0, a.1, a.2, tt), a.3)
+marks-split end zone (n ∷ []) back a = ((a.0, a.1, a.2, a.3, tt), a.4)
 marks-split end zone (n ∷ k ∷ front) back a =
-    let r = marks-split end zone (k ∷ front) back a.3 in ((a.0, a.1, a.2, r.0), r.1)
+    let r = marks-split end zone (k ∷ front) back a.4 in ((a.0, a.1, a.2, a.3, r.0), r.1)
 
 pub marks-join : (end : ℕ) (zone : List Block) (front back : List Landmark) → AreMarks (next_of end back) zone front
     → AreMarks end zone back → AreMarks end zone (front ++ back)
 marks-join end zone [] back a b = b
-marks-join end zone (n ∷ []) back a b = (a.0, a.1, a.2, b)
-marks-join end zone (n ∷ k ∷ front) back a b = (a.0, a.1, a.2, marks-join end zone (k ∷ front) back a.3 b)
+marks-join end zone (n ∷ []) back a b = (a.0, a.1, a.2, a.3, b)
+marks-join end zone (n ∷ k ∷ front) back a b = (a.0, a.1, a.2, a.3, marks-join end zone (k ∷ front) back a.4 b)
 
 -- landmarks in two parts
 pub marks-parted : (end : ℕ) (zone : List Block) (marks : List Landmark) (n : ℕ) → AreMarks end zone marks
@@ -214,8 +251,7 @@ pub mark-first : (end : ℕ) (marks : List Landmark) (i : ℕ) (d : Landmark) �
 mark-first end marks i d l = ap (next_of end) (drop_more marks i d l)
 
 -- the landmarks from one on are those of the new zone, and those below it still of the old one
-pub record Changing (lo hi : ℕ) (old new : List Block) (above : ℕ) (front back : List Landmark) : Type 0 where
-  pub next : ℕ
+pub record Changing (lo hi : ℕ) (old new : List Block) (next above : ℕ) (front back : List Landmark) : Type 0 where
   pub is : Lowered lo hi next above
   pub low : AreMarks next old front
   pub high : AreMarks 4294967295 new back
@@ -238,22 +274,27 @@ equal-no a b l = elim (eqb_tells a b) [
 ]
 
 -- where blocks end
-begins-end : (x : ℕ) (blocks : List Block) → Begins (x + sizes blocks) x blocks
+pub begins-end : (x : ℕ) (blocks : List Block) → Begins (x + sizes blocks) x blocks
 begins-end x [] = omega arith
 begins-end x (b ∷ blocks) = inr (subst (λ p. Begins p (x + size b) blocks)
     (let e : x + size b + sizes blocks ≡ x + (size b + sizes blocks) = omega arith in e) (begins-end (x + size b) blocks))
 
 -- landmarks that all stand where the zone ends
+abbrev last_at : ℕ → Landmark
+last_at end = record { at = end; most = 0; tally = tally.Open 0 }
+
 end-marks : (zone : List Block) → sizes zone ≤ 134217728 → (end : ℕ) → end ≡ sizes zone → (n : ℕ)
-    → AreMarks 4294967295 zone (replicate n (record { at = end; most = 0 }))
-    × (end ≤ next_of 4294967295 (replicate n (record { at = end; most = 0 })))
+    → AreMarks 4294967295 zone (replicate n (last_at end))
+    × (end ≤ next_of 4294967295 (replicate n (last_at end)))
 end-marks zone l end e zero = (tt, omega (arith, l, e))
 end-marks zone l end e (suc n) =
     let r = end-marks zone l end e n in (
       (
         subst (λ p. Begins p 0 zone) (let k : 0 + sizes zone ≡ end = omega (arith, e) in k) (begins-end 0 zone),
-        at-each (AtMost 0 end (next_of 4294967295 (replicate n (record { at = end; most = 0 })))) 0 zone
+        at-each (AtMost 0 end (next_of 4294967295 (replicate n (last_at end)))) 0 zone
             (λ p b _ u v _. let f = free-size b in omega (arith, f, u, v, e)),
+        alike-as (tally.Open 0) _ [] (none-below end (next_of 4294967295 (replicate n (last_at end))) 0 zone
+            (omega (arith, e))) (refl, refl),
         r.1,
         r.0,
       ),
@@ -262,12 +303,14 @@ end-marks zone l end e (suc n) =
 
 -- and those of which the first says nothing
 pub unlaid-marks : (zone : List Block) → sizes zone ≤ 134217728 → (end : ℕ) → end ≡ sizes zone → (n : ℕ)
-    → AreMarks 4294967295 zone (set (replicate n (record { at = end; most = 0 })) 0 (record { at = 0; most = 4294967295 }))
+    → AreMarks 4294967295 zone (set (replicate n (record { at = end; most = 0; tally = tally.Open 0 })) 0
+    (record { at = 0; most = 4294967295; tally = tally.Unknown }))
 unlaid-marks zone l end e zero = tt
 unlaid-marks zone l end e (suc n) = (
   begins-here 0 zone,
-  at-each (AtMost 4294967295 0 (next_of 4294967295 (replicate n (record { at = end; most = 0 })))) 0 zone
+  at-each (AtMost 4294967295 0 (next_of 4294967295 (replicate n (last_at end)))) 0 zone
       (λ p b _ u _ _. let f = free-size b in omega (arith, f, u, l)),
+  tt,
   omega arith,
   (end-marks zone l end e n).0,
 )
@@ -278,89 +321,91 @@ replaced-order lo hi old new z = let h = z.high in omega (arith, h)
 module _ (lo hi : ℕ) (old new : List Block) where
   pub changing-start : Replaced lo hi old new → lo ≤ hi → (above left : ℕ) (marks : List Landmark) → hi ≤ 4294967295
       → above ≡ next_of 4294967295 (drop left marks) → hi ≤ next_of 4294967295 (drop left marks)
-      → AreMarks 4294967295 old marks → Changing lo hi old new above (take left marks) (drop left marks)
+      → AreMarks 4294967295 old marks → Changing lo hi old new above above (take left marks) (drop left marks)
   changing-start z o above left marks h e u a =
       let r = marks-parted 4294967295 old marks left a in
       record {
-        next = next_of 4294967295 (drop left marks);
-        is = inr (e, inr u);
-        low = r.0;
+        is = inr (refl, inr (omega (arith, u, e)));
+        low = subst (λ k. AreMarks k old (take left marks)) (sym e) r.0;
         high = marks-over lo hi old new z o 4294967295 (drop left marks) h u r.1;
         first = e;
       }
 
   -- the last of the landmarks of the old zone
-  pub last-mark : (above left : ℕ) (marks back : List Landmark) (d : Landmark) → 0 < left → left ≤ length marks
-      → (g : Changing lo hi old new above (take left marks) back)
+  pub last-mark : (next above left : ℕ) (marks back : List Landmark) (d : Landmark) → 0 < left → left ≤ length marks
+      → (g : Changing lo hi old new next above (take left marks) back)
       → AreMarks (get_or marks (left - 1) d).at old (take (left - 1) marks)
-      × AreMarks g.next old (get_or marks (left - 1) d ∷ [])
-  last-mark above left marks back d s l g =
+      × AreMarks next old (get_or marks (left - 1) d ∷ [])
+  last-mark next above left marks back d s l g =
       let e : left - 1 + 1 ≡ left = omega (arith, s) in
-      marks-split g.next old (take (left - 1) marks) (get_or marks (left - 1) d ∷ [])
-      (subst (AreMarks g.next old) (ap (λ k. take k marks) (sym e)
+      marks-split next old (take (left - 1) marks) (get_or marks (left - 1) d ∷ [])
+      (subst (AreMarks next old) (ap (λ k. take k marks) (sym e)
       ∙ take_more marks (left - 1) d (omega (arith, s, l))) g.low)
 
-  pub changing-step : Replaced lo hi old new → lo ≤ hi → (above left : ℕ) (marks : List Landmark) (d m : Landmark)
+  pub changing-step : Replaced lo hi old new → lo ≤ hi → (next above left : ℕ) (marks : List Landmark) (d m : Landmark)
       → 0 < left → left ≤ length marks
-      → Changing lo hi old new above (take left marks) (drop left marks) → Lowered lo hi (get_or marks (left - 1) d).at m.at
-      → ((next : ℕ) → Lowered lo hi next above
-      → AtEach (AtMost (get_or marks (left - 1) d).most (get_or marks (left - 1) d).at next) 0 old
+      → Changing lo hi old new next above (take left marks) (drop left marks)
+      → Lowered lo hi (get_or marks (left - 1) d).at m.at
+      → (AtEach (AtMost (get_or marks (left - 1) d).most (get_or marks (left - 1) d).at next) 0 old
       → AtEach (AtMost m.most m.at above) 0 new)
-      → Changing lo hi old new m.at (take (left - 1) (set marks (left - 1) m)) (drop (left - 1) (set marks (left - 1) m))
-  changing-step z o above left marks d m s l g w f =
-      let r = last-mark above left marks (drop left marks) d s l g in
+      → (IsTally (get_or marks (left - 1) d).tally (between (get_or marks (left - 1) d).at next 0 old)
+      → IsTally m.tally (between m.at above 0 new))
+      → Changing lo hi old new (get_or marks (left - 1) d).at m.at (take (left - 1) (set marks (left - 1) m))
+      (drop (left - 1) (set marks (left - 1) m))
+  changing-step z o next above left marks d m s l g w f c =
+      let r = last-mark next above left marks (drop left marks) d s l g in
       let n = r.1 in
       let e : left - 1 + 1 ≡ left = omega (arith, s) in
       let q = drop-set marks (left - 1) m (omega (arith, s, l)) ∙ ap (λ k. m ∷ drop k marks) e in
       record {
-        next = (get_or marks (left - 1) d).at;
         is = w;
         low = subst (AreMarks (get_or marks (left - 1) d).at old) (sym (take-set marks (left - 1) m)) r.0;
         high = subst (AreMarks 4294967295 new) (sym q) (
           begins-lowered lo hi old new z o (get_or marks (left - 1) d).at m.at w n.0,
-          subst (λ k. AtEach (AtMost m.most m.at k) 0 new) g.first (f g.next g.is n.1),
-          subst (λ k. m.at ≤ k) g.first (lowered-order lo hi (get_or marks (left - 1) d).at g.next m.at above n.2 w g.is),
+          subst (λ k. AtEach (AtMost m.most m.at k) 0 new) g.first (f n.1),
+          subst (λ k. IsTally m.tally (between m.at k 0 new)) g.first (c n.2),
+          subst (λ k. m.at ≤ k) g.first (lowered-order lo hi (get_or marks (left - 1) d).at next m.at above n.3 w g.is),
           g.high,
         );
         first = sym (ap (next_of 4294967295) q);
       }
 
-  pub changing-done : (above left : ℕ) (marks : List Landmark) → left ≤ 0
-      → Changing lo hi old new above (take left marks) (drop left marks) → AreMarks 4294967295 new marks
-  changing-done above left marks l g =
+  pub changing-done : (next above left : ℕ) (marks : List Landmark) → left ≤ 0
+      → Changing lo hi old new next above (take left marks) (drop left marks) → AreMarks 4294967295 new marks
+  changing-done next above left marks l g =
       let e : left ≡ 0 = omega (arith, l) in
       subst (λ k. AreMarks 4294967295 new (drop k marks)) e g.high
 
   -- those below the stretch aren't gone over
-  pub changing-below : Replaced lo hi old new → lo ≤ hi → (above left : ℕ) (marks : List Landmark) → above < lo
-      → Changing lo hi old new above (take left marks) (drop left marks) → AreMarks 4294967295 new marks
-  changing-below z o above left marks b g = marks-whole 4294967295 new marks left g.next (sym same ∙ g.first)
-      (marks-under lo hi old new z o g.next (take left marks) (omega (arith, same, b)) g.low) g.high
+  pub changing-below : Replaced lo hi old new → lo ≤ hi → (next above left : ℕ) (marks : List Landmark) → above < lo
+      → Changing lo hi old new next above (take left marks) (drop left marks) → AreMarks 4294967295 new marks
+  changing-below z o next above left marks b g = marks-whole 4294967295 new marks left next (sym same ∙ g.first)
+      (marks-under lo hi old new z o next (take left marks) (omega (arith, same, b)) g.low) g.high
     where
-      same : above ≡ g.next
+      same : above ≡ next
       same = elim g.is [
         | inl w ↦ let k = w.2 in absurd (omega (arith, k, b))
         | inr w ↦ w.0
       ]
 
 -- new landmarks, one after another
-pub marks-next : (zone : List Block) (marks : List Landmark) (index from to most : ℕ) → index < length marks
-    → AreMarks from zone (take index marks) → Begins from 0 zone → AtEach (AtMost most from to) 0 zone → from ≤ to
-    → AreMarks to zone (take (index + 1) (set marks index (record { at = from; most = most })))
-marks-next zone marks index from to most l a b e r =
-    subst (AreMarks to zone) (sym (take_more_set marks index (record { at = from; most = most }) l))
-    (marks-join to zone (take index marks) (record { at = from; most = most } ∷ []) a (b, e, r, tt))
+pub marks-next : (zone : List Block) (marks : List Landmark) (index to : ℕ) (m : Landmark) → index < length marks
+    → AreMarks m.at zone (take index marks) → Begins m.at 0 zone → AtEach (AtMost m.most m.at to) 0 zone
+    → IsTally m.tally (between m.at to 0 zone) → m.at ≤ to
+    → AreMarks to zone (take (index + 1) (set marks index m))
+marks-next zone marks index to m l a b e t r =
+    subst (AreMarks to zone) (sym (take_more_set marks index m l))
+    (marks-join to zone (take index marks) (m ∷ []) a (b, e, t, r, tt))
 
 -- and those that are still to come
 pub marks-left : (end : ℕ) (zone : List Block) (marks : List Landmark) (index : ℕ) (m : Landmark) → index < length marks
     → AreMarks end zone (drop index marks) → AreMarks end zone (drop (index + 1) (set marks index m))
 marks-left end zone marks index m l a =
-    let d : Landmark = record { at = 0; most = 0 } in
     subst (AreMarks end zone) (sym (sym (drop-drop 1 index (set marks index m)) ∙ ap (drop 1) (drop-set marks index m l)))
-    (subst (AreMarks end zone) (drop_more marks index d l) a).3
+    (subst (AreMarks end zone) (drop_more marks index no_mark l) a).4
 
 pub mark-begins : (end : ℕ) (zone : List Block) (marks : List Landmark) (i : ℕ) (d : Landmark) → i < length marks
     → AreMarks end zone marks → Begins (get_or marks i d).at 0 zone
 mark-begins end zone [] i d l a = absurd (omega (arith, l))
 mark-begins end zone (m ∷ marks) zero d l a = a.0
-mark-begins end zone (m ∷ marks) (suc i) d l a = mark-begins end zone marks i d (omega (arith, l)) a.3
+mark-begins end zone (m ∷ marks) (suc i) d l a = mark-begins end zone marks i d (omega (arith, l)) a.4

@@ -16,7 +16,7 @@ use Rattle.block_store.proofs.Zone.Totals.{total-append}
 use Rattle.zone_bytes.specs.Decode.{zone_in}
 use Rattle.zone_bytes.specs.Lawful.{IsKept}
 use Rattle.zone_bytes.specs.Marked.{AreOf, IsMarked}
-use Rattle.zone_bytes.specs.Marks.{Replaced}
+use Rattle.zone_bytes.specs.Marks.{Replaced, ends_run}
 use Rattle.zone_bytes.specs.Purgeable.{purgeable_of, purgeable_sum}
 use Rattle.zone_bytes.specs.declared.keeping.Landmarks.{Landmarks}
 use Rattle.zone_bytes.proofs.Marks.Keeping.{marks-same, carved-replaced}
@@ -29,18 +29,18 @@ free-content x (Fixed id content) = refl
 free-content x Masters = refl
 free-content x (Relocatable id flags content) = refl
 
+ends-content : (x : List ℕ) (b : Block) → ends_run (with_content x b) ≡ ends_run b
+ends-content x (Free n) = refl
+ends-content x (Fixed id content) = refl
+ends-content x Masters = refl
+ends-content x (Relocatable id flags content) = refl
+
 -- a block with other flags
-size-flags : (flags : Flags) (b : Block) → size (with_flags flags b) ≡ size b
+pub size-flags : (flags : Flags) (b : Block) → size (with_flags flags b) ≡ size b
 size-flags flags (Free n) = refl
 size-flags flags (Fixed id content) = refl
 size-flags flags Masters = refl
 size-flags flags (Relocatable id old content) = refl
-
-free-flags : (flags : Flags) (b : Block) → free_of (with_flags flags b) ≡ free_of b
-free-flags flags (Free n) = refl
-free-flags flags (Fixed id content) = refl
-free-flags flags Masters = refl
-free-flags flags (Relocatable id old content) = refl
 
 purgeable-content : (x : List ℕ) (b : Block) → length x ≡ length (content_of b)
     → purgeable_of (with_content x b) ≡ purgeable_of b
@@ -60,13 +60,14 @@ module _ (xs : List ℕ) (first unused free most : ℕ) (l : Landmarks) where
       → purgeable_sum zone ≤ most → IsMarked xs first unused free most l
   with-same zone k e a m = with-marks k (subst (AreOf l) (sym e) a) (subst (λ z. purgeable_sum z ≤ most) (sym e) m)
 
-  -- a block that takes as many bytes, of which as many are Free, and perhaps others may be emptied
+  -- a block that takes as many bytes, of which as many are Free, and ends a run if the other did
   pub with-block : (below above : List Block) (b c : Block) (zone : List Block) → IsKept xs first unused free
       → zone_in xs ≡ below ++ c ∷ above → zone ≡ below ++ b ∷ above → size c ≡ size b → free_of c ≡ free_of b
-      → AreOf l zone → purgeable_sum (below ++ c ∷ above) ≤ most → IsMarked xs first unused free most l
-  with-block below above b c zone k e was s f a m = with-marks k
+      → ends_run c ≡ ends_run b → AreOf l zone → purgeable_sum (below ++ c ∷ above) ≤ most
+      → IsMarked xs first unused free most l
+  with-block below above b c zone k e was s f r a m = with-marks k
       (subst (AreOf l) (sym e) (let o = subst (AreOf l) was a in
-      (marks-same 4294967295 l.marks below above b c s f o.0, o.1)))
+      (marks-same 4294967295 l.marks below above b c s f r o.0, o.1)))
       (subst (λ z. purgeable_sum z ≤ most) (sym e) m)
 
   -- bytes were written over some of a block's content
@@ -82,16 +83,9 @@ module _ (xs : List ℕ) (first unused free most : ℕ) (l : Landmarks) where
       let o = ap purgeable_sum was in
       let t = total-append purgeable_of below (b ∷ above) in
       let u = total-append purgeable_of below (with_content now b ∷ above) in
-      with-block below above b (with_content now b) zone k e was (size-content now b long) (free-content now b) a
+      with-block below above b (with_content now b) zone k e was (size-content now b long) (free-content now b)
+      (ends-content now b) a
       (omega (arith, p, o, t, u, m))
-
-  -- a block has other flags
-  pub with-flags : (below above : List Block) (b : Block) (flags : Flags) (zone : List Block)
-      → IsKept xs first unused free → zone_in xs ≡ below ++ with_flags flags b ∷ above → zone ≡ below ++ b ∷ above
-      → AreOf l zone → purgeable_sum (below ++ with_flags flags b ∷ above) ≤ most
-      → IsMarked xs first unused free most l
-  with-flags below above b flags zone k e was a m =
-      with-block below above b (with_flags flags b) zone k e was (size-flags flags b) (free-flags flags b) a m
 
 -- a block that isn't Free was put at the lower end of a Free one
 pub filled-replaced : (xs : List ℕ) (place need : ℕ) (r : Roomy xs place need) (new : Block) → is_free new ≡ false

@@ -1,5 +1,5 @@
 -- A walk that goes over blocks one after another, of each of which something holds.
-use Rattle.std.proofs.Common.{◌≡◌, ℕ, ◌+◌, ◌≤◌, ◌<◌, inl, inr, ◌⊎◌, List, [], ◌∷◌, ◌++◌, length, sym, refl, ap, ◌∙◌, subst}
+use Rattle.std.proofs.Common.{◌≡◌, ℕ, ◌+◌, ◌≤◌, ◌<◌, inl, inr, ◌⊎◌, Bool, List, [], ◌∷◌, ◌++◌, length, sym, refl, ap, ◌∙◌, subst}
 use Rattle.std.proofs.Common.{arith, append_assoc}
 use Rattle.block_store.specs.Block.{Block, size, sizes, free_of}
 use Rattle.zone_bytes.specs.Stepping.{left_in, IsOnWay}
@@ -95,11 +95,11 @@ parts p x (b ∷ blocks) (inr e) =
     record { below = b ∷ r.below; above = r.above; is = ap (λ k. b ∷ k) r.is; low = omega (arith, l) }
 
 -- the blocks from a place on up to another, of each of which something holds
-pub record Passed (xs : List ℕ) (from at : ℕ) (R : Block → Type 0) : Type 0 where
+pub record Passed (xs : List ℕ) (from at : ℕ) (R : ℕ → Block → Type 0) : Type 0 where
   pub done : List Block
   pub is : left_in from xs ≡ done ++ left_in at xs
   pub up : from + sizes done ≡ at
-  pub each : AtEach (λ p b. R b) from done
+  pub each : AtEach R from done
   pub way : IsOnWay at xs
 
 -- where the lower of two bounds was come to
@@ -107,23 +107,24 @@ pub past : (to end at stop : ℕ) → (stop ≡ to) ⊎ (stop ≡ end) → stop 
 past to end at stop (inl e) l = inl (omega (arith, e, l))
 past to end at stop (inr e) l = inr (omega (arith, e, l))
 
-pub passed-more : (xs : List ℕ) (from at : ℕ) (R S : Block → Type 0) → ((b : Block) → R b → S b) → Passed xs from at R
+pub passed-more : (xs : List ℕ) (from at : ℕ) (R S : ℕ → Block → Type 0) → ((p : ℕ) (b : Block) → R p b → S p b)
+    → Passed xs from at R
     → Passed xs from at S
 passed-more xs from at R S f p = record {
   done = p.done;
   is = p.is;
   up = p.up;
-  each = at-map (λ _ b. R b) (λ _ b. S b) from p.done (λ _ b _ _ r. f b r) p.each;
+  each = at-map R S from p.done (λ q b _ _ r. f q b r) p.each;
   way = p.way;
 }
 
-module _ (xs : List ℕ) (from : ℕ) (R : Block → Type 0) where
+module _ (xs : List ℕ) (from : ℕ) (R : ℕ → Block → Type 0) where
   pub passed-start : IsOnWay from xs → Passed xs from from R
   passed-start w = record { done = []; is = refl; up = omega arith; each = tt; way = w }
 
-  pub passed-step : (at end free : ℕ) → Passed xs from at R → Spans at end free xs
-      → ((b : Block) → free ≡ free_of b → 0 < size b → R b) → Passed xs from end R
-  passed-step at end free p s r =
+  pub passed-step : (at end free : ℕ) (barrier : Bool) → Passed xs from at R → Spans at end free barrier xs
+      → ((b : Block) → free ≡ free_of b → 0 < size b → R at b) → Passed xs from end R
+  passed-step at end free barrier p s r =
       let u = p.up in
       let v = s.up in
       let t = s.some in
@@ -132,7 +133,8 @@ module _ (xs : List ℕ) (from : ℕ) (R : Block → Type 0) where
         done = p.done ++ s.here ∷ [];
         is = p.is ∙ ap (λ k. p.done ++ k) s.is ∙ sym (append_assoc p.done (s.here ∷ []) (left_in end xs));
         up = omega (arith, u, v, a);
-        each = at-append (λ p b. R b) from p.done (s.here ∷ []) p.each (r s.here s.bytes (omega (arith, v, t)), tt);
+        each = at-append R from p.done (s.here ∷ []) p.each
+            (subst (λ q. R q s.here) (sym u) (r s.here s.bytes (omega (arith, v, t))), tt);
         way = s.way;
       }
 
@@ -142,12 +144,12 @@ module _ (xs : List ℕ) (from : ℕ) (R : Block → Type 0) where
 
   -- so it is of each block that begins below a bound which the walk came to
   pub passed-all : (S : ℕ → Block → Type 0) (lo hi at : ℕ) → Passed xs from at R
-      → ((p : ℕ) (b : Block) → R b → S p b) → (hi ≤ at) ⊎ (length xs ≤ at)
+      → ((p : ℕ) (b : Block) → R p b → S p b) → (hi ≤ at) ⊎ (length xs ≤ at)
       → AtEach (λ p b. lo ≤ p → p < hi → S p b) from (left_in from xs)
   passed-all S lo hi at p f e =
       subst (AtEach T from) (sym p.is)
       (at-append T from p.done (left_in at xs)
-      (at-map (λ p b. R b) T from p.done (λ q b l u r. λ m n. f q b r) p.each)
+      (at-map R T from p.done (λ q b l u r. λ m n. f q b r) p.each)
       (subst (λ y. AtEach T y (left_in at xs)) (sym p.up) (elim e [
         | inl h ↦ at-all T at (left_in at xs) (λ q b l. λ m n. absurd (omega (arith, l, n, h)))
         | inr h ↦ subst (AtEach T at) (sym (left-none at xs p.way h)) tt

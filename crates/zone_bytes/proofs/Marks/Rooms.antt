@@ -13,7 +13,7 @@ use Rattle.zone_bytes.specs.Decode.{zone_in}
 use Rattle.zone_bytes.specs.Lawful.{IsSound}
 use Rattle.zone_bytes.specs.Table.{slot_in}
 use Rattle.zone_bytes.specs.Stepping.{left_in}
-use Rattle.zone_bytes.specs.Marks.{AtEach, AtMost, NoRoom, NoneBelow, Begins, AreMarks, AreTops, RoomAt, next_of}
+use Rattle.zone_bytes.specs.Marks.{AtEach, AtMost, NoRoom, NoneBelow, Begins, AreMarks, AreTops, RoomAt, next_of, no_mark}
 use Rattle.zone_bytes.specs.declared.landmark.Landmark.{Landmark}
 use Rattle.zone_bytes.specs.declared.landmark.TheConstants.{GROUP}
 use Rattle.zone_bytes.proofs.Laws.Lawful.{sizes-length}
@@ -134,11 +134,11 @@ if-three (Some n) P Q R S f p q r = f n p q r
 
 -- the stretch of a landmark that notes less
 pub stretch-room : (bytes : ℕ) (zone : List Block) (marks : List Landmark) (index : ℕ) → index < length marks
-    → AreMarks 4294967295 zone marks → (get_or marks index (record { at = 0; most = 0 })).most < bytes
-    → AtEach (NoRoom bytes (get_or marks index (record { at = 0; most = 0 })).at
+    → AreMarks 4294967295 zone marks → (get_or marks index no_mark).most < bytes
+    → AtEach (NoRoom bytes (get_or marks index no_mark).at
     (next_of 4294967295 (drop (index + 1) marks))) 0 zone
 stretch-room bytes zone marks index u a l =
-    let d : Landmark = record { at = 0; most = 0 } in
+    let d : Landmark = no_mark in
     let m = get_or marks index d in
     bound-room m.most bytes m.at (next_of 4294967295 (drop (index + 1) marks)) 0 zone l
     (subst (AreMarks 4294967295 zone) (drop_more marks index d u) (marks-parted 4294967295 zone marks index a).1).1
@@ -152,17 +152,17 @@ none-past bytes zone marks index l n =
 module _ (xs : List ℕ) (first unused : ℕ) (i : IsSound xs first unused) (bytes : ℕ) (marks : List Landmark)
     (a : AreMarks 4294967295 (zone_in xs) marks) where
   -- over one landmark that notes less
-  none-next : (index : ℕ) → index < length marks → (get_or marks index (record { at = 0; most = 0 })).most < bytes
+  none-next : (index : ℕ) → index < length marks → (get_or marks index no_mark).most < bytes
       → NoneBelow bytes (zone_in xs) marks index → NoneBelow bytes (zone_in xs) marks (index + 1)
   none-next index u l n =
-      let d : Landmark = record { at = 0; most = 0 } in
+      let d : Landmark = no_mark in
       none-whole xs first unused i bytes (get_or marks index d).at (next_of 4294967295 (drop (index + 1) marks))
       (subst (λ p. AtEach (NoRoom bytes 0 p) 0 (zone_in xs)) (mark-first 4294967295 marks index d u) n)
       (stretch-room bytes (zone_in xs) marks index u a l)
 
   -- over so many of them
   none-along : (count index : ℕ) → index + count ≤ length marks
-      → ((j : ℕ) → index ≤ j → j < index + count → (get_or marks j (record { at = 0; most = 0 })).most < bytes)
+      → ((j : ℕ) → index ≤ j → j < index + count → (get_or marks j no_mark).most < bytes)
       → NoneBelow bytes (zone_in xs) marks index → NoneBelow bytes (zone_in xs) marks (index + count)
   none-along zero index u f n =
       subst (NoneBelow bytes (zone_in xs) marks) (let e : index ≡ index + 0 = omega arith in e) n

@@ -1,27 +1,26 @@
--- What a block's header tells of where it ends and of its Free bytes.
-use Rattle.std.proofs.Common.{◌≡◌, ℕ, true, false, cond, ◌==◌, ◌+◌, ◌%◌, ◌<◌, ◌≤◌, List, ◌∷◌, length, sym, refl, ap}
+-- What a block's header tells of where it ends, and its Free bytes.
+use Rattle.std.proofs.Common.{◌≡◌, ℕ, Bool, true, false, ◌+◌, ◌%◌, ◌<◌, ◌≤◌, List, ◌∷◌, length, sym, refl, ap}
 use Rattle.std.proofs.Common.{◌∙◌, subst, arith, nat_le}
 use Rattle.heap_words.specs.Words.{word_at}
 use Rattle.block_store.specs.Block.{Block, Free, Fixed, Masters, Relocatable, size, free_of, is_room}
-use Rattle.zone_bytes.specs.Layout.{kind}
-use Rattle.zone_bytes.specs.Stepping.{left_in, IsOnWay}
+use Rattle.block_store.specs.declared.sparing.Seen.{Seen}
+use Rattle.zone_bytes.specs.Stepping.{header_seen, left_in, IsOnWay, Steps}
 use Rattle.zone_bytes.specs.Marks.{Spans, RoomAt}
 use Rattle.zone_bytes.proofs.Places.Stepped.{stepped}
 use Rattle.zone_bytes.proofs.Places.HeaderTells.{here-on, size-at, same-here}
-use Rattle.zone_bytes.proofs.Places.Walks.{free-of}
 
-pub spanned : (at : ℕ) (xs : List ℕ) (w : IsOnWay at xs) → at < length xs → (n t : ℕ) → n + t ≡ word_at at xs
-    → n % 16 ≡ 0 → t ≤ 3 → (free : ℕ) → free ≡ cond (t == 0) n 0 → Spans at (at + n) free xs
-spanned at xs w l n t e h k free f =
+pub steps : (at : ℕ) (xs : List ℕ) (w : IsOnWay at xs) → at < length xs → (n t : ℕ) → n + t ≡ word_at at xs
+    → n % 16 ≡ 0 → t ≤ 3 → (answer : Seen)
+    → answer ≡ header_seen t n (word_at (at + 4) xs) (word_at (at + 8) xs) (word_at (at + 12) xs)
+    → Steps at answer (at + n) xs
+steps at xs w l n t e h k answer a =
     let s = stepped at xs w l n t e h k in
-    let o = here-on at xs w l n t e h k in
     let z = size-at at xs w l n t e h k s.here (left_in (at + n) xs) s.is in
-    let tag : t ≡ kind s.here = o.tag ∙ ap kind (same-here at xs t o s.here (left_in (at + n) xs) s.is) in
     record {
       here = s.here;
       is = s.is;
+      told = sym (a ∙ s.told);
       up = ap (λ m. at + m) (sym z);
-      bytes = f ∙ (λ i. cond (tag i == 0) (z i) 0) ∙ sym (free-of s.here);
       way = s.way;
       some = (let b = some-bytes s.here (left_in (at + n) xs) s.is in omega (arith, b, z));
     }
@@ -38,8 +37,9 @@ room-free p (Fixed id content) s l = absurd (omega (arith, s))
 room-free p Masters s l = absurd (omega (arith, s))
 room-free p (Relocatable slot flags content) s l = absurd (omega (arith, s))
 
-pub room-here : (p at end free : ℕ) (xs : List ℕ) → Spans at end free xs → 0 < free → p ≤ free → RoomAt p at xs
-room-here p at end free xs s some fits =
+pub room-here : (p at end free : ℕ) (barrier : Bool) (xs : List ℕ) → Spans at end free barrier xs → 0 < free → p ≤ free
+    → RoomAt p at xs
+room-here p at end free barrier xs s some fits =
     let k = s.bytes in
     record {
       here = s.here;

@@ -4,7 +4,7 @@ use Rattle.std.proofs.Common.{◌∙◌, subst, arith, length-set, replicate}
 use Rattle.std.proofs.lemmas.Bool.Decides.{eqb_tells}
 use Rattle.std.proofs.lemmas.List.{get_or-take, get_or-drop, get_or-set_same, get_or-set_other, length-take-le, length-drop}
 use Rattle.std.proofs.lemmas.List.{get_or-replicate, length-replicate}
-use Rattle.zone_bytes.specs.Marks.{AreTops}
+use Rattle.zone_bytes.specs.Marks.{AreTops, no_mark}
 use Rattle.zone_bytes.specs.declared.landmark.Landmark.{Landmark}
 use Rattle.zone_bytes.specs.declared.landmark.TheConstants.{GROUP}
 
@@ -12,7 +12,7 @@ use Rattle.zone_bytes.specs.declared.landmark.TheConstants.{GROUP}
 pub top-renewed : (tops : List ℕ) (marks : List Landmark) (group low n most : ℕ) → AreTops tops marks
     → group < length tops → low ≡ group * 64 → n ≡ 64
     → ((index : ℕ) → index < length (take n (drop low marks))
-    → (get_or (take n (drop low marks)) index (record { at = 0; most = 0 })).most ≤ most)
+    → (get_or (take n (drop low marks)) index no_mark).most ≤ most)
     → AreTops (set tops group most) marks
 top-renewed tops marks group low n most a l e k f = record {
   whole = (let w = a.whole in let s = length-set tops group most in omega (arith, w, s));
@@ -26,7 +26,7 @@ top-renewed tops marks group low n most a l e k f = record {
 }
   where
     d : Landmark
-    d = record { at = 0; most = 0 }
+    d = no_mark
 
     here : (index : ℕ) → low ≤ index → index < low + n → index < length marks → (get_or marks index d).most ≤ most
     here index u v m =
@@ -40,16 +40,13 @@ top-renewed tops marks group low n most a l e k f = record {
         subst (λ b. b.most ≤ most) s (f j (omega (arith, t, u, v)))
 
 -- landmarks that all note the same
-pub same-tops : (count groups at most : ℕ) → count ≡ GROUP * groups
-    → AreTops (replicate groups most) (replicate count (record { at = at; most = most }))
-same-tops count groups at most e = record {
-  whole = (let s = length-replicate count m in let t = length-replicate groups most in omega (arith, e, s, t));
+pub same-tops : (count groups : ℕ) (m : Landmark) → count ≡ GROUP * groups
+    → AreTops (replicate groups m.most) (replicate count m)
+same-tops count groups m e = record {
+  whole = (let s = length-replicate count m in let t = length-replicate groups m.most in omega (arith, e, s, t));
   each = λ group index b h l.
       let s = length-replicate count m in
-      let r = ap (λ k. k.most) (get_or-replicate count index m (record { at = 0; most = 0 }) (omega (arith, l, s))) in
-      let t = get_or-replicate groups group most 0 (omega (arith, l, s, e, b)) in
+      let r = ap (λ k. k.most) (get_or-replicate count index m no_mark (omega (arith, l, s))) in
+      let t = get_or-replicate groups group m.most 0 (omega (arith, l, s, e, b)) in
       omega (arith, r, t);
 }
-  where
-    m : Landmark
-    m = record { at = at; most = most }

@@ -4,6 +4,7 @@ use Rattle.zone_bytes.proofs.Marks.Lowering.{begins-lowered, changing-start, cha
 use Rattle.zone_bytes.proofs.Marks.Lowering.{last-mark, replaced-order}
 use Rattle.zone_bytes.proofs.marking.change_marks.Goals as goal
 use Rattle.zone_bytes.proofs.marking.change_marks.Goals.{then-loop-first-test+else-lo-above, else-loop-first-test}
+use Rattle.zone_bytes.specs.Marks.{no_mark}
 
 pub loop-first-init : goal.loop-first-init
 loop-first-init c = (
@@ -20,14 +21,26 @@ pub changed_mark-mark-requires-clause-ordered : goal.changed_mark-mark-requires-
 changed_mark-mark-requires-clause-ordered c = replaced-order c.args.lo c.args.hi c.requires.marks.0
     (zone_in c.args.part.now.bytes) c.requires.marks.1
 
+pub changed_mark-mark-requires-clause-rising : goal.changed_mark-mark-requires-clause-rising
+changed_mark-mark-requires-clause-rising c =
+    let old = c.requires.marks.0 in
+    let s = c.loop-first-test.true in
+    (last-mark c.args.lo c.args.hi old (zone_in c.args.part.now.bytes) c.loop-first.next c.loop-first.above
+    c.loop-first.first c.loop-first.marks _ no_mark (omega (arith, s)) c.loop-first.invariant.0
+    (c.loop-first.invariant.2 old c.requires.marks.1 c.requires.marks.2)).1.3
+
+pub changed_mark-mark-requires-clause-lowered : goal.changed_mark-mark-requires-clause-lowered
+changed_mark-mark-requires-clause-lowered c =
+    (c.loop-first.invariant.2 c.requires.marks.0 c.requires.marks.1 c.requires.marks.2).is
+
 pub changed_mark-mark-requires-clause-begins : goal.changed_mark-mark-requires-clause-begins
 changed_mark-mark-requires-clause-begins c = λ at w.
     let old = c.requires.marks.0 in
     let new = zone_in c.args.part.now.bytes in
     let z = c.requires.marks.1 in
     let s = c.loop-first-test.true in
-    let r = last-mark c.args.lo c.args.hi old new c.loop-first.above c.loop-first.first c.loop-first.marks _
-    (record { at = 0; most = 0 }) (omega (arith, s)) c.loop-first.invariant.0
+    let r = last-mark c.args.lo c.args.hi old new c.loop-first.next c.loop-first.above c.loop-first.first c.loop-first.marks _
+    no_mark (omega (arith, s)) c.loop-first.invariant.0
     (c.loop-first.invariant.2 old z c.requires.marks.2) in
     begins-lowered c.args.lo c.args.hi old new z (replaced-order c.args.lo c.args.hi old new z) _ at w r.1.0
 
@@ -39,10 +52,10 @@ loop-first-preserved c =
       (let n = length-set c.loop-first.marks (c.loop-first.first - 1) c.changed_mark-mark.result in omega (arith, l, n)),
       c.raise_top.ensures c.loop-first.marks c.changed_mark-mark.result (omega arith) c.loop-first.invariant.1,
       λ old z a.
-          changing-step c.args.lo c.args.hi old new z (replaced-order c.args.lo c.args.hi old new z) c.loop-first.above
-          c.loop-first.first c.loop-first.marks (record { at = 0; most = 0 }) c.changed_mark-mark.result (omega (arith, s)) l
+          changing-step c.args.lo c.args.hi old new z (replaced-order c.args.lo c.args.hi old new z) c.loop-first.next
+          c.loop-first.above c.loop-first.first c.loop-first.marks no_mark c.changed_mark-mark.result (omega (arith, s)) l
           (c.loop-first.invariant.2 old z a) c.changed_mark-mark.ensures.at
-          (λ next n e. c.changed_mark-mark.ensures.bound old next z n e),
+          (λ e. c.changed_mark-mark.ensures.bound old z e) (λ e. c.changed_mark-mark.ensures.tally old z e),
     )
 
 pub returns-clause-marks : goal.returns-clause-marks
@@ -53,8 +66,8 @@ returns-clause-marks c =
     let g = c.loop-first.invariant.2 old z c.requires.marks.2 in
     elim c.loop-first-test.branch [
       | then-loop-first-test+else-lo-above w ↦ changing-below c.args.lo c.args.hi old new z
-          (replaced-order c.args.lo c.args.hi old new z) c.loop-first.above c.loop-first.first c.loop-first.marks
-          w.if-lo-above.false g
+          (replaced-order c.args.lo c.args.hi old new z) c.loop-first.next c.loop-first.above c.loop-first.first
+          c.loop-first.marks w.if-lo-above.false g
       | else-loop-first-test w ↦ let s = w.loop-first-test.false in
-          changing-done c.args.lo c.args.hi old new c.loop-first.above c.loop-first.first c.loop-first.marks (omega (arith, s)) g
+          changing-done c.args.lo c.args.hi old new c.loop-first.next c.loop-first.above c.loop-first.first c.loop-first.marks (omega (arith, s)) g
     ]

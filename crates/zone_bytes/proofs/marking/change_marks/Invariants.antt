@@ -8,7 +8,7 @@ use Rattle.zone_bytes.proofs.marking.change_marks.Given as goal
 abbrev pub invariant-loop-first : goal.invariant-loop-first
 invariant-loop-first l = (l.first ≤ length l.marks) × AreTops l.tops l.marks
     × ((old : List Block) → Replaced l.lo l.hi old (zone_in l.part.bytes) → AreMarks 4294967295 old l.initial.marks
-    → Changing l.lo l.hi old (zone_in l.part.bytes) l.above (take l.first l.marks) (drop l.first l.marks))
+    → Changing l.lo l.hi old (zone_in l.part.bytes) l.next l.above (take l.first l.marks) (drop l.first l.marks))
 
 abbrev pub decreases-loop-first : goal.decreases-loop-first
 decreases-loop-first l = l.first

@@ -1,6 +1,6 @@
 use Rattle.std.proofs.Common.{◌≡◌, ◌+◌, ◌-◌, ◌≤◌, ◌<◌, ℕ, List, sym, subst, get_or, arith}
 use Rattle.zone_bytes.specs.declared.landmark.Landmark.{Landmark}
-use Rattle.zone_bytes.specs.Marks.{next_of}
+use Rattle.zone_bytes.specs.Marks.{next_of, no_mark}
 use Rattle.zone_bytes.proofs.Marks.Lowering.{drop-all, mark-first}
 use Rattle.zone_bytes.proofs.marking.index_above.Goals as goal
 
@@ -14,9 +14,9 @@ loop-low-init c = (
 )
 
 -- the last of so many
-last-below : (marks : List Landmark) (middle place : ℕ) → (get_or marks middle (record { at = 0; most = 0 })).at < place
-    → (get_or marks (middle + 1 - 1) (record { at = 0; most = 0 })).at < place
-last-below marks middle place l = subst (λ k. (get_or marks k (record { at = 0; most = 0 })).at < place)
+last-below : (marks : List Landmark) (middle place : ℕ) → (get_or marks middle no_mark).at < place
+    → (get_or marks (middle + 1 - 1) no_mark).at < place
+last-below marks middle place l = subst (λ k. (get_or marks k no_mark).at < place)
     (let e : middle ≡ middle + 1 - 1 = omega arith in e) l
 
 pub loop-low-preserved-then-marks-middle : goal.loop-low-preserved-then-marks-middle
@@ -38,7 +38,7 @@ loop-low-preserved c =
     let t = c.if-marks-middle.false in (
       omega (arith, l),
       omega (arith, l, h),
-      subst (λ k. c.args.place ≤ k) (sym (mark-first 4294967295 c.args.marks.now _ (record { at = 0; most = 0 })
+      subst (λ k. c.args.place ≤ k) (sym (mark-first 4294967295 c.args.marks.now _ no_mark
           (omega (arith, l, h)))) (omega (arith, t)),
       i.3,
     )

@@ -1,9 +1,10 @@
 use Rattle.std.proofs.Common.{◌+◌, length, length-set, take, drop, refl, sym, ap, ◌∙◌, subst, arith}
 use Rattle.std.proofs.lemmas.List.{drop_more}
 use Rattle.zone_bytes.specs.Decode.{zone_in}
-use Rattle.zone_bytes.specs.Marks.{AreMarks, Begins, next_of}
+use Rattle.zone_bytes.specs.Marks.{AreMarks, Begins, between, next_of, no_mark}
+use Rattle.zone_bytes.specs.Stepping.{left_in}
 use Rattle.zone_bytes.specs.declared.landmark.Landmark.{Landmark}
-use Rattle.zone_bytes.proofs.Marks.Lowering.{begins-way, begins-further, bound-here, marks-parted, marks-whole, marks-next}
+use Rattle.zone_bytes.proofs.Marks.Lowering.{begins-way, begins-further, bound-here, tally-here, marks-parted, marks-whole, marks-next}
 use Rattle.zone_bytes.proofs.Marks.Lowering.{marks-left, mark-first, drop-all, equal-yes, equal-no}
 use Rattle.zone_bytes.proofs.marking.lay_marks.Goals as goal
 
@@ -12,7 +13,7 @@ loop-index-init c =
     let zone = zone_in c.args.part.now.bytes in
     let marks = c.args.marks.now in
     let e = c.place_of_mark-at.ensures in
-    let d : Landmark = record { at = 0; most = 0 } in
+    let d : Landmark = no_mark in
     let p = marks-parted 4294967295 zone marks c.args.first c.requires.marks in (
       refl,
       c.requires.tops,
@@ -31,7 +32,7 @@ returns-then-marks-index-clause-marks c =
     let n = i.0 in
     let t = c.if-marks-index.true in
     marks-whole 4294967295 zone c.loop-index.marks c.loop-index.index c.loop-index.at
-    (sym t ∙ sym (mark-first 4294967295 c.loop-index.marks c.loop-index.index (record { at = 0; most = 0 })
+    (sym t ∙ sym (mark-first 4294967295 c.loop-index.marks c.loop-index.index no_mark
     (omega (arith, l, n)))) i.2 i.3
 
 pub stretch_from-stretch-requires : goal.stretch_from-stretch-requires
@@ -50,9 +51,15 @@ loop-index-preserved c =
     let b = v.4 (omega (arith, l)) in
     let s = c.stretch_from-stretch in (
       length-set c.loop-index.marks c.loop-index.index _ ∙ n,
-      c.raise_top.ensures c.loop-index.marks (record { at = c.loop-index.at; most = s.result.most }) (omega arith) v.1,
-      marks-next (zone_in xs) c.loop-index.marks c.loop-index.index c.loop-index.at s.result.edge s.result.most
-          (omega (arith, l, n)) v.2 b (bound-here xs i.0 i.1 i.2 s.result.most c.loop-index.at s.result.edge b s.ensures.bound)
+      c.raise_top.ensures c.loop-index.marks (record { at = c.loop-index.at; most = s.result.most; tally = c.tally.result })
+          (omega arith) v.1,
+      marks-next (zone_in xs) c.loop-index.marks c.loop-index.index s.result.edge
+          (record { at = c.loop-index.at; most = s.result.most; tally = c.tally.result })
+          (omega (arith, l, n)) v.2 b
+          (bound-here xs i.0 i.1 i.2 s.result.most c.loop-index.at s.result.edge b s.ensures.measured.most)
+          (tally-here xs i.0 i.1 i.2 c.tally.result c.loop-index.at s.result.edge b (c.tally.ensures
+          (between c.loop-index.at s.result.edge c.loop-index.at (left_in c.loop-index.at xs)) s.ensures.measured.free
+          s.ensures.measured.barred))
           s.ensures.order,
       marks-left 4294967295 (zone_in xs) c.loop-index.marks c.loop-index.index _ (omega (arith, l, n)) v.3,
       λ k. begins-further xs i.0 i.1 i.2 c.loop-index.at s.result.edge b (s.ensures.edge

@@ -2,6 +2,7 @@ use Rattle.std.proofs.Common.{inl, arith}
 use Rattle.zone_bytes.proofs.Marks.Passing.{begins-here}
 use Rattle.zone_bytes.proofs.Marks.Lowering.{mark-begins}
 use Rattle.zone_bytes.proofs.marking.mark_below.Goals as goal
+use Rattle.zone_bytes.specs.Marks.{no_mark}
 
 pub returns-then-above-eq0-clause-begins : goal.returns-then-above-eq0-clause-begins
 returns-then-above-eq0-clause-begins c = λ end zone a. begins-here 0 zone
@@ -13,4 +14,4 @@ pub returns-clause-begins : goal.returns-clause-begins
 returns-clause-begins c = λ end zone a.
     let n = c.if-above-eq0.false in
     let h = c.index_above-above.ensures.index in
-    mark-begins end zone c.args.marks.now _ (record { at = 0; most = 0 }) (omega (arith, n, h)) a
+    mark-begins end zone c.args.marks.now _ no_mark (omega (arith, n, h)) a

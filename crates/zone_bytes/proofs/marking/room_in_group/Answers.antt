@@ -1,6 +1,6 @@
 use Rattle.std.proofs.Common.{get_or, subst, sym, arith}
 use Rattle.zone_bytes.specs.Decode.{zone_in}
-use Rattle.zone_bytes.specs.Marks.{AtEach, NoRoom}
+use Rattle.zone_bytes.specs.Marks.{AtEach, NoRoom, no_mark}
 use Rattle.zone_bytes.proofs.Marks.Lowering.{mark-begins}
 use Rattle.zone_bytes.proofs.Marks.Rooms.{stretch-room}
 use Rattle.zone_bytes.proofs.marking.room_in_group.Goals as goal
@@ -9,7 +9,7 @@ pub room_in_stretch-requires-clause-begins : goal.room_in_stretch-requires-claus
 room_in_stretch-requires-clause-begins c =
     let t = c.loop-index-test.true in
     let w = c.requires.within in
-    mark-begins 4294967295 (zone_in c.args.part.now.bytes) c.args.marks.now c.loop-index.index (record { at = 0; most = 0 })
+    mark-begins 4294967295 (zone_in c.args.part.now.bytes) c.args.marks.now c.loop-index.index no_mark
     (omega (arith, t, w)) c.requires.marks
 
 pub room_in_stretch-requires-clause-bound : goal.room_in_stretch-requires-clause-bound
@@ -17,6 +17,6 @@ room_in_stretch-requires-clause-bound c = λ l.
     let t = c.loop-index-test.true in
     let w = c.requires.within in
     let zone = zone_in c.args.part.now.bytes in
-    let m = get_or c.args.marks.now c.loop-index.index (record { at = 0; most = 0 }) in
+    let m = get_or c.args.marks.now c.loop-index.index no_mark in
     subst (λ n. AtEach (NoRoom c.args.bytes m.at n) 0 zone) (sym c.place_of_mark-to.ensures)
     (stretch-room c.args.bytes zone c.args.marks.now c.loop-index.index (omega (arith, t, w)) c.requires.marks l)

@@ -1,37 +1,64 @@
-use Rattle.std.proofs.Common.{◌≡◌, ◌≤◌, ◌⊎◌, inl, length, subst, arith}
-use Rattle.block_store.specs.Block.{free_of}
-use Rattle.zone_bytes.proofs.Marks.Passing.{passed-begins, passed-step, passed-all, passed-more, past}
+use Rattle.std.proofs.Common.{◌≡◌, ◌+◌, ◌≤◌, ◌⊎◌, ◌||◌, ◌∙◌, length, ap, sym, subst, arith}
+use Rattle.zone_bytes.specs.Marks.{Begins}
+use Rattle.zone_bytes.specs.Stepping.{left_in}
+use Rattle.zone_bytes.proofs.Marks.Counting.{Counted, counted-start, counted-step, counted-fits, counted-edge}
+use Rattle.zone_bytes.proofs.Marks.Counting.{counted-below}
+use Rattle.zone_bytes.proofs.Marks.Passing.{begins-right, begins-here, past}
 use Rattle.zone_bytes.proofs.measuring.measure_up_to.Goals as goal
+
+pub loop-at-init : goal.loop-at-init
+loop-at-init c = counted-start c.args.part.now.bytes c.args.from c.within-stop.result 0 c.requires
+
+pub overflow_add-free : goal.overflow_add-free
+overflow_add-free c =
+    let f = counted-fits c.args.part.now.bytes c.args.from c.within-stop.result c.loop-at.at c.span_at-span.result.end
+    c.loop-at.most c.loop-at.free c.span_at-span.result.free c.loop-at.barred c.span_at-span.result.barrier
+    c.loop-at.invariant c.span_at-span.ensures in
+    let u = c.span_at-span.ensures.way.walk.up in
+    let m = c.span_at-span.ensures.way.small in
+    omega (arith, f, u, m)
+
+pub loop-at-preserved-then-barred : goal.loop-at-preserved-then-barred
+loop-at-preserved-then-barred c =
+    let m = c.greater-most.ensures in
+    subst (λ b. Counted c.args.part.now.bytes c.args.from c.span_at-span.result.end c.within-stop.result
+    c.greater-most.result (c.loop-at.free + c.span_at-span.result.free) b)
+    (ap (λ b. b || c.span_at-span.result.barrier) c.if-barred.true ∙ sym c.if-barred.true)
+    (counted-step c.args.part.now.bytes c.args.from c.within-stop.result c.loop-at.at c.span_at-span.result.end
+    c.loop-at.most c.greater-most.result c.loop-at.free c.span_at-span.result.free c.loop-at.barred
+    c.span_at-span.result.barrier c.loop-at.invariant c.span_at-span.ensures c.loop-at-test.true m.first m.second)
 
 pub loop-at-preserved : goal.loop-at-preserved
 loop-at-preserved c =
-    let xs = c.args.part.now.bytes in
-    let s = c.span_at-span in
     let m = c.greater-most.ensures in
-    let f = m.first in
-    let g = m.second in
-    passed-step xs c.args.from (λ b. free_of b ≤ c.greater-most.result) c.loop-at.at s.result.end s.result.free
-    (passed-more xs c.args.from c.loop-at.at (λ b. free_of b ≤ c.loop-at.most) (λ b. free_of b ≤ c.greater-most.result)
-    (λ b l. omega (arith, f, l)) c.loop-at.invariant) s.ensures (λ b e _. omega (arith, g, e))
+    subst (λ b. Counted c.args.part.now.bytes c.args.from c.span_at-span.result.end c.within-stop.result
+    c.greater-most.result (c.loop-at.free + c.span_at-span.result.free) b)
+    (ap (λ b. b || c.span_at-span.result.barrier) c.if-barred.false)
+    (counted-step c.args.part.now.bytes c.args.from c.within-stop.result c.loop-at.at c.span_at-span.result.end
+    c.loop-at.most c.greater-most.result c.loop-at.free c.span_at-span.result.free c.loop-at.barred
+    c.span_at-span.result.barrier c.loop-at.invariant c.span_at-span.ensures c.loop-at-test.true m.first m.second)
 
 pub returns-clause-edge : goal.returns-clause-edge
-returns-clause-edge c = passed-begins c.args.part.now.bytes c.args.from (λ b. free_of b ≤ c.loop-at.most) c.loop-at.at
-    c.loop-at.invariant
+returns-clause-edge c =
+    let i = c.loop-at.invariant in
+    subst (λ k. Begins c.loop-at.at c.args.from k) (sym i.is)
+    (begins-right c.loop-at.at c.args.from i.done (left_in c.loop-at.at c.args.part.now.bytes)
+    (subst (λ y. Begins c.loop-at.at y (left_in c.loop-at.at c.args.part.now.bytes)) (sym i.up)
+    (begins-here c.loop-at.at (left_in c.loop-at.at c.args.part.now.bytes))))
 
 pub returns-clause-order : goal.returns-clause-order
 returns-clause-order c = let u = c.loop-at.invariant.up in omega (arith, u)
 
 pub returns-clause-passed : goal.returns-clause-passed
-returns-clause-passed c = passed-all c.args.part.now.bytes c.args.from (λ b. free_of b ≤ c.loop-at.most)
-    (λ _ b. free_of b ≤ c.loop-at.most) c.args.from c.loop-at.at c.loop-at.at c.loop-at.invariant (λ _ b r. r)
-    (inl (omega arith))
+returns-clause-passed c = counted-edge c.args.part.now.bytes c.args.from c.within-stop.result c.loop-at.at c.loop-at.most
+    c.loop-at.free c.loop-at.barred c.loop-at.invariant c.loop-at.at
 
 pub returns-clause-below : goal.returns-clause-below
 returns-clause-below c =
     let k = c.len.ensures.count in
     let l = c.loop-at-test.false in
-    passed-all c.args.part.now.bytes c.args.from (λ b. free_of b ≤ c.loop-at.most) (λ _ b. free_of b ≤ c.loop-at.most)
-    c.args.from c.args.place c.loop-at.at c.loop-at.invariant (λ _ b r. r)
+    counted-below c.args.part.now.bytes c.args.from c.within-stop.result c.loop-at.at c.loop-at.most c.loop-at.free
+    c.loop-at.barred c.loop-at.invariant c.args.place c.loop-at.at c.within-stop.ensures.least
     (past c.args.place (length c.args.part.now.bytes) c.loop-at.at c.within-stop.result
     (subst (λ n. (c.within-stop.result ≡ c.args.place) ⊎ (c.within-stop.result ≡ n)) k c.within-stop.ensures.one)
     (omega (arith, l)))

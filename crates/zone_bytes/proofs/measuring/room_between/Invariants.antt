@@ -4,7 +4,7 @@ use Rattle.zone_bytes.proofs.Marks.Passing.{Passed}
 use Rattle.zone_bytes.proofs.measuring.room_between.Given as goal
 
 abbrev pub invariant-loop-at : goal.invariant-loop-at
-invariant-loop-at l = Passed l.part.bytes l.from l.at (λ b. is_room l.bytes b ≡ false)
+invariant-loop-at l = Passed l.part.bytes l.from l.at (λ _ b. is_room l.bytes b ≡ false)
 
 abbrev pub decreases-loop-at : goal.decreases-loop-at
 decreases-loop-at l = l.stop - l.at

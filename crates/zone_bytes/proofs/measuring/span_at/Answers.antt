@@ -1,30 +1,13 @@
-use Rattle.std.proofs.Common.{arith}
-use Rattle.heap_words.specs.Headers.{tag_number}
-use Rattle.zone_bytes.proofs.Tiles.Tags.{tag-small}
-use Rattle.zone_bytes.proofs.Places.Stepped.{next-header, stepped}
-use Rattle.zone_bytes.proofs.Marks.Spanned.{spanned}
+use Rattle.std.proofs.Common.{not, ap}
 use Rattle.zone_bytes.proofs.measuring.span_at.Goals as goal
 
-pub read_header-header-requires-clause-within : goal.read_header-header-requires-clause-within
-read_header-header-requires-clause-within c =
-    let n = next-header c.args.at c.args.part.now.bytes c.requires.way c.requires.some in (n.even, n.fits)
-
-pub read_header-header-requires-clause-tag : goal.read_header-header-requires-clause-tag
-read_header-header-requires-clause-tag c = (next-header c.args.at c.args.part.now.bytes c.requires.way c.requires.some).tag
-
-pub overflow_add-result : goal.overflow_add-result
-overflow_add-result c =
-    let h = c.read_header-header.result in
-    let e = c.read_header-header.ensures in
-    let s = stepped c.args.at c.args.part.now.bytes c.requires.way c.requires.some h.size (tag_number h.tag) e.first e.size
-    (tag-small h.tag) in
-    let u = s.way.walk.up in
-    let m = s.way.small in
-    omega (arith, u, m)
-
 pub returns : goal.returns
-returns c =
-    let h = c.read_header-header.result in
-    let e = c.read_header-header.ensures in
-    spanned c.args.at c.args.part.now.bytes c.requires.way c.requires.some h.size (tag_number h.tag) e.first e.size
-    (tag-small h.tag) c.free_of_header.result c.free_of_header.ensures
+returns c = let s = c.step_at-step.ensures in record {
+  here = s.here;
+  is = s.is;
+  up = s.up;
+  bytes = c.free_of_seen.ensures s.here s.told;
+  ends = ap not (c.is_in_run.ensures s.here s.told);
+  way = s.way;
+  some = s.some;
+}

@@ -3,6 +3,7 @@ use Rattle.zone_bytes.specs.Decode.{zone_in}
 use Rattle.zone_bytes.specs.Table.{slot_in}
 use Rattle.zone_bytes.specs.Marks.{AreMarks, AreTops}
 use Rattle.zone_bytes.specs.declared.landmark.Landmark.{Landmark}
+use Rattle.zone_bytes.specs.declared.landmark.Tally.TheVariants as tally
 use Rattle.zone_bytes.proofs.Laws.Lawful.{sizes-length}
 use Rattle.zone_bytes.proofs.Places.AtPlace.{on-way}
 use Rattle.zone_bytes.proofs.Marks.Lowering.{unlaid-marks}
@@ -21,12 +22,13 @@ renew-requires-clause-marks c =
     let marks = c.args.self.now.marks in
     let tops = c.args.self.now.tops in
     let end = c.len-end.result in
-    let unknown : Landmark = record { at = 0; most = 4294967295 } in
+    let unknown : Landmark = record { at = 0; most = 4294967295; tally = tally.Unknown } in
+    let last : Landmark = record { at = end; most = 0; tally = tally.Open 0 } in
     let e : length marks ≡ 64 * length tops = search rules in
     let f = c.fill.ensures.after (λ y e. e) in
     let g = c.fill-2.ensures.after (λ y e. e) in (
       subst (λ k. AreMarks 4294967295 (zone_in xs) (set k 0 unknown)) (sym f)
           (unlaid-marks (zone_in xs) (omega (arith, s, m)) end (c.len-end.ensures.count ∙ sym s) (length marks)),
       c.raise_top.ensures c.fill.new.self unknown (omega arith) (subst (λ t. AreTops t c.fill.new.self) (sym g)
-          (subst (AreTops (replicate (length tops) 0)) (sym f) (same-tops (length marks) (length tops) end 0 e))),
+          (subst (AreTops (replicate (length tops) 0)) (sym f) (same-tops (length marks) (length tops) last e))),
     )

@@ -1,0 +1,3 @@
+pub mod Going
+pub mod Pieces
+pub mod Knowing

@@ -1,0 +1,144 @@
+-- The blocks from one place of a zone up to another.
+use Rattle.std.proofs.Common.{◌≡◌, ℕ, ◌+◌, ◌≤◌, ◌<◌, ◌⊎◌, inl, inr, List, [], ◌∷◌, ◌++◌, length, drop, get_or, append_assoc}
+use Rattle.std.proofs.Common.{refl, sym, ap, ◌∙◌, subst, arith}
+use Rattle.std.proofs.lemmas.Bool.{cases_lt}
+use Rattle.std.proofs.lemmas.List.{drop_more, drop_all}
+use Rattle.block_store.specs.Block.{Block, sizes}
+use Rattle.zone_bytes.specs.Decode.{zone_in}
+use Rattle.zone_bytes.specs.Lawful.{IsSound}
+use Rattle.zone_bytes.specs.Marks.{AreMarks, Begins, IsTally, between, next_of, no_mark}
+use Rattle.zone_bytes.specs.Searching.{IsPiece, IsStretch}
+use Rattle.zone_bytes.specs.Stepping.{left_in}
+use Rattle.zone_bytes.specs.Table.{slot_in}
+use Rattle.zone_bytes.specs.declared.landmark.Landmark.{Landmark}
+use Rattle.zone_bytes.proofs.Laws.Lawful.{sizes-length}
+use Rattle.zone_bytes.proofs.Marks.Between.{Alike, alike-as, alike-back, alike-more, alike-same, between-parts}
+use Rattle.zone_bytes.proofs.Marks.Lowering.{Seen, begins-way, seen-from, marks-parted, mark-begins, mark-first, begins-end, drop-all}
+use Rattle.zone_bytes.proofs.Marks.Passing.{Parts, begins-either, begins-here, begins-right, begins-within, parts}
+use Rattle.zone_bytes.proofs.Places.AtPlace.{left-above}
+use Rattle.zone_bytes.proofs.Places.Stepped.{left-none}
+use Rattle.zone_bytes.proofs.Tiles.Tiling.{span-append}
+
+-- an edge is one of those behind a piece that ends there
+pub piece-begins : (xs : List ℕ) (from to : ℕ) (here : List Block) → IsPiece from to xs here → Begins to from (left_in from xs)
+piece-begins xs from to here p = subst (Begins to from) (sym p.is) (begins-right to from here (left_in to xs)
+    (subst (λ y. Begins to y (left_in to xs)) (sym p.up) (begins-here to (left_in to xs))))
+
+module _ (xs : List ℕ) (first unused : ℕ) (i : IsSound xs first unused) where
+  pub zone-long : sizes (zone_in xs) ≡ length xs
+  zone-long = sizes-length xs (zone_in xs) (slot_in xs) i.unused i.lays
+
+  pub edge-within : (p : ℕ) → Begins p 0 (zone_in xs) → p ≤ length xs
+  edge-within p b = let w = (begins-within p 0 (zone_in xs) b).1 in let z = zone-long in omega (arith, w, z)
+
+  pub end-begins : (end : ℕ) → end ≡ length xs → Begins end 0 (zone_in xs)
+  end-begins end e = subst (λ p. Begins p 0 (zone_in xs)) (let z = zone-long in
+      let q : 0 + sizes (zone_in xs) ≡ end = omega (arith, z, e) in q) (begins-end 0 (zone_in xs))
+
+  pub piece-of : (from to : ℕ) → Begins from 0 (zone_in xs) → Begins to 0 (zone_in xs) → from ≤ to
+      → (here : List Block) × IsPiece from to xs here
+  piece-of from to b e l = (r.below, record { is = whole; up = r.low; edge = e })
+    where
+      s : Seen xs first unused i from
+      s = seen-from xs first unused i from b
+
+      behind : Begins to from (left_in from xs)
+      behind = elim (begins-either to 0 s.below (left_in from xs) (subst (Begins to 0) s.is e)) [
+        | inl d ↦ let w = (begins-within to 0 s.below d).1 in let k = s.low in
+            subst (λ q. Begins q from (left_in from xs)) (let q : from ≡ to = omega (arith, w, k, l) in q)
+            (begins-here from (left_in from xs))
+        | inr d ↦ subst (λ y. Begins to y (left_in from xs))
+            (let k = s.low in let q : 0 + sizes s.below ≡ from = omega (arith, k) in q) d
+      ]
+
+      r : Parts to from (left_in from xs)
+      r = parts to from (left_in from xs) behind
+
+      whole : left_in from xs ≡ r.below ++ left_in to xs
+      whole = r.is ∙ ap (λ k. r.below ++ k) (sym (left-above xs first unused i (s.below ++ r.below) r.above to
+          (s.is ∙ ap (λ k. s.below ++ k) r.is ∙ sym (append_assoc s.below r.below r.above))
+          (let a = span-append s.below r.below in let k = s.low in let u = r.low in omega (arith, a, k, u))))
+
+  -- the stretch of a landmark
+  module _ (marks : List Landmark) (a : AreMarks 4294967295 (zone_in xs) marks) (index : ℕ) (l : index < length marks) where
+    knows : AreMarks 4294967295 (zone_in xs) (get_or marks index no_mark ∷ drop (index + 1) marks)
+    knows = subst (AreMarks 4294967295 (zone_in xs)) (drop_more marks index no_mark l)
+        (marks-parted 4294967295 (zone_in xs) marks index a).1
+
+    pub mark-rises : (get_or marks index no_mark).at ≤ next_of 4294967295 (drop (index + 1) marks)
+    mark-rises = knows.3
+
+    pub mark-edge : Begins (get_or marks index no_mark).at 0 (zone_in xs)
+    mark-edge = knows.0
+
+    pub stretch-of : (next : ℕ) → Begins next 0 (zone_in xs) → (get_or marks index no_mark).at ≤ next
+        → next ≤ next_of 4294967295 (drop (index + 1) marks)
+        → (next ≡ next_of 4294967295 (drop (index + 1) marks)) ⊎ (next ≡ length xs)
+        → IsStretch (get_or marks index no_mark).tally (get_or marks index no_mark).at next xs
+    stretch-of next e r h o = (p.0, p.1, alike-as m.tally p.0 _ (alike-back _ p.0 same) knows.2)
+      where
+        m : Landmark
+        m = get_or marks index no_mark
+
+        to : ℕ
+        to = next_of 4294967295 (drop (index + 1) marks)
+
+        p : (here : List Block) × IsPiece m.at next xs here
+        p = piece-of m.at next mark-edge e r
+
+        s : Seen xs first unused i m.at
+        s = seen-from xs first unused i m.at mark-edge
+
+        same : Alike (between m.at to 0 (zone_in xs)) p.0
+        same = alike-more (between m.at to 0 (zone_in xs)) _ p.0
+            (alike-same _ _ (ap (between m.at to 0) (s.is ∙ ap (λ k. s.below ++ k) p.1.is)))
+            (between-parts m.at to s.below p.0 (left_in next xs) s.low (let u = p.1.up in omega (arith, u, h)) (elim o [
+              | inl q ↦ inl (let u = p.1.up in omega (arith, u, q))
+              | inr q ↦ inr (left-none next xs (begins-way xs first unused i next e) (omega (arith, q)))
+            ]))
+
+  -- where the search past a landmark's stretch comes to: the next landmark, or the zone's end
+  pub bounded-edge : (marks : List Landmark) → AreMarks 4294967295 (zone_in xs) marks → (index next end : ℕ) → end ≡ length xs
+      → (next ≡ next_of 4294967295 (drop index marks)) ⊎ (next ≡ end) → next ≤ end
+      → Begins next 0 (zone_in xs)
+  bounded-edge marks a index next end e (inr q) h = end-begins next (q ∙ e)
+  bounded-edge marks a index next end e (inl q) h = elim (cases_lt index (length marks)) [
+    | inl l ↦ subst (λ p. Begins p 0 (zone_in xs)) (sym (q ∙ mark-first 4294967295 marks index no_mark l))
+        (mark-begins 4294967295 (zone_in xs) marks index no_mark l a)
+    | inr l ↦ let m = i.lays.small in
+        let k : next ≡ 4294967295 = q ∙ ap (next_of 4294967295) (drop_all index marks l) in absurd (omega (arith, k, h, e, m))
+  ]
+
+  -- that is the next landmark, where there is one
+  pub bounded-mark : (marks : List Landmark) → AreMarks 4294967295 (zone_in xs) marks → (index next end : ℕ) → end ≡ length xs
+      → (next ≡ next_of 4294967295 (drop index marks)) ⊎ (next ≡ end) → next ≤ next_of 4294967295 (drop index marks)
+      → index < length marks → next ≡ (get_or marks index no_mark).at
+  bounded-mark marks a index next end e (inl q) h l = q ∙ mark-first 4294967295 marks index no_mark l
+  bounded-mark marks a index next end e (inr q) h l =
+      let f = mark-first 4294967295 marks index no_mark l in
+      let w = edge-within (get_or marks index no_mark).at (mark-begins 4294967295 (zone_in xs) marks index no_mark l a) in
+      omega (arith, q, e, f, w, h)
+
+  -- and else the end
+  pub bounded-end : (marks : List Landmark) → (index next end : ℕ) → end ≡ length xs
+      → (next ≡ next_of 4294967295 (drop index marks)) ⊎ (next ≡ end) → next ≤ end → length marks ≤ index → length xs ≤ next
+  bounded-end marks index next end e (inr q) h l = omega (arith, q, e)
+  bounded-end marks index next end e (inl q) h l =
+      let m = i.lays.small in
+      let k : next ≡ 4294967295 = q ∙ ap (next_of 4294967295) (drop_all index marks l) in absurd (omega (arith, k, h, e, m))
+
+  -- so the stretch of a landmark is known up to there
+  pub next-stretch : (marks : List Landmark) (a : AreMarks 4294967295 (zone_in xs) marks) (index next end : ℕ)
+      → index < length marks → end ≡ length xs
+      → (next ≡ next_of 4294967295 (drop (index + 1) marks)) ⊎ (next ≡ end) → next ≤ end
+      → next ≤ next_of 4294967295 (drop (index + 1) marks)
+      → IsStretch (get_or marks index no_mark).tally (get_or marks index no_mark).at next xs
+  next-stretch marks a index next end l e o h least = stretch-of marks a index l next
+      (bounded-edge marks a (index + 1) next end e o h)
+      (elim o [
+        | inl q ↦ let r = mark-rises marks a index l in omega (arith, q, r)
+        | inr q ↦ let w = edge-within (get_or marks index no_mark).at (mark-edge marks a index l) in omega (arith, q, e, w)
+      ]) least (elim o [
+        | inl q ↦ inl q
+        | inr q ↦ inr (q ∙ e)
+      ])

@@ -1,0 +1,24 @@
+use Rattle.std.proofs.Common.{◌≡◌, ◌-◌, ◌≤◌, ◌<◌, true, None, length}
+use Rattle.block_store.specs.Inner.RunScan.{scan_from}
+use Rattle.block_store.specs.Sparing.{opened, spared}
+use Rattle.zone_bytes.specs.Marks.{Begins}
+use Rattle.zone_bytes.specs.Searching.{IsFound}
+use Rattle.zone_bytes.specs.Stepping.{left_in}
+use Rattle.zone_bytes.proofs.Marks.Passing.{Passed}
+use Rattle.zone_bytes.proofs.finding_runs.scan_up_to.Given as goal
+
+abbrev pub invariant-loop-scan : goal.invariant-loop-scan
+invariant-loop-scan l = record {
+  same : scan_from None l.bytes (spared l.sparing) l.fn.scan (opened l.sparing (left_in l.fn.scan.place l.part.bytes))
+      ≡ scan_from None l.bytes (spared l.sparing) l.scan (opened l.sparing (left_in l.scan.place l.part.bytes));
+  passed : Passed l.part.bytes l.fn.scan.place l.scan.place (λ _ _. Unit {0});
+  free : l.scan.free ≤ l.scan.place;
+  met : l.scan.met ≡ true;
+  left : l.scan.left ≤ l.fn.scan.left;
+  stays : IsFound l.bytes l.fn.scan → IsFound l.bytes l.scan;
+  up_to : l.fn.scan.left ≡ 0 → Begins l.to l.fn.scan.place (left_in l.fn.scan.place l.part.bytes)
+      → Begins l.to l.scan.place (left_in l.scan.place l.part.bytes);
+}
+
+abbrev pub decreases-loop-scan : goal.decreases-loop-scan
+decreases-loop-scan l = length l.part.bytes - l.scan.place

@@ -1,0 +1,32 @@
+use Rattle.std.proofs.Common.{◌+◌, ◌∙◌, arith}
+use Rattle.heap_words.specs.Headers.{tag_number}
+use Rattle.zone_bytes.specs.Stepping.{header_seen}
+use Rattle.zone_bytes.proofs.Tiles.Tags.{tag-small}
+use Rattle.zone_bytes.proofs.Places.Stepped.{next-header, stepped}
+use Rattle.zone_bytes.proofs.Marks.Spanned.{steps}
+use Rattle.zone_bytes.proofs.raw_walk.step_at.Goals as goal
+
+pub read_header-header-requires-clause-within : goal.read_header-header-requires-clause-within
+read_header-header-requires-clause-within c =
+    let n = next-header c.args.at c.args.part.now.bytes c.requires.way c.requires.some in (n.even, n.fits)
+
+pub read_header-header-requires-clause-tag : goal.read_header-header-requires-clause-tag
+read_header-header-requires-clause-tag c = (next-header c.args.at c.args.part.now.bytes c.requires.way c.requires.some).tag
+
+pub overflow_add-result : goal.overflow_add-result
+overflow_add-result c =
+    let h = c.read_header-header.result in
+    let e = c.read_header-header.ensures in
+    let s = stepped c.args.at c.args.part.now.bytes c.requires.way c.requires.some h.size (tag_number h.tag) e.first e.size
+    (tag-small h.tag) in
+    let u = s.way.walk.up in
+    let m = s.way.small in
+    omega (arith, u, m)
+
+pub returns : goal.returns
+returns c =
+    let h = c.read_header-header.result in
+    let e = c.read_header-header.ensures in
+    steps c.args.at c.args.part.now.bytes c.requires.way c.requires.some h.size (tag_number h.tag) e.first e.size
+    (tag-small h.tag) c.seen_of.result
+    (c.seen_of.ensures ∙ (λ i. header_seen (tag_number h.tag) h.size (e.logical i) (e.slot i) (e.flags i)))

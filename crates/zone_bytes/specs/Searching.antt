@@ -1,0 +1,68 @@
+-- A search for a run that goes over a zone by landmarks.
+use Rattle.std.specs.Prelude.{◌≡◌, ℕ, ◌+◌, ◌≤◌, ◌<◌, ◌⊎◌, ◌&&◌, nat_le, true, false, Option, None, List, ◌++◌}
+use Rattle.block_store.specs.Block.{Block, sizes, free_sum}
+use Rattle.block_store.specs.Inner.RunScan.{scan_from}
+use Rattle.block_store.specs.Run.{has}
+use Rattle.block_store.specs.Sparing.{spared}
+use Rattle.block_store.specs.declared.run_search.RunScan.{RunScan}
+use Rattle.block_store.specs.declared.sparing.Sparing.TheVariants as sparing
+use Rattle.zone_bytes.specs.Decode.{zone_in}
+use Rattle.zone_bytes.specs.Marks.{Begins, IsTally, ends_run}
+use Rattle.zone_bytes.specs.Stepping.{left_in}
+use Rattle.zone_bytes.specs.declared.finding_runs.Passed.{Passed}
+use Rattle.zone_bytes.specs.declared.finding_runs.Search.{Search}
+use Rattle.zone_bytes.specs.declared.finding_runs.Search.TheVariants as search
+use Rattle.zone_bytes.specs.declared.landmark.Tally.{Tally}
+
+-- the run so far has enough
+abbrev pub IsFound : ℕ → RunScan → Type 0
+IsFound bytes s = (s.met && nat_le bytes s.free) ≡ true
+
+-- a search that begins at a place, when no purges are left
+abbrev pub begun : ℕ → RunScan
+begun at = record { left = 0; start = at; free = 0; met = true; place = at }
+
+-- the place of the run that a search finds from where it is
+abbrev pub finds_from : ℕ → RunScan → List ℕ → Option ℕ
+finds_from bytes s xs = scan_from None bytes (spared sparing.Nothing) s (left_in s.place xs)
+
+-- the blocks from one place up to another
+pub record IsPiece (from to : ℕ) (xs : List ℕ) (here : List Block) : Type 0 where
+  pub is : left_in from xs ≡ here ++ left_in to xs
+  pub up : from + sizes here ≡ to
+  pub edge : Begins to 0 (zone_in xs)
+
+-- a tally is of the blocks from one place up to another
+abbrev pub IsStretch : Tally → ℕ → ℕ → List ℕ → Type 0
+IsStretch t from to xs = (here : List Block) × IsPiece from to xs here × IsTally t here
+
+-- a search that is at a place, or has found a run, finds what is looked for
+pub record IsKnown (bytes : ℕ) (answer : Option ℕ) (at : ℕ) (xs : List ℕ) (s : RunScan) : Type 0 where
+  pub begins : Begins s.place 0 (zone_in xs)
+  pub left : s.left ≡ 0
+  pub met : s.met ≡ true
+  pub free : s.free ≤ s.place
+  pub finds : answer ≡ finds_from bytes s xs
+  pub here : IsFound bytes s ⊎ (s.place ≡ at)
+
+-- so does one that begins where blocks were passed, up to a place, which are too few for a run that begins among them
+pub record IsBehind (bytes : ℕ) (answer : Option ℕ) (at : ℕ) (xs : List ℕ) (p : Passed) : Type 0 where
+  pub begins : Begins p.at 0 (zone_in xs)
+  pub finds : answer ≡ finds_from bytes (begun p.at) xs
+  pub low : List Block
+  pub low_piece : IsPiece p.at p.end xs low
+  pub few : free_sum low ≤ p.most
+  pub high : List Block
+  pub high_piece : IsPiece p.end at xs high
+  pub goes_on : has ends_run high ≡ false
+  pub sum : free_sum high ≡ p.beyond
+  pub short : p.most + p.beyond < bytes
+
+abbrev pub IsSearch : ℕ → Option ℕ → ℕ → List ℕ → Search → Type 0
+IsSearch bytes answer at xs (search.Known s) = IsKnown bytes answer at xs s
+IsSearch bytes answer at xs (search.Behind p) = IsBehind bytes answer at xs p
+
+-- no less than the Free bytes of the run that a search is in
+abbrev pub most_had : Search → ℕ
+most_had (search.Known s) = s.free
+most_had (search.Behind p) = p.most + p.beyond
