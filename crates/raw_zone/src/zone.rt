@@ -16,7 +16,7 @@ use std::alloc::AllocError;
 use std::marker::Model;
 use zone_bytes::{
     Landmarks, PackedRun, SlotBlock, add_masters, block_of_slot, carve, carve_fixed, changed_bound,
-    content_at, falls_short, flag_at, free_block, free_slot, given_at, given_with, has_room_behind,
+    content_at, falls_short, flag_at, frees_one, free_block, free_slot, given_at, given_with, has_room_behind,
     hoist_block, kept_flags, make_fresh, mark_slot, move_bytes, padded_size, purge_above,
     purge_from, purgeable_at, purgeable_left, put_bytes, raise_run, read_header, read_word,
     resize_block, settle_run, size_at, slot_place, slot_resource, walk_above, walk_from,
@@ -192,6 +192,7 @@ impl RawZone {
     {
         let given = given_with(flags, size_at(&self.part, place));
         zone_bytes::adopt(&mut self.part, place, number, flags);
+        self.marks.note_block(&self.part, place);
         self.most_purgeable = changed_bound(self.most_purgeable, 0, given);
     }
 }
@@ -243,8 +244,10 @@ impl BlockStore for RawZone {
         }
         if is_as_it_stands(purges, sparing) {
             self.marks.find(&self.part, bytes)
-        } else {
+        } else if frees_one(sparing) {
             find_free_in(&mut walk_from(&self.part, 0), bytes, purges, sparing)
+        } else {
+            self.marks.find_after(&self.part, bytes, purges, sparing)
         }
     }
 
@@ -252,7 +255,11 @@ impl BlockStore for RawZone {
         if falls_short(self.free, self.most_purgeable, bytes, purges, sparing) {
             return None;
         }
-        find_run_in(&mut walk_from(&self.part, 0), bytes, purges, sparing)
+        if frees_one(sparing) {
+            find_run_in(&mut walk_from(&self.part, 0), bytes, purges, sparing)
+        } else {
+            self.marks.find_run(&self.part, bytes, purges, sparing)
+        }
     }
 
     fn next_run(&self, run: u32) -> Option<u32> {
@@ -415,6 +422,7 @@ impl BlockStore for RawZone {
         let given = purgeable_at(&self.part, place);
         let gives = given_with(flags, size_at(&self.part, place));
         flag_at(&mut self.part, place, flags);
+        self.marks.note_block(&self.part, place);
         self.most_purgeable = changed_bound(self.most_purgeable, given, gives);
     }
 

@@ -1,3 +1,4 @@
 pub mod Going
 pub mod Pieces
 pub mod Knowing
+pub mod Roomy

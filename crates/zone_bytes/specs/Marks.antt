@@ -88,6 +88,17 @@ pub record Replaced (lo hi : ℕ) (old new : List Block) : Type 0 where
   pub high : lo + sizes here ≡ hi
   pub span : sizes there ≡ sizes here
 
+-- the block at a place became another of as many bytes
+pub record Became (place : ℕ) (old new : List Block) : Type 0 where
+  pub below : List Block
+  pub here : Block
+  pub there : Block
+  pub above : List Block
+  pub was : old ≡ below ++ here ∷ above
+  pub is : new ≡ below ++ there ∷ above
+  pub low : sizes below ≡ place
+  pub span : size there ≡ size here
+
 -- a block is from `at` to `end`, has so many Free bytes, and ends a run or not
 pub record Spans (at end free : ℕ) (barrier : Bool) (xs : List ℕ) : Type 0 where
   pub here : Block

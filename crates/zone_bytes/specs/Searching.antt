@@ -1,14 +1,21 @@
--- A search for a run that goes over a zone by landmarks.
-use Rattle.std.specs.Prelude.{◌≡◌, ℕ, ◌+◌, ◌≤◌, ◌<◌, ◌⊎◌, ◌&&◌, nat_le, true, false, Option, None, List, ◌++◌}
-use Rattle.block_store.specs.Block.{Block, sizes, free_sum}
+-- Searches for a run and for room that go over a zone by landmarks.
+use Rattle.std.specs.Prelude.{◌≡◌, ℕ, ◌+◌, ◌≤◌, ◌<◌, ◌⊎◌, ◌&&◌, nat_le, true, false, Option, Some, None, List, ◌++◌, length}
+use Rattle.std.specs.Option.{option_map}
+use Rattle.block_store.specs.Block.{Block, sizes, free_sum, is_room}
 use Rattle.block_store.specs.Inner.RunScan.{scan_from}
+use Rattle.block_store.specs.Inner.Stretch.{stretch}
+use Rattle.block_store.specs.Room.{spot}
 use Rattle.block_store.specs.Run.{has}
-use Rattle.block_store.specs.Sparing.{spared}
+use Rattle.block_store.specs.Sparing.{opened, purged, spared}
 use Rattle.block_store.specs.declared.run_search.RunScan.{RunScan}
+use Rattle.block_store.specs.declared.sparing.Sparing.{Sparing}
 use Rattle.block_store.specs.declared.sparing.Sparing.TheVariants as sparing
+use Rattle.block_store.specs.declared.stretch.RoomScan.{RoomScan}
 use Rattle.zone_bytes.specs.Decode.{zone_in}
 use Rattle.zone_bytes.specs.Marks.{Begins, IsTally, ends_run}
 use Rattle.zone_bytes.specs.Stepping.{left_in}
+use Rattle.zone_bytes.specs.declared.finding_room.Scanned.{Scanned}
+use Rattle.zone_bytes.specs.declared.finding_room.Scanned.TheVariants as scanned
 use Rattle.zone_bytes.specs.declared.finding_runs.Passed.{Passed}
 use Rattle.zone_bytes.specs.declared.finding_runs.Search.{Search}
 use Rattle.zone_bytes.specs.declared.finding_runs.Search.TheVariants as search
@@ -66,3 +73,21 @@ IsSearch bytes answer at xs (search.Behind p) = IsBehind bytes answer at xs p
 abbrev pub most_had : Search → ℕ
 most_had (search.Known s) = s.free
 most_had (search.Behind p) = p.most + p.beyond
+
+-- the place of the lowest Free block with enough bytes after so many purges
+abbrev pub lowest_room : ℕ → ℕ → Sparing → List ℕ → Option ℕ
+lowest_room bytes purges n xs = option_map (λ s. sizes s.below) (spot (is_room bytes) (purged purges n (zone_in xs)))
+
+-- what a search for room finds from where it is
+abbrev pub finds_room : ℕ → Sparing → RoomScan → List ℕ → Option ℕ
+finds_room bytes n s xs = stretch bytes (spared n) s.left s.start s.free s.place (opened n (left_in s.place xs))
+
+-- a search for room that goes on finds what is looked for, at the zone's end or where no stretch has begun
+pub record IsOnRoom (bytes purges : ℕ) (n : Sparing) (xs : List ℕ) (s : RoomScan) : Type 0 where
+  pub begins : Begins s.place 0 (zone_in xs)
+  pub finds : lowest_room bytes purges n xs ≡ finds_room bytes n s xs
+  pub stopped : (length xs ≤ s.place) ⊎ ((s.left ≡ 0) × (s.free ≡ 0) × (s.start ≡ s.place))
+
+abbrev pub IsRoomScan : ℕ → ℕ → Sparing → List ℕ → Scanned → Type 0
+IsRoomScan bytes purges n xs (scanned.Found start) = lowest_room bytes purges n xs ≡ Some start
+IsRoomScan bytes purges n xs (scanned.On s) = IsOnRoom bytes purges n xs s

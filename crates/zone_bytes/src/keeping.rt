@@ -2,17 +2,23 @@
 
 ghost use Rattle.std.specs.Prelude.{◌≡◌, ◌≤◌, ◌<◌, ◌⊎◌, ℕ, List};
 ghost use Rattle.block_store.specs.Block.{Block, is_room, sizes};
-ghost use Rattle.block_store.specs.Find.{FindsLowest};
+ghost use Rattle.block_store.specs.Find.{FindsLowest, FindsLowestRun};
+ghost use Rattle.block_store.specs.Run.{has_free};
+ghost use Rattle.block_store.specs.Sparing.{opened, purged};
 ghost use Rattle.zone_bytes.specs.Decode.{zone_in};
 ghost use Rattle.zone_bytes.specs.Lawful.{IsSound};
 ghost use Rattle.zone_bytes.specs.Marked.{AreOf};
-ghost use Rattle.zone_bytes.specs.Marks.{AreMarks, Begins, Replaced};
+ghost use Rattle.zone_bytes.specs.Marks.{AreMarks, Became, Begins, Replaced};
 ghost use Rattle.zone_bytes.specs.Stepping.{IsOnWay};
 
+use crate::finding_room::find_room_by_marks;
+use crate::finding_runs::find_run_by_marks;
 use crate::grouping::{raise_top, renew_tops};
 use crate::landmark::{GROUP, Landmark, Tally, UNKNOWN};
 use crate::marking::{change_marks, find_by_marks, lay_marks, mark_below};
 use crate::measuring::greater;
+use crate::placing::size_at;
+use block_store::Sparing;
 use raw_region::Part;
 
 /// How many landmarks a zone has, one for each of its pages. Each change goes over the blocks of a page.
@@ -101,6 +107,28 @@ impl Landmarks {
         find_by_marks(&self.marks, &self.tops, part, bytes)
     }
 
+    /// The place of the lowest Free block of at least so many bytes, after so many purges. Where a block counts as Free
+    /// that isn't, landmarks don't tell.
+    pub fn find_after(&self, part: &Part, bytes: u32, purges: u32, sparing: Sparing) -> Option<u32>
+        requires sound { (first : ℕ) × (unused : ℕ) × IsSound part.now.bytes first unused }
+        requires marks { AreOf self.now (zone_in part.now.bytes) }
+        requires plain { (zone : List Block) → opened sparing zone ≡ zone }
+        ensures { FindsLowest (is_room bytes) (purged purges sparing (zone_in part.now.bytes)) result }
+    {
+        find_room_by_marks(&self.marks, &self.tops, part, bytes, purges, sparing)
+    }
+
+    /// The place of the lowest run with at least so many Free bytes, after so many purges. Where a block counts as Free
+    /// that isn't, landmarks don't tell.
+    pub fn find_run(&self, part: &Part, bytes: u32, purges: u32, sparing: Sparing) -> Option<u32>
+        requires sound { (first : ℕ) × (unused : ℕ) × IsSound part.now.bytes first unused }
+        requires marks { AreOf self.now (zone_in part.now.bytes) }
+        requires plain { (zone : List Block) → opened sparing zone ≡ zone }
+        ensures { FindsLowestRun (has_free bytes) (purged purges sparing (zone_in part.now.bytes)) result }
+    {
+        find_run_by_marks(&self.marks, part, bytes, purges, sparing)
+    }
+
     /// Notes that the blocks from one place to another became others.
     pub fn note(&mut self, part: &Part, lo: u32, hi: u32)
         requires sound { (first : ℕ) × (unused : ℕ) × IsSound part.now.bytes first unused }
@@ -116,6 +144,16 @@ impl Landmarks {
             self.forget(part, lo, hi);
             self.renew(part, lo, hi);
         }
+    }
+
+    /// Notes that the block at a place became another, of as many bytes.
+    pub fn note_block(&mut self, part: &Part, place: u32)
+        requires sound { (first : ℕ) × (unused : ℕ) × IsSound part.now.bytes first unused }
+        requires marks { (old : List Block) × Became place old (zone_in part.now.bytes) × AreOf self.old old }
+        ensures { AreOf self.new (zone_in part.now.bytes) }
+    {
+        let size = size_at(part, place);
+        self.note(part, place, place + size);
     }
 
     /// Notes that the blocks from one place to another became others, and walks over none of them: no landmark stands

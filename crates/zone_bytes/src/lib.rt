@@ -6,6 +6,7 @@ mod adopting;
 mod behind;
 mod carving;
 mod contents;
+mod finding_room;
 mod finding_runs;
 mod flagging;
 mod freeing;
@@ -35,6 +36,7 @@ pub use adopting::{SlotBlock, adopt, block_of_slot};
 pub use behind::has_room_behind;
 pub use carving::{carve, kept_flags, make_free, padded_size};
 pub use contents::content_at;
+pub use finding_room::{Scanned, find_room_by_marks};
 pub use finding_runs::{Passed, Search, find_run_by_marks};
 pub use flagging::flag_at;
 pub use freeing::{Freed, free_block, free_slot, free_up};
@@ -51,7 +53,7 @@ pub use measuring::{Measured, measure_up_to, room_between};
 pub use placing::{carve_fixed, lay_block, move_bytes, size_at};
 pub use pointing::lead_run;
 pub use purgeable::{
-    changed_bound, falls_short, given_at, given_with, purgeable_at, purgeable_bytes_in,
+    changed_bound, falls_short, frees_one, given_at, given_with, purgeable_at, purgeable_bytes_in,
     purgeable_left,
 };
 pub use purging::{purge_above, purge_from};

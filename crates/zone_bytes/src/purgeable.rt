@@ -75,7 +75,7 @@ pub fn purgeable_bytes_in<W: Walk>(walk: &mut W) -> u32
 }
 
 /// Whether a block counts as Free that isn't.
-fn frees_one(sparing: Sparing) -> bool
+pub fn frees_one(sparing: Sparing) -> bool
     ensures { result ≡ false → (zone : List Block) → opened sparing zone ≡ zone }
 {
     match sparing {

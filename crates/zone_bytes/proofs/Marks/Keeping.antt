@@ -4,7 +4,7 @@ use Rattle.std.proofs.Common.{zero, suc, append_assoc, Bool, true, false, ◌&&�
 use Rattle.block_store.specs.Block.{Block, Free, Fixed, Masters, Relocatable, size, sizes, free, free_of, free_sum, add}
 use Rattle.block_store.specs.Run.{has}
 use Rattle.zone_bytes.specs.Laying.{free_first}
-use Rattle.zone_bytes.specs.Marks.{AtEach, AtMost, Begins, AreMarks, Replaced, between, ends_run, next_of}
+use Rattle.zone_bytes.specs.Marks.{AtEach, AtMost, Became, Begins, AreMarks, Replaced, between, ends_run, next_of}
 use Rattle.zone_bytes.specs.declared.landmark.Landmark.{Landmark}
 use Rattle.zone_bytes.proofs.Marks.Between.{Alike, alike-as, alike-same, alike-first}
 use Rattle.zone_bytes.proofs.Tiles.Tiling.{span-append}
@@ -62,19 +62,18 @@ marks-same end (m ∷ marks) below above b c s f r a = (
 )
 
 -- a block became one of as many bytes
-pub became-replaced : (below : List Block) (b c : Block) (above : List Block) (old new : List Block) (place bytes : ℕ)
-    → old ≡ below ++ b ∷ above → new ≡ below ++ c ∷ above → size c ≡ size b → bytes ≡ size b → sizes below ≡ place
+pub became-replaced : (place bytes : ℕ) (old new : List Block) (b : Became place old new) → bytes ≡ size b.there
     → Replaced place (place + bytes) old new
-became-replaced below b c above old new place bytes was is same e low = record {
-  below = below;
-  here = b ∷ [];
-  there = c ∷ [];
-  above = above;
-  was = was;
-  is = is;
-  low = low;
-  high = omega (arith, e);
-  span = omega (arith, same);
+became-replaced place bytes old new b e = record {
+  below = b.below;
+  here = b.here ∷ [];
+  there = b.there ∷ [];
+  above = b.above;
+  was = b.was;
+  is = b.is;
+  low = b.low;
+  high = (let s = b.span in omega (arith, e, s));
+  span = (let s = b.span in omega (arith, s));
 }
 
 -- a block was put at the lower end of a Free block

@@ -1,5 +1,5 @@
 -- A block that is sought from an edge at or below it.
-use Rattle.std.proofs.Common.{◌≡◌, ℕ, Bool, true, false, cond, ◌<◌, ◌≤◌, ◌^◌, Option, Some, None, List, [], ◌∷◌, ◌++◌}
+use Rattle.std.proofs.Common.{◌≡◌, ℕ, ◌+◌, Bool, true, false, cond, ◌<◌, ◌≤◌, ◌^◌, Option, Some, None, List, [], ◌∷◌, ◌++◌}
 use Rattle.std.proofs.Common.{refl, sym, ap, ◌∙◌, subst, arith}
 use Rattle.std.proofs.lemmas.Option.{none-some, same_Some}
 use Rattle.std.specs.Option.{option_map, IfSome}
@@ -17,20 +17,21 @@ use Rattle.zone_bytes.proofs.Marks.Lowering.{seen-from}
 use Rattle.zone_bytes.proofs.Places.Options.{if-spot, the-if}
 
 -- the lowest block that passes, seen with fewer blocks below it
-pub record SeenFrom (test : Block → Bool) (rest : List Block) (s : Spot) : Type 0 where
+pub record SeenFrom (test : Block → Bool) (below rest : List Block) (s : Spot) : Type 0 where
   pub there : Spot
   pub found : spot test rest ≡ Some there
   pub same : there.above ≡ s.above
+  pub low : sizes below + sizes there.below ≡ sizes s.below
 
 pub seen-past : (test : Block → Bool) (below rest : List Block) (s : Spot) → Apart (below ++ rest)
-    → spot test (below ++ rest) ≡ Some s → sizes below ≤ sizes s.below → SeenFrom test rest s
-seen-past test [] rest s a e l = record { there = s; found = e; same = refl }
+    → spot test (below ++ rest) ≡ Some s → sizes below ≤ sizes s.below → SeenFrom test below rest s
+seen-past test [] rest s a e l = record { there = s; found = e; same = refl; low = omega arith }
 seen-past test (b ∷ below) rest s a e l = cases (test b) (spot test (below ++ rest)) (seen-past test below rest) e
   where
     cases : (t : Bool) (o : Option Spot)
-        → ((r : Spot) → Apart (below ++ rest) → o ≡ Some r → sizes below ≤ sizes r.below → SeenFrom test rest r)
+        → ((r : Spot) → Apart (below ++ rest) → o ≡ Some r → sizes below ≤ sizes r.below → SeenFrom test below rest r)
         → cond t (Some (record { below = []; here = b; above = below ++ rest })) (option_map (raised b) o) ≡ Some s
-        → SeenFrom test rest s
+        → SeenFrom test (b ∷ below) rest s
     cases true o more q =
         let k = apart-size b (below ++ rest) a.0 in
         let z = ap (λ (r : Spot). sizes r.below) (same_Some _ _ q) in
@@ -43,7 +44,20 @@ seen-past test (b ∷ below) rest s a e l = cases (test b) (spot test (below ++ 
           there = f.there;
           found = f.found;
           same = f.same ∙ ap (λ (r : Spot). r.above) (same_Some _ _ q);
+          low = (let k = f.low in omega (arith, k, z));
         }
+
+-- where no block passes, none does of those above some
+pub none-above : (test : Block → Bool) (below rest : List Block) → spot test (below ++ rest) ≡ None → spot test rest ≡ None
+none-above test [] rest e = e
+none-above test (b ∷ below) rest e = none-above test below rest (cases (test b) (spot test (below ++ rest)) e)
+  where
+    cases : (t : Bool) (o : Option Spot)
+        → cond t (Some (record { below = []; here = b; above = below ++ rest })) (option_map (raised b) o) ≡ None
+        → o ≡ None
+    cases true o q = absurd (none-some _ (sym q))
+    cases false None q = refl
+    cases false (Some r) q = absurd (none-some _ (sym q))
 
 module _ (xs : List ℕ) (first unused : ℕ) (i : IsSound xs first unused) (p : ℕ) (b : Begins p 0 (zone_in xs)) where
   pub left-tidy : tidy (left_in p xs) ≡ left_in p xs

@@ -1,4 +1,4 @@
-use Rattle.std.proofs.Common.{◌≡◌, ◌∙◌, ◌++◌, ◌∷◌, true, false, ℕ, IsTrue, refl, ap, sym, subst, arith}
+use Rattle.std.proofs.Common.{◌≡◌, ◌≤◌, ◌∙◌, ◌++◌, ◌∷◌, true, false, ℕ, IsTrue, refl, ap, sym, subst, arith}
 use Rattle.std.specs.Option.{IfSome, IsSomeAnd}
 use Rattle.block_store.specs.Block.{Fixed, Relocatable, is_fixed, is_relocatable, is_masters, content_of, count, free_sum}
 use Rattle.block_store.specs.Block.{size}
@@ -12,15 +12,16 @@ use Rattle.zone_bytes.specs.Beside.{rest_in}
 use Rattle.raw_zone.specs.Held.{Held}
 use Rattle.raw_zone.specs.Raw.{held}
 use Rattle.raw_zone.specs.Parted.{zone_of, rest_of}
-use Rattle.zone_bytes.proofs.Places.AtPlace.{way-at, left-at, inside, some-here}
+use Rattle.zone_bytes.proofs.Places.AtPlace.{low, way-at, left-at, inside, some-here}
 use Rattle.zone_bytes.proofs.Places.Options.{if-spot, one-spot}
 use Rattle.zone_bytes.proofs.Laws.Lawful.{Made, rest-made, kept-made}
 use Rattle.zone_bytes.proofs.Blocks.Adopted.{FixedAt, fixed-at, adopt-reads-in, adopted-at, masters-adopted}
 use Rattle.zone_bytes.proofs.Blocks.Adopted.{free-adopted}
-use Rattle.zone_bytes.proofs.Marks.Owed.{with-block}
+use Rattle.zone_bytes.proofs.Marks.Owed.{with-marks}
 use Rattle.zone_bytes.specs.Purgeable.{purgeable_sum}
 use Rattle.zone_bytes.proofs.Bounds.Given.{given-became, given-small}
 use Rattle.raw_zone.proofs.zone.RawZone.adopt.Goals as goal
+use Rattle.raw_zone.proofs.zone.RawZone.adopt.Goals.{After-adopt}
 
 -- what is asked, of the zone inside
 record Asked (z : Held) (place number : ℕ) : Type 0 where
@@ -91,7 +92,7 @@ invariant_of-self-inside c =
       tt,
     )
 
-done : (c : goal.After-self-1) → (a : FixedAt c.self.inside.part.bytes c.args.place)
+done : (c : After-adopt) → (a : FixedAt c.self.inside.part.bytes c.args.place)
     × Made c.adopt.new.part.bytes c.self.inside.first c.self.inside.unused
     (a.s.below ++ Relocatable c.args.number c.args.flags a.content ∷ a.s.above) (slot_in c.self.inside.part.bytes)
 done c =
@@ -103,9 +104,35 @@ done c =
           a.used a.no_block c.adopt.new.part.bytes c.adopt.ensures.bytes,
     )
 
+pub note_block-requires-clause-sound : goal.note_block-requires-clause-sound
+note_block-requires-clause-sound c = (
+  c.self.inside.first,
+  c.self.inside.unused,
+  (done (goal.at.note_block-requires-clause-sound c).After-adopt).1.sound,
+)
+
+pub note_block-requires-clause-marks : goal.note_block-requires-clause-marks
+note_block-requires-clause-marks c =
+    let i = c.self.inside in
+    let d = done (goal.at.note_block-requires-clause-marks c).After-adopt in
+    let a = d.0 in (
+      zone_in i.part.bytes,
+      record {
+        below = a.s.below;
+        here = Fixed a.id a.content;
+        there = Relocatable c.args.number c.args.flags a.content;
+        above = a.s.above;
+        was = a.whole;
+        is = d.1.zone;
+        low = low i.part.bytes i.first i.unused c.self.invariant.sound c.args.place a.s a.is;
+        span = refl;
+      },
+      c.self.invariant.marked,
+    )
+
 pub invariant_of-self : goal.invariant_of-self
 invariant_of-self c =
-    let d = done c in
+    let d = done (goal.at.invariant_of-self c).After-adopt in
     let a = d.0 in
     let y = c.size_at.ensures a.s.here a.s.above
     (left-at c.self.inside.part.bytes c.self.inside.first c.self.inside.unused c.self.invariant.sound c.args.place a.s
@@ -116,18 +143,17 @@ invariant_of-self c =
     (zone_in c.self.inside.part.bytes) a.whole in
     let s = given-small _ c.self.inside.first c.self.inside.unused d.1.sound in
     let t = ap purgeable_sum d.1.zone in
-    with-block _ _ _ _ _ _ a.s.below a.s.above (Fixed a.id a.content) (Relocatable c.args.number c.args.flags a.content)
-    (zone_in c.self.inside.part.bytes) (kept-made _ _ _ _ _ _ d.1 (c.self.invariant.free_is ∙ ap free_sum a.whole
-    ∙ sym (free-adopted a.s.below a.id c.args.number c.args.flags a.content a.s.above))) d.1.zone a.whole refl refl
-    c.self.invariant.marked
+    with-marks _ _ _ _ _ _ (kept-made _ _ _ _ _ _ d.1 (c.self.invariant.free_is ∙ ap free_sum a.whole
+    ∙ sym (free-adopted a.s.below a.id c.args.number c.args.flags a.content a.s.above))) c.note_block.ensures
+    (subst (λ v. purgeable_sum v ≤ c.changed_bound-self-inside.result) (sym d.1.zone)
     (c.changed_bound-self-inside.ensures (purgeable_sum (zone_in c.self.inside.part.bytes))
     (purgeable_sum (a.s.below ++ Relocatable c.args.number c.args.flags a.content ∷ a.s.above)) c.self.invariant.bound
-    (omega (arith, g, p)) (omega (arith, s, t)))
+    (omega (arith, g, p)) (omega (arith, s, t))))
 
 pub returns-clause-zone : goal.returns-clause-zone
 returns-clause-zone c =
     let xs = c.self.inside.part.bytes in
-    let d = done c in
+    let d = done (goal.at.returns-clause-zone c).After-adopt in
     let a = d.0 in
     subst (λ v. IfSome (spot_at c.args.place (zone_of v)) (λ s. zone_in c.adopt.new.part.bytes
     ≡ s.below ++ Relocatable c.args.number c.args.flags (content_of s.here) ∷ s.above)) c.self.view_is
@@ -141,7 +167,7 @@ returns-clause-zone c =
 pub returns-clause-rest : goal.returns-clause-rest
 returns-clause-rest c =
     let i = c.self.inside in
-    let d = done c in
+    let d = done (goal.at.returns-clause-rest c).After-adopt in
     let a = d.0 in
     subst (λ v. IsRest (rest_of v) (rest_in c.adopt.new.part i.unused i.moves)) c.self.view_is
     (rest-made i.part c.adopt.new.part (slot_in i.part.bytes) i.unused i.moves d.1.slots

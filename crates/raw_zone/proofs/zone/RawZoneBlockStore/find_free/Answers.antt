@@ -22,7 +22,7 @@ pub find_free_in-requires : goal.find_free_in-requires
 find_free_in-requires c = subst (λ z. sizes z < 2 ^ 32) (sym c.walk_from.ensures)
     (sizes-fit c.self.inside.part.bytes c.self.inside.first c.self.inside.unused c.self.invariant.sound)
 
-pub returns-else-is_as_it_stands : goal.returns-else-is_as_it_stands
-returns-else-is_as_it_stands c = subst (λ z. FindsLowest (is_room c.args.bytes) (purged c.args.purges c.args.sparing z)
+pub returns-then-frees_one : goal.returns-then-frees_one
+returns-then-frees_one c = subst (λ z. FindsLowest (is_room c.args.bytes) (purged c.args.purges c.args.sparing z)
     c.find_free_in.result) (c.walk_from.ensures ∙ left-zone c.self.inside.part.bytes ∙ ap zone_of c.self.view_is)
     c.find_free_in.ensures

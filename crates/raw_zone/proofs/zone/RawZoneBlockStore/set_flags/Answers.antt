@@ -1,4 +1,4 @@
-use Rattle.std.proofs.Common.{◌≡◌, ℕ, ◌<◌, ◌∙◌, ◌++◌, ◌∷◌, Some, length, ap, sym, subst, arith}
+use Rattle.std.proofs.Common.{◌≡◌, ℕ, ◌<◌, ◌≤◌, ◌∙◌, ◌++◌, ◌∷◌, Some, length, ap, sym, subst, arith}
 use Rattle.std.specs.Option.{IfSome, IsSome}
 use Rattle.block_store.specs.Block.{count, is_masters, free_sum}
 use Rattle.block_store.specs.Room.{Spot, spot_at}
@@ -14,12 +14,13 @@ use Rattle.raw_zone.specs.Parted.{zone_of, rest_of}
 use Rattle.zone_bytes.specs.Beside.{rest_in}
 use Rattle.zone_bytes.proofs.Places.AtPlace.{whole, low, way-at, left-at, inside, some-here}
 use Rattle.zone_bytes.proofs.Places.Options.{if-spot, a-spot}
-use Rattle.zone_bytes.proofs.Laws.Lawful.{rest-made, kept-made}
+use Rattle.zone_bytes.proofs.Laws.Lawful.{Made, rest-made, kept-made}
 use Rattle.zone_bytes.proofs.Blocks.Marked.{flagged-made, masters-flagged, free-flagged}
-use Rattle.zone_bytes.proofs.Marks.Owed.{with-flags}
+use Rattle.zone_bytes.proofs.Marks.Owed.{size-flags, with-marks}
 use Rattle.zone_bytes.specs.Purgeable.{purgeable_sum}
 use Rattle.zone_bytes.proofs.Bounds.Given.{given-became, given-small}
 use Rattle.raw_zone.proofs.zone.RawZoneBlockStore.set_flags.Goals as goal
+use Rattle.raw_zone.proofs.zone.RawZoneBlockStore.set_flags.Goals.{After-flag_at}
 
 -- what is known of the place, of the zone inside
 module _ (z view : Held) (is : z ≡ view) (first unused place : ℕ) (i : IsSound z.part.bytes first unused)
@@ -60,42 +61,70 @@ pub flag_at-requires-clause-some : goal.flag_at-requires-clause-some
 flag_at-requires-clause-some c = below-end (held c.self.inside) c.args.self.now c.self.view_is c.self.inside.first
     c.self.inside.unused c.args.place c.self.invariant.sound c.requires
 
+-- the zone afterwards
+done : (c : After-flag_at) → (s : Spot) × (spot_at c.args.place (zone_in c.self.inside.part.bytes) ≡ Some s)
+    × Made c.flag_at.new.part.bytes c.self.inside.first c.self.inside.unused
+    (s.below ++ with_flags c.args.flags s.here ∷ s.above) (slot_in c.self.inside.part.bytes)
+done c =
+    let z = c.self.inside in
+    let i = c.self.invariant.sound in
+    let a = here (held z) c.args.self.now c.self.view_is z.first z.unused c.args.place i c.requires in (
+      a.0,
+      a.1,
+      rw c.flag_at.ensures.bytes (flagged-made z.part.bytes z.first z.unused i c.args.place c.args.flags a.0.below a.0.here
+      a.0.above (whole z.part.bytes z.first z.unused i c.args.place a.0 a.1)
+      (low z.part.bytes z.first z.unused i c.args.place a.0 a.1)),
+    )
+
+pub note_block-requires-clause-sound : goal.note_block-requires-clause-sound
+note_block-requires-clause-sound c = (
+  c.self.inside.first,
+  c.self.inside.unused,
+  (done (goal.at.note_block-requires-clause-sound c).After-flag_at).2.sound,
+)
+
+pub note_block-requires-clause-marks : goal.note_block-requires-clause-marks
+note_block-requires-clause-marks c =
+    let z = c.self.inside in
+    let i = c.self.invariant.sound in
+    let d = done (goal.at.note_block-requires-clause-marks c).After-flag_at in (
+      zone_in z.part.bytes,
+      record {
+        below = d.0.below;
+        here = d.0.here;
+        there = with_flags c.args.flags d.0.here;
+        above = d.0.above;
+        was = whole z.part.bytes z.first z.unused i c.args.place d.0 d.1;
+        is = d.2.zone;
+        low = low z.part.bytes z.first z.unused i c.args.place d.0 d.1;
+        span = size-flags c.args.flags d.0.here;
+      },
+      c.self.invariant.marked,
+    )
+
 pub invariant_of-self-inside : goal.invariant_of-self-inside
-invariant_of-self-inside c =
-    let a = a-spot (spot_at c.args.place (zone_in c.self.inside.part.bytes))
-    (subst (λ v. IsSome (spot_at c.args.place (zone_of v))) (sym c.self.view_is) c.requires) in
-    let m = flagged-made c.self.inside.part.bytes c.self.inside.first c.self.inside.unused c.self.invariant.sound
-    c.args.place c.args.flags a.0.below a.0.here a.0.above
-    (whole c.self.inside.part.bytes c.self.inside.first c.self.inside.unused c.self.invariant.sound c.args.place
-    a.0 a.1) (low c.self.inside.part.bytes c.self.inside.first c.self.inside.unused c.self.invariant.sound
-    c.args.place a.0 a.1) in
-    (rw c.flag_at.ensures.bytes m.lawful, tt)
+invariant_of-self-inside c = ((done (goal.at.invariant_of-self-inside c).After-flag_at).2.lawful, tt)
 
 pub invariant_of-self : goal.invariant_of-self
 invariant_of-self c =
-    let a = a-spot (spot_at c.args.place (zone_in c.self.inside.part.bytes))
-    (subst (λ v. IsSome (spot_at c.args.place (zone_of v))) (sym c.self.view_is) c.requires) in
-    let m = flagged-made c.self.inside.part.bytes c.self.inside.first c.self.inside.unused c.self.invariant.sound
-    c.args.place c.args.flags a.0.below a.0.here a.0.above
-    (whole c.self.inside.part.bytes c.self.inside.first c.self.inside.unused c.self.invariant.sound c.args.place
-    a.0 a.1) (low c.self.inside.part.bytes c.self.inside.first c.self.inside.unused c.self.invariant.sound
-    c.args.place a.0 a.1) in
+    let d = done (goal.at.invariant_of-self c).After-flag_at in
+    let s = d.0 in
+    let m = d.2 in
     let z = c.self.inside in
-    let h = whole z.part.bytes z.first z.unused c.self.invariant.sound c.args.place a.0 a.1 in
-    let w = c.purgeable_at-given.ensures a.0.here a.0.above
-    (left-at z.part.bytes z.first z.unused c.self.invariant.sound c.args.place a.0 a.1) in
-    let y = c.size_at.ensures a.0.here a.0.above
-    (left-at z.part.bytes z.first z.unused c.self.invariant.sound c.args.place a.0 a.1) in
-    let g = c.given_with-gives.ensures a.0.here (sym y) in
-    let p = given-became a.0.below a.0.here (with_flags c.args.flags a.0.here) a.0.above (zone_in z.part.bytes) h in
-    let s = given-small _ z.first z.unused m.sound in
+    let i = c.self.invariant.sound in
+    let h = whole z.part.bytes z.first z.unused i c.args.place s d.1 in
+    let w = c.purgeable_at-given.ensures s.here s.above (left-at z.part.bytes z.first z.unused i c.args.place s d.1) in
+    let y = c.size_at.ensures s.here s.above (left-at z.part.bytes z.first z.unused i c.args.place s d.1) in
+    let g = c.given_with-gives.ensures s.here (sym y) in
+    let p = given-became s.below s.here (with_flags c.args.flags s.here) s.above (zone_in z.part.bytes) h in
+    let k = given-small _ z.first z.unused m.sound in
     let t = ap purgeable_sum m.zone in
-    rw c.flag_at.ensures.bytes (with-flags _ _ _ _ _ _ a.0.below a.0.above a.0.here c.args.flags (zone_in z.part.bytes)
-    (kept-made _ _ _ _ _ _ m (c.self.invariant.free_is ∙ ap free_sum h
-    ∙ sym (free-flagged c.args.flags a.0.below a.0.here a.0.above))) m.zone h c.self.invariant.marked
+    with-marks _ _ _ _ _ _ (kept-made _ _ _ _ _ _ m (c.self.invariant.free_is ∙ ap free_sum h
+    ∙ sym (free-flagged c.args.flags s.below s.here s.above))) c.note_block.ensures
+    (subst (λ v. purgeable_sum v ≤ c.changed_bound-self-inside.result) (sym m.zone)
     (c.changed_bound-self-inside.ensures (purgeable_sum (zone_in z.part.bytes))
-    (purgeable_sum (a.0.below ++ with_flags c.args.flags a.0.here ∷ a.0.above)) c.self.invariant.bound
-    (omega (arith, w, g, p)) (omega (arith, s, t))))
+    (purgeable_sum (s.below ++ with_flags c.args.flags s.here ∷ s.above)) c.self.invariant.bound
+    (omega (arith, w, g, p)) (omega (arith, k, t))))
 
 pub returns-clause-zone : goal.returns-clause-zone
 returns-clause-zone c =

@@ -1,0 +1,107 @@
+//! The search for a Free block after purges: by landmarks, once no purges are left.
+
+ghost use Rattle.std.specs.Prelude.{◌≡◌, ◌+◌, ℕ, List, false};
+ghost use Rattle.std.specs.Option.{option_map};
+ghost use Rattle.block_store.specs.Block.{Block, is_room, sizes};
+ghost use Rattle.block_store.specs.Find.{FindsLowest};
+ghost use Rattle.block_store.specs.Inner.Stretch.{stretch};
+ghost use Rattle.block_store.specs.Room.{spot};
+ghost use Rattle.block_store.specs.Sparing.{opened, purged, spared};
+ghost use Rattle.zone_bytes.specs.Decode.{zone_in};
+ghost use Rattle.zone_bytes.specs.Lawful.{IsSound};
+ghost use Rattle.zone_bytes.specs.Marks.{AreMarks, AreTops, Begins};
+ghost use Rattle.zone_bytes.specs.Searching.{IsRoomScan};
+ghost use Rattle.zone_bytes.specs.Stepping.{left_in};
+
+use crate::landmark::Landmark;
+use crate::marking::find_by_marks;
+use crate::raw_walk::{step_at, walk_from};
+use block_store::{RoomScan, Sparing, find_free_in, scan_room, suffices};
+use raw_region::Part;
+
+/// What a search for room came to.
+#[derive(Clone, Copy, Drop)]
+pub enum Scanned {
+    /// It has found room at a place.
+    Found(u32),
+    /// It has come to the zone's end, or has no purges left and is behind a block that isn't Free.
+    On(RoomScan),
+}
+
+/// Whether a search still has purges, or is in a stretch of Free blocks.
+fn is_within(scan: RoomScan) -> bool
+    ensures { result ≡ false → (scan.left ≡ 0) × (scan.free ≡ 0) × (scan.start ≡ scan.place) }
+{
+    scan.left > 0 || scan.free > 0 || scan.start != scan.place
+}
+
+/// The search while it has purges, and to the end of the stretch that it is in then.
+fn scan_purges(part: &Part, bytes: u32, purges: u32, sparing: Sparing) -> Scanned
+    requires { (first : ℕ) × (unused : ℕ) × IsSound part.now.bytes first unused }
+    ensures { IsRoomScan bytes purges sparing part.now.bytes result }
+{
+    let end = part.len() as u32;
+    let mut scan = RoomScan {
+        left: purges,
+        start: 0,
+        free: 0,
+        place: 0,
+    };
+    while scan.place < end && is_within(scan) {
+        let step = step_at(part, scan.place);
+        match scan_room(step.block, bytes, scan, sparing) {
+            Some(next) => scan = next,
+            None => return Scanned::Found(scan.start),
+        }
+    }
+    Scanned::On(scan)
+}
+
+/// The place of the lowest Free block of at least so many bytes, of those from an edge on.
+fn room_from(
+    marks: &[Landmark],
+    tops: &[u32],
+    part: &Part,
+    edge: u32,
+    bytes: u32,
+) -> Option<u32>
+    requires sound { (first : ℕ) × (unused : ℕ) × IsSound part.now.bytes first unused }
+    requires marks { AreMarks 4294967295 (zone_in part.now.bytes) marks.now }
+    requires tops { AreTops tops.now marks.now }
+    requires edge { Begins edge 0 (zone_in part.now.bytes) }
+    ensures { result ≡ option_map (λ s. edge + sizes s.below) (spot (is_room bytes) (left_in edge part.now.bytes)) }
+{
+    let lowest = find_by_marks(marks, tops, part, bytes)?;
+    if edge <= lowest {
+        return Some(lowest);
+    }
+    let above = find_free_in(&mut walk_from(part, edge), bytes, 0, Sparing::Nothing)?;
+    Some(edge + above)
+}
+
+/// The place of the lowest Free block of at least so many bytes, after so many purges. Where a block counts as Free
+/// that isn't, a zone's landmarks don't tell.
+pub fn find_room_by_marks(
+    marks: &[Landmark],
+    tops: &[u32],
+    part: &Part,
+    bytes: u32,
+    purges: u32,
+    sparing: Sparing,
+) -> Option<u32>
+    requires sound { (first : ℕ) × (unused : ℕ) × IsSound part.now.bytes first unused }
+    requires marks { AreMarks 4294967295 (zone_in part.now.bytes) marks.now }
+    requires tops { AreTops tops.now marks.now }
+    requires plain { (zone : List Block) → opened sparing zone ≡ zone }
+    ensures { FindsLowest (is_room bytes) (purged purges sparing (zone_in part.now.bytes)) result }
+{
+    match scan_purges(part, bytes, purges, sparing) {
+        Scanned::Found(start) => Some(start),
+        Scanned::On(scan) => {
+            if scan.place as usize >= part.len() {
+                return suffices(scan.free, bytes).then_some(scan.start);
+            }
+            room_from(marks, tops, part, scan.place, bytes)
+        }
+    }
+}
