@@ -16,10 +16,10 @@ use std::alloc::AllocError;
 use std::marker::Model;
 use zone_bytes::{
     Landmarks, PackedRun, SlotBlock, add_masters, block_of_slot, carve, carve_fixed, changed_bound,
-    content_at, falls_short, flag_at, frees_one, free_block, free_slot, given_at, given_with, has_room_behind,
-    hoist_block, kept_flags, make_fresh, mark_slot, move_bytes, padded_size, purge_above,
-    purge_from, purgeable_at, purgeable_left, put_bytes, raise_run, read_header, read_word,
-    resize_block, settle_run, size_at, slot_place, slot_resource, walk_above, walk_from,
+    content_at, falls_short, flag_at, free_block, free_slot, frees_one, given_at, given_with,
+    has_room_behind, hoist_block, kept_flags, make_fresh, mark_slot, move_bytes, padded_size,
+    purge_above, purge_from, purgeable_at, purgeable_left, put_bytes, raise_run, read_header,
+    read_word, resize_block, settle_run, size_at, slot_place, slot_resource, walk_above, walk_from,
 };
 
 /// A zone in the bytes of a part: each block begins with its header, and the slots lie in the blocks of master

@@ -58,13 +58,7 @@ fn scan_purges(part: &Part, bytes: u32, purges: u32, sparing: Sparing) -> Scanne
 }
 
 /// The place of the lowest Free block of at least so many bytes, of those from an edge on.
-fn room_from(
-    marks: &[Landmark],
-    tops: &[u32],
-    part: &Part,
-    edge: u32,
-    bytes: u32,
-) -> Option<u32>
+fn room_from(marks: &[Landmark], tops: &[u32], part: &Part, edge: u32, bytes: u32) -> Option<u32>
     requires sound { (first : ℕ) × (unused : ℕ) × IsSound part.now.bytes first unused }
     requires marks { AreMarks 4294967295 (zone_in part.now.bytes) marks.now }
     requires tops { AreTops tops.now marks.now }

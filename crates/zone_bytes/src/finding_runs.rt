@@ -249,6 +249,9 @@ fn past_stretches(
         if let Some(start) = start_found(search, bytes) {
             return Some(start);
         }
+        if end <= at {
+            return None;
+        }
         let next = within(place_of_mark(marks, index + 1), end);
         search = past_stretch(part, marks[index], next, search, bytes);
         at = next;

@@ -165,15 +165,7 @@ impl Landmarks {
         ensures { AreOf self.new (zone_in part.now.bytes) }
     {
         let likely = self.page_of(hi);
-        change_marks(
-            &mut self.marks,
-            &mut self.tops,
-            part,
-            lo,
-            hi,
-            false,
-            likely,
-        );
+        change_marks(&mut self.marks, &mut self.tops, part, lo, hi, false, likely);
     }
 
     /// Puts the landmarks of the pages from one place to another where their blocks are, by one walk over these.

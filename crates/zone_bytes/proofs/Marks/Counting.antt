@@ -1,17 +1,16 @@
 -- A walk that counts what it passes.
 use Rattle.std.proofs.Common.{◌≡◌, ℕ, ◌+◌, ◌≤◌, ◌<◌, ◌⊎◌, Bool, false, ◌||◌, List, [], ◌∷◌, ◌++◌, length, append_assoc, refl}
-use Rattle.std.proofs.Common.{sym, ap, ◌∙◌, subst, arith, inl, inr, true}
+use Rattle.std.proofs.Common.{sym, ap, ◌∙◌, arith, inl, inr, true}
 use Rattle.std.proofs.lemmas.List.{append-nil}
 use Rattle.std.proofs.lemmas.List.Folds.{list_any-append}
-use Rattle.block_store.specs.Block.{Block, size, sizes, free_of, free_sum}
+use Rattle.block_store.specs.Block.{Block, sizes, free_of, free_sum}
 use Rattle.block_store.specs.Run.{has}
 use Rattle.block_store.proofs.Zone.Totals.{total-append}
 use Rattle.zone_bytes.specs.Marks.{AtEach, Measures, Spans, between, ends_run}
 use Rattle.zone_bytes.specs.Stepping.{left_in, IsOnWay}
-use Rattle.zone_bytes.specs.declared.measuring.Measured.{Measured}
-use Rattle.zone_bytes.proofs.Marks.Between.{Alike, alike-same, alike-more, alike-append, all-begin, all-within, between-append}
+use Rattle.zone_bytes.proofs.Marks.Between.{Alike, alike-same, alike-more, all-begin, all-within, between-append}
 use Rattle.zone_bytes.proofs.Marks.Between.{none-above}
-use Rattle.zone_bytes.proofs.Marks.Passing.{Passed, at-append, at-map, passed-all}
+use Rattle.zone_bytes.proofs.Marks.Passing.{at-append, at-map, passed-all}
 use Rattle.zone_bytes.proofs.Marks.Spanned.{free-size}
 use Rattle.zone_bytes.proofs.Places.Stepped.{left-none}
 use Rattle.zone_bytes.proofs.Tiles.Tiling.{span-append}
@@ -80,13 +79,13 @@ module _ (xs : List ℕ) (from stop : ℕ) where
         → Measures from hi from (left_in from xs) (record { edge = edge; most = most; free = free; barred = barred })
     counted-tells hi edge a e = record {
       most = passed-all xs from (λ _ b. free_of b ≤ most) (λ _ b. free_of b ≤ most) from hi at (record {
-            done = c.done;
-            is = c.is;
-            up = c.up;
-            each = at-map (λ p b. (free_of b ≤ most) × (p < stop)) (λ _ b. free_of b ≤ most) from c.done
-                (λ _ _ _ _ r. r.0) c.each;
-            way = c.way;
-          }) (λ _ _ r. r) e;
+        done = c.done;
+        is = c.is;
+        up = c.up;
+        each = at-map (λ p b. (free_of b ≤ most) × (p < stop)) (λ _ b. free_of b ≤ most) from c.done
+            (λ _ _ _ _ r. r.0) c.each;
+        way = c.way;
+      }) (λ _ _ r. r) e;
       free = alike.free ∙ c.sum;
       barred = alike.ends ∙ c.ends;
     }

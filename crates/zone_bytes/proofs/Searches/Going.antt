@@ -1,6 +1,6 @@
 -- A search that goes from block to block.
-use Rattle.std.proofs.Common.{◌≡◌, ℕ, ◌+◌, ◌≤◌, ◌<◌, inl, inr, List, ◌∷◌, refl, subst, arith}
-use Rattle.block_store.specs.Block.{Block, size, free_of}
+use Rattle.std.proofs.Common.{◌≡◌, ℕ, ◌<◌, inl, inr, List, ◌∷◌, refl, subst, arith}
+use Rattle.block_store.specs.Block.{size, free_of}
 use Rattle.block_store.specs.Walk.{seen_size}
 use Rattle.block_store.specs.declared.sparing.Seen.{Seen}
 use Rattle.block_store.proofs.Walks.Telling.{told-size}

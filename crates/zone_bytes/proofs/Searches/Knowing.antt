@@ -1,6 +1,6 @@
 -- How far a search for a run is known, where blocks are passed.
 use Rattle.std.proofs.Common.{◌≡◌, ℕ, ◌+◌, ◌≤◌, ◌<◌, ◌⊎◌, ◌&&◌, inl, inr, Bool, true, false, cond, nat_le, Option, Some, None}
-use Rattle.std.proofs.Common.{List, [], ◌∷◌, ◌++◌, length, min, append_assoc, refl, sym, ap, ◌∙◌, subst, arith}
+use Rattle.std.proofs.Common.{List, [], ◌++◌, length, min, append_assoc, refl, sym, ap, ◌∙◌, subst, arith}
 use Rattle.std.specs.Option.{IfSome, MatchOption}
 use Rattle.std.proofs.lemmas.List.Folds.{list_any-append}
 use Rattle.block_store.specs.Block.{Block, sizes, free_of, free_sum}

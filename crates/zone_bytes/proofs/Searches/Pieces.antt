@@ -1,19 +1,19 @@
 -- The blocks from one place of a zone up to another.
-use Rattle.std.proofs.Common.{◌≡◌, ℕ, ◌+◌, ◌≤◌, ◌<◌, ◌⊎◌, inl, inr, List, [], ◌∷◌, ◌++◌, length, drop, get_or, append_assoc}
-use Rattle.std.proofs.Common.{refl, sym, ap, ◌∙◌, subst, arith}
+use Rattle.std.proofs.Common.{◌≡◌, ℕ, ◌+◌, ◌≤◌, ◌<◌, ◌⊎◌, inl, inr, List, ◌∷◌, ◌++◌, length, drop, get_or, append_assoc}
+use Rattle.std.proofs.Common.{sym, ap, ◌∙◌, subst, arith}
 use Rattle.std.proofs.lemmas.Bool.{cases_lt}
 use Rattle.std.proofs.lemmas.List.{drop_more, drop_all}
 use Rattle.block_store.specs.Block.{Block, sizes}
 use Rattle.zone_bytes.specs.Decode.{zone_in}
 use Rattle.zone_bytes.specs.Lawful.{IsSound}
-use Rattle.zone_bytes.specs.Marks.{AreMarks, Begins, IsTally, between, next_of, no_mark}
+use Rattle.zone_bytes.specs.Marks.{AreMarks, Begins, between, next_of, no_mark}
 use Rattle.zone_bytes.specs.Searching.{IsPiece, IsStretch}
 use Rattle.zone_bytes.specs.Stepping.{left_in}
 use Rattle.zone_bytes.specs.Table.{slot_in}
 use Rattle.zone_bytes.specs.declared.landmark.Landmark.{Landmark}
 use Rattle.zone_bytes.proofs.Laws.Lawful.{sizes-length}
 use Rattle.zone_bytes.proofs.Marks.Between.{Alike, alike-as, alike-back, alike-more, alike-same, between-parts}
-use Rattle.zone_bytes.proofs.Marks.Lowering.{Seen, begins-way, seen-from, marks-parted, mark-begins, mark-first, begins-end, drop-all}
+use Rattle.zone_bytes.proofs.Marks.Lowering.{Seen, begins-way, seen-from, marks-parted, mark-begins, mark-first, begins-end}
 use Rattle.zone_bytes.proofs.Marks.Passing.{Parts, begins-either, begins-here, begins-right, begins-within, parts}
 use Rattle.zone_bytes.proofs.Places.AtPlace.{left-above}
 use Rattle.zone_bytes.proofs.Places.Stepped.{left-none}

@@ -1,12 +1,12 @@
 -- A search for room, and the lowest Free block above an edge.
-use Rattle.std.proofs.Common.{◌≡◌, ℕ, zero, suc, ◌+◌, ◌≤◌, ◌<◌, ◌⊎◌, Bool, false, cond, Option, Some, None, List, [], ◌∷◌, ◌++◌}
+use Rattle.std.proofs.Common.{◌≡◌, ℕ, zero, suc, ◌+◌, ◌≤◌, Bool, cond, Option, Some, None, List, [], ◌∷◌}
 use Rattle.std.proofs.Common.{length, refl, sym, ap, ◌∙◌, subst, arith}
 use Rattle.std.specs.Option.{option_map}
-use Rattle.block_store.specs.Block.{Block, is_room, sizes, tidy}
+use Rattle.block_store.specs.Block.{Block, is_room, sizes}
 use Rattle.block_store.specs.Find.{FindsLowest}
 use Rattle.block_store.specs.Inner.Stretch.{is_enough, stretch}
-use Rattle.block_store.specs.Room.{Spot, spot, emptied}
-use Rattle.block_store.specs.Sparing.{opened, purged, spared}
+use Rattle.block_store.specs.Room.{Spot, spot}
+use Rattle.block_store.specs.Sparing.{opened, spared}
 use Rattle.block_store.specs.declared.sparing.Sparing.{Sparing}
 use Rattle.block_store.specs.declared.stretch.RoomScan.{RoomScan}
 use Rattle.block_store.proofs.Emptied.Stretches.{stretch-apart, stretch-is}
@@ -17,10 +17,9 @@ use Rattle.zone_bytes.specs.Lawful.{IsSound}
 use Rattle.zone_bytes.specs.Marks.{Begins}
 use Rattle.zone_bytes.specs.Searching.{finds_room, lowest_room}
 use Rattle.zone_bytes.specs.Stepping.{left_in}
-use Rattle.zone_bytes.proofs.Marks.Lowering.{begins-way, seen-from}
+use Rattle.zone_bytes.proofs.Marks.Lowering.{seen-from}
 use Rattle.zone_bytes.proofs.Marks.Sought.{seen-past, none-above}
 use Rattle.zone_bytes.proofs.Places.AtPlace.{left-zone}
-use Rattle.zone_bytes.proofs.Places.Stepped.{left-none}
 use Rattle.zone_bytes.proofs.Searches.Pieces.{zone-long}
 use Rattle.zone_bytes.proofs.Tiles.Tiling.{span-append}
 
@@ -71,7 +70,7 @@ module _ (xs : List ℕ) (first unused : ℕ) (i : IsSound xs first unused) (edg
       let k = s.low in
       let p = f.3 in
       let r = seen-past test s.below (left_in edge xs) f.0 (subst Apart s.is (apart-tidied (zone_in xs) i.tidied))
-          (sym (ap (spot test) s.is) ∙ f.1) (omega (arith, k, p, l)) in
+      (sym (ap (spot test) s.is) ∙ f.1) (omega (arith, k, p, l)) in
       let w = r.low in
       ap (place_from edge) r.found ∙ ap Some (omega (arith, k, p, w))
 

@@ -1,4 +1,4 @@
-use Rattle.std.proofs.Common.{◌≡◌, ℕ, Bool, true, false, Some, None, cond, refl, ap, sym, subst, ◌∙◌, arith, inl, inr, ◌⊎◌, ◌≤◌, length}
+use Rattle.std.proofs.Common.{◌≡◌, ℕ, Bool, true, false, Some, None, cond, refl, ap, sym, ◌∙◌, arith, inl, inr}
 use Rattle.std.specs.Bool.{then_some}
 use Rattle.block_store.specs.Block.{is_room}
 use Rattle.block_store.specs.Room.{emptied}

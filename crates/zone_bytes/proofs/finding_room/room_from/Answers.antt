@@ -1,8 +1,7 @@
-use Rattle.std.proofs.Common.{◌≡◌, ◌<◌, ◌^◌, ◌+◌, Some, None, ap, sym, subst, ◌∙◌, arith}
+use Rattle.std.proofs.Common.{◌≡◌, ◌<◌, ◌^◌, Some, None, ap, sym, subst, ◌∙◌, arith}
 use Rattle.block_store.specs.Block.{is_room, sizes, tidy}
 use Rattle.block_store.specs.Find.{FindsLowest}
 use Rattle.block_store.specs.Room.{spot}
-use Rattle.zone_bytes.specs.Decode.{zone_in}
 use Rattle.zone_bytes.specs.Stepping.{left_in}
 use Rattle.zone_bytes.proofs.Marks.Lowering.{begins-way}
 use Rattle.zone_bytes.proofs.Marks.Sought.{left-fits, left-tidy}
@@ -44,8 +43,8 @@ overflow_add-result c =
     let i = c.requires.sound in
     let xs = c.args.part.now.bytes in
     let w = found-within (is_room c.args.bytes) (left_in c.args.edge xs) c.in_ok-above.above
-        (subst (λ z. FindsLowest (is_room c.args.bytes) z (Some c.in_ok-above.above))
-        (ap tidy c.walk_from.ensures ∙ left-tidy xs i.0 i.1 i.2 c.args.edge c.requires.edge) c.in_ok-above.ensures) in
+    (subst (λ z. FindsLowest (is_room c.args.bytes) z (Some c.in_ok-above.above))
+    (ap tidy c.walk_from.ensures ∙ left-tidy xs i.0 i.1 i.2 c.args.edge c.requires.edge) c.in_ok-above.ensures) in
     let l = left-long xs i.0 i.1 i.2 c.args.edge c.requires.edge in
     let m = i.2.lays.small in
     omega (arith, w, l, m)

@@ -1,9 +1,7 @@
-use Rattle.std.proofs.Common.{◌≡◌, Some, None, ap, sym, subst, ◌∙◌, arith, inl, inr}
-use Rattle.block_store.specs.Inner.Stretch.{after_scan, stretch}
+use Rattle.std.proofs.Common.{◌≡◌, ap, sym, subst, ◌∙◌, arith, inl, inr}
+use Rattle.block_store.specs.Inner.Stretch.{stretch}
 use Rattle.block_store.specs.Sparing.{opened, spared}
-use Rattle.zone_bytes.specs.Decode.{zone_in}
 use Rattle.zone_bytes.specs.Marks.{Begins}
-use Rattle.zone_bytes.specs.Searching.{finds_room}
 use Rattle.zone_bytes.specs.Stepping.{left_in}
 use Rattle.zone_bytes.proofs.Marks.Passing.{Passed, passed-begins, passed-start}
 use Rattle.zone_bytes.proofs.Places.AtPlace.{left-zone, on-way}

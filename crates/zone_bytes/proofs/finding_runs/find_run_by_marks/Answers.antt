@@ -10,7 +10,7 @@ use Rattle.zone_bytes.specs.Stepping.{left_in, IsOnWay}
 use Rattle.zone_bytes.proofs.Marks.Lowering.{begins-way}
 use Rattle.zone_bytes.proofs.Places.AtPlace.{on-way}
 use Rattle.zone_bytes.proofs.Searches.Knowing.{begun-known, lowest_place, scanned}
-use Rattle.zone_bytes.proofs.Searches.Pieces.{bounded-edge, bounded-mark, bounded-end, edge-within, piece-of}
+use Rattle.zone_bytes.proofs.Searches.Pieces.{bounded-edge, bounded-mark, edge-within, piece-of}
 use Rattle.zone_bytes.proofs.finding_runs.find_run_by_marks.Goals as goal
 use Rattle.zone_bytes.proofs.finding_runs.find_run_by_marks.Goals.{After-within-at}
 

@@ -1,6 +1,6 @@
-use Rattle.std.proofs.Common.{◌≡◌, ◌&&◌, nat_le, false, ap, sym, subst, arith, ◌∙◌}
-use Rattle.zone_bytes.specs.Searching.{IsBehind, IsKnown, IsSearch, begun, finds_from}
-use Rattle.zone_bytes.specs.Stepping.{left_in, IsOnWay}
+use Rattle.std.proofs.Common.{sym, subst, arith}
+use Rattle.zone_bytes.specs.Searching.{IsBehind, IsKnown, IsSearch}
+use Rattle.zone_bytes.specs.Stepping.{IsOnWay}
 use Rattle.zone_bytes.proofs.Marks.Counting.{free-sizes}
 use Rattle.zone_bytes.proofs.Marks.Lowering.{begins-way}
 use Rattle.zone_bytes.proofs.Searches.Knowing.{known-begun, not-found, scanned}

@@ -1,4 +1,4 @@
-use Rattle.std.proofs.Common.{◌≡◌, ◌+◌, ◌≤◌, ◌<◌, ◌⊎◌, Some, None, length, drop, sym, subst, ◌∙◌, arith}
+use Rattle.std.proofs.Common.{◌≡◌, ◌+◌, ◌⊎◌, Some, None, drop, subst, arith}
 use Rattle.zone_bytes.specs.Marks.{next_of}
 use Rattle.zone_bytes.specs.Searching.{IsSearch}
 use Rattle.zone_bytes.proofs.Marks.Lowering.{begins-way}
@@ -19,6 +19,16 @@ bounds c = subst (λ q. (c.within-next.result ≡ q) ⊎ (c.within-next.result �
 pub returns-in-Some : goal.returns-in-Some
 returns-in-Some c = λ answer k.
     c.in-Some.ensures.found answer c.loop-index.at c.args.part.now.bytes (c.loop-index.invariant.search answer k)
+
+pub returns-then-end-at : goal.returns-then-end-at
+returns-then-end-at c = λ answer k.
+    let i = c.requires.sound in
+    let xs = c.args.part.now.bytes in
+    let l = c.if-end-at.true in
+    let e = c.len-end.ensures.count in
+    c.in_default.ensures.none answer c.loop-index.at xs (c.loop-index.invariant.search answer k)
+    (left-none c.loop-index.at xs (begins-way xs i.0 i.1 i.2 c.loop-index.at c.loop-index.invariant.edge)
+    (omega (arith, l, e)))
 
 pub past_stretch-search-requires-clause-search : goal.past_stretch-search-requires-clause-search
 past_stretch-search-requires-clause-search c = (

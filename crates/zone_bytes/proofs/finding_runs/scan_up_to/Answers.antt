@@ -1,4 +1,4 @@
-use Rattle.std.proofs.Common.{◌≡◌, ◌≤◌, ◌<◌, ◌&&◌, nat_le, inl, inr, true, false, None, refl, sym, ap, ◌∙◌, subst, arith}
+use Rattle.std.proofs.Common.{◌≡◌, ◌&&◌, nat_le, inl, inr, true, false, None, refl, sym, ap, ◌∙◌, subst, arith}
 use Rattle.block_store.specs.Inner.RunScan.{scan_from}
 use Rattle.block_store.specs.Sparing.{opened, spared}
 use Rattle.zone_bytes.specs.Marks.{Begins}

@@ -1,4 +1,4 @@
-use Rattle.std.proofs.Common.{◌≡◌, ℕ, ◌≤◌, ◌<◌, ◌-◌, ◌⊎◌, inl, inr, refl, sym, subst, arith}
+use Rattle.std.proofs.Common.{◌≡◌, ℕ, ◌≤◌, ◌⊎◌, inl, inr, refl, sym, subst, arith}
 use Rattle.zone_bytes.specs.Decode.{zone_in}
 use Rattle.zone_bytes.specs.Marks.{AtEach, AtMost, IsTally, Lowered, between}
 use Rattle.zone_bytes.proofs.Marks.Between.{alike-as}
@@ -25,10 +25,13 @@ returns-then-hi-mark c =
       | inr w ↦ inr w.1
     ] in
     let same = same-end lo hi at next c.args.above c.requires.rising apart c.requires.lowered in
-    let stays : Lowered lo hi at at = inr (refl, elim apart [
-      | inl h ↦ inr h
-      | inr l ↦ inl (let r = c.requires.rising in omega (arith, l, r))
-    ]) in
+    let stays : Lowered lo hi at at = inr (
+      refl,
+      elim apart [
+        | inl h ↦ inr h
+        | inr l ↦ inl (let r = c.requires.rising in omega (arith, l, r))
+      ],
+    ) in
     record {
       at = stays;
       bound = λ old z e. bound-lowered lo hi old new z c.requires.ordered c.args.mark.most c.args.mark.most at next at

@@ -72,8 +72,8 @@ done c =
       a.0,
       a.1,
       rw c.flag_at.ensures.bytes (flagged-made z.part.bytes z.first z.unused i c.args.place c.args.flags a.0.below a.0.here
-      a.0.above (whole z.part.bytes z.first z.unused i c.args.place a.0 a.1)
-      (low z.part.bytes z.first z.unused i c.args.place a.0 a.1)),
+          a.0.above (whole z.part.bytes z.first z.unused i c.args.place a.0 a.1)
+          (low z.part.bytes z.first z.unused i c.args.place a.0 a.1)),
     )
 
 pub note_block-requires-clause-sound : goal.note_block-requires-clause-sound

@@ -1,4 +1,4 @@
-use Rattle.std.proofs.Common.{◌≡◌, ℕ, ◌+◌, ◌≤◌, ◌<◌, List, [], ◌∷◌, inl, inr, length, sym, ap, ◌∙◌, arith}
+use Rattle.std.proofs.Common.{◌≡◌, ℕ, ◌+◌, ◌<◌, List, ◌∷◌, inl, inr, length, sym, ap, ◌∙◌, arith}
 use Rattle.std.proofs.lemmas.Bool.{cases_lt}
 use Rattle.block_store.specs.Block.{Block, sizes}
 use Rattle.zone_bytes.specs.Decode.{zone_in}
@@ -50,7 +50,7 @@ overflow_add-place c =
     let b = c.requires.marks.1 in
     let f = fits c.args.part.now.bytes i.0 i.1 i.2 c.args.place c.requires.marks.0 b in
     let s = c.size_at-size.ensures b.there b.above
-        (here c.args.part.now.bytes i.0 i.1 i.2 c.args.place c.requires.marks.0 b) in
+    (here c.args.part.now.bytes i.0 i.1 i.2 c.args.place c.requires.marks.0 b) in
     let m = i.2.lays.small in
     omega (arith, f, s, m)
 
@@ -59,7 +59,7 @@ note-requires-clause-marks c =
     let i = c.requires.sound in
     let b = c.requires.marks.1 in
     let s = c.size_at-size.ensures b.there b.above
-        (here c.args.part.now.bytes i.0 i.1 i.2 c.args.place c.requires.marks.0 b) in (
+    (here c.args.part.now.bytes i.0 i.1 i.2 c.args.place c.requires.marks.0 b) in (
       c.requires.marks.0,
       became-replaced c.args.place c.size_at-size.result c.requires.marks.0 (zone_in c.args.part.now.bytes) b s,
       c.requires.marks.2,
