@@ -13,6 +13,7 @@ use Rattle.zone_bytes.proofs.Marks.Between.{none-above}
 use Rattle.zone_bytes.proofs.Marks.Passing.{at-append, at-map, passed-all}
 use Rattle.zone_bytes.proofs.Marks.Spanned.{free-size}
 use Rattle.zone_bytes.proofs.Places.Stepped.{left-none}
+use Rattle.zone_bytes.proofs.Places.Walks.{free_span-le}
 use Rattle.zone_bytes.proofs.Tiles.Tiling.{span-append}
 
 -- the blocks from a place on up to another, each of which began below a bound
@@ -24,10 +25,6 @@ pub record Counted (xs : List ℕ) (from at stop most free : ℕ) (barred : Bool
   pub way : IsOnWay at xs
   pub sum : free_sum done ≡ free
   pub ends : has ends_run done ≡ barred
-
-pub free-sizes : (blocks : List Block) → free_sum blocks ≤ sizes blocks
-free-sizes [] = omega arith
-free-sizes (b ∷ blocks) = let f = free-size b in let r = free-sizes blocks in omega (arith, f, r)
 
 or-last : (a b : Bool) → (a || (b || false)) ≡ (a || b)
 or-last true b = refl
@@ -67,7 +64,7 @@ module _ (xs : List ℕ) (from stop : ℕ) where
   counted-fits at end most free bytes barred barrier c s =
       let u = c.up in
       let v = s.up in
-      let f = free-sizes c.done in
+      let f = free_span-le c.done in
       let g = free-size s.here in
       let e = s.bytes in
       let t = c.sum in

@@ -24,7 +24,7 @@ use Rattle.zone_bytes.specs.Stepping.{left_in}
 use Rattle.zone_bytes.specs.declared.finding_runs.Passed.{Passed}
 use Rattle.zone_bytes.specs.declared.finding_runs.Search.{Search}
 use Rattle.zone_bytes.specs.declared.finding_runs.Search.TheVariants as search
-use Rattle.zone_bytes.proofs.Marks.Counting.{free-sizes}
+use Rattle.zone_bytes.proofs.Places.Walks.{free_span-le}
 use Rattle.zone_bytes.proofs.Marks.Lowering.{begins-further, begins-way}
 use Rattle.zone_bytes.proofs.Places.AtPlace.{left-zone}
 use Rattle.zone_bytes.proofs.Places.Stepped.{left-none}
@@ -72,7 +72,7 @@ module _ (bytes : ℕ) (answer : Option ℕ) (xs : List ℕ) where
     begins = p.edge;
     left = k.left;
     met = k.met;
-    free = (let a = k.free in let z = free-sizes here in let u = p.up in omega (arith, a, e, z, u, f));
+    free = (let a = k.free in let z = free_span-le here in let u = p.up in omega (arith, a, e, z, u, f));
     finds = finds-at at s k e ∙ ap (scan_runs None bytes spares 0 s.start s.free s.met at) p.is
         ∙ goes-through bytes spares s.start s.free s.met at here (left_in next xs) n
         ∙ ap (λ q. scan_runs None bytes spares 0 s.start (s.free + q) s.met (at + sizes here) (left_in next xs)) f

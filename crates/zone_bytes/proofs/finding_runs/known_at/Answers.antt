@@ -1,7 +1,7 @@
 use Rattle.std.proofs.Common.{sym, subst, arith}
 use Rattle.zone_bytes.specs.Searching.{IsBehind, IsKnown, IsSearch}
 use Rattle.zone_bytes.specs.Stepping.{IsOnWay}
-use Rattle.zone_bytes.proofs.Marks.Counting.{free-sizes}
+use Rattle.zone_bytes.proofs.Places.Walks.{free_span-le}
 use Rattle.zone_bytes.proofs.Marks.Lowering.{begins-way}
 use Rattle.zone_bytes.proofs.Searches.Knowing.{known-begun, not-found, scanned}
 use Rattle.zone_bytes.proofs.finding_runs.known_at.Goals as goal
@@ -38,7 +38,7 @@ past_open-requires c = λ n.
     let k = walked d c.requires.search.0 b in
     let e = not-found c.args.bytes c.requires.search.0 xs c.in-Behind.passed.end c.scan_up_to-scan.result k n in
     let f = k.free in
-    let z = free-sizes b.high in
+    let z = free_span-le b.high in
     let s = b.sum in
     let u = b.high_piece.up in
     let h = c.ranges.at.fits in

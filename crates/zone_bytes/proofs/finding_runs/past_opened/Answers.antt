@@ -1,6 +1,6 @@
 use Rattle.std.proofs.Common.{subst, arith}
 use Rattle.zone_bytes.specs.Searching.{IsSearch}
-use Rattle.zone_bytes.proofs.Marks.Counting.{free-sizes}
+use Rattle.zone_bytes.proofs.Places.Walks.{free_span-le}
 use Rattle.zone_bytes.proofs.Searches.Knowing.{behind-open, not-found}
 use Rattle.zone_bytes.proofs.finding_runs.past_opened.Goals as goal
 
@@ -17,7 +17,7 @@ past_open-requires c = λ n.
     let k = c.known_at-known.ensures c.requires.search.0 c.requires.search.1 in
     let e = not-found c.args.bytes c.requires.search.0 c.args.part.now.bytes c.args.at c.known_at-known.result k n in
     let f = k.free in
-    let z = free-sizes s.0 in
+    let z = free_span-le s.0 in
     let q = s.2.1 in
     let u = s.1.up in
     let h = c.ranges.next.fits in
