@@ -1,14 +1,17 @@
 //! Walks over a stretch of a zone.
 
-ghost use Rattle.std.specs.Prelude.{◌≡◌, ◌<◌, ◌≤◌, ◌⊎◌, List, length, MatchOption, IfSome};
+ghost use Rattle.std.specs.Prelude.{◌≡◌, ◌+◌, ◌%◌, ◌==◌, ◌<◌, ◌≤◌, ◌^◌, ◌⊎◌, not, if◌then◌else◌, List, length};
+ghost use Rattle.std.specs.Prelude.{MatchOption, IfSome};
+ghost use Rattle.heap_words.specs.Words.{word_at};
 ghost use Rattle.block_store.specs.Block.{Block, free_sum};
 ghost use Rattle.block_store.specs.Run.{has};
 ghost use Rattle.zone_bytes.specs.Marks.{AtEach, NoRoom, Begins, Spans, RoomAt, IsTally, Measures, ends_run};
+ghost use Rattle.zone_bytes.specs.Settling.{runs_on};
 ghost use Rattle.zone_bytes.specs.Stepping.{left_in, IsOnWay};
 
 use crate::landmark::Tally;
-use crate::raw_walk::step_at;
-use block_store::{free_of_seen, is_in_run};
+use crate::words::read_word;
+use block_store::UNIT;
 use raw_region::Part;
 
 /// The lower of a place and the zone's end.
@@ -36,17 +39,40 @@ struct Span {
     barrier: bool,
 }
 
+/// The Free bytes of a block of so many bytes, by the number of its kind.
+fn free_by_tag(tag: u32, size: u32) -> u32
+    ensures { result ≡ (if tag == 0 then size else 0) }
+{
+    if tag == 0 { size } else { 0 }
+}
+
+/// Whether the block at a place ends a run, by the number of its kind: a Fixed or Masters one does, and a relocatable
+/// one that is locked. Only of a relocatable one the flags are read.
+fn ends_run_at(part: &Part, at: u32, tag: u32) -> bool
+    requires multiple { at % 4 ≡ 0 }
+    requires inside { at + 16 ≤ length part.now.bytes }
+    requires fits { at + 16 < 2 ^ 32 }
+    ensures { result ≡ not (runs_on tag (word_at (at + 12) part.now.bytes)) }
+{
+    if tag < 3 {
+        return tag > 0;
+    }
+    read_word(part, at + 12) >= 128
+}
+
 /// The block at a place.
 fn span_at(part: &Part, at: u32) -> Span
     requires way { IsOnWay at part.now.bytes }
     requires some { at < length part.now.bytes }
     ensures { Spans at result.end result.free result.barrier part.now.bytes }
 {
-    let step = step_at(part, at);
+    let first = read_word(part, at);
+    let tag = first % UNIT;
+    let size = first - tag;
     Span {
-        end: step.end,
-        free: free_of_seen(step.block),
-        barrier: !is_in_run(step.block),
+        end: at + size,
+        free: free_by_tag(tag, size),
+        barrier: ends_run_at(part, at, tag),
     }
 }
 
