@@ -15,11 +15,12 @@ use raw_region::Part;
 use std::alloc::AllocError;
 use std::marker::Model;
 use zone_bytes::{
-    Landmarks, PackedRun, SlotBlock, add_masters, block_of_slot, carve, carve_fixed, changed_bound,
-    content_at, falls_short, flag_at, free_block, free_slot, frees_one, given_at, given_with,
-    has_room_behind, hoist_block, kept_flags, make_fresh, mark_slot, move_bytes, padded_size,
-    purge_above, purge_from, purgeable_at, purgeable_left, put_bytes, raise_run, read_header,
-    read_word, resize_block, settle_run, size_at, slot_place, slot_resource, walk_above, walk_from,
+    Edges, Landmarks, PackedRun, SlotBlock, add_masters, block_of_slot, carve, carve_fixed,
+    changed_bound, content_at, falls_short, flag_at, free_block, free_slot, frees_one, given_at,
+    given_with, has_room_behind, hoist_block, kept_flags, make_fresh, mark_slot, move_bytes,
+    padded_size, purge_above, purge_from, purgeable_at, purgeable_left, put_bytes, raise_run,
+    read_header, read_word, resize_block, settle_run, size_at, slot_place, slot_resource,
+    walk_above, walk_from,
 };
 
 /// A zone in the bytes of a part: each block begins with its header, and the slots lie in the blocks of master
@@ -35,6 +36,7 @@ pub struct RawZone {
     most_purgeable: u32,
     moves: u64,
     marks: Landmarks,
+    edges: Edges,
     ghost lawful: { ∥ IsLawful part.bytes ∥₁ },
 }
 
@@ -103,6 +105,7 @@ impl RawZone {
             most_purgeable: 0,
             moves: 0,
             marks,
+            edges: Edges::new(),
         }
     }
 
@@ -131,11 +134,12 @@ impl RawZone {
             most_purgeable: _most_purgeable,
             moves: _moves,
             marks: _marks,
+            edges: _edges,
         } = self;
         part
     }
 
-    /// Packs the run at a place, counts nothing, and leaves no landmark in it.
+    /// Packs the run at a place, and counts nothing.
     fn pack(&mut self, run: u32) -> PackedRun
         requires { IsSome (run_at run (zone_of self.old)) }
         ensures zone { IfSome (run_at run (zone_of self.old)) (λ r. zone_of self.new ≡ tidy (with_run settle r)) }
@@ -144,8 +148,10 @@ impl RawZone {
         ensures top { IfSome (run_at run (zone_of self.old)) (λ r. result.top ≡ run + sizes (movers r.run)) }
         ensures stop { IfSome (run_at run (zone_of self.old)) (λ r. result.stop ≡ run + sizes r.run) }
     {
-        let packed = settle_run(&mut self.part, run);
-        self.marks.forget(&self.part, run, packed.stop);
+        self.marks.await_edges(&self.part, &mut self.edges, run);
+        let packed = settle_run(&mut self.part, &mut self.edges, run);
+        self.marks
+            .note_packed(&self.part, &self.edges, run, run, packed.stop);
         packed
     }
 
@@ -341,13 +347,14 @@ impl BlockStore for RawZone {
 
     fn settle(&mut self, run: u32) {
         let packed = self.pack(run);
-        self.marks.renew(&self.part, run, packed.stop);
         self.moves = self.moves.saturating_add(u64::from(packed.lowered));
     }
 
     fn raise(&mut self, run: u32, bytes: u32) -> Result<(), AllocError> {
-        let stop = raise_run(&mut self.part, run, bytes);
-        self.marks.note(&self.part, run, stop);
+        self.marks.await_edges(&self.part, &mut self.edges, run);
+        let stop = raise_run(&mut self.part, &mut self.edges, run, bytes);
+        self.marks
+            .note_packed(&self.part, &self.edges, run + bytes, run, stop);
         Ok(())
     }
 

@@ -7,4 +7,5 @@ pub mod Rooms
 pub mod Keeping
 pub mod Owed
 pub mod Tops
+pub mod Edges
 pub mod Sought

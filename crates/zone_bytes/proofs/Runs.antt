@@ -2,6 +2,7 @@ pub mod Packed
 pub mod Ends
 pub mod Settled
 pub mod Until
+pub mod Edged
 pub mod Led
 pub mod Runs
 pub mod RunsAt

@@ -19,6 +19,7 @@ pub mod Hoisting
 pub mod Laying
 pub mod Marked
 pub mod Marks
+pub mod Edges
 pub mod Mastering
 pub mod Joining
 pub mod Purgeable

@@ -1,34 +1,31 @@
 //! The landmarks that a zone keeps.
 
-ghost use Rattle.std.specs.Prelude.{◌≡◌, ◌≤◌, ◌<◌, ◌⊎◌, ℕ, List};
+ghost use Rattle.std.specs.Prelude.{◌≡◌, ◌≤◌, ◌<◌, ◌⊎◌, ℕ, List, []};
 ghost use Rattle.block_store.specs.Block.{Block, is_room, sizes};
 ghost use Rattle.block_store.specs.Find.{FindsLowest, FindsLowestRun};
 ghost use Rattle.block_store.specs.Run.{has_free};
 ghost use Rattle.block_store.specs.Sparing.{opened, purged};
 ghost use Rattle.zone_bytes.specs.Decode.{zone_in};
+ghost use Rattle.zone_bytes.specs.Edges.{AreEdges, AreLaid, ByEdges};
 ghost use Rattle.zone_bytes.specs.Lawful.{IsSound};
 ghost use Rattle.zone_bytes.specs.Marked.{AreOf};
-ghost use Rattle.zone_bytes.specs.Marks.{AreMarks, Became, Begins, Replaced};
-ghost use Rattle.zone_bytes.specs.Stepping.{IsOnWay};
+ghost use Rattle.zone_bytes.specs.Marks.{AreTops, Became, Begins, Replaced};
 
+use crate::edges::Edges;
 use crate::finding_room::find_room_by_marks;
 use crate::finding_runs::find_run_by_marks;
 use crate::grouping::{raise_top, renew_tops};
 use crate::landmark::{GROUP, Landmark, Tally, UNKNOWN};
-use crate::marking::{change_marks, find_by_marks, lay_marks, mark_below};
-use crate::measuring::greater;
+use crate::marking::{
+    Next, change_marks, find_by_marks, lay_edges, lay_marks, mark_below, place_of_mark,
+};
+use crate::paging::{LANDMARKS, LEAST_PAGE, page_bytes, page_end};
 use crate::placing::size_at;
 use block_store::Sparing;
 use raw_region::Part;
 
-/// How many landmarks a zone has, one for each of its pages. Each change goes over the blocks of a page.
-const LANDMARKS: usize = 8192;
-
 /// How many groups of landmarks a zone has. The search for room goes over all of them.
 const GROUPS: usize = LANDMARKS / GROUP;
-
-/// The least bytes of a page.
-const LEAST_PAGE: u32 = 256;
 
 /// Places of known blocks of a zone, one for each page of its bytes, and between each two of them a bound on each Free
 /// block, how many bytes are Free, and whether a run ends there; and for each group of them a bound on the Free blocks.
@@ -38,14 +35,6 @@ pub struct Landmarks {
     marks: [Landmark; LANDMARKS],
     tops: [u32; GROUPS],
     page: u32,
-}
-
-/// How many bytes a page has, of which a zone has no more than landmarks.
-fn page_bytes(part: &Part) -> u32
-    requires { IsOnWay 0 part.now.bytes }
-    ensures { 0 < result }
-{
-    greater(LEAST_PAGE, (part.len() as u32) / LANDMARKS as u32 + 1)
 }
 
 impl Landmarks {
@@ -175,17 +164,54 @@ impl Landmarks {
         ensures { AreOf self.new (zone_in part.now.bytes) }
     {
         let page = page_bytes(part);
-        let first = LANDMARKS.min((lo / page) as usize);
-        let page_end = lo.saturating_sub(lo % page).saturating_add(page);
-        let end = lay_marks(
-            &mut self.marks,
-            &mut self.tops,
-            part,
-            first,
-            page_end,
-            page,
-            hi,
-        );
+        let next = self.next_at((lo / page) as usize);
+        self.lay(part, next, next.index, page, hi);
+    }
+
+    /// A landmark that is to be laid anew, where it is.
+    fn next_at(&self, index: usize) -> Next
+        ensures laid { (zone : List Block) → AreOf self.now zone → AreLaid result.index result.at zone self.now.marks }
+    {
+        let index = LANDMARKS.min(index);
+        Next {
+            index,
+            at: place_of_mark(&self.marks, index),
+        }
+    }
+
+    /// Lays the landmarks from the next one on anew, up to the first that stands where it is to above a place. Others from
+    /// `first` on were laid before.
+    fn lay(&mut self, part: &Part, next: Next, first: usize, page: u32, hi: u32)
+        requires sound { (first : ℕ) × (unused : ℕ) × IsSound part.now.bytes first unused }
+        requires laid { AreLaid next.index next.at (zone_in part.now.bytes) self.old.marks }
+        requires tops { AreTops self.old.tops self.old.marks }
+        ensures { AreOf self.new (zone_in part.now.bytes) }
+    {
+        let end = lay_marks(&mut self.marks, &mut self.tops, part, next, page, hi);
         renew_tops(&self.marks, &mut self.tops, first, end);
+    }
+
+    /// Makes ready to note the edges of blocks that are to be packed from a place on: those of the pages above its own.
+    pub fn await_edges(&self, part: &Part, edges: &mut Edges, lo: u32)
+        requires sound { (first : ℕ) × (unused : ℕ) × IsSound part.now.bytes first unused }
+        ensures { (base : ℕ) → AreEdges edges.new base [] }
+    {
+        let page = page_bytes(part);
+        edges.restart(page_end((lo / page) as usize, page), page);
+    }
+
+    /// Notes that the blocks from one place to another became others, of which those from `base` on lie packed, with the
+    /// edges that were noted: where landmarks stand is known from these, and no walk goes over the blocks.
+    pub fn note_packed(&mut self, part: &Part, edges: &Edges, base: u32, lo: u32, hi: u32)
+        requires sound { (first : ℕ) × (unused : ℕ) × IsSound part.now.bytes first unused }
+        requires marks { (old : List Block) × Replaced lo hi old (zone_in part.now.bytes) × AreOf self.old old }
+        requires edges { ByEdges edges.now base (zone_in part.now.bytes) }
+        ensures { AreOf self.new (zone_in part.now.bytes) }
+    {
+        self.forget(part, lo, hi);
+        let page = page_bytes(part);
+        let from = self.next_at((lo / page) as usize);
+        let next = lay_edges(&mut self.marks, &mut self.tops, part, edges, base, from);
+        self.lay(part, next, from.index, page, hi);
     }
 }

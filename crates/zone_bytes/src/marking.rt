@@ -5,15 +5,18 @@ ghost use Rattle.std.specs.Prelude.{length, drop, get_or};
 ghost use Rattle.block_store.specs.Block.{Block, is_room};
 ghost use Rattle.block_store.specs.Find.{FindsLowest};
 ghost use Rattle.zone_bytes.specs.Decode.{zone_in};
+ghost use Rattle.zone_bytes.specs.Edges.{AreLaid, ByEdges, IsBare};
 ghost use Rattle.zone_bytes.specs.Lawful.{IsSound};
 ghost use Rattle.zone_bytes.specs.Marks.{AtEach, AtMost, NoRoom, NoneBelow, Begins, AreMarks, AreTops, Replaced, no_mark};
 ghost use Rattle.zone_bytes.specs.Marks.{Lowered, IsTally, Measures, between, next_of};
 ghost use Rattle.zone_bytes.specs.Stepping.{left_in, IsOnWay};
 ghost use Rattle.zone_bytes.specs.declared.landmark.TheConstants.{GROUP};
 
+use crate::edges::Edges;
 use crate::grouping::{raise_top, renew_tops};
 use crate::landmark::{GROUP, Landmark, Tally, UNKNOWN};
 use crate::measuring::{Measured, greater, measure_up_to, room_between};
+use crate::paging::page_end;
 use raw_region::Part;
 
 /// Which landmark is to be looked at next, of those from one up to another: the one that is likely, or one just beside
@@ -247,27 +250,87 @@ fn stretch_from(part: &Part, at: u32, place: u32, last: bool) -> Measured
     }
 }
 
-/// Lays the landmarks from one on anew, each at the first edge of its page or above it, up to the first that stands
-/// so above a place, whose index is the answer. The first one's page ends at `page_end`.
+/// Which landmark is to be laid next, and where.
+#[derive(Clone, Copy, Drop)]
+pub struct Next {
+    pub index: usize,
+    pub at: u32,
+}
+
+/// A landmark at a place, with what is known of the blocks up to another: from `base` on these are relocatable ones that
+/// lie packed, and below it a walk tells.
+fn packed_mark(part: &Part, at: u32, edge: u32, base: u32) -> Landmark
+    requires sound { (first : ℕ) × (unused : ℕ) × IsSound part.now.bytes first unused }
+    requires begins { Begins at 0 (zone_in part.now.bytes) }
+    requires bare { base ≤ at → IsBare at edge (zone_in part.now.bytes) }
+    ensures at { result.at ≡ at }
+    ensures bound { AtEach (AtMost result.most at edge) 0 (zone_in part.now.bytes) }
+    ensures tally { IsTally result.tally (between at edge 0 (zone_in part.now.bytes)) }
+{
+    if base <= at {
+        return Landmark {
+            at,
+            most: 0,
+            tally: Tally::Open(0),
+        };
+    }
+    measured_mark(part, at, edge)
+}
+
+/// Lays landmarks at edges that were noted: the next one up to the first of these, and one at each but the last, which is
+/// for the one that is next then. From `base` on no walk is needed.
+pub fn lay_edges(
+    marks: &mut [Landmark],
+    tops: &mut [u32],
+    part: &Part,
+    edges: &Edges,
+    base: u32,
+    from: Next,
+) -> Next
+    requires sound { (first : ℕ) × (unused : ℕ) × IsSound part.now.bytes first unused }
+    requires laid { AreLaid from.index from.at (zone_in part.now.bytes) marks.old }
+    requires edges { ByEdges edges.now base (zone_in part.now.bytes) }
+    requires tops { AreTops tops.old marks.old }
+    ensures laid { AreLaid result.index result.at (zone_in part.now.bytes) marks.new }
+    ensures tops { AreTops tops.new marks.new }
+{
+    let last = marks.len().saturating_sub(1);
+    let mut next = from;
+    while next.index < last {
+        let Some(place) = edges.get(next.index - from.index) else {
+            break;
+        };
+        let edge = greater(next.at, place);
+        let mark = packed_mark(part, next.at, edge, base);
+        marks[next.index] = mark;
+        raise_top(tops, next.index, mark.most);
+        next = Next {
+            index: next.index + 1,
+            at: edge,
+        };
+    }
+    next
+}
+
+/// Lays the landmarks from the next one on anew, each at the first edge of its page or above it, up to the first that
+/// stands so above a place, whose index is the answer.
 pub fn lay_marks(
     marks: &mut [Landmark],
     tops: &mut [u32],
     part: &Part,
-    first: usize,
-    page_end: u32,
+    next: Next,
     page: u32,
     hi: u32,
 ) -> usize
     requires sound { (first : ℕ) × (unused : ℕ) × IsSound part.now.bytes first unused }
-    requires first { first ≤ length marks.old }
-    requires marks { AreMarks 4294967295 (zone_in part.now.bytes) marks.old }
+    requires laid { AreLaid next.index next.at (zone_in part.now.bytes) marks.old }
     requires tops { AreTops tops.old marks.old }
     ensures marks { AreMarks 4294967295 (zone_in part.now.bytes) marks.new }
     ensures tops { AreTops tops.new marks.new }
 {
-    let mut at = place_of_mark(marks, first);
-    let mut end = page_end;
-    for index in first..marks.len() {
+    let mut at = next.at;
+    let mut end = page_end(next.index, page);
+    for index in next.index..marks.len() {
         if hi <= at && marks[index].at == at {
             return index;
         }

@@ -27,6 +27,7 @@ pub fn within(to: u32, end: u32) -> u32
 pub fn greater(most: u32, bytes: u32) -> u32
     ensures first { most ≤ result }
     ensures second { bytes ≤ result }
+    ensures one { (result ≡ most) ⊎ (result ≡ bytes) }
 {
     if most < bytes { bytes } else { most }
 }

@@ -1,11 +1,14 @@
 //! The relocatable blocks of a run are raised.
 
-ghost use Rattle.std.specs.Prelude.{◌≡◌, ◌+◌, length};
-ghost use Rattle.block_store.specs.Block.{sizes};
+ghost use Rattle.std.specs.Prelude.{◌≡◌, ◌+◌, ◌++◌, ℕ, List, [], length};
+ghost use Rattle.block_store.specs.Block.{Block, sizes};
+ghost use Rattle.block_store.specs.Run.{movers};
+ghost use Rattle.zone_bytes.specs.Edges.{AreEdges};
 ghost use Rattle.zone_bytes.specs.Settling.{Lay, IsRun, EndsRun, Settled};
 ghost use Rattle.zone_bytes.specs.Raising.{Raise, MayRaise, Raised, MayLift, Lifted};
 ghost use Rattle.zone_bytes.specs.Beside.{KeepsPlace};
 
+use crate::edges::Edges;
 use crate::settling::{PackedRun, pack_until, settle_run};
 use crate::words::write_word;
 use raw_region::Part;
@@ -30,7 +33,7 @@ fn lift_blocks(part: &mut Part, place: u32, top: u32, stop: u32, gap: u32)
 }
 
 /// Packs what is left of a run above blocks of it that were packed, and then raised by `gap`.
-fn settle_above(part: &mut Part, packed: PackedRun, gap: u32) -> PackedRun
+fn settle_above(part: &mut Part, edges: &mut Edges, packed: PackedRun, gap: u32) -> PackedRun
     ghost lay: { Lay }
     requires bytes { part.old.bytes ≡ lay.bytes }
     requires run { IsRun lay (packed.top + gap) (packed.top + gap + sizes lay.run) }
@@ -38,24 +41,27 @@ fn settle_above(part: &mut Part, packed: PackedRun, gap: u32) -> PackedRun
     ensures same { KeepsPlace part.old part.new }
     ensures settled { Settled lay result.lowered part.new.bytes }
     ensures stop { result.stop ≡ packed.top + gap + sizes lay.run }
+    ensures edges { (base : ℕ) (before : List Block) → base + sizes before ≡ packed.top + gap →
+        AreEdges edges.old base before → AreEdges edges.new base (before ++ movers lay.run) }
 {
-    settle_run(part, packed.top + gap)
+    settle_run(part, edges, packed.top + gap)
 }
 
 /// Packs the run at a place, and raises its relocatable blocks by `gap`, which become Free bytes below them. Only the
 /// lowest ones are moved up, those with no more than `gap` Free bytes among them; the others move down to where they are
-/// to lie. Answers where the run ends.
-pub fn raise_run(part: &mut Part, place: u32, gap: u32) -> u32
+/// to lie. Where they will be is noted as edges. Answers where the run ends.
+pub fn raise_run(part: &mut Part, edges: &mut Edges, place: u32, gap: u32) -> u32
     ghost lay: { Lay }
     requires { (part.old.bytes ≡ lay.bytes) × MayLift lay place gap × EndsRun lay.above }
     ensures same { KeepsPlace part.old part.new }
     ensures lifted { Lifted lay gap part.new.bytes }
     ensures stop { result ≡ place + sizes lay.run }
+    ensures edges { AreEdges edges.old (place + gap) [] → AreEdges edges.new (place + gap) (movers lay.run) }
 {
-    let packed = pack_until(part, place, gap, gap);
+    let packed = pack_until(part, edges, place, gap, gap);
     if packed.top <= place {
         return packed.stop;
     }
     lift_blocks(part, place, packed.top, packed.stop, gap);
-    settle_above(part, packed, gap).stop
+    settle_above(part, edges, packed, gap).stop
 }

@@ -1,14 +1,16 @@
 //! The relocatable blocks of a run are moved down.
 
-ghost use Rattle.std.specs.Prelude.{◌≡◌, ◌+◌, ◌-◌, ◌%◌, ◌≤◌, ◌<◌, ◌^◌, length, nat_lt, if◌then◌else◌, true};
+ghost use Rattle.std.specs.Prelude.{◌≡◌, ◌+◌, ◌-◌, ◌%◌, ◌≤◌, ◌<◌, ◌^◌, ◌++◌, ℕ, List, length, nat_lt, if◌then◌else◌, true};
 ghost use Rattle.windows.specs.Writes.{written, piece};
 ghost use Rattle.heap_words.specs.Headers.{tag_number};
 ghost use Rattle.heap_words.specs.Words.{word};
-ghost use Rattle.block_store.specs.Block.{sizes};
+ghost use Rattle.block_store.specs.Block.{Block, sizes};
 ghost use Rattle.block_store.specs.Run.{movers};
-ghost use Rattle.zone_bytes.specs.Settling.{Lay, IsRun, EndsRun, runs_on, PackedUntil, Settled};
+ghost use Rattle.zone_bytes.specs.Edges.{AreEdges};
+ghost use Rattle.zone_bytes.specs.Settling.{Lay, IsRun, EndsRun, runs_on, PackedUntil, Settled, gone_to};
 ghost use Rattle.zone_bytes.specs.Beside.{KeepsPlace};
 
+use crate::edges::Edges;
 use crate::words::{read_header, write_word};
 use heap_words::{Header, Tag};
 use raw_region::Part;
@@ -69,8 +71,14 @@ fn is_enough(place: u32, to: u32, from: u32, enough: u32) -> bool
 
 /// Moves relocatable blocks of the run at a place down, makes their slots lead `gap` above them, and makes one Free
 /// block of what is between them and the rest of the run. It finds the run's end as it goes, and ends before it where
-/// the Free block has `enough` bytes.
-pub(crate) fn pack_until(part: &mut Part, place: u32, gap: u32, enough: u32) -> PackedRun
+/// the Free block has `enough` bytes. Where the blocks will be is noted as edges.
+pub(crate) fn pack_until(
+    part: &mut Part,
+    edges: &mut Edges,
+    place: u32,
+    gap: u32,
+    enough: u32,
+) -> PackedRun
     ghost lay: { Lay }
     requires bytes { part.old.bytes ≡ lay.bytes }
     requires run { IsRun lay place (place + sizes lay.run) }
@@ -78,6 +86,8 @@ pub(crate) fn pack_until(part: &mut Part, place: u32, gap: u32, enough: u32) -> 
     requires gap { gap ≤ length lay.bytes }
     ensures same { KeepsPlace part.old part.new }
     ensures packed { PackedUntil lay place gap enough result.lowered result.top result.stop part.new.bytes }
+    ensures edges { (base : ℕ) (before : List Block) → base + sizes before ≡ place + gap →
+        AreEdges edges.old base before → AreEdges edges.new base (before ++ movers (gone_to lay result.stop)) }
 {
     let end = part.len() as u32;
     let mut from = place;
@@ -93,6 +103,7 @@ pub(crate) fn pack_until(part: &mut Part, place: u32, gap: u32, enough: u32) -> 
         }
         if header.tag == Tag::Relocatable {
             moves += move_block(part, from, to, header.size, header.slot, gap);
+            edges.pass(to + gap);
             to += header.size;
         }
         from += header.size;
@@ -107,8 +118,9 @@ pub(crate) fn pack_until(part: &mut Part, place: u32, gap: u32, enough: u32) -> 
     }
 }
 
-/// Moves the relocatable blocks of the run at a place down, and makes one Free block of the rest.
-pub fn settle_run(part: &mut Part, place: u32) -> PackedRun
+/// Moves the relocatable blocks of the run at a place down, and makes one Free block of the rest. Where they will be is
+/// noted as edges.
+pub fn settle_run(part: &mut Part, edges: &mut Edges, place: u32) -> PackedRun
     ghost lay: { Lay }
     requires bytes { part.old.bytes ≡ lay.bytes }
     requires run { IsRun lay place (place + sizes lay.run) }
@@ -117,6 +129,8 @@ pub fn settle_run(part: &mut Part, place: u32) -> PackedRun
     ensures settled { Settled lay result.lowered part.new.bytes }
     ensures top { result.top ≡ place + sizes (movers lay.run) }
     ensures stop { result.stop ≡ place + sizes lay.run }
+    ensures edges { (base : ℕ) (before : List Block) → base + sizes before ≡ place → AreEdges edges.old base before →
+        AreEdges edges.new base (before ++ movers lay.run) }
 {
-    pack_until(part, place, 0, u32::MAX)
+    pack_until(part, edges, place, 0, u32::MAX)
 }

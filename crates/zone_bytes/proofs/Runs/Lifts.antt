@@ -12,6 +12,8 @@ use Rattle.block_store.proofs.Regroup.Lifted.{apart-low, no-movers}
 use Rattle.zone_bytes.specs.Layout.{head_of, Tiles, IsSlot, names, Leads, Apart, Each}
 use Rattle.zone_bytes.specs.Settling.{Lay, InRun, EndsRun, Lies, HasSlots, IsRun, SameOthers, Packed, cut, UntilAt}
 use Rattle.zone_bytes.specs.Settling.{Settled}
+use Rattle.zone_bytes.specs.Edges.{AreEdges}
+use Rattle.zone_bytes.specs.declared.edges.Edges.{Edges}
 use Rattle.zone_bytes.specs.Raising.{Raise, packed, MayRaise, Raised, lifted, MayLift, Lifted}
 use Rattle.zone_bytes.proofs.Tiles.Tiling.{span-append}
 use Rattle.zone_bytes.proofs.Tiles.Leading.{each-append, each-right, each-map, names-append}
@@ -21,7 +23,7 @@ use Rattle.zone_bytes.proofs.Tiles.Keeping.{run-names, slot-run, span-free, span
 use Rattle.zone_bytes.proofs.Runs.Packed.{run-bounds}
 use Rattle.block_store.proofs.Zone.Spots.{free-some}
 use Rattle.zone_bytes.proofs.Runs.Led.{settled-of}
-use Rattle.zone_bytes.proofs.Runs.Until.{cut-same, cut-movers, cut-free, cut-span, cut-run, whole-packed, whole-top}
+use Rattle.zone_bytes.proofs.Runs.Until.{all-of, cut-same, cut-movers, cut-free, cut-span, cut-run, whole-packed, whole-top}
 use Rattle.zone_bytes.proofs.Runs.Until.{whole-stop}
 
 -- a Free block has no relocatable one, and its bytes
@@ -236,6 +238,20 @@ module _ (lay : Lay) (place gap : ℕ) (h : MayLift lay place gap) (o : EndsRun 
   pub none-stop : top ≤ place → stop ≡ place + sizes lay.run
   none-stop l = whole-stop lay place gap gap moves top stop xs gone rest h.run p
       (elim p.ended [ inl e ↦ e | inr e ↦ let b = e.0 in absurd (omega (arith, b, l)) ])
+
+  pub none-edges : top ≤ place → (edges : Edges) → AreEdges edges (place + gap) (movers gone)
+      → AreEdges edges (place + gap) (movers lay.run)
+  none-edges l edges = subst (λ k. AreEdges edges (place + gap) (movers k))
+      (all-of lay place gap gap moves top stop xs gone rest h.run p
+      (elim p.ended [ inl e ↦ e | inr e ↦ let b = e.0 in absurd (omega (arith, b, l)) ]))
+
+  -- the relocatable blocks of both parts
+  pub both-edges : (edges : Edges)
+      → AreEdges edges (place + gap) (movers gone ++ movers (free (free_sum gone - gap) ++ rest))
+      → AreEdges edges (place + gap) (movers lay.run)
+  both-edges edges = subst (AreEdges edges (place + gap)) (ap (λ l. movers gone ++ l)
+      (filter-append is_mover (free (free_sum gone - gap)) rest
+      ∙ ap (λ l. l ++ movers rest) (movers-free (free_sum gone - gap))) ∙ sym (cut-movers lay gone rest p.split))
 
   module _ (some : place < top) where
     enough : gap ≤ free_sum gone

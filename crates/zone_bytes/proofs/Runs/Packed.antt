@@ -82,7 +82,7 @@ module _ (lay : Lay) (place stop : ℕ) (r : IsRun lay place stop) where
     ]
   ]
 
-  pub start : (gap : ℕ) → Packing lay gap stop place place 0 lay.bytes
+  pub start : (gap : ℕ) → (p : Packing lay gap stop place place 0 lay.bytes) × (p.moved ≡ [])
   start gap =
       let head = head_of lay.resource in
       let t = tiles-split head lay.bytes lay.below (lay.run ++ lay.above) r.lies.tiles in
@@ -90,34 +90,36 @@ module _ (lay : Lay) (place stop : ℕ) (r : IsRun lay place stop) where
       let p = r.bottom in
       let even : place % 16 ≡ 0 = omega (arith, w, p) in
       let z : 0 ≡ place - place = omega arith in
-      let e : 0 + sizes lay.below ≡ place = omega (arith, p) in
-      record {
-        gone = [];
-        moved = [];
-        rest = lay.run;
-        split = refl;
-        those = refl;
-        state = record {
-          low = subst (λ k. Tiles head (take k lay.bytes) (lay.below ++ [])) p (rw append-nil t.0);
-          high = subst (λ k. Tiles head (drop k lay.bytes) (lay.run ++ lay.above)) p t.1;
-          order = refl;
-          free = refl;
-          down = omega arith;
-          up = r.top;
-          whole = (even, even);
-          kept = refl;
-          in_run = r.in_run;
-          lead_low = leads-left lay.bytes 0 lay.below (lay.run ++ lay.above) r.lies.leads;
-          lead_moved = tt;
-          lead_high = subst (λ k. Leads k (lay.run ++ lay.above) lay.bytes) e
-              (leads-right lay.bytes 0 lay.below (lay.run ++ lay.above) r.lies.leads);
-          named = ap (λ q. names q ++ names (lay.run ++ lay.above)) (append-nil lay.below)
-              ∙ sym (names-append lay.below (lay.run ++ lay.above));
-          count = ap (λ k. 0 + falling_from k lay.run) (sym z)
-              ∙ (let f : 0 + falling_from 0 lay.run ≡ falling_from 0 lay.run = omega arith in f);
-          others = λ s i a. refl;
-        };
-      }
+      let e : 0 + sizes lay.below ≡ place = omega (arith, p) in (
+        record {
+          gone = [];
+          moved = [];
+          rest = lay.run;
+          split = refl;
+          those = refl;
+          state = record {
+            low = subst (λ k. Tiles head (take k lay.bytes) (lay.below ++ [])) p (rw append-nil t.0);
+            high = subst (λ k. Tiles head (drop k lay.bytes) (lay.run ++ lay.above)) p t.1;
+            order = refl;
+            free = refl;
+            down = omega arith;
+            up = r.top;
+            whole = (even, even);
+            kept = refl;
+            in_run = r.in_run;
+            lead_low = leads-left lay.bytes 0 lay.below (lay.run ++ lay.above) r.lies.leads;
+            lead_moved = tt;
+            lead_high = subst (λ k. Leads k (lay.run ++ lay.above) lay.bytes) e
+                (leads-right lay.bytes 0 lay.below (lay.run ++ lay.above) r.lies.leads);
+            named = ap (λ q. names q ++ names (lay.run ++ lay.above)) (append-nil lay.below)
+                ∙ sym (names-append lay.below (lay.run ++ lay.above));
+            count = ap (λ k. 0 + falling_from k lay.run) (sym z)
+                ∙ (let f : 0 + falling_from 0 lay.run ≡ falling_from 0 lay.run = omega arith in f);
+            others = λ s i a. refl;
+          };
+        },
+        refl,
+      )
 
   -- all slots are clear of a write inside the run
   pub all-clear : (at n : ℕ) → place ≤ at → at + n ≤ stop

@@ -66,13 +66,15 @@ pub record Next (xs : List ℕ) (from : ℕ) : Type 0 where
   pub big : 16 ≤ word_at from xs
 
 -- the next block is relocatable
-pub record NextMover (lay : Lay) (gap stop from to moves : ℕ) (xs : List ℕ) (n slot : ℕ) : Type 0 where
+pub record NextMover (lay : Lay) (gap stop from to moves : ℕ) (xs : List ℕ) (moved : List Block) (n slot : ℕ) : Type 0 where
   pub inside : (from + n ≤ stop) × (stop ≤ length xs)
   pub even : slot % 4 ≡ 0
   pub slot_inside : slot + 4 ≤ length xs
   pub leads : piece slot 4 xs ≡ word from
   pub packing : (m : ℕ) → m ≡ cond (nat_lt 0 (from - to)) 1 0
       → Packing lay gap stop (from + n) (to + n) (moves + m) (written slot (word (to + gap)) (written to (piece from n xs) xs))
+  pub block : Block
+  pub more : (m : ℕ) (e : m ≡ cond (nat_lt 0 (from - to)) 1 0) → (packing m e).moved ≡ moved ++ block ∷ []
 
 module _ (lay : Lay) (place stop : ℕ) (r : IsRun lay place stop) (gap from to moves : ℕ) (xs : List ℕ) where
   pub stop-inside : length xs ≡ length lay.bytes → (stop ≤ length xs) × (length xs ≤ 134217728)
@@ -138,21 +140,24 @@ module _ (lay : Lay) (place stop : ℕ) (r : IsRun lay place stop) (gap from to 
   beyond p n t f e w k v b = beyond-at p.moved p.rest p.state n t f e w k v b
 
   next-free-at : (gone moved rest : List Block) → gone ++ rest ≡ lay.run → moved ≡ movers gone
-      → PackingAt lay gap stop from to moves xs moved rest → from < stop → (n t : ℕ) → n + t ≡ word_at from xs → n % 16 ≡ 0 → t < 3 → Packing lay gap stop (from + n) to moves xs
+      → PackingAt lay gap stop from to moves xs moved rest → from < stop → (n t : ℕ) → n + t ≡ word_at from xs
+      → n % 16 ≡ 0 → t < 3 → (p : Packing lay gap stop (from + n) to moves xs) × (p.moved ≡ moved)
   next-free-at gone moved [] s o q l n t e w k = let u = q.up in absurd (omega (arith, u, l))
   next-free-at gone moved (Free m ∷ rest) s o q l n t e w k =
       let i = stop-inside q.kept in
       let f = first-reads lay.resource xs from i.1 (Free m) q.high.0 in
-      let same = same_parts n t m 0 (e ∙ f) w q.high.0.whole (omega (arith, k)) (omega arith) in
-      record {
-        gone = gone ++ Free m ∷ [];
-        moved = moved;
-        rest = rest;
-        split = append_assoc gone (Free m ∷ []) rest ∙ s;
-        those = o ∙ sym (append-nil (movers gone)) ∙ sym (filter-append is_mover gone (Free m ∷ []));
-        state = subst (λ j. PackingAt lay gap stop (from + j) to moves xs moved rest)
-            (sym same.0) (step-free lay place stop r gap from to moves xs moved m rest q);
-      }
+      let same = same_parts n t m 0 (e ∙ f) w q.high.0.whole (omega (arith, k)) (omega arith) in (
+        record {
+          gone = gone ++ Free m ∷ [];
+          moved = moved;
+          rest = rest;
+          split = append_assoc gone (Free m ∷ []) rest ∙ s;
+          those = o ∙ sym (append-nil (movers gone)) ∙ sym (filter-append is_mover gone (Free m ∷ []));
+          state = subst (λ j. PackingAt lay gap stop (from + j) to moves xs moved rest)
+              (sym same.0) (step-free lay place stop r gap from to moves xs moved m rest q);
+        },
+        refl,
+      )
   next-free-at gone moved (Fixed id content ∷ rest) s o q l n t e w k = absurd (false≢true q.in_run.0)
   next-free-at gone moved (Masters ∷ rest) s o q l n t e w k = absurd (false≢true q.in_run.0)
   next-free-at gone moved (Relocatable slot flags content ∷ rest) s o q l n t e w k =
@@ -162,13 +167,13 @@ module _ (lay : Lay) (place stop : ℕ) (r : IsRun lay place stop) (gap from to 
       (omega arith) in
       absurd (let j = same.1 in omega (arith, j, k))
 
-  pub next-free : Packing lay gap stop from to moves xs → from < stop → (n t : ℕ) → n + t ≡ word_at from xs → n % 16 ≡ 0
-      → t < 3 → Packing lay gap stop (from + n) to moves xs
+  pub next-free : (p : Packing lay gap stop from to moves xs) → from < stop → (n t : ℕ) → n + t ≡ word_at from xs
+      → n % 16 ≡ 0 → t < 3 → (q : Packing lay gap stop (from + n) to moves xs) × (q.moved ≡ p.moved)
   next-free p l n t e w k = next-free-at p.gone p.moved p.rest p.split p.those p.state l n t e w k
 
   next-mover-at : (gone moved rest : List Block) → gone ++ rest ≡ lay.run → moved ≡ movers gone
       → PackingAt lay gap stop from to moves xs moved rest → from < stop → (n t s : ℕ) → n + t ≡ word_at from xs → n % 16 ≡ 0 → t ≡ 3 → s ≡ word_at (from + 8) xs
-      → NextMover lay gap stop from to moves xs n s
+      → NextMover lay gap stop from to moves xs moved n s
   next-mover-at gone moved [] j o q l n t s e w k v = let u = q.up in absurd (omega (arith, u, l))
   next-mover-at gone moved (Free m ∷ rest) j o q l n t s e w k v =
       let i = stop-inside q.kept in
@@ -188,7 +193,7 @@ module _ (lay : Lay) (place stop : ℕ) (r : IsRun lay place stop) (gap from to 
       let ls = length-slid lay place stop r gap from to moves xs moved slot flags content rest q in
       let mine = v ∙ slot-reads lay.resource xs from i.1 slot flags content (omega (arith, sl, ls, i)) q.high.0 in
       let u = q.up in
-      let base : NextMover lay gap stop from to moves xs (size b) slot = record {
+      let base : NextMover lay gap stop from to moves xs moved (size b) slot = record {
         inside = (omega (arith, u), i.0);
         even = slot-even (head_of lay.resource) lay.bytes slot blocks r.lies.tiles a;
         slot_inside = omega (arith, sl, ls);
@@ -204,12 +209,14 @@ module _ (lay : Lay) (place stop : ℕ) (r : IsRun lay place stop) (gap from to 
               (written slot (word (to + gap)) (written to (piece from (size b) xs) xs)) (moved ++ b ∷ []) rest) (sym h)
               (step-move lay place stop r gap from to moves xs moved slot flags content rest q);
         };
+        block = b;
+        more = λ m h. refl;
       } in
-      subst (λ j. NextMover lay gap stop from to moves xs j s) (sym same.0)
-      (subst (λ j. NextMover lay gap stop from to moves xs (size b) j) (sym mine) base)
+      subst (λ j. NextMover lay gap stop from to moves xs moved j s) (sym same.0)
+      (subst (λ j. NextMover lay gap stop from to moves xs moved (size b) j) (sym mine) base)
 
-  pub next-mover : Packing lay gap stop from to moves xs → from < stop → (n t s : ℕ) → n + t ≡ word_at from xs → n % 16 ≡ 0
-      → t ≡ 3 → s ≡ word_at (from + 8) xs → NextMover lay gap stop from to moves xs n s
+  pub next-mover : (p : Packing lay gap stop from to moves xs) → from < stop → (n t s : ℕ) → n + t ≡ word_at from xs
+      → n % 16 ≡ 0 → t ≡ 3 → s ≡ word_at (from + 8) xs → NextMover lay gap stop from to moves xs p.moved n s
   next-mover p l n t s e w k v = next-mover-at p.gone p.moved p.rest p.split p.those p.state l n t s e w k v
 
   -- the slots after the run's end

@@ -167,7 +167,7 @@ module _ (lay : Lay) (gone rest : List Block) (split : gone ++ rest ≡ lay.run)
         some-rest : Each IsSome rest
         some-rest = each-some (head_of lay.resource) (drop from xs) rest lay.above q.high
 
-        gone-is : gone ≡ gone_to lay from
+        pub gone-is : gone ≡ gone_to lay from
         gone-is = sym (first-gone gone rest some-rest)
             ∙ (let e = bytes-gone in ap (λ n. first_in n (gone ++ rest)) e)
             ∙ ap (first_in (from - sizes lay.below)) split
@@ -210,7 +210,7 @@ module _ (lay : Lay) (place gap enough moves top stop : ℕ) (xs : List ℕ) (go
   ]
 
   module _ (n : rest ≡ []) where
-    all-of : gone ≡ lay.run
+    pub all-of : gone ≡ lay.run
     all-of = sym (append-nil gone) ∙ ap (λ l. gone ++ l) (sym n) ∙ p.split
 
     pub whole-packed : Packed lay gap moves xs

@@ -1,28 +1,15 @@
-use Rattle.std.proofs.Common.{◌+◌, length, length-set, take, drop, refl, sym, ap, ◌∙◌, subst, arith}
-use Rattle.std.proofs.lemmas.List.{drop_more}
+use Rattle.std.proofs.Common.{◌+◌, length, length-set, refl, sym, ◌∙◌, arith}
 use Rattle.zone_bytes.specs.Decode.{zone_in}
-use Rattle.zone_bytes.specs.Marks.{AreMarks, Begins, between, next_of, no_mark}
+use Rattle.zone_bytes.specs.Marks.{between, no_mark}
 use Rattle.zone_bytes.specs.Stepping.{left_in}
-use Rattle.zone_bytes.specs.declared.landmark.Landmark.{Landmark}
-use Rattle.zone_bytes.proofs.Marks.Lowering.{begins-way, begins-further, bound-here, tally-here, marks-parted, marks-whole, marks-next}
-use Rattle.zone_bytes.proofs.Marks.Lowering.{marks-left, mark-first, drop-all, equal-yes, equal-no}
+use Rattle.zone_bytes.proofs.Marks.Lowering.{begins-way, begins-further, bound-here, tally-here, marks-whole, marks-next}
+use Rattle.zone_bytes.proofs.Marks.Lowering.{marks-left, mark-first, equal-yes, equal-no}
 use Rattle.zone_bytes.proofs.marking.lay_marks.Goals as goal
 
 pub loop-index-init : goal.loop-index-init
 loop-index-init c =
-    let zone = zone_in c.args.part.now.bytes in
-    let marks = c.args.marks.now in
-    let e = c.place_of_mark-at.ensures in
-    let d : Landmark = no_mark in
-    let p = marks-parted 4294967295 zone marks c.args.first c.requires.marks in (
-      refl,
-      c.requires.tops,
-      subst (λ n. AreMarks n zone (take c.args.first marks)) (sym e) p.0,
-      p.1,
-      λ l. subst (λ n. Begins n 0 zone) (sym (e ∙ mark-first 4294967295 marks c.args.first d l))
-          (subst (AreMarks 4294967295 zone) (drop_more marks c.args.first d l) p.1).0,
-      λ k. e ∙ ap (λ n. next_of 4294967295 (drop n marks)) k ∙ ap (next_of 4294967295) (drop-all marks),
-    )
+    let l = c.requires.laid in
+    (refl, c.requires.tops, l.below, l.above, l.begins, l.last)
 
 pub returns-then-marks-index-clause-marks : goal.returns-then-marks-index-clause-marks
 returns-then-marks-index-clause-marks c =

@@ -1,6 +1,8 @@
-use Rattle.std.proofs.Common.{◌<◌, refl, arith}
+use Rattle.std.proofs.Common.{◌+◌, ◌<◌, [], refl, arith}
+use Rattle.block_store.specs.Run.{movers}
 use Rattle.zone_bytes.specs.Settling.{gone_to, rest_from}
-use Rattle.zone_bytes.proofs.Runs.Lifts.{gap-fits, none-lifted, none-stop, raise-part, upper-run, both-lifted, both-stop}
+use Rattle.zone_bytes.proofs.Runs.Lifts.{gap-fits, none-lifted, none-stop, none-edges, raise-part, upper-run}
+use Rattle.zone_bytes.proofs.Runs.Lifts.{both-lifted, both-stop, both-edges}
 use Rattle.zone_bytes.proofs.raising.raise_run.Given.{Over}
 use Rattle.zone_bytes.proofs.raising.raise_run.Goals.{Else-packed-place}
 use Rattle.zone_bytes.proofs.raising.raise_run.Goals as goal
@@ -66,3 +68,22 @@ returns-clause-stop g c =
     c.pack_until-packed.ensures.packed (some g (goal.at.returns-clause-stop g c).Else-packed-place)
     c.lift_blocks.new.part.bytes c.lift_blocks.ensures.raised c.settle_above.result.lowered
     c.settle_above.new.part.bytes c.settle_above.ensures.settled c.settle_above.result.stop c.settle_above.ensures.stop
+
+pub returns-then-packed-place-clause-edges : goal.returns-then-packed-place-clause-edges
+returns-then-packed-place-clause-edges g c = λ a.
+    let p = c.pack_until-packed.result in
+    none-edges g.lay c.args.place c.args.gap c.requires.1 c.requires.2 p.lowered p.top p.stop
+    c.pack_until-packed.new.part.bytes (gone_to g.lay p.stop) (rest_from g.lay p.stop) c.pack_until-packed.ensures.packed
+    c.if-packed-place.true c.pack_until-packed.new.edges
+    (c.pack_until-packed.ensures.edges (c.args.place + c.args.gap) [] (omega arith) a)
+
+pub returns-clause-edges : goal.returns-clause-edges
+returns-clause-edges g c = λ a.
+    let p = c.pack_until-packed.result in
+    let gone = gone_to g.lay p.stop in
+    let t = c.pack_until-packed.ensures.packed.top_at in
+    both-edges g.lay c.args.place c.args.gap c.requires.1 c.requires.2 p.lowered p.top p.stop
+    c.pack_until-packed.new.part.bytes gone (rest_from g.lay p.stop) c.pack_until-packed.ensures.packed
+    c.settle_above.new.edges
+    (c.settle_above.ensures.edges (c.args.place + c.args.gap) (movers gone) (omega (arith, t))
+    (c.pack_until-packed.ensures.edges (c.args.place + c.args.gap) [] (omega arith) a))

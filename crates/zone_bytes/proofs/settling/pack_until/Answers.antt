@@ -1,14 +1,19 @@
-use Rattle.std.proofs.Common.{◌≡◌, true, false, ◌+◌, ◌-◌, ◌<◌, ◌≤◌, ◌⊎◌, inl, inr, [], length, refl, sym, ◌∙◌, subst, arith}
+use Rattle.std.proofs.Common.{◌≡◌, ℕ, true, false, ◌+◌, ◌-◌, ◌<◌, ◌≤◌, ◌⊎◌, inl, inr, List, [], ◌∷◌, ◌++◌, length, refl, sym}
+use Rattle.std.proofs.Common.{ap, ◌∙◌, subst, arith, append_assoc}
+use Rattle.std.proofs.lemmas.List.{append-nil}
 use denote.Enum.Bare.{sameb}
 use Rattle.heap_words.specs.contracts.header.Tag.{the_type}
 use Rattle.heap_words.specs.declared.header.Tag.TheVariants.{Relocatable}
 use Rattle.heap_words.specs.Headers.{tag_number}
-use Rattle.block_store.specs.Block.{sizes}
-use Rattle.zone_bytes.specs.Settling.{Packing, PackedUntil}
-use Rattle.zone_bytes.proofs.Runs.Packed.{start}
+use Rattle.block_store.specs.Block.{Block, sizes}
+use Rattle.block_store.specs.Run.{movers}
+use Rattle.zone_bytes.specs.Edges.{AreEdges}
+use Rattle.zone_bytes.specs.Settling.{Packing, PackedUntil, gone_to}
+use Rattle.zone_bytes.proofs.Runs.Packed.{start, packed-bounds}
 use Rattle.zone_bytes.proofs.Runs.Settled.{Next, NextMover, stop-inside, next, within, beyond, next-free, next-mover}
 use Rattle.zone_bytes.proofs.Runs.Settled.{moves-bound}
-use Rattle.zone_bytes.proofs.Runs.Until.{until-none, until-free, none-left}
+use Rattle.zone_bytes.proofs.Runs.Until.{until-none, until-free, none-left, gone-is}
+use Rattle.zone_bytes.proofs.Tiles.Tiling.{span-append}
 use Rattle.zone_bytes.proofs.Tiles.Tags.{tag-true, tag-false, tag-small}
 use Rattle.zone_bytes.proofs.settling.pack_until.Given.{Over}
 use Rattle.zone_bytes.proofs.settling.pack_until.Goals.{In-loop-from, After-eq, Left-loop-from}
@@ -18,13 +23,21 @@ use Rattle.zone_bytes.proofs.settling.pack_until.Goals.{then-loop-from-test+then
 use Rattle.zone_bytes.proofs.settling.pack_until.Goals.{then-loop-from-test+else-is_enough+then-not-is_in_run}
 
 pub loop-from-init : goal.loop-from-init
-loop-from-init g c = (
-  subst (λ xs. Packing g.lay c.args.gap (c.args.place + sizes g.lay.run) c.args.place c.args.place 0 xs) (sym c.requires.0)
-      (start g.lay c.args.place (c.args.place + sizes g.lay.run) c.requires.1.0 c.args.gap),
-  refl,
-  refl,
-  refl,
-)
+loop-from-init g c =
+    let begun : (xs : List ℕ) → xs ≡ g.lay.bytes
+    → (p : Packing g.lay c.args.gap (c.args.place + sizes g.lay.run) c.args.place c.args.place 0 xs)
+    × (p.moved ≡ []) = λ xs e. subst
+    (λ ys. (p : Packing g.lay c.args.gap (c.args.place + sizes g.lay.run) c.args.place c.args.place 0 ys)
+    × (p.moved ≡ [])) (sym e)
+    (start g.lay c.args.place (c.args.place + sizes g.lay.run) c.requires.1.0 c.args.gap) in
+    let p = begun c.args.part.now.bytes c.requires.0 in (
+      p.0,
+      refl,
+      refl,
+      refl,
+      λ base before e a. subst (AreEdges c.args.edges.now base) (sym (append-nil before)
+          ∙ ap (λ k. before ++ k) (sym p.1)) a,
+    )
 
 -- a block is next
 there : (g : Over) (c : In-loop-from g) → Next c.loop-from.part.bytes c.loop-from.from
@@ -75,7 +88,8 @@ inside g c =
 -- and a relocatable one
 mover : (g : Over) (c : After-eq g) → true ≡ sameb the_type c.read_header-header.result.tag Relocatable
     → NextMover g.lay c.args.gap (c.args.place + sizes g.lay.run) c.loop-from.from c.loop-from.to c.loop-from.moves
-    c.loop-from.part.bytes c.read_header-header.result.size c.read_header-header.result.slot
+    c.loop-from.part.bytes c.loop-from.invariant.0.moved c.read_header-header.result.size
+    c.read_header-header.result.slot
 mover g c t =
     let s = c.loop-from in
     let h = c.read_header-header.result in
@@ -85,8 +99,9 @@ mover g c t =
 
 -- or a Free one
 free : (g : Over) (c : After-eq g) → false ≡ sameb the_type c.read_header-header.result.tag Relocatable
-    → Packing g.lay c.args.gap (c.args.place + sizes g.lay.run) (c.loop-from.from + c.read_header-header.result.size)
-    c.loop-from.to c.loop-from.moves c.loop-from.part.bytes
+    → (q : Packing g.lay c.args.gap (c.args.place + sizes g.lay.run)
+    (c.loop-from.from + c.read_header-header.result.size) c.loop-from.to c.loop-from.moves c.loop-from.part.bytes)
+    × (q.moved ≡ c.loop-from.invariant.0.moved)
 free g c t =
     let s = c.loop-from in
     let h = c.read_header-header.result in
@@ -120,10 +135,12 @@ overflow_add-moves g c =
 
 pub overflow_add-to : goal.overflow_add-to
 overflow_add-to g c =
-    let i = (mover g (goal.at.overflow_add-to g c).After-eq c.if-eq.ensures).inside in
     let d = c.loop-from.invariant.0.state.down in
+    let l = inside g (goal.at.overflow_add-to g c).After-eq in
     let k = bounds g (goal.at.overflow_add-to g c).In-loop-from in
-    omega (arith, i, d, k)
+    let b = c.requires.1.1.1 in
+    let s = c.requires.1.0.small in
+    omega (arith, d, l, k, b, s)
 
 pub overflow_add-from : goal.overflow_add-from
 overflow_add-from g c =
@@ -133,9 +150,23 @@ overflow_add-from g c =
           let i = (mover g (goal.at.overflow_add-from g c).After-eq w.if-eq.ensures).inside in
           omega (arith, i, k)
       | else-eq w ↦
-          let u = (free g (goal.at.overflow_add-from g c).After-eq w.if-eq.ensures).state.up in
+          let u = (free g (goal.at.overflow_add-from g c).After-eq w.if-eq.ensures).0.state.up in
           omega (arith, u, k)
     ]
+
+-- where a block comes to lie, with the blocks that were there before
+lies : (g : Over) (c : In-loop-from g) (base : ℕ) (before : List Block) → base + sizes before ≡ c.args.place + c.args.gap
+    → base + sizes (before ++ c.loop-from.invariant.0.moved) ≡ c.loop-from.to + c.args.gap
+lies g c base before e =
+    let s = c.loop-from in
+    let p = s.invariant.0 in
+    let b = packed-bounds g.lay c.args.place (c.args.place + sizes g.lay.run) c.requires.1.0 c.args.gap s.from s.to s.moves
+    s.part.bytes p.moved p.rest p.state in
+    let z = b.2 in
+    let m = span-append g.lay.below p.moved in
+    let n = span-append before p.moved in
+    let w = c.requires.1.0.bottom in
+    omega (arith, e, z, m, n, w)
 
 pub loop-from-preserved : goal.loop-from-preserved
 loop-from-preserved g c =
@@ -146,12 +177,32 @@ loop-from-preserved g c =
       | then-eq w ↦
           let m = mover g (goal.at.loop-from-preserved g c).After-eq w.if-eq.ensures in
           let b = w.move_block-moves.ensures in
-          let p = subst (λ k. Packing g.lay c.args.gap (c.args.place + sizes g.lay.run) (s.from + h.size) (s.to + h.size)
-          (s.moves + w.move_block-moves.result) k) (sym b.bytes) (m.packing w.move_block-moves.result b.moves) in
-          rw (w.part-is, w.to-is, w.moves-is) (p, b.same.0 ∙ v.1, b.same.1 ∙ v.2, b.same.2 ∙ v.3)
+          let k = m.more w.move_block-moves.result b.moves in
+          let p : (p : Packing g.lay c.args.gap (c.args.place + sizes g.lay.run) (s.from + h.size) (s.to + h.size)
+          (s.moves + w.move_block-moves.result) w.move_block-moves.new.part.bytes)
+          × (p.moved ≡ v.0.moved ++ m.block ∷ []) = subst
+          (λ k. (p : Packing g.lay c.args.gap (c.args.place + sizes g.lay.run) (s.from + h.size) (s.to + h.size)
+          (s.moves + w.move_block-moves.result) k) × (p.moved ≡ v.0.moved ++ m.block ∷ [])) (sym b.bytes)
+          (m.packing w.move_block-moves.result b.moves, k) in
+          rw (w.part-is, w.to-is, w.moves-is, w.edges-is) (
+            p.0,
+            b.same.0 ∙ v.1,
+            b.same.1 ∙ v.2,
+            b.same.2 ∙ v.3,
+            λ base before e a. subst (AreEdges w.pass.new.self base) (append_assoc before v.0.moved (m.block ∷ [])
+                ∙ ap (λ l. before ++ l) (sym p.1)) (w.pass.ensures base (before ++ v.0.moved) m.block
+                (lies g (goal.at.loop-from-preserved g c).In-loop-from base before e) (v.4 base before e a)),
+          )
       | else-eq w ↦
           let p = free g (goal.at.loop-from-preserved g c).After-eq w.if-eq.ensures in
-          rw (w.part-is, w.to-is, w.moves-is) (p, v.1, v.2, v.3)
+          rw (w.part-is, w.to-is, w.moves-is, w.edges-is) (
+            p.0,
+            v.1,
+            v.2,
+            v.3,
+            λ base before e a. subst
+                (λ l. AreEdges s.edges base (before ++ l)) (sym p.1) (v.4 base before e a),
+          )
     ]
 
 pub loop-from-smaller : goal.loop-from-smaller
@@ -187,6 +238,17 @@ ended g c =
           inl (nothing (beyond g.lay c.args.place stop c.requires.1.0 c.args.gap s.from s.to s.moves s.part.bytes p h.size
           (tag_number h.tag) h.flags e.first e.size (tag-small h.tag) e.flags w.if-not-is_in_run.ensures))
     ]
+
+-- the edges are those of the blocks that were packed
+noted : (g : Over) (c : Left-loop-from g) (base : ℕ) (before : List Block)
+    → base + sizes before ≡ c.args.place + c.args.gap → AreEdges c.args.edges.now base before
+    → AreEdges c.loop-from.edges base (before ++ movers (gone_to g.lay c.loop-from.from))
+noted g c base before e a =
+    let s = c.loop-from in
+    let p = s.invariant.0 in
+    subst (λ l. AreEdges s.edges base (before ++ l)) (p.those ∙ ap movers (gone-is g.lay p.gone p.rest p.split c.args.place
+    (c.args.place + sizes g.lay.run) c.requires.1.0 c.args.gap s.from s.to s.moves s.part.bytes p.moved p.those p.state
+    c.args.enough (ended g c))) (s.invariant.4 base before e a)
 
 pub write_word-requires : goal.write_word-requires
 write_word-requires g c =
@@ -225,3 +287,16 @@ move_block-moves-requires-clause-fits g c =
     let b = c.requires.1.1.1 in
     let s = c.requires.1.0.small in
     omega (arith, d, l, k, b, s)
+
+pub returns-then-to-from-clause-edges : goal.returns-then-to-from-clause-edges
+returns-then-to-from-clause-edges g c = noted g (goal.at.returns-then-to-from-clause-edges g c).Left-loop-from
+
+pub returns-else-to-from-clause-edges : goal.returns-else-to-from-clause-edges
+returns-else-to-from-clause-edges g c = noted g (goal.at.returns-else-to-from-clause-edges g c).Left-loop-from
+
+pub overflow_add-to-then-eq : goal.overflow_add-to-then-eq
+overflow_add-to-then-eq g c =
+    let i = (mover g (goal.at.overflow_add-to-then-eq g c).After-eq c.if-eq.ensures).inside in
+    let d = c.loop-from.invariant.0.state.down in
+    let k = bounds g (goal.at.overflow_add-to-then-eq g c).In-loop-from in
+    omega (arith, i, d, k)

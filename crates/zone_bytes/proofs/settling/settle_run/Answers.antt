@@ -1,8 +1,10 @@
-use Rattle.std.proofs.Common.{◌≡◌, ◌+◌, [], arith}
+use Rattle.std.proofs.Common.{◌≡◌, ◌+◌, ◌++◌, [], subst, arith}
 use Rattle.block_store.specs.Block.{sizes}
+use Rattle.block_store.specs.Run.{movers}
+use Rattle.zone_bytes.specs.Edges.{AreEdges}
 use Rattle.zone_bytes.specs.Settling.{rest_from}
 use Rattle.zone_bytes.proofs.Runs.Led.{settled-led}
-use Rattle.zone_bytes.proofs.Runs.Until.{all-gone, whole-packed, whole-top, whole-stop}
+use Rattle.zone_bytes.proofs.Runs.Until.{all-gone, all-of, whole-packed, whole-top, whole-stop}
 use Rattle.zone_bytes.proofs.settling.settle_run.Goals.{After-pack_until}
 use Rattle.zone_bytes.proofs.settling.settle_run.Given.{Over}
 use Rattle.zone_bytes.proofs.settling.settle_run.Goals as goal
@@ -26,3 +28,10 @@ returns-clause-top g c = whole-top g.lay c.args.place 0 4294967295 _ _ _ _ _ _ c
 pub returns-clause-stop : goal.returns-clause-stop
 returns-clause-stop g c = whole-stop g.lay c.args.place 0 4294967295 _ _ _ _ _ _ c.requires.1.0 c.pack_until.ensures.packed
     (nothing-left g (goal.at.returns-clause-stop g c).After-pack_until)
+
+pub returns-clause-edges : goal.returns-clause-edges
+returns-clause-edges g c = λ base before e a.
+    let u = all-of g.lay c.args.place 0 4294967295 _ _ _ _ _ _ c.requires.1.0 c.pack_until.ensures.packed
+    (nothing-left g (goal.at.returns-clause-edges g c).After-pack_until) in
+    subst (λ l. AreEdges c.pack_until.new.edges base (before ++ movers l)) u
+    (c.pack_until.ensures.edges base before (omega (arith, e)) a)

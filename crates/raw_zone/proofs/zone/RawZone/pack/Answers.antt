@@ -1,9 +1,10 @@
-use Rattle.std.proofs.Common.{◌≡◌, ◌∙◌, ◌+◌, Some, ap, refl, sym, subst, arith}
+use Rattle.std.proofs.Common.{◌≡◌, ◌∙◌, ◌+◌, Some, [], ap, refl, sym, subst, arith}
 use Rattle.std.specs.Option.{IfSome, IsSome}
 use Rattle.block_store.specs.Block.{sizes, tidy}
 use Rattle.block_store.specs.Run.{RunSpot, run_at, movers, settle, with_run}
 use Rattle.block_store.specs.Rest.{IsRest, falling}
 use Rattle.zone_bytes.specs.Decode.{zone_in}
+use Rattle.zone_bytes.specs.Edges.{AreEdges}
 use Rattle.zone_bytes.specs.Table.{slot_in}
 use Rattle.zone_bytes.specs.Beside.{rest_in}
 use Rattle.zone_bytes.specs.Placing.{lay_at}
@@ -11,6 +12,7 @@ use Rattle.zone_bytes.proofs.Laws.Lawful.{rest-made, kept-made}
 use Rattle.zone_bytes.proofs.Runs.RunsAt.{a-run, lay-is, lay-bytes, may-end, may-settle}
 use Rattle.raw_zone.specs.Parted.{zone_of, rest_of}
 use Rattle.zone_bytes.proofs.Runs.Changed.{ChangedRun, if-one, settled-run, replaced-run}
+use Rattle.zone_bytes.proofs.Runs.Edged.{settled-edges}
 use Rattle.zone_bytes.proofs.Marks.Owed.{with-marks}
 use Rattle.raw_zone.proofs.zone.RawZone.pack.Goals as goal
 use Rattle.raw_zone.proofs.zone.RawZone.pack.Goals.{After-self, After-settle_run-packed}
@@ -55,14 +57,14 @@ done c =
       c.settle_run-packed.ensures.top ∙ ap (λ z. c.args.run + sizes (movers z.run)) l,
     )
 
-pub forget-requires-clause-sound : goal.forget-requires-clause-sound
-forget-requires-clause-sound c =
-    let d = done (goal.at.forget-requires-clause-sound c).After-settle_run-packed in
+pub note_packed-requires-clause-sound : goal.note_packed-requires-clause-sound
+note_packed-requires-clause-sound c =
+    let d = done (goal.at.note_packed-requires-clause-sound c).After-settle_run-packed in
     (c.self.inside.first, c.self.inside.unused, d.2.made.sound)
 
-pub forget-requires-clause-marks : goal.forget-requires-clause-marks
-forget-requires-clause-marks c =
-    let d = done (goal.at.forget-requires-clause-marks c).After-settle_run-packed in (
+pub note_packed-requires-clause-marks : goal.note_packed-requires-clause-marks
+note_packed-requires-clause-marks c =
+    let d = done (goal.at.note_packed-requires-clause-marks c).After-settle_run-packed in (
       zone_in c.self.inside.part.bytes,
       replaced-run c.args.run c.settle_run-packed.result.stop c.self.invariant.sound.tidied d.1 d.4 d.2,
       c.self.invariant.marked,
@@ -77,7 +79,7 @@ invariant_of-self c =
     let p = d.2.purgeable in
     let b = c.self.invariant.bound in
     with-marks _ _ _ _ _ _ (kept-made _ _ _ _ _ _ d.2.made (c.self.invariant.free_is ∙ sym d.2.free))
-    c.forget.ensures (omega (arith, p, b))
+    c.note_packed.ensures (omega (arith, p, b))
 
 pub returns-clause-zone : goal.returns-clause-zone
 returns-clause-zone c =
@@ -119,3 +121,12 @@ returns-clause-top c =
     (λ r. c.settle_run-packed.result.top ≡ c.args.run + sizes (movers r.run))) c.self.view_is
     (if-one (run_at c.args.run (zone_in c.self.inside.part.bytes))
     (λ r. c.settle_run-packed.result.top ≡ c.args.run + sizes (movers r.run)) d.0 d.1 d.5)
+
+pub note_packed-requires-clause-edges : goal.note_packed-requires-clause-edges
+note_packed-requires-clause-edges c =
+    let d = done (goal.at.note_packed-requires-clause-edges c).After-settle_run-packed in
+    let xs = c.self.inside.part.bytes in
+    let l = lay-is xs c.self.inside.first c.self.inside.unused c.self.invariant.sound c.args.run d.0 d.1 in
+    settled-edges c.args.run c.settle_run-packed.new.edges d.1 d.2 (subst
+    (λ z. AreEdges c.settle_run-packed.new.edges c.args.run (movers z.run)) l
+    (c.settle_run-packed.ensures.edges c.args.run [] (omega arith) (c.await_edges.ensures c.args.run)))

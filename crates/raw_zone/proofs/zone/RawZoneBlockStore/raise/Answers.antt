@@ -1,16 +1,19 @@
 use Rattle.std.proofs.Common.{◌≡◌, ◌∙◌, ◌+◌, IsTrue, Some, ap, sym, subst, arith}
 use Rattle.std.specs.Option.{IfSome, IsSomeAnd}
 use Rattle.block_store.specs.Block.{Free, sizes, tidy}
-use Rattle.block_store.specs.Run.{RunSpot, run_at, low, has_free, with_run}
+use Rattle.block_store.specs.Run.{RunSpot, run_at, low, has_free, movers, with_run}
 use Rattle.block_store.specs.Rest.{IsRest}
 use Rattle.zone_bytes.specs.Raising.{lifted}
 use Rattle.zone_bytes.specs.Decode.{zone_in}
+use Rattle.zone_bytes.specs.Edges.{AreEdges}
 use Rattle.zone_bytes.specs.Table.{slot_in}
 use Rattle.zone_bytes.specs.Beside.{rest_in}
 use Rattle.zone_bytes.proofs.Laws.Lawful.{rest-made, kept-made}
 use Rattle.zone_bytes.proofs.Runs.RunsAt.{lay-is, lay-bytes, may-end}
 use Rattle.zone_bytes.proofs.Runs.Changed.{ChangedRun, if-one, replaced-run}
 use Rattle.zone_bytes.proofs.Runs.RaisedAt.{room-run, may-lift, lifted-run, lifted-zone}
+use Rattle.zone_bytes.proofs.Places.Walks.{free_span-le}
+use Rattle.zone_bytes.proofs.Runs.Edged.{lifted-edges}
 use Rattle.zone_bytes.proofs.Marks.Owed.{with-marks}
 use Rattle.raw_zone.specs.Parted.{zone_of, rest_of}
 use Rattle.raw_zone.proofs.zone.RawZoneBlockStore.raise.Goals as goal
@@ -47,14 +50,14 @@ done c =
       lifted-zone xs c.self.inside.first c.self.inside.unused i c.args.run a.0 a.1 c.args.bytes c.requires.some a.2,
     )
 
-pub note-requires-clause-sound : goal.note-requires-clause-sound
-note-requires-clause-sound c =
-    let d = done (goal.at.note-requires-clause-sound c).After-raise_run-stop in
+pub note_packed-requires-clause-sound : goal.note_packed-requires-clause-sound
+note_packed-requires-clause-sound c =
+    let d = done (goal.at.note_packed-requires-clause-sound c).After-raise_run-stop in
     (c.self.inside.first, c.self.inside.unused, d.2.made.sound)
 
-pub note-requires-clause-marks : goal.note-requires-clause-marks
-note-requires-clause-marks c =
-    let d = done (goal.at.note-requires-clause-marks c).After-raise_run-stop in (
+pub note_packed-requires-clause-marks : goal.note_packed-requires-clause-marks
+note_packed-requires-clause-marks c =
+    let d = done (goal.at.note_packed-requires-clause-marks c).After-raise_run-stop in (
       zone_in c.self.inside.part.bytes,
       replaced-run c.args.run c.raise_run-stop.result c.self.invariant.sound.tidied d.1 d.3 d.2,
       c.self.invariant.marked,
@@ -68,7 +71,7 @@ invariant_of-self c =
     let d = done (goal.at.invariant_of-self c).After-raise_run-stop in
     let p = d.2.purgeable in
     let b = c.self.invariant.bound in
-    with-marks _ _ _ _ _ _ (kept-made _ _ _ _ _ _ d.2.made (c.self.invariant.free_is ∙ sym d.2.free)) c.note.ensures
+    with-marks _ _ _ _ _ _ (kept-made _ _ _ _ _ _ d.2.made (c.self.invariant.free_is ∙ sym d.2.free)) c.note_packed.ensures
     (omega (arith, p, b))
 
 pub returns-clause-ok : goal.returns-clause-ok
@@ -87,3 +90,25 @@ returns-clause-rest c =
     c.self.view_is
     (rest-made c.self.inside.part c.raise_run-stop.new.part (slot_in c.self.inside.part.bytes) c.self.inside.unused
     c.self.inside.moves d.2.made.slots d.2.masters c.raise_run-stop.ensures.same)
+
+pub note_packed-requires-clause-edges : goal.note_packed-requires-clause-edges
+note_packed-requires-clause-edges c =
+    let d = done (goal.at.note_packed-requires-clause-edges c).After-raise_run-stop in
+    let xs = c.self.inside.part.bytes in
+    let l = lay-is xs c.self.inside.first c.self.inside.unused c.self.invariant.sound c.args.run d.0 d.1 in
+    lifted-edges c.args.run c.raise_run-stop.new.edges d.1 c.args.bytes c.requires.some d.2 (subst
+    (λ z. AreEdges c.raise_run-stop.new.edges (c.args.run + c.args.bytes) (movers z.run)) l
+    (c.raise_run-stop.ensures.edges (c.await_edges.ensures (c.args.run + c.args.bytes))))
+
+pub overflow_add-run : goal.overflow_add-run
+overflow_add-run c =
+    let a = room-run (zone_in c.self.inside.part.bytes) c.args.run c.args.bytes (subst
+    (λ v. IsSomeAnd (run_at c.args.run (zone_of v)) (λ r. IsTrue (has_free c.args.bytes r.run))) (sym c.self.view_is)
+    c.requires.run) in
+    let l = lay-is c.self.inside.part.bytes c.self.inside.first c.self.inside.unused c.self.invariant.sound c.args.run a.0
+    a.1 in
+    let f = free_span-le a.0.run in
+    let e = a.2 in
+    let s = c.raise_run-stop.ensures.stop ∙ ap (λ z. c.args.run + sizes z.run) l in
+    let t = c.raise_run-stop.type_inv in
+    omega (arith, f, e, s, t)

@@ -1,0 +1,58 @@
+-- Edges that were noted while a run was packed or raised.
+use Rattle.std.proofs.Common.{◌≡◌, ℕ, ◌+◌, ◌-◌, ◌<◌, inl, inr, Bool, true, false, Some, cond, List, [], ◌∷◌, ◌++◌}
+use Rattle.std.proofs.Common.{append_assoc, refl, sym, ap, ◌∙◌, subst, arith}
+use Rattle.block_store.specs.Block.{Block, Free, free, free_sum, is_mover}
+use Rattle.block_store.specs.Run.{RunSpot, run_at, movers, settle}
+use Rattle.block_store.specs.Slot.{Slot}
+use Rattle.zone_bytes.specs.Decode.{zone_in}
+use Rattle.zone_bytes.specs.Edges.{AreEdges, ByEdges, IsMover}
+use Rattle.zone_bytes.specs.Layout.{Each}
+use Rattle.zone_bytes.specs.Raising.{lifted}
+use Rattle.zone_bytes.specs.declared.edges.Edges.{Edges}
+use Rattle.zone_bytes.proofs.Runs.Changed.{ChangedRun}
+use Rattle.zone_bytes.proofs.Runs.Lifts.{any-movers, lifted-some}
+use Rattle.zone_bytes.proofs.Runs.Runs.{run_at-splits}
+use Rattle.zone_bytes.proofs.Tiles.Tiling.{span-append}
+
+-- the blocks of a run that may move
+movers-solid : (run : List Block) → Each IsMover (movers run)
+movers-solid [] = tt
+movers-solid (b ∷ run) = cases (is_mover b) refl (movers-solid run)
+  where
+    cases : (t : Bool) → is_mover b ≡ t → Each IsMover (movers run) → Each IsMover (cond t (b ∷ movers run) (movers run))
+    cases true e s = (e, s)
+    cases false e s = s
+
+module _ {zone : List Block} {r : RunSpot} {new : List ℕ} {first unused : ℕ} {table : ℕ → Slot} (place : ℕ)
+    (edges : Edges) (e : run_at place zone ≡ Some r) where
+  pub settled-edges : ChangedRun settle zone r new first unused table → AreEdges edges place (movers r.run)
+      → ByEdges edges place (zone_in new)
+  settled-edges d a = inr (record {
+    below = r.below;
+    movers = movers r.run;
+    above = free (free_sum r.run) ++ r.above;
+    is = d.is ∙ ap (λ l. r.below ++ l) (append_assoc (movers r.run) (free (free_sum r.run)) r.above);
+    low = (run_at-splits place zone r e).bottom;
+    solid = movers-solid r.run;
+    edges_are = a;
+  })
+
+  pub lifted-edges : (gap : ℕ) → 0 < gap → ChangedRun (lifted gap) zone r new first unused table
+      → AreEdges edges (place + gap) (movers r.run) → ByEdges edges (place + gap) (zone_in new)
+  lifted-edges gap some d a = elim (any-movers r.run) [
+    | inl n ↦ inl (subst (AreEdges edges (place + gap)) n a)
+    | inr s ↦
+        let left = free (free_sum r.run - gap) in
+        inr (record {
+          below = r.below ++ Free gap ∷ [];
+          movers = movers r.run;
+          above = left ++ r.above;
+          is = d.is ∙ ap (λ l. r.below ++ (l ++ r.above)) (lifted-some gap r.run some s)
+              ∙ ap (λ l. r.below ++ Free gap ∷ l) (append_assoc (movers r.run) left r.above)
+              ∙ sym (append_assoc r.below (Free gap ∷ []) (movers r.run ++ (left ++ r.above)));
+          low = (let b = (run_at-splits place zone r e).bottom in let p = span-append r.below (Free gap ∷ []) in
+              omega (arith, b, p));
+          solid = movers-solid r.run;
+          edges_are = a;
+        })
+  ]
