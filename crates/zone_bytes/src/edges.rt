@@ -6,9 +6,9 @@ ghost use Rattle.zone_bytes.specs.Edges.{AreEdges, Starts};
 
 use crate::paging::LANDMARKS;
 
-/// Places at which relocatable blocks of a run begin once they lie packed: of each page above the run's first, the
-/// lowest one at or above its bottom. They are noted by the walk that moves the blocks, so that landmarks are laid with
-/// no other.
+/// Places at which relocatable blocks of a run begin once they lie packed: for each page above the run's first one, the
+/// lowest at or above the page's bottom. They are noted by the walk that moves the blocks, so that landmarks are laid
+/// with no other.
 #[derive(Drop)]
 pub struct Edges {
     places: [u32; LANDMARKS],
@@ -30,7 +30,8 @@ impl Edges {
         }
     }
 
-    /// Forgets what was noted. From now on the first edge at or above a page's bottom is, and those of the pages above.
+    /// Forgets what was noted. What is noted from now on is the first edge at or above `bottom`, where a page begins, and
+    /// then one for each page above.
     pub fn restart(&mut self, bottom: u32, page: u32)
         ensures { (base : ℕ) → AreEdges self.new base [] }
     {

@@ -17,7 +17,7 @@ use crate::finding_runs::find_run_by_marks;
 use crate::grouping::{raise_top, renew_tops};
 use crate::landmark::{GROUP, Landmark, Tally, UNKNOWN};
 use crate::marking::{
-    Next, change_marks, find_by_marks, lay_edges, lay_marks, mark_below, place_of_mark,
+    NextMark, change_marks, find_by_marks, lay_edges, lay_marks, mark_below, place_of_mark,
 };
 use crate::paging::{LANDMARKS, LEAST_PAGE, page_bytes, page_end};
 use crate::placing::size_at;
@@ -169,11 +169,11 @@ impl Landmarks {
     }
 
     /// A landmark that is to be laid anew, where it is.
-    fn next_at(&self, index: usize) -> Next
+    fn next_at(&self, index: usize) -> NextMark
         ensures laid { (zone : List Block) → AreOf self.now zone → AreLaid result.index result.at zone self.now.marks }
     {
         let index = LANDMARKS.min(index);
-        Next {
+        NextMark {
             index,
             at: place_of_mark(&self.marks, index),
         }
@@ -181,7 +181,7 @@ impl Landmarks {
 
     /// Lays the landmarks from the next one on anew, up to the first that stands where it is to above a place. Others from
     /// `first` on were laid before.
-    fn lay(&mut self, part: &Part, next: Next, first: usize, page: u32, hi: u32)
+    fn lay(&mut self, part: &Part, next: NextMark, first: usize, page: u32, hi: u32)
         requires sound { (first : ℕ) × (unused : ℕ) × IsSound part.now.bytes first unused }
         requires laid { AreLaid next.index next.at (zone_in part.now.bytes) self.old.marks }
         requires tops { AreTops self.old.tops self.old.marks }

@@ -50,7 +50,7 @@ pub use joining::last_free_below;
 pub use keeping::Landmarks;
 pub use landmark::{GROUP, Landmark, Tally};
 pub use looking::{mark_slot, slot_place, slot_resource, walk_above};
-pub use marking::{Next, change_marks, find_by_marks, lay_edges, lay_marks, mark_below};
+pub use marking::{NextMark, change_marks, find_by_marks, lay_edges, lay_marks, mark_below};
 pub use mastering::add_masters;
 pub use measuring::{Measured, measure_up_to, room_between};
 pub use paging::LANDMARKS;

@@ -252,7 +252,7 @@ fn stretch_from(part: &Part, at: u32, place: u32, last: bool) -> Measured
 
 /// Which landmark is to be laid next, and where.
 #[derive(Clone, Copy, Drop)]
-pub struct Next {
+pub struct NextMark {
     pub index: usize,
     pub at: u32,
 }
@@ -285,8 +285,8 @@ pub fn lay_edges(
     part: &Part,
     edges: &Edges,
     base: u32,
-    from: Next,
-) -> Next
+    from: NextMark,
+) -> NextMark
     requires sound { (first : ℕ) × (unused : ℕ) × IsSound part.now.bytes first unused }
     requires laid { AreLaid from.index from.at (zone_in part.now.bytes) marks.old }
     requires edges { ByEdges edges.now base (zone_in part.now.bytes) }
@@ -304,7 +304,7 @@ pub fn lay_edges(
         let mark = packed_mark(part, next.at, edge, base);
         marks[next.index] = mark;
         raise_top(tops, next.index, mark.most);
-        next = Next {
+        next = NextMark {
             index: next.index + 1,
             at: edge,
         };
@@ -318,7 +318,7 @@ pub fn lay_marks(
     marks: &mut [Landmark],
     tops: &mut [u32],
     part: &Part,
-    next: Next,
+    next: NextMark,
     page: u32,
     hi: u32,
 ) -> usize
