@@ -5,7 +5,6 @@ mod Arms
 mod FoundCalls
 mod JumpCalls
 mod OwnFork
-mod InRegion
 pub mod Quits
 mod TryLaws
 mod Carrying
@@ -16,4 +15,4 @@ mod Ending
 pub mod Elsewhere
 mod Rows
 pub mod AnyRuns
-mod Runs
+pub mod Runs

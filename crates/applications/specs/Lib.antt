@@ -6,4 +6,3 @@ pub mod Alone
 pub mod Elsewhere
 pub mod Replies
 pub mod Laws
-pub mod Lying

@@ -1,6 +1,6 @@
 //! What an application gives alone.
 
-ghost use Rattle.std.specs.Prelude.{◌≡◌, ◌%◌, ◌≤◌, ◌++◌, ◌||◌, [], map, take, length, nat_lt, IfOk, OnOk};
+ghost use Rattle.std.specs.Prelude.{◌≡◌, ◌%◌, ◌≤◌, ◌++◌, ◌||◌, map, take, length, nat_lt, IfOk, OnOk};
 ghost use Rattle.block_store.specs.Block.{fresh, sizes};
 ghost use Rattle.heap_calls.specs.Stored.{IsNamed};
 ghost use Rattle.res_calls.specs.View.{view_file};
@@ -8,14 +8,11 @@ ghost use Rattle.applications.specs.Step.{run};
 ghost use Rattle.applications.specs.Application.{lines_told};
 ghost use Rattle.applications.specs.Alone.{alone, zone_alone, ending_of, left_after, end_told};
 ghost use Rattle.applications.specs.Replies.{end_if, left_if};
-ghost use Rattle.applications.specs.Lying.{LieAs};
 
 use crate::application::Application;
 use crate::quitting::Exit;
 use crate::watch::{Unwatched, Watch};
 use block_store::{BlockStore, ListStore};
-use raw_region::Region;
-use raw_zone::RawZone;
 use res_calls::{File, Resources};
 use script_text::{Line, Script, write_end, write_launch};
 use std::alloc::{AllocError, Global};
@@ -156,41 +153,6 @@ pub fn give_in<S: BlockStore, W: Watch>(
         Ok(()) => (Ok(Given { transcript, files }), store),
         Err(fault) => (Err(fault), store),
     }
-}
-
-/// What an application gives alone, as `give_in` says, in a partition that fills a region, whatever lay there. The region
-/// comes back, with its zone in its bytes as it then is: headers, contents and master pointers.
-///
-/// # Errors
-///
-/// The host has no memory for it.
-pub fn give_in_region<W: Watch>(
-    alloc: Global,
-    region: Region,
-    resources: Resources,
-    script: &Script,
-    steps: usize,
-    quit: bool,
-    watch: &mut W,
-) -> (Result<Given, AllocError>, Region)
-    requires home { region.out ≡ [] }
-    requires even { length region.bytes % 16 ≡ 0 }
-    requires low { 512 ≤ length region.bytes }
-    requires high { length region.bytes ≤ 134217728 }
-    ensures given { IfOk result.0 (λ given. given ≡ alone resources (length region.bytes) script.now steps quit) }
-    ensures lies { IfOk result.0 (λ _.
-        LieAs (zone_alone resources (length region.bytes) script.now steps quit) result.1.bytes) }
-    ensures home { result.1.out ≡ [] }
-    ensures same { result.1.home ≡ region.home }
-    ensures length { length result.1.bytes ≡ length region.bytes }
-    ensures silent { W.printed watch.new ≡ W.printed watch.old }
-{
-    let mut region = region;
-    let len = region.len();
-    let zone = RawZone::new(region.cut(0, len));
-    let (given, zone) = give_in(alloc, zone, resources, script, steps, quit, watch);
-    region.join(zone.into_part());
-    (given, region)
 }
 
 /// What an application gives alone, as `give_in` says, in a partition of `size` bytes that is kept in lists. Nobody

@@ -21,7 +21,7 @@ use script_text::{Line, Script, Word, write_grow_reply, write_reply};
 use std::alloc::AllocError;
 
 /// What is done after a round of a step.
-#[derive(Clone, Copy, Debug, PartialEq, Eq)]
+#[derive(Clone, Copy)]
 pub(crate) enum Next {
     /// The call is tried again.
     Again,

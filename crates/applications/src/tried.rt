@@ -21,7 +21,7 @@ use res_calls::{Fetched, Info, Unread};
 use std::alloc::{AllocError, Global};
 
 /// What one try of a call came to. Nothing is bound, written or tried again by it.
-#[derive(Debug, Drop)]
+#[derive(Drop)]
 pub struct Tried {
     /// The reply, but for bytes that are shown.
     pub reply: Reply,

@@ -16,7 +16,7 @@ use crate::measures::{HEADER_SIZE, MASTERS_SIZE, UNIT};
 use std::alloc::{AllocError, Global};
 
 /// A block and what it holds: a Fixed one with its place, a relocatable one with its slot.
-#[derive(Debug, Drop)]
+#[derive(Drop)]
 pub enum StoredBlock {
     Free(u32),
     Fixed(u32, Vec<u8>),

@@ -5,33 +5,23 @@
 mod copying;
 mod entries;
 mod fixed;
-#[cfg(test)]
-mod fixed_tests;
 mod flags;
 mod list_store;
 mod list_walk;
 mod list_zones;
 mod looking;
 mod maker;
-#[cfg(test)]
-mod maker_tests;
 mod measures;
 mod packing;
 mod purged_sums;
-#[cfg(test)]
-mod purged_tests;
 mod purging;
 mod run_search;
 mod runs;
 mod sizing;
-#[cfg(test)]
-mod sizing_tests;
 mod slots;
 mod sparing;
 mod store;
 mod stretch;
-#[cfg(test)]
-mod tests;
 mod walk;
 
 pub use flags::Flags;

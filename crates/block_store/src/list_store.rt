@@ -21,15 +21,11 @@ use crate::list_walk::{has_free_above, look_at, purgeable_above, run_above, walk
 use crate::looking::{next_purgeable_in, place_in, purgeable_in, room_above_in};
 use crate::measures::{GREATEST_ZONE, LEAST_ZONE, MASTERS_SIZE, SLOTS_A_BLOCK, UNIT};
 use crate::packing::{hoist_slot, raise_run, settle_run};
-#[cfg(test)]
-use crate::packing::{run_bytes, run_holds};
 use crate::purged_sums::{free_after_in, largest_after_in};
 use crate::purging::{flag_at, purge_above, purge_entries};
 use crate::run_search::{find_run_in, run_of_in};
 use crate::runs::{largest_free_in, largest_run_in};
 use crate::sizing::{move_slot, resize_at};
-#[cfg(test)]
-use crate::slots::is_taken;
 use crate::slots::{SlotEntry, first_unused, has_flag};
 use crate::sparing::{Seen, Sparing};
 use crate::store::BlockStore;
@@ -84,42 +80,6 @@ impl ListStore {
             blocks,
             slots,
         })
-    }
-}
-
-#[cfg(test)]
-impl ListStore {
-    /// The Free bytes of the run at a place, if there is one.
-    pub fn run_bytes(&self, place: u32) -> Option<u32>
-        ensures { result ≡ option_map (λ r. free_sum r.run) (run_at place (⟦<ListStore as BlockStore>⟧.zone self.now)) }
-    {
-        run_bytes(&self.blocks, place)
-    }
-
-    /// Whether the run at a place has the block of a slot, if there is one.
-    pub fn run_holds(&self, place: u32, number: u32) -> Option<bool>
-        ensures { result ≡ option_map (λ r. has (is_relocatable number) r.run)
-            (run_at place (⟦<ListStore as BlockStore>⟧.zone self.now)) }
-    {
-        run_holds(&self.blocks, place, number)
-    }
-
-    /// Whether a number is the slot of a handle.
-    pub fn is_handle(&self, number: u32) -> bool
-        ensures { result ≡ is_used ((⟦<ListStore as BlockStore>⟧.rest self.now).slots number) }
-    {
-        is_taken(&self.slots, number)
-    }
-
-    /// Whether a block begins at a place, or the zone ends there.
-    #[tactic(auto, using(crate::proofs::Plain::Options::some_mapped))]
-    pub fn is_edge(&self, place: u32) -> bool
-        ensures { IsTrue result → IsEdge place (⟦<ListStore as BlockStore>⟧.zone self.now) }
-    {
-        match look_at(&self.blocks, place) {
-            Some(_) => true,
-            None => place == self.bytes,
-        }
     }
 }
 

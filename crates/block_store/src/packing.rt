@@ -265,25 +265,3 @@ pub fn raise_run(entries: &mut Vec<StoredBlock>, place: u32, bytes: u32) -> Resu
     pack_between(entries, start + 1, end + 1, bytes);
     Ok(())
 }
-
-/// The Free bytes of the run at a place, if there is one.
-#[cfg(test)]
-pub fn run_bytes(entries: &[StoredBlock], place: u32) -> Option<u32>
-    requires { sizes (blocks_of entries.now) < 2 ^ 32 }
-    ensures { result ≡ option_map (λ r. free_sum r.run) (run_at place (blocks_of entries.now)) }
-{
-    run_start(entries, place)?;
-    let (start, end) = run_bounds(entries, place);
-    Some(free_total(&entries[start..end]))
-}
-
-/// Whether the run at a place has the entry of a slot, if there is one.
-#[cfg(test)]
-pub fn run_holds(entries: &[StoredBlock], place: u32, number: u32) -> Option<bool>
-    requires { sizes (blocks_of entries.now) < 2 ^ 32 }
-    ensures { result ≡ option_map (λ r. has (is_relocatable number) r.run) (run_at place (blocks_of entries.now)) }
-{
-    run_start(entries, place)?;
-    let (start, end) = run_bounds(entries, place);
-    Some(index_of(&entries[start..end], number).is_some())
-}

@@ -5,7 +5,7 @@ ghost use Rattle.block_store.specs.Slot.{Unused, is_used, is_resource};
 ghost use Rattle.block_store.specs.Inner.ListStore.{is_unused, slots_of};
 
 /// A slot: of no handle, or of one, with its resource flag.
-#[derive(Clone, Copy, Debug, PartialEq, Eq)]
+#[derive(Clone, Copy, PartialEq, Eq)]
 pub enum SlotEntry {
     Unused,
     Used(bool),
@@ -30,17 +30,6 @@ pub fn has_flag(slots: &[SlotEntry], number: u32) -> bool
 {
     match slots.get(number as usize) {
         Some(SlotEntry::Used(resource)) => *resource,
-        _ => false,
-    }
-}
-
-/// Whether a number is the slot of a handle.
-#[cfg(test)]
-pub fn is_taken(slots: &[SlotEntry], number: u32) -> bool
-    ensures { result ≡ is_used (slots_of slots.now number) }
-{
-    match slots.get(number as usize) {
-        Some(SlotEntry::Used(_)) => true,
         _ => false,
     }
 }

@@ -11,3 +11,4 @@ pub mod Places
 pub mod Resting
 pub mod Rounds
 pub mod Systems
+pub mod WholeRegion

@@ -6,6 +6,7 @@ use Rattle.block_store.specs.Block.{Block}
 use Rattle.script_text.specs.Script.{Parts}
 use Rattle.script_text.specs.declared.job.Event.{Event}
 use Rattle.heap_calls.specs.Stored.{IsNamed}
+use Rattle.zone_bytes.specs.Laid.{IsLaid}
 use Rattle.res_calls.specs.Files.{Resources}
 use Rattle.applications.specs.Alone.{first_steps}
 use Rattle.desk.specs.declared.job.App.{App}
@@ -58,3 +59,11 @@ LieAfter Left (Ok system) memory apps events = AllLie Left (after_events events 
 
 abbrev pub LieAtEnd : Lying → Job → Type 0
 LieAtEnd Left job = LieAfter Left (system_of job) job.memory job.apps.items job.events.items
+
+-- How the zone of an application that has a region for itself lies in it. Inside Macintosh: Memory, chapter 1,
+-- "Organization of Memory".
+
+-- the bytes are a zone of these blocks, which have other names there: headers tile them, and master pointers and blocks
+-- lead to each other
+abbrev pub LieAs : List Block → List ℕ → Type 0
+LieAs zone bytes = (blocks : List Block) × IsNamed blocks zone × IsLaid bytes blocks

@@ -1,7 +1,7 @@
 //! What an application does at the desk.
 
 /// What an application does, or is made to do.
-#[derive(Clone, Copy, Debug, PartialEq, Eq)]
+#[derive(Clone, Copy)]
 pub enum Act {
     /// It takes its next step; where it has no call left, it quits.
     Step,

@@ -5,6 +5,7 @@ mod act;
 mod departure;
 mod desk;
 mod forks;
+mod giving;
 mod in_region;
 mod job;
 mod laws;
@@ -12,6 +13,7 @@ mod live;
 mod outcome;
 mod phase;
 mod preparing;
+mod script;
 mod seat;
 mod seating;
 mod seats;
@@ -22,6 +24,7 @@ mod turns;
 mod whole;
 
 pub use desk::Desk;
+pub use giving::give_in_region;
 pub use in_region::run;
 pub use job::{App, AppFile, Job};
 pub use laws::{
@@ -29,4 +32,5 @@ pub use laws::{
     other_applications_stay_as_they_are, what_an_application_leaves_is_its_own,
 };
 pub use outcome::{AppOutcome, Launched, Outcome, RunFault};
+pub use script::{run_script, run_script_watched};
 pub use whole::{run_watched, run_with};

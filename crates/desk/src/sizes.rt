@@ -5,7 +5,7 @@ ghost use Rattle.std.specs.Prelude.{◌≡◌, ◌≤◌, ◌%◌};
 /// The sizes of the partition that an application asks for, in bytes.
 ///
 /// *Macintosh Toolbox Essentials*, chapter 2, "The Size Resource".
-#[derive(Clone, Copy, Debug, PartialEq, Eq)]
+#[derive(Clone, Copy)]
 pub struct PartitionSizes {
     pub(crate) preferred: u32,
     pub(crate) minimum: u32,

@@ -27,14 +27,14 @@ const MAX_REFS_END: usize = 65_507;
 const MAX_TYPES: usize = 8_188;
 
 /// Where a datum and a name begin, from the data's start and from the name list.
-#[derive(Clone, Copy, Debug)]
+#[derive(Clone, Copy)]
 pub struct Starts {
     pub datum: usize,
     pub name: usize,
 }
 
 /// What the parts of a canonical fork take, in bytes: type list and references, data, and names.
-#[derive(Clone, Copy, Debug)]
+#[derive(Clone, Copy)]
 pub struct Extents {
     pub refs_end: usize,
     pub data_len: usize,

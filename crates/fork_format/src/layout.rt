@@ -16,7 +16,7 @@ const MAX_REFS: usize = 65_536;
 const MAX_DATA: usize = 134_217_728;
 
 /// Where data, map, type list and name list begin or end.
-#[derive(Clone, Copy, Debug)]
+#[derive(Clone, Copy)]
 pub struct Layout {
     pub data_start: usize,
     pub map_start: usize,

@@ -20,7 +20,7 @@ pub enum Anchor {
 }
 
 /// A handle that was looked up, its slot, and whether it is guarded.
-#[derive(Clone, Copy, Debug, PartialEq, Eq)]
+#[derive(Clone, Copy)]
 pub struct Found {
     pub number: usize,
     pub slot: u32,
@@ -28,7 +28,7 @@ pub struct Found {
 }
 
 /// A pointer that was looked up, and the place of its block.
-#[derive(Clone, Copy, Debug, PartialEq, Eq)]
+#[derive(Clone, Copy)]
 pub struct Target {
     pub number: usize,
     pub place: u32,

@@ -19,7 +19,7 @@ use block_store::{BlockStore, MASTERS_SIZE, Sparing};
 use std::alloc::AllocError;
 
 /// What a search for a run came to: the run, and after how many purges.
-#[derive(Clone, Copy, Debug, PartialEq, Eq)]
+#[derive(Clone, Copy)]
 pub struct FoundRun {
     pub run: Option<u32>,
     pub purges: u32,
@@ -133,7 +133,7 @@ pub fn make_masters<S: BlockStore>(store: &mut S, sparing: Sparing) -> Result<Ro
 }
 
 /// A slot, if one could be had, and the searches that it took.
-#[derive(Clone, Copy, Debug, PartialEq, Eq)]
+#[derive(Clone, Copy)]
 pub struct Taken {
     pub slot: Option<u32>,
     pub searches: u32,

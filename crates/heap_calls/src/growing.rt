@@ -28,7 +28,7 @@ use mac_words::phys;
 use std::alloc::AllocError;
 
 /// How an unlocked block grows: into the Free block above it, at a place of its own, or as the last of its run.
-#[derive(Clone, Copy, Debug, PartialEq, Eq)]
+#[derive(Clone, Copy)]
 pub enum Growth {
     Up,
     Away(Seat),
@@ -36,7 +36,7 @@ pub enum Growth {
 }
 
 /// What a search came to: how the block grows, and after how many purges.
-#[derive(Clone, Copy, Debug, PartialEq, Eq)]
+#[derive(Clone, Copy)]
 pub struct FoundGrowth {
     pub growth: Option<Growth>,
     pub purges: u32,

@@ -23,14 +23,14 @@ use mac_words::phys;
 use std::alloc::AllocError;
 
 /// Whether a block got another size, and how many looks for room that took.
-#[derive(Clone, Copy, Debug, PartialEq, Eq)]
+#[derive(Clone, Copy)]
 pub struct Grown {
     pub done: bool,
     pub searches: u32,
 }
 
 /// How few blocks go, where that gives room, and how many looks it took to find out.
-#[derive(Clone, Copy, Debug, PartialEq, Eq)]
+#[derive(Clone, Copy)]
 struct Fewest {
     purges: Option<u32>,
     searches: u32,

@@ -57,7 +57,7 @@ pub trait Look: Copy {
 }
 
 /// What looking came to: what was found, and after how many purges.
-#[derive(Clone, Copy, Debug, PartialEq, Eq)]
+#[derive(Clone, Copy)]
 pub struct Looked<F> {
     pub found: Option<F>,
     pub purges: u32,

@@ -9,7 +9,7 @@ use block_store::BlockStore;
 use mac_words::OsErr;
 
 /// A handle with a block: its number, the slot that leads to the block, and the block's place.
-#[derive(Clone, Copy, Debug, PartialEq, Eq)]
+#[derive(Clone, Copy)]
 pub struct Reached {
     pub number: usize,
     pub slot: u32,

@@ -18,21 +18,21 @@ use crate::least::{Look, any_goes, least_look};
 use block_store::{BlockStore, Sparing};
 
 /// Where a relocatable block goes: into the Free block at a place, or into a run once that is packed.
-#[derive(Clone, Copy, Debug, PartialEq, Eq)]
+#[derive(Clone, Copy)]
 pub enum Seat {
     Free(u32),
     Run(u32),
 }
 
 /// What a search came to: where a block goes, and after how many purges.
-#[derive(Clone, Copy, Debug, PartialEq, Eq)]
+#[derive(Clone, Copy)]
 pub struct Found {
     pub seat: Option<Seat>,
     pub purges: u32,
 }
 
 /// A place, if there is room, and the searches that it took.
-#[derive(Clone, Copy, Debug, PartialEq, Eq)]
+#[derive(Clone, Copy)]
 pub struct Room {
     pub place: Option<u32>,
     pub searches: u32,

@@ -9,6 +9,3 @@ mod word;
 pub use header::{HEADER, Header, Tag, read_header, write_header};
 pub use slot::{SlotWord, read_slot, write_slot};
 pub use word::{UNIT, read_word, write_word};
-
-#[cfg(test)]
-mod tests;

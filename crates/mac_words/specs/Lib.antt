@@ -1,3 +1,4 @@
 pub mod Attributes
+pub mod Codes
 pub mod Size
 pub mod Told

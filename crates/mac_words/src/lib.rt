@@ -5,6 +5,7 @@
 mod attributes;
 mod call;
 mod code;
+mod laws;
 mod name;
 mod reply;
 mod resource_call;
@@ -14,6 +15,7 @@ mod size;
 pub use attributes::Attrs;
 pub use call::{Call, ControlCall, HeapCall};
 pub use code::OsErr;
+pub use laws::{attribute_bits_are_the_manuals, codes_are_the_manuals};
 pub use name::{FileName, Label, Name, OsType};
 pub use reply::Reply;
 pub use resource_call::ResourceCall;

@@ -5,8 +5,6 @@ mod fault;
 mod finding;
 mod grants;
 mod laws;
-#[cfg(test)]
-mod tests;
 
 pub use fault::GrantFault;
 pub use grants::Grants;

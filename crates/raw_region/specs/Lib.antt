@@ -3,4 +3,3 @@ pub mod Memory
 pub mod Ownership
 pub mod Parts
 pub mod Regions
-pub mod Tests

@@ -9,6 +9,3 @@ mod region;
 
 pub use part::Part;
 pub use region::{MOST_BYTES, MOST_OUT, Region, UNIT};
-
-#[cfg(test)]
-mod tests;

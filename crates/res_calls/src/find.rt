@@ -21,7 +21,7 @@ use res_map::{Entry, ResFile};
 use std::alloc::{AllocError, Global};
 
 /// Where a reference stands.
-#[derive(Clone, Copy, Debug, PartialEq, Eq)]
+#[derive(Clone, Copy)]
 pub(crate) struct Spot {
     /// The index of its file among the open ones, from the one that was opened last.
     pub(crate) file: usize,
@@ -30,7 +30,7 @@ pub(crate) struct Spot {
 }
 
 /// The open files that are searched.
-#[derive(Clone, Copy, Debug, PartialEq, Eq)]
+#[derive(Clone, Copy)]
 pub(crate) enum Within {
     /// Those with this number or a lower one: the file of the number, and those opened before it.
     UpTo(u32),
@@ -43,7 +43,7 @@ pub(crate) enum Within {
 }
 
 /// What is looked for.
-#[derive(Clone, Copy, Debug, PartialEq, Eq)]
+#[derive(Clone, Copy)]
 pub(crate) enum Wanted<'a> {
     /// A resource of a type and ID.
     Id(OsType, i16),

@@ -24,7 +24,7 @@ const LOAD_SEG_TRAP: u16 = 0xa9f0;
 const FAR_MODEL: u16 = 0xffff;
 
 /// Entries that follow one another.
-#[derive(Clone, Copy, Debug, PartialEq, Eq)]
+#[derive(Clone, Copy)]
 pub(crate) struct Named {
     /// The place of the first one.
     pub(crate) first: usize,

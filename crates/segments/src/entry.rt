@@ -1,7 +1,7 @@
 //! Entries of a jump table.
 
 /// An entry of a jump table.
-#[derive(Clone, Copy, Debug, PartialEq, Eq)]
+#[derive(Clone, Copy)]
 pub(crate) struct Entry {
     /// Its segment, if it belongs to one.
     pub(crate) segment: Option<i16>,

@@ -1,0 +1,124 @@
+//! Lines of scripts that a generator makes.
+
+use std::alloc::Global;
+use std::fmt::Write;
+use std::test::Fail;
+
+/// A generator of numbers: each is made of the one before it by shifts.
+#[derive(Clone, Copy)]
+pub struct Chance(pub u32);
+
+impl Chance {
+    /// The next number.
+    pub fn next(&mut self) -> u32 {
+        self.0 ^= self.0 << 13;
+        self.0 ^= self.0 >> 17;
+        self.0 ^= self.0 << 5;
+        self.0
+    }
+
+    /// One of four things.
+    pub fn one_of<T: Copy>(&mut self, things: [T; 4]) -> T {
+        let [a, b, c, d] = things;
+        match self.next() % 4 {
+            0 => a,
+            1 => b,
+            2 => c,
+            _ => d,
+        }
+    }
+}
+
+/// The names that generated calls use.
+const NAMES: &[&str] = &["a", "b", "c", "d", "e", "f", "g", "h"];
+
+/// What follows the word of a call.
+#[derive(Clone, Copy)]
+enum Arguments {
+    Nothing,
+    Name,
+    Size,
+    NameAndSize,
+    TwoNames,
+    Bytes,
+}
+
+/// The calls that are made; those that stand here more than once come more often.
+const CALLS: &[(&str, Arguments)] = &[
+    ("NewHandle", Arguments::NameAndSize),
+    ("NewHandle", Arguments::NameAndSize),
+    ("NewHandle", Arguments::NameAndSize),
+    ("NewHandle", Arguments::NameAndSize),
+    ("DisposeHandle", Arguments::Name),
+    ("DisposeHandle", Arguments::Name),
+    ("SetHandleSize", Arguments::NameAndSize),
+    ("SetHandleSize", Arguments::NameAndSize),
+    ("Put", Arguments::Bytes),
+    ("Put", Arguments::Bytes),
+    ("Show", Arguments::Name),
+    ("HLock", Arguments::Name),
+    ("HUnlock", Arguments::Name),
+    ("HPurge", Arguments::Name),
+    ("HPurge", Arguments::Name),
+    ("NewPtr", Arguments::NameAndSize),
+    ("DisposePtr", Arguments::Name),
+    ("SetPtrSize", Arguments::NameAndSize),
+    ("CompactMem", Arguments::Size),
+    ("PurgeMem", Arguments::Size),
+    ("MaxMem", Arguments::Nothing),
+    ("ReserveMem", Arguments::Size),
+    ("MoreMasters", Arguments::Nothing),
+    ("MoveHHi", Arguments::Name),
+    ("EmptyHandle", Arguments::Name),
+    ("ReallocateHandle", Arguments::NameAndSize),
+    ("HandToHand", Arguments::TwoNames),
+    ("HandAndHand", Arguments::TwoNames),
+    ("MaxBlock", Arguments::Nothing),
+    ("WaitNextEvent", Arguments::Nothing),
+    ("WaitNextEvent", Arguments::Nothing),
+    ("WaitNextEvent", Arguments::Nothing),
+];
+
+/// One of the names.
+fn a_name(chance: &mut Chance) -> &'static str {
+    match NAMES.get((chance.next() % 8) as usize) {
+        Some(name) => *name,
+        None => "no name",
+    }
+}
+
+/// A number of bytes, most often a small one.
+fn a_size(chance: &mut Chance) -> u32 {
+    let most = if chance.next() % 8 == 0 { 900 } else { 120 };
+    chance.next() % most
+}
+
+/// A line with one call.
+fn a_line(chance: &mut Chance, text: &mut String) -> Result<(), Fail> {
+    let Some((word, arguments)) = CALLS.get((chance.next() % 32) as usize) else {
+        return Err(Fail::new("one of 32 calls"));
+    };
+    let name = a_name(chance);
+    let size = a_size(chance);
+    match arguments {
+        Arguments::Nothing => writeln!(text, "{word}")?,
+        Arguments::Name => writeln!(text, "{word} {name}")?,
+        Arguments::Size => writeln!(text, "{word} {size}")?,
+        Arguments::NameAndSize => writeln!(text, "{word} {name} {size}")?,
+        Arguments::TwoNames => {
+            let other = a_name(chance);
+            writeln!(text, "{word} {name} {other}")?;
+        }
+        Arguments::Bytes => writeln!(text, "{word} {name} 0 \"{size}\"")?,
+    }
+    Ok(())
+}
+
+/// A text of so many calls.
+pub fn some_calls(alloc: Global, chance: &mut Chance, calls: u32) -> Result<String, Fail> {
+    let mut text = String::new(alloc);
+    for _call in 0..calls {
+        a_line(chance, &mut text)?;
+    }
+    Ok(text)
+}

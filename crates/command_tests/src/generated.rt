@@ -1,0 +1,118 @@
+//! Scripts and jobs that a generator makes, over lists and in the bytes of a region.
+
+ghost use Rattle.std.specs.Prelude.{◌≡◌, ◌≤◌, ◌%◌};
+
+use crate::chances::{Chance, some_calls};
+use crate::jobs::{add, empty_job, is_run_alike};
+use crate::zones::{image_of, read_zone, used_region};
+use applications::{give_alone, own_resources};
+use desk::{Job, run_script};
+use script_text::{Event, Script, read_script};
+use std::alloc::{AllocError, Global};
+use std::process::Abort;
+use std::test::Fail;
+
+/// Runs a script to its end in a partition of so many bytes that is kept in lists: its transcript.
+fn run_in_lists(alloc: Global, size: u32, script: &Script) -> Result<Vec<u8>, AllocError>
+    requires even { size % 16 ≡ 0 }
+    requires low { 512 ≤ size }
+    requires high { size ≤ 134217728 }
+{
+    let steps = script.steps().len() + 1;
+    let given = give_alone(alloc, size, own_resources(alloc)?, script, steps, false)?;
+    Ok(given.into_transcript())
+}
+
+/// Runs a script to its end over lists and in bytes: both leave the same transcript. The bytes then are a zone, with so
+/// many Free bytes as the last line tells.
+fn leaves_alike(rt: &impl Abort, alloc: Global, size: u32, script: &Script) -> Result<(), Fail>
+    requires even { size % 16 ≡ 0 }
+    requires low { 512 ≤ size }
+    requires high { size ≤ 134217728 }
+{
+    let told = run_in_lists(alloc, size, script)?;
+    let (transcript, region) = run_script(alloc, used_region(alloc, size)?, script);
+    let image = image_of(alloc, region)?;
+    assert!(rt; transcript? == told);
+    let free = read_zone(rt, &image)?;
+    let last = format!(in alloc; " FreeMem 0 {free}\nend 0\n")?;
+    assert!(rt; told.ends_with(last.as_bytes()));
+    Ok(())
+}
+
+/// A script of so many calls, which asks at last how many bytes are Free.
+fn a_script(alloc: Global, seed: u32, calls: u32) -> Result<Script, Fail> {
+    let mut text = some_calls(alloc, &mut Chance(seed), calls)?;
+    text.push_str("FreeMem\n")?;
+    match read_script(alloc, text.as_bytes()) {
+        Ok(script) => Ok(script),
+        Err(_) => Err(Fail::new("a faulty script")),
+    }
+}
+
+#[test]
+fn scripts_leave_the_same_over_lists_and_in_bytes(rt: HostRuntime) -> Result<(), Fail> {
+    // The script is cut behind each of the first 50 calls, and then behind each tenth.
+    for calls in (0..50).chain((50..400).step_by(10)) {
+        leaves_alike(&rt, rt.alloc(), 1024, &a_script(rt.alloc(), 1, calls)?)?;
+        leaves_alike(&rt, rt.alloc(), 4096, &a_script(rt.alloc(), 2, calls)?)?;
+    }
+    Ok(())
+}
+
+/// The sizes of partitions: 512; 1024, but at least 512; 1024; 2048, but at least 1024.
+const SIZES: [&[u8]; 4] = [
+    b"\0\0\0\0\x02\0\0\0\x02\0",
+    b"\0\0\0\0\x04\0\0\0\x02\0",
+    b"\0\0\0\0\x04\0\0\0\x04\0",
+    b"\0\0\0\0\x08\0\0\0\x04\0",
+];
+
+/// The bytes of memories, none of which has room for all applications.
+const MEMORIES: [u32; 4] = [1024, 2048, 2560, 3072];
+
+/// The names of applications.
+const APPS: &[&[u8]] = &[b"one", b"two", b"three", b"four"];
+
+/// Something that happens to one of four applications, or to all.
+fn an_event(chance: &mut Chance) -> Event {
+    let app = (chance.next() % 4) as usize;
+    match chance.next() % 16 {
+        0..=5 => Event::Launch(app),
+        6..=9 => Event::Step(app),
+        10..=13 => Event::Turn(app),
+        14 => Event::Quit(app),
+        _ => Event::Rest,
+    }
+}
+
+/// Adds an application of some calls to a job.
+fn add_one(alloc: Global, chance: &mut Chance, job: &mut Job, name: &[u8]) -> Result<(), Fail> {
+    let sizes = chance.one_of(SIZES);
+    let calls = 20 + chance.next() % 20;
+    let script = some_calls(alloc, chance, calls)?;
+    add(alloc, job, name, sizes, script.as_bytes())
+}
+
+/// A job of two to four applications in a memory that has not room for all of them.
+fn a_job(alloc: Global, chance: &mut Chance) -> Result<Job, Fail> {
+    let mut job = empty_job(alloc, chance.one_of(MEMORIES), &[])?;
+    for _event in 0..24 {
+        job.events.push(an_event(chance))?;
+    }
+    let apps = 2 + (chance.next() % 3) as usize;
+    for name in APPS.iter().take(apps) {
+        add_one(alloc, chance, &mut job, *name)?;
+    }
+    Ok(job)
+}
+
+#[test]
+fn jobs_leave_the_same_over_lists_and_in_bytes(rt: HostRuntime) -> Result<(), Fail> {
+    let mut chance = Chance(1);
+    for number in 0..120 {
+        let job = a_job(rt.alloc(), &mut chance)?;
+        assert!(rt; is_run_alike(rt.alloc(), &job)?, "job {number}");
+    }
+    Ok(())
+}

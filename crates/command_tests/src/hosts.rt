@@ -1,0 +1,133 @@
+//! A host that refuses memory, and one that refuses prints.
+
+ghost use Rattle.std.specs.Prelude.{None};
+
+use applications::Watch;
+use commands::{Host, ReadError, WriteError, tool};
+use std::alloc::{AllocError, Global};
+use std::fmt::Write;
+use std::test::Fail;
+
+/// A host with one file, named `file`, and one that is too large for its memory, named `large`.
+#[derive(Drop)]
+struct Memory<'a> {
+    file: &'a [u8],
+    /// So many prints succeed.
+    prints: usize,
+    printed: Vec<u8>,
+}
+
+impl<'a> Watch for Memory<'a> {
+    ghost printed = { λ host. None };
+
+    fn done(&mut self, _done: usize, _of: usize) {}
+}
+
+impl<'a> Host for Memory<'a> {
+    fn read(&mut self, alloc: Global, path: &str) -> Result<Vec<u8>, ReadError> {
+        match path {
+            "file" => Ok(Vec::from_slice(alloc, self.file)?),
+            "large" => Err(ReadError::HostMemory),
+            _ => Err(ReadError::CannotRead),
+        }
+    }
+
+    fn print(&mut self, bytes: &[u8]) -> Result<(), WriteError> {
+        if self.prints == 0 {
+            return Err(WriteError::CannotWrite);
+        }
+        self.prints -= 1;
+        self.printed.extend_from_slice(bytes)?;
+        Ok(())
+    }
+
+    fn make_folder(&mut self, _path: &str) -> Result<(), WriteError> {
+        Err(WriteError::CannotWrite)
+    }
+
+    fn write(&mut self, _path: &str, _bytes: &[u8]) -> Result<(), WriteError> {
+        Err(WriteError::CannotWrite)
+    }
+}
+
+/// What a command prints where so many prints succeed, and its fault as a person is told it; empty where there is none.
+fn done(
+    alloc: Global,
+    words: &[&str],
+    file: &[u8],
+    prints: usize,
+) -> Result<(Vec<u8>, String), Fail> {
+    let mut host = Memory {
+        file,
+        prints,
+        printed: Vec::new(alloc),
+    };
+    let told = match tool(alloc, words, &mut host) {
+        Ok(()) => String::new(alloc),
+        Err(fault) => fault.to_string(alloc)?,
+    };
+    Ok((host.printed, told))
+}
+
+#[test]
+fn a_host_that_refuses_memory_is_told(rt: HostRuntime) -> Result<(), Fail> {
+    const CASES: &[&[&str]] = &[
+        &["macmem", "check", "large"],
+        &["macmem", "script", "1024", "large"],
+        &["macmem", "run", "large", "out"],
+    ];
+    for words in CASES {
+        let (printed, told) = done(rt.alloc(), *words, b"", 1)?;
+        assert_eq!(rt; told.as_str(), "macmem: no host memory");
+        assert!(rt; printed.is_empty());
+    }
+    Ok(())
+}
+
+/// A fork with references that share a datum of no bytes and a name of 255 bytes `n`.
+fn named_fork(alloc: Global, references: u8) -> Result<Vec<u8>, AllocError> {
+    let header = b"\0\0\x01\0\0\0\x01\x04\0\0\0\x04\0\0\x0a\x4a";
+    let mut fork = Vec::from_slice(alloc, header)?;
+    fork.extend_from_slice(&[0; 244])?;
+    fork.extend_from_slice(header)?;
+    fork.extend_from_slice(b"\0\0\0\0\0\0\0\0\0\x1c\x09\x4a\0\0TEXT\0")?;
+    fork.push(references.wrapping_sub(1))?;
+    fork.extend_from_slice(b"\0\x0a")?;
+    for id in 0..references {
+        fork.push(0)?;
+        fork.push(id)?;
+        fork.extend_from_slice(b"\0\0\0\0\0\0\0\0\0\0")?;
+    }
+    fork.push(255)?;
+    fork.extend_from_slice(&[b'n'; 255])?;
+    Ok(fork)
+}
+
+/// The listing of such a fork.
+fn named_listing(alloc: Global, references: u8) -> Result<String, Fail> {
+    let name = "6e".repeat(alloc, 255)?;
+    let mut text = format!(in alloc; "map 0 1 {references}\n")?;
+    for id in 0..references {
+        writeln!(text, "$54455854 {id} 0 0 ${name}")?;
+    }
+    Ok(text)
+}
+
+#[test]
+fn a_large_listing_is_printed_piece_by_piece(rt: HostRuntime) -> Result<(), Fail> {
+    const CASES: &[(usize, usize, &str)] = &[
+        (0, 0, "macmem: -: cannot write"),
+        (1, 65_622, "macmem: -: cannot write"),
+        (2, 103_252, ""),
+    ];
+    let alloc = rt.alloc();
+    let fork = named_fork(alloc, 195)?;
+    let listing = named_listing(alloc, 195)?;
+    assert_eq!(rt; listing.len(), 103_252);
+    for (prints, length, line) in CASES {
+        let (printed, told) = done(alloc, &["macmem", "map", "file"], &fork, *prints)?;
+        assert_eq!(rt; (printed.len(), told.as_str()), (*length, *line));
+        assert!(rt; listing.as_bytes().starts_with(&printed));
+    }
+    Ok(())
+}

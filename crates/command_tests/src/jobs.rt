@@ -1,0 +1,134 @@
+//! Jobs of tests, and what they leave.
+
+ghost use Rattle.std.specs.Prelude.{◌≡◌, IfOk};
+
+use crate::zones::used_region;
+use arrayvec::ArrayVec;
+use block_store::ListZones;
+use desk::{App, AppOutcome, Job, Launched, Outcome, RunFault, run, run_with};
+use fork_format::{Content, Group, Ref, write_fork};
+use mac_words::{Attrs, Label, OsType};
+use res_calls::File;
+use script_text::{Event, read_script};
+use std::alloc::{AllocError, Global};
+use std::test::Fail;
+
+/// A fork that holds the sizes of a partition, as 'SIZE' -1.
+fn sized_fork(alloc: Global, sizes: &'static [u8]) -> Result<Vec<u8>, Fail> {
+    let reference = Ref {
+        id: -1,
+        name: None,
+        attrs: Attrs(0),
+        datum: sizes,
+    };
+    let group = Group {
+        ty: OsType(*b"SIZE"),
+        refs: vec![in alloc; reference]?,
+    };
+    let content = Content {
+        area: [0; 240],
+        attrs: 0,
+        groups: vec![in alloc; group]?,
+    };
+    Ok(write_fork(alloc, &content)?)
+}
+
+/// A name.
+fn name_of(bytes: &[u8]) -> Label {
+    let mut name = ArrayVec::new();
+    for byte in bytes {
+        let _full = name.try_push(*byte).is_err();
+    }
+    Label(name)
+}
+
+/// A job of so many bytes, without applications, and without a System file.
+pub fn empty_job(alloc: Global, memory: u32, events: &[Event]) -> Result<Job, AllocError>
+    ensures { IfOk result (λ job. job.memory ≡ memory) }
+{
+    Ok(Job {
+        memory,
+        system: None,
+        apps: Vec::new(alloc),
+        events: Vec::from_slice(alloc, events)?,
+    })
+}
+
+/// Adds an application with these sizes to a job.
+pub fn add(
+    alloc: Global,
+    job: &mut Job,
+    name: &[u8],
+    sizes: &'static [u8],
+    script: &[u8],
+) -> Result<(), Fail> {
+    let Ok(script) = read_script(alloc, script) else {
+        return Err(Fail::new("a faulty script"));
+    };
+    job.apps.push(App {
+        name: name_of(name),
+        fork: sized_fork(alloc, sizes)?,
+        files: Vec::new(alloc),
+        script,
+    })?;
+    Ok(())
+}
+
+/// Whether two applications leave the same files.
+fn are_same_files(some: &[File], others: &[File]) -> bool {
+    for (one, other) in some.iter().zip(others) {
+        if one.name != other.name || one.fork != other.fork || one.written != other.written {
+            return false;
+        }
+    }
+    some.len() == others.len()
+}
+
+/// Whether two applications that were launched leave the same.
+fn is_same_launched(one: &Launched, other: &Launched) -> bool {
+    (one.size, one.steps, one.asked) == (other.size, other.steps, other.asked)
+        && one.transcript == other.transcript
+        && are_same_files(&one.files, &other.files)
+}
+
+/// Whether two applications leave the same.
+fn is_same_app(one: &AppOutcome, other: &AppOutcome) -> bool {
+    match (&one.launched, &other.launched) {
+        (Some(launched), Some(again)) => {
+            one.name == other.name && is_same_launched(launched, again)
+        }
+        (None, None) => one.name == other.name,
+        _ => false,
+    }
+}
+
+/// Whether two runs leave the same.
+fn is_same_outcome(one: &Outcome, other: &Outcome) -> bool {
+    for (app, again) in one.apps.iter().zip(&other.apps) {
+        if !is_same_app(app, again) {
+            return false;
+        }
+    }
+    one.apps.len() == other.apps.len() && one.desk == other.desk
+}
+
+/// Whether two runs have an outcome, and leave the same.
+fn is_same_end(one: &Result<Outcome, RunFault>, other: &Result<Outcome, RunFault>) -> bool {
+    match (one, other) {
+        (Ok(outcome), Ok(again)) => is_same_outcome(outcome, again),
+        _ => false,
+    }
+}
+
+/// Whether a job leaves the same over lists and in the bytes of a region.
+pub fn is_run_alike(alloc: Global, job: &Job) -> Result<bool, Fail> {
+    let memory = job.memory;
+    if memory % 16 != 0 || memory < 512 || 134_217_728 < memory || 64 < job.apps.len() {
+        return Err(Fail::new("no job"));
+    }
+    let (listed, zones) = run_with(alloc, job, ListZones::new(alloc, memory)?);
+    drop(zones);
+    let (outcome, region) = run(alloc, used_region(alloc, memory)?, job);
+    region.close();
+    Ok(is_same_end(&listed, &outcome))
+}

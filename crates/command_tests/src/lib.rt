@@ -1,0 +1,17 @@
+//! Tests of whole scripts, jobs and commands.
+#![tactic(auto)]
+
+#[cfg(test)]
+mod chances;
+#[cfg(test)]
+mod generated;
+#[cfg(test)]
+mod hosts;
+#[cfg(test)]
+mod jobs;
+#[cfg(test)]
+mod readers;
+#[cfg(test)]
+mod regions;
+#[cfg(test)]
+mod zones;

@@ -1,0 +1,107 @@
+//! What a script and a job leave in the region in which they run.
+
+use crate::jobs::{add, empty_job};
+use crate::zones::{image_of, read_zone, used_region};
+use desk::{Job, run, run_script};
+use script_text::{Event, read_script};
+use std::alloc::Global;
+use std::process::Abort;
+use std::test::Fail;
+
+/// These bytes lie at these places.
+fn lies_there(rt: &impl Abort, image: &[u8], laid: &[(usize, &[u8])]) -> Result<(), Fail> {
+    for (place, wanted) in laid {
+        let end = place.wrapping_add(wanted.len());
+        match image.get(*place..end) {
+            Some(found) => assert_eq!(rt; found, *wanted),
+            None => return Err(Fail::new("a place behind the region")),
+        }
+    }
+    Ok(())
+}
+
+#[test]
+fn a_script_leaves_its_zone_in_the_region(rt: HostRuntime) -> Result<(), Fail> {
+    const LAID: &[(usize, &[u8])] = &[
+        (0, b"\0\0\x01\x12\0\0\x01\0\0\0\0\0\0\0\0\0"),
+        (16, b"\0\0\x01\x10\0\0\x01\x81\0\0\x01\xc1"),
+        (272, b"\0\0\0\x23\0\0\0\x03\0\0\0\x10\0\0\0\0"),
+        (288, b"abc"),
+        (304, b"\0\0\0\xd0"),
+    ];
+    let alloc = rt.alloc();
+    let Ok(script) = read_script(alloc, b"NewHandle a 3\nPut a 0 \"abc\"\n") else {
+        return Err(Fail::new("a faulty script"));
+    };
+    let (transcript, region) = run_script(alloc, used_region(alloc, 512)?, &script);
+    let image = image_of(alloc, region)?;
+    lies_there(&rt, &image, LAID)?;
+    assert_eq!(rt; read_zone(&rt, &image)?, 208);
+    assert_eq!(rt;
+        transcript?.as_slice(),
+        b"launch 0 512\n1 NewHandle 0\n2 Put 0\nend 0\n".as_slice()
+    );
+    Ok(())
+}
+
+/// 512 and 512 bytes.
+const LEAST: &[u8] = b"\0\0\0\0\x02\0\0\0\x02\0";
+
+/// An application with one block.
+const ONE: &[u8] = b"NewHandle a 3\nPut a 0 \"abc\"\nWaitNextEvent\n";
+
+/// One with a pointer's block and a locked one, an emptied handle and an emptied resource.
+const TWO: &[u8] = b"NewPtr p 4
+PutPtr p 0 \"Hi\"
+NewHandle b 16
+HLock b
+NewHandle c 0
+EmptyHandle c
+NewHandle d 1
+AddResource d 'TEXT' 1 \"\"
+EmptyHandle d
+WaitNextEvent
+";
+
+/// A job of both, which run still behind its last event.
+fn two_apps(alloc: Global) -> Result<Job, Fail> {
+    const EVENTS: &[Event] = &[
+        Event::Launch(0),
+        Event::Launch(1),
+        Event::Turn(0),
+        Event::Turn(1),
+    ];
+    let mut job = empty_job(alloc, 1040, EVENTS)?;
+    add(alloc, &mut job, b"one", LEAST, ONE)?;
+    add(alloc, &mut job, b"two", LEAST, TWO)?;
+    Ok(job)
+}
+
+#[test]
+fn applications_that_run_have_their_zones_in_the_region(rt: HostRuntime) -> Result<(), Fail> {
+    // In the first partition, in the second, and behind both.
+    const LAID: &[(usize, &[u8])] = &[
+        (0, b"\0\0\x01\x12\0\0\x01\0\0\0\0\0\0\0\0\0"),
+        (16, b"\0\0\x01\x10\0\0\x01\x81\0\0\x01\xc1"),
+        (272, b"\0\0\0\x23\0\0\0\x03\0\0\0\x10\0\0\0\0"),
+        (288, b"abc"),
+        (304, b"\0\0\0\xd0"),
+        (512, b"\0\0\x01\x12\0\0\x01\0\0\0\0\0\0\0\0\0"),
+        (528, b"\0\0\x01\x30\0\0\0\x02\0\0\0\x12\0\0\x02\x01"),
+        (780, b"\0\0\0\x01"),
+        (784, b"\0\0\0\x21\0\0\0\x04\0\0\0\0\0\0\0\0"),
+        (800, b"Hi"),
+        (816, b"\0\0\0\x23\0\0\0\x10\0\0\0\x10\0\0\0\x80"),
+        (848, b"\0\0\0\xb0"),
+        (1024, &[0xa5; 16]),
+    ];
+    let alloc = rt.alloc();
+    let job = two_apps(alloc)?;
+    if job.memory != 1040 || 64 < job.apps.len() {
+        return Err(Fail::new("no job"));
+    }
+    let (outcome, region) = run(alloc, used_region(alloc, 1040)?, &job);
+    lies_there(&rt, &image_of(alloc, region)?, LAID)?;
+    assert!(rt; outcome.is_ok());
+    Ok(())
+}

@@ -1,0 +1,39 @@
+-- The lines of a job, one after the other.
+use Rattle.std.proofs.Common.{◌≡◌, ℕ, zero, suc, get_or, true, List, [], ◌∷◌, ◌++◌, length, map, refl, ap, ◌∙◌}
+use Rattle.std.specs.Prelude.{slice_set, ◌&&◌, nat_lt, not}
+use Rattle.std.proofs.lemmas.Bool.{and_parts}
+use Rattle.std.proofs.lemmas.List.Elements.{filter_map-append}
+use Rattle.script_text.specs.Job.{Input, System, App, File, app_name, app_names, given_names, file_names, has_name, may_follow}
+use Rattle.script_text.specs.JobFacts.{all_follow}
+use Rattle.commands.specs.Gathering.{owner_is_in}
+
+-- a file that may follow has its application among those above
+owner_of : (above : List Input) (i : Input) → may_follow above i ≡ true
+    → owner_is_in (length (app_names above)) i ≡ true
+owner_of above (System path) may = refl
+owner_of above (App name fork script) may = refl
+owner_of above (File app name path) may =
+    (and_parts (nat_lt app (length (app_names above)))
+    (nat_lt (length (given_names app above)) 255 && not (has_name name (file_names app above))) may).0
+
+pub owner_above : (above more : List Input) (i : Input) → all_follow above (i ∷ more) ≡ true
+    → owner_is_in (length (app_names above)) i ≡ true
+owner_above above more i order =
+    owner_of above i (and_parts (may_follow above i) (all_follow (above ++ i ∷ []) more) order).0
+
+-- those behind it may follow it
+pub order_behind : (above more : List Input) (i : Input) → all_follow above (i ∷ more) ≡ true
+    → all_follow (above ++ i ∷ []) more ≡ true
+order_behind above more i order =
+    (and_parts (may_follow above i) (all_follow (above ++ i ∷ []) more) order).1
+
+-- the names with that of one line more
+pub names_more : (above : List Input) (i : Input) → app_names (above ++ i ∷ []) ≡ app_names above ++ app_names (i ∷ [])
+names_more above i = filter_map-append app_name above (i ∷ [])
+
+-- what is told of each stays where one is put anew of which the same is told
+pub map_kept : {X Y : Type 0} (f : X → Y) (xs : List X) (i : ℕ) (x y : X) → x ≡ get_or xs i x → f y ≡ f x
+    → map f (slice_set xs i y) ≡ map f xs
+map_kept f [] i x y is same = refl
+map_kept f (z ∷ xs) zero x y is same = ap (λ n. n ∷ map f xs) (same ∙ ap f is)
+map_kept f (z ∷ xs) (suc i) x y is same = ap (λ l. f z ∷ l) (map_kept f xs i x y is same)

@@ -1,0 +1,28 @@
+use Rattle.std.proofs.Common.{◌≡◌, ◌++◌, ◌+◌, List, ℕ, drop, map, rules, arith}
+use Rattle.std.proofs.lemmas.Grind.{common_steps}
+use Rattle.std.specs.List.{flat_map}
+use Rattle.fork_format.specs.View.{view_ref}
+use Rattle.commands.specs.Listing.{line_behind}
+use Rattle.commands.specs.Printing.{PrintsBut}
+use Rattle.commands.proofs.Printing.{first-further, first-front-further}
+use Rattle.commands.proofs.listing.print_group.Goals as goal
+
+pub returns-in_err-print_many-clause-front : goal.returns-in_err-print_many-clause-front
+returns-in_err-print_many-clause-front g c =
+    let lines = λ (i : ℕ). flat_map (line_behind c.digits_of-digits.result)
+    (map view_ref (drop i c.args.group.now.refs.items)) in
+    let i : ℕ = c.loop-resource.resource-index in
+    let first : List ℕ = c.push_resource.new.text.items in
+    let split : c.loop-resource.lines.items ++ lines i ≡ first ++ lines (i + 1) = grind (arith, common_steps) in
+    first-front-further _ _ first (lines (i + 1)) _ _ _ c.loop-resource.invariant split c.print_many.ensures.front
+
+pub loop-resource-preserved : goal.loop-resource-preserved
+loop-resource-preserved g c =
+    let lines = λ (i : ℕ). flat_map (line_behind c.digits_of-digits.result)
+    (map view_ref (drop i c.args.group.now.refs.items)) in
+    let i : ℕ = c.loop-resource.resource-index in
+    let first : List ℕ = c.push_resource.new.text.items in
+    let split : c.loop-resource.lines.items ++ lines i ≡ first ++ lines (i + 1) = grind (arith, common_steps) in
+    let now : PrintsBut first c.print_many.new.lines.items (g.H.Watch.printed c.loop-resource.host)
+    (g.H.Watch.printed c.print_many.new.host) = search rules in
+    first-further _ _ first _ (lines (i + 1)) _ _ _ c.loop-resource.invariant split now

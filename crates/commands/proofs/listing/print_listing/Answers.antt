@@ -1,0 +1,18 @@
+use Rattle.std.proofs.Common.{rules}
+use Rattle.commands.specs.Listing.{listing}
+use Rattle.fork_format.specs.View.{view}
+use Rattle.commands.specs.Printing.{PrintsBut}
+use Rattle.commands.proofs.Printing.{nothing, front-further}
+use Rattle.commands.proofs.listing.print_listing.Goals as goal
+
+pub returns-in_err-lines-clause-front : goal.returns-in_err-lines-clause-front
+returns-in_err-lines-clause-front g c = nothing _ _
+
+pub returns-in_err-push_head-clause-front : goal.returns-in_err-push_head-clause-front
+returns-in_err-push_head-clause-front g c = nothing _ _
+
+pub returns-clause-front : goal.returns-clause-front
+returns-clause-front g c =
+    let before : PrintsBut (listing (view c.args.content.now)) c.print_groups.new.lines.items
+    (g.H.Watch.printed c.args.host.now) (g.H.Watch.printed c.print_groups.new.host) = search rules in
+    front-further _ _ _ _ _ _ before c.as_slice.ensures.value c.print.ensures.front

@@ -1,0 +1,9 @@
+use Rattle.std.proofs.Common.{arith}
+use Rattle.commands.proofs.Digits.{two_more}
+use Rattle.commands.proofs.listing.put_digits.Goals as goal
+
+pub loop-i-preserved : goal.loop-i-preserved
+loop-i-preserved c =
+    two_more c.loop-i.digits c.args.bytes.now c.loop-i.i c.digit_of.result c.digit_of-in-loop-i.result
+    c.loop-i-test.true (omega arith)
+    c.loop-i.invariant c.digit_of.ensures c.digit_of-in-loop-i.ensures

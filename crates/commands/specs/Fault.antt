@@ -1,0 +1,79 @@
+use Rattle.std.specs.Prelude.{ℕ, ℤ, pos, List, [], string_bytes}
+use Rattle.mac_words.specs.declared.code.OsErr.{OsErr}
+use Rattle.script_text.specs.Fault as script
+use Rattle.script_text.specs.declared.fault.FaultKind.{FaultKind}
+use Rattle.commands.specs.declared.fault.ToolFault.{ToolFault}
+use Rattle.commands.specs.declared.fault.ToolFault.TheVariants as fault
+
+-- What a fault tells.
+
+-- what a person is told: a fault without where its texts lie
+pub data Message : Type 0 where
+  Usage : (text : List ℕ) → Message
+  CannotRead : (path : List ℕ) → Message
+  Script : (path : List ℕ) → (line : ℕ) → (kind : FaultKind) → Message
+  Fork : (path : List ℕ) → (code : OsErr) → Message
+  CannotWrite : (path : List ℕ) → Message
+  HostMemory : Message
+
+abbrev pub message_of : ToolFault → Message
+message_of (fault.Usage text) = Usage (string_bytes text)
+message_of (fault.CannotRead path) = CannotRead (string_bytes path)
+message_of (fault.Script path line kind) = Script (string_bytes path) line kind
+message_of (fault.Fork path code) = Fork (string_bytes path) code
+message_of (fault.CannotWrite path) = CannotWrite (string_bytes path)
+message_of fault.HostMemory = HostMemory
+
+-- which line is told: 0 for usage and help, 1 to 5 for the lines
+abbrev pub kind_of : ToolFault → ℕ
+kind_of (fault.Usage text) = 0
+kind_of (fault.CannotRead path) = 1
+kind_of (fault.Script path line kind) = 2
+kind_of (fault.Fork path code) = 3
+kind_of (fault.CannotWrite path) = 4
+kind_of fault.HostMemory = 5
+
+-- the status at the end
+abbrev pub status_of : ToolFault → ℕ
+status_of (fault.Usage text) = 2
+status_of (fault.CannotRead path) = 1
+status_of (fault.Script path line kind) = 1
+status_of (fault.Fork path code) = 1
+status_of (fault.CannotWrite path) = 1
+status_of fault.HostMemory = 1
+
+-- the path that the line names
+abbrev pub path_of : ToolFault → List ℕ
+path_of (fault.Usage text) = []
+path_of (fault.CannotRead path) = string_bytes path
+path_of (fault.Script path line kind) = string_bytes path
+path_of (fault.Fork path code) = string_bytes path
+path_of (fault.CannotWrite path) = string_bytes path
+path_of fault.HostMemory = []
+
+-- the line of the script
+abbrev pub line_of : ToolFault → ℕ
+line_of (fault.Usage text) = 0
+line_of (fault.CannotRead path) = 0
+line_of (fault.Script path line kind) = line
+line_of (fault.Fork path code) = 0
+line_of (fault.CannotWrite path) = 0
+line_of fault.HostMemory = 0
+
+-- the number of the script's fault, or the fork's result code
+abbrev pub number_of : ToolFault → ℤ
+number_of (fault.Usage text) = pos 0
+number_of (fault.CannotRead path) = pos 0
+number_of (fault.Script path line kind) = pos (script.number_of kind)
+number_of (fault.Fork path code) = code.0
+number_of (fault.CannotWrite path) = pos 0
+number_of fault.HostMemory = pos 0
+
+-- the text of usage and help
+abbrev pub text_of : ToolFault → List ℕ
+text_of (fault.Usage text) = string_bytes text
+text_of (fault.CannotRead path) = []
+text_of (fault.Script path line kind) = []
+text_of (fault.Fork path code) = []
+text_of (fault.CannotWrite path) = []
+text_of fault.HostMemory = []

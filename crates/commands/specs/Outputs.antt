@@ -1,0 +1,66 @@
+use Rattle.std.specs.Prelude.{ℕ, ◌+◌, Option, Some, None, List, [], ◌∷◌, ◌++◌, codes, decimal, string_bytes}
+use Rattle.std.specs.Prelude.{if◌then◌else◌}
+use Rattle.std.specs.List.{flat_map}
+use Rattle.std.specs.Str.{encode_utf8_all}
+use Rattle.res_calls.specs.Files.{File}
+use Rattle.desk.specs.Outcome.{Launched, Told, Outcome}
+use Rattle.commands.specs.declared.outputs.Output.{Output}
+
+-- The files that a run leaves in a folder.
+
+-- The paths, each of them the folder's as it was given, one slash, and a name. An application's name is one of letters,
+-- digits and `_`, which are written as they are.
+abbrev pub app_within : List ℕ → List ℕ → List ℕ
+app_within folder name = folder ++ codes "/app-" ++ encode_utf8_all name
+
+abbrev pub log_within : List ℕ → List ℕ → List ℕ
+log_within folder name = app_within folder name ++ codes ".log"
+
+abbrev pub fork_within : List ℕ → List ℕ → ℕ → List ℕ
+fork_within folder name k = app_within folder name ++ codes "-" ++ decimal k ++ codes ".rsrc"
+
+abbrev pub desk_within : List ℕ → List ℕ
+desk_within folder = folder ++ codes "/desk.log"
+
+-- a file: its path and its bytes
+pub record Written : Type 0 where
+  pub path : List ℕ
+  pub bytes : List ℕ
+
+-- the log of an application that was launched: its transcript
+abbrev pub log_left : List ℕ → Told → List Written
+log_left folder t = of_launched t.launched
+  where
+    of_launched : Option Launched → List Written
+    of_launched None = []
+    of_launched (Some l) = record { path = log_within folder t.name; bytes = l.transcript } ∷ []
+
+-- the forks that were written of these files of an application, which are its k-th and those behind it
+abbrev pub forks_within : List ℕ → List ℕ → ℕ → List File → List Written
+forks_within folder name k [] = []
+forks_within folder name k (f ∷ files) =
+    (if f.written then record { path = fork_within folder name k; bytes = f.fork } ∷ [] else [])
+    ++ forks_within folder name (k + 1) files
+
+-- those of an application that was launched
+abbrev pub forks_left : List ℕ → Told → List Written
+forks_left folder t = of_launched t.launched
+  where
+    of_launched : Option Launched → List Written
+    of_launched None = []
+    of_launched (Some l) = forks_within folder t.name 0 l.files
+
+-- in order: the desk's log, the logs of the applications, and their forks
+abbrev pub logs_left : List ℕ → List Told → List Written
+logs_left folder apps = flat_map (log_left folder) apps
+
+abbrev pub all_forks_left : List ℕ → List Told → List Written
+all_forks_left folder apps = flat_map (forks_left folder) apps
+
+abbrev pub left_by : List ℕ → Outcome → List Written
+left_by folder o =
+    record { path = desk_within folder; bytes = o.log } ∷ logs_left folder o.apps ++ all_forks_left folder o.apps
+
+-- a file, as the code has it
+abbrev pub output_seen : Output → Written
+output_seen output = record { path = string_bytes output.path; bytes = output.bytes.now }

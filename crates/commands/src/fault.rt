@@ -1,0 +1,133 @@
+//! Why the work was not done.
+
+ghost use Rattle.std.specs.Prelude.{◌≡◌};
+ghost use Rattle.commands.specs.Fault.{kind_of, status_of, path_of, line_of, number_of, text_of};
+ghost use Rattle.commands.specs.declared.fault.ToolFault.TheVariants.{HostMemory};
+
+use mac_words::OsErr;
+use script_text::FaultKind;
+use std::alloc::AllocError;
+use thiserror::Error;
+
+/// Why the work was not done. Its `Display` is what a person is told on the standard error: one line, or
+/// the text of the command line's parser.
+#[derive(Debug, Drop, Error)]
+pub enum ToolFault {
+    /// The words ask for nothing that the program does, or for help.
+    #[error("{text}")]
+    Usage {
+        /// What the parser says, with the ends of its lines.
+        text: String,
+    },
+    /// A file could not be read.
+    #[error("macmem: {path}: cannot read")]
+    CannotRead {
+        /// The file's path as it was given.
+        path: String,
+    },
+    /// A script has a faulty line.
+    #[error("macmem: {path}: line {line}: fault {}", .kind.number())]
+    Script {
+        /// The script's path as it was given.
+        path: String,
+        /// The line, from 1 on.
+        line: usize,
+        /// What is wrong with it.
+        kind: FaultKind,
+    },
+    /// Bytes are no fork.
+    #[error("macmem: {path}: fork {}", .code.number())]
+    Fork {
+        /// The path of the bytes as it was given.
+        path: String,
+        /// The result code.
+        code: OsErr,
+    },
+    /// What was to be written could not be.
+    #[error("macmem: {path}: cannot write")]
+    CannotWrite {
+        /// The path, or `-` for the standard output.
+        path: String,
+    },
+    /// The host refused memory.
+    #[error("macmem: no host memory")]
+    HostMemory,
+}
+
+impl ToolFault {
+    /// Which line a person is told: 0 for usage and help, then 1 to 5 in the order of the variants.
+    pub fn kind(&self) -> u8
+        ensures { result ≡ kind_of self.now }
+    {
+        match self {
+            ToolFault::Usage { .. } => 0,
+            ToolFault::CannotRead { .. } => 1,
+            ToolFault::Script { .. } => 2,
+            ToolFault::Fork { .. } => 3,
+            ToolFault::CannotWrite { .. } => 4,
+            ToolFault::HostMemory => 5,
+        }
+    }
+
+    /// The status that the program ends with: 2 for usage and help, else 1.
+    pub fn status(&self) -> u8
+        ensures { result ≡ status_of self.now }
+    {
+        match self {
+            ToolFault::Usage { .. } => 2,
+            _ => 1,
+        }
+    }
+
+    /// The path that the line names, empty where it names none.
+    pub fn path(&self) -> &str
+        ensures { result.now ≡ path_of self.now }
+    {
+        match self {
+            ToolFault::CannotRead { path } => path.as_str(),
+            ToolFault::Script { path, .. } => path.as_str(),
+            ToolFault::Fork { path, .. } => path.as_str(),
+            ToolFault::CannotWrite { path } => path.as_str(),
+            ToolFault::Usage { .. } | ToolFault::HostMemory => "",
+        }
+    }
+
+    /// The line of a script that the line names, 0 where it names none.
+    pub fn line(&self) -> usize
+        ensures { result ≡ line_of self.now }
+    {
+        match self {
+            ToolFault::Script { line, .. } => *line,
+            _ => 0,
+        }
+    }
+
+    /// The number of a script's fault, or a fork's result code; 0 where there is none.
+    pub fn number(&self) -> i16
+        ensures { result ≡ number_of self.now }
+    {
+        match self {
+            ToolFault::Script { kind, .. } => i16::from(kind.number()),
+            ToolFault::Fork { code, .. } => code.number(),
+            _ => 0,
+        }
+    }
+
+    /// The text of the command line's parser, empty for all but usage and help.
+    pub fn text(&self) -> &str
+        ensures { result.now ≡ text_of self.now }
+    {
+        match self {
+            ToolFault::Usage { text } => text.as_str(),
+            _ => "",
+        }
+    }
+}
+
+impl From<AllocError> for ToolFault {
+    ghost from_gives = { λ _ e. e ≡ HostMemory };
+
+    fn from(_e: AllocError) -> ToolFault {
+        ToolFault::HostMemory
+    }
+}

@@ -1,0 +1,24 @@
+//! What the program does: scripts and jobs are run, and resource forks listed and checked.
+#![tactic(auto)]
+
+mod doing;
+mod fault;
+mod files;
+mod gathering;
+mod host;
+mod input;
+mod listing;
+mod outputs;
+mod reading;
+mod running;
+mod size;
+mod tasks;
+mod words;
+mod work;
+
+pub use doing::tool;
+pub use fault::ToolFault;
+pub use files::HostFiles;
+pub use host::{Host, ReadError, WriteError};
+pub use reading::read_all;
+pub use words::not_utf8;

@@ -1,0 +1,56 @@
+//! The size of a partition, as a person writes it.
+
+ghost use Rattle.std.specs.Prelude.{◌≡◌, ◌≤◌, ◌%◌};
+ghost use Rattle.std.specs.List.{list_all};
+ghost use Rattle.std.specs.Option.{option_map};
+ghost use Rattle.std.specs.Char.{is_ascii_digit};
+ghost use Rattle.commands.specs.Size.{partition_size, within_limits};
+
+/// The fewest bytes of a partition.
+const SMALLEST: u32 = 512;
+
+/// The most bytes of a partition.
+const LARGEST: u32 = 134_217_728;
+
+/// The size of a partition in bytes: a multiple of 16 within the limits.
+#[derive(Clone, Copy)]
+pub struct PartitionSize {
+    pub bytes: u32,
+    ghost even: { bytes % 16 ≡ 0 },
+    ghost low: { 512 ≤ bytes },
+    ghost high: { bytes ≤ 134217728 },
+}
+
+fn has_digits_only(text: &str) -> bool
+    ensures { result ≡ list_all is_ascii_digit text.now }
+{
+    text.as_bytes().iter().all(|b| b.is_ascii_digit())
+}
+
+impl PartitionSize {
+    /// A number of bytes within the limits, rounded down to a multiple of 16.
+    fn within_limits(size: u32) -> Option<PartitionSize>
+        ensures { option_map (λ s. s.bytes) result ≡ within_limits size }
+    {
+        if SMALLEST <= size && size <= LARGEST {
+            Some(PartitionSize {
+                bytes: size - size % 16,
+            })
+        } else {
+            None
+        }
+    }
+
+    /// The size that a text of decimal digits writes, rounded down to a multiple of 16.
+    pub fn read(text: &str) -> Option<PartitionSize>
+        ensures { option_map (λ s. s.bytes) result ≡ partition_size text.now }
+    {
+        if !has_digits_only(text) {
+            return None;
+        }
+        match text.parse::<u32>() {
+            Ok(size) => PartitionSize::within_limits(size),
+            Err(_) => None,
+        }
+    }
+}

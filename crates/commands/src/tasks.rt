@@ -1,0 +1,200 @@
+//! A task: what is printed of the bytes of its file.
+
+ghost use Rattle.std.specs.Prelude.{◌≡◌, IfOk, IfErr, OnOk};
+ghost use Rattle.std.specs.Io.KnownBytes.{append_known};
+ghost use Rattle.commands.specs.Fault.{message_of};
+ghost use Rattle.commands.specs.Work.{IsTranscriptOf, IsListingOf, IsFormText};
+ghost use Rattle.commands.specs.Printing.{PrintsFront};
+ghost use Rattle.commands.specs.Tasks.{script_message, fork_message, write_message, IsScriptFault, IsForkFault};
+ghost use Rattle.commands.specs.Tasks.{output_text, IsPrinted, IsFault, Prints, IsRefusal};
+
+use crate::fault::ToolFault;
+use crate::host::{Host, WriteError};
+use crate::listing::print_listing;
+use crate::size::PartitionSize;
+use crate::work::{Form, form_of, transcript_of};
+use applications::{Unwatched, Watch};
+use fork_format::{Content, ForkFault, read_fork};
+use script_text::{FaultKind, ScriptFault};
+use std::alloc::{AllocError, Global};
+
+/// The path that stands for the standard output.
+const STANDARD_OUTPUT: &str = "-";
+
+/// What is done with the bytes of a file.
+#[derive(Clone, Copy)]
+pub enum Work {
+    /// They are run as a script in a partition of this size.
+    Script(PartitionSize),
+    /// They are listed as a fork.
+    Map,
+    /// They are told to be the canonical fork of their content, or another one.
+    Check,
+}
+
+/// What the words of a command line ask for.
+#[derive(Clone, Copy)]
+pub struct Task<'a> {
+    pub work: Work,
+    /// The file's path as it was given.
+    pub path: &'a str,
+    /// Whether it is told how far a script has come.
+    pub watched: bool,
+}
+
+/// What a task prints of the bytes of its file.
+#[derive(Drop)]
+pub enum Output<'b> {
+    /// A script's transcript.
+    Transcript(Vec<u8>),
+    /// The listing of a fork's content, which is made as it is printed, from the fork's bytes.
+    Listing(Content<'b>),
+    /// The line of a fork's form.
+    Form(Form),
+}
+
+/// A script's fault, or a job's, with its path.
+pub fn script_fault(alloc: Global, path: &str, fault: ScriptFault) -> Result<ToolFault, AllocError>
+    ensures { IfOk result (λ told. message_of told ≡ script_message path.now fault.line fault.kind) }
+{
+    match fault.kind {
+        FaultKind::HostMemory => Ok(ToolFault::HostMemory),
+        kind => Ok(ToolFault::Script {
+            path: String::from_str(alloc, path)?,
+            line: fault.line,
+            kind,
+        }),
+    }
+}
+
+/// A fork's fault, with the fork's path.
+fn fork_fault(alloc: Global, path: &str, fault: ForkFault) -> Result<ToolFault, AllocError>
+    ensures { IfOk result (λ told. message_of told ≡ fork_message path.now fault) }
+{
+    match fault.code() {
+        Some(code) => Ok(ToolFault::Fork {
+            path: String::from_str(alloc, path)?,
+            code,
+        }),
+        None => Ok(ToolFault::HostMemory),
+    }
+}
+
+/// The fault of what could not be written, with its path.
+pub fn write_fault(alloc: Global, path: &str, error: WriteError) -> Result<ToolFault, AllocError>
+    ensures { IfOk result (λ told. message_of told ≡ write_message path.now error) }
+{
+    match error {
+        WriteError::CannotWrite => Ok(ToolFault::CannotWrite {
+            path: String::from_str(alloc, path)?,
+        }),
+        WriteError::HostMemory => Ok(ToolFault::HostMemory),
+    }
+}
+
+/// The transcript of a script.
+fn script_output<'b, W: Watch>(
+    alloc: Global,
+    size: PartitionSize,
+    path: &str,
+    text: &'b [u8],
+    watch: &mut W,
+) -> Result<Output<'b>, ToolFault>
+    ensures output { IfOk result (λ output. IsTranscriptOf size.bytes text.now (output_text output)) }
+    ensures fault { IfErr result (λ fault. IsScriptFault path.now text.now (message_of fault)) }
+    ensures silent { W.printed watch.new ≡ W.printed watch.old }
+{
+    match transcript_of(alloc, size, text, watch) {
+        Ok(transcript) => Ok(Output::Transcript(transcript)),
+        Err(fault) => Err(script_fault(alloc, path, fault)?),
+    }
+}
+
+/// The listing of a fork.
+fn map_output<'b>(alloc: Global, path: &str, bytes: &'b [u8]) -> Result<Output<'b>, ToolFault>
+    ensures output { IfOk result (λ output. IsListingOf bytes.now (output_text output)) }
+    ensures fault { IfErr result (λ fault. IsForkFault path.now bytes.now (message_of fault)) }
+{
+    match read_fork(alloc, bytes) {
+        Ok(content) => Ok(Output::Listing(content)),
+        Err(fault) => Err(fork_fault(alloc, path, fault)?),
+    }
+}
+
+/// What a fork is to its content.
+fn check_output<'b>(alloc: Global, path: &str, bytes: &'b [u8]) -> Result<Output<'b>, ToolFault>
+    ensures output { IfOk result (λ output. IsFormText bytes.now (output_text output)) }
+    ensures fault { IfErr result (λ fault. IsForkFault path.now bytes.now (message_of fault)) }
+{
+    match form_of(alloc, bytes) {
+        Ok(form) => Ok(Output::Form(form)),
+        Err(fault) => Err(fork_fault(alloc, path, fault)?),
+    }
+}
+
+/// What a task prints of the bytes of its file. The host is told how far a script has come, where that is asked for.
+///
+/// # Errors
+///
+/// The fault of the bytes, with the file's path. Where the host refuses memory nothing is said of them.
+pub fn output_of<'b, H: Host>(
+    alloc: Global,
+    host: &mut H,
+    task: Task<'_>,
+    bytes: &'b [u8],
+) -> Result<Output<'b>, ToolFault>
+    // A script's transcript, a fork's listing, or the line that tells a fork's form.
+    ensures output { IfOk result (λ output. IsPrinted task.entry.work bytes.now (output_text output)) }
+
+    // The script's first faulty line, or the result code of bytes that are no fork.
+    ensures fault { IfErr result (λ fault. IsFault task.entry.work task.entry.path.now bytes.now (message_of fault)) }
+
+    // Nothing is printed yet.
+    ensures silent { H.printed host.new ≡ H.printed host.old }
+{
+    match task.work {
+        Work::Script(size) if task.watched => script_output(alloc, size, task.path, bytes, host),
+        Work::Script(size) => script_output(alloc, size, task.path, bytes, &mut Unwatched),
+        Work::Map => map_output(alloc, task.path, bytes),
+        Work::Check => check_output(alloc, task.path, bytes),
+    }
+}
+
+/// Prints an output: a listing piece by piece, and all else at once.
+fn print_output<H: Host>(alloc: Global, host: &mut H, output: &Output<'_>) -> Result<(), WriteError>
+    ensures all { OnOk result (H.printed host.new ≡ append_known (H.printed host.old) (output_text output.now)) }
+    ensures front { PrintsFront (output_text output.now) (H.printed host.old) (H.printed host.new) }
+{
+    match output {
+        Output::Transcript(text) => host.print(text.as_slice()),
+        Output::Listing(content) => print_listing(alloc, host, content),
+        Output::Form(form) => host.print(form.text()),
+    }
+}
+
+/// Does a task: prints what it prints of the bytes of its file. Nothing is printed before it is known that they
+/// have no fault.
+///
+/// # Errors
+///
+/// The fault of the bytes, with the file's path. Where the standard output fails, or the host refuses memory, a front
+/// of what is to be printed may have been.
+pub fn do_task<H: Host>(
+    alloc: Global,
+    host: &mut H,
+    task: Task<'_>,
+    bytes: &[u8],
+) -> Result<(), ToolFault>
+    // A script's transcript, a fork's listing, or the line that tells a fork's form: that and nothing else.
+    ensures printed { OnOk result (Prints task.entry.work bytes.now (H.printed host.old) (H.printed host.new)) }
+
+    // Faulty bytes, of which nothing is printed, or a print that failed.
+    ensures fault { IfErr result (λ fault. IsRefusal task.entry.work task.entry.path.now bytes.now
+        (H.printed host.old) (H.printed host.new) (message_of fault)) }
+{
+    let output = output_of(alloc, host, task, bytes)?;
+    match print_output(alloc, host, &output) {
+        Ok(()) => Ok(()),
+        Err(error) => Err(write_fault(alloc, STANDARD_OUTPUT, error)?),
+    }
+}

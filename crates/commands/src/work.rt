@@ -1,0 +1,110 @@
+//! The work of the commands, from the bytes of a file to what is printed of them.
+
+ghost use Rattle.std.specs.Prelude.{◌≡◌, ◌≢◌, ◌↔◌, [], IfOk, IfErr, IsTrue};
+ghost use Rattle.script_text.specs.Script.{script_of};
+ghost use Rattle.script_text.specs.Reading.{FailsAt};
+ghost use Rattle.fork_format.specs.Canonical.{canon, fits};
+ghost use Rattle.fork_format.specs.Fork.{IsUnspelled};
+ghost use Rattle.fork_format.specs.View.{view};
+ghost use Rattle.commands.specs.Work.{IsTranscriptOf, IsFormOf, TellsForm, text_of};
+
+use crate::size::PartitionSize;
+use applications::Watch;
+use desk::run_script_watched;
+use fork_format::{Content, ForkFault, WriteFault, read_fork, write_fork};
+use raw_region::Region;
+use script_text::{FaultKind, Script, ScriptFault, read_script};
+use std::alloc::{AllocError, Global};
+
+/// What a fork is to its content.
+#[derive(Clone, Copy)]
+pub enum Form {
+    /// It is the one fork that is written of its content.
+    Canonical,
+    /// It is read, but is written otherwise, or not at all.
+    Accepted,
+}
+
+impl Form {
+    /// The line that tells it.
+    pub fn text(self) -> &'static [u8]
+        ensures { result.now ≡ text_of self }
+    {
+        match self {
+            Form::Canonical => b"canonical\n",
+            Form::Accepted => b"accepted\n",
+        }
+    }
+}
+
+/// That the host has no memory for a script.
+const NO_MEMORY: ScriptFault = ScriptFault {
+    line: 0,
+    kind: FaultKind::HostMemory,
+};
+
+/// The transcript of a script in a fresh partition, which is a region of its own. The watch is told how many lines are done.
+pub fn transcript_of<W: Watch>(
+    alloc: Global,
+    size: PartitionSize,
+    text: &[u8],
+    watch: &mut W,
+) -> Result<Vec<u8>, ScriptFault>
+    // The script's lines are run to their end.
+    ensures transcript { IfOk result (λ out. IsTranscriptOf size.bytes text.now out.items) }
+
+    // The first faulty line, or no host memory.
+    ensures fault { IfErr result (λ f. FailsAt f.line f.kind (script_of text.now)) }
+
+    // Being watched prints nothing.
+    ensures silent { W.printed watch.new ≡ W.printed watch.old }
+{
+    let script = read_script(alloc, text)?;
+    let Ok(region) = Region::new(alloc, size.bytes as usize) else {
+        return Err(NO_MEMORY);
+    };
+    let (transcript, region) = run_script_watched(alloc, region, &script, watch);
+    region.close();
+    match transcript {
+        Ok(transcript) => Ok(transcript),
+        Err(_) => Err(NO_MEMORY),
+    }
+}
+
+/// Whether bytes are the canonical fork of a content.
+fn is_canonical(alloc: Global, content: &Content<'_>, bytes: &[u8]) -> Result<bool, AllocError>
+    ensures { IfOk result (λ b. IsTrue b ↔ (IsTrue (fits (view content.now))
+        × (bytes.now ≡ canon (view content.now)))) }
+{
+    match write_fork(alloc, content) {
+        Ok(fork) => Ok(fork.as_slice() == bytes),
+        Err(WriteFault::TooLarge) => Ok(false),
+        Err(WriteFault::HostMemory) => Err(AllocError),
+    }
+}
+
+/// What bytes are to a content.
+fn form_for(alloc: Global, content: &Content<'_>, bytes: &[u8]) -> Result<Form, AllocError>
+    ensures { IfOk result (λ f. TellsForm f (view content.now) bytes.now) }
+{
+    if is_canonical(alloc, content, bytes)? {
+        Ok(Form::Canonical)
+    } else {
+        Ok(Form::Accepted)
+    }
+}
+
+/// What a fork is to its content.
+pub fn form_of(alloc: Global, bytes: &[u8]) -> Result<Form, ForkFault>
+    // The form is what the bytes are to the content that they spell.
+    ensures form { IfOk result (λ form. IsFormOf bytes.now form) }
+
+    // No bytes, or bytes that spell no content.
+    ensures empty { (result ≡ Err ForkFault.Empty) ↔ (bytes.now ≡ []) }
+    ensures bad_map { (result ≡ Err ForkFault.BadMap) ↔ ((bytes.now ≢ []) × IsUnspelled bytes.now) }
+{
+    match read_fork(alloc, bytes) {
+        Ok(content) => Ok(form_for(alloc, &content, bytes)?),
+        Err(fault) => Err(fault),
+    }
+}

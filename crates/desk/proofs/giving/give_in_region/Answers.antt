@@ -1,0 +1,45 @@
+use Rattle.std.proofs.Common.{◌≡◌, ◌∙◌, ℕ, ap, sym, subst, length, arith, IfOk}
+use Rattle.raw_zone.specs.Parted.{zone_of}
+use Rattle.block_store.specs.Block.{sizes}
+use Rattle.block_store.specs.Rest.{Site}
+use Rattle.applications.specs.Alone.{alone, zone_alone}
+use Rattle.applications.specs.Alone as gives
+use Rattle.applications.proofs.Elsewhere.{sizes-fresh}
+use Rattle.desk.proofs.WholeRegion.{whole_home, whole_lies}
+use Rattle.desk.proofs.giving.give_in_region.Goals as goal
+
+pub returns-clause-given : goal.returns-clause-given
+returns-clause-given g c =
+    let low = c.requires.low in
+    let long : length c.cut.result.bytes ≡ length c.args.region.bytes = c.cut.ensures.part_length ∙ c.len-len.ensures in
+    let whole : sizes (zone_of c.new-zone.result) ≡ length c.args.region.bytes =
+    ap sizes c.new-zone.ensures.zone ∙ sizes-fresh (length c.cut.result.bytes) (omega (arith, low, long)) ∙ long in
+    subst (λ (n : ℕ). IfOk c.give_in-given.result.0
+    (λ (given : gives.Alone). given ≡ alone c.args.resources n c.args.script.now c.args.steps c.args.quit)) whole
+    c.give_in-given.ensures.given
+
+pub returns-clause-lies : goal.returns-clause-lies
+returns-clause-lies g c =
+    let low = c.requires.low in
+    let long : length c.cut.result.bytes ≡ length c.args.region.bytes = c.cut.ensures.part_length ∙ c.len-len.ensures in
+    let whole : sizes (zone_of c.new-zone.result) ≡ length c.args.region.bytes =
+    ap sizes c.new-zone.ensures.zone ∙ sizes-fresh (length c.cut.result.bytes) (omega (arith, low, long)) ∙ long in
+    let site = c.give_in-given.ensures.window ∙ c.new-zone.ensures.window in
+    let at = ap (λ (s : Site). s.window.at) site in
+    let len = ap (λ (s : Site). s.window.len) site in
+    whole_lies c.give_in-given.result.0 _ _ _
+    (λ (n : ℕ). zone_alone c.args.resources n c.args.script.now c.args.steps c.args.quit) whole
+    c.into_part.result.at c.into_part.result.bytes c.cut.new.self.bytes c.join.new.self.bytes _
+    (ap (λ p. p.at) c.into_part.ensures.part ∙ at ∙ c.cut.ensures.part_place)
+    (ap (λ p. length p.bytes) c.into_part.ensures.part ∙ len ∙ long ∙ sym c.cut.ensures.same_length)
+    c.join.ensures.bytes c.give_in-given.ensures.zone c.into_part.ensures.laid
+
+pub returns-clause-home : goal.returns-clause-home
+returns-clause-home g c =
+    let site = c.give_in-given.ensures.window ∙ c.new-zone.ensures.window in
+    whole_home c.into_part.result.at (length c.into_part.result.bytes) c.args.region.out c.cut.new.self.out
+    c.join.new.self.out _ _ c.requires.home c.cut.ensures.out
+    (ap (λ p. p.at) c.into_part.ensures.part ∙ ap (λ (s : Site). s.window.at) site ∙ c.cut.ensures.part_place)
+    (ap (λ p. length p.bytes) c.into_part.ensures.part ∙ ap (λ (s : Site). s.window.len) site
+    ∙ c.cut.ensures.part_length)
+    c.join.ensures.out

@@ -1,0 +1,47 @@
+//! What an application gives alone in a region.
+
+ghost use Rattle.std.specs.Prelude.{◌≡◌, ◌%◌, ◌≤◌, [], length, IfOk};
+ghost use Rattle.applications.specs.Alone.{alone, zone_alone};
+ghost use Rattle.desk.specs.Lying.{LieAs};
+
+use applications::{Given, Watch, give_in};
+use raw_region::Region;
+use raw_zone::RawZone;
+use res_calls::Resources;
+use script_text::Script;
+use std::alloc::{AllocError, Global};
+
+/// What an application gives alone, as `give_in` says, in a partition that fills a region, whatever lay there. The region
+/// comes back, with its zone in its bytes as it then is: headers, contents and master pointers.
+///
+/// # Errors
+///
+/// The host has no memory for it.
+pub fn give_in_region<W: Watch>(
+    alloc: Global,
+    region: Region,
+    resources: Resources,
+    script: &Script,
+    steps: usize,
+    quit: bool,
+    watch: &mut W,
+) -> (Result<Given, AllocError>, Region)
+    requires home { region.out ≡ [] }
+    requires even { length region.bytes % 16 ≡ 0 }
+    requires low { 512 ≤ length region.bytes }
+    requires high { length region.bytes ≤ 134217728 }
+    ensures given { IfOk result.0 (λ given. given ≡ alone resources (length region.bytes) script.now steps quit) }
+    ensures lies { IfOk result.0 (λ _.
+        LieAs (zone_alone resources (length region.bytes) script.now steps quit) result.1.bytes) }
+    ensures home { result.1.out ≡ [] }
+    ensures same { result.1.home ≡ region.home }
+    ensures length { length result.1.bytes ≡ length region.bytes }
+    ensures silent { W.printed watch.new ≡ W.printed watch.old }
+{
+    let mut region = region;
+    let len = region.len();
+    let zone = RawZone::new(region.cut(0, len));
+    let (given, zone) = give_in(alloc, zone, resources, script, steps, quit, watch);
+    region.join(zone.into_part());
+    (given, region)
+}

@@ -1,0 +1,226 @@
+//! A script, run to its end.
+
+ghost use Rattle.std.specs.Prelude.{◌≡◌, ◌%◌, ◌≤◌, ◌+◌, [], length, IfOk};
+ghost use Rattle.applications.specs.Trying.{launched, own_resources as own, nowhere};
+ghost use Rattle.applications.specs.Alone.{run_alone, script_alone, script_zone, first_steps};
+ghost use Rattle.applications.specs.Laws.{EachTry, ShowsPut, HoldsPut, KeepsLocked, KeepsFixed, EmptiesPurgeable, LooksFew};
+ghost use Rattle.applications.specs.Laws.{RefusedLeaves, KeepsResources, KeepsFiles, RefusedBinds, GoesByRule, Linked};
+ghost use Rattle.applications.specs.Laws.{KeepsTable, NothingBusy};
+ghost use Rattle.desk.specs.Lying.{LieAs};
+
+use crate::giving::give_in_region;
+use applications::{Unwatched, Watch, own_resources};
+use raw_region::Region;
+use script_text::Script;
+use std::alloc::{AllocError, Global};
+
+/// Runs a script to its end in a partition that fills a region, whatever lay there, and gives its transcript: the line of
+/// the launch, the lines of each call, and the line of the end, each as the call tables say. Where a call finds no room,
+/// the lines of its grow-zone script stand before its own. The region comes back with the zone in its bytes. The watch
+/// is told how many lines are done.
+///
+/// *Inside Macintosh: Memory*, chapter 1, "Organization of Memory".
+///
+/// # Errors
+///
+/// Where the host refuses memory there is no transcript.
+#[tactic(auto, using(applications::proofs::Quits::all_steps, applications::proofs::Runs::shows_put, applications::proofs::Runs::holds_put, applications::proofs::Runs::locked_stays, applications::proofs::Runs::fixed_stays, applications::proofs::Runs::only_purgeable_go, applications::proofs::Runs::looks_few, applications::proofs::Runs::refused_leave, applications::proofs::Runs::resources_stay, applications::proofs::Runs::files_stay, applications::proofs::Runs::table_stays, applications::proofs::Runs::refused_bind, applications::proofs::Runs::goes_by_rule, applications::proofs::Runs::linked, applications::proofs::Runs::nothing_stays_busy))]
+pub fn run_script_watched<W: Watch>(
+    alloc: Global,
+    region: Region,
+    script: &Script,
+    watch: &mut W,
+) -> (Result<Vec<u8>, AllocError>, Region)
+    requires home { region.out ≡ [] }
+    requires even { length region.bytes % 16 ≡ 0 }
+    requires low { 512 ≤ length region.bytes }
+    requires high { length region.bytes ≤ 134217728 }
+
+    // For every interleaving of launches, calls and quits, each launched application's transcript and forks are those
+    // that it would give alone with the same partition size, its own files and the same System file; each handle that was
+    // neither emptied nor disposed of shows the bytes last put there, wherever its block has moved; and no locked block
+    // moves or is purged.
+    //
+    // Here there is one application, and the transcript is what it gives alone: its fork has no resources, it has no
+    // other files, and there are none of the System's.
+    ensures transcript { IfOk result.0 (λ text. text.items
+        ≡ (script_alone (length region.bytes) script.now).transcript) }
+
+    // It is that of all its steps, of which the laws speak.
+    ensures whole { first_steps own (length region.bytes) script.now (length script.now.steps + 1)
+        ≡ run_alone (length region.bytes) script.now }
+
+    // Each step is a try, and the same step again as long as its grow-zone script makes room: no bound ends it.
+    ensures rule { GoesByRule script.now.blocks script.now.steps (launched (length region.bytes) nowhere) }
+
+    // Each try begins with the heap that the one before it left.
+    ensures linked { Linked (launched (length region.bytes) nowhere).memory.heap
+        (run_alone (length region.bytes) script.now).events }
+
+    // Each Show and ShowPtr shows the bytes last put into its handle or pointer, by the history of tries alone.
+    ensures shown { EachTry ShowsPut (λ _. [])
+        (run_alone (length region.bytes) script.now).events }
+
+    // After each try, those of grow-zone scripts too, each handle with a block, and each pointer, holds the bytes last
+    // put into it.
+    ensures held { EachTry HoldsPut (λ _. [])
+        (run_alone (length region.bytes) script.now).events }
+
+    // A locked block is neither moved nor emptied by a try, unless that disposes of its handle or unlocks it.
+    ensures locked { EachTry KeepsLocked (λ _. [])
+        (run_alone (length region.bytes) script.now).events }
+
+    // A pointer's block never moves.
+    ensures fixed { EachTry KeepsFixed (λ _. [])
+        (run_alone (length region.bytes) script.now).events }
+
+    // What a try empties was unlocked and purgeable, unless the call lets go of that handle.
+    ensures purged { EachTry EmptiesPurgeable (λ _. [])
+        (run_alone (length region.bytes) script.now).events }
+
+    // A try, but for one of OpenResFile, looks for room at most once more than there are blocks at its start.
+    ensures looks { EachTry LooksFew (λ _. [])
+        (run_alone (length region.bytes) script.now).events }
+
+    // A refused try leaves the heap and the resources as they were, but for the zone where the tables say so and for
+    // ResError's code, and each name bound as it was. A segment that can't be loaded ends the application instead.
+    ensures refused { EachTry RefusedLeaves (λ _. [])
+        (run_alone (length region.bytes) script.now).events }
+
+    // A call of the Memory Manager changes nothing of the resources, whatever it empties.
+    ensures resources { EachTry KeepsResources (λ _. [])
+        (run_alone (length region.bytes) script.now).events }
+
+    // No try changes a file, but for those of CreateResFile, UpdateResFile and CloseResFile.
+    ensures files { EachTry KeepsFiles (λ _. [])
+        (run_alone (length region.bytes) script.now).events }
+
+    // No try changes the jump table, but for those of the Segment Manager's calls.
+    ensures table { EachTry KeepsTable (λ _. [])
+        (run_alone (length region.bytes) script.now).events }
+
+    // After each step no name is busy.
+    ensures idle { NothingBusy script.now.blocks script.now.steps (launched (length region.bytes) nowhere) }
+
+    // A step whose call is refused binds no name.
+    ensures bound { RefusedBinds script.now.blocks script.now.steps (launched (length region.bytes) nowhere) }
+
+    // What lies in the region then is the zone that the application leaves: headers tile the bytes, each master pointer of
+    // a handle leads to its block, and the unused ones are one list.
+    ensures lies { IfOk result.0 (λ _. LieAs (script_zone (length region.bytes) script.now) result.1.bytes) }
+
+    // It is the region that was handed in, with all its parts home, whatever the answer.
+    ensures home { result.1.out ≡ [] }
+    ensures same { result.1.home ≡ region.home }
+    ensures length { length result.1.bytes ≡ length region.bytes }
+
+    // Being watched prints nothing.
+    ensures silent { W.printed watch.new ≡ W.printed watch.old }
+{
+    let resources = match own_resources(alloc) {
+        Ok(resources) => resources,
+        Err(fault) => return (Err(fault), region),
+    };
+    let steps = script.steps().len() + 1;
+    let (given, region) = give_in_region(alloc, region, resources, script, steps, false, watch);
+    match given {
+        Ok(given) => (Ok(given.into_transcript()), region),
+        Err(fault) => (Err(fault), region),
+    }
+}
+
+/// Runs a script to its end that nobody watches, as `run_script_watched` does.
+///
+/// # Errors
+///
+/// Where the host refuses memory there is no transcript.
+pub fn run_script(
+    alloc: Global,
+    region: Region,
+    script: &Script,
+) -> (Result<Vec<u8>, AllocError>, Region)
+    requires home { region.out ≡ [] }
+    requires even { length region.bytes % 16 ≡ 0 }
+    requires low { 512 ≤ length region.bytes }
+    requires high { length region.bytes ≤ 134217728 }
+
+    // For every interleaving of launches, calls and quits, each launched application's transcript and forks are those
+    // that it would give alone with the same partition size, its own files and the same System file; each handle that was
+    // neither emptied nor disposed of shows the bytes last put there, wherever its block has moved; and no locked block
+    // moves or is purged.
+    //
+    // Here there is one application, and the transcript is what it gives alone: its fork has no resources, it has no
+    // other files, and there are none of the System's.
+    ensures transcript { IfOk result.0 (λ text. text.items
+        ≡ (script_alone (length region.bytes) script.now).transcript) }
+
+    // It is that of all its steps, of which the laws speak.
+    ensures whole { first_steps own (length region.bytes) script.now (length script.now.steps + 1)
+        ≡ run_alone (length region.bytes) script.now }
+
+    // Each step is a try, and the same step again as long as its grow-zone script makes room: no bound ends it.
+    ensures rule { GoesByRule script.now.blocks script.now.steps (launched (length region.bytes) nowhere) }
+
+    // Each try begins with the heap that the one before it left.
+    ensures linked { Linked (launched (length region.bytes) nowhere).memory.heap
+        (run_alone (length region.bytes) script.now).events }
+
+    // Each Show and ShowPtr shows the bytes last put into its handle or pointer, by the history of tries alone.
+    ensures shown { EachTry ShowsPut (λ _. [])
+        (run_alone (length region.bytes) script.now).events }
+
+    // After each try, those of grow-zone scripts too, each handle with a block, and each pointer, holds the bytes last
+    // put into it.
+    ensures held { EachTry HoldsPut (λ _. [])
+        (run_alone (length region.bytes) script.now).events }
+
+    // A locked block is neither moved nor emptied by a try, unless that disposes of its handle or unlocks it.
+    ensures locked { EachTry KeepsLocked (λ _. [])
+        (run_alone (length region.bytes) script.now).events }
+
+    // A pointer's block never moves.
+    ensures fixed { EachTry KeepsFixed (λ _. [])
+        (run_alone (length region.bytes) script.now).events }
+
+    // What a try empties was unlocked and purgeable, unless the call lets go of that handle.
+    ensures purged { EachTry EmptiesPurgeable (λ _. [])
+        (run_alone (length region.bytes) script.now).events }
+
+    // A try, but for one of OpenResFile, looks for room at most once more than there are blocks at its start.
+    ensures looks { EachTry LooksFew (λ _. [])
+        (run_alone (length region.bytes) script.now).events }
+
+    // A refused try leaves the heap and the resources as they were, but for the zone where the tables say so and for
+    // ResError's code, and each name bound as it was. A segment that can't be loaded ends the application instead.
+    ensures refused { EachTry RefusedLeaves (λ _. [])
+        (run_alone (length region.bytes) script.now).events }
+
+    // A call of the Memory Manager changes nothing of the resources, whatever it empties.
+    ensures resources { EachTry KeepsResources (λ _. [])
+        (run_alone (length region.bytes) script.now).events }
+
+    // No try changes a file, but for those of CreateResFile, UpdateResFile and CloseResFile.
+    ensures files { EachTry KeepsFiles (λ _. [])
+        (run_alone (length region.bytes) script.now).events }
+
+    // No try changes the jump table, but for those of the Segment Manager's calls.
+    ensures table { EachTry KeepsTable (λ _. [])
+        (run_alone (length region.bytes) script.now).events }
+
+    // After each step no name is busy.
+    ensures idle { NothingBusy script.now.blocks script.now.steps (launched (length region.bytes) nowhere) }
+
+    // A step whose call is refused binds no name.
+    ensures bound { RefusedBinds script.now.blocks script.now.steps (launched (length region.bytes) nowhere) }
+
+    // What lies in the region then is the zone that the application leaves: headers tile the bytes, each master pointer of
+    // a handle leads to its block, and the unused ones are one list.
+    ensures lies { IfOk result.0 (λ _. LieAs (script_zone (length region.bytes) script.now) result.1.bytes) }
+
+    // It is the region that was handed in, with all its parts home, whatever the answer.
+    ensures home { result.1.out ≡ [] }
+    ensures same { result.1.home ≡ region.home }
+    ensures length { length result.1.bytes ≡ length region.bytes }
+{
+    run_script_watched(alloc, region, script, &mut Unwatched)
+}

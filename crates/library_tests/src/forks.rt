@@ -1,0 +1,158 @@
+//! Forks that are cut short or damaged, and forks of many types.
+
+ghost use Rattle.std.specs.Prelude.{◌<◌};
+
+use fork_format::{ForkFault, Group, read_fork, write_fork};
+use mac_words::OsType;
+use std::alloc::{AllocError, Global};
+use std::process::Abort;
+use std::test::Fail;
+
+/// The bytes between a header and the data.
+const AREA: &[u8] = &[0; 240];
+
+/// A fork without resources: its header, its data, which are none, the header once more, and the rest of its map.
+const EMPTY: &[&[u8]] = &[
+    b"\0\0\x01\0\0\0\x01\0\0\0\0\0\0\0\0\x1e",
+    AREA,
+    b"\0\0\x01\0\0\0\x01\0\0\0\0\0\0\0\0\x1e",
+    b"\0\0\0\0\0\0\0\0\0\x1c\0\x1e\xff\xff",
+];
+
+/// A fork with 'TEXT' 128, `Hi`.
+const HI: &[&[u8]] = &[
+    b"\0\0\x01\0\0\0\x01\x06\0\0\0\x06\0\0\0\x32",
+    AREA,
+    b"\0\0\0\x02Hi",
+    b"\0\0\x01\0\0\0\x01\x06\0\0\0\x06\0\0\0\x32",
+    b"\0\0\0\0\0\0\0\0\0\x1c\0\x32\0\0TEXT\0\0\0\x0a\0\x80\xff\xff\0\0\0\0\0\0\0\0",
+];
+
+/// A fork with 'TEXT' 129, `Hi!`, named Note.
+pub const NOTE: &[&[u8]] = &[
+    b"\0\0\x01\0\0\0\x01\x07\0\0\0\x07\0\0\0\x37",
+    AREA,
+    b"\0\0\0\x03Hi!",
+    b"\0\0\x01\0\0\0\x01\x07\0\0\0\x07\0\0\0\x37",
+    b"\0\0\0\0\0\0\0\0\0\x1c\0\x32\0\0TEXT\0\0\0\x0a\0\x81\0\0\0\0\0\0\0\0\0\0\x04Note",
+];
+
+const FORKS: &[&[&[u8]]] = &[EMPTY, HI, NOTE];
+
+/// The bytes of these pieces.
+pub fn joined(alloc: Global, pieces: &[&[u8]]) -> Result<Vec<u8>, AllocError> {
+    let mut bytes = Vec::new(alloc);
+    for piece in pieces {
+        bytes.extend_from_slice(*piece)?;
+    }
+    Ok(bytes)
+}
+
+/// Each prefix of a fork is refused.
+fn refuses_prefixes(rt: &impl Abort, alloc: Global, fork: &[u8]) {
+    for len in 0..fork.len() {
+        let fault = if len == 0 {
+            ForkFault::Empty
+        } else {
+            ForkFault::BadMap
+        };
+        assert!(rt;
+            read_fork(alloc, &fork[..len]) == Err(fault),
+            "of {len} bytes"
+        );
+    }
+}
+
+#[test]
+fn each_prefix_is_refused(rt: HostRuntime) -> Result<(), Fail> {
+    for pieces in FORKS {
+        refuses_prefixes(&rt, rt.alloc(), &joined(rt.alloc(), *pieces)?);
+    }
+    Ok(())
+}
+
+/// A fork that is read, as it is written again.
+fn rewritten(alloc: Global, fork: &[u8]) -> Result<Vec<u8>, Fail> {
+    let content = read_fork(alloc, fork)?;
+    Ok(write_fork(alloc, &content)?)
+}
+
+/// Bytes are refused, or written again as a fork that is read to the same.
+fn is_refused_or_rewritten(rt: &impl Abort, alloc: Global, bytes: &[u8]) -> Result<(), Fail> {
+    match read_fork(alloc, bytes) {
+        Ok(content) => {
+            let fork = write_fork(alloc, &content)?;
+            assert!(rt; rewritten(alloc, &fork)? == fork);
+        }
+        Err(fault) => assert!(rt; fault == ForkFault::BadMap),
+    }
+    Ok(())
+}
+
+/// Bytes with another one in the place of one of them.
+fn changed(alloc: Global, bytes: &[u8], at: usize, byte: u8) -> Result<Vec<u8>, AllocError> {
+    let mut all = Vec::from_slice(alloc, bytes)?;
+    if let Some(place) = all.get_mut(at) {
+        *place = byte;
+    }
+    Ok(all)
+}
+
+/// A fork is refused or written again, whichever of its bytes is changed.
+fn is_changed_anywhere(rt: &impl Abort, alloc: Global, fork: &[u8]) -> Result<(), Fail> {
+    for at in 0..fork.len() {
+        for byte in [0, 1, 127, 128, 255] {
+            is_refused_or_rewritten(rt, alloc, &changed(alloc, fork, at, byte)?)?;
+        }
+    }
+    Ok(())
+}
+
+#[test]
+fn each_changed_byte_is_refused_or_rewritten(rt: HostRuntime) -> Result<(), Fail> {
+    for pieces in FORKS {
+        is_changed_anywhere(&rt, rt.alloc(), &joined(rt.alloc(), *pieces)?)?;
+    }
+    Ok(())
+}
+
+/// A fork with 65,535 entries of types, which share one reference. The number of an entry, modulo `kinds`, is its type.
+fn fork_of_types(alloc: Global, kinds: u32) -> Result<Vec<u8>, AllocError>
+    requires { 0 < kinds }
+{
+    const HEADER: &[u8] = b"\0\0\x01\0\0\0\x01\x04\0\0\0\x04\0\x08\0\x22";
+    const LISTS: &[u8] = b"\0\0\0\0\0\0\0\0\0\x1c\0\0\xff\xfe";
+    let mut fork = joined(alloc, &[HEADER, AREA, &[0; 4], HEADER, LISTS])?;
+    for number in 0..65_535_u32 {
+        fork.extend_from_slice(&(number % kinds).to_be_bytes())?;
+        fork.extend_from_slice(&[0; 4])?;
+    }
+    fork.extend_from_slice(b"\0\0\xff\xff\0\0\0\0\0\0\0\0")?;
+    Ok(fork)
+}
+
+/// Whether the types are 0, 1, 2 and so on.
+fn are_in_order(groups: &[Group<'_>]) -> bool {
+    for (number, group) in (0..u32::MAX).zip(groups) {
+        if group.ty != OsType(number.to_be_bytes()) {
+            return false;
+        }
+    }
+    true
+}
+
+/// How many types such a fork is read to, and whether they are in order.
+fn types_read(alloc: Global, kinds: u32) -> Result<(usize, bool), Fail>
+    requires { 0 < kinds }
+{
+    let fork = fork_of_types(alloc, kinds)?;
+    let content = read_fork(alloc, &fork)?;
+    Ok((content.groups.len(), are_in_order(&content.groups)))
+}
+
+#[test]
+fn types_are_read_in_order_however_many(rt: HostRuntime) -> Result<(), Fail> {
+    assert_eq!(rt; types_read(rt.alloc(), 65_535)?, (65_535, true));
+    assert_eq!(rt; types_read(rt.alloc(), 2)?, (2, true));
+    Ok(())
+}

@@ -1,0 +1,11 @@
+//! Tests of heaps, of resource forks, and of the maps of open files.
+#![tactic(auto)]
+
+#[cfg(test)]
+mod calls;
+#[cfg(test)]
+mod forks;
+#[cfg(test)]
+mod heaps;
+#[cfg(test)]
+mod memory;

@@ -1,0 +1,63 @@
+//! Want of memory is told, by a fork and by the map of an open file.
+
+ghost use Rattle.std.specs.Prelude.{◌≡◌, ◌≤◌, length};
+
+use crate::forks::{NOTE, joined};
+use arrayvec::ArrayVec;
+use fork_format::{ForkFault, WriteFault, fits, read_fork, write_fork};
+use mac_words::{Name, OsType};
+use res_map::ResFile;
+use std::alloc::{AllocError, Global};
+use std::process::Abort;
+
+/// Run with each allocation refused in turn.
+#[test]
+fn a_fork_tells_a_want_of_memory(rt: HostRuntime) {
+    let alloc = rt.alloc();
+    let Ok(bytes) = joined(alloc, NOTE) else {
+        return;
+    };
+    match read_fork(alloc, &bytes) {
+        Ok(content) => match write_fork(alloc, &content) {
+            Ok(fork) => assert_eq!(rt; fork.as_slice(), bytes.as_slice()),
+            Err(fault) => assert!(rt; fault == WriteFault::HostMemory),
+        },
+        Err(fault) => assert!(rt; fault == ForkFault::HostMemory),
+    }
+}
+
+/// The map of a file with one text.
+fn opened(rt: &impl Abort, alloc: Global) -> Result<ResFile, AllocError> {
+    let bytes = joined(alloc, NOTE)?;
+    let Ok(content) = read_fork(alloc, &bytes) else {
+        return Err(AllocError);
+    };
+    assert!(rt; fits(&content));
+    ResFile::open(alloc, &content)
+}
+
+/// How many types its fork would have.
+fn stored(rt: &impl Abort, alloc: Global, file: &ResFile) -> Result<usize, AllocError> {
+    let mut fresh = Vec::new(alloc);
+    for _ in 0..file.len() {
+        fresh.push(None)?;
+    }
+    assert!(rt; fresh.len() == file.len());
+    Ok(file.content(alloc, &fresh)?.groups.len())
+}
+
+/// Run with each allocation refused in turn.
+#[test]
+fn a_map_tells_a_want_of_memory(rt: HostRuntime) {
+    let alloc = rt.alloc();
+    let Ok(mut file) = opened(&rt, alloc) else {
+        return;
+    };
+    let name = Name(ArrayVec::new());
+    let added = file.add(alloc, OsType(*b"MENU"), 1, &name, 40).is_ok();
+    let types = if added { 2 } else { 1 };
+    assert_eq!(rt; file.len(), types);
+    if let Ok(held) = stored(&rt, alloc, &file) {
+        assert_eq!(rt; held, types);
+    }
+}

@@ -1,0 +1,5 @@
+//! Tests of the raw region, through what is public.
+#![tactic(auto)]
+
+#[cfg(test)]
+mod regions;

@@ -1,0 +1,55 @@
+//! Worked cases, kept as data: each script is run over lists and in the bytes of a region, and what it tells is
+//! compared, row by row, with what it is to tell.
+#![tactic(auto)]
+
+mod case;
+mod folder;
+mod forks;
+mod reading;
+mod running;
+mod telling;
+mod trial;
+mod writing_out;
+
+use anyhow::{Result, ensure};
+use folder::{file_text, folder_of, names_in};
+use reading::read_cases;
+use std::rt::{Env, Files};
+use trial::{Count, try_cases};
+
+/// Tries the cases of a file, and prints what differs and a line for the file.
+fn try_file<R: Files + Print + AllocGlobal>(rt: &R, folder: &str, name: &str) -> Result<Count> {
+    let alloc = rt.alloc();
+    let text = file_text(rt, folder, name)?;
+    let mut told = String::new(alloc);
+    let count = match read_cases(alloc, &text) {
+        Ok(cases) => try_cases(alloc, name, &cases, &mut told)?,
+        Err(fault) => {
+            writeln!(told, "{name}: {fault}")?;
+            Count::unread()
+        }
+    };
+    rt.print(told.as_str())?;
+    println!(rt; "{name}: {} of {}", count.well, count.tried)?;
+    Ok(count)
+}
+
+/// Tries the cases of each file of the folder that the command line names.
+fn run<R: Env + Files + Print + AllocGlobal + Clone + Drop>(rt: &R) -> Result<()> {
+    let folder = folder_of(rt)?;
+    let mut all = Count::none();
+    for name in &names_in(rt, &folder)? {
+        all.add(try_file(rt, &folder, name)?);
+    }
+    ensure!(
+        all.is_well(),
+        "{} of {} cases are told as they are to be",
+        all.well,
+        all.tried
+    );
+    Ok(())
+}
+
+fn main(rt: HostRuntime) -> Result<()> {
+    run(&rt)
+}

@@ -1,0 +1,111 @@
+//! Cases over both stores of blocks: one that keeps lists, and one in the bytes of a region.
+
+ghost use Rattle.std.specs.Prelude.{◌≡◌, ◌%◌, ◌≤◌, [], IfOk, length};
+
+use crate::case::Case;
+use crate::forks::resources_of;
+use anyhow::{Result, ensure};
+use applications::{Given, Unwatched, give_alone};
+use desk::give_in_region;
+use raw_region::Region;
+use res_calls::Resources;
+use script_text::Script;
+use std::alloc::{AllocError, Global};
+
+/// What an application gives, over either store, and the bytes of its zone.
+#[derive(Drop)]
+pub struct Runs {
+    pub in_lists: Given,
+    pub in_bytes: Given,
+    pub zone: Vec<u8>,
+}
+
+/// A region of so many bytes, none of which is 0.
+fn used_region(alloc: Global, len: u32) -> Result<Region, AllocError>
+    requires even { len % 16 ≡ 0 }
+    requires low { 512 ≤ len }
+    requires high { len ≤ 134217728 }
+    ensures home { IfOk result (λ r. r.out ≡ []) }
+    ensures length { IfOk result (λ r. length r.bytes ≡ len) }
+{
+    let mut region = Region::new(alloc, len as usize)?;
+    let mut part = region.cut(0, len as usize);
+    part.fill(0, len as usize, 0xa5);
+    region.join(part);
+    Ok(region)
+}
+
+/// The bytes of a region.
+fn zone_of(alloc: Global, region: Region) -> Result<Vec<u8>, AllocError>
+    requires home { region.out ≡ [] }
+    requires even { length region.bytes % 16 ≡ 0 }
+    requires low { 512 ≤ length region.bytes }
+    requires high { length region.bytes ≤ 134217728 }
+{
+    let mut region = region;
+    let len = region.len();
+    let part = region.cut(0, len);
+    let zone = Vec::from_slice(alloc, part.bytes());
+    region.join(part);
+    region.close();
+    zone
+}
+
+fn run_in_bytes(
+    alloc: Global,
+    resources: Resources,
+    size: u32,
+    script: &Script,
+) -> Result<(Given, Vec<u8>), AllocError>
+    requires even { size % 16 ≡ 0 }
+    requires low { 512 ≤ size }
+    requires high { size ≤ 134217728 }
+{
+    let steps = script.steps().len() + 1;
+    let region = used_region(alloc, size)?;
+    let (given, region) = give_in_region(
+        alloc,
+        region,
+        resources,
+        script,
+        steps,
+        false,
+        &mut Unwatched,
+    );
+    let zone = zone_of(alloc, region);
+    Ok((given?, zone?))
+}
+
+fn run_in_lists(
+    alloc: Global,
+    resources: Resources,
+    size: u32,
+    script: &Script,
+) -> Result<Given, AllocError>
+    requires even { size % 16 ≡ 0 }
+    requires low { 512 ≤ size }
+    requires high { size ≤ 134217728 }
+{
+    let steps = script.steps().len() + 1;
+    give_alone(alloc, size, resources, script, steps, false)
+}
+
+fn resources(alloc: Global, case: &Case) -> Result<Resources> {
+    resources_of(alloc, &case.own, &case.others, &case.system)
+}
+
+/// What the application of a case gives, over either store.
+pub fn run_case(alloc: Global, case: &Case, script: &Script) -> Result<Runs> {
+    let size = case.size;
+    ensure!(
+        size % 16 == 0 && 512 <= size && size <= 134217728,
+        "no size of a partition: {size}"
+    );
+    let in_lists = run_in_lists(alloc, resources(alloc, case)?, size, script)?;
+    let (in_bytes, zone) = run_in_bytes(alloc, resources(alloc, case)?, size, script)?;
+    Ok(Runs {
+        in_lists,
+        in_bytes,
+        zone,
+    })
+}

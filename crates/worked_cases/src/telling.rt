@@ -1,0 +1,38 @@
+//! A transcript in the form of rows: each call as it stands in the script, with its answer.
+
+use std::alloc::{AllocError, Global};
+
+/// The line of a script by its number, if it begins with this word.
+fn call_at<'s>(script: &'s [&'s str], number: &str, word: &str) -> Option<&'s str> {
+    let index = number.parse::<usize>().ok()?.checked_sub(1)?;
+    let call = script.get(index)?;
+    match call.split_whitespace().next() {
+        Some(first) if first == word => Some(*call),
+        _ => None,
+    }
+}
+
+/// A transcript's line as a row; one that tells of no line of the script stays as it is.
+fn row_of(alloc: Global, script: &[&str], told: &str) -> Result<String, AllocError> {
+    let (mark, rest) = match told.strip_prefix('+') {
+        Some(rest) => ("+ ", rest),
+        None => ("", told),
+    };
+    if let Some((number, said)) = rest.split_once(' ') {
+        if let Some((word, answer)) = said.split_once(' ') {
+            if let Some(call) = call_at(script, number, word) {
+                return format!(in alloc; "{mark}{call} | {answer}");
+            }
+        }
+    }
+    String::from_str(alloc, told)
+}
+
+/// The rows of a script's transcript.
+pub fn rows_of(alloc: Global, script: &str, transcript: &str) -> Result<Vec<String>, AllocError> {
+    let script: Vec<&str> = script.lines().collect(alloc)?;
+    transcript
+        .lines()
+        .map(|line| row_of(alloc, script.as_slice(), line))
+        .try_collect(alloc)
+}

@@ -1,0 +1,198 @@
+//! Cases are tried, and what differs is told.
+
+use crate::case::{Case, Piece, Row};
+use crate::forks::written_rows;
+use crate::running::{Runs, run_case};
+use crate::telling::rows_of;
+use anyhow::{Context, Result, bail};
+use applications::Given;
+use script_text::{Script, ScriptFault, read_script};
+use std::alloc::{AllocError, Global};
+
+/// How many cases were tried, and how many of them are told as they are to be.
+#[derive(Clone, Copy)]
+pub struct Count {
+    pub tried: usize,
+    pub well: usize,
+}
+
+impl Count {
+    pub fn none() -> Count {
+        Count { tried: 0, well: 0 }
+    }
+
+    /// The count of a file that can't be read.
+    pub fn unread() -> Count {
+        Count { tried: 1, well: 0 }
+    }
+
+    pub fn is_well(&self) -> bool {
+        self.tried == self.well
+    }
+
+    pub fn add(&mut self, other: Count) {
+        self.tried = self.tried.saturating_add(other.tried);
+        self.well = self.well.saturating_add(other.well);
+    }
+}
+
+/// Appends rows, each with its line.
+fn push_rows(alloc: Global, to: &mut Vec<(usize, String)>, rows: &[Row]) -> Result<(), AllocError> {
+    for Row { line, text } in rows {
+        to.push((*line, String::from_str(alloc, text)?))?;
+    }
+    Ok(())
+}
+
+/// The rows that a case is to tell. Those of a script that is run have the launch and the end with them.
+fn expected(alloc: Global, case: &Case) -> Result<Vec<(usize, String)>, AllocError> {
+    let mut rows = Vec::new(alloc);
+    if case.is_read {
+        push_rows(alloc, &mut rows, &case.rows)?;
+        return Ok(rows);
+    }
+    rows.push((case.line, format!(in alloc; "launch 0 {}", case.size)?))?;
+    push_rows(alloc, &mut rows, &case.rows)?;
+    rows.push((case.end.line, String::from_str(alloc, &case.end.text)?))?;
+    push_rows(alloc, &mut rows, &case.written)?;
+    Ok(rows)
+}
+
+/// The first row that differs: its line in the file of cases, the row that was expected, and that which is told.
+fn first_difference<'r>(
+    expected: &'r [(usize, String)],
+    told: &'r [String],
+) -> Option<(usize, &'r str, &'r str)> {
+    for (index, (line, row)) in expected.iter().enumerate() {
+        let told = told.get(index).map_or("nothing", |row| row.as_str());
+        if row.as_str() != told {
+            return Some((*line, row.as_str(), told));
+        }
+    }
+    let (line, _) = expected.last()?;
+    let more = told.get(expected.len())?;
+    Some((*line, "nothing more", more.as_str()))
+}
+
+/// The rows that an application tells: of its launch, its calls and its end, and of the files that it wrote.
+fn told_by(alloc: Global, case: &Case, given: Given) -> Result<Vec<String>> {
+    let written = written_rows(alloc, given.files())?;
+    let transcript = String::from_utf8_lossy(alloc, &given.into_transcript())?;
+    let mut rows = rows_of(alloc, &case.script, &transcript)?;
+    for row in written {
+        rows.push(row)?;
+    }
+    Ok(rows)
+}
+
+/// Tells of the first row that differs, if any; gives whether there is none.
+fn is_told(
+    alloc: Global,
+    name: &str,
+    case: &Case,
+    store: &str,
+    told: &[String],
+    text: &mut String,
+) -> Result<bool, AllocError> {
+    let expected = expected(alloc, case)?;
+    match first_difference(&expected, told) {
+        Some((line, row, told)) => {
+            writeln!(text, "{name}:{line}: {}, {store}", case.title)?;
+            writeln!(text, "  expected: {row}")?;
+            writeln!(text, "  told:     {told}")?;
+            Ok(false)
+        }
+        None => Ok(true),
+    }
+}
+
+/// Whether bytes lie at a place of a zone.
+fn lies(zone: &[u8], piece: &Piece) -> bool {
+    let end = piece.at.saturating_add(piece.bytes.len());
+    zone.get(piece.at..end) == Some(piece.bytes.as_slice())
+}
+
+/// Tells of the first bytes that lie not in the zone, if any; gives whether there are none.
+fn is_laid(
+    alloc: Global,
+    name: &str,
+    case: &Case,
+    zone: &[u8],
+    text: &mut String,
+) -> Result<bool, AllocError> {
+    match case.zone.iter().find(|piece| !lies(zone, piece)) {
+        Some(Piece { line, at, .. }) => {
+            let rest = hex::encode(alloc, zone.get(*at..).unwrap_or(b""))?;
+            writeln!(text, "{name}:{line}: {}, from {at} on", case.title)?;
+            writeln!(text, "  there lies: ${rest}")?;
+            Ok(false)
+        }
+        None => Ok(true),
+    }
+}
+
+/// Runs a script over either store; gives whether its case is told as it is to be.
+fn try_script(
+    alloc: Global,
+    name: &str,
+    case: &Case,
+    script: &Script,
+    text: &mut String,
+) -> Result<bool> {
+    let Runs {
+        in_lists,
+        in_bytes,
+        zone,
+    } = run_case(alloc, case, script)?;
+    let in_lists = told_by(alloc, case, in_lists)?;
+    let in_bytes = told_by(alloc, case, in_bytes)?;
+    let lists = is_told(alloc, name, case, "in lists", &in_lists, text)?;
+    let bytes = is_told(alloc, name, case, "in bytes", &in_bytes, text)?;
+    Ok(is_laid(alloc, name, case, &zone, text)? && lists && bytes)
+}
+
+/// The row of a script that is read, or has this fault.
+fn read_row(alloc: Global, text: &str, fault: Option<ScriptFault>) -> Result<String, AllocError> {
+    match fault {
+        None => format!(in alloc; "{text} | read"),
+        Some(fault) => format!(in alloc; "{text} | {} {}", fault.line, fault.kind.number()),
+    }
+}
+
+/// Tells whether the scripts of a case are read, and what faults they have.
+fn try_texts(alloc: Global, name: &str, case: &Case, text: &mut String) -> Result<bool> {
+    let mut told = Vec::new(alloc);
+    for lines in &case.texts {
+        let script = lines.replace(alloc, " / ", "\n")?;
+        let fault = read_script(alloc, script.as_bytes()).err();
+        told.push(read_row(alloc, lines, fault)?)?;
+    }
+    Ok(is_told(alloc, name, case, "as it is read", &told, text)?)
+}
+
+/// Tries a case; gives whether it is told as it is to be.
+fn try_case(alloc: Global, name: &str, case: &Case, text: &mut String) -> Result<bool> {
+    if case.is_read {
+        return try_texts(alloc, name, case, text);
+    }
+    match read_script(alloc, case.script.as_bytes()) {
+        Ok(script) => try_script(alloc, name, case, &script, text),
+        Err(fault) => bail!("line {} of the script is faulty", fault.line),
+    }
+}
+
+/// Tries the cases of a file, and appends what differs to a text.
+pub fn try_cases(alloc: Global, name: &str, cases: &[Case], text: &mut String) -> Result<Count> {
+    let mut count = Count::none();
+    for case in cases {
+        let well = try_case(alloc, name, case, text).context(format_args!(
+            "{name}:{}: {}",
+            case.line, case.title
+        ))?;
+        count.add(Count {
+            tried: 1,
+            well: usize::from(well),
+        });
+    }
+    Ok(count)
+}

@@ -1,0 +1,101 @@
+//! A host in memory.
+
+ghost use Rattle.std.specs.Prelude.{None};
+
+use crate::archive::Archive;
+use crate::parts::Part;
+use applications::Watch;
+use commands::{Host, ReadError, WriteError};
+use std::alloc::{AllocError, Global};
+
+/// A host with the files of an archive. It notes what is asked of it and how far it is told that a run has come, a line for
+/// each, and keeps what is printed and written.
+#[derive(Drop)]
+pub struct Disk<'a> {
+    alloc: Global,
+    archive: &'a Archive,
+    /// Which thing that is asked of it fails, from 1; none at 0.
+    fails: usize,
+    /// How many things were asked of it.
+    count: usize,
+    pub asked: String,
+    pub progress: String,
+    pub printed: Vec<u8>,
+    pub written: Vec<Part>,
+}
+
+impl<'a> Disk<'a> {
+    /// A host of which nothing was asked yet, and of which this thing fails.
+    pub fn new(alloc: Global, archive: &'a Archive, fails: usize) -> Disk<'a> {
+        Disk {
+            alloc,
+            archive,
+            fails,
+            count: 0,
+            asked: String::new(alloc),
+            progress: String::new(alloc),
+            printed: Vec::new(alloc),
+            written: Vec::new(alloc),
+        }
+    }
+
+    /// Notes what is asked of it; gives whether it works.
+    fn works(&mut self, what: &str, path: &str) -> Result<bool, AllocError> {
+        writeln!(self.asked, "{what} {path}")?;
+        self.count = self.count.saturating_add(1);
+        Ok(self.count != self.fails)
+    }
+
+    /// Keeps a file.
+    fn keep(&mut self, path: &str, bytes: &[u8]) -> Result<(), AllocError> {
+        let bytes = Vec::from_slice(self.alloc, bytes)?;
+        self.written.push(Part::new(self.alloc, path, bytes)?)?;
+        Ok(())
+    }
+}
+
+impl Watch for Disk<'_> {
+    // What is printed is compared, and nothing is claimed of it.
+    ghost printed = { λ _. None };
+
+    fn done(&mut self, done: usize, of: usize) {
+        let _ = writeln!(self.progress, "{done} of {of}");
+    }
+}
+
+impl Host for Disk<'_> {
+    fn read(&mut self, alloc: Global, path: &str) -> Result<Vec<u8>, ReadError> {
+        if !self.works("read", path)? {
+            return Err(ReadError::CannotRead);
+        }
+        match self.archive.file(path) {
+            Some(bytes) => Ok(Vec::from_slice(alloc, bytes)?),
+            None => Err(ReadError::CannotRead),
+        }
+    }
+
+    fn print(&mut self, bytes: &[u8]) -> Result<(), WriteError> {
+        if !self.works("print", "-")? {
+            return Err(WriteError::CannotWrite);
+        }
+        self.printed.extend_from_slice(bytes)?;
+        Ok(())
+    }
+
+    /// A folder that has files is there already.
+    fn make_folder(&mut self, path: &str) -> Result<(), WriteError> {
+        if self.works("folder", path)? && !self.archive.has_folder(path) {
+            Ok(())
+        } else {
+            Err(WriteError::CannotWrite)
+        }
+    }
+
+    fn write(&mut self, path: &str, bytes: &[u8]) -> Result<(), WriteError> {
+        if !self.works("write", path)? {
+            return Err(WriteError::CannotWrite);
+        }
+        self.keep(path, bytes)?;
+        Ok(())
+    }
+}

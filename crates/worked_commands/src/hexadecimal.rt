@@ -1,0 +1,69 @@
+//! Bytes that are written out, in lines of words, but for those that begin with `#`. A word is hexadecimal digits, a text in
+//! quotes without blanks, or `N*` and one of these, which is N of them. `N times LINE` is N lines, in each of which a word `%` is
+//! the two bytes of its number, from 0 on; with `N times by K LINE` the numbers are 0, K, 2 K and so on.
+
+use crate::lines::step_of;
+use anyhow::{Context, Result};
+use std::alloc::Global;
+
+/// The bytes of a text in quotes, or of hexadecimal digits.
+fn once(alloc: Global, word: &str) -> Result<Vec<u8>> {
+    match word.strip_prefix("\"") {
+        Some(text) => Ok(Vec::from_slice(alloc, text.trim_end_matches('"').as_bytes())?),
+        None => Ok(hex::decode(alloc, word)?),
+    }
+}
+
+/// Appends the bytes of a word.
+fn push_word(alloc: Global, bytes: &mut Vec<u8>, word: &str) -> Result<()> {
+    match word.split_once('*') {
+        Some((count, word)) => {
+            let piece = once(alloc, word)?;
+            for _ in 0..count.parse::<u32>()? {
+                bytes.extend_from_slice(&piece)?;
+            }
+        }
+        None => bytes.extend_from_slice(&once(alloc, word)?)?,
+    }
+    Ok(())
+}
+
+/// Appends the bytes of a line with its number.
+fn push_line(alloc: Global, bytes: &mut Vec<u8>, line: &str, number: u32) -> Result<()> {
+    for word in line.split_whitespace() {
+        if word == "%" {
+            bytes.extend_from_slice(&u16::try_from(number)?.to_be_bytes())?;
+        } else {
+            push_word(alloc, bytes, word).context(format_args!("{word:?}"))?;
+        }
+    }
+    Ok(())
+}
+
+/// Appends the bytes of a line so many times.
+fn push_times(alloc: Global, bytes: &mut Vec<u8>, count: u16, line: &str) -> Result<()> {
+    let (step, line) = step_of(line)?;
+    for number in 0..count {
+        push_line(alloc, bytes, line, number as u32 * step as u32)?;
+    }
+    Ok(())
+}
+
+/// Appends the bytes of a line, or of as many as it says.
+fn push_lines(alloc: Global, bytes: &mut Vec<u8>, line: &str) -> Result<()> {
+    match line.split_once(" times ") {
+        Some((count, line)) => push_times(alloc, bytes, count.parse::<u16>()?, line),
+        None => push_line(alloc, bytes, line, 0),
+    }
+}
+
+/// The bytes of a text.
+pub fn bytes_of(alloc: Global, text: &str) -> Result<Vec<u8>> {
+    let mut bytes = Vec::new(alloc);
+    for line in text.lines() {
+        if !line.starts_with("#") {
+            push_lines(alloc, &mut bytes, line)?;
+        }
+    }
+    Ok(bytes)
+}

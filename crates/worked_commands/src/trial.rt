@@ -1,0 +1,159 @@
+//! A command is tried, and what differs is told.
+
+use crate::archive::{Archive, Command};
+use crate::comparing::{compare, compare_files, compare_some};
+use crate::disk::Disk;
+use commands::{ToolFault, tool};
+use std::alloc::{AllocError, Global};
+
+/// What came of a command.
+#[derive(Drop)]
+struct Outcome<'a> {
+    disk: Disk<'a>,
+    /// What a person is told on the standard error.
+    told: String,
+    /// The status that the program ends with, in a line.
+    status: String,
+}
+
+/// What a person is told of a fault, on the standard error.
+fn told_of(alloc: Global, fault: &ToolFault) -> Result<String, AllocError> {
+    match fault {
+        ToolFault::Usage { text } => text.clone(),
+        _ => format!(in alloc; "{fault}\n"),
+    }
+}
+
+/// Runs a command. This thing that it asks of the host fails.
+fn outcome_of<'a>(
+    alloc: Global,
+    archive: &'a Archive,
+    words: &[&str],
+    fails: usize,
+) -> Result<Outcome<'a>, AllocError> {
+    let mut disk = Disk::new(alloc, archive, fails);
+    let (told, status) = match tool(alloc, words, &mut disk) {
+        Ok(()) => (String::new(alloc), 0),
+        Err(fault) => (told_of(alloc, &fault)?, fault.status()),
+    };
+    let status = format!(in alloc; "{status}\n")?;
+    Ok(Outcome { disk, told, status })
+}
+
+/// Compares what came with a part, or with the lines of a part that is to stand in it; not there means nothing.
+fn compare_part(
+    text: &mut String,
+    command: &Command,
+    [name, some]: [&str; 2],
+    found: &[u8],
+) -> Result<(), AllocError> {
+    match command.wants(some) {
+        Some(wanted) => compare_some(text, name, wanted, found),
+        None => compare(text, name, command.wants(name).unwrap_or(b""), found),
+    }
+}
+
+/// The status that is to come: where no part tells it, 1 where something is told on the standard error.
+fn wanted_status(command: &Command) -> &[u8] {
+    match (command.wants("status"), command.wants("stderr")) {
+        (Some(status), _) => status,
+        (None, Some(_)) => b"1\n",
+        (None, None) => b"0\n",
+    }
+}
+
+/// Tells what differs in what came of a command.
+fn compare_outcome(
+    text: &mut String,
+    command: &Command,
+    outcome: &Outcome<'_>,
+) -> Result<(), AllocError> {
+    let disk = &outcome.disk;
+    compare_part(text, command, ["stdout", "stdout has"], &disk.printed)?;
+    compare_part(
+        text,
+        command,
+        ["stderr", "stderr has"],
+        outcome.told.as_bytes(),
+    )?;
+    let status = outcome.status.as_bytes();
+    compare(text, "status", wanted_status(command), status)?;
+    let progress = command.wants("progress").unwrap_or(b"");
+    compare(text, "progress", progress, disk.progress.as_bytes())?;
+    if let Some(asked) = command.wants("asked") {
+        compare(text, "asked", asked, disk.asked.as_bytes())?;
+    }
+    compare_files(text, command, &disk.written)
+}
+
+/// Tells what a command does otherwise than it is to, where the last of these things that it asks of the host fails: it tells
+/// just that, asks for nothing more, and has written nothing where it could not read.
+fn compare_failed(
+    alloc: Global,
+    text: &mut String,
+    asked: &str,
+    thing: &str,
+    outcome: &Outcome<'_>,
+) -> Result<(), AllocError> {
+    let (what, path) = thing.split_once(' ').unwrap_or((thing, ""));
+    let verb = if what == "read" { "read" } else { "write" };
+    let told = format!(in alloc; "macmem: {path}: cannot {verb}\n")?;
+    let disk = &outcome.disk;
+    compare(text, thing, told.as_bytes(), outcome.told.as_bytes())?;
+    compare(text, thing, b"1\n", outcome.status.as_bytes())?;
+    compare(text, thing, asked.as_bytes(), disk.asked.as_bytes())?;
+    if what == "read" && !disk.written.is_empty() {
+        writeln!(text, "    {thing}: a file is written all the same")?;
+    }
+    Ok(())
+}
+
+/// Runs a command again for each thing that it asks of the host, which fails, and tells what it does otherwise than it is to.
+fn compare_failures(
+    alloc: Global,
+    text: &mut String,
+    archive: &Archive,
+    words: &[&str],
+    whole: &Outcome<'_>,
+) -> Result<(), AllocError> {
+    let mut asked = String::new(alloc);
+    let mut number: usize = 0;
+    for thing in whole.disk.asked.as_str().lines() {
+        number = number.saturating_add(1);
+        writeln!(asked, "{thing}")?;
+        let outcome = outcome_of(alloc, archive, words, number)?;
+        compare_failed(alloc, text, &asked, thing, &outcome)?;
+    }
+    Ok(())
+}
+
+/// The words of a command line. What stands in quotes is one word.
+fn words_of(alloc: Global, line: &str) -> Result<Vec<&str>, AllocError> {
+    let mut words = Vec::new(alloc);
+    let mut quoted = false;
+    for piece in line.split('"') {
+        if quoted {
+            words.push(piece)?;
+        } else {
+            words.extend(piece.split_whitespace())?;
+        }
+        quoted = !quoted;
+    }
+    Ok(words)
+}
+
+/// Runs a command of an archive: what differs from what is to come of it.
+pub fn differences(
+    alloc: Global,
+    archive: &Archive,
+    command: &Command,
+) -> Result<String, AllocError> {
+    let mut text = String::new(alloc);
+    let words = words_of(alloc, &command.line)?;
+    let outcome = outcome_of(alloc, archive, &words, 0)?;
+    compare_outcome(&mut text, command, &outcome)?;
+    if command.wants("each may fail").is_some() {
+        compare_failures(alloc, &mut text, archive, &words, &outcome)?;
+    }
+    Ok(text)
+}

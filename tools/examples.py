@@ -1,0 +1,91 @@
+#!/usr/bin/env python3
+"""Runs the examples of pages and compares what they print with what the pages say.
+
+usage: tools/examples.py PROGRAM PAGE..
+
+An example is a block of a page (indented by four spaces, or between fences) whose first line begins with `$ `. Such a line is
+a command, and the lines behind it, up to the next one or to the end of the block, are what it prints. Commands are run by
+bash, one block after another in a folder of its page's own that has `examples/`, with PROGRAM as `macmem` on the path. The last
+line is 'N passed, M failed', of blocks.
+"""
+import os
+import shutil
+import subprocess
+import sys
+import tempfile
+
+SECONDS = 60
+
+
+def blocks(text):
+    """The number of the first line, and the lines, of each block of code."""
+    found, fenced = [], False
+    for number, line in enumerate(text.split("\n"), 1):
+        if line.startswith("```"):
+            fenced = not fenced
+            if fenced:
+                found.append((number + 1, []))
+            continue
+        if fenced:
+            found[-1][1].append(line)
+        elif line.startswith("    "):
+            if not found or found[-1] is None:
+                found.append((number, []))
+            found[-1][1].append(line[4:])
+            continue
+        if not fenced and (not found or found[-1] is not None):
+            found.append(None)
+    return [it for it in found if it]
+
+
+def commands(lines):
+    """Each command of a block, with what it is to print."""
+    found = []
+    for line in lines:
+        if line.startswith("$ "):
+            found.append((line[2:], []))
+        else:
+            found[-1][1].append(line + "\n")
+    return [(command, "".join(told)) for command, told in found]
+
+
+def fails(command, told, folder, path):
+    """What differs, where something does."""
+    try:
+        ran = subprocess.run(["bash", "-c", command], cwd=folder, env={**os.environ, "PATH": path, "LANG": "C.UTF-8"},
+                             stdin=subprocess.DEVNULL, stdout=subprocess.PIPE, stderr=subprocess.STDOUT, timeout=SECONDS)
+    except subprocess.TimeoutExpired:
+        return f"  $ {command}\n  had not ended after {SECONDS} seconds\n"
+    said = ran.stdout.decode(errors="replace")
+    if said == told:
+        return None
+    return f"  $ {command}\n  the page says:\n{told}  it prints:\n{said}"
+
+
+def main(program, pages):
+    top = os.path.dirname(os.path.dirname(os.path.abspath(__file__)))
+    passed = failed = 0
+    with tempfile.TemporaryDirectory(prefix="examples-") as room:
+        os.mkdir(f"{room}/bin")
+        os.symlink(os.path.abspath(program), f"{room}/bin/macmem")
+        path = f"{room}/bin:{os.environ['PATH']}"
+        for number, page in enumerate(pages):
+            folder = f"{room}/{number}"
+            shutil.copytree(f"{top}/examples", f"{folder}/examples")
+            with open(page, encoding="utf-8") as it:
+                text = it.read()
+            for line, lines in blocks(text):
+                if not lines[0].startswith("$ "):
+                    continue
+                wrong = [it for it in (fails(command, told, folder, path) for command, told in commands(lines)) if it]
+                passed, failed = passed + (not wrong), failed + bool(wrong)
+                if wrong:
+                    print(f"{page}:{line}: not as the page says", *wrong, sep="\n", end="")
+    print(f"{passed} passed, {failed} failed")
+    return 1 if failed or not passed else 0
+
+
+if __name__ == "__main__":
+    if len(sys.argv) < 3:
+        sys.exit(__doc__)
+    sys.exit(main(sys.argv[1], sys.argv[2:]))
