@@ -3,9 +3,11 @@
 #![tactic(auto)]
 
 mod header;
+mod laws;
 mod slot;
 mod word;
 
 pub use header::{HEADER, Header, Tag, read_header, write_header};
+pub use laws::{header_read_again, slot_read_again};
 pub use slot::{SlotWord, read_slot, write_slot};
 pub use word::{UNIT, read_word, write_word};

@@ -3,3 +3,5 @@
 
 #[cfg(test)]
 mod regions;
+#[cfg(test)]
+mod words;
