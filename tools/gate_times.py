@@ -21,7 +21,7 @@ class Process:
     """A process of the prover, with the time that it and what it started took so far, in seconds."""
 
     def __init__(self, words, folder):
-        self.words, self.folder, self.seconds, self.began, self.ended = words, folder, 0.0, time.time(), time.time()
+        self.words, self.folder, self.seconds, self.began = words, folder, 0.0, time.time()
 
     def crate(self):
         at = self.words.index("--crate-name") if "--crate-name" in self.words else None
@@ -33,6 +33,19 @@ class Process:
         if "--test" in self.words:
             return "tests"
         return "built" if "--crate-checked" in self.words else "proof"
+
+
+def is_below(pid, top):
+    """Whether a process was started by another, or by one that it started."""
+    for _ in range(64):
+        if pid in (0, top):
+            return pid == top
+        try:
+            with open(f"/proc/{pid}/stat") as it:
+                pid = int(it.read().rpartition(")")[2].split()[1])
+        except OSError:
+            return False
+    return False
 
 
 def looked_at(pid):
@@ -49,10 +62,10 @@ def looked_at(pid):
         return None
 
 
-def sample(seen):
-    """Looks at all processes once. A copy that a prover made counts for the one that made it."""
+def sample(seen, top):
+    """Looks once at all processes that one started. A copy that a prover made counts for the one that made it."""
     now = {int(it): looked_at(it) for it in os.listdir("/proc") if it.isdigit()}
-    now = {pid: it for pid, it in now.items() if it}
+    now = {pid: it for pid, it in now.items() if it and is_below(pid, top)}
     spent = collections.Counter()
     for pid, (parent, words, folder, seconds) in now.items():
         first = pid
@@ -63,7 +76,7 @@ def sample(seen):
         _, words, folder, _ = now[pid]
         if pid not in seen or seen[pid].words != words:
             seen[pid] = Process(words, folder)
-        seen[pid].seconds, seen[pid].ended = max(seen[pid].seconds, seconds), time.time()
+        seen[pid].seconds = max(seen[pid].seconds, seconds)
 
 
 def table(processes):
@@ -81,7 +94,9 @@ def table(processes):
     print("| Crate | " + " | ".join(PARTS) + " |\n" + "|---" * (len(PARTS) + 1) + "|")
     for crate in sorted(sums, key=lambda it: -sum(sums[it].values())):
         cells = [f"{sums[crate][it] / 60:.1f}" if sums[crate][it] else "" for it in PARTS]
-        cells[2] += f" ({counts[crate]})" if counts[crate] else ""
+        # (behind several wrong bodies the crate itself is checked over what they kept)
+        bodies = counts[crate] - (counts[crate] > 1)
+        cells[2] += f" ({bodies})" if bodies else ""
         print(f"| `{crate}` | " + " | ".join(cells) + " |")
     totals = [sum(sums[crate][it] for crate in sums) / 60 for it in PARTS]
     print("| in all | " + " | ".join(f"{it:.0f}" for it in totals) + f" |\n\n{sum(totals):.0f} minutes of a processor")
@@ -95,7 +110,7 @@ def main(words):
         live = set(os.listdir("/proc"))
         for pid in [it for it in seen if str(it) not in live]:
             past.append(seen.pop(pid))
-        sample(seen)
+        sample(seen, running.pid)
         time.sleep(0.5)
     table([*past, *seen.values()])
     print(f"{(time.time() - began) / 60:.0f} minutes by the clock, {len(os.sched_getaffinity(0))} processors")

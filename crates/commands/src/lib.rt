@@ -19,6 +19,8 @@ mod work;
 pub use doing::tool;
 pub use fault::ToolFault;
 pub use files::HostFiles;
+pub use gathering::gather;
 pub use host::{Host, ReadError, WriteError};
+pub use outputs::{Output, outputs_of};
 pub use reading::read_all;
 pub use words::not_utf8;

@@ -8,6 +8,7 @@ mod disk;
 mod folder;
 mod hexadecimal;
 mod lines;
+mod over_lists;
 mod parts;
 mod trial;
 

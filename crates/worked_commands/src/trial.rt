@@ -3,6 +3,7 @@
 use crate::archive::{Archive, Command};
 use crate::comparing::{compare, compare_files, compare_some};
 use crate::disk::Disk;
+use crate::over_lists::compare_in_lists;
 use commands::{ToolFault, tool};
 use std::alloc::{AllocError, Global};
 
@@ -152,6 +153,9 @@ pub fn differences(
     let words = words_of(alloc, &command.line)?;
     let outcome = outcome_of(alloc, archive, &words, 0)?;
     compare_outcome(&mut text, command, &outcome)?;
+    if words.get(1) == Some(&"run") && outcome.told.is_empty() {
+        compare_in_lists(alloc, &mut text, archive, command, &words)?;
+    }
     if command.wants("each may fail").is_some() {
         compare_failures(alloc, &mut text, archive, &words, &outcome)?;
     }

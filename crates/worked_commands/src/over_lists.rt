@@ -1,0 +1,85 @@
+//! A job is run once more, its zones kept in lists, and leaves the same files.
+
+use crate::archive::{Archive, Command};
+use crate::comparing::compare_files;
+use crate::disk::Disk;
+use crate::parts::Part;
+use block_store::ListZones;
+use commands::{Output, gather, outputs_of};
+use desk::{Job, Outcome, run_with};
+use script_text::read_job;
+use std::alloc::{AllocError, Global};
+
+/// The job of this path, with all that its lines name; none where something can't be read, or is faulty.
+fn job_at(alloc: Global, archive: &Archive, path: &str) -> Option<Job> {
+    let bytes = archive.file(path)?;
+    let mut disk = Disk::new(alloc, archive, 0);
+    match read_job(alloc, bytes) {
+        Ok(text) => gather(alloc, &mut disk, text).ok(),
+        Err(_) => None,
+    }
+}
+
+/// What a job leaves whose zones are kept in lists, if it runs.
+fn outcome_in_lists(alloc: Global, job: &Job) -> Option<Outcome> {
+    let memory = job.memory;
+    if memory % 16 != 0 || memory < 512 || 134_217_728 < memory || 64 < job.apps.len() {
+        return None;
+    }
+    let Ok(zones) = ListZones::new(alloc, memory) else {
+        return None;
+    };
+    let (outcome, zones) = run_with(alloc, job, zones);
+    drop(zones);
+    outcome.ok()
+}
+
+/// Files that are left, as a host keeps them.
+fn parts_of(alloc: Global, outputs: &[Output<'_>]) -> Result<Vec<Part>, AllocError> {
+    let mut parts = Vec::new(alloc);
+    for output in outputs {
+        let bytes = Vec::from_slice(alloc, output.bytes)?;
+        parts.push(Part::new(alloc, &output.path, bytes)?)?;
+    }
+    Ok(parts)
+}
+
+/// Tells what a job leaves in lists otherwise than its command is to.
+fn compare_job(
+    alloc: Global,
+    text: &mut String,
+    command: &Command,
+    job: &Job,
+    out: &str,
+) -> Result<(), AllocError> {
+    match outcome_in_lists(alloc, job) {
+        Some(outcome) => {
+            let outputs = outputs_of(alloc, out, &outcome)?;
+            compare_files(text, command, &parts_of(alloc, &outputs)?)
+        }
+        None => writeln!(text, "    the job has no outcome"),
+    }
+}
+
+/// Runs the job of a command line once more, its zones kept in lists, and tells what it leaves otherwise than it is to.
+pub fn compare_in_lists(
+    alloc: Global,
+    text: &mut String,
+    archive: &Archive,
+    command: &Command,
+    words: &[&str],
+) -> Result<(), AllocError> {
+    let mut last = words.iter().rev();
+    let (Some(out), Some(path)) = (last.next(), last.next()) else {
+        return Ok(());
+    };
+    let mut found = String::new(alloc);
+    match job_at(alloc, archive, path) {
+        Some(job) => compare_job(alloc, &mut found, command, &job, out)?,
+        None => writeln!(found, "    the job isn't read")?,
+    }
+    if !found.is_empty() {
+        write!(text, "    in lists\n{found}")?;
+    }
+    Ok(())
+}
