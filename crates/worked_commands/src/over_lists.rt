@@ -61,7 +61,8 @@ fn compare_job(
     }
 }
 
-/// Runs the job of a command line once more, its zones kept in lists, and tells what it leaves otherwise than it is to.
+/// Runs the job of a command line once more, its zones kept in lists, and tells what it leaves otherwise than it is to. The job
+/// and the folder are the last two words that are no options.
 pub fn compare_in_lists(
     alloc: Global,
     text: &mut String,
@@ -69,7 +70,7 @@ pub fn compare_in_lists(
     command: &Command,
     words: &[&str],
 ) -> Result<(), AllocError> {
-    let mut last = words.iter().rev();
+    let mut last = words.iter().rev().filter(|word| !word.starts_with("--"));
     let (Some(out), Some(path)) = (last.next(), last.next()) else {
         return Ok(());
     };
