@@ -1,6 +1,9 @@
 //! What was written is read back.
 
 ghost use Rattle.std.specs.Prelude.{◌≡◌, ◌+◌, ◌%◌, ◌≤◌, ◌<◌, ◌^◌, length};
+ghost use Rattle.windows.specs.Writes.{written};
+ghost use Rattle.heap_words.specs.Headers.{header_bytes};
+ghost use Rattle.heap_words.specs.Words.{word};
 ghost use Rattle.heap_words.specs.declared.header.TheConstants.{HEADER};
 ghost use Rattle.heap_words.specs.declared.word.TheConstants.{UNIT};
 ghost use Rattle.heap_words.specs.Slots.{IsSlot, slot_number};
@@ -9,7 +12,7 @@ use crate::header::{Header, read_header, write_header};
 use crate::slot::{SlotWord, read_slot, write_slot};
 use raw_region::Part;
 
-/// What is read where a header was just written: that header.
+/// A header is written, and nothing else; what is then read there is that header.
 pub fn header_read_again(part: &mut Part, at: u32, header: Header) -> Header
     requires multiple { at % 4 ≡ 0 }
     requires inside { at + HEADER ≤ length part.old.bytes }
@@ -21,13 +24,14 @@ pub fn header_read_again(part: &mut Part, at: u32, header: Header) -> Header
     ensures same_home { part.new.home ≡ part.old.home }
     ensures same_place { part.new.at ≡ part.old.at }
     ensures same_length { length part.new.bytes ≡ length part.old.bytes }
+    ensures bytes { part.new.bytes ≡ written at (header_bytes header) part.old.bytes }
     ensures again { result ≡ header }
 {
     write_header(part, at, header);
     read_header(part, at)
 }
 
-/// What is read where the word of a master pointer's slot was just written: that word.
+/// The word of a master pointer's slot is written, and nothing else; what is then read there is that word.
 pub fn slot_read_again(part: &mut Part, at: u32, slot: SlotWord) -> SlotWord
     requires multiple { at % 4 ≡ 0 }
     requires inside { at + 4 ≤ length part.old.bytes }
@@ -36,6 +40,7 @@ pub fn slot_read_again(part: &mut Part, at: u32, slot: SlotWord) -> SlotWord
     ensures same_home { part.new.home ≡ part.old.home }
     ensures same_place { part.new.at ≡ part.old.at }
     ensures same_length { length part.new.bytes ≡ length part.old.bytes }
+    ensures bytes { part.new.bytes ≡ written at (word (slot_number slot)) part.old.bytes }
     ensures again { result ≡ slot }
 {
     write_slot(part, at, slot);
