@@ -3,12 +3,18 @@
 
 usage: tools/examples.py PROGRAM PAGE..
 
-An example is a block of a page (indented by four spaces, or between fences) whose first line begins with `$ `. Such a line is
-a command, and the lines behind it, up to the next one or to the end of the block, are what it prints. Commands are run by
-bash, one block after another in a folder of its page's own that has `examples/`, with PROGRAM as `macmem` on the path. The last
-line is 'N passed, M failed', of blocks.
+An example is a block of a page (indented by four spaces, or between fences) of one of two forms:
+
+- Its first line begins with `$ `. Such a line is a command, and the lines after it, up to the next one or to the end of the block,
+  are what it prints. Commands are run by bash, one block after another in a folder of the page's own that has `examples/`, with
+  PROGRAM as `macmem` on the path.
+- Its fence is followed by `script SIZE`. The left column is then a script, and the column beside it, two spaces or more away, has the
+  lines of its transcript without the first and the last; a third column is a remark.
+
+The last line is 'N passed, M failed', of blocks.
 """
 import os
+import re
 import shutil
 import subprocess
 import sys
@@ -18,24 +24,24 @@ SECONDS = 60
 
 
 def blocks(text):
-    """The number of the first line, and the lines, of each block of code."""
+    """The number of the first line, the words after the fence, and the lines of each block of code."""
     found, fenced = [], False
     for number, line in enumerate(text.split("\n"), 1):
         if line.startswith("```"):
             fenced = not fenced
             if fenced:
-                found.append((number + 1, []))
+                found.append((number + 1, line[3:].split(), []))
             continue
         if fenced:
-            found[-1][1].append(line)
+            found[-1][2].append(line)
         elif line.startswith("    "):
             if not found or found[-1] is None:
-                found.append((number, []))
-            found[-1][1].append(line[4:])
+                found.append((number, [], []))
+            found[-1][2].append(line[4:])
             continue
         if not fenced and (not found or found[-1] is not None):
             found.append(None)
-    return [it for it in found if it]
+    return [it for it in found if it and it[2]]
 
 
 def commands(lines):
@@ -47,6 +53,21 @@ def commands(lines):
         else:
             found[-1][1].append(line + "\n")
     return [(command, "".join(told)) for command, told in found]
+
+
+def columns(size, lines):
+    """The command that runs the left column of a block as a script, and what it is to print."""
+    parts = [re.split(r" {2,}", line) for line in lines]
+    script = "\n".join(part[0] for part in parts)
+    told = "".join(part[1] + "\n" for part in parts if len(part) > 1)
+    return f"macmem script {size} /dev/stdin <<'END' | sed '1d;$d'\n{script}\nEND", told
+
+
+def examples(words, lines):
+    """The commands of a block, with what each is to print; none where the block is no example."""
+    if words[:1] == ["script"]:
+        return [columns(words[1], lines)]
+    return commands(lines) if lines[0].startswith("$ ") else []
 
 
 def fails(command, told, folder, path):
@@ -74,10 +95,11 @@ def main(program, pages):
             shutil.copytree(f"{top}/examples", f"{folder}/examples")
             with open(page, encoding="utf-8") as it:
                 text = it.read()
-            for line, lines in blocks(text):
-                if not lines[0].startswith("$ "):
+            for line, words, lines in blocks(text):
+                known = examples(words, lines)
+                if not known:
                     continue
-                wrong = [it for it in (fails(command, told, folder, path) for command, told in commands(lines)) if it]
+                wrong = [it for it in (fails(command, told, folder, path) for command, told in known) if it]
                 passed, failed = passed + (not wrong), failed + bool(wrong)
                 if wrong:
                     print(f"{page}:{line}: not as the page says", *wrong, sep="\n", end="")

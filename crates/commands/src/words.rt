@@ -10,8 +10,8 @@ use script_text::CALLS;
 use std::alloc::{AllocError, Global};
 
 const ABOUT: &str = concat!(
-    "Runs classic Macintosh applications, given as scripts of toolbox calls, in a model of the Memory Manager, ",
-    "and reads resource forks"
+    "Replays what a classic Mac OS heap did, from scripts of toolbox calls, in a model of the Memory, Resource ",
+    "and Segment Managers, and reads resource forks"
 );
 
 /// The crate's version.
@@ -19,12 +19,12 @@ const VERSION: &str = "0.1.0";
 
 const PROGRAM_EXAMPLES: &str = "Examples:
   macmem script 1024 examples/first.script    run a script in a partition of 1024 bytes
-  macmem run examples/job/job OUT             run the applications of a job, and leave what they write in OUT
+  macmem run examples/job/job OUT             run the applications of a job, and write what they leave into OUT
   macmem map examples/Document.rsrc           list the resources of a fork
   macmem check examples/Document.rsrc         say whether a fork is canonical
 
-'macmem COMMAND --help' tells more of a command; 'macmem script --help' lists the calls of a script.
-A word that begins with '-' is an option; behind '--' it is an argument.
+'macmem COMMAND --help' says more of a command; 'macmem script --help' lists the calls and the result codes.
+A word that begins with '-' is an option; after the word '--' it is an argument.
 Status: 0 done; 1 not done, with one line on the standard error; 2 usage, help or version.";
 
 const SCRIPT_ABOUT: &str = concat!(
@@ -46,11 +46,11 @@ prints, where first.script holds the two lines 'NewHandle a 100' and 'FreeMem':
   end 0
 
 Names are letters, digits and '_'; sizes, offsets and bytes of flags are decimal; bytes are written as \"Hi\" or $4869.
-A faulty line is told as 'macmem: SCRIPT: line N: fault K': 1 unknown call, 2 bad argument, 3 call not allowed here,
-4 line over 65535 bytes.
-What a grow-zone script does is told before the line of the call that asked for room, each line behind a '+'.
+A faulty line is reported as 'macmem: SCRIPT: line N: fault K': 1 unknown call, 2 bad argument, 3 call not allowed in a
+grow-zone script, 4 line of more than 65535 bytes.
+The lines of a grow-zone script stand before the line of the call that found no room, and begin with '+'.
 
-The calls, with their arguments, stand below the options.";
+The calls with their arguments are listed below the options, and below them the result codes.";
 
 const SIZE_HELP: &str =
     "Size of the partition in bytes, in decimal digits: 512 to 134217728, rounded down to a multiple of 16";
@@ -61,51 +61,51 @@ const SCRIPT_HELP: &str = concat!(
 );
 
 const RUN_ABOUT: &str = concat!(
-    "Runs a job: several applications in one memory, each in a partition of its own; makes the folder OUT, and ",
-    "writes what they leave into it"
+    "Runs a job: several applications in one memory, each in a partition of its own. Makes the folder OUT and ",
+    "writes into it what the applications leave"
 );
 
 const RUN_LONG_ABOUT: &str =
-    "Runs a job: several applications in one memory, each in a partition of its own; makes the folder OUT,
-and writes what they leave into it.
+    "Runs a job: several applications in one memory, each in a partition of its own. Makes the folder OUT and
+writes into it what the applications leave.
 
 Example:
   macmem run examples/job/job OUT
 
-A job's lines, in this order ('#' begins a line that is skipped):
+The lines of a job, in this order (a line that begins with '#' is skipped):
   memory N                   the memory in bytes: 512 to 134217728, a multiple of 16
-  system \"PATH\"              perhaps, once: the fork of the System
-  app NAME \"FORK\" \"SCRIPT\"  an application, at most 64: where its fork and its script are read
-  file NAME \"FILE\" \"PATH\"   a file of an application above, at most 255 of each: its name, and where its fork is read
+  system \"PATH\"              at most once: the path of the System file's resource fork
+  app NAME \"FORK\" \"SCRIPT\"  an application, one of at most 64: the paths of its resource fork and its script
+  file NAME \"FILE\" \"PATH\"   a file of an application above, one of at most 255: its name, and the path of its fork
                              'system', 'app' and 'file' stand in any order
-  launch NAME                the application is launched, in a window of the size that its 'SIZE' -1 asks for
-  step NAME, turn NAME       it makes its next step; or its steps up to and including the next WaitNextEvent
-  quit NAME                  it is asked to quit
-  rest                       all that run take turns, until none runs
+  launch NAME                launches the application, in a partition of the size that its 'SIZE' -1 asks for
+  step NAME, turn NAME       runs its next call; or its calls up to and including the next WaitNextEvent
+  quit NAME                  asks the application to quit
+  rest                       gives the running applications turns, until none runs
 
 Paths are taken as they stand, from the current folder.
 
-OUT holds then:
-  desk.log                   the launches and the ends with their codes, and the forks that were written
+The folder OUT then holds:
+  desk.log                   the launches and the ends with their result codes, and the forks that were written
   app-NAME.log               the transcript of each application that was launched
   app-NAME-K.rsrc            each fork that was written; K is the file's place among the application's files, from 0
 
-Nothing is written before all input is read. A faulty line, of the job or of a script, is told as
-'macmem: PATH: line N: fault K', as 'macmem script' tells it; a System that is no fork as 'macmem: PATH: fork CODE'; a
-folder that is there already as 'macmem: OUT: cannot write'.";
+Nothing is written before all input is read. A faulty line of the job or of a script is reported as
+'macmem: PATH: line N: fault K', as by 'macmem script'; a System file whose fork cannot be read as
+'macmem: PATH: fork CODE'; a folder that exists already as 'macmem: OUT: cannot write'.";
 
 const JOB_HELP: &str =
     "File with one line for each application, file and event. /dev/stdin is the standard input";
 
 const OUT_HELP: &str =
-    "Folder that is made for what the applications leave. It must not be there yet";
+    "Folder that is made for what the applications leave. It must not exist yet";
 
-/// The name of the flag, behind its two hyphens.
+/// The name of the flag, without its two hyphens.
 const PROGRESS: &str = "progress";
 
 const PROGRESS_HELP: &str = concat!(
-    "Tell on the standard error how far it has come, as 'macmem: 41 of 4080 done': lines of the script or events of ",
-    "the job, at most a hundred times"
+    "Report progress on the standard error, as 'macmem: 41 of 4080 done': lines of the script or events of the job, ",
+    "at most a hundred times"
 );
 
 const MAP_ABOUT: &str = concat!(
@@ -126,8 +126,8 @@ prints:
   $54455854 128 36 40 $52656164206d65206669727374
   $53495a45 -1 0 10 -
 
-Types and names are in hexadecimal behind '$'; '-' stands for no name.
-Bytes that are no fork are told as 'macmem: FORK: fork CODE': -39 no bytes, -199 damaged.";
+Types and names are in hexadecimal after '$'; '-' stands for no name.
+A fork that cannot be read is reported as 'macmem: FORK: fork CODE': -39 (eofErr) no bytes, -199 (mapReadErr) damaged.";
 
 const CHECK_ABOUT: &str = concat!(
     "Prints 'canonical' where the bytes are the canonical fork of their content, the one that this program would ",
@@ -138,7 +138,7 @@ const CHECK_EXAMPLES: &str = "Examples:
   macmem check examples/Document.rsrc     prints 'canonical'
   macmem check examples/OtherForm.rsrc    prints 'accepted': the same content, but no header copy in the map
 
-Bytes that are no fork are told as 'macmem: FORK: fork CODE': -39 no bytes, -199 damaged.";
+A fork that cannot be read is reported as 'macmem: FORK: fork CODE': -39 (eofErr) no bytes, -199 (mapReadErr) damaged.";
 
 fn argument<'a>(alloc: Global, name: &'a str, help: &'a str) -> Arg<'a> {
     Arg::new(alloc, name)
@@ -210,7 +210,7 @@ fn usage(alloc: Global, error: &Error) -> ToolFault {
     }
 }
 
-/// A mistake in the words that the parser doesn't know, told in its form.
+/// Reports a mistake in the words that the parser does not know, in the parser's form.
 fn mistake(alloc: Global, command: Command<'_>, message: &str) -> ToolFault {
     let mut command = command;
     match command.error(ErrorKind::ValueValidation, message) {
@@ -273,7 +273,7 @@ fn fork_task<'a>(work: Work, matches: &ArgMatches<'a>) -> Task<'a> {
     }
 }
 
-/// What is asked for by the words behind the program's name.
+/// Returns what the words after the program's name ask for.
 fn asked<'a>(alloc: Global, matches: &ArgMatches<'a>) -> Result<Request<'a>, ToolFault> {
     match matches.subcommand() {
         Some(("script", inner)) => Ok(Request::Look(script_task(alloc, inner)?)),
