@@ -89,96 +89,168 @@ pub enum Word {
     ExitToShell,
 }
 
-/// The calls by what they belong to: for each its word, the enums that hold it, and what reads its arguments. Behind
-/// them the words of those that a grow-zone script may hold.
+/// The calls by the part of the toolbox that they belong to: for each its word, the enums that hold the call, what reads its
+/// arguments, and a line of help. The list after them has the words of the calls that a grow-zone script may hold.
 macro_rules! calls {
     ($part:ident $($given:expr),*) => {
         $part! { $($given),* ;
-            "The Memory Manager, blocks that move" {
-                NewHandle = Heap HeapCall two(h, size);
-                NewEmptyHandle = Heap HeapCall one(h);
-                DisposeHandle = Heap HeapCall one(h);
-                GetHandleSize = Heap HeapCall one(h);
-                SetHandleSize = Heap HeapCall two(h, size);
-                ReallocateHandle = Heap HeapCall two(h, size);
-                EmptyHandle = Heap HeapCall one(h);
-                HLock = Heap HeapCall one(h);
-                HUnlock = Heap HeapCall one(h);
-                HPurge = Heap HeapCall one(h);
-                HNoPurge = Heap HeapCall one(h);
-                HGetState = Heap HeapCall one(h);
-                HSetState = Heap HeapCall two(h, byte);
-                MoveHHi = Heap HeapCall one(h);
-                HLockHi = Heap HeapCall one(h);
-                HandToHand = Heap HeapCall two(b, a);
-                HandAndHand = Heap HeapCall two(a, b);
-                PtrAndHand = Heap HeapCall two(h, bytes);
+            "The Memory Manager, relocatable blocks" {
+                NewHandle = Heap HeapCall two(h, size)
+                    "allocates a relocatable block of size bytes, all 0";
+                NewEmptyHandle = Heap HeapCall one(h)
+                    "binds h to a new empty handle";
+                DisposeHandle = Heap HeapCall one(h)
+                    "disposes of the block and its handle, locked or not";
+                GetHandleSize = Heap HeapCall one(h)
+                    "returns the logical size of the block";
+                SetHandleSize = Heap HeapCall two(h, size)
+                    "changes the logical size; new bytes are 0";
+                ReallocateHandle = Heap HeapCall two(h, size)
+                    "replaces the block with a new one of size bytes, all 0";
+                EmptyHandle = Heap HeapCall one(h)
+                    "removes the block, purgeable or not; the handle becomes empty";
+                HLock = Heap HeapCall one(h)
+                    "locks the block, so that it is neither moved nor purged";
+                HUnlock = Heap HeapCall one(h)
+                    "unlocks the block";
+                HPurge = Heap HeapCall one(h)
+                    "makes the block purgeable";
+                HNoPurge = Heap HeapCall one(h)
+                    "makes the block unpurgeable";
+                HGetState = Heap HeapCall one(h)
+                    "returns locked (128), purgeable (64) and resource (32), summed";
+                HSetState = Heap HeapCall two(h, byte)
+                    "sets locked and purgeable from bits 128 and 64 of byte";
+                MoveHHi = Heap HeapCall one(h)
+                    "moves the block to the top of its run of movable blocks";
+                HLockHi = Heap HeapCall one(h)
+                    "moves the block to the top of its run and locks it";
+                HandToHand = Heap HeapCall two(b, a)
+                    "binds b to a new handle with a copy of the bytes of a";
+                HandAndHand = Heap HeapCall two(a, b)
+                    "appends the bytes of a to b";
+                PtrAndHand = Heap HeapCall two(h, bytes)
+                    "appends bytes to the block";
             }
-            "The Memory Manager, blocks that stay" {
-                NewPtr = Heap HeapCall two(p, size);
-                DisposePtr = Heap HeapCall one(p);
-                GetPtrSize = Heap HeapCall one(p);
-                SetPtrSize = Heap HeapCall two(p, size);
+            "The Memory Manager, nonrelocatable blocks" {
+                NewPtr = Heap HeapCall two(p, size)
+                    "allocates a nonrelocatable block of size bytes, all 0";
+                DisposePtr = Heap HeapCall one(p)
+                    "disposes of the nonrelocatable block";
+                GetPtrSize = Heap HeapCall one(p)
+                    "returns the logical size of the nonrelocatable block";
+                SetPtrSize = Heap HeapCall two(p, size)
+                    "changes the logical size, in place; new bytes are 0";
             }
-            "The Memory Manager, the whole zone" {
-                FreeMem = Heap HeapCall none();
-                MaxBlock = Heap HeapCall none();
-                PurgeSpace = Heap HeapCall none();
-                CompactMem = Heap HeapCall one(size);
-                PurgeMem = Heap HeapCall one(size);
-                MaxMem = Heap HeapCall none();
-                ReserveMem = Heap HeapCall one(size);
-                MoreMasters = Heap HeapCall none();
-                MemError = Heap HeapCall none();
-                SetGrowZone = Control ControlCall one(name);
+            "The Memory Manager, the heap zone" {
+                FreeMem = Heap HeapCall none()
+                    "returns the sum of all free blocks, headers included";
+                MaxBlock = Heap HeapCall none()
+                    "returns the largest size that compaction alone would yield";
+                PurgeSpace = Heap HeapCall none()
+                    "returns free plus purgeable bytes, and the largest such stretch";
+                CompactMem = Heap HeapCall one(size)
+                    "compacts until size bytes fit; returns the largest size";
+                PurgeMem = Heap HeapCall one(size)
+                    "purges, the lowest block first, until size bytes fit";
+                MaxMem = Heap HeapCall none()
+                    "purges and compacts the whole zone; returns the largest size";
+                ReserveMem = Heap HeapCall one(size)
+                    "makes room for size bytes as low in the zone as it can be";
+                MoreMasters = Heap HeapCall none()
+                    "allocates a block of 64 master pointers";
+                MemError = Heap HeapCall none()
+                    "returns the result code of the last Memory Manager call";
+                SetGrowZone = Control ControlCall one(name)
+                    "sets the grow-zone script; the name none sets no script";
             }
             "The Resource Manager" {
-                OpenResFile = Resource ResourceCall one(file);
-                CreateResFile = Resource ResourceCall one(file);
-                CloseResFile = Resource ResourceCall one(n);
-                UpdateResFile = Resource ResourceCall one(n);
-                UseResFile = Resource ResourceCall one(n);
-                CurResFile = Resource ResourceCall none();
-                HomeResFile = Resource ResourceCall one(h);
-                GetResource = Resource ResourceCall three(h, type, id);
-                Get1Resource = Resource ResourceCall three(h, type, id);
-                GetNamedResource = Resource ResourceCall three(h, type, text);
-                Get1NamedResource = Resource ResourceCall three(h, type, text);
-                Count1Types = Resource ResourceCall none();
-                Get1IndType = Resource ResourceCall one(n);
-                Count1Resources = Resource ResourceCall one(type);
-                Get1IndResource = Resource ResourceCall three(h, type, n);
-                LoadResource = Resource ResourceCall one(h);
-                ReleaseResource = Resource ResourceCall one(h);
-                DetachResource = Resource ResourceCall one(h);
-                AddResource = Resource ResourceCall four(h, type, id, text);
-                RemoveResource = Resource ResourceCall one(h);
-                ChangedResource = Resource ResourceCall one(h);
-                WriteResource = Resource ResourceCall one(h);
-                GetResInfo = Resource ResourceCall one(h);
-                SetResInfo = Resource ResourceCall three(h, id, text);
-                GetResAttrs = Resource ResourceCall one(h);
-                SetResAttrs = Resource ResourceCall two(h, byte);
-                GetResourceSizeOnDisk = Resource ResourceCall one(h);
-                SetResLoad = Resource ResourceCall one(switch);
-                ResError = Resource ResourceCall none();
+                OpenResFile = Resource ResourceCall one(file)
+                    "opens a resource fork, makes it current, returns its number";
+                CreateResFile = Resource ResourceCall one(file)
+                    "makes a file whose fork has no resources";
+                CloseResFile = Resource ResourceCall one(n)
+                    "updates and closes a file and disposes of its handles";
+                UpdateResFile = Resource ResourceCall one(n)
+                    "writes the changed resources of a touched file to its fork";
+                UseResFile = Resource ResourceCall one(n)
+                    "makes an open file the current one";
+                CurResFile = Resource ResourceCall none()
+                    "returns the number of the current file";
+                HomeResFile = Resource ResourceCall one(h)
+                    "returns the number of the file that the resource is of";
+                GetResource = Resource ResourceCall three(h, type, id)
+                    "fetches by type and ID, along the search path";
+                Get1Resource = Resource ResourceCall three(h, type, id)
+                    "fetches by type and ID, from the current file only";
+                GetNamedResource = Resource ResourceCall three(h, type, text)
+                    "fetches by type and name, along the search path";
+                Get1NamedResource = Resource ResourceCall three(h, type, text)
+                    "fetches by type and name, from the current file only";
+                Count1Types = Resource ResourceCall none()
+                    "counts the resource types of the current file";
+                Get1IndType = Resource ResourceCall one(n)
+                    "returns the n-th type of the current file, from 1";
+                Count1Resources = Resource ResourceCall one(type)
+                    "counts the resources of a type in the current file";
+                Get1IndResource = Resource ResourceCall three(h, type, n)
+                    "fetches the n-th resource of a type in the current file";
+                LoadResource = Resource ResourceCall one(h)
+                    "reads the stored data into an empty handle of a resource";
+                ReleaseResource = Resource ResourceCall one(h)
+                    "disposes of a handle, unless its resource is changed";
+                DetachResource = Resource ResourceCall one(h)
+                    "makes the handle of a resource the application's own";
+                AddResource = Resource ResourceCall four(h, type, id, text)
+                    "adds the block to the current file as a new resource";
+                RemoveResource = Resource ResourceCall one(h)
+                    "removes a resource from the current file; its handle stays";
+                ChangedResource = Resource ResourceCall one(h)
+                    "marks the resource as changed and its file as touched";
+                WriteResource = Resource ResourceCall one(h)
+                    "stores the bytes of a changed resource in the resource map";
+                GetResInfo = Resource ResourceCall one(h)
+                    "returns the ID, type and name of the resource";
+                SetResInfo = Resource ResourceCall three(h, id, text)
+                    "sets the ID and, unless text is empty, the name";
+                GetResAttrs = Resource ResourceCall one(h)
+                    "returns the attributes of the resource";
+                SetResAttrs = Resource ResourceCall two(h, byte)
+                    "sets the attributes of the resource, except resChanged (2)";
+                GetResourceSizeOnDisk = Resource ResourceCall one(h)
+                    "returns the number of bytes of the stored data";
+                SetResLoad = Resource ResourceCall one(switch)
+                    "turns the reading of stored data on (TRUE) or off (FALSE)";
+                ResError = Resource ResourceCall none()
+                    "returns the result code of the last Resource Manager call";
             }
             "The Segment Manager" {
-                LoadSeg = Segment SegmentCall one(id);
-                UnloadSeg = Segment SegmentCall one(id);
-                CallEntry = Segment SegmentCall one(n);
-                ShowEntry = Segment SegmentCall one(n);
+                LoadSeg = Segment SegmentCall one(id)
+                    "loads a segment: fetches it, moves it high and locks it";
+                UnloadSeg = Segment SegmentCall one(id)
+                    "unloads a segment: unlocks it and makes it purgeable";
+                CallEntry = Segment SegmentCall one(n)
+                    "calls through jump table entry n, from 0; loads its segment";
+                ShowEntry = Segment SegmentCall one(n)
+                    "returns the segment of entry n, and 1 if it is loaded";
             }
-            "What an application does by itself" {
-                Put = Heap HeapCall three(h, offset, bytes);
-                Show = Heap HeapCall one(h);
-                PutPtr = Heap HeapCall three(p, offset, bytes);
-                ShowPtr = Heap HeapCall one(p);
-                Where = Heap HeapCall one(name);
+            "The application, on its own blocks" {
+                Put = Heap HeapCall three(h, offset, bytes)
+                    "writes bytes into the block of h, from offset on";
+                Show = Heap HeapCall one(h)
+                    "returns the bytes of the block of h";
+                PutPtr = Heap HeapCall three(p, offset, bytes)
+                    "writes bytes into the block of p, from offset on";
+                ShowPtr = Heap HeapCall one(p)
+                    "returns the bytes of the block of p";
+                Where = Heap HeapCall one(name)
+                    "returns where the content stands, counted from the zone's bottom";
             }
             "Turns" {
-                WaitNextEvent = Control ControlCall none();
-                ExitToShell = Control ControlCall none();
+                WaitNextEvent = Control ControlCall none()
+                    "ends the turn of the application";
+                ExitToShell = Control ControlCall none()
+                    "quits: updates and closes its files, the last opened first";
             }
             [EmptyHandle DisposeHandle DisposePtr HPurge HNoPurge HUnlock ReleaseResource UnloadSeg]
         }
@@ -188,7 +260,7 @@ macro_rules! calls {
 macro_rules! words {
     (
         ;
-        $($owner:literal { $($word:ident = $group:ident $calls:ident $read:ident $names:tt;)* })*
+        $($owner:literal { $($word:ident = $group:ident $calls:ident $read:ident $names:tt $what:literal;)* })*
         [$($held:ident)*]
     ) => {
         [$($(Word::$word,)*)*]
@@ -198,7 +270,7 @@ macro_rules! words {
 macro_rules! spelling_of {
     (
         $given:expr;
-        $($owner:literal { $($word:ident = $group:ident $calls:ident $read:ident $names:tt;)* })*
+        $($owner:literal { $($word:ident = $group:ident $calls:ident $read:ident $names:tt $what:literal;)* })*
         [$($held:ident)*]
     ) => {
         match $given { $($(Word::$word => stringify!($word).as_bytes(),)*)* }
@@ -226,7 +298,7 @@ macro_rules! arm {
 macro_rules! read_of {
     (
         $given:expr, $alloc:expr, $text:expr;
-        $($owner:literal { $($word:ident = $group:ident $calls:ident $read:ident $names:tt;)* })*
+        $($owner:literal { $($word:ident = $group:ident $calls:ident $read:ident $names:tt $what:literal;)* })*
         [$($held:ident)*]
     ) => {
         match $given { $($(Word::$word => arm!($given, $alloc, $text; $word $group $calls $read $names),)*)* }
@@ -236,7 +308,7 @@ macro_rules! read_of {
 macro_rules! word_of_call {
     (
         $given:expr;
-        $($owner:literal { $($word:ident = $group:ident $calls:ident $read:ident $names:tt;)* })*
+        $($owner:literal { $($word:ident = $group:ident $calls:ident $read:ident $names:tt $what:literal;)* })*
         [$($held:ident)*]
     ) => {
         match $given { $($(Call::$group($calls::$word { .. }) => Word::$word,)*)* }
@@ -246,14 +318,34 @@ macro_rules! word_of_call {
 macro_rules! listed {
     (
         ;
-        $($owner:literal { $($word:ident = $group:ident $calls:ident $read:ident ($($name:ident),*);)* })*
+        $($owner:literal { $($word:ident = $group:ident $calls:ident $read:ident ($($name:ident),*) $what:literal;)* })*
         [$($held:ident)*]
     ) => {
         concat!(
-            $($owner, ":\n", $("  ", stringify!($word), $(" ", stringify!($name),)* "\n",)*)*
-            "Grow-zone scripts, anywhere in a script; 'SetGrowZone none' sets none:\n",
+            $($owner, ":\n", $("  ", stringify!($word), $(" ", stringify!($name),)* ": ", $what, "\n",)*)*
+            "Grow-zone scripts, anywhere in a script; 'SetGrowZone none' sets no script:\n",
             "  grow NAME .. end, each on a line of its own, with lines of these calls between them:\n",
             "   ", $(" ", stringify!($held),)* "\n",
+            "Result codes:\n",
+            "  0 noErr: the call was done\n",
+            "  15 system error: a segment cannot be loaded; the application ends\n",
+            "  -34 dskFulErr: the content does not fit a resource fork, or the application has 256 files\n",
+            "  -39 eofErr: the file's resource fork has no bytes\n",
+            "  -43 fnfErr: the application has no file of this name\n",
+            "  -48 dupFNErr: the file has a resource fork already\n",
+            "  -61 wrPermErr: the System file and its resources cannot be changed\n",
+            "  -108 memFullErr: there is no room in the zone\n",
+            "  -109 nilHandleErr: the name is unbound, or its handle is empty\n",
+            "  -111 memWZErr: the handle or pointer was disposed of, or the name is of the other kind\n",
+            "  -112 memPurErr: the block is locked and cannot be removed\n",
+            "  -117 memLockedErr: the block is locked and cannot be moved, or the name is busy\n",
+            "  -192 resNotFound: there is no such resource, or the handle belongs to no resource\n",
+            "  -193 resFNotFound: no file is open under this number\n",
+            "  -194 addResFailed: the handle belongs to a resource already, or is empty\n",
+            "  -196 rmvResFailed: the resource is protected, is in another file, or the handle belongs to none\n",
+            "  -198 resAttrErr: the resource is protected or changed, which the call does not allow\n",
+            "  -199 mapReadErr: the resource fork is damaged\n",
+            "  -30001 profileErr: this program's own code, where the manuals say nothing\n",
         )
     };
 }
@@ -261,20 +353,20 @@ macro_rules! listed {
 macro_rules! is_held {
     (
         $given:expr;
-        $($owner:literal { $($word:ident = $group:ident $calls:ident $read:ident $names:tt;)* })*
+        $($owner:literal { $($word:ident = $group:ident $calls:ident $read:ident $names:tt $what:literal;)* })*
         [$($held:ident)*]
     ) => {
         matches!($given, $(Word::$held)|*)
     };
 }
 
-/// The calls as a person reads them: a line for each, with the names of its arguments, below the line of what it
-/// belongs to. Then the lines that make a grow-zone script, and the calls that it may hold.
+/// The calls as a person reads them: a line for each, with the names of its arguments and what the call does, below the line of
+/// the part of the toolbox. Then the lines that make a grow-zone script and the calls that it may hold, and the result codes.
 pub const CALLS: &str = calls!(listed);
 
 pub(crate) static WORDS: [Word; 72] = calls!(words);
 
-/// The word that is spelled so, if it is a likely one.
+/// Returns the word that a token spells, if the word is one of the few of the token's length that are tried first.
 fn likely_word(token: &[u8]) -> Option<Word>
     ensures { IfSome result (λ word. bytes_eq (spelling word) token.now ≡ true) }
 {
@@ -286,7 +378,7 @@ fn likely_word(token: &[u8]) -> Option<Word>
     None
 }
 
-/// The word that is spelled so, looked for among all.
+/// Returns the word that a token spells, by trying every word.
 #[tactic(auto, unfolding(crate::specs::Call::word_spelled))]
 fn any_word(token: &[u8]) -> Option<Word>
     ensures { result ≡ word_spelled token.now }
@@ -295,28 +387,28 @@ fn any_word(token: &[u8]) -> Option<Word>
 }
 
 impl Word {
-    /// The word of a call.
+    /// Returns the word of a call.
     pub fn of(call: &Call) -> Word
         ensures { result ≡ word_of call.now }
     {
         calls!(word_of_call call)
     }
 
-    /// How the call is spelled.
+    /// Returns the spelling of the word.
     pub fn text(self) -> &'static [u8]
         ensures { result.now ≡ spelling self }
     {
         calls!(spelling_of self)
     }
 
-    /// Whether a grow-zone script may hold the call.
+    /// Reports whether a grow-zone script may hold the call.
     pub(crate) fn is_allowed(self) -> bool
         ensures { result ≡ may_stand self }
     {
         calls!(is_held self)
     }
 
-    /// The word that is spelled so.
+    /// Returns the word that a token spells, if the token spells one.
     #[tactic(auto, using(crate::proofs::Spelled::spelled_so))]
     pub(crate) fn find(token: &[u8]) -> Option<Word>
         ensures { result ≡ word_spelled token.now }
@@ -327,7 +419,7 @@ impl Word {
         }
     }
 
-    /// The call of this word, that takes no argument.
+    /// Makes the call of a word that takes no argument. The text must then be blank.
     fn of_none<F: FnOnce() -> Call>(self, text: &[u8], make: F) -> Result<Call, FaultKind>
         requires callable { F.IsAlwaysCallable make }
         requires kinds { kinds self ≡ [] }
@@ -339,7 +431,7 @@ impl Word {
         Ok(make())
     }
 
-    /// The call of this word, that is made of one argument.
+    /// Reads the one argument of a word from a text and makes the call.
     fn of_one<A: Argument + Drop, F: FnOnce(A) -> Call>(
         self,
         alloc: Global,
@@ -356,7 +448,7 @@ impl Word {
         Ok(make(a))
     }
 
-    /// The call of this word, that is made of two arguments.
+    /// Reads the two arguments of a word from a text and makes the call.
     fn of_two<A: Argument + Drop, B: Argument + Drop, F: FnOnce(A, B) -> Call>(
         self,
         alloc: Global,
@@ -373,7 +465,7 @@ impl Word {
         Ok(make(a, b))
     }
 
-    /// The call of this word, that is made of three arguments.
+    /// Reads the three arguments of a word from a text and makes the call.
     fn of_three<
         A: Argument + Drop,
         B: Argument + Drop,
@@ -390,7 +482,7 @@ impl Word {
         Ok(make(a, b, c))
     }
 
-    /// The call of this word, that is made of four arguments.
+    /// Reads the four arguments of a word from a text and makes the call.
     fn of_four<
         A: Argument + Drop,
         B: Argument + Drop,
@@ -408,7 +500,7 @@ impl Word {
         Ok(make(a, b, c, d))
     }
 
-    /// The call of this word, whose arguments a text spells.
+    /// Reads the arguments of a word from a text and makes the call.
     pub(crate) fn read(self, alloc: Global, text: &[u8]) -> Result<Call, FaultKind>
         ensures call { Gives spoken result (call_read self text.now) }
         ensures word { IfOk result (λ call. word_of call ≡ self) }
@@ -417,7 +509,7 @@ impl Word {
     }
 }
 
-/// Each word is found by its spelling, so no two are spelled alike and none is forgotten.
+/// Finds each word by its spelling: no two words are spelled alike, and no word is forgotten.
 pub fn words_are_apart()
     ensures { (w : declared.Word) → word_spelled (spelling w) ≡ Some w }
 {}
