@@ -11,15 +11,15 @@ use Rattle.heap_calls.specs.Asked.{Asked, DisposeHandle, EmptyHandle, Reallocate
 abbrev pub may_be_emptied : ℕ → List Block → Bool
 may_be_emptied h zone = has (λ b. is_relocatable h b && is_purgeable b) zone
 
--- Whether a call disposes of the handle h, empties it, or gives it another block.
+-- Whether a call disposes of the handle h, frees its block, or gives it another block.
 abbrev pub lets_go : ℕ → Asked → Bool
 lets_go h (DisposeHandle (Some k)) = k == h
 lets_go h (EmptyHandle (Some k)) = k == h
 lets_go h (ReallocateHandle (Some k) size) = k == h
 lets_go h asked = false
 
--- A handle that has a block before a call and none after it had an unlocked, purgeable block, unless the call itself
--- disposed of the handle, emptied it or was to give it another block.
+-- A handle that has a block before a call and none after it had an unlocked, purgeable block, unless the call was
+-- itself to dispose of the handle, to free its block or to give it another.
 abbrev pub OnlyPurgeableGo : Asked → Memory → Type 0
 OnlyPurgeableGo asked m =
     (h : ℕ) → lets_go h asked ≡ false → has (is_relocatable h) m.heap.zone ≡ true

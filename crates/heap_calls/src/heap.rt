@@ -32,9 +32,10 @@ use std::marker::Model;
 ///
 /// A call on a handle returns -109 (nilHandleErr) where the name is unbound, where the number was never given, or
 /// where the handle is empty and the call needs its block; -111 (memWZErr) where the number is a pointer's or was
-/// disposed of; and -117 (memLockedErr) where the handle is busy. A call on a pointer returns the same codes, -111
-/// also where the number is a handle's. A call that is refused because a handle or a pointer is busy changes nothing
-/// but the code that `MemError` returns.
+/// disposed of; and -117 (memLockedErr) where the handle is busy. A call on a pointer returns -109 where the name is
+/// unbound or the number was never given, -111 where the number is a handle's or was disposed of, and -117 where the
+/// pointer is busy. A call that is refused because a handle or a pointer is busy changes nothing but the code that
+/// `MemError` returns.
 ///
 /// *Inside Macintosh: Memory*, chapter 1, "Heap Management".
 #[derive(Drop)]
