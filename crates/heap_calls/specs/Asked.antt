@@ -20,7 +20,8 @@ use Rattle.heap_calls.specs.Searches.{purge_mem_searches}
 use Rattle.heap_calls.specs.Moves.{new_handle_moves, set_handle_size_moves, reallocate_handle_moves, hand_to_hand_moves}
 use Rattle.heap_calls.specs.Moves.{hand_and_hand_moves, pointer_and_hand_moves, compact_mem_moves, max_mem_moves}
 
--- a call of the Memory Manager's table, with the number that each of its names is bound to, if it is bound
+-- A call of the Memory Manager's table, with the number that each of its names is bound to, `None` where the name is
+-- unbound.
 pub data Asked : Type 0 where
   NewHandle : (size : ℕ) → Asked
   NewEmptyHandle : Asked
@@ -59,24 +60,25 @@ pub data Asked : Type 0 where
   ShowPtr : (pointer : Option ℕ) → Asked
   Where : (name : Option ℕ) → Asked
 
--- a reply as it is told
+-- A reply as a transcript prints it.
 abbrev pub told_as : {T : Type 0} → (T → Told) → Result T OsErr → Told
 told_as tell (Ok value) = tell value
 told_as tell (Err code) = Refused code
 
--- an answer as it is told
+-- A reply as a transcript prints it, and the heap after the call.
 abbrev pub telling : {T : Type 0} → (T → Told) → Result T OsErr × Memory → Told × Memory
 telling tell answer = (told_as tell answer.0, answer.1)
 
--- a call that looks for room, so often
+-- A call that sets the code that MemError returns, and makes this number of searches for room.
 abbrev pub seeking : {T : Type 0} → (State → ℕ) → (State → Answer T) → Memory → Result T OsErr × Memory
 seeking count call m = searching (count m.heap) (noting call m)
 
--- the same of a call that may pack runs, and how many blocks it then moves down
+-- A call that sets the code that MemError returns, makes this number of searches for room, and by packing runs moves
+-- this number of blocks down.
 abbrev pub packing : {T : Type 0} → (State → ℕ) → (State → ℕ) → (State → Answer T) → Memory → Result T OsErr × Memory
 packing moves count call m = moving (moves m.heap) (seeking count call m)
 
--- what a call tells, and the heap after it
+-- The table: the reply of each call, and the heap after the call.
 abbrev pub answered : Asked → Memory → Told × Memory
 answered (NewHandle size) m = telling Given (packing (new_handle_moves size) (new_handle_searches size)
     (new_handle size) m)

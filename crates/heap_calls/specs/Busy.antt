@@ -23,111 +23,115 @@ use Rattle.heap_calls.specs.Searches.{hand_to_hand_searches, hand_and_hand_searc
 use Rattle.heap_calls.specs.Moves.{set_handle_size_moves, reallocate_handle_moves, hand_to_hand_moves}
 use Rattle.heap_calls.specs.Moves.{hand_and_hand_moves, pointer_and_hand_moves}
 
--- Names that are busy: while a grow-zone script runs, the handles and pointers that the waiting call names.
--- Inside Macintosh: Memory, chapter 1, "Low-Memory Conditions" and "Grow-Zone Functions".
+-- Busy names: the handles and pointers that a waiting call names, while a grow-zone script runs. Inside Macintosh:
+-- Memory, chapter 1, "Low-Memory Conditions" and "Grow-Zone Functions".
 
--- places for three numbers: a call names two at most, and reads one
+-- Places for three numbers: a call names at most two handles or pointers, and reads a resource's stored data into the
+-- block of at most one.
 abbrev pub Places : Type 0
 Places = List (Option ℕ)
 
--- nothing is busy
+-- No number is busy.
 abbrev pub idle : Places
 idle = None ∷ None ∷ None ∷ []
 
--- a place holds this number
+-- Whether a place holds this number.
 abbrev pub holds : ℕ → Option ℕ → Bool
 holds n None = false
 holds n (Some k) = k == n
 
--- a number is busy
+-- Whether a number is busy.
 abbrev pub is_busy : ℕ → Places → Bool
 is_busy n [] = false
 is_busy n (place ∷ places) = holds n place || is_busy n places
 
--- one number more is busy, in the first empty place; where there is none, nothing changes
+-- The places with one more busy number, in the first empty place; as they are where no place is empty.
 abbrev pub busied : ℕ → Places → Places
 busied n [] = []
 busied n (None ∷ places) = Some n ∷ places
 busied n (Some k ∷ places) = Some k ∷ busied n places
 
--- a number is busy no more: no place holds it
+-- The places with a number idle again: none of them holds it.
 abbrev pub eased_place : ℕ → Option ℕ → Option ℕ
 eased_place n place = if holds n place then None else place
 
 abbrev pub eased : ℕ → Places → Places
 eased n places = map (eased_place n) places
 
--- a heap where other numbers are busy
+-- The heap with these numbers busy.
 abbrev pub with_busy : Places → Memory → Memory
 with_busy places m = record m { log = record m.log { busy = places } }
 
--- the code of a busy name
+-- The code of a busy name: -117 (memLockedErr).
 abbrev pub bar : Bool → Option OsErr
 bar true = Some LOCKED
 bar false = None
 
--- why a handle that was looked up bars a call; what is no handle is for the call's row to refuse
+-- The code with which a handle that was looked up bars a call. A number that is no handle's bars nothing: the call's
+-- row refuses it.
 abbrev pub known_bars : Places → Result Known OsErr → Option OsErr
 known_bars busy (Err code) = None
 known_bars busy (Ok known) = bar (is_busy known.number busy)
 
--- the same of what a number stands for, where a pointer is wanted
+-- The code with which a number bars a call on a pointer, by what the number stands for.
 abbrev pub pointer_bars : Places → ℕ → Option Meaning → Option OsErr
 pointer_bars busy p None = None
 pointer_bars busy p (Some (Handle role)) = None
 pointer_bars busy p (Some Pointer) = bar (is_busy p busy)
 pointer_bars busy p (Some Disposed) = None
 
--- and where either is
+-- The code with which a number bars a call on a handle or a pointer, by what the number stands for.
 abbrev pub either_bars : Places → ℕ → Option Meaning → Option OsErr
 either_bars busy n None = None
 either_bars busy n (Some (Handle role)) = bar (is_busy n busy)
 either_bars busy n (Some Pointer) = bar (is_busy n busy)
 either_bars busy n (Some Disposed) = None
 
--- why the handle that a name is bound to bars a call
+-- The code with which the handle that a name is bound to bars a call.
 abbrev pub barred : Option ℕ → Memory → Option OsErr
 barred handle m = known_bars m.log.busy (handle_at handle m.heap)
 
--- the code of a System resource, whose bytes and size can't be changed
+-- The code of a handle by its role: -30001 (profileErr) for a System resource's, whose bytes and size cannot be
+-- changed.
 abbrev pub guard : Role → Option OsErr
 guard Plain = None
 guard Resource = None
 guard SystemResource = Some PROFILE
 
--- why a handle that was looked up bars a call that changes its bytes or size
+-- The code with which a handle that was looked up bars a call that changes its block's bytes or size.
 abbrev pub known_guards : Places → Result Known OsErr → Option OsErr
 known_guards busy (Err code) = None
 known_guards busy (Ok known) = option_or (bar (is_busy known.number busy)) (guard known.role)
 
--- why the handle that a name is bound to bars such a call
+-- The code with which the handle that a name is bound to bars a call that changes its block's bytes or size.
 abbrev pub change_barred : Option ℕ → Memory → Option OsErr
 change_barred handle m = known_guards m.log.busy (handle_at handle m.heap)
 
--- no handle is a System resource's
+-- No handle is a System resource's.
 abbrev pub NoneGuarded : State → Type 0
 NoneGuarded s = (h : ℕ) → slice_get s.names h ≢ Some (Handle SystemResource)
 
--- why the pointer does
+-- The code with which the pointer that a name is bound to bars a call.
 abbrev pub pointer_barred : Option ℕ → Memory → Option OsErr
 pointer_barred None m = None
 pointer_barred (Some p) m = pointer_bars m.log.busy p (slice_get m.heap.names p)
 
--- why the handle or the pointer does
+-- The code with which the handle or the pointer that a name is bound to bars a call.
 abbrev pub either_barred : Option ℕ → Memory → Option OsErr
 either_barred None m = None
 either_barred (Some n) m = either_bars m.log.busy n (slice_get m.heap.names n)
 
--- a second handle is asked for only where the first one has a block
+-- The code of a second handle, which is asked for only where the first has a block.
 abbrev pub next_barred : Result Held OsErr → Option OsErr → Option OsErr
 next_barred (Err code) other = None
 next_barred (Ok held) other = other
 
--- why the first or the second of two handles bars a call
+-- The code with which the first or the second of two handles bars a call.
 abbrev pub both_barred : Option ℕ → Option ℕ → Memory → Option OsErr
 both_barred from to m = option_or (barred from m) (next_barred (look_up from m.heap) (change_barred to m))
 
--- why a busy name bars a call; for a name that the call binds, and for a call without one, there is no reason
+-- The code with which a busy name, or a System resource's handle, bars a call; a name that the call binds bars
+-- nothing, and neither does anything a call without a name.
 abbrev pub gate : Asked → Memory → Option OsErr
 gate (DisposeHandle handle) m = barred handle m
 gate (GetHandleSize handle) m = barred handle m
@@ -155,7 +159,7 @@ gate (ShowPtr pointer) m = pointer_barred pointer m
 gate (Where name) m = either_barred name m
 gate asked m = None
 
--- a call whose code MemError tells afterwards
+-- Whether a call sets the code that MemError returns.
 abbrev pub notes : Asked → Bool
 notes MemError = false
 notes (Put handle from bytes) = false
@@ -165,27 +169,28 @@ notes (ShowPtr pointer) = false
 notes (Where name) = false
 notes asked = true
 
--- a heap whose last call gave this code
+-- The heap after a call that set this code.
 abbrev pub keep_code : OsErr → Memory → Memory
 keep_code code m = record m { log = record m.log { code = code } }
 
--- a call behind a gate: where it is barred nothing changes but the code that MemError tells
+-- A call at its gate: where it is barred, nothing changes but the code that MemError returns.
 abbrev pub gated : Option OsErr → Asked → Memory → Told × Memory
 gated None asked m = answered asked m
 gated (Some code) asked m = (Refused code, if notes asked then keep_code code m else m)
 
--- a method's answer, unless the call is barred
+-- The answer of a method, unless the call is barred.
 abbrev pub unless : {T : Type 0} → Option OsErr → (Memory → Result T OsErr × Memory) → Memory → Result T OsErr × Memory
 unless None call m = call m
 unless (Some code) call m = (Err code, keep_code code m)
 
--- the same for a call whose code MemError doesn't tell
+-- The answer of a method, unless the call is barred, for a call that does not set the code that MemError returns.
 abbrev pub unless_silent : {T : Type 0} → Option OsErr → (Memory → Result T OsErr × Memory) → Memory
     → Result T OsErr × Memory
 unless_silent None call m = call m
 unless_silent (Some code) call m = (Err code, m)
 
--- one try of a call: what it tells, and the heap after it; the same as `gated (gate asked m) asked m`, by the calls
+-- One try of a call: its reply, and the heap after it. It is the same as `gated (gate asked m) asked m`, written out
+-- call by call.
 abbrev pub served : Asked → Memory → Told × Memory
 served (DisposeHandle handle) m = telling (λ _. Done) (unless (barred handle m) (noting (dispose_handle handle)) m)
 served (GetHandleSize handle) m = telling Number (unless (barred handle m) (noting (get_handle_size handle)) m)

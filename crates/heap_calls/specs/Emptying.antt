@@ -4,21 +4,22 @@ use Rattle.block_store.specs.Run.{has}
 use Rattle.heap_calls.specs.State.{Memory}
 use Rattle.heap_calls.specs.Asked.{Asked, DisposeHandle, EmptyHandle, ReallocateHandle, answered}
 
--- No call empties a block that may not be emptied. Inside Macintosh: Memory, chapter 1, "Purging and Reallocating
+-- No call purges a block that may not be purged. Inside Macintosh: Memory, chapter 1, "Purging and Reallocating
 -- Memory Blocks".
 
--- the block of a handle is unlocked and purgeable
+-- Whether the block of the handle h is unlocked and purgeable.
 abbrev pub may_be_emptied : ℕ → List Block → Bool
 may_be_emptied h zone = has (λ b. is_relocatable h b && is_purgeable b) zone
 
--- a call that disposes of a handle, or empties it
+-- Whether a call disposes of the handle h, frees its block, or gives it another block.
 abbrev pub lets_go : ℕ → Asked → Bool
 lets_go h (DisposeHandle (Some k)) = k == h
 lets_go h (EmptyHandle (Some k)) = k == h
 lets_go h (ReallocateHandle (Some k) size) = k == h
 lets_go h asked = false
 
--- a handle that has a block before a call and none after it had one that might be emptied, unless the call let it go
+-- A handle that has a block before a call and none after it had an unlocked, purgeable block, unless the call was
+-- itself to dispose of the handle, to free its block or to give it another.
 abbrev pub OnlyPurgeableGo : Asked → Memory → Type 0
 OnlyPurgeableGo asked m =
     (h : ℕ) → lets_go h asked ≡ false → has (is_relocatable h) m.heap.zone ≡ true

@@ -8,14 +8,15 @@ use Rattle.heap_calls.specs.Asked.{Asked, NewHandle, SetHandleSize, ReallocateHa
 use Rattle.mac_words.specs.Told.{Told, Done, Given}
 use Rattle.heap_calls.specs.Asked.{PtrAndHand, NewPtr, SetPtrSize, Put, PutPtr}
 
--- The bytes last put into each handle and pointer, told from the history of calls alone: no block is in it.
+-- The bytes last put into each handle's and each pointer's block, computed from the history of calls alone, without
+-- any block.
 
--- a call, and what it told
+-- A call, and its reply.
 pub record Entry : Type 0 where
   pub asked : Asked
   pub told : Told
 
--- the bytes last put into each handle, after one call more
+-- The bytes last put into each block, after one more call.
 abbrev pub put_by : Asked → Told → (ℕ → List ℕ) → ℕ → List ℕ
 put_by (NewHandle n) (Given k) bytes h = if k == h then replicate n 0 else bytes h
 put_by (SetHandleSize (Some k) n) Done bytes h = if k == h then resized_content n (bytes k) else bytes h
@@ -29,15 +30,15 @@ put_by (NewPtr n) (Given k) bytes h = if k == h then replicate n 0 else bytes h
 put_by (SetPtrSize (Some k) n) Done bytes h = if k == h then resized_content n (bytes k) else bytes h
 put_by asked told bytes h = bytes h
 
--- the bytes last put into each handle by the calls of a history, from those before it
+-- The bytes last put into each block by the calls of a history, from those before the history on.
 abbrev pub last_put_from : (ℕ → List ℕ) → List Entry → ℕ → List ℕ
 last_put_from bytes [] = bytes
 last_put_from bytes (e ∷ entries) = last_put_from (put_by e.asked e.told bytes) entries
 
--- the bytes last put into each handle by the calls of a history
+-- The bytes last put into each block by the calls of a history.
 abbrev pub last_put : List Entry → ℕ → List ℕ
 last_put entries = last_put_from (λ h. []) entries
 
--- each handle with a block, and each pointer, holds these bytes
+-- Each handle's and each pointer's block holds these bytes.
 abbrev pub Holds : State → (ℕ → List ℕ) → Type 0
 Holds s bytes = (h : ℕ) (held : Held) → block_named (Some h) s ≡ Ok held → content_of held.at.here ≡ bytes h

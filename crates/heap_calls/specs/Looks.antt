@@ -5,10 +5,10 @@ use Rattle.heap_calls.specs.State.{Memory}
 use Rattle.heap_calls.specs.Asked.{Asked}
 use Rattle.heap_calls.specs.Busy.{served}
 
--- How often a try of a call looks for room.
+-- How many searches for room a try of a call makes.
 
--- in a zone with a Masters block the count of looks rises by at most one more than there are blocks at the start of the
--- try; the counter has 64 bits
+-- In a zone with a master pointer block, the count of searches rises by at most one more than there are blocks at the
+-- start of the try; the counter has 64 bits.
 abbrev pub LooksFew : Asked → Memory → Type 0
 LooksFew asked m =
     0 < count is_masters m.heap.zone → m.log.searches < 2 ^ 64

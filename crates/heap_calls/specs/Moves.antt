@@ -13,24 +13,26 @@ use Rattle.heap_calls.specs.Slots.{slotted}
 use Rattle.heap_calls.specs.Purging.{is_loose, purged_all}
 use Rattle.heap_calls.specs.Searches.{room_searches, ready_searches, resized_at, found_searches}
 
--- How many blocks a call's packing moves down. A block that moves up, as for a block at the base of a run or to the top
--- of one, isn't counted. Inside Macintosh: Memory, chapter 1, "Heap Compaction".
+-- How many blocks the compaction of a call moves down. A block that moves up, to make room at the base of a run or to
+-- stand at the top of one, is not counted. Inside Macintosh: Memory, chapter 1, "Heap Compaction".
 
--- where a run is packed, if there is one
+-- The moves where a run is packed, after `before` has rearranged it; none where there is no run.
 abbrev pub run_moves : (List Block → List Block) → Option RunSpot → ℕ
 run_moves before None = 0
 run_moves before (Some r) = falling (before r.run)
 
--- a run that is packed as it is
+-- A run that is packed as it is.
 abbrev pub as_it_is : List Block → List Block
 as_it_is run = run
 
--- for a place of p bytes: none where a Free block has so many, else the lowest run that has them is packed
+-- The moves to make a place of p bytes: none where a free block has p bytes, else those of packing the lowest run
+-- that has p free bytes.
 abbrev pub place_moves : ℕ → List Block → ℕ
 place_moves p zone = if is_some (spot (is_room p) zone) then 0 else run_moves as_it_is (run_spot (has_free p) zone)
 
--- for a block that grows from a spot: none into the Free block above it; at a place of its own, what that takes; as the
--- last of its run, what is packed once it was moved to the top
+-- The moves where the block at a spot grows: none where it grows into the free block above it; those of making a
+-- place where it moves to a place of its own; else those of packing its run once the block stands at the top of the
+-- run.
 abbrev pub mover_moves : (Block → Bool) → Block → List Block → Option Spot → ℕ
 mover_moves test new zone None = 0
 mover_moves test new zone (Some s) =
@@ -38,47 +40,47 @@ mover_moves test new zone (Some s) =
     else (if is_some (place (size new) zone) then place_moves (size new) zone
     else run_moves (high test) (run_spot (λ run. has test run && has_free (growth new s) run) zone))
 
--- for the block that passes
+-- The moves where the block that passes a test grows.
 abbrev pub grow_moves : (Block → Bool) → Block → List Block → ℕ
 grow_moves test new zone = mover_moves test new zone (spot test zone)
 
--- of what is tried, at as few purges as serve: one less than there are looks
+-- The moves of what `try` does after as few purges as serve; there is one purge fewer than there are searches.
 abbrev pub room_moves : (List Block → Option (List Block)) → (List Block → ℕ) → (Block → Bool) → List Block → ℕ
 room_moves try moves spared zone = moves (purge (room_searches try spared zone - 1) spared zone)
 
--- for a new relocatable block
+-- The moves of placing a new relocatable block.
 abbrev pub put_moves : Block → (Block → Bool) → List Block → ℕ
 put_moves new spared zone = room_moves (put_in_place new) (place_moves (size new)) spared zone
 
--- for a new handle's block
+-- The moves of placing a new handle's block.
 abbrev pub block_moves : (Block → Bool) → List ℕ → State → ℕ
 block_moves spared bytes s = put_moves (Relocatable (length s.names) no_flags bytes) spared s.zone
 
--- of NewHandle
+-- The moves of NewHandle.
 abbrev pub new_handle_moves : ℕ → State → ℕ
 new_handle_moves n s =
     ready_searches (slotted nothing s) (λ ready. if is_some (phys n) then block_moves nothing (replicate n 0) ready
     else 0)
 
--- where a block at a spot gets another size: none where it is cut, is Fixed or locked
+-- The moves where the block at a spot gets another size: none where the block is cut, or is nonrelocatable or locked.
 abbrev pub growth_moves : (Block → Bool) → (Block → Bool) → Block → List Block → Option Spot → ℕ
 growth_moves test spared new zone None = 0
 growth_moves test spared new zone (Some s) =
     if nat_le (size new) (size s.here) then 0
     else (if is_mover s.here then room_moves (grow_mover test new) (grow_moves test new) spared zone else 0)
 
--- where a block that passes gets n bytes
+-- The moves where the block that passes a test gets n bytes of content.
 abbrev pub size_moves : (Block → Bool) → (Block → Bool) → ℕ → List Block → ℕ
 size_moves test spared n zone =
     if is_some (phys n) then growth_moves test spared (resized_at n (spot test zone)) zone (spot test zone) else 0
 
--- of SetHandleSize
+-- The moves of SetHandleSize.
 abbrev pub set_handle_size_moves : Option ℕ → ℕ → State → ℕ
 set_handle_size_moves handle n s =
     found_searches (look_up handle s) (λ held. size_moves (is_relocatable held.number) (is_relocatable held.number) n
     s.zone)
 
--- of ReallocateHandle
+-- The moves of ReallocateHandle.
 abbrev pub reallocate_handle_moves : Option ℕ → ℕ → State → ℕ
 reallocate_handle_moves handle n s =
     found_searches (handle_at handle s) (λ k. if is_loose (spot (is_relocatable k.number) s.zone)
@@ -87,33 +89,33 @@ reallocate_handle_moves handle n s =
     else 0)
     else 0)
 
--- of HandToHand
+-- The moves of HandToHand.
 abbrev pub hand_to_hand_moves : Option ℕ → State → ℕ
 hand_to_hand_moves handle s =
     found_searches (look_up handle s) (λ held. ready_searches (slotted (is_relocatable held.number) s)
     (block_moves (is_relocatable held.number) (content_of held.at.here)))
 
--- of HandAndHand
+-- The moves of HandAndHand.
 abbrev pub hand_and_hand_moves : Option ℕ → Option ℕ → State → ℕ
 hand_and_hand_moves from to s =
     found_searches (look_up from s) (λ a. found_searches (look_up to s) (λ b.
     size_moves (is_relocatable b.number) (λ block. is_relocatable a.number block || is_relocatable b.number block)
     (length (content_of b.at.here) + length (content_of a.at.here)) s.zone))
 
--- of PtrAndHand
+-- The moves of PtrAndHand.
 abbrev pub pointer_and_hand_moves : Option ℕ → List ℕ → State → ℕ
 pointer_and_hand_moves handle x s =
     found_searches (look_up handle s) (λ held. size_moves (is_relocatable held.number) (is_relocatable held.number)
     (length (content_of held.at.here) + length x) s.zone)
 
--- of CompactMem
+-- The moves of CompactMem.
 abbrev pub compact_mem_moves : ℕ → State → ℕ
 compact_mem_moves n s = falls (runs_settled (phys n) s.zone) (runs s.zone)
 
--- where all runs are packed
+-- The moves where all runs are packed.
 abbrev pub all_moves : List Block → ℕ
 all_moves zone = falls (length (runs zone)) (runs zone)
 
--- of MaxMem: all that may be emptied is, and then all runs are packed
+-- The moves of MaxMem: those of packing all runs once every block is purged that may be purged.
 abbrev pub max_mem_moves : State → ℕ
 max_mem_moves s = all_moves (purged_all s.zone)

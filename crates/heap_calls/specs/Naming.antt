@@ -4,9 +4,9 @@ use Rattle.heap_calls.specs.Asked.{HLock, HUnlock, HPurge, HNoPurge, HGetState, 
 use Rattle.heap_calls.specs.Asked.{HandToHand, HandAndHand, PtrAndHand, DisposePtr, GetPtrSize, SetPtrSize}
 use Rattle.heap_calls.specs.Asked.{Put, Show, PutPtr, ShowPtr, Where}
 
--- What a call names: handles and pointers that it finds there; a name that it binds is none of them.
+-- The names of a call: the handles and the pointers that it is made on. A name that the call binds is none of them.
 
--- the first handle or pointer that a call names
+-- The first handle or pointer that a call names.
 abbrev pub first_named : Asked → Option ℕ
 first_named (DisposeHandle handle) = handle
 first_named (GetHandleSize handle) = handle
@@ -34,7 +34,7 @@ first_named (ShowPtr pointer) = pointer
 first_named (Where name) = name
 first_named asked = None
 
--- the second one
+-- The second handle that a call names.
 abbrev pub second_named : Asked → Option ℕ
 second_named (HandAndHand from to) = to
 second_named asked = None

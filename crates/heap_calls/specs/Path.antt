@@ -8,11 +8,11 @@ use Rattle.heap_calls.specs.Refused.{slotted_zone}
 use Rattle.heap_calls.specs.Answer.{nothing}
 use Rattle.heap_calls.specs.Inside.{new_inside, new_emptied_inside, refill_inside, inside, released, cast, has_block}
 
--- The steps that the Resource Manager takes on a heap, one after another. More Macintosh Toolbox, chapter 1,
--- "Using the Resource Manager".
+-- The steps that the Resource Manager takes on a heap, one after another. More Macintosh Toolbox, chapter 1, "Using
+-- the Resource Manager".
 
--- a step: a new handle with a block of these flags and bytes, or one that is emptied; a new block for an emptied
--- handle; a handle that goes with its block; a handle in another role
+-- A step: a new handle with a block of these flags and bytes, or a new empty handle; a new block for an empty handle;
+-- the disposal of a handle and its block; or a handle in another role.
 pub data Step : Type 0 where
   NewFilled : (role : Role) (flags : Flags) (bytes : List ℕ) → Step
   NewEmptied : (role : Role) → Step
@@ -20,7 +20,7 @@ pub data Step : Type 0 where
   Release : (handle : ℕ) → Step
   Cast : (change : Role → Role) (handle : ℕ) → Step
 
--- the memory after a step. A handle that has a block isn't filled once more
+-- The memory after a step. A handle that has a block is not filled again.
 abbrev pub stepped : Step → Memory → Memory
 stepped (NewFilled role flags bytes) m = (new_inside role flags bytes m).1
 stepped (NewEmptied role) m = (new_emptied_inside role m).1
@@ -28,12 +28,12 @@ stepped (Refill h flags bytes) m = if has_block h m.heap then m else (refill_ins
 stepped (Release h) m = inside (released h) m
 stepped (Cast change h) m = inside (cast change h) m
 
--- the code of a refusal
+-- The code of a refusal; `None` where there is none.
 abbrev pub refusal_of : {T : Type 0} → Result T OsErr → Option OsErr
 refusal_of (Ok value) = None
 refusal_of (Err code) = Some code
 
--- the code that a step is refused with; none where it is done
+-- The code with which a step is refused; `None` where the step is done.
 abbrev pub refusal : Step → Memory → Option OsErr
 refusal (NewFilled role flags bytes) m = refusal_of (new_inside role flags bytes m).0
 refusal (NewEmptied role) m = refusal_of (new_emptied_inside role m).0
@@ -41,17 +41,17 @@ refusal (Refill h flags bytes) m = if has_block h m.heap then None else refusal_
 refusal (Release h) m = None
 refusal (Cast change h) m = None
 
--- what was read into a new block: the number of its handle, and the bytes
+-- What was read into the block of a new handle: the handle's number, and the bytes.
 abbrev pub read_new : List ℕ → Result ℕ OsErr → List (ℕ × List ℕ)
 read_new bytes (Ok h) = (h, bytes) ∷ []
 read_new bytes (Err code) = []
 
--- the same where the handle was there
+-- What was read into the new block of an empty handle: the handle's number, and the bytes.
 abbrev pub read_again : ℕ → List ℕ → Result (Unit {0}) OsErr → List (ℕ × List ℕ)
 read_again h bytes (Ok done) = (h, bytes) ∷ []
 read_again h bytes (Err code) = []
 
--- what a step read
+-- What a step read.
 abbrev pub read_by : Step → Memory → List (ℕ × List ℕ)
 read_by (NewFilled role flags bytes) m = read_new bytes (new_inside role flags bytes m).0
 read_by (NewEmptied role) m = []
@@ -60,22 +60,22 @@ read_by (Refill h flags bytes) m = if has_block h m.heap then []
 read_by (Release h) m = []
 read_by (Cast change h) m = []
 
--- the memory after a path of steps
+-- The memory after a path of steps.
 abbrev pub walk : List Step → Memory → Memory
 walk [] m = m
 walk (step ∷ steps) m = walk steps (stepped step m)
 
--- what the steps of a path read, in order
+-- What the steps of a path read, in order.
 abbrev pub reads : List Step → Memory → List (ℕ × List ℕ)
 reads [] m = []
 reads (step ∷ steps) m = read_by step m ++ reads steps (stepped step m)
 
--- the bytes last put into each handle, after what was read
+-- The bytes last put into each handle's block, after what was read.
 abbrev pub put_reads : List (ℕ × List ℕ) → (ℕ → List ℕ) → ℕ → List ℕ
 put_reads [] bytes = bytes
 put_reads (read ∷ later) bytes = put_reads later (λ h. if read.0 == h then read.1 else bytes h)
 
--- a step lets a handle go
+-- Whether a step disposes of a handle.
 abbrev pub lets : Step → ℕ → Bool
 lets (NewFilled role flags bytes) h = false
 lets (NewEmptied role) h = false
@@ -83,12 +83,13 @@ lets (Refill k flags bytes) h = false
 lets (Release k) h = k == h
 lets (Cast change k) h = false
 
--- one of the steps of a path does
+-- Whether one of the steps of a path disposes of a handle.
 abbrev pub lets_of : List Step → ℕ → Bool
 lets_of [] h = false
 lets_of (step ∷ steps) h = lets step h || lets_of steps h
 
--- the zone after a step that was refused: as it was, but that the block of slots which was made for it stays
+-- The zone after a step that was refused: as it was, except that a master pointer block that was made for the step
+-- stays.
 abbrev pub left_zone : Step → State → List Block
 left_zone (NewFilled role flags bytes) s = slotted_zone nothing s
 left_zone (NewEmptied role) s = slotted_zone nothing s

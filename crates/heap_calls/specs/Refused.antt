@@ -12,41 +12,41 @@ use Rattle.mac_words.specs.Told.{Refused}
 use Rattle.heap_calls.specs.Asked.{Asked, NewHandle, HandToHand, PurgeMem}
 use Rattle.heap_calls.specs.Busy.{gate, notes, keep_code, served}
 
--- What a refused call leaves, whether its row or a busy name refuses it.
+-- What a refused call leaves, whether its row or a busy name refuses the call.
 
--- the zone with an unused slot: as it was where one is unused, or where there is no room for more; else with a new
--- Masters block, and with what the search for it emptied and moved
+-- The zone with an unused master pointer: as it was where there is one, or where there is no room for more; else with
+-- a new master pointer block, and with what the search for its room purged and moved.
 abbrev pub slotted_zone : (Block → Bool) → State → List Block
 slotted_zone spared s = unwrap_or (option_map (λ (ready : State). ready.zone) (slotted spared s)) s.zone
 
--- the same where a block is to be copied, which isn't emptied for it
+-- The zone with an unused master pointer for the copy of a handle's block, which is not purged for it.
 abbrev pub copying_zone : Result Held OsErr → State → List Block
 copying_zone (Err code) s = s.zone
 copying_zone (Ok held) s = slotted_zone (is_relocatable held.number) s
 
--- the zone after a call that its row refused: as it was, but that the block of slots which was made for it stays, and
--- that what PurgeMem emptied stays emptied
+-- The zone after a call that its row refused: as it was, except that a master pointer block that was made for the
+-- call stays, and that what PurgeMem purged stays purged.
 abbrev pub zone_left : Asked → State → List Block
 zone_left (NewHandle size) s = slotted_zone nothing s
 zone_left (HandToHand handle) s = copying_zone (look_up handle s) s
 zone_left (PurgeMem size) s = purge (blocks_purged (phys size) s.zone) nothing s.zone
 zone_left asked s = s.zone
 
--- the same behind a gate: as it was where a busy name barred the call
+-- The zone after a refused call, by its gate: as it was where a busy name barred the call.
 abbrev pub zone_behind : Option OsErr → Asked → State → List Block
 zone_behind None asked s = zone_left asked s
 zone_behind (Some code) asked s = s.zone
 
--- the zone after a try that was refused
+-- The zone after a try that was refused.
 abbrev pub refused_zone : Asked → Memory → List Block
 refused_zone asked m = zone_behind (gate asked m) asked m.heap
 
--- the code that MemError tells after a call that was refused: that of the refusal, or the one before for calls whose
--- code it doesn't tell
+-- The code that MemError returns after a call that was refused: the code of the refusal, or the one before where the
+-- call sets none.
 abbrev pub code_left : Asked → OsErr → OsErr → OsErr
 code_left asked code before = if notes asked then code else before
 
--- a try that is refused leaves this zone, its names as they were, this code, and the heap where it lay
+-- A try that is refused leaves this zone, all names as they were, this code, and the heap where it lay.
 abbrev pub RefusedLeaves : Asked → Memory → Type 0
 RefusedLeaves asked m =
     (code : OsErr) → (served asked m).0 ≡ Refused code
@@ -54,7 +54,7 @@ RefusedLeaves asked m =
     × ((served asked m).1.log.code ≡ code_left asked code m.log.code)
     × ((served asked m).1.window ≡ m.window)
 
--- a call that is barred is refused with that code, and changes nothing but the code that MemError tells
+-- A call that is barred is refused with that code, and changes nothing but the code that MemError returns.
 abbrev pub BarredLeaves : Asked → Memory → Type 0
 BarredLeaves asked m =
     (code : OsErr) → gate asked m ≡ Some code

@@ -15,90 +15,91 @@ use Rattle.heap_calls.specs.Pointers.{pointed_at, reserved}
 use Rattle.heap_calls.specs.Purging.{is_loose, blocks_purged}
 use Rattle.heap_calls.specs.Inner.Search.{tries}
 
--- How often a call looks for room: one look at each number of purges, up to the first that serves.
+-- How many searches for room a call makes: one at each number of purges, from none up to the first that serves, or up
+-- to all that there can be.
 
--- the looks for what is tried
+-- The number of searches until `try` finds room.
 abbrev pub room_searches : (List Block → Option (List Block)) → (Block → Bool) → List Block → ℕ
 room_searches try spared zone = tries (λ k. try (purge k spared zone)) (count_of spared zone)
 
--- the looks for an unused slot
+-- The number of searches for an unused master pointer: none where there is one.
 abbrev pub slot_searches : (Block → Bool) → State → ℕ
 slot_searches spared s = if nat_lt (used_slots s) (all_slots s) then 0
     else room_searches (put_at_base Masters) spared s.zone
 
--- the looks of what is done with an unused slot
+-- The number of searches of a call where the heap has an unused master pointer.
 abbrev pub ready_searches : Option State → (State → ℕ) → ℕ
 ready_searches None count = 0
 ready_searches (Some ready) count = count ready
 
--- the looks for a place of a new relocatable block
+-- The number of searches for the place of a new relocatable block.
 abbrev pub block_searches : (Block → Bool) → List ℕ → State → ℕ
 block_searches spared bytes s = room_searches (put_in_place (Relocatable (length s.names) no_flags bytes)) spared s.zone
 
--- of NewHandle
+-- The searches of NewHandle.
 abbrev pub new_handle_searches : ℕ → State → ℕ
 new_handle_searches n s =
     slot_searches nothing s + ready_searches (slotted nothing s)
     (λ ready. if is_some (phys n) then block_searches nothing (replicate n 0) ready else 0)
 
--- of NewEmptyHandle
+-- The searches of NewEmptyHandle.
 abbrev pub new_empty_handle_searches : State → ℕ
 new_empty_handle_searches s = slot_searches nothing s
 
--- of MoreMasters
+-- The searches of MoreMasters.
 abbrev pub more_masters_searches : State → ℕ
 more_masters_searches s = room_searches (put_at_base Masters) nothing s.zone
 
--- of NewPtr
+-- The searches of NewPtr.
 abbrev pub new_pointer_searches : ℕ → State → ℕ
 new_pointer_searches n s = if is_some (phys n) then room_searches (put_at_base (Fixed (length s.names) (replicate n 0)))
     nothing s.zone else 0
 
--- of ReserveMem
+-- The searches of ReserveMem.
 abbrev pub reserve_searches : Option ℕ → State → ℕ
 reserve_searches None s = 0
 reserve_searches (Some p) s = room_searches (reserved p) nothing s.zone
 
--- where a block grows that is Fixed or locked: at no purge into the Free block above it, and at each number of purges
--- into the run above it
+-- The searches for the growth of a nonrelocatable or locked block: one where the free block above it is large enough,
+-- else one at each number of purges in the run above it.
 abbrev pub in_place_searches : (Block → Bool) → Block → Spot → ℕ
 in_place_searches spared new s =
     if is_some (grow_up new s) then 1
     else room_searches (λ run. if has_free (growth new s) run then Some run else None) spared (segments s.above).first
 
--- where a block at a spot gets another size
+-- The searches where the block at a spot gets another size.
 abbrev pub growth_searches : (Block → Bool) → (Block → Bool) → Block → List Block → Option Spot → ℕ
 growth_searches test spared new zone None = 0
 growth_searches test spared new zone (Some s) =
     if nat_le (size new) (size s.here) then 0
     else (if is_mover s.here then room_searches (grow_mover test new) spared zone else in_place_searches spared new s)
 
--- the block of a spot at n bytes
+-- The block at a spot, with n bytes of content.
 abbrev pub resized_at : ℕ → Option Spot → Block
 resized_at n None = Masters
 resized_at n (Some s) = resized n s.here
 
--- where a block that passes gets n bytes
+-- The searches where the block that passes a test gets n bytes of content.
 abbrev pub size_searches : (Block → Bool) → (Block → Bool) → ℕ → List Block → ℕ
 size_searches test spared n zone = if is_some (phys n) then growth_searches test spared (resized_at n (spot test zone))
     zone (spot test zone) else 0
 
--- the looks of a call on what was found
+-- The number of searches of a call for what was found; none where nothing was found.
 abbrev pub found_searches : {A : Type 0} → Result A OsErr → (A → ℕ) → ℕ
 found_searches (Err code) count = 0
 found_searches (Ok found) count = count found
 
--- of SetHandleSize
+-- The searches of SetHandleSize.
 abbrev pub set_handle_size_searches : Option ℕ → ℕ → State → ℕ
 set_handle_size_searches handle n s = found_searches (look_up handle s)
     (λ held. size_searches (is_relocatable held.number) (is_relocatable held.number) n s.zone)
 
--- of SetPtrSize
+-- The searches of SetPtrSize.
 abbrev pub set_pointer_size_searches : Option ℕ → ℕ → State → ℕ
 set_pointer_size_searches pointer n s = found_searches (pointed_at pointer s)
     (λ held. size_searches (is_fixed held.number) nothing n s.zone)
 
--- of ReallocateHandle
+-- The searches of ReallocateHandle.
 abbrev pub reallocate_handle_searches : Option ℕ → ℕ → State → ℕ
 reallocate_handle_searches handle n s =
     found_searches (handle_at handle s) (λ k. if is_loose (spot (is_relocatable k.number) s.zone)
@@ -106,41 +107,41 @@ reallocate_handle_searches handle n s =
     (freed (is_relocatable k.number) s.zone) else 0)
     else 0)
 
--- of HandToHand
+-- The searches of HandToHand.
 abbrev pub hand_to_hand_searches : Option ℕ → State → ℕ
 hand_to_hand_searches handle s =
     found_searches (look_up handle s) (λ held. slot_searches (is_relocatable held.number) s
     + ready_searches (slotted (is_relocatable held.number) s) (block_searches (is_relocatable held.number)
     (content_of held.at.here)))
 
--- of HandAndHand
+-- The searches of HandAndHand.
 abbrev pub hand_and_hand_searches : Option ℕ → Option ℕ → State → ℕ
 hand_and_hand_searches from to s =
     found_searches (look_up from s) (λ a. found_searches (look_up to s) (λ b.
     size_searches (is_relocatable b.number) (λ block. is_relocatable a.number block || is_relocatable b.number block)
     (length (content_of b.at.here) + length (content_of a.at.here)) s.zone))
 
--- of PtrAndHand
+-- The searches of PtrAndHand.
 abbrev pub pointer_and_hand_searches : Option ℕ → List ℕ → State → ℕ
 pointer_and_hand_searches handle x s =
     found_searches (look_up handle s) (λ held. size_searches (is_relocatable held.number) (is_relocatable held.number)
     (length (content_of held.at.here) + length x) s.zone)
 
--- a run that has a block; there is a run without one between two barriers that are neighbours
+-- Whether a run has a block. A run without a block stands between two neighbouring blocks that stay.
 abbrev pub has_block : List Block → Bool
 has_block [] = false
 has_block (b ∷ run) = true
 
--- how many of the k lowest runs have a block
+-- How many of the k lowest runs have a block.
 abbrev pub stretches : ℕ → List (List Block) → ℕ
 stretches zero runs = 0
 stretches (suc k) [] = 0
 stretches (suc k) (run ∷ runs) = (if has_block run then 1 else 0) + stretches k runs
 
--- of CompactMem: one more than the runs with blocks that it takes in turn
+-- The searches of CompactMem: one more than the runs with blocks that it compacts.
 abbrev pub compact_mem_searches : ℕ → State → ℕ
 compact_mem_searches n s = stretches (runs_settled (phys n) s.zone) (runs s.zone) + 1
 
--- of PurgeMem: one more than the blocks that it empties
+-- The searches of PurgeMem: one more than the blocks that it purges.
 abbrev pub purge_mem_searches : ℕ → State → ℕ
 purge_mem_searches n s = blocks_purged (phys n) s.zone + 1

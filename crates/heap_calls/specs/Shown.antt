@@ -4,7 +4,7 @@ use Rattle.heap_calls.specs.Asked.{Asked, Show, ShowPtr}
 
 -- What a call shows.
 
--- bytes that a call shows of a handle or a pointer are these
+-- The bytes that a call shows of a handle or a pointer are these.
 abbrev pub Shows : Asked → Told → (ℕ → List ℕ) → Type 0
 Shows asked told bytes =
     (h : ℕ) (shown : List ℕ) → (asked ≡ Show (Some h)) ⊎ (asked ≡ ShowPtr (Some h)) → told ≡ Bytes shown

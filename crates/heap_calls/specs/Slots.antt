@@ -8,35 +8,37 @@ use Rattle.block_store.specs.declared.flags.Flags.{Flags}
 use Rattle.heap_calls.specs.State.{Role, Plain, Handle, State, used_slots, all_slots}
 use Rattle.heap_calls.specs.Answer.{Answer, refused, given, nothing}
 
--- Slots for new handles. Inside Macintosh: Memory, chapter 2, "Allocating Master Pointers".
+-- Master pointers for new handles. Inside Macintosh: Memory, chapter 2, "Allocating Master Pointers".
 
--- MoreMasters: the zone with 64 slots more at the base of a run; the spared blocks aren't emptied for them
+-- MoreMasters: the heap with a new master pointer block at the base of a run, for which spared blocks are not purged;
+-- `None` where there is no room for it.
 abbrev pub more_masters : (Block → Bool) → State → Option State
 more_masters spared s = option_map (λ zone. record s { zone = zone }) (room (put_at_base Masters) spared s.zone)
 
--- the heap with an unused slot: as it is, or with a new Masters block
+-- The heap with an unused master pointer: as it is where there is one, else with a new master pointer block.
 abbrev pub slotted : (Block → Bool) → State → Option State
 slotted spared s = if nat_lt (used_slots s) (all_slots s) then Some s else more_masters spared s
 
--- what is answered with an unused slot, or that there is no room for one
+-- The answer of a call where the heap has an unused master pointer; -108 (memFullErr) where there is no room for one.
 abbrev pub if_ready : {T : Type 0} → Option State → State → (State → Answer T) → Answer T
 if_ready None s answer = refused MEM_FULL s
 if_ready (Some ready) s answer = answer ready
 
--- a new handle in this role, with a block of these flags and bytes
+-- A new handle in this role, with a block of these flags and bytes.
 abbrev pub made : Role → Flags → (Block → Bool) → List ℕ → State → Answer ℕ
 made role flags spared bytes s = given (Handle role) (room (put_in_place (Relocatable (length s.names) flags bytes))
     spared s.zone) s
 
--- a new handle with these bytes
+-- A new handle, an application's own, with a block of these bytes.
 abbrev pub new_block : (Block → Bool) → List ℕ → State → Answer ℕ
 new_block spared bytes s = made Plain no_flags spared bytes s
 
--- NewHandle: a new handle with n bytes 0
+-- NewHandle: a new handle with a block of n bytes, all 0; -108 (memFullErr) where there is no room or no block can
+-- have that size.
 abbrev pub new_handle : ℕ → State → Answer ℕ
 new_handle n s = if_ready (slotted nothing s) s (λ ready. if is_some (phys n)
     then new_block nothing (replicate n 0) ready else refused MEM_FULL ready)
 
--- NewEmptyHandle
+-- NewEmptyHandle: a new handle with no block.
 abbrev pub new_empty_handle : State → Answer ℕ
 new_empty_handle s = if_ready (slotted nothing s) s (λ ready. given (Handle Plain) (Some ready.zone) ready)

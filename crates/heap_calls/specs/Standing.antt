@@ -7,20 +7,22 @@ use Rattle.heap_calls.specs.Asked.{Asked, DisposePtr, answered}
 
 -- A pointer's block stays where it is. Inside Macintosh: Memory, chapter 1, "Nonrelocatable Blocks".
 
--- the distance of a pointer's block from the zone's bottom; none where there is none
+-- The distance in bytes of the block of the pointer p from the bottom of the zone; `None` where there is no such
+-- block.
 abbrev pub pointer_place : ℕ → List Block → Option ℕ
 pointer_place p zone = option_map (λ s. sizes s.below) (spot (is_fixed p) zone)
 
--- a call that disposes of a pointer
+-- Whether a call disposes of the pointer p.
 abbrev pub disposes : ℕ → Asked → Bool
 disposes p (DisposePtr (Some k)) = k == p
 disposes p asked = false
 
--- the next number is no pointer's yet
+-- No block is yet that of the pointer with the next number.
 abbrev pub NextIsNew : State → Type 0
 NextIsNew s = count (is_fixed (length s.names)) s.zone ≤ 0
 
--- each pointer's block is after a call at the distance from the bottom where it was, unless the call disposes of it
+-- Each pointer's block stands after a call at the same distance from the bottom of the zone as before, unless the
+-- call disposes of the pointer.
 abbrev pub StaysFixed : Asked → Memory → Type 0
 StaysFixed asked m = (p place : ℕ) → disposes p asked ≡ false → pointer_place p m.heap.zone ≡ Some place
     → pointer_place p (answered asked m).1.heap.zone ≡ Some place

@@ -5,38 +5,40 @@ use Rattle.heap_calls.specs.declared.log.Log.{Log}
 use Rattle.mac_words.specs.declared.code.TheConstants.OsErr.{NO_ERR}
 use Rattle.block_store.specs.declared.measures.TheConstants.{SLOTS_A_BLOCK}
 
--- A heap: its zone, and its handles and pointers by numbers. Inside Macintosh: Memory, chapter 1, "Heap Management".
+-- A heap: its zone, and its handles and pointers by number. Inside Macintosh: Memory, chapter 1, "Heap Management".
 
--- whose a handle is: an application's own, a resource's, or a System resource's, whose bytes and size can't be changed
+-- The role of a handle: an application's own, a resource's, or a System resource's, whose bytes and size cannot be
+-- changed.
 pub data Role : Type 0 where
   Plain : Role
   Resource : Role
   SystemResource : Role
 
--- what a number stands for: a handle, with a block or emptied; a pointer; or nothing any more
+-- What a number stands for: a handle, with a block or empty; a pointer; or what was disposed of.
 pub data Meaning : Type 0 where
   Handle : (role : Role) → Meaning
   Pointer : Meaning
   Disposed : Meaning
 
--- a heap: the blocks of its zone, named by number, and what each number given so far stands for. A number is never
--- given twice
+-- A heap: the blocks of its zone, named by number, and what each number given so far stands for. A number is never
+-- given twice.
 pub record State : Type 0 where
   pub zone : List Block
   pub names : List Meaning
 
--- a heap with what its calls so far came to, how often packing moved a block down, and where it lies
+-- A heap with the log of its calls so far, the number of blocks that compaction has moved down, and the place of the
+-- heap in the memory.
 pub record Memory : Type 0 where
   pub heap : State
   pub log : Log
   pub moves : ℕ
   pub window : Site
 
--- the heap of a fresh zone of n bytes
+-- The heap of a fresh zone of n bytes.
 abbrev pub fresh_heap : ℕ → State
 fresh_heap n = record { zone = fresh n; names = [] }
 
--- a fresh zone's heap before its first call
+-- The heap of a fresh zone of n bytes before its first call.
 abbrev pub fresh_memory : ℕ → Site → Memory
 fresh_memory n window = record {
   heap = fresh_heap n;
@@ -46,16 +48,16 @@ fresh_memory n window = record {
       window;
 }
 
--- a handle that wasn't disposed of
+-- Whether a number stands for a handle, which uses a master pointer.
 abbrev pub uses_slot : Meaning → Bool
 uses_slot (Handle role) = true
 uses_slot Pointer = false
 uses_slot Disposed = false
 
--- the slots in use
+-- The number of master pointers in use.
 abbrev pub used_slots : State → ℕ
 used_slots s = count_by uses_slot s.names
 
--- the slots that there are: 64 a Masters block
+-- The number of master pointers that there are: 64 in each master pointer block.
 abbrev pub all_slots : State → ℕ
 all_slots s = SLOTS_A_BLOCK * count is_masters s.zone

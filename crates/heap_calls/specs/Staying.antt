@@ -10,38 +10,38 @@ use Rattle.heap_calls.specs.Busy.{served}
 use Rattle.heap_calls.specs.Locked.{OneBlockEach}
 use Rattle.mac_words.specs.declared.code.OsErr.{OsErr}
 
--- What can be had of a zone, and what stays. Inside Macintosh: Memory, chapter 1, "Low-Memory Conditions".
+-- What can be allocated in a zone, and what stays. Inside Macintosh: Memory, chapter 1, "Low-Memory Conditions".
 
--- the bytes that are Free or may be emptied: the first of PurgeSpace's two numbers
+-- The number of bytes that are free or may be purged: the first of PurgeSpace's two numbers.
 abbrev pub ease : List Block → ℕ
 ease zone = free_sum (purged_all zone)
 
--- the bytes of a block that is neither Free, nor may be emptied, nor has master pointers
+-- The bytes of a block that is not free, may not be purged and holds no master pointers; 0 for another block.
 abbrev pub staying_of : Block → ℕ
 staying_of (Free n) = 0
 staying_of (Fixed id content) = padded (length content)
 staying_of Masters = 0
 staying_of (Relocatable id flags content) = if not flags.locked && flags.purgeable then 0 else padded (length content)
 
--- the bytes of the blocks that stay
+-- The number of bytes of the blocks that stay.
 abbrev pub staying : List Block → ℕ
 staying zone = total staying_of zone
 
--- the bytes of the blocks of master pointers
+-- The number of bytes of the master pointer blocks.
 abbrev pub of_masters : List Block → ℕ
 of_masters zone = MASTERS_SIZE * count is_masters zone
 
--- a zone is what can be had of it, what stays, and its master pointers
+-- What can be allocated in a zone, what stays, and the master pointer blocks make up the zone.
 abbrev pub Parted : List Block → Type 0
 Parted zone = ease zone + (staying zone + of_masters zone) ≡ sizes zone
 
--- a try that is refused leaves no more that stays
+-- A try that is refused leaves no more bytes that stay.
 abbrev pub RefusedKeepsNoMore : Asked → Memory → Type 0
 RefusedKeepsNoMore asked m =
     (code : OsErr) → (served asked m).0 ≡ Refused code → staying (served asked m).1.heap.zone ≤ staying m.heap.zone
 
--- where more can be had of the zone some time after a refused try, of as many bytes and with no fewer blocks of master
--- pointers, less stays than before the try
+-- Where, some time after a refused try, more can be allocated in the zone, which has the same number of bytes and no
+-- fewer master pointer blocks, fewer bytes stay than before the try.
 abbrev pub LessStaysLater : Asked → Memory → Type 0
 LessStaysLater asked m =
     (code : OsErr) → (served asked m).0 ≡ Refused code → (later : List Block)
@@ -50,11 +50,11 @@ LessStaysLater asked m =
     → ease (served asked m).1.heap.zone < ease later
     → staying later < staying m.heap.zone
 
--- where no handle has two blocks, a try leaves a zone of as many bytes
+-- Where no handle has two blocks, a try leaves a zone of the same number of bytes.
 abbrev pub KeepsBytes : Asked → Memory → Type 0
 KeepsBytes asked m = OneBlockEach m.heap.zone → sizes (served asked m).1.heap.zone ≡ sizes m.heap.zone
 
--- and no fewer blocks of master pointers
+-- Where no handle has two blocks, a try leaves no fewer master pointer blocks.
 abbrev pub KeepsMasters : Asked → Memory → Type 0
 KeepsMasters asked m =
     OneBlockEach m.heap.zone → count is_masters m.heap.zone ≤ count is_masters (served asked m).1.heap.zone

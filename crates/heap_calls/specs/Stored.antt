@@ -4,7 +4,8 @@ use Rattle.block_store.specs.Rest.{Rest}
 use Rattle.heap_calls.specs.declared.anchor.Anchor.{Anchor}
 use Rattle.heap_calls.specs.Inner.Numbered.{Agrees, handle_number, pointer_number}
 
--- a heap's zone is a store's, with other names for the blocks; the names and the store agree, so no two blocks share one
+-- A heap's zone is a store's zone with its blocks named by number. The names and the store agree, so no two blocks
+-- have the same name.
 abbrev pub IsNamed : List Block → List Block → Type 0
 IsNamed zone named = (entries : List Anchor) × (rest : Rest) × Agrees zone rest entries
     × (named ≡ rename (handle_number entries) (pointer_number entries) zone)

@@ -1,4 +1,4 @@
-//! What numbers stand for.
+//! What the numbers of handles and pointers stand for in a store.
 
 ghost use Rattle.std.specs.Prelude.{◌≡◌, ◌<◌, slice_get, option_and_then, Some, None, Err, vec_len, vec_capacity};
 ghost use Rattle.heap_calls.specs.Inner.Given.{slot_of};
@@ -8,18 +8,19 @@ ghost use Rattle.heap_calls.specs.Inner.Pointing.{target_of};
 use crate::refusal::Refusal;
 use mac_words::OsErr;
 
-/// What a number stands for in a store.
+/// What the number of a handle or a pointer stands for in a store.
 #[derive(Clone, Copy, Debug, PartialEq, Eq)]
 pub enum Anchor {
-    /// A handle, by its slot; one of a resource may be guarded.
+    /// A handle, by the slot of its master pointer. Only a resource's handle may be guarded: it is then a System
+    /// resource's.
     Handle { slot: u32, guarded: bool },
     /// A pointer, by the place of its block.
     Pointer(u32),
-    /// Nothing any more.
+    /// A handle or a pointer that was disposed of.
     Disposed,
 }
 
-/// A handle that was looked up, its slot, and whether it is guarded.
+/// A handle that was looked up: its number, the slot of its master pointer, and whether the handle is guarded.
 #[derive(Clone, Copy)]
 pub struct Found {
     pub number: usize,
@@ -27,14 +28,15 @@ pub struct Found {
     pub guarded: bool,
 }
 
-/// A pointer that was looked up, and the place of its block.
+/// A pointer that was looked up: its number, and the place of its block.
 #[derive(Clone, Copy)]
 pub struct Target {
     pub number: usize,
     pub place: u32,
 }
 
-/// The slot of the handle that a name is bound to.
+/// Returns the number and the slot of the handle that a name is bound to: -109 (nilHandleErr) where the name is
+/// unbound or the number was never given, -111 (memWZErr) where the number is a pointer's or was disposed of.
 pub fn slot_of(names: &[Anchor], handle: Option<usize>) -> Result<Found, Refusal>
     ensures { result ≡ slot_of handle names.now }
 {
@@ -52,7 +54,9 @@ pub fn slot_of(names: &[Anchor], handle: Option<usize>) -> Result<Found, Refusal
     }
 }
 
-/// The place of the block of the pointer that a name is bound to.
+/// Returns the number of the pointer that a name is bound to, and the place of its block: -109 (nilHandleErr) where
+/// the name is unbound or the number was never given, -111 (memWZErr) where the number is a handle's or was disposed
+/// of.
 pub fn target_of(names: &[Anchor], pointer: Option<usize>) -> Result<Target, Refusal>
     ensures { result ≡ target_of pointer names.now }
 {
@@ -69,7 +73,8 @@ pub fn target_of(names: &[Anchor], pointer: Option<usize>) -> Result<Target, Ref
     }
 }
 
-/// Gives the next number, for which there is room, to the handle of a slot; -108 where there is no slot.
+/// Enters the handle of `slot`, unguarded, under the next number, for which `names` has room, and returns the number;
+/// -108 (memFullErr) where there is no slot.
 pub fn name_handle(names: &mut Vec<Anchor>, slot: Option<u32>) -> Result<usize, Refusal>
     requires { vec_len names.old < vec_capacity names.old }
     ensures number { result ≡ number_of slot names.old.items }

@@ -1,4 +1,4 @@
-//! Bytes behind those of a handle's block.
+//! Bytes appended to a handle's block.
 
 ghost use Rattle.std.specs.Prelude.{◌≡◌, ◌≤◌, ◌+◌, ◌||◌, Some, false, length, take, IsSome, IsSomeAnd, IsTrue};
 ghost use Rattle.std.specs.Prelude.{IsErr, IfOk};
@@ -30,8 +30,10 @@ use block_store::{BlockStore, Sparing};
 use std::alloc::AllocError;
 
 impl<S: BlockStore> Heap<S> {
-    /// `HandAndHand`: appends the bytes of one handle to another, which may be the same. -108 where there is
-    /// no room. A want of host memory leaves all but the zone as it was.
+    /// `HandAndHand`: appends the bytes of the block of `from` to the block of `to`, which may be the same handle.
+    /// Neither block is purged for it. Returns -108 (memFullErr) where there is no room, and -30001 (profileErr)
+    /// where `to` is a System resource's. Where the host is out of memory, which can be only over a store that takes
+    /// host memory, all but the zone and the count of moves stays as it was.
     ///
     /// *Inside Macintosh: Memory*, chapter 2, "Manipulating Blocks of Memory".
     pub fn hand_and_hand(&mut self, from: Option<usize>, to: Option<usize>) -> Result<(), Refusal>
@@ -48,8 +50,9 @@ impl<S: BlockStore> Heap<S> {
         self.note(answer)
     }
 
-    /// `PtrAndHand`: appends bytes to a handle. -108 where there is no room. A want of host memory leaves all
-    /// but the zone as it was.
+    /// `PtrAndHand`: appends bytes to the block of a handle. Returns -108 (memFullErr) where there is no room, and
+    /// -30001 (profileErr) where the handle is a System resource's. Where the host is out of memory, which can be
+    /// only over a store that takes host memory, all but the zone and the count of moves stays as it was.
     ///
     /// *Inside Macintosh: Memory*, chapter 2, "Manipulating Blocks of Memory".
     pub fn pointer_and_hand(&mut self, handle: Option<usize>, bytes: &[u8]) -> Result<(), Refusal>
@@ -67,7 +70,7 @@ impl<S: BlockStore> Heap<S> {
         self.note(answer)
     }
 
-    /// Appends the bytes of one handle to another.
+    /// Appends the bytes of one handle's block to another's, and counts the searches for room.
     fn append_handle(&mut self, from: Option<usize>, to: Option<usize>) -> Result<(), Refusal>
         ensures answer { IsAnswer (moving (hand_and_hand_moves from to self.old.heap)
             (searching (hand_and_hand_searches from to self.old.heap) (silent (hand_and_hand from to) self.old))) result
@@ -76,7 +79,7 @@ impl<S: BlockStore> Heap<S> {
         ensures kept { result ≡ Err Refusal.HostMemory → KeepsNames self.old self.new }
         ensures lies { self.new.window ≡ self.old.window }
     {
-        // The counts of looks and of moves are known to fit their types once they are read.
+        // The counts of searches and of moves are known to fit their types once they are read.
         let _searches = self.log.searches;
         let _moves = self.store.moves();
         let source = reach(&self.store, &self.names, from)?;
@@ -86,7 +89,7 @@ impl<S: BlockStore> Heap<S> {
         self.account(grown)
     }
 
-    /// Appends bytes to a handle.
+    /// Appends bytes to a handle's block, and counts the searches for room.
     fn append_slice(&mut self, handle: Option<usize>, bytes: &[u8]) -> Result<(), Refusal>
         ensures answer { IsAnswer (moving (pointer_and_hand_moves handle bytes.now self.old.heap)
             (searching (pointer_and_hand_searches handle bytes.now self.old.heap)
@@ -95,7 +98,7 @@ impl<S: BlockStore> Heap<S> {
         ensures kept { result ≡ Err Refusal.HostMemory → KeepsNames self.old self.new }
         ensures lies { self.new.window ≡ self.old.window }
     {
-        // The counts of looks and of moves are known to fit their types once they are read.
+        // The counts of searches and of moves are known to fit their types once they are read.
         let _searches = self.log.searches;
         let _moves = self.store.moves();
         let held = reach(&self.store, &self.names, handle)?;
@@ -104,7 +107,7 @@ impl<S: BlockStore> Heap<S> {
     }
 }
 
-/// How many bytes the block of a slot holds, which stands at a place.
+/// Returns the logical size in bytes of the block of `slot`, which stands at `place`.
 fn length_at<S: BlockStore>(store: &S, slot: u32, place: u32) -> u32
     requires { FindsLowest (is_relocatable slot) (S.zone store.now) (Some place) }
     ensures is { result ≡ length_of slot (S.zone store.now) }
@@ -113,7 +116,7 @@ fn length_at<S: BlockStore>(store: &S, slot: u32, place: u32) -> u32
     store.bytes(place).len() as u32
 }
 
-/// The size of so many bytes with more behind them, if a block can have it.
+/// Returns the sum of `len` and `more`, if a block can have that size.
 fn joined_size(len: u32, more: usize) -> Option<u32>
     requires { len ≤ GREATEST_ZONE }
     ensures { result ≡ size_for (len + more) }
@@ -125,8 +128,8 @@ fn joined_size(len: u32, more: usize) -> Option<u32>
     Some(len + more as u32)
 }
 
-/// Gives the block of a slot, which stands at a place, the size of `len` bytes with more behind them, if a
-/// block can have that.
+/// Changes the logical size of the block of `slot`, which stands at `place`, from `len` bytes to `len + more`, if a
+/// block can have that size and there is room.
 fn lengthen<S: BlockStore>(
     store: &mut S,
     slot: u32,
@@ -162,7 +165,7 @@ fn lengthen<S: BlockStore>(
     fit_block(store, slot, place, size, sparing)
 }
 
-/// Writes bytes behind the first `len` bytes of the block of a slot.
+/// Writes bytes after the first `len` bytes of the block of `slot`.
 fn write_behind<S: BlockStore>(store: &mut S, slot: u32, len: u32, bytes: &[u8])
     requires { IsSomeAnd (spot (is_relocatable slot) (S.zone store.old))
         (λ s. len + length bytes.now ≤ length (content_of s.here)) }
@@ -175,8 +178,8 @@ fn write_behind<S: BlockStore>(store: &mut S, slot: u32, len: u32, bytes: &[u8])
     store.write(place, len, bytes);
 }
 
-/// Copies the first bytes of the block of one slot behind the first `len` bytes of the block of another, or
-/// of the same.
+/// Copies the first `bytes` bytes of the block of `source` to the block of `slot`, after its first `len` bytes; the
+/// two may be the same block.
 fn copy_behind<S: BlockStore>(store: &mut S, source: u32, bytes: u32, slot: u32, len: u32)
     requires source { IsSomeAnd (spot (is_relocatable source) (S.zone store.old))
         (λ s. bytes ≤ length (content_of s.here)) }
@@ -195,7 +198,7 @@ fn copy_behind<S: BlockStore>(store: &mut S, source: u32, bytes: u32, slot: u32,
     store.copy(from, bytes, place, len);
 }
 
-/// Appends bytes to the block of a slot, which stands at a place.
+/// Appends bytes to the block of `slot`, which stands at `place`.
 fn append_bytes<S: BlockStore>(
     store: &mut S,
     slot: u32,
@@ -223,8 +226,8 @@ fn append_bytes<S: BlockStore>(
     Ok(grown)
 }
 
-/// Appends the bytes of the block of one slot, which are so many, to the block of another, which stands at a
-/// place, or to itself.
+/// Appends the `more` bytes of the block of `source` to the block of `slot`, which stands at `place`; the two may be
+/// the same block.
 fn append_block<S: BlockStore>(
     store: &mut S,
     source: u32,

@@ -1,4 +1,4 @@
-//! Room at the base of a run.
+//! Room at the base of a run of movable blocks.
 
 ghost use Rattle.std.specs.Prelude.{◌≡◌, ◌+◌, ◌≤◌, ◌<◌, ◌%◌, IfOk, OnErr, IsErr, IsTrue, MatchOption, is_some};
 ghost use Rattle.block_store.specs.Find.{FindsLowestRun};
@@ -18,14 +18,14 @@ use crate::search::Room;
 use block_store::{BlockStore, MASTERS_SIZE, Sparing};
 use std::alloc::AllocError;
 
-/// What a search for a run came to: the run, and after how many purges.
+/// The result of a search for a run: the run, if there is one, and the number of purges before it.
 #[derive(Clone, Copy)]
 pub struct FoundRun {
     pub run: Option<u32>,
     pub purges: u32,
 }
 
-/// The lowest run with so many Free bytes.
+/// The search for the lowest run that has `bytes` free bytes.
 #[derive(Clone, Copy)]
 struct LowestRun {
     bytes: u32,
@@ -62,7 +62,7 @@ impl Look for LowestRun {
     ghost stays = { λ look zone k found allows. base-stays look.bytes look.sparing zone k found };
 }
 
-/// The lowest run with so many Free bytes after as few purges as serve.
+/// Finds the lowest run with `bytes` free bytes, after as few purges as serve.
 fn find_base<S: BlockStore>(store: &S, bytes: u32, sparing: Sparing) -> FoundRun
     ensures found { FindsLowestRun (has_free bytes) (purged result.purges sparing (S.zone store.now)) result.run }
     ensures least { base bytes sparing (S.zone store.now) ≡ run_spot (has_free bytes)
@@ -77,7 +77,8 @@ fn find_base<S: BlockStore>(store: &S, bytes: u32, sparing: Sparing) -> FoundRun
     }
 }
 
-/// Makes so many bytes Free at the base of a run, where a run has them; answers their place.
+/// Makes a free block of `bytes` bytes at the base of the lowest run that has as many free bytes after as few purges
+/// as serve, and returns the place of that block; `None`, and nothing changes, where no run has them.
 ///
 /// *Inside Macintosh: Memory*, chapter 1, "Memory Reservation".
 pub fn make_base<S: BlockStore>(
@@ -112,7 +113,7 @@ pub fn make_base<S: BlockStore>(
     })
 }
 
-/// Puts a block of 64 new slots at the base of a run, where there is room for it.
+/// Puts a master pointer block, with 64 unused slots, at the base of a run, where there is room for the block.
 ///
 /// *Inside Macintosh: Memory*, chapter 2, "Allocating Master Pointers".
 pub fn make_masters<S: BlockStore>(store: &mut S, sparing: Sparing) -> Result<Room, AllocError>
@@ -132,14 +133,15 @@ pub fn make_masters<S: BlockStore>(store: &mut S, sparing: Sparing) -> Result<Ro
     Ok(room)
 }
 
-/// A slot, if one could be had, and the searches that it took.
+/// A slot, if there was one to take, and the number of searches for room that were made for it.
 #[derive(Clone, Copy)]
 pub struct Taken {
     pub slot: Option<u32>,
     pub searches: u32,
 }
 
-/// Takes a slot for a new handle; where all are used, 64 more are made first.
+/// Takes an unused slot for a new handle; where all slots are used, a master pointer block with 64 more is made
+/// first.
 pub fn make_slot<S: BlockStore>(store: &mut S, sparing: Sparing) -> Result<Taken, AllocError>
     ensures slot { IfOk result (λ r. IsSlot sparing (S.zone store.old) (S.rest store.old) r.slot (S.zone store.new)
         (S.rest store.new)) }

@@ -1,4 +1,4 @@
-//! Names that are busy: calls on them are barred.
+//! Names that are busy, and the calls that they bar.
 
 ghost use Rattle.std.specs.Prelude.{◌≡◌, Err, is_ok, if◌then◌else◌};
 ghost use Rattle.heap_calls.specs.Answer.{look_up};
@@ -12,9 +12,9 @@ use block_store::BlockStore;
 use mac_words::OsErr;
 
 impl<S: BlockStore> Heap<S> {
-    /// Makes the handle or the pointer of a number busy, or idle again: a call on one that is busy answers -117
-    /// and changes nothing. Three numbers at most are busy; a fourth isn't kept. A number that was made busy
-    /// twice is idle once it is made so.
+    /// Makes the handle or the pointer of a number busy, or idle again: a call on a busy one returns -117
+    /// (memLockedErr) and changes nothing but the code that `MemError` returns. At most three numbers are busy; a
+    /// fourth is not kept. A number that was made busy twice is idle once it is made idle.
     ///
     /// *Inside Macintosh: Memory*, chapter 1, "Low-Memory Conditions".
     pub fn set_busy(&mut self, number: usize, busy: bool)
@@ -24,21 +24,22 @@ impl<S: BlockStore> Heap<S> {
         self.log.set_busy(number, busy);
     }
 
-    /// Whether the handle or the pointer of a number is busy.
+    /// Reports whether the handle or the pointer of a number is busy.
     pub fn is_busy(&self, number: usize) -> bool
         ensures { result ≡ is_busy number self.now.log.busy }
     {
         self.log.is_busy(number)
     }
 
-    /// Keeps a code as that of the last call.
+    /// Sets the code that `MemError` returns.
     pub fn keep_code(&mut self, code: OsErr)
         ensures { self.new ≡ keep_code code self.old }
     {
         self.log.code = code;
     }
 
-    /// Why the handle that a name is bound to bars a call.
+    /// Returns the code with which the handle that a name is bound to bars a call: -117 (memLockedErr) where the
+    /// handle is busy; `None` where it is not, or the name is no handle's.
     pub(crate) fn barred(&self, handle: Option<usize>) -> Option<OsErr>
         ensures { result ≡ barred handle self.now }
     {
@@ -48,7 +49,9 @@ impl<S: BlockStore> Heap<S> {
         }
     }
 
-    /// Why the handle that a name is bound to bars a call that changes its bytes or size.
+    /// Returns the code with which the handle that a name is bound to bars a call that changes the block's bytes or
+    /// size: -117 (memLockedErr) where the handle is busy, else -30001 (profileErr) where the handle is a System
+    /// resource's.
     pub(crate) fn change_barred(&self, handle: Option<usize>) -> Option<OsErr>
         ensures { result ≡ change_barred handle self.now }
     {
@@ -59,7 +62,8 @@ impl<S: BlockStore> Heap<S> {
         }
     }
 
-    /// Why the pointer that a name is bound to bars a call.
+    /// Returns the code with which the pointer that a name is bound to bars a call: -117 (memLockedErr) where the
+    /// pointer is busy; `None` where it is not, or the name is no pointer's.
     pub(crate) fn pointer_barred(&self, pointer: Option<usize>) -> Option<OsErr>
         ensures { result ≡ pointer_barred pointer self.now }
     {
@@ -69,7 +73,8 @@ impl<S: BlockStore> Heap<S> {
         self.log.bar(target.number)
     }
 
-    /// Why the handle or the pointer that a name is bound to bars a call.
+    /// Returns the code with which the handle or the pointer that a name is bound to bars a call: -117 (memLockedErr)
+    /// where it is busy.
     pub(crate) fn either_barred(&self, name: Option<usize>) -> Option<OsErr>
         ensures { result ≡ either_barred name self.now }
     {
@@ -79,8 +84,8 @@ impl<S: BlockStore> Heap<S> {
         }
     }
 
-    /// Why the first of two handles bars a call, or the second, which is changed, and is asked for only where the
-    /// first one has a block.
+    /// Returns the code with which one of two handles bars a call that appends the bytes of `from` to `to`. The
+    /// handle `to`, whose block is changed, is asked for only where `from` has a block.
     pub(crate) fn both_barred(&self, from: Option<usize>, to: Option<usize>) -> Option<OsErr>
         ensures { result ≡ both_barred from to self.now }
     {
@@ -91,14 +96,14 @@ impl<S: BlockStore> Heap<S> {
         }
     }
 
-    /// Whether the handle that a name is bound to has a block.
+    /// Reports whether the handle that a name is bound to has a block.
     fn finds_block(&self, handle: Option<usize>) -> bool
         ensures { result ≡ is_ok (look_up handle self.now.heap) }
     {
         find_block(&self.store, &self.names, handle).is_ok()
     }
 
-    /// Refuses a call, and keeps its code.
+    /// Refuses a call with a code, and sets the code that `MemError` returns.
     pub(crate) fn refuse<T>(&mut self, code: OsErr) -> Result<T, Refusal>
         ensures answer { result ≡ Err (Refusal.Code code) }
         ensures noted { self.new ≡ keep_code code self.old }

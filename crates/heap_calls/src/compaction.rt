@@ -1,4 +1,4 @@
-//! The largest block that can be had, and compaction.
+//! The largest block that can be allocated, and compaction.
 
 ghost use Rattle.std.specs.Prelude.{◌≡◌, ◌+◌, ◌<◌, IsSome, IfSome};
 ghost use Rattle.mac_words.specs.Size.{phys as physical_size};
@@ -18,7 +18,8 @@ use block_store::{BlockStore, HEADER_SIZE, Seen, Sparing};
 use mac_words::{OsErr, phys};
 
 impl<S: BlockStore> Heap<S> {
-    /// `MaxBlock`: the most bytes that one block can have once all runs are settled.
+    /// `MaxBlock`: returns the logical size in bytes of the largest block that could be allocated if all runs of
+    /// movable blocks were compacted; nothing is moved.
     pub fn max_block(&mut self) -> u32
         ensures answer { noting max_block self.old ≡ (Ok result, self.new) }
         ensures room { 0 < result → IfSome (physical_size result) (λ p. IsSome (place p self.old.heap.zone)) }
@@ -29,8 +30,9 @@ impl<S: BlockStore> Heap<S> {
         self.store.largest_run().saturating_sub(HEADER_SIZE)
     }
 
-    /// `CompactMem`: settles runs until a block of `size` bytes has room; the most bytes that a block can
-    /// then have without another being moved.
+    /// `CompactMem`: compacts runs of movable blocks, lowest first, until a free block of `size` bytes of content
+    /// stands or all runs are compacted, and returns the logical size in bytes of the largest block that can then be
+    /// allocated without moving another.
     pub fn compact_mem(&mut self, size: u32) -> u32
         ensures answer { packing (compact_mem_moves size) (compact_mem_searches size) (compact_mem size) self.old
             ≡ (Ok result, self.new) }
@@ -44,8 +46,8 @@ impl<S: BlockStore> Heap<S> {
     }
 }
 
-/// Settles runs, lowest first, until a Free block of so many bytes stands or all are settled; tells how
-/// many with a block were. None stands where no size is given.
+/// Compacts runs of movable blocks, lowest first, until a free block of `bytes` bytes stands or all runs are
+/// compacted, and returns how many of the runs had a block. Where `bytes` is `None`, all runs are compacted.
 ///
 /// *Inside Macintosh: Memory*, chapter 1, "Heap Compaction".
 pub fn compact<S: BlockStore>(store: &mut S, bytes: Option<u32>) -> u32
@@ -71,7 +73,8 @@ pub fn compact<S: BlockStore>(store: &mut S, bytes: Option<u32>) -> u32
     stretches
 }
 
-/// Whether a block that was looked at is of those that a run is made of.
+/// Reports whether a block, as it is seen, belongs to a run of movable blocks: a free block or an unlocked
+/// relocatable block.
 fn in_run(seen: Option<Seen>) -> bool
     ensures { result ≡ seen_in_run seen }
 {
@@ -82,7 +85,8 @@ fn in_run(seen: Option<Seen>) -> bool
     }
 }
 
-/// Whether a Free block of so many bytes stands after so many purges; none does where no size is given.
+/// Reports whether a free block of `bytes` bytes stands after the given number of purges; there is none where `bytes`
+/// is `None`.
 pub fn has_room<S: BlockStore>(store: &S, bytes: Option<u32>, purges: u32) -> bool
     ensures after { result ≡ has_room bytes (purged purges Sparing.Nothing (S.zone store.now)) }
     ensures now { purges ≡ 0 → result ≡ has_room bytes (S.zone store.now) }

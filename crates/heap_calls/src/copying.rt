@@ -28,8 +28,11 @@ use mac_words::OsErr;
 use std::alloc::AllocError;
 
 impl<S: BlockStore> Heap<S> {
-    /// `HandToHand`: a new handle with the bytes of another, which isn't emptied for it. -108 where there is no
-    /// room for its block, or all slots are used and there is no room for more.
+    /// `HandToHand`: allocates a relocatable block with a copy of the bytes of another handle's block, and returns a
+    /// handle to the copy. The block that is copied is not purged for the copy. Returns -108 (memFullErr) where the
+    /// zone has no room for the block, or where all master pointers are used and there is no room for a block of
+    /// more. Where the host is out of memory, all but the zone and the count of moves stays as it was, and the whole
+    /// heap does over a store that takes no host memory.
     pub fn hand_to_hand(&mut self, handle: Option<usize>) -> Result<usize, Refusal>
         ensures answer { IsAnswer (unless (barred handle self.old) (packing (hand_to_hand_moves handle)
             (hand_to_hand_searches handle) (hand_to_hand handle)) self.old) result self.new }
@@ -44,7 +47,7 @@ impl<S: BlockStore> Heap<S> {
         self.note(answer)
     }
 
-    /// A new handle with the bytes of another.
+    /// Makes a new handle with a copy of the bytes of another handle's block, and counts the searches for room.
     fn copy_handle(&mut self, handle: Option<usize>) -> Result<usize, Refusal>
         ensures answer { IsAnswer (moving (hand_to_hand_moves handle self.old.heap)
             (searching (hand_to_hand_searches handle self.old.heap) (silent (hand_to_hand handle) self.old))) result
@@ -53,7 +56,7 @@ impl<S: BlockStore> Heap<S> {
         ensures kept { result ≡ Err Refusal.HostMemory → KeepsNames self.old self.new }
         ensures lies { self.new.window ≡ self.old.window }
     {
-        // The counts of looks and of moves are known to fit their types once they are read.
+        // The counts of searches and of moves are known to fit their types once they are read.
         let _searches = self.log.searches;
         let _moves = self.store.moves();
         let found = slot_of(&self.names, handle)?;
@@ -68,8 +71,8 @@ impl<S: BlockStore> Heap<S> {
     }
 }
 
-/// Puts a copy of the block of a slot, which has `size` bytes, where there is room, for a slot of its own,
-/// and answers that; `None` where no slot can be had or there is no room.
+/// Puts a copy of the block of `source`, which has `size` bytes of content, where there is room, under a new slot,
+/// and returns that slot; `None` where there is no unused slot and no room for more, or no room for the block.
 fn copy_block<S: BlockStore>(store: &mut S, source: u32, size: u32) -> Result<Taken, AllocError>
     requires used { IsTrue (is_used ((S.rest store.old).slots source)) }
     requires size { IsSomeAnd (spot (is_relocatable source) (S.zone store.old))

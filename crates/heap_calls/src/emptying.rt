@@ -1,4 +1,4 @@
-//! Emptied handles.
+//! Empty handles.
 
 ghost use Rattle.std.specs.Prelude.{◌≡◌, ◌≢◌, IsTrue, IsErr};
 ghost use Rattle.heap_calls.specs.Busy.{barred, change_barred, unless};
@@ -24,7 +24,8 @@ use mac_words::{OsErr, phys};
 use std::alloc::AllocError;
 
 impl<S: BlockStore> Heap<S> {
-    /// `EmptyHandle`: a handle's block is Free, and the handle stays, emptied; -112 where it is locked.
+    /// `EmptyHandle`: frees the block of a handle, and leaves the handle empty. An empty handle stays as it is.
+    /// Returns -112 (memPurErr) where the block is locked.
     pub fn empty_handle(&mut self, handle: Option<usize>) -> Result<(), Refusal>
         ensures answer { IsAnswer (unless (barred handle self.old) (noting (empty_handle handle)) self.old)
             result self.new }
@@ -38,8 +39,11 @@ impl<S: BlockStore> Heap<S> {
         self.note(answer)
     }
 
-    /// `ReallocateHandle`: a handle gets a new block of `size` bytes 0, and its old one is Free; -112 where
-    /// that is locked. A want of host memory leaves all but the zone as it was.
+    /// `ReallocateHandle`: allocates a new block of `size` bytes, all 0, for a handle, whose old block, if it has
+    /// one, becomes free first. Returns -112 (memPurErr) where the old block is locked, -108 (memFullErr) where there
+    /// is no room for the new block, and -30001 (profileErr) where the handle is a System resource's. Where the host
+    /// is out of memory, which can be only over a store that takes host memory, all but the zone and the count of
+    /// moves stays as it was.
     pub fn reallocate_handle(&mut self, handle: Option<usize>, size: u32) -> Result<(), Refusal>
         ensures answer { IsAnswer (unless (change_barred handle self.old) (packing (reallocate_handle_moves handle size)
             (reallocate_handle_searches handle size) (reallocate_handle handle size)) self.old) result self.new }
@@ -54,7 +58,7 @@ impl<S: BlockStore> Heap<S> {
         self.note(answer)
     }
 
-    /// Empties a handle.
+    /// Frees the block of a handle, and leaves the handle empty.
     fn empty(&mut self, handle: Option<usize>) -> Result<(), Refusal>
         ensures answer { IsAnswer (silent (empty_handle handle) self.old) result self.new }
         ensures host { result ≢ Err Refusal.HostMemory }
@@ -65,7 +69,7 @@ impl<S: BlockStore> Heap<S> {
         Ok(())
     }
 
-    /// Gives a handle a new block, and counts the looks for its room.
+    /// Allocates a new block for a handle, and counts the searches for room.
     fn reallocate(&mut self, handle: Option<usize>, size: u32) -> Result<(), Refusal>
         ensures answer { IsAnswer (moving (reallocate_handle_moves handle size self.old.heap)
             (searching (reallocate_handle_searches handle size self.old.heap)
@@ -85,7 +89,7 @@ impl<S: BlockStore> Heap<S> {
     }
 }
 
-/// The slot of the handle that a name is bound to, if it has no block that is locked.
+/// Returns the slot of the handle that a name is bound to, unless the handle has a locked block.
 fn loose_slot<S: BlockStore>(
     store: &S,
     names: &[Anchor],
@@ -104,8 +108,8 @@ fn loose_slot<S: BlockStore>(
     Ok(found.slot)
 }
 
-/// Puts a new block of `size` bytes 0 where there is room once the block of a slot is Free. Nothing changes
-/// where there is none.
+/// Allocates a new block of `size` bytes, all 0, for `slot`, where there is room once the old block of `slot`, if
+/// there is one, is free. Nothing changes where there is no room.
 pub fn renew_block<S: BlockStore>(store: &mut S, slot: u32, size: u32) -> Result<Room, AllocError>
     requires { IsTrue (is_used ((S.rest store.old).slots slot)) }
     ensures answer { IsRenewed slot size (S.zone store.old) (S.rest store.old) result (S.zone store.new)

@@ -1,4 +1,4 @@
-//! Blocks with flags and bytes of their own.
+//! New blocks with given properties and bytes.
 
 ghost use Rattle.std.specs.Prelude.{◌≡◌, ◌⊎◌, ◌+◌, ◌<◌, ◌≤◌, false, Err, [], map, length, IfOk, OnErr, IsErr, IsTrue};
 ghost use Rattle.std.specs.Prelude.{vec_len, vec_capacity};
@@ -31,7 +31,7 @@ use crate::search::Room;
 use block_store::{BlockStore, Flags, Sparing};
 use std::alloc::{AllocError, Global};
 
-/// What a new resource is to hold.
+/// What a new resource's block is to hold: its bytes, and its properties.
 #[derive(Clone, Copy, Debug)]
 pub struct Filling<'a> {
     pub bytes: &'a [u8],
@@ -39,9 +39,10 @@ pub struct Filling<'a> {
 }
 
 impl<S: BlockStore> Heap<S> {
-    /// A new handle of a resource, with a block of these flags and bytes. -108 where there is no room for its block,
-    /// or all slots are used and there is no room for more. A want of host memory leaves all but the zone as it
-    /// was, and the zone too over a store that takes no host memory.
+    /// Makes a new handle of a resource, with a block of these bytes and properties, and returns the handle's number.
+    /// Returns -108 (memFullErr) where the zone has no room for the block, or where all master pointers are used and
+    /// there is no room for a block of more. Where the host is out of memory, all but the zone and the count of moves
+    /// stays as it was, and the whole heap does over a store that takes no host memory.
     ///
     /// *More Macintosh Toolbox*, chapter 1, "Using the Resource Manager".
     pub fn new_resource(
@@ -59,7 +60,9 @@ impl<S: BlockStore> Heap<S> {
         self.own(answer, guarded)
     }
 
-    /// A new handle of a resource, with no block. -108 where all slots are used and there is no room for more.
+    /// Makes a new handle of a resource, with no block, and returns the handle's number. Returns -108 (memFullErr)
+    /// where all master pointers are used and there is no room for a block of more. Where the host is out of memory,
+    /// all but the zone stays as it was, and the whole heap does over a store that takes no host memory.
     pub fn new_empty_resource(&mut self, guarded: bool) -> Result<usize, Refusal>
         ensures answer { IsAnswer (new_emptied_inside (resource_role guarded) self.old) result self.new }
         ensures host { result ≡ Err Refusal.HostMemory → IsTrue S.TAKES_HOST ⊎ (self.new ≡ self.old) }
@@ -70,9 +73,10 @@ impl<S: BlockStore> Heap<S> {
         self.own(answer, guarded)
     }
 
-    /// New handles of resources, one after another and none of them guarded: the number of each, `None` for
-    /// each that finds no room. Room for the numbers and for the answer is had before the first is made, so that
-    /// a want of host memory changes nothing over a store that takes none.
+    /// Makes new handles of resources, one after another and none of them guarded, and returns the number of each,
+    /// `None` for each whose block finds no room. Host memory for the numbers and for the answer is allocated before
+    /// the first handle is made, so that nothing changes where the host is out of memory, over a store that takes no
+    /// host memory.
     pub fn new_resources(
         &mut self,
         alloc: Global,
@@ -94,8 +98,9 @@ impl<S: BlockStore> Heap<S> {
         Ok(numbers)
     }
 
-    /// Gives an emptied handle a block of these flags and bytes; -108 where there is no room for it. A want of
-    /// host memory leaves all but the zone as it was.
+    /// Gives an empty handle a block of these bytes and properties. Returns -108 (memFullErr) where there is no room
+    /// for the block. Where the host is out of memory, which can be only over a store that takes host memory, all but
+    /// the zone and the count of moves stays as it was.
     pub fn refill(&mut self, number: usize, bytes: &[u8], flags: Flags) -> Result<(), Refusal>
         requires emptied { has_block number self.old.heap ≡ false }
         ensures answer { IsAnswer (refill_inside number flags bytes.now self.old) result self.new }
@@ -103,7 +108,7 @@ impl<S: BlockStore> Heap<S> {
         ensures kept { result ≡ Err Refusal.HostMemory → KeepsNames self.old self.new }
         ensures lies { self.new.window ≡ self.old.window }
     {
-        // The counts of looks and of moves are known to fit their types once they are read.
+        // The counts of searches and of moves are known to fit their types once they are read.
         let _searches = self.log.searches;
         let _moves = self.store.moves();
         let found = slot_of(&self.names, Some(number))?;
@@ -114,7 +119,8 @@ impl<S: BlockStore> Heap<S> {
         })
     }
 
-    /// A new handle, an application's own, with a block of these flags and bytes.
+    /// Makes a new handle, an application's own, with a block of these bytes and properties, and counts the searches
+    /// for room.
     fn fill_handle(&mut self, bytes: &[u8], flags: Flags) -> Result<usize, Refusal>
         ensures answer { IsAnswer (new_inside Plain flags bytes.now self.old) result self.new }
         ensures host { result ≡ Err Refusal.HostMemory → IsTrue S.TAKES_HOST ⊎ (self.new ≡ self.old) }
@@ -127,7 +133,7 @@ impl<S: BlockStore> Heap<S> {
         name_handle(&mut self.names, made.slot)
     }
 
-    /// Makes a new handle, if one was made, a resource's, and passes the answer on.
+    /// Makes the handle of an answer, where one was made, a resource's, and returns the answer.
     fn own(&mut self, answer: Result<usize, Refusal>, guarded: bool) -> Result<usize, Refusal>
         ensures answer { result ≡ answer }
         ensures owned { self.new ≡ inside (owned_by guarded answer) self.old }
@@ -140,14 +146,15 @@ impl<S: BlockStore> Heap<S> {
     }
 }
 
-/// The size of a block for some bytes; one that no block has where there are too many for any.
+/// Returns the size of a block for some bytes; where there are too many bytes for any block, a size that no block
+/// has.
 fn size_of(bytes: &[u8]) -> u32
     ensures { IsSizeOf (length bytes.now) result }
 {
     u32::try_from(bytes.len()).unwrap_or(u32::MAX)
 }
 
-/// Writes bytes into the new block of a slot, which has as many, and sets its flags.
+/// Writes bytes into the new block of `slot`, whose size is their number, and sets the block's properties.
 fn fill_new<S: BlockStore>(store: &mut S, slot: u32, bytes: &[u8], flags: Flags)
     requires { IsFresh slot (length bytes.now) (S.zone store.old) }
     ensures zone { IsReplaced slot flags bytes.now (S.zone store.old) (S.zone store.new) }
@@ -161,8 +168,9 @@ fn fill_new<S: BlockStore>(store: &mut S, slot: u32, bytes: &[u8], flags: Flags)
     store.set_flags(place, flags);
 }
 
-/// Puts a new block of as many bytes 0 as are given where there is room, for a slot of its own, and answers
-/// that; `None` where no slot can be had, the block would be too large, or there is no room.
+/// Puts a new block of as many bytes as `bytes` has, all 0, where there is room, under a new slot, and returns that
+/// slot; `None` where there is no unused slot and no room for more, where the block would be too large, or where
+/// there is no room for the block.
 fn new_block_for<S: BlockStore>(store: &mut S, bytes: &[u8]) -> Result<Taken, AllocError>
     ensures answer { IfOk result (λ r. IsNewBlock Nothing (length bytes.now) (S.zone store.old) (S.rest store.old)
         r.slot (S.zone store.new) (S.rest store.new)) }
@@ -178,8 +186,9 @@ fn new_block_for<S: BlockStore>(store: &mut S, bytes: &[u8]) -> Result<Taken, Al
     new_block(store, size, Sparing::Nothing)
 }
 
-/// Puts a new block with flags and bytes where there is room, for a slot of its own, and answers that; `None`
-/// where no slot can be had, the block would be too large, or there is no room.
+/// Puts a new block of these bytes and properties where there is room, under a new slot, and returns that slot;
+/// `None` where there is no unused slot and no room for more, where the block would be too large, or where there is
+/// no room for the block.
 pub fn fill_block<S: BlockStore>(
     store: &mut S,
     bytes: &[u8],
@@ -203,8 +212,8 @@ pub fn fill_block<S: BlockStore>(
     Ok(made)
 }
 
-/// Puts a new block of as many bytes 0 as are given where there is room once the block of a slot is Free.
-/// Nothing changes where there is none.
+/// Puts a new block of as many bytes as `bytes` has, all 0, for `slot`, where there is room once the old block of
+/// `slot`, if there is one, is free. Nothing changes where there is no room.
 fn renew_block_for<S: BlockStore>(
     store: &mut S,
     slot: u32,
@@ -222,8 +231,8 @@ fn renew_block_for<S: BlockStore>(
     renew_block(store, slot, size)
 }
 
-/// Puts a new block with flags and bytes where there is room, for a slot that has none. Nothing changes where
-/// there is no room.
+/// Puts a new block of these bytes and properties, where there is room, for `slot`, which has none. Nothing changes
+/// where there is no room.
 fn refill_block<S: BlockStore>(
     store: &mut S,
     slot: u32,
@@ -247,8 +256,8 @@ fn refill_block<S: BlockStore>(
     Ok(room)
 }
 
-/// Gives the next number, for which there is room, to a new handle of a resource, which isn't guarded; `None` where
-/// it finds no room.
+/// Makes a new handle of a resource, unguarded, under the next number, for which `names` has room, and returns the
+/// number; `None` where the block finds no room.
 fn add_resource<S: BlockStore>(
     store: &mut S,
     names: &mut Vec<Anchor>,
@@ -281,7 +290,8 @@ fn add_resource<S: BlockStore>(
     Ok(Some(number))
 }
 
-/// Makes new handles of resources in order, and adds what comes of each to the answers; there is room for all.
+/// Makes new handles of resources in order, and adds the number of each, or `None`, to `numbers`; `names` and
+/// `numbers` have room for all.
 fn add_resources<S: BlockStore>(
     store: &mut S,
     names: &mut Vec<Anchor>,

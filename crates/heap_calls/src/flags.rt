@@ -1,4 +1,4 @@
-//! The flags of handles.
+//! The properties of relocatable blocks: locked, purgeable.
 
 ghost use Rattle.std.specs.Prelude.{◌≡◌, ◌≢◌};
 ghost use Rattle.heap_calls.specs.Busy.{barred, unless};
@@ -12,7 +12,7 @@ use crate::refusal::Refusal;
 use block_store::{BlockStore, Flags, Seen};
 
 impl<S: BlockStore> Heap<S> {
-    /// `HPurge`: a handle's block may be emptied.
+    /// `HPurge`: makes the block of a handle purgeable, so that the block may be purged while unlocked.
     pub fn h_purge(&mut self, handle: Option<usize>) -> Result<(), Refusal>
         ensures answer { IsAnswer (unless (barred handle self.old) (noting (h_purge handle)) self.old) result self.new }
         ensures host { result ≢ Err Refusal.HostMemory }
@@ -25,7 +25,7 @@ impl<S: BlockStore> Heap<S> {
         self.note(answer)
     }
 
-    /// `HNoPurge`: a handle's block isn't emptied.
+    /// `HNoPurge`: makes the block of a handle unpurgeable, so that the block is not purged.
     pub fn h_no_purge(&mut self, handle: Option<usize>) -> Result<(), Refusal>
         ensures answer { IsAnswer (unless (barred handle self.old) (noting (h_no_purge handle)) self.old)
             result self.new }
@@ -39,7 +39,8 @@ impl<S: BlockStore> Heap<S> {
         self.note(answer)
     }
 
-    /// `HGetState`: a handle's flags as bits of a byte: locked 128, purgeable 64, a resource's 32.
+    /// `HGetState`: returns the properties of a handle's block as bits of a byte: 128 where the block is locked, 64
+    /// where it is purgeable, 32 where the handle is a resource's.
     pub fn h_get_state(&mut self, handle: Option<usize>) -> Result<u8, Refusal>
         ensures answer { IsAnswer (unless (barred handle self.old) (noting (h_get_state handle)) self.old)
             result self.new }
@@ -53,8 +54,9 @@ impl<S: BlockStore> Heap<S> {
         self.note(answer)
     }
 
-    /// `HSetState`: a handle's flags become those of a byte as `HGetState` tells it; whether it is a resource's
-    /// stays.
+    /// `HSetState`: locks or unlocks the block of a handle by bit 128 of `byte`, and makes the block purgeable or
+    /// unpurgeable by bit 64, as `HGetState` returns them. The other bits have no effect: a resource's handle stays a
+    /// resource's.
     pub fn h_set_state(&mut self, handle: Option<usize>, byte: u8) -> Result<(), Refusal>
         ensures answer { IsAnswer (unless (barred handle self.old) (noting (h_set_state handle byte)) self.old)
             result self.new }
@@ -70,7 +72,7 @@ impl<S: BlockStore> Heap<S> {
         self.note(answer)
     }
 
-    /// Sets the flags that are given of a handle's block; the others stay.
+    /// Sets those properties of a handle's block that are given; the others stay as they are.
     pub(crate) fn set_flags(
         &mut self,
         handle: Option<usize>,
@@ -94,7 +96,7 @@ impl<S: BlockStore> Heap<S> {
         Ok(())
     }
 
-    /// The flags of a handle's block as bits.
+    /// Returns the properties of a handle's block as bits of a byte.
     fn state_of(&self, handle: Option<usize>) -> Result<u8, Refusal>
         ensures answer { IsAnswer (silent (h_get_state handle) self.now) result self.now }
         ensures host { result ≢ Err Refusal.HostMemory }
@@ -106,7 +108,7 @@ impl<S: BlockStore> Heap<S> {
     }
 }
 
-/// The flags of a block that was looked at, where it is a relocatable one.
+/// Returns the properties of a block, as it is seen; `None` unless it is a relocatable block.
 fn flags_of(seen: Option<Seen>) -> Option<Flags>
     ensures { result ≡ seen_flags seen }
 {
@@ -116,7 +118,7 @@ fn flags_of(seen: Option<Seen>) -> Option<Flags>
     }
 }
 
-/// Flags as bits of a byte: locked 128, purgeable 64.
+/// Returns properties as bits of a byte: 128 for locked, 64 for purgeable.
 fn bits_of(flags: Option<Flags>) -> u8
     ensures { result ≡ bits_of flags }
 {

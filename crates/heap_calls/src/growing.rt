@@ -27,7 +27,8 @@ use block_store::{BlockStore, Sparing};
 use mac_words::phys;
 use std::alloc::AllocError;
 
-/// How an unlocked block grows: into the Free block above it, at a place of its own, or as the last of its run.
+/// How an unlocked relocatable block grows: into the free block above it, at a place of its own, or as the last of
+/// its run.
 #[derive(Clone, Copy)]
 pub enum Growth {
     Up,
@@ -35,14 +36,15 @@ pub enum Growth {
     Last(u32),
 }
 
-/// What a search came to: how the block grows, and after how many purges.
+/// The result of a search: how the block grows, if it can, and the number of purges before it.
 #[derive(Clone, Copy)]
 pub struct FoundGrowth {
     pub growth: Option<Growth>,
     pub purges: u32,
 }
 
-/// How the block of a slot grows by `more` bytes to `bytes`, and to `size` bytes of content, after so many purges.
+/// Finds how the block of the slot `number` grows by `more` bytes to the physical size `bytes`, and to `size` bytes
+/// of content, after `purges` purges.
 fn growth_after<S: BlockStore>(
     store: &S,
     number: u32,
@@ -70,7 +72,8 @@ fn growth_after<S: BlockStore>(
     Some(Growth::Last(run))
 }
 
-/// A way to grow for the block of a slot: by `more` bytes to `bytes`, and to `size` bytes of content.
+/// The search for a way in which the block of the slot `number` grows by `more` bytes to the physical size `bytes`,
+/// and to `size` bytes of content.
 #[derive(Clone, Copy)]
 struct FirstGrowth {
     number: u32,
@@ -122,8 +125,8 @@ impl Look for FirstGrowth {
         found };
 }
 
-/// How the block of a slot grows by `more` bytes to `bytes`, and to `size` bytes of content, after as few purges as
-/// serve.
+/// Finds how the block of the slot `number` grows by `more` bytes to the physical size `bytes`, and to `size` bytes
+/// of content, after as few purges as serve.
 pub fn find_growth<S: BlockStore>(
     store: &S,
     number: u32,
@@ -162,7 +165,7 @@ pub fn find_growth<S: BlockStore>(
     }
 }
 
-/// Lets the block of a slot grow into the Free block above it.
+/// Lets the block of the slot `number` grow into the free block above it.
 fn grow_up<S: BlockStore>(store: &mut S, number: u32, size: u32) -> Result<(), AllocError>
     requires { CanGrowUp (is_relocatable number) size (S.zone store.old) }
     ensures ok { OnOk result (GrewUp (is_relocatable number) size (S.zone store.old) (S.zone store.new)) }
@@ -176,7 +179,7 @@ fn grow_up<S: BlockStore>(store: &mut S, number: u32, size: u32) -> Result<(), A
     store.resize(place, size)
 }
 
-/// The place of a seat, whose run is packed if it is one.
+/// Returns the place that a seat stands for, once the run of the seat, if it is a run, is packed.
 fn pack_seat<S: BlockStore>(store: &mut S, bytes: u32, seat: Seat) -> u32
     requires positive { 0 < bytes }
     requires found { FindsSeat bytes (S.zone store.old) (Some seat) }
@@ -199,7 +202,7 @@ fn pack_seat<S: BlockStore>(store: &mut S, bytes: u32, seat: Seat) -> u32
     place
 }
 
-/// Moves the block of a slot, which takes `bytes` at its new size, to a place of its own.
+/// Moves the block of the slot `number`, whose physical size at its new size is `bytes`, to a place of its own.
 fn grow_away<S: BlockStore>(
     store: &mut S,
     number: u32,
@@ -223,7 +226,7 @@ fn grow_away<S: BlockStore>(
     store.move_to(place, number, size)
 }
 
-/// Makes the block of a slot the last of its run, and lets it grow into the Free block above it.
+/// Makes the block of the slot `number` the last of its run, and lets the block grow into the free block above it.
 fn grow_as_last<S: BlockStore>(
     store: &mut S,
     number: u32,
@@ -246,7 +249,8 @@ fn grow_as_last<S: BlockStore>(
     grow_up(store, number, size)
 }
 
-/// Lets the block of a slot, which takes `bytes` at its new size, grow in the way that was found.
+/// Lets the block of the slot `number`, whose physical size at its new size is `bytes`, grow in the way that was
+/// found.
 fn carry_out<S: BlockStore>(
     store: &mut S,
     number: u32,
@@ -276,7 +280,7 @@ fn carry_out<S: BlockStore>(
     }
 }
 
-/// The bytes that the block of a slot takes.
+/// Returns the physical size of the block of the slot `number`.
 pub fn bytes_of<S: BlockStore>(store: &S, number: u32) -> u32
     requires { IsSome (spot (is_relocatable number) (S.zone store.now)) }
     ensures { IfSome (spot (is_relocatable number) (S.zone store.now)) (λ s. result ≡ size_of s.here) }
@@ -287,8 +291,8 @@ pub fn bytes_of<S: BlockStore>(store: &S, number: u32) -> u32
     bytes_at(store, place)
 }
 
-/// Gives the unlocked block of a slot more bytes of content, new ones 0, after as few purges as serve: into the Free
-/// block above it, else at a place of its own, else as the last of its run.
+/// Lets the unlocked block of `slot` grow to `bytes` bytes of content, new bytes 0, after as few purges as serve:
+/// into the free block above it, else at a place of its own, else as the last of its run.
 pub fn grow_movable<S: BlockStore>(
     store: &mut S,
     slot: u32,

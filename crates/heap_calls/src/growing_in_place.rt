@@ -22,23 +22,23 @@ use block_store::{BlockStore, MASTERS_SIZE, Seen, Sparing};
 use mac_words::phys;
 use std::alloc::AllocError;
 
-/// Whether a block got another size, and how many looks for room that took.
+/// Whether a block got another size, and how many searches for room were made for it.
 #[derive(Clone, Copy)]
 pub struct Grown {
     pub done: bool,
     pub searches: u32,
 }
 
-/// How few blocks go, where that gives room, and how many looks it took to find out.
+/// The least number of purges that gives room, if there is one, and how many searches were made to find that number.
 #[derive(Clone, Copy)]
 struct Fewest {
     purges: Option<u32>,
     searches: u32,
 }
 
-/// Lets a Fixed or locked block at a place grow to `bytes` bytes of content where it stands; where there
-/// is no room nothing changes. The Free block right above it serves, else the run above it,
-/// packed upward after as few purges as serve.
+/// Lets a nonrelocatable or locked block at `place` grow to `bytes` bytes of content where the block stands; nothing
+/// changes where there is no room. The block grows into the free block right above it where that is large enough;
+/// else the run above the block is packed upward, after as few purges as serve.
 ///
 /// *Inside Macintosh: Memory*, chapter 2, "Changing the Sizes of Relocatable and Nonrelocatable Blocks".
 pub fn grow_in_place<S: BlockStore>(
@@ -84,7 +84,7 @@ pub fn grow_in_place<S: BlockStore>(
     })
 }
 
-/// The bytes that a block of so many bytes of content takes.
+/// Returns the physical size of a block with `bytes` bytes of content.
 fn padded_size(bytes: u32) -> u32
     requires { bytes ≤ 2147483616 }
     ensures { result ≡ padded bytes }
@@ -95,7 +95,7 @@ fn padded_size(bytes: u32) -> u32
     taken
 }
 
-/// The bytes that a block takes.
+/// Returns the physical size of a block, as it is seen.
 fn seen_bytes(seen: Seen) -> u32
     requires { seen_size seen ≤ GREATEST_ZONE }
     ensures { result ≡ seen_size seen }
@@ -108,7 +108,7 @@ fn seen_bytes(seen: Seen) -> u32
     }
 }
 
-/// The bytes that the block at a place takes.
+/// Returns the physical size of the block at `place`.
 pub fn bytes_at<S: BlockStore>(store: &S, place: u32) -> u32
     requires { IsSome (spot_at place (S.zone store.now)) }
     ensures { IfSome (spot_at place (S.zone store.now)) (λ s. result ≡ size s.here) }
@@ -119,7 +119,7 @@ pub fn bytes_at<S: BlockStore>(store: &S, place: u32) -> u32
     seen_bytes(seen)
 }
 
-/// Whether a Free block of at least so many bytes stands at a place.
+/// Reports whether a free block of at least `bytes` bytes stands at `place`.
 fn has_room_at<S: BlockStore>(store: &S, place: u32, bytes: u32) -> bool
     requires { IsEdge place (S.zone store.now) }
     ensures { result ≡ room_at bytes (spot_at place (S.zone store.now)) }
@@ -130,7 +130,8 @@ fn has_room_at<S: BlockStore>(store: &S, place: u32, bytes: u32) -> bool
     }
 }
 
-/// So many Free bytes in the run above the block at a place, where at most so many blocks may go from it.
+/// The search for `bytes` free bytes in the run above the block at `place`, from which at most `most` blocks may be
+/// purged.
 #[derive(Clone, Copy)]
 struct RunAbove {
     place: u32,
@@ -174,7 +175,8 @@ impl Look for RunAbove {
     ghost stays = { λ look zone k found allows le there. there };
 }
 
-/// How few blocks go from the run above the block at a place for it to have so many Free bytes.
+/// Finds the least number of blocks to purge from the run above the block at `place` so that the run has `bytes` free
+/// bytes.
 fn least_purges<S: BlockStore>(store: &S, place: u32, bytes: u32, sparing: Sparing) -> Fewest
     requires { IsSome (spot_at place (S.zone store.now)) }
     ensures found { IfSome (spot_at place (S.zone store.now)) (λ s. FindsPurges bytes (spared sparing)
@@ -203,8 +205,8 @@ fn least_purges<S: BlockStore>(store: &S, place: u32, bytes: u32, sparing: Spari
     }
 }
 
-/// Packs the run above the block at a place upward, with so many Free bytes at its bottom, after so many
-/// purges in it; `taken` is what the block takes.
+/// Packs the run above the block at `place` upward, after the given number of purges in the run, so that `bytes` free
+/// bytes stand at its bottom; `taken` is the physical size of the block.
 fn push_up<S: BlockStore>(
     store: &mut S,
     place: u32,

@@ -26,9 +26,16 @@ use mac_words::OsErr;
 use std::alloc::{AllocError, Global};
 use std::marker::Model;
 
-/// A heap over a store of blocks. Handles are given by the number that a name is bound to, `None` for an
-/// unbound name; a number is never given twice. Sizes and offsets are in bytes. A call on a handle or a pointer
-/// that is busy answers -117 and changes nothing, but for the code that `MemError` tells.
+/// The heap of an application: a zone in a store of blocks, and handles and pointers by number. A call takes a handle
+/// or a pointer as the number that a name is bound to, `None` for an unbound name; a number is never given twice.
+/// Sizes and offsets are in bytes.
+///
+/// A call on a handle returns -109 (nilHandleErr) where the name is unbound, where the number was never given, or
+/// where the handle is empty and the call needs its block; -111 (memWZErr) where the number is a pointer's or was
+/// disposed of; and -117 (memLockedErr) where the handle is busy. A call on a pointer returns -109 where the name is
+/// unbound or the number was never given, -111 where the number is a handle's or was disposed of, and -117 where the
+/// pointer is busy. A call that is refused because a handle or a pointer is busy changes nothing but the code that
+/// `MemError` returns.
 ///
 /// *Inside Macintosh: Memory*, chapter 1, "Heap Management".
 #[derive(Drop)]
@@ -51,7 +58,7 @@ impl<S: BlockStore> Model for Heap<S> {
 }
 
 impl<S: BlockStore> Heap<S> {
-    /// A heap over the store of a fresh zone.
+    /// Makes a heap over the store of a fresh zone.
     pub fn new(alloc: Global, store: S) -> Self
         requires zone { S.zone store ≡ fresh (sizes (S.zone store)) }
         requires unused { (S.rest store).unused ≡ SLOTS_A_BLOCK }
@@ -70,9 +77,10 @@ impl<S: BlockStore> Heap<S> {
         }
     }
 
-    /// `NewHandle`: a new handle with `size` bytes 0. -108 where there is no room for its block, or all slots
-    /// are used and there is no room for more. A want of host memory leaves all but the zone as it was, and
-    /// the zone too over a store that takes no host memory.
+    /// `NewHandle`: allocates a relocatable block of `size` bytes, all 0, and returns a handle to the block. Returns
+    /// -108 (memFullErr) where the zone has no room for the block, or where all master pointers are used and there is
+    /// no room for a block of more. Where the host is out of memory, all but the zone and the count of moves stays as
+    /// it was, and the whole heap does over a store that takes no host memory.
     pub fn new_handle(&mut self, size: u32) -> Result<usize, Refusal>
         ensures answer { IsAnswer (packing (new_handle_moves size) (new_handle_searches size) (new_handle size)
             self.old) result self.new }
@@ -84,8 +92,8 @@ impl<S: BlockStore> Heap<S> {
         self.note(answer)
     }
 
-    /// `DisposeHandle`: disposes of a handle; its block, locked or not, is Free, and its slot unused. -30001 where
-    /// the handle is a resource's.
+    /// `DisposeHandle`: disposes of a handle. Its block, locked or not, becomes free, and its master pointer is
+    /// unused again. Returns -30001 (profileErr) where the handle is a resource's.
     pub fn dispose_handle(&mut self, handle: Option<usize>) -> Result<(), Refusal>
         ensures answer { IsAnswer (unless (barred handle self.old) (noting (dispose_handle handle)) self.old)
             result self.new }
@@ -99,7 +107,7 @@ impl<S: BlockStore> Heap<S> {
         self.note(answer)
     }
 
-    /// `GetHandleSize`: how many bytes a handle has.
+    /// `GetHandleSize`: returns the logical size in bytes of the block of a handle.
     pub fn get_handle_size(&mut self, handle: Option<usize>) -> Result<u32, Refusal>
         ensures answer { IsAnswer (unless (barred handle self.old) (noting (get_handle_size handle)) self.old)
             result self.new }
@@ -113,7 +121,7 @@ impl<S: BlockStore> Heap<S> {
         self.note(answer)
     }
 
-    /// `FreeMem`: the bytes of all Free blocks, headers included.
+    /// `FreeMem`: returns the number of free bytes of the zone, the headers of the free blocks included.
     pub fn free_mem(&mut self) -> u32
         ensures { noting free_mem self.old ≡ (Ok result, self.new) }
     {
@@ -121,14 +129,15 @@ impl<S: BlockStore> Heap<S> {
         self.store.free_bytes()
     }
 
-    /// The bytes of the zone.
+    /// Returns the number of bytes of the zone.
     pub fn len(&self) -> u32
         ensures { result ≡ sizes self.now.heap.zone }
     {
         self.store.len()
     }
 
-    /// How many looks for room the calls so far took; the count stays at its greatest value.
+    /// Returns how many searches for room all calls have made; the count stays at its greatest value once it is
+    /// there.
     pub fn searches(&self) -> u64
         ensures { result ≡ self.now.log.searches }
     {
@@ -136,15 +145,15 @@ impl<S: BlockStore> Heap<S> {
         looks.searches
     }
 
-    /// How many blocks packing has moved down so far; the count stays at its greatest value. A block that moves
-    /// up, for room at the base of a run or to the top of one, isn't counted.
+    /// Returns how many blocks compaction has moved down; the count stays at its greatest value once it is there. A
+    /// block that moves up, to make room at the base of a run or to stand at the top of one, is not counted.
     pub fn moves(&self) -> u64
         ensures { result ≡ self.now.moves }
     {
         self.store.moves()
     }
 
-    /// `MemError`: the code of the last call that has one.
+    /// `MemError`: returns the code of the last call that sets one.
     pub fn mem_error(&self) -> OsErr
         ensures { result ≡ self.now.log.code }
     {
@@ -152,8 +161,9 @@ impl<S: BlockStore> Heap<S> {
         last.code
     }
 
-    /// Writes bytes into a handle's block from an offset on; -30001 where they end past its content, or the handle is
-    /// a System resource's.
+    /// `Put`: writes bytes into the block of a handle, from the offset `from` on. Returns -30001 (profileErr) where
+    /// the bytes would end past the block's content, or where the handle is a System resource's. The call does not
+    /// set the code that `MemError` returns.
     pub fn put(&mut self, handle: Option<usize>, from: u32, bytes: &[u8]) -> Result<(), Refusal>
         ensures answer { IsAnswer (unless_silent (change_barred handle self.old) (silent (put handle from bytes.now))
             self.old) result self.new }
@@ -166,7 +176,7 @@ impl<S: BlockStore> Heap<S> {
         self.write_block(handle, from, bytes)
     }
 
-    /// The bytes of a handle's block.
+    /// `Show`: returns the bytes of the block of a handle. The call does not set the code that `MemError` returns.
     pub fn show(&self, handle: Option<usize>) -> Result<&[u8], Refusal>
         ensures answer { IsShown (unless_silent (barred handle self.now) (silent (show handle)) self.now) result
             self.now }
@@ -178,7 +188,8 @@ impl<S: BlockStore> Heap<S> {
         self.block_bytes(handle)
     }
 
-    /// The offset of a handle's or a pointer's bytes from the zone's start.
+    /// `Where`: returns the offset, from the start of the zone, of the content of the block of a handle or a pointer.
+    /// The call does not set the code that `MemError` returns.
     pub fn place_of(&self, name: Option<usize>) -> Result<u32, Refusal>
         ensures answer { IsAnswer (unless_silent (either_barred name self.now) (silent (place_of name)) self.now)
             result self.now }
@@ -190,7 +201,7 @@ impl<S: BlockStore> Heap<S> {
         self.bytes_place(name)
     }
 
-    /// A new handle.
+    /// Makes a new handle with a block of `size` bytes, all 0, and counts the searches for room.
     fn make_handle(&mut self, size: u32) -> Result<usize, Refusal>
         ensures answer { IsAnswer (moving (new_handle_moves size self.old.heap)
             (searching (new_handle_searches size self.old.heap) (silent (new_handle size) self.old))) result self.new }
@@ -204,7 +215,7 @@ impl<S: BlockStore> Heap<S> {
         name_handle(&mut self.names, made.slot)
     }
 
-    /// Lets a handle and its block go; -30001 where it is a resource's.
+    /// Disposes of a handle and its block; returns -30001 (profileErr) where the handle is a resource's.
     fn let_go(&mut self, handle: Option<usize>) -> Result<(), Refusal>
         ensures answer { IsAnswer (silent (dispose_handle handle) self.old) result self.new }
         ensures host { result ≢ Err Refusal.HostMemory }
@@ -218,7 +229,7 @@ impl<S: BlockStore> Heap<S> {
         Ok(())
     }
 
-    /// The size of a handle's block.
+    /// Returns the logical size in bytes of the block of a handle.
     fn size_of(&self, handle: Option<usize>) -> Result<u32, Refusal>
         ensures answer { IsAnswer (silent (get_handle_size handle) self.now) result self.now }
         ensures host { result ≢ Err Refusal.HostMemory }
@@ -227,7 +238,7 @@ impl<S: BlockStore> Heap<S> {
         Ok(self.store.bytes(place).len() as u32)
     }
 
-    /// Writes bytes into a handle's block.
+    /// Writes bytes into the block of a handle, from the offset `from` on.
     fn write_block(&mut self, handle: Option<usize>, from: u32, bytes: &[u8]) -> Result<(), Refusal>
         ensures answer { IsAnswer (silent (put handle from bytes.now) self.old) result self.new }
         ensures host { result ≢ Err Refusal.HostMemory }
@@ -242,7 +253,7 @@ impl<S: BlockStore> Heap<S> {
         Ok(())
     }
 
-    /// The bytes of a handle's block, busy or not.
+    /// Returns the bytes of the block of a handle, whether the handle is busy or not.
     pub(crate) fn block_bytes(&self, handle: Option<usize>) -> Result<&[u8], Refusal>
         ensures answer { IsShown (silent (show handle) self.now) result self.now }
         ensures host { result ≢ Err Refusal.HostMemory }
@@ -251,7 +262,7 @@ impl<S: BlockStore> Heap<S> {
         Ok(self.store.bytes(place))
     }
 
-    /// Where the bytes of a handle or a pointer are, busy or not.
+    /// Returns the offset of the content of the block of a handle or a pointer, whether it is busy or not.
     fn bytes_place(&self, name: Option<usize>) -> Result<u32, Refusal>
         ensures answer { IsAnswer (silent (place_of name) self.now) result self.now }
         ensures host { result ≢ Err Refusal.HostMemory }
@@ -260,7 +271,8 @@ impl<S: BlockStore> Heap<S> {
         Ok(place + HEADER_SIZE)
     }
 
-    /// Keeps the code of a call, and passes its answer on.
+    /// Sets the code that `MemError` returns to that of a call's answer, and returns the answer. Where the host was
+    /// out of memory, the code stays as it was.
     pub(crate) fn note<T>(&mut self, answer: Result<T, Refusal>) -> Result<T, Refusal>
         ensures answer { result ≡ answer }
         ensures noted { self.new ≡ record self.old {
@@ -277,7 +289,7 @@ impl<S: BlockStore> Heap<S> {
     }
 }
 
-/// The store's place of the block of the handle that a name is bound to.
+/// Returns the store's place of the block of the handle that a name is bound to.
 pub(crate) fn find_block<S: BlockStore>(
     store: &S,
     names: &[Anchor],

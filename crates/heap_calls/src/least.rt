@@ -1,4 +1,4 @@
-//! The least number of purges after which what is looked for is there.
+//! The least number of purges after which what is searched for is there.
 
 ghost use Rattle.std.specs.Prelude.{◌≡◌, ◌≤◌, ◌<◌, ℕ, Bool, true, false, Option, List, is_some, nat_lt};
 ghost use Rattle.block_store.specs.Block.{Block};
@@ -9,36 +9,36 @@ ghost use Rattle.heap_calls.specs.Inner.Least.{NoneBelow};
 
 use block_store::{BlockStore, GREATEST_ZONE, Sparing};
 
-/// What is looked for in a zone after so many purges.
+/// What is searched for in a zone after a number of purges.
 pub trait Look: Copy {
-    /// What tells where it was found.
+    /// Where it was found.
     type Found: Copy;
 
     /// What has to be known of the zone.
     ghost Allows: { Self → List Block → Type 0 };
 
-    /// Whether it is there after so many purges.
+    /// Whether what is searched for is there after a number of purges.
     ghost is_there: { Self → List Block → ℕ → Bool };
 
     /// How many purges there can be.
     ghost most: { Self → List Block → ℕ };
 
-    /// What a look after so many purges comes to.
+    /// What a search after a number of purges finds.
     ghost Finds: { Self → List Block → ℕ → Option Self.Found → Type 0 };
 
-    /// Looks for it after so many purges.
+    /// Makes one search, after `purges` purges.
     fn look<S: BlockStore>(&self, store: &S, purges: u32) -> Option<Self::Found>
         requires { Allows self.now (S.zone store.now) }
         ensures there { is_some result ≡ is_there self.now (S.zone store.now) purges }
         ensures found { Finds self.now (S.zone store.now) purges result };
 
-    /// Whether there can be a purge at all.
+    /// Reports whether there can be a purge at all.
     fn goes_on<S: BlockStore>(&self, store: &S) -> bool
         requires { Allows self.now (S.zone store.now) }
         ensures more { result ≡ nat_lt 0 (most self.now (S.zone store.now)) }
         ensures few { most self.now (S.zone store.now) ≤ GREATEST_ZONE };
 
-    /// How many purges there can be.
+    /// Returns how many purges there can be.
     fn most_purges<S: BlockStore>(&self, store: &S) -> u32
         requires { Allows self.now (S.zone store.now) }
         ensures { result ≡ most self.now (S.zone store.now) };
@@ -47,25 +47,25 @@ pub trait Look: Copy {
     ghost rises: { (look : Self) (zone : List Block) (k m : ℕ) → Allows look zone → k ≤ m
         → is_there look zone k ≡ true → is_there look zone m ≡ true };
 
-    /// Once all that can go are gone, no purge does more.
+    /// Once every block that may be purged is purged, a further purge changes nothing.
     ghost ends: { (look : Self) (zone : List Block) (k : ℕ) → Allows look zone → most look zone ≤ k
         → is_there look zone k ≡ is_there look zone (most look zone) };
 
-    /// So what a look comes to then is what it came to once they were gone.
+    /// So a search after further purges finds what it found once every block was purged that may be.
     ghost stays: { (look : Self) (zone : List Block) (k : ℕ) (found : Option Self.Found) → Allows look zone
         → most look zone ≤ k → Finds look zone k found → Finds look zone (most look zone) found };
 }
 
-/// What looking came to: what was found, and after how many purges.
+/// The result of the searches: what was found, and the number of purges before it.
 #[derive(Clone, Copy)]
 pub struct Looked<F> {
     pub found: Option<F>,
     pub purges: u32,
 }
 
-/// Looks for something after as few purges as serve; after all that there can be where none do. One look is enough
-/// where no purge is wanted, and two where none serve; else about two looks are taken for each binary digit of the
-/// number of purges.
+/// Finds what is searched for after as few purges as serve, or after all that there can be where none serve. One
+/// search is made where no purge is needed, and two where no purge serves; else about two searches are made for each
+/// binary digit of the number of purges.
 pub fn least_look<S: BlockStore, L: Look>(store: &S, look: &L) -> Looked<L::Found>
     requires { L.Allows look.now (S.zone store.now) }
     ensures least { result.purges ≡ least_or_last (L.is_there look.now (S.zone store.now))
@@ -88,14 +88,15 @@ pub fn least_look<S: BlockStore, L: Look>(store: &S, look: &L) -> Looked<L::Foun
     }
 }
 
-/// Two numbers of purges: after the first something isn't there yet, and after the second it is.
+/// Two numbers of purges: after `before` purges what is searched for is not there yet, and after those of `looked` it
+/// is.
 #[derive(Clone, Copy)]
 struct Between<F> {
     before: u32,
     looked: Looked<F>,
 }
 
-/// Looks for something after as few purges as serve, where it is there after all, and not after none.
+/// Finds what is searched for after as few purges as serve, where it is there after all purges, and not after none.
 fn fewest<S: BlockStore, L: Look>(store: &S, look: &L) -> Looked<L::Found>
     requires allows { L.Allows look.now (S.zone store.now) }
     requires after_none { L.is_there look.now (S.zone store.now) 0 ≡ false }
@@ -108,7 +109,7 @@ fn fewest<S: BlockStore, L: Look>(store: &S, look: &L) -> Looked<L::Found>
     halve(store, look, double(store, look))
 }
 
-/// Doubles the number of purges until it is there.
+/// Doubles the number of purges until what is searched for is there.
 fn double<S: BlockStore, L: Look>(store: &S, look: &L) -> Between<L::Found>
     requires allows { L.Allows look.now (S.zone store.now) }
     requires after_none { L.is_there look.now (S.zone store.now) 0 ≡ false }
@@ -132,7 +133,8 @@ fn double<S: BlockStore, L: Look>(store: &S, look: &L) -> Between<L::Found>
     }
 }
 
-/// Halves what is between two numbers of purges, until the second is the least after which it is there.
+/// Halves what lies between two numbers of purges, until the second is the least after which what is searched for is
+/// there.
 fn halve<S: BlockStore, L: Look>(
     store: &S,
     look: &L,
@@ -165,7 +167,7 @@ fn halve<S: BlockStore, L: Look>(
     Looked { found, purges }
 }
 
-/// Whether any block may be emptied.
+/// Reports whether any block may be purged.
 pub fn any_goes<S: BlockStore>(store: &S, sparing: Sparing) -> bool
     ensures more { result ≡ nat_lt 0 (most_purges sparing (S.zone store.now)) }
     ensures few { most_purges sparing (S.zone store.now) ≤ GREATEST_ZONE }

@@ -1,5 +1,5 @@
-//! The calls of the Memory Manager over any store of blocks: handles by number, each call exactly as its
-//! definition answers it.
+//! The calls of the Memory Manager over any store of blocks. Handles and pointers are numbers, and each call returns
+//! exactly what its definition says.
 #![tactic(auto)]
 
 mod anchor;

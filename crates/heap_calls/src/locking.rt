@@ -1,4 +1,4 @@
-//! Locking handles and moving them out of the way.
+//! Locking handles, and moving their blocks to the top of a run.
 
 ghost use Rattle.std.specs.Prelude.{◌≡◌, ◌≢◌};
 ghost use Rattle.heap_calls.specs.Busy.{barred, unless};
@@ -12,7 +12,7 @@ use block_store::{BlockStore, Seen, Sparing};
 use mac_words::OsErr;
 
 impl<S: BlockStore> Heap<S> {
-    /// `HLock`: a handle's block doesn't move and isn't emptied.
+    /// `HLock`: locks the block of a handle, so that the block is neither moved nor purged.
     pub fn h_lock(&mut self, handle: Option<usize>) -> Result<(), Refusal>
         ensures answer { IsAnswer (unless (barred handle self.old) (noting (h_lock handle)) self.old) result self.new }
         ensures host { result ≢ Err Refusal.HostMemory }
@@ -25,7 +25,7 @@ impl<S: BlockStore> Heap<S> {
         self.note(answer)
     }
 
-    /// `HUnlock`: a handle's block may move.
+    /// `HUnlock`: unlocks the block of a handle, so that the block may be moved.
     pub fn h_unlock(&mut self, handle: Option<usize>) -> Result<(), Refusal>
         ensures answer { IsAnswer (unless (barred handle self.old) (noting (h_unlock handle)) self.old)
             result self.new }
@@ -39,7 +39,8 @@ impl<S: BlockStore> Heap<S> {
         self.note(answer)
     }
 
-    /// `MoveHHi`: a handle's block goes to the top of its run; -117 where it is locked.
+    /// `MoveHHi`: moves the block of a handle to the top of its run of movable blocks. Returns -117 (memLockedErr)
+    /// where the block is locked.
     pub fn move_hhi(&mut self, handle: Option<usize>) -> Result<(), Refusal>
         ensures answer { IsAnswer (unless (barred handle self.old) (noting (move_hhi handle)) self.old)
             result self.new }
@@ -53,7 +54,8 @@ impl<S: BlockStore> Heap<S> {
         self.note(answer)
     }
 
-    /// `HLockHi`: as `MoveHHi`, and then the block is locked.
+    /// `HLockHi`: moves the block of a handle to the top of its run of movable blocks, as `MoveHHi` does, and locks
+    /// the block there. Returns -117 (memLockedErr) where the block is locked already.
     pub fn hlock_hi(&mut self, handle: Option<usize>) -> Result<(), Refusal>
         ensures answer { IsAnswer (unless (barred handle self.old) (noting (hlock_hi handle)) self.old)
             result self.new }
@@ -67,7 +69,7 @@ impl<S: BlockStore> Heap<S> {
         self.note(answer)
     }
 
-    /// Moves a handle's block to the top of its run.
+    /// Moves the block of a handle to the top of its run.
     fn move_high(&mut self, handle: Option<usize>) -> Result<(), Refusal>
         ensures answer { IsAnswer (silent (move_hhi handle) self.old) result self.new }
         ensures host { result ≢ Err Refusal.HostMemory }
@@ -87,7 +89,7 @@ impl<S: BlockStore> Heap<S> {
         Ok(())
     }
 
-    /// Moves a handle's block to the top of its run, and locks it there.
+    /// Moves the block of a handle to the top of its run, and locks the block there.
     pub(crate) fn lock_high(&mut self, handle: Option<usize>) -> Result<(), Refusal>
         ensures answer { IsAnswer (silent (hlock_hi handle) self.old) result self.new }
         ensures host { result ≢ Err Refusal.HostMemory }
@@ -99,7 +101,7 @@ impl<S: BlockStore> Heap<S> {
     }
 }
 
-/// Whether a block that was looked at is an unlocked relocatable one.
+/// Reports whether a block, as it is seen, is an unlocked relocatable block.
 pub fn can_move(seen: Option<Seen>) -> bool
     ensures { result ≡ seen_mover seen }
 {

@@ -6,8 +6,8 @@ ghost use Rattle.heap_calls.specs.Busy.{bar, holds, is_busy, busied, eased, ease
 
 use mac_words::OsErr;
 
-/// What a heap keeps beside its zone and its names: the code that `MemError` tells, how many looks for room its
-/// calls took, and the handles and pointers that are busy, three at most.
+/// What a heap keeps beside its zone and its names: the code that `MemError` returns, the number of searches for room
+/// that its calls made, and the handles and pointers that are busy, at most three.
 #[derive(Clone, Copy, Debug, PartialEq, Eq)]
 pub struct Log {
     pub code: OsErr,
@@ -16,14 +16,14 @@ pub struct Log {
 }
 
 impl Log {
-    /// Counts the looks for room of a call; the count stays at its greatest value.
+    /// Adds the searches for room of a call to the count, which stays at its greatest value once it is there.
     pub(crate) fn count(&mut self, searches: u32)
         ensures { self.new ≡ record self.old { searches = counted self.old.searches searches } }
     {
         self.searches = self.searches.saturating_add(u64::from(searches));
     }
 
-    /// Whether a number is busy.
+    /// Reports whether a number is busy.
     pub(crate) fn is_busy(&self, number: usize) -> bool
         ensures { result ≡ is_busy number self.now.busy }
     {
@@ -31,7 +31,7 @@ impl Log {
         holds(number, first) || holds(number, second) || holds(number, third)
     }
 
-    /// The code of a call on a number, if it is busy.
+    /// Returns the code that a call on a number is refused with where the number is busy: -117 (memLockedErr).
     pub(crate) fn bar(&self, number: usize) -> Option<OsErr>
         ensures { result ≡ bar (is_busy number self.now.busy) }
     {
@@ -42,7 +42,7 @@ impl Log {
         }
     }
 
-    /// Makes a number busy, or idle again. A fourth number isn't kept.
+    /// Makes a number busy, or idle again. At most three numbers are busy; a fourth is not kept.
     pub(crate) fn set_busy(&mut self, number: usize, busy: bool)
         ensures { self.new ≡ record self.old
             { busy = if busy then busied number self.old.busy else eased number self.old.busy } }
@@ -64,14 +64,14 @@ impl Log {
     }
 }
 
-/// Whether a place holds a number.
+/// Reports whether `place` holds the number.
 fn holds(number: usize, place: Option<usize>) -> bool
     ensures { result ≡ holds number place }
 {
     place == Some(number)
 }
 
-/// A place without a number.
+/// Returns `place` without the number.
 fn eased(number: usize, place: Option<usize>) -> Option<usize>
     ensures { result ≡ eased_place number place }
 {

@@ -1,4 +1,4 @@
-//! Slots for handles to come, and room at the base of a run.
+//! Master pointers for handles to come, and room at the base of a run.
 
 ghost use Rattle.std.specs.Prelude.{◌≡◌, ◌⊎◌, IsTrue};
 ghost use Rattle.mac_words.specs.Size.{phys as physical_size};
@@ -17,8 +17,9 @@ use block_store::{BlockStore, Sparing};
 use mac_words::{OsErr, phys};
 
 impl<S: BlockStore> Heap<S> {
-    /// `NewEmptyHandle`: a new handle with no block. -108 where all slots are used and there is no room for
-    /// more.
+    /// `NewEmptyHandle`: returns a new handle with no block. Returns -108 (memFullErr) where all master pointers are
+    /// used and there is no room for a block of more. Where the host is out of memory, all but the zone stays as it
+    /// was, and the whole heap does over a store that takes no host memory.
     pub fn new_empty_handle(&mut self) -> Result<usize, Refusal>
         ensures answer { IsAnswer (searching (new_empty_handle_searches self.old.heap)
             (noting new_empty_handle self.old)) result self.new }
@@ -30,7 +31,9 @@ impl<S: BlockStore> Heap<S> {
         self.note(answer)
     }
 
-    /// `MoreMasters`: 64 slots more, at the base of a run; -108 where there is no room for them.
+    /// `MoreMasters`: allocates a block of 64 master pointers at the base of a run. Returns -108 (memFullErr) where
+    /// there is no room for the block. Where the host is out of memory, which can be only over a store that takes
+    /// host memory, all but the zone stays as it was.
     pub fn more_masters(&mut self) -> Result<(), Refusal>
         ensures answer { IsAnswer (searching (more_masters_searches self.old.heap) (noting add_masters self.old)) result
             self.new }
@@ -42,7 +45,9 @@ impl<S: BlockStore> Heap<S> {
         self.note(answer)
     }
 
-    /// `ReserveMem`: makes room for a block of `size` bytes as low as it goes; -108 where there is none.
+    /// `ReserveMem`: makes room for a block of `size` bytes of content as low in the zone as can be, at the base of a
+    /// run. Returns -108 (memFullErr) where there is no room. Where the host is out of memory, which can be only over
+    /// a store that takes host memory, all but the zone stays as it was.
     pub fn reserve_mem(&mut self, size: u32) -> Result<(), Refusal>
         ensures answer { IsAnswer (searching (reserve_searches (physical_size size) self.old.heap)
             (noting (reserve_mem size) self.old)) result self.new }
@@ -54,7 +59,7 @@ impl<S: BlockStore> Heap<S> {
         self.note(answer)
     }
 
-    /// A new handle with no block.
+    /// Makes a new handle with no block, and counts the searches for room.
     pub(crate) fn make_empty_handle(&mut self) -> Result<usize, Refusal>
         ensures answer { IsAnswer (searching (new_empty_handle_searches self.old.heap)
             (silent new_empty_handle self.old)) result self.new }
@@ -68,7 +73,7 @@ impl<S: BlockStore> Heap<S> {
         name_handle(&mut self.names, taken.slot)
     }
 
-    /// A Masters block more.
+    /// Allocates a block of 64 master pointers, and counts the searches for room.
     fn add_masters(&mut self) -> Result<(), Refusal>
         ensures answer { IsAnswer (searching (more_masters_searches self.old.heap) (silent add_masters self.old)) result
             self.new }
@@ -83,7 +88,7 @@ impl<S: BlockStore> Heap<S> {
         })
     }
 
-    /// Room for a block at the base of a run.
+    /// Makes room for a block at the base of a run, and counts the searches for room.
     fn reserve_base(&mut self, size: u32) -> Result<(), Refusal>
         ensures answer { IsAnswer (searching (reserve_searches (physical_size size) self.old.heap)
             (silent (reserve_mem size) self.old)) result self.new }

@@ -16,8 +16,8 @@ use block_store::{BlockStore, Sparing};
 use mac_words::phys;
 use std::alloc::AllocError;
 
-/// Puts a new block of `size` bytes 0 where there is room, and answers its place; `None` where it would be
-/// too large or there is no room. The slot that it was to have is then unused again.
+/// Puts a new block of `size` bytes, all 0, for `slot` where there is room, and returns the place of the block;
+/// `None` where the block would be too large or there is no room. The slot is then unused again.
 ///
 /// *Inside Macintosh: Memory*, chapter 1, "Allocating Blocks of Memory".
 fn add_block<S: BlockStore>(
@@ -60,8 +60,9 @@ fn add_block<S: BlockStore>(
     }
 }
 
-/// Puts a new block of `size` bytes 0 where there is room, for a slot of its own, and answers that; `None`
-/// where no slot can be had, the block would be too large, or there is no room.
+/// Puts a new block of `size` bytes, all 0, where there is room, under a new slot, and returns that slot; `None`
+/// where there is no unused slot and no room for more, where the block would be too large, or where there is no room
+/// for the block.
 pub fn new_block<S: BlockStore>(
     store: &mut S,
     size: u32,

@@ -23,8 +23,9 @@ use mac_words::phys;
 use std::alloc::AllocError;
 
 impl<S: BlockStore> Heap<S> {
-    /// `SetPtrSize`: gives a pointer another size; new bytes are 0. -108 where there is no room. A want of host
-    /// memory leaves all but the zone as it was.
+    /// `SetPtrSize`: changes the logical size of a pointer's block to `size` bytes; new bytes are 0, and the block
+    /// does not move. Returns -108 (memFullErr) where there is no room. Where the host is out of memory, which can be
+    /// only over a store that takes host memory, all but the zone stays as it was.
     ///
     /// *Inside Macintosh: Memory*, chapter 2, "Changing the Sizes of Relocatable and Nonrelocatable Blocks".
     pub fn set_pointer_size(&mut self, pointer: Option<usize>, size: u32) -> Result<(), Refusal>
@@ -42,7 +43,7 @@ impl<S: BlockStore> Heap<S> {
         self.note(answer)
     }
 
-    /// Gives a pointer another size.
+    /// Changes the logical size of a pointer's block, and counts the searches for room.
     fn fit_pointer(&mut self, pointer: Option<usize>, size: u32) -> Result<(), Refusal>
         ensures answer { IsAnswer (searching (set_pointer_size_searches pointer size self.old.heap)
             (silent (set_pointer_size pointer size) self.old)) result self.new }
@@ -50,7 +51,7 @@ impl<S: BlockStore> Heap<S> {
         ensures kept { result ≡ Err Refusal.HostMemory → KeepsMoves self.old self.new }
         ensures lies { self.new.window ≡ self.old.window }
     {
-        // The count of looks is known to fit its type once it is read.
+        // The count of searches is known to fit its type once it is read.
         let _searches = self.log.searches;
         let target = target_of(&self.names, pointer)?;
         let grown = fit_fixed(&mut self.store, target.place, size)?;
@@ -58,7 +59,8 @@ impl<S: BlockStore> Heap<S> {
     }
 }
 
-/// Gives the Fixed block at a place another size: cuts it, or lets it grow, where it stands.
+/// Changes the logical size of the nonrelocatable block at `place` to `size` bytes: the block is cut, or grows, where
+/// it stands.
 fn fit_fixed<S: BlockStore>(store: &mut S, place: u32, size: u32) -> Result<Grown, AllocError>
     requires { FindsLowest (is_fixed place) (S.zone store.old) (Some place) }
     ensures zone { IfOk result (λ grown. fitted (is_fixed place) nothing size (S.zone store.old)

@@ -1,4 +1,4 @@
-//! Pointers: nonrelocatable blocks.
+//! Pointers, and the nonrelocatable blocks that they lead to.
 
 ghost use Rattle.std.specs.Prelude.{◌≡◌, ◌≢◌, ◌⊎◌, IfOk, OnErr, IsErr, IsTrue};
 ghost use Rattle.block_store.specs.Rest.{IsRest};
@@ -22,9 +22,9 @@ use mac_words::{OsErr, phys};
 use std::alloc::AllocError;
 
 impl<S: BlockStore> Heap<S> {
-    /// `NewPtr`: a new pointer to `size` bytes 0, at the base of a run; -108 where there is no room for its
-    /// block. A want of host memory leaves all but the zone as it was, and the zone too over a store that
-    /// takes no host memory.
+    /// `NewPtr`: allocates a nonrelocatable block of `size` bytes, all 0, at the base of a run, and returns a pointer
+    /// to the block. Returns -108 (memFullErr) where the zone has no room for the block. Where the host is out of
+    /// memory, all but the zone stays as it was, and the whole heap does over a store that takes no host memory.
     pub fn new_pointer(&mut self, size: u32) -> Result<usize, Refusal>
         ensures answer { IsAnswer (searching (new_pointer_searches size self.old.heap)
             (noting (new_pointer size) self.old)) result self.new }
@@ -36,7 +36,7 @@ impl<S: BlockStore> Heap<S> {
         self.note(answer)
     }
 
-    /// `DisposePtr`: disposes of a pointer; its block is Free.
+    /// `DisposePtr`: disposes of a pointer. Its block becomes free.
     pub fn dispose_pointer(&mut self, pointer: Option<usize>) -> Result<(), Refusal>
         ensures answer { IsAnswer (unless (pointer_barred pointer self.old) (noting (dispose_pointer pointer)) self.old)
             result self.new }
@@ -50,7 +50,7 @@ impl<S: BlockStore> Heap<S> {
         self.note(answer)
     }
 
-    /// `GetPtrSize`: how many bytes a pointer has.
+    /// `GetPtrSize`: returns the logical size in bytes of the block of a pointer.
     pub fn get_pointer_size(&mut self, pointer: Option<usize>) -> Result<u32, Refusal>
         ensures answer { IsAnswer (unless (pointer_barred pointer self.old) (noting (get_pointer_size pointer))
             self.old) result self.new }
@@ -64,7 +64,8 @@ impl<S: BlockStore> Heap<S> {
         self.note(answer)
     }
 
-    /// Writes bytes into a pointer's block from an offset on; -30001 where they end past its content.
+    /// `PutPtr`: writes bytes into the block of a pointer, from the offset `from` on. Returns -30001 (profileErr)
+    /// where the bytes would end past the block's content. The call does not set the code that `MemError` returns.
     pub fn put_pointer(
         &mut self,
         pointer: Option<usize>,
@@ -82,7 +83,8 @@ impl<S: BlockStore> Heap<S> {
         self.write_pointer(pointer, from, bytes)
     }
 
-    /// The bytes of a pointer's block.
+    /// `ShowPtr`: returns the bytes of the block of a pointer. The call does not set the code that `MemError`
+    /// returns.
     pub fn show_pointer(&self, pointer: Option<usize>) -> Result<&[u8], Refusal>
         ensures answer { IsShown (unless_silent (pointer_barred pointer self.now) (silent (show_pointer pointer))
             self.now) result self.now }
@@ -94,7 +96,7 @@ impl<S: BlockStore> Heap<S> {
         self.pointer_bytes(pointer)
     }
 
-    /// A new pointer.
+    /// Makes a new pointer to a block of `size` bytes, all 0, and counts the searches for room.
     fn make_pointer(&mut self, size: u32) -> Result<usize, Refusal>
         ensures answer { IsAnswer (searching (new_pointer_searches size self.old.heap)
             (silent (new_pointer size) self.old)) result self.new }
@@ -113,7 +115,7 @@ impl<S: BlockStore> Heap<S> {
         Ok(number)
     }
 
-    /// Lets a pointer and its block go.
+    /// Disposes of a pointer and its block.
     fn free_block(&mut self, pointer: Option<usize>) -> Result<(), Refusal>
         ensures answer { IsAnswer (silent (dispose_pointer pointer) self.old) result self.new }
         ensures host { result ≢ Err Refusal.HostMemory }
@@ -125,7 +127,7 @@ impl<S: BlockStore> Heap<S> {
         Ok(())
     }
 
-    /// Writes bytes into a pointer's block.
+    /// Writes bytes into the block of a pointer, from the offset `from` on.
     fn write_pointer(
         &mut self,
         pointer: Option<usize>,
@@ -145,7 +147,7 @@ impl<S: BlockStore> Heap<S> {
         Ok(())
     }
 
-    /// The bytes of a pointer's block, busy or not.
+    /// Returns the bytes of the block of a pointer, whether the pointer is busy or not.
     fn pointer_bytes(&self, pointer: Option<usize>) -> Result<&[u8], Refusal>
         ensures answer { IsShown (silent (show_pointer pointer) self.now) result self.now }
         ensures host { result ≢ Err Refusal.HostMemory }
@@ -154,7 +156,7 @@ impl<S: BlockStore> Heap<S> {
         Ok(self.store.bytes(target.place))
     }
 
-    /// The size of a pointer's block.
+    /// Returns the logical size in bytes of the block of a pointer.
     fn bytes_of(&self, pointer: Option<usize>) -> Result<u32, Refusal>
         ensures answer { IsAnswer (silent (get_pointer_size pointer) self.now) result self.now }
         ensures host { result ≢ Err Refusal.HostMemory }
@@ -164,7 +166,7 @@ impl<S: BlockStore> Heap<S> {
     }
 }
 
-/// The store's place of the block of the handle or pointer that a name is bound to.
+/// Returns the store's place of the block of the handle or the pointer that a name is bound to.
 pub(crate) fn find_named<S: BlockStore>(
     store: &S,
     names: &[Anchor],
@@ -180,7 +182,8 @@ pub(crate) fn find_named<S: BlockStore>(
     }
 }
 
-/// Puts a new Fixed block of `size` bytes 0 at the base of a run, where there is room, and answers its place.
+/// Puts a new nonrelocatable block of `size` bytes, all 0, at the base of a run, where there is room, and returns the
+/// place of the block.
 ///
 /// *Inside Macintosh: Memory*, chapter 1, "Memory Reservation".
 fn add_fixed<S: BlockStore>(store: &mut S, size: u32) -> Result<Room, AllocError>

@@ -21,18 +21,19 @@ use crate::refusal::Refusal;
 use block_store::{BlockStore, GREATEST_ZONE, HEADER_SIZE, Sparing};
 use mac_words::{OsErr, phys};
 
-/// What could be had if all blocks were emptied that may be.
+/// What could be allocated if every block that may be purged were purged.
 #[derive(Clone, Copy, Debug, PartialEq, Eq)]
 pub struct Space {
-    /// The bytes of all Free blocks, headers included.
+    /// The number of free bytes of the zone, the headers of the free blocks included.
     pub total: u32,
-    /// The most bytes that one block could have without another being moved.
+    /// The logical size in bytes of the largest block that could be allocated without moving another.
     pub contiguous: u32,
 }
 
 impl<S: BlockStore> Heap<S> {
-    /// `PurgeMem`: empties blocks until a block of `size` bytes has room; -108 where all that may be are
-    /// emptied and it has none.
+    /// `PurgeMem`: purges blocks, lowest first, until a block of `size` bytes of content has room. Nothing is moved.
+    /// Returns -108 (memFullErr) where every block that may be purged is purged and there is still no room; what was
+    /// purged stays purged.
     pub fn purge_mem(&mut self, size: u32) -> Result<(), Refusal>
         ensures answer { IsAnswer (searching (purge_mem_searches size self.old.heap) (noting (purge_mem size) self.old))
             result self.new }
@@ -43,7 +44,8 @@ impl<S: BlockStore> Heap<S> {
         self.note(answer)
     }
 
-    /// `PurgeSpace`: what could be had if all blocks were emptied that may be.
+    /// `PurgeSpace`: returns what could be allocated if every block that may be purged were purged; nothing is
+    /// purged.
     pub fn purge_space(&mut self) -> Space
         ensures { noting purge_space self.old ≡ (Ok (result.total, result.contiguous), self.new) }
     {
@@ -57,15 +59,15 @@ impl<S: BlockStore> Heap<S> {
         }
     }
 
-    /// The bytes that are Free or may be emptied.
+    /// Returns the number of bytes that are free or belong to blocks that may be purged.
     pub fn to_be_had(&self) -> u32
         ensures { result ≡ free_sum (purged_all self.now.heap.zone) }
     {
         self.store.free_after(GREATEST_ZONE, Sparing::Nothing)
     }
 
-    /// `MaxMem`: empties all blocks that may be, and settles all runs; the most bytes that one block can then
-    /// have.
+    /// `MaxMem`: purges every block that may be purged, compacts all runs of movable blocks, and returns the logical
+    /// size in bytes of the largest block that can then be allocated.
     pub fn max_mem(&mut self) -> u32
         ensures { moving (max_mem_moves self.old.heap) (noting max_mem self.old) ≡ (Ok result, self.new) }
     {
@@ -76,7 +78,8 @@ impl<S: BlockStore> Heap<S> {
         self.store.largest_free().saturating_sub(HEADER_SIZE)
     }
 
-    /// Empties blocks until a block of `size` bytes has room, and counts the looks for it.
+    /// Purges blocks, lowest first, until a block of `size` bytes of content has room, and counts the searches for
+    /// room.
     fn purge_for(&mut self, size: u32) -> Result<(), Refusal>
         ensures answer { IsAnswer (searching (purge_mem_searches size self.old.heap) (silent (purge_mem size) self.old))
             result self.new }
@@ -94,7 +97,7 @@ impl<S: BlockStore> Heap<S> {
     }
 }
 
-/// A Free block of so many bytes.
+/// The search for a free block of `bytes` bytes.
 #[derive(Clone, Copy)]
 struct FreeBlock {
     bytes: Option<u32>,
@@ -134,8 +137,8 @@ impl Look for FreeBlock {
     ghost stays = { λ look zone k found allows le there. there };
 }
 
-/// How many blocks are emptied, lowest first, until a Free block of so many bytes stands; all that may be
-/// where none does or no size is given.
+/// Returns how many blocks are purged, lowest first, until a free block of `bytes` bytes stands; the number of all
+/// that may be purged where no such block stands even then, or where `bytes` is `None`.
 ///
 /// *Inside Macintosh: Memory*, chapter 1, "Purging and Reallocating Blocks".
 fn purges_for<S: BlockStore>(store: &S, bytes: Option<u32>) -> u32

@@ -8,7 +8,7 @@ use crate::refusal::Refusal;
 use block_store::BlockStore;
 use mac_words::OsErr;
 
-/// A handle with a block: its number, the slot that leads to the block, and the block's place.
+/// A handle with a block: the handle's number, the slot that leads to the block, and the block's place.
 #[derive(Clone, Copy)]
 pub struct Reached {
     pub number: usize,
@@ -16,7 +16,8 @@ pub struct Reached {
     pub place: u32,
 }
 
-/// The block of the handle that a name is bound to.
+/// Returns the block of the handle that a name is bound to: -109 (nilHandleErr) where the name is unbound, the number
+/// was never given or the handle is empty, -111 (memWZErr) where the number is a pointer's or was disposed of.
 pub fn reach<S: BlockStore>(
     store: &S,
     names: &[Anchor],

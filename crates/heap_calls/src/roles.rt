@@ -11,14 +11,14 @@ use crate::heap::Heap;
 use block_store::BlockStore;
 
 impl<S: BlockStore> Heap<S> {
-    /// Whether the number that a name is bound to is a handle's, emptied or not.
+    /// Reports whether the number that a name is bound to is a handle's; the handle may be empty.
     pub fn is_handle(&self, handle: Option<usize>) -> bool
         ensures { result ≡ is_ok (handle_at handle self.now.heap) }
     {
         slot_of(&self.names, handle).is_ok()
     }
 
-    /// Whether the handle that a name is bound to is a resource's.
+    /// Reports whether the handle that a name is bound to is a resource's.
     pub fn is_resource(&self, handle: Option<usize>) -> bool
         ensures { result ≡ is_owned (handle_at handle self.now.heap) }
     {
@@ -28,7 +28,7 @@ impl<S: BlockStore> Heap<S> {
         }
     }
 
-    /// Makes the handle of a number an application's own, or a resource's, and in either case without a guard.
+    /// Makes the handle of a number a resource's or an application's own, in either case unguarded.
     ///
     /// *Inside Macintosh: Memory*, chapter 2, "Setting the Properties of Relocatable Blocks".
     pub fn set_resource(&mut self, number: usize, resource: bool)
@@ -44,8 +44,8 @@ impl<S: BlockStore> Heap<S> {
         };
     }
 
-    /// Makes the handle of a resource a System resource's, or one's that may be changed. A handle that is no
-    /// resource's stays so.
+    /// Makes the handle of a resource a System resource's, whose bytes and size cannot be changed, or an ordinary
+    /// resource's. An application's own handle stays as it is.
     pub fn set_guard(&mut self, number: usize, guarded: bool)
         ensures { self.new ≡ inside (cast (guarded_as guarded) number) self.old }
     {
@@ -58,7 +58,7 @@ impl<S: BlockStore> Heap<S> {
         };
     }
 
-    /// Whether the handle of a number has a block.
+    /// Reports whether the handle of a number has a block.
     pub fn has_block(&self, number: usize) -> bool
         ensures { result ≡ has_block number self.now.heap }
     {
@@ -68,7 +68,8 @@ impl<S: BlockStore> Heap<S> {
         self.store.place_of(found.slot).is_some()
     }
 
-    /// The bytes of the block of a number's handle, busy or not; none where it has no block.
+    /// Returns the bytes of the block of a number's handle, whether the handle is busy or not; `None` where it has no
+    /// block.
     pub fn bytes(&self, number: usize) -> Option<&[u8]>
         ensures { option_map (λ b. b.now) result ≡ bytes_of number self.now.heap }
     {
@@ -78,7 +79,8 @@ impl<S: BlockStore> Heap<S> {
         }
     }
 
-    /// Lets the handle of a number and its block go, locked or not, of whatever role; its slot is unused.
+    /// Disposes of the handle of a number, of whatever role, and of its block, locked or not; the slot is unused
+    /// again.
     pub fn release(&mut self, number: usize)
         ensures { self.new ≡ inside (released number) self.old }
     {
@@ -90,7 +92,7 @@ impl<S: BlockStore> Heap<S> {
         self.names[number] = Anchor::Disposed;
     }
 
-    /// Whether the handle that a name is bound to is a System resource's.
+    /// Reports whether the handle that a name is bound to is a System resource's.
     pub(crate) fn is_guarded(&self, handle: Option<usize>) -> bool
         ensures { result ≡ is_system (handle_at handle self.now.heap) }
     {

@@ -17,28 +17,28 @@ ghost use Rattle.block_store.specs.declared.measures.TheConstants.{GREATEST_ZONE
 use crate::least::{Look, any_goes, least_look};
 use block_store::{BlockStore, Sparing};
 
-/// Where a relocatable block goes: into the Free block at a place, or into a run once that is packed.
+/// Where a relocatable block is put: into the free block at a place, or into a run once the run is packed.
 #[derive(Clone, Copy)]
 pub enum Seat {
     Free(u32),
     Run(u32),
 }
 
-/// What a search came to: where a block goes, and after how many purges.
+/// The result of a search: where a block is put, if there is room, and the number of purges before it.
 #[derive(Clone, Copy)]
 pub struct Found {
     pub seat: Option<Seat>,
     pub purges: u32,
 }
 
-/// A place, if there is room, and the searches that it took.
+/// A place, if there is room, and the number of searches that were made for it.
 #[derive(Clone, Copy)]
 pub struct Room {
     pub place: Option<u32>,
     pub searches: u32,
 }
 
-/// Where a relocatable block of so many bytes goes in the zone as it stands.
+/// Finds where a relocatable block of `bytes` bytes is put in the zone as it stands.
 fn seat_now<S: BlockStore>(store: &S, bytes: u32, sparing: Sparing) -> Option<Seat>
     ensures { FindsSeat bytes (purged 0 sparing (S.zone store.now)) result }
 {
@@ -49,8 +49,8 @@ fn seat_now<S: BlockStore>(store: &S, bytes: u32, sparing: Sparing) -> Option<Se
     Some(Seat::Run(run))
 }
 
-/// Where a relocatable block of so many bytes goes after so many purges. A Free block is one of a run, so where no
-/// run has so many Free bytes one look is enough.
+/// Finds where a relocatable block of `bytes` bytes is put after `purges` purges. A free block belongs to a run, so
+/// where no run has `bytes` free bytes no free block is searched for.
 pub fn seat_after<S: BlockStore>(
     store: &S,
     bytes: u32,
@@ -71,7 +71,7 @@ pub fn seat_after<S: BlockStore>(
     }
 }
 
-/// A seat for a relocatable block of so many bytes.
+/// The search for a seat for a relocatable block of `bytes` bytes.
 #[derive(Clone, Copy)]
 struct LowestSeat {
     bytes: u32,
@@ -108,7 +108,7 @@ impl Look for LowestSeat {
     ghost stays = { λ look zone k found allows. seat-stays look.bytes look.sparing zone k found };
 }
 
-/// Where a relocatable block of so many bytes goes after as few purges as serve.
+/// Finds where a relocatable block of `bytes` bytes is put after as few purges as serve.
 fn find_seat<S: BlockStore>(store: &S, bytes: u32, sparing: Sparing) -> Found
     requires { 0 < bytes }
     ensures found { FindsSeat bytes (purged result.purges sparing (S.zone store.now)) result.seat }
@@ -124,7 +124,7 @@ fn find_seat<S: BlockStore>(store: &S, bytes: u32, sparing: Sparing) -> Found
     }
 }
 
-/// Empties what has to go, and packs the run if it is one.
+/// Purges `purges` blocks, packs the run of the seat, if it is a run, and returns the place that the seat stands for.
 fn take_seat<S: BlockStore>(
     store: &mut S,
     bytes: u32,
@@ -157,7 +157,8 @@ fn take_seat<S: BlockStore>(
     }
 }
 
-/// Makes room for a relocatable block of so many bytes, where there is any.
+/// Makes room for a relocatable block of `bytes` bytes, where there is any, and returns its place; nothing changes
+/// where there is none.
 pub fn make_room<S: BlockStore>(store: &mut S, bytes: u32, sparing: Sparing) -> Room
     requires { 0 < bytes }
     ensures place { IsAt (seat bytes sparing (S.zone store.old)) (S.zone store.new) result.place }

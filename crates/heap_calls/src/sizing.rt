@@ -30,8 +30,10 @@ use mac_words::{OsErr, phys};
 use std::alloc::AllocError;
 
 impl<S: BlockStore> Heap<S> {
-    /// `SetHandleSize`: gives a handle another size; new bytes are 0. -108 where there is no room. A want of
-    /// host memory leaves all but the zone as it was.
+    /// `SetHandleSize`: changes the logical size of a handle's block to `size` bytes; new bytes are 0. Returns -108
+    /// (memFullErr) where there is no room, and -30001 (profileErr) where the handle is a System resource's. Where
+    /// the host is out of memory, which can be only over a store that takes host memory, all but the zone and the
+    /// count of moves stays as it was.
     ///
     /// *Inside Macintosh: Memory*, chapter 2, "Changing the Sizes of Relocatable and Nonrelocatable Blocks".
     pub fn set_handle_size(&mut self, handle: Option<usize>, size: u32) -> Result<(), Refusal>
@@ -48,7 +50,7 @@ impl<S: BlockStore> Heap<S> {
         self.note(answer)
     }
 
-    /// Gives a handle another size.
+    /// Changes the logical size of a handle's block, and counts the searches for room.
     fn give_size(&mut self, handle: Option<usize>, size: u32) -> Result<(), Refusal>
         ensures answer { IsAnswer (moving (set_handle_size_moves handle size self.old.heap)
             (searching (set_handle_size_searches handle size self.old.heap)
@@ -57,7 +59,7 @@ impl<S: BlockStore> Heap<S> {
         ensures kept { result ≡ Err Refusal.HostMemory → KeepsNames self.old self.new }
         ensures lies { self.new.window ≡ self.old.window }
     {
-        // The counts of looks and of moves are known to fit their types once they are read.
+        // The counts of searches and of moves are known to fit their types once they are read.
         let _searches = self.log.searches;
         let _moves = self.store.moves();
         let held = reach(&self.store, &self.names, handle)?;
@@ -66,7 +68,8 @@ impl<S: BlockStore> Heap<S> {
         self.account(grown)
     }
 
-    /// Counts the looks that a growth took, and answers whether there was room.
+    /// Counts the searches for room that were made for a block, and returns -108 (memFullErr) where there was no
+    /// room.
     pub(crate) fn account(&mut self, grown: Grown) -> Result<(), Refusal>
         ensures reply { result ≡ sized_reply grown.done }
         ensures counted { self.new ≡ record self.old {
@@ -83,7 +86,8 @@ impl<S: BlockStore> Heap<S> {
     }
 }
 
-/// Gives the block of a slot, which stands at a place, another size, if a block can have that.
+/// Changes the logical size of the block of `slot`, which stands at `place`, to `size` bytes, if a block can have
+/// that size and there is room.
 pub fn fit_block<S: BlockStore>(
     store: &mut S,
     slot: u32,
@@ -116,8 +120,8 @@ pub fn fit_block<S: BlockStore>(
     resize_block(store, slot, place, size, sparing)
 }
 
-/// Gives the block of a slot, which stands at a place, another size: cuts it where it stands, or lets it grow,
-/// where it stands if it is locked.
+/// Changes the logical size of the block of `slot`, which stands at `place`, to `size` bytes: the block is cut where
+/// it stands, or grows, and a locked block grows where it stands.
 fn resize_block<S: BlockStore>(
     store: &mut S,
     slot: u32,

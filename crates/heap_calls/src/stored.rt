@@ -7,7 +7,8 @@ use crate::heap::Heap;
 use block_store::BlockStore;
 
 impl<S: BlockStore> Heap<S> {
-    /// The store of its zone, to be looked at. The heap's zone is the store's, by other names.
+    /// Returns the store of the heap's zone, to be read. The heap's zone is the store's, with its blocks named by
+    /// number.
     pub fn store(&self) -> &S
         ensures zone { IsNamed (S.zone result.now) self.now.heap.zone }
         ensures window { (S.rest result.now).window ≡ self.now.window }
@@ -15,7 +16,7 @@ impl<S: BlockStore> Heap<S> {
         &self.store
     }
 
-    /// Lets the heap go, and gives its store back as it is: so a store that lies in a part of a region can be closed.
+    /// Drops the heap, and returns its store as it is, so that a store that lies in a part of a region can be closed.
     pub fn into_store(self) -> S
         ensures zone { IsNamed (S.zone result) self.heap.zone }
         ensures window { (S.rest result).window ≡ self.window }

@@ -10,7 +10,7 @@ use Rattle.script_text.specs.declared.fault.FaultKind.TheVariants.{BadArgument}
 use Rattle.script_text.specs.Reading.{◌>>=◌}
 use Rattle.script_text.specs.Token.{after_blanks, token_at}
 
--- the kinds of arguments
+-- The kinds of arguments.
 pub data Kind : Type 0 where
   Label : Kind
   Size : Kind
@@ -23,7 +23,7 @@ pub data Kind : Type 0 where
   Switch : Kind
   Path : Kind
 
--- what an argument says
+-- The value of an argument.
 pub data Value : Type 0 where
   Letters : (letters : List ℕ) → Value
   Number : (number : ℕ) → Value
@@ -31,43 +31,44 @@ pub data Value : Type 0 where
   Raw : (bytes : List ℕ) → Value
   Flag : (on : Bool) → Value
 
--- a letter, a digit or _
+-- Whether a byte is a letter, a digit or _.
 abbrev pub is_label_byte : ℕ → Bool
 is_label_byte c = is_ascii_alphanumeric c || c == 95
 
--- a letter or _ at the front
+-- Whether a token begins with a letter or _.
 abbrev pub begins_label : List ℕ → Bool
 begins_label [] = false
 begins_label (c ∷ rest) = is_ascii_alphabetic c || c == 95
 
--- a name: a letter or _, then letters, digits and _, at most 63 bytes
+-- A name: a letter or _, then letters, digits and _, at most 63 bytes.
 abbrev pub label : List ℕ → Option (List ℕ)
 label token =
     if begins_label token && list_all is_label_byte token && nat_le (length token) 63 then Some token else None
 
--- the number that decimal digits write behind a number
+-- The number that decimal digits write after the digits of n.
 abbrev pub number_from : ℕ → List ℕ → ℕ
 number_from n [] = n
 number_from n (c ∷ digits) = number_from (10 * n + (c - 48)) digits
 
--- a number that goes on in digits only, up to a limit
+-- The number that decimal digits write after the digits of n, if there are only digits and the number is at most
+-- `limit`.
 abbrev pub number_within : ℕ → ℕ → List ℕ → Option ℕ
 number_within limit n digits =
     if list_all is_ascii_digit digits && nat_le (number_from n digits) limit then Some (number_from n digits) else None
 
--- one to so many decimal digits, up to a limit
+-- The number of a token of one to `most` decimal digits, if it is at most `limit`.
 abbrev pub number : ℕ → ℕ → List ℕ → Option ℕ
 number most limit token =
     if nat_le 1 (length token) && nat_le (length token) most then number_within limit 0 token else None
 
--- an ID: a number of 16 bits, perhaps with a minus, of one to five digits
+-- An ID: a number of 16 bits, with or without a minus, of one to five digits.
 abbrev pub id : List ℕ → Option ℤ
 id [] = None
 id (c ∷ rest) =
     if c == 45 then option_map (λ n. neg_ℤ (pos n)) (number 5 32768 rest)
     else option_map pos (number 5 32767 (c ∷ rest))
 
--- the value of a hexadecimal digit, in upper or lower case
+-- The value of a hexadecimal digit, in upper or lower case.
 abbrev pub digit : ℕ → Option ℕ
 digit c =
     if nat_le 48 c && nat_le c 57 then Some (c - 48)
@@ -75,32 +76,32 @@ digit c =
     else if nat_le 97 c && nat_le c 102 then Some (c - 87)
     else None
 
--- the byte that two hexadecimal digits write
+-- The byte that two hexadecimal digits write.
 abbrev pub byte_at : ℕ → ℕ → Option ℕ
 byte_at high low = option_and_then (λ h. option_map (λ l. 16 * h + l) (digit low)) (digit high)
 
--- bytes in hexadecimal, two digits each
+-- The bytes that hexadecimal digits write, two digits for each byte.
 abbrev pub hex_bytes : List ℕ → Option (List ℕ)
 hex_bytes [] = Some []
 hex_bytes (high ∷ []) = None
 hex_bytes (high ∷ low ∷ rest) =
     option_and_then (λ byte. option_map (λ bytes. byte ∷ bytes) (hex_bytes rest)) (byte_at high low)
 
--- what a quoted token says, whose first byte is taken off
+-- The bytes of a quoted token, whose opening quote is taken off.
 abbrev pub unquoted : List ℕ → Option (List ℕ)
 unquoted rest = if length rest == 0 then None else Some (take (length rest - 1) rest)
 
--- bytes in quotes, or $ and hexadecimal digits
+-- Bytes: any in quotes, or $ and hexadecimal digits.
 abbrev pub bytes : List ℕ → Option (List ℕ)
 bytes [] = None
 bytes (c ∷ rest) = if c == 34 then unquoted rest else if c == 36 then hex_bytes rest else None
 
--- bytes of certain numbers alone
+-- Bytes whose number passes a test.
 abbrev pub of_length : (ℕ → Bool) → Option (List ℕ) → Option (List ℕ)
 of_length fits None = None
 of_length fits (Some bytes) = if fits (length bytes) then Some bytes else None
 
--- a type: four bytes in single quotes, whatever they are, or $ and eight hexadecimal digits
+-- A type: any four bytes in single quotes, or $ and eight hexadecimal digits.
 abbrev pub res_type : List ℕ → Option (List ℕ)
 res_type [] = None
 res_type (c ∷ rest) =
@@ -108,22 +109,22 @@ res_type (c ∷ rest) =
     else if c == 36 then of_length (λ n. n == 4) (hex_bytes rest)
     else None
 
--- TRUE or FALSE
+-- A switch: TRUE or FALSE.
 abbrev pub switch : List ℕ → Option Bool
 switch token =
     if bytes_eq token (codes "TRUE") then Some true else if bytes_eq token (codes "FALSE") then Some false else None
 
--- bytes that are UTF-8 alone
+-- Bytes that are UTF-8.
 abbrev pub of_utf8 : Option (List ℕ) → Option (List ℕ)
 of_utf8 None = None
 of_utf8 (Some bytes) = if is_utf8 bytes then Some bytes else None
 
--- a path: UTF-8 in quotes
+-- A path: UTF-8 in quotes.
 abbrev pub path : List ℕ → Option (List ℕ)
 path [] = None
 path (c ∷ rest) = if c == 34 then of_utf8 (unquoted rest) else None
 
--- what a token says as an argument of this kind
+-- The value of a token as an argument of this kind.
 abbrev pub value : Kind → List ℕ → Option Value
 value Label token = option_map Letters (label token)
 value Size token = option_map Number (number 10 2147483647 token)
@@ -136,14 +137,14 @@ value Text token = option_map Raw (of_length (λ n. nat_le n 255) (bytes token))
 value Switch token = option_map Flag (switch token)
 value Path token = option_map Raw (path token)
 
--- the argument of this kind at the front, and the text behind it
+-- The argument of this kind at the front of a text, and the text after it.
 unfoldable pub argument : Kind → List ℕ → Result (Value × List ℕ) FaultKind
 argument kind text = do
   token ← token_at (after_blanks text)
   found ← ok_or (value kind token.0) BadArgument
   Ok (found, token.1)
 
--- the arguments of these kinds, and no more
+-- The arguments of these kinds, after which the text must be at its end.
 abbrev pub arguments : List Kind → List ℕ → Result (List Value) FaultKind
 arguments [] text = if length (after_blanks text) == 0 then Ok [] else Err BadArgument
 arguments (kind ∷ kinds) text = do

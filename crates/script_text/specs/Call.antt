@@ -17,7 +17,7 @@ use Rattle.script_text.specs.Reading.{◌>>=◌}
 use Rattle.script_text.specs.Argument.{Kind, Label, Size, Id, Byte, ResType, Bytes, File, Text, Switch, Value, Letters}
 use Rattle.script_text.specs.Argument.{Number, Signed, Raw, Flag, arguments}
 
--- how a call is spelled, and what it takes
+-- The table of calls: how each call is spelled, and the kinds of its arguments.
 abbrev pub row : Word → List ℕ × List Kind
 row word.NewHandle = (codes "NewHandle", Label ∷ Size ∷ [])
 row word.NewEmptyHandle = (codes "NewEmptyHandle", Label ∷ [])
@@ -92,15 +92,15 @@ row word.Where = (codes "Where", Label ∷ [])
 row word.WaitNextEvent = (codes "WaitNextEvent", [])
 row word.ExitToShell = (codes "ExitToShell", [])
 
--- how a call is spelled
+-- The spelling of a call.
 abbrev pub spelling : Word → List ℕ
 spelling w = (row w).0
 
--- what a call takes
+-- The kinds of a call's arguments.
 abbrev pub kinds : Word → List Kind
 kinds w = (row w).1
 
--- a call of the Memory Manager as its word and what its arguments say
+-- A call of the Memory Manager as its word and the values of its arguments.
 abbrev pub heap_spoken : HeapCall → Word × List Value
 heap_spoken (heap.NewHandle h size) = (word.NewHandle, Letters h.0.items ∷ Number size ∷ [])
 heap_spoken (heap.NewEmptyHandle h) = (word.NewEmptyHandle, Letters h.0.items ∷ [])
@@ -139,7 +139,7 @@ heap_spoken (heap.PutPtr p offset bytes) = (word.PutPtr, Letters p.0.items ∷ N
 heap_spoken (heap.ShowPtr p) = (word.ShowPtr, Letters p.0.items ∷ [])
 heap_spoken (heap.Where name) = (word.Where, Letters name.0.items ∷ [])
 
--- a call of the Resource Manager as its word and what its arguments say
+-- A call of the Resource Manager as its word and the values of its arguments.
 abbrev pub resource_spoken : ResourceCall → Word × List Value
 resource_spoken (resource.OpenResFile file) = (word.OpenResFile, Raw file.0.items ∷ [])
 resource_spoken (resource.CreateResFile file) = (word.CreateResFile, Raw file.0.items ∷ [])
@@ -175,31 +175,31 @@ resource_spoken (resource.GetResourceSizeOnDisk h) = (word.GetResourceSizeOnDisk
 resource_spoken (resource.SetResLoad on) = (word.SetResLoad, Flag on ∷ [])
 resource_spoken resource.ResError = (word.ResError, [])
 
--- a call of the Segment Manager, or through the jump table, as its word and what its arguments say
+-- A call of the Segment Manager, or through the jump table, as its word and the values of its arguments.
 abbrev pub segment_spoken : SegmentCall → Word × List Value
 segment_spoken (segment.LoadSeg id) = (word.LoadSeg, Signed id ∷ [])
 segment_spoken (segment.UnloadSeg id) = (word.UnloadSeg, Signed id ∷ [])
 segment_spoken (segment.CallEntry n) = (word.CallEntry, Number n ∷ [])
 segment_spoken (segment.ShowEntry n) = (word.ShowEntry, Number n ∷ [])
 
--- a call by which an application says how it is run, as its word and what its arguments say
+-- A call by which an application controls how it is run, as its word and the values of its arguments.
 abbrev pub control_spoken : ControlCall → Word × List Value
 control_spoken (control.SetGrowZone name) = (word.SetGrowZone, Letters name.0.items ∷ [])
 control_spoken control.WaitNextEvent = (word.WaitNextEvent, [])
 control_spoken control.ExitToShell = (word.ExitToShell, [])
 
--- a call as its word and what its arguments say
+-- A call as its word and the values of its arguments.
 abbrev pub spoken : Call → Word × List Value
 spoken (call.Heap c) = heap_spoken c
 spoken (call.Resource c) = resource_spoken c
 spoken (call.Segment c) = segment_spoken c
 spoken (call.Control c) = control_spoken c
 
--- the word of a call
+-- The word of a call.
 abbrev pub word_of : Call → Word
 word_of c = (spoken c).0
 
--- the words of the calls that a grow-zone script may hold
+-- Whether a grow-zone script may hold the call of this word.
 abbrev pub may_stand : Word → Bool
 may_stand word.EmptyHandle = true
 may_stand word.DisposeHandle = true
@@ -211,15 +211,15 @@ may_stand word.ReleaseResource = true
 may_stand word.UnloadSeg = true
 may_stand _ = false
 
--- the calls that a grow-zone script may hold
+-- Whether a grow-zone script may hold this call.
 abbrev pub is_allowed : Call → Bool
 is_allowed c = may_stand (word_of c)
 
--- the word that is spelled so
+-- The word that a token spells.
 unfoldable pub word_spelled : List ℕ → Option Word
 word_spelled token = find (λ w. bytes_eq (spelling w) token) WORDS
 
--- the call of a word, whose arguments a text spells
+-- The word of a call and the values of its arguments, which a text spells.
 abbrev pub call_read : Word → List ℕ → Result (Word × List Value) FaultKind
 call_read word text = do
   values ← arguments (kinds word) text

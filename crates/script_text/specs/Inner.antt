@@ -7,8 +7,8 @@ use Rattle.script_text.specs.Job.{input_seen}
 use Rattle.script_text.specs.JobFacts.{IsMemory, AreInOrder, AreEventsOf}
 use Rattle.script_text.specs.Script.{AllAllowed, NoneIsUnused, are_allowed, has_block}
 
--- what is kept while a script is read: no grow-zone script holds a call that isn't allowed there or is named `none`,
--- and the one whose `end` is still to come has a name of its own
+-- What holds while a script is read: no grow-zone script holds a call that is not allowed in one or is named `none`,
+-- and the grow-zone script whose `end` is still to come has a new name.
 pub record IsKept (blocks : List (List ℕ × List Line)) (begun : Option Begun) : Type 0 where
   pub allowed : AllAllowed blocks
   pub unused : NoneIsUnused blocks
@@ -16,7 +16,7 @@ pub record IsKept (blocks : List (List ℕ × List Line)) (begun : Option Begun)
   pub begun_anew : IfSome begun (λ b. has_block b.name.0.items blocks ≡ false)
   pub begun_named : IfSome begun (λ b. bytes_eq b.name.0.items (codes "none") ≡ false)
 
--- what is kept while a job is read
+-- What holds while a job is read.
 pub record IsJobKept (memory : Option ℕ) (inputs : List Input) (events : List Event) : Type 0 where
   pub size : IfSome memory IsMemory
   pub order : AreInOrder (map input_seen inputs)

@@ -19,61 +19,62 @@ use Rattle.script_text.specs.Token.{place, is_blank, after_blanks}
 use Rattle.script_text.specs.Argument.{Label, Size, File as FileKind, Path, Value, Letters, Number, Raw, arguments}
 use Rattle.script_text.specs.Script.{at_line}
 
--- What a job says.
+-- Jobs.
 
--- what a job takes from outside: the System's fork, an application by name with its fork and its script, or a file of
--- the n-th application, by name; each at a path
+-- What a job takes from outside: the System file's fork, an application by name with its fork and its script, or a
+-- file of the n-th application by name, each at a path.
 pub data Input : Type 0 where
   System : (path : List ℕ) → Input
   App : (name : List ℕ) → (fork : List ℕ) → (script : List ℕ) → Input
   File : (app : ℕ) → (name : List ℕ) → (path : List ℕ) → Input
 
--- a whole job: its memory, its inputs in the order of their lines, and its events
+-- A whole job: its memory, its inputs in the order of their lines, and its events.
 pub record Job : Type 0 where
   pub memory : ℕ
   pub inputs : List Input
   pub events : List Event
 
--- whether this is the System
+-- Whether an input is the System file.
 abbrev pub is_system : Input → Bool
 is_system (System path) = true
 is_system (App name fork script) = false
 is_system (File app name path) = false
 
--- the name of an application
+-- The name of an application.
 abbrev pub app_name : Input → Option (List ℕ)
 app_name (System path) = None
 app_name (App name fork script) = Some name
 app_name (File app name path) = None
 
--- the applications, by name: the n-th name is the n-th application's, from 0
+-- The names of the applications: the n-th name is that of the n-th application, from 0.
 abbrev pub app_names : List Input → List (List ℕ)
 app_names inputs = filter_map app_name inputs
 
--- the number of the application of this name
+-- The number of the application of this name.
 abbrev pub app_named : List ℕ → List Input → Option ℕ
 app_named name inputs = position_from (bytes_eq name) 0 (app_names inputs)
 
--- the name of a file of the n-th application
+-- The name of a file of the n-th application.
 abbrev pub file_name : ℕ → Input → Option (List ℕ)
 file_name n (System path) = None
 file_name n (App name fork script) = None
 file_name n (File app name path) = if app == n then Some name else None
 
--- the files that are given to the n-th application, by name
+-- The names of the files that lines give to the n-th application.
 abbrev pub given_names : ℕ → List Input → List (List ℕ)
 given_names n inputs = filter_map (file_name n) inputs
 
--- the files of the n-th application, by name: its fork, that is named as it is, and those that are given to it
+-- The names of all files of the n-th application: its fork, which has the application's name, and those that lines
+-- give to it.
 abbrev pub file_names : ℕ → List Input → List (List ℕ)
 file_names n inputs = take 1 (drop n (app_names inputs)) ++ given_names n inputs
 
--- whether a name is among these
+-- Whether a name is among these.
 abbrev pub has_name : List ℕ → List (List ℕ) → Bool
 has_name name names = list_any (bytes_eq name) names
 
--- whether an input may follow those above it: one System, 64 applications and 256 files of each at most, of names that
--- are new
+-- Whether an input may follow those above it: at most one System file, 64 applications, and 256 files of each
+-- application with its fork, all of names that are new.
 abbrev pub may_follow : List Input → Input → Bool
 may_follow above (System path) = not (list_any is_system above)
 may_follow above (App name fork script) = nat_lt (length (app_names above)) 64 && not (has_name name (app_names above))
@@ -81,13 +82,13 @@ may_follow above (File app name path) =
     nat_lt app (length (app_names above))
     && (nat_lt (length (given_names app above)) 255 && not (has_name name (file_names app above)))
 
--- the memory of a job: 512 to 134217728 bytes, a multiple of 16
+-- Whether a job may have a memory of n bytes: 512 to 134217728, a multiple of 16.
 abbrev pub is_memory : ℕ → Bool
 is_memory n = nat_le 512 n && nat_le n 134217728 && n % 16 == 0
 
--- What a text says.
+-- The text of a job.
 
--- how a line of a job begins
+-- The spelling of the word with which a line of a job begins.
 abbrev pub spelling : JobWord → List ℕ
 spelling word.Memory = codes "memory"
 spelling word.System = codes "system"
@@ -99,31 +100,31 @@ spelling word.Turn = codes "turn"
 spelling word.Quit = codes "quit"
 spelling word.Rest = codes "rest"
 
--- the word that is spelled so
+-- The word that a token spells.
 unfoldable pub word_spelled : List ℕ → Option JobWord
 word_spelled token = find (λ w. bytes_eq (spelling w) token) JOB_WORDS
 
--- what the lines so far said
+-- What the lines so far have stated.
 pub record Above : Type 0 where
   pub memory : Option ℕ
   pub inputs : List Input
   pub events : List Event
 
--- one more input: behind the memory, before all events, and where it may follow the others
+-- One more input: after the memory, before all events, and where it may follow the inputs above.
 abbrev pub with_input : Above → Input → Result Above FaultKind
 with_input above i =
     if is_some above.memory && length above.events == 0 && may_follow above.inputs i
     then Ok (record { memory = above.memory; inputs = above.inputs ++ i ∷ []; events = above.events })
     else Err BadArgument
 
--- one more event, behind the memory
+-- One more event, after the memory.
 abbrev pub with_event : Above → Event → Result Above FaultKind
 with_event above e =
     if is_some above.memory
     then Ok (record { memory = above.memory; inputs = above.inputs; events = above.events ++ e ∷ [] })
     else Err BadArgument
 
--- the memory, once
+-- The memory, which is stated once.
 abbrev pub memory_said : Above → List Value → Result Above FaultKind
 memory_said above (Number n ∷ []) =
     if is_none above.memory && is_memory n
@@ -131,56 +132,56 @@ memory_said above (Number n ∷ []) =
     else Err BadArgument
 memory_said above _ = Err BadArgument
 
--- the System's path
+-- The System file, by its path.
 abbrev pub system_said : Above → List Value → Result Above FaultKind
 system_said above (Raw path ∷ []) = with_input above (System path)
 system_said above _ = Err BadArgument
 
--- an application's name, its fork's path and its script's
+-- An application: its name, its fork's path and its script's path.
 abbrev pub app_said : Above → List Value → Result Above FaultKind
 app_said above (Letters name ∷ Raw fork ∷ Raw script ∷ []) = with_input above (App name fork script)
 app_said above _ = Err BadArgument
 
--- an application above, a file's name, and its path
+-- A file: the name of an application above, the file's name, and its path.
 abbrev pub file_said : Above → List Value → Result Above FaultKind
 file_said above (Letters name ∷ Raw file ∷ Raw path ∷ []) =
     ok_or (app_named name above.inputs) BadArgument >>= λ app. with_input above (File app file path)
 file_said above _ = Err BadArgument
 
--- the number of an application above
+-- The number of an application above, by its name.
 abbrev pub owner_said : Above → List Value → Result ℕ FaultKind
 owner_said above (Letters name ∷ []) = ok_or (app_named name above.inputs) BadArgument
 owner_said above _ = Err BadArgument
 
--- the application that an event's line names
+-- The number of the application that the line of an event names.
 abbrev pub owner_at : Above → List ℕ → Result ℕ FaultKind
 owner_at above rest = arguments (Label ∷ []) rest >>= owner_said above
 
--- a line `memory N`, by the text behind its first token
+-- A line `memory N`, by the text after its first token.
 abbrev pub memory_line : Above → List ℕ → Result Above FaultKind
 memory_line above rest = arguments (Size ∷ []) rest >>= memory_said above
 
--- a line `system PATH`
+-- A line `system PATH`, by the text after its first token.
 abbrev pub system_line : Above → List ℕ → Result Above FaultKind
 system_line above rest = arguments (Path ∷ []) rest >>= system_said above
 
--- a line `app NAME FORK SCRIPT`
+-- A line `app NAME FORK SCRIPT`, by the text after its first token.
 abbrev pub app_line : Above → List ℕ → Result Above FaultKind
 app_line above rest = arguments (Label ∷ Path ∷ Path ∷ []) rest >>= app_said above
 
--- a line `file NAME FILE PATH`
+-- A line `file NAME FILE PATH`, by the text after its first token.
 abbrev pub file_line : Above → List ℕ → Result Above FaultKind
 file_line above rest = arguments (Label ∷ FileKind ∷ Path ∷ []) rest >>= file_said above
 
--- a line of an event of an application
+-- The line of an event of an application, by the text after its first token.
 abbrev pub event_line : (ℕ → Event) → Above → List ℕ → Result Above FaultKind
 event_line make above rest = owner_at above rest >>= λ app. with_event above (make app)
 
--- a line `rest`
+-- A line `rest`, by the text after its first token.
 abbrev pub rest_line : Above → List ℕ → Result Above FaultKind
 rest_line above rest = arguments [] rest >>= λ _. with_event above event.Rest
 
--- the lines with one that begins with a word and goes on with a text
+-- One more line, by its word and the text after its first token.
 abbrev pub with_word : Above → JobWord → List ℕ → Result Above FaultKind
 with_word above word.Memory rest = memory_line above rest
 with_word above word.System rest = system_line above rest
@@ -192,52 +193,53 @@ with_word above word.Turn rest = event_line event.Turn above rest
 with_word above word.Quit rest = event_line event.Quit above rest
 with_word above word.Rest rest = rest_line above rest
 
--- the lines with one that begins with a token and goes on with a text
+-- One more line, by its first token and the text after it.
 unfoldable pub with_token : Above → List ℕ → List ℕ → Result Above FaultKind
 with_token above token rest = ok_or (word_spelled token) UnknownCall >>= λ word. with_word above word rest
 
--- the lines with what stands behind the blanks of one; nothing and a comment are skipped
+-- One more line, by its text after the leading blanks; an empty line and a comment are skipped.
 abbrev pub with_text : Above → List ℕ → Result Above FaultKind
 with_text above [] = Ok above
 with_text above (c ∷ rest) =
     if c == 35 then Ok above
     else with_token above (take (place is_blank (c ∷ rest)) (c ∷ rest)) (drop (place is_blank (c ∷ rest)) (c ∷ rest))
 
--- the lines with one more, or its fault: a long line before all else
+-- One more line, or its fault; a line that is too long has that fault before any other.
 unfoldable pub with_line : Above → List ℕ → Result Above FaultKind
 with_line above line = if nat_lt 65535 (length line) then Err LongLine else with_text above (after_blanks line)
 
--- all lines, from the n-th on, or the first faulty one
+-- All lines, from the n-th on, or the first faulty one.
 abbrev pub with_lines : ℕ → Above → List (List ℕ) → Result Above (ℕ × FaultKind)
 with_lines n above [] = Ok above
 with_lines n above (line ∷ more) = at_line n (with_line above line) (λ next. with_lines (n + 1) next more)
 
--- no lines yet
+-- What is stated before the first line.
 abbrev pub nothing : Above
 nothing = record { memory = None; inputs = []; events = [] }
 
--- a job, where its memory is told
+-- The job, where its memory is stated; a job that states none is faulty at its first line.
 abbrev pub with_memory : Option ℕ → Above → Result Job (ℕ × FaultKind)
 with_memory None above = Err (1, BadArgument)
 with_memory (Some n) above = Ok (record { memory = n; inputs = above.inputs; events = above.events })
 
--- what the lines say, where none of them is faulty; a job that says nothing is faulty at its first line
+-- The job that the lines state, or the first faulty line.
 abbrev pub after_all : Result Above (ℕ × FaultKind) → Result Job (ℕ × FaultKind)
 after_all (Ok above) = with_memory above.memory above
 after_all (Err fault) = Err fault
 
--- the job that a text spells, or its first faulty line and the fault. Lines and tokens are those of a script
+-- The job that a text states, or the number of its first faulty line and the fault. Lines and tokens are those of a
+-- script.
 unfoldable pub job_of : List ℕ → Result Job (ℕ × FaultKind)
 job_of text = after_all (with_lines 1 nothing (lines text))
 
--- The code's values, seen.
+-- The values of the code, as the definitions see them.
 
--- an input, seen
+-- An input of the code, as an `Input` of the definitions.
 abbrev pub input_seen : declared.Input → Input
 input_seen (input.System path) = System path.now
 input_seen (input.App name fork script) = App name.0.items fork.now script.now
 input_seen (input.File app name path) = File app name.0.items path.now
 
--- a job, seen
+-- A job of the code, as a `Job` of the definitions.
 abbrev pub job_seen : JobText → Job
 job_seen job = record { memory = job.memory; inputs = map input_seen job.inputs.items; events = job.events.items }

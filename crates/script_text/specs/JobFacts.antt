@@ -6,22 +6,22 @@ use Rattle.script_text.specs.Job.{Input, app_names, file_names, may_follow}
 
 -- What holds of every job that is read.
 
--- 512 to 134217728 bytes, a multiple of 16
+-- A memory has 512 to 134217728 bytes, a multiple of 16.
 pub record IsMemory (n : ℕ) : Type 0 where
   pub least : 512 ≤ n
   pub most : n ≤ 134217728
   pub multiple : n % 16 ≡ 0
 
--- whether each input may follow those above it
+-- Whether each input may follow those above it.
 abbrev pub all_follow : List Input → List Input → Bool
 all_follow above [] = true
 all_follow above (i ∷ more) = may_follow above i && all_follow (above ++ i ∷ []) more
 
--- inputs of which each may follow those before it
+-- Each input may follow those before it.
 abbrev pub AreInOrder : List Input → Type 0
 AreInOrder inputs = IsTrue (all_follow [] inputs)
 
--- whether an event is one of so many applications
+-- Whether an event is of one of `apps` applications.
 abbrev pub is_event_of : ℕ → Event → Bool
 is_event_of apps (event.Launch app) = nat_lt app apps
 is_event_of apps (event.Step app) = nat_lt app apps
@@ -29,16 +29,16 @@ is_event_of apps (event.Turn app) = nat_lt app apps
 is_event_of apps (event.Quit app) = nat_lt app apps
 is_event_of apps event.Rest = true
 
--- events of these applications
+-- The events are of the applications of the inputs.
 abbrev pub AreEventsOf : List Input → List Event → Type 0
 AreEventsOf inputs events = IsTrue (list_all (is_event_of (length (app_names inputs))) events)
 
--- at most 64 applications, of names that differ
+-- There are at most 64 applications, whose names differ.
 pub record AreApps (inputs : List Input) : Type 0 where
   pub most : length (app_names inputs) ≤ 64
   pub apart : IsDistinct bytes_eq (app_names inputs)
 
--- at most 256 files of each application, its fork among them, of names that differ
+-- Each application has at most 256 files, its fork among them, whose names differ.
 pub record AreFiles (inputs : List Input) : Type 0 where
   pub most : (n : ℕ) → length (file_names n inputs) ≤ 256
   pub apart : (n : ℕ) → IsDistinct bytes_eq (file_names n inputs)

@@ -19,60 +19,61 @@ use Rattle.script_text.specs.Call.{spoken, may_stand, is_allowed, word_spelled, 
 
 -- A script that was read.
 
--- its steps, and its grow-zone scripts in the order of their `end` lines, each with its name and its lines
+-- The steps of a script, and its grow-zone scripts in the order of their `end` lines, each with its name and its
+-- lines.
 pub record Parts : Type 0 where
   pub steps : List Line
   pub blocks : List (List ℕ × List Line)
 
--- whether there is a grow-zone script of this name
+-- Whether there is a grow-zone script of this name.
 abbrev pub has_block : {X : Type 0} → List ℕ → List (List ℕ × X) → Bool
 has_block name blocks = is_some (lookup (bytes_eq name) blocks)
 
--- the lines of the grow-zone script of this name; none where there is no such script
+-- The lines of the grow-zone script of this name; no lines where there is no such script.
 abbrev pub block_of : List ℕ → List (List ℕ × List Line) → List Line
 block_of name blocks = unwrap_or (lookup (bytes_eq name) blocks) []
 
--- lines of which each holds a call that is allowed in a grow-zone script
+-- Whether each line holds a call that is allowed in a grow-zone script.
 abbrev pub are_allowed : List Line → Bool
 are_allowed lines = list_all (λ l. is_allowed l.call) lines
 
--- grow-zone scripts that hold none but the calls that are allowed there
+-- The grow-zone scripts hold only calls that are allowed in one.
 abbrev pub AllAllowed : List (List ℕ × List Line) → Type 0
 AllAllowed blocks = IsTrue (list_all (λ block. are_allowed block.1) blocks)
 
--- grow-zone scripts of which none is named `none`
+-- No grow-zone script is named `none`.
 abbrev pub NoneIsUnused : List (List ℕ × List Line) → Type 0
 NoneIsUnused blocks = has_block (codes "none") blocks ≡ false
 
--- What a text says.
+-- The text of a script.
 
--- what a line says
+-- What a line states: a call by its word, and the values of its arguments.
 pub data Said : Type 0 where
   Makes : (word : Word) → (values : List Value) → Said
 
--- a line that holds a call: its number, from 1, and what it says
+-- A line that holds a call: its number, from 1, and what it states.
 pub record Statement : Type 0 where
   pub line : ℕ
   pub said : Said
 
--- what a whole text says: its steps, and its grow-zone scripts by name
+-- What a whole text states: its steps, and its grow-zone scripts by name.
 pub record Spelled : Type 0 where
   pub steps : List Statement
   pub blocks : List (List ℕ × List Statement)
 
--- a grow-zone script whose `end` is still to come: the line of its `grow`, its name, and its lines so far
+-- A grow-zone script whose `end` is still to come: the number of its `grow` line, its name, and its lines so far.
 pub record Begun : Type 0 where
   pub line : ℕ
   pub name : List ℕ
   pub statements : List Statement
 
--- what the lines so far said
+-- What the lines so far have stated.
 pub record Above : Type 0 where
   pub steps : List Statement
   pub blocks : List (List ℕ × List Statement)
   pub begun : Option Begun
 
--- a statement is a step, or stands in the grow-zone script whose `end` is still to come
+-- One more statement: a step, or a line of the grow-zone script whose `end` is still to come.
 abbrev pub with_statement : Statement → Above → Option Begun → Above
 with_statement s above None = record { steps = above.steps ++ s ∷ []; blocks = above.blocks; begun = None }
 with_statement s above (Some b) = record {
@@ -81,18 +82,18 @@ with_statement s above (Some b) = record {
   begun = Some (record { line = b.line; name = b.name; statements = b.statements ++ s ∷ [] });
 }
 
--- a known call at the n-th line, with the text behind it: a grow-zone script holds only some calls
+-- A call of a known word at the n-th line, by the text after the word: a grow-zone script may hold only some calls.
 abbrev pub call_at : ℕ → Above → Word → List ℕ → Result Above FaultKind
 call_at n above word rest =
     if is_some above.begun && not (may_stand word) then Err NotAllowed
     else (call_read word rest >>= λ call.
     Ok (with_statement (record { line = n; said = Makes call.0 call.1 }) above above.begun))
 
--- whether a name may be that of a new grow-zone script: it isn't `none`, and isn't used
+-- Whether a name may be that of a new grow-zone script: it is not `none`, and is not used.
 abbrev pub is_new : {X : Type 0} → List ℕ → List (List ℕ × X) → Bool
 is_new name blocks = not (bytes_eq name (codes "none")) && not (has_block name blocks)
 
--- a grow-zone script of a new name begins at the n-th line
+-- A grow-zone script of a new name that begins at the n-th line.
 abbrev pub begin_at : ℕ → Above → List Value → Result Above FaultKind
 begin_at n above (Letters name ∷ []) =
     if is_new name above.blocks then Ok (record {
@@ -103,12 +104,12 @@ begin_at n above (Letters name ∷ []) =
     else Err BadArgument
 begin_at n above _ = Err BadArgument
 
--- `grow` at the n-th line, with the text behind it: not in a grow-zone script
+-- A line `grow NAME`, the n-th, by the text after `grow`: the line may not stand in a grow-zone script.
 abbrev pub grow_at : ℕ → Above → List ℕ → Result Above FaultKind
 grow_at n above rest =
     if is_some above.begun then Err NotAllowed else (arguments (Label ∷ []) rest >>= begin_at n above)
 
--- `end`, with the text behind it: outside a grow-zone script it is no call
+-- A line `end`, by the text after `end`: outside a grow-zone script the word is no call.
 abbrev pub end_at : Above → Option Begun → List ℕ → Result Above FaultKind
 end_at above None rest = Err UnknownCall
 end_at above (Some b) rest = arguments [] rest >>= λ _. Ok (record {
@@ -117,93 +118,95 @@ end_at above (Some b) rest = arguments [] rest >>= λ _. Ok (record {
   begun = None;
 })
 
--- the lines with the n-th, that begins with a token and goes on with a text
+-- One more line, the n-th, by its first token and the text after it.
 unfoldable pub with_token : ℕ → Above → List ℕ → List ℕ → Result Above FaultKind
 with_token n above token rest =
     if bytes_eq token (codes "grow") then grow_at n above rest
     else if bytes_eq token (codes "end") then end_at above above.begun rest
     else (ok_or (word_spelled token) UnknownCall >>= λ word. call_at n above word rest)
 
--- the lines with what stands behind the blanks of the n-th; nothing and a comment are skipped
+-- One more line, the n-th, by its text after the leading blanks; an empty line and a comment are skipped.
 abbrev pub with_text : ℕ → Above → List ℕ → Result Above FaultKind
 with_text n above [] = Ok above
 with_text n above (c ∷ rest) =
     if c == 35 then Ok above
     else with_token n above (take (place is_blank (c ∷ rest)) (c ∷ rest)) (drop (place is_blank (c ∷ rest)) (c ∷ rest))
 
--- the lines with the n-th, or its fault: a long line before all else
+-- One more line, the n-th, or its fault; a line that is too long has that fault before any other.
 unfoldable pub read_at : ℕ → Above → List ℕ → Result Above FaultKind
 read_at n above line = if nat_lt 65535 (length line) then Err LongLine else with_text n above (after_blanks line)
 
--- a fault, at its line
+-- A fault with the number of its line.
 abbrev pub at_line : {A B : Type 0} → ℕ → Result A FaultKind → (A → Result B (ℕ × FaultKind)) → Result B (ℕ × FaultKind)
 at_line n (Ok x) go_on = go_on x
 at_line n (Err kind) go_on = Err (n, kind)
 
--- all lines, from the n-th on, or the first faulty one
+-- All lines, from the n-th on, or the first faulty one.
 abbrev pub read_from : ℕ → Above → List (List ℕ) → Result Above (ℕ × FaultKind)
 read_from n above [] = Ok above
 read_from n above (line ∷ more) = at_line n (read_at n above line) (λ next. read_from (n + 1) next more)
 
--- no lines yet
+-- What is stated before the first line.
 abbrev pub no_lines : Above
 no_lines = record { steps = []; blocks = []; begun = None }
 
--- whether the grow-zone script whose `end` is still to come has this name
+-- Whether the grow-zone script whose `end` is still to come has this name.
 abbrev pub is_begun : List ℕ → Option Begun → Bool
 is_begun name None = false
 is_begun name (Some b) = bytes_eq name b.name
 
--- whether a grow-zone script of this name is there: it is once its `grow` line is, and `none` always is
+-- Whether there is a grow-zone script of this name: there is from its `grow` line on, and `none` always stands for
+-- one.
 abbrev pub is_there : Above → List ℕ → Bool
 is_there above name = bytes_eq name (codes "none") || has_block name above.blocks || is_begun name above.begun
 
--- whether a line sets a grow-zone script that isn't there
+-- Whether a line sets a grow-zone script that is not there.
 abbrev pub sets_missing : Above → Said → Bool
 sets_missing above (Makes word.SetGrowZone (Letters name ∷ [])) = not (is_there above name)
 sets_missing above _ = false
 
--- the first line that sets a grow-zone script that isn't there
+-- The number of the first line that sets a grow-zone script that is not there.
 abbrev pub first_missing : Above → List Statement → Option ℕ
 first_missing above steps = option_map (λ s. s.line) (find (λ s. sets_missing above s.said) steps)
 
--- where a grow-zone script is missing or has no `end`. Behind a `grow` without `end` no line sets a grow-zone script
+-- The number of the line whose grow-zone script is missing, or has no `end`. After a `grow` without `end` no line
+-- sets a grow-zone script.
 abbrev pub unfinished : Above → Option ℕ
 unfinished above = option_or (first_missing above above.steps) (option_map (λ b. b.line) above.begun)
 
--- all lines, where no grow-zone script is missing
+-- What all lines state, where no grow-zone script is missing.
 abbrev pub unless_unfinished : Option ℕ → Above → Result Spelled (ℕ × FaultKind)
 unless_unfinished None above = Ok (record { steps = above.steps; blocks = above.blocks })
 unless_unfinished (Some n) above = Err (n, BadArgument)
 
--- what the lines say, where none of them is faulty
+-- What the lines state, or the first faulty line.
 abbrev pub after_all : Result Above (ℕ × FaultKind) → Result Spelled (ℕ × FaultKind)
 after_all (Ok above) = unless_unfinished (unfinished above) above
 after_all (Err fault) = Err fault
 
--- the steps of a text and its grow-zone scripts, in order, or its first faulty line and the fault. A line ends at LF,
--- and a CR right before the LF is dropped; the last LF may be missing
+-- The steps of a text and its grow-zone scripts, in order, or the number of its first faulty line and the fault. A
+-- line ends at LF, and a CR right before the LF is dropped; the last LF may be missing.
 unfoldable pub script_of : List ℕ → Result Spelled (ℕ × FaultKind)
 script_of text = after_all (read_from 1 no_lines (lines text))
 
--- The code's values, seen.
+-- The values of the code, as the definitions see them.
 
--- what a call says
+-- What a call states.
 abbrev pub said_as : Call → Said
 said_as call = Makes (spoken call).0 (spoken call).1
 
--- a line, seen
+-- A line of the code, as a `Statement` of the definitions.
 abbrev pub statement : Line → Statement
 statement l = record { line = l.number; said = said_as l.call }
 
--- grow-zone scripts, seen
+-- The grow-zone scripts of the code, with their lines as statements.
 abbrev pub blocks_seen : List (List ℕ × List Line) → List (List ℕ × List Statement)
 blocks_seen blocks = map (λ block. (block.0, map statement block.1)) blocks
 
--- a grow-zone script whose `end` is still to come, seen
+-- A grow-zone script of the code whose `end` is still to come, with its lines as statements.
 abbrev pub begun_seen : declared.Begun → Begun
 begun_seen b = record { line = b.line; name = b.name.0.items; statements = map statement b.lines.items }
 
--- a script, seen
+-- A script of the code, with its lines as statements.
 abbrev pub spelled : Parts → Spelled
 spelled parts = record { steps = map statement parts.steps; blocks = blocks_seen parts.blocks }

@@ -41,7 +41,7 @@ fn is_label(token: &[u8]) -> bool
     begins_label(token) && has_label_bytes(token) && token.len() <= 63
 }
 
-/// The number that a token writes in one to `most` decimal digits.
+/// Returns the number that a token writes in one to `most` decimal digits, if it is at most `limit`.
 fn number_in(token: &[u8], most: usize, limit: u32) -> Option<u32>
     ensures { result ≡ number most limit token.now }
 {
@@ -71,7 +71,7 @@ fn number_up_to(digits: &[u8], limit: u32) -> Option<u32>
     Some(found)
 }
 
-/// The ID that a token writes.
+/// Returns the ID that a token writes: a number of 16 bits, with or without a minus.
 fn id_in(token: &[u8]) -> Option<i16>
     ensures { result ≡ id token.now }
 {
@@ -93,7 +93,7 @@ fn digit_value(byte: u8) -> Option<u8>
     }
 }
 
-/// The byte that two hexadecimal digits write.
+/// Returns the byte that two hexadecimal digits write.
 fn byte_of(high: u8, low: u8) -> Option<u8>
     ensures { result ≡ byte_at high low }
 {
@@ -102,7 +102,7 @@ fn byte_of(high: u8, low: u8) -> Option<u8>
     Some(16 * high + low)
 }
 
-/// The bytes that hexadecimal digits write.
+/// Returns the bytes that hexadecimal digits write, two for each byte.
 fn hex_in(alloc: Global, digits: &[u8]) -> Result<Option<Vec<u8>>, AllocError>
     ensures { IfOk result (λ found. Finds (λ v. v.items) found (hex_bytes digits.now)) }
 {
@@ -128,7 +128,7 @@ fn bytes_in(alloc: Global, token: &[u8]) -> Result<Option<Vec<u8>>, AllocError>
     }
 }
 
-/// Bytes as text, where they are UTF-8.
+/// Returns bytes as text, where they are UTF-8.
 #[tactic(auto, using(crate::proofs::Utf8::is_text, crate::proofs::Utf8::is_no_text))]
 fn text_of(bytes: &[u8]) -> Option<&str>
     ensures { option_map (λ s. s.now) result ≡ of_utf8 (Some bytes.now) }
@@ -139,7 +139,7 @@ fn text_of(bytes: &[u8]) -> Option<&str>
     }
 }
 
-/// The path that a token writes in quotes.
+/// Returns the path that a token writes in quotes.
 pub fn path_in(token: &[u8]) -> Option<&str>
     ensures { option_map (λ p. p.now) result ≡ path token.now }
 {
@@ -149,13 +149,13 @@ pub fn path_in(token: &[u8]) -> Option<&str>
     }
 }
 
-/// An argument of a call. Its type tells its kind.
+/// An argument of a call. The type of the argument fixes its kind.
 pub trait Argument: Sized {
     ghost kind: { Kind };
 
     ghost seen: { Self → Value };
 
-    /// What a token says as an argument of this kind.
+    /// Returns the value that a token has as an argument of this kind; `None` where it has none.
     fn find(alloc: Global, token: &[u8]) -> Result<Option<Self>, AllocError>
         ensures { IfOk result (λ found. Finds seen found (value kind token.now)) };
 }

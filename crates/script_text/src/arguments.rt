@@ -9,7 +9,8 @@ use crate::fault::FaultKind;
 use crate::token::{token, trim};
 use std::alloc::Global;
 
-/// The argument at the front of a text, and the text behind it.
+/// Reads the argument at the front of a text, and returns it with the text after it; a bad argument where there is
+/// none of this type.
 #[tactic(auto, unfolding(crate::specs::Argument::argument))]
 pub fn first<A: Argument + Drop>(alloc: Global, text: &[u8]) -> Result<(A, &[u8]), FaultKind>
     ensures { Gives (λ x. (A.seen x.0, x.1.now)) result (argument A.kind text.now) }
@@ -21,7 +22,7 @@ pub fn first<A: Argument + Drop>(alloc: Global, text: &[u8]) -> Result<(A, &[u8]
     }
 }
 
-/// The path at the front of a text, and the text behind it.
+/// Reads the path at the front of a text, and returns it with the text after it; a bad argument where there is none.
 #[tactic(auto, unfolding(crate::specs::Argument::argument))]
 pub fn path(text: &[u8]) -> Result<(&str, &[u8]), FaultKind>
     ensures { Gives (λ x. (Raw x.0.now, x.1.now)) result (argument Path text.now) }
@@ -33,7 +34,7 @@ pub fn path(text: &[u8]) -> Result<(&str, &[u8]), FaultKind>
     }
 }
 
-/// No argument: the text is at its end.
+/// Reads no argument: the text must be at its end.
 pub fn none(text: &[u8]) -> Result<(), FaultKind>
     ensures { Gives (λ _. []) result (arguments [] text.now) }
 {
@@ -44,7 +45,7 @@ pub fn none(text: &[u8]) -> Result<(), FaultKind>
     }
 }
 
-/// One argument, and the text is at its end.
+/// Reads one argument, after which the text must be at its end.
 pub fn one<A: Argument + Drop>(alloc: Global, text: &[u8]) -> Result<A, FaultKind>
     ensures { Gives (λ a. A.seen a ∷ []) result (arguments (A.kind ∷ []) text.now) }
 {
@@ -53,7 +54,7 @@ pub fn one<A: Argument + Drop>(alloc: Global, text: &[u8]) -> Result<A, FaultKin
     Ok(a)
 }
 
-/// Two arguments, and the text is at its end.
+/// Reads two arguments, after which the text must be at its end.
 pub fn two<A: Argument + Drop, B: Argument + Drop>(
     alloc: Global,
     text: &[u8],
@@ -65,7 +66,7 @@ pub fn two<A: Argument + Drop, B: Argument + Drop>(
     Ok((a, b))
 }
 
-/// Three arguments, and the text is at its end.
+/// Reads three arguments, after which the text must be at its end.
 pub fn three<A: Argument + Drop, B: Argument + Drop, C: Argument + Drop>(
     alloc: Global,
     text: &[u8],
@@ -78,7 +79,7 @@ pub fn three<A: Argument + Drop, B: Argument + Drop, C: Argument + Drop>(
     Ok((a, b, c))
 }
 
-/// Four arguments, and the text is at its end.
+/// Reads four arguments, after which the text must be at its end.
 pub fn four<A: Argument + Drop, B: Argument + Drop, C: Argument + Drop, D: Argument + Drop>(
     alloc: Global,
     text: &[u8],

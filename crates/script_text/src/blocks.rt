@@ -23,7 +23,7 @@ impl Model for Blocks {
 }
 
 impl Blocks {
-    /// No grow-zone scripts.
+    /// Makes a list of no grow-zone scripts.
     pub fn new(alloc: Global) -> Blocks
         ensures { result ≡ [] }
     {
@@ -32,14 +32,14 @@ impl Blocks {
         }
     }
 
-    /// Whether there is a grow-zone script of this name.
+    /// Reports whether there is a grow-zone script of this name.
     pub fn has(&self, name: &Label) -> bool
         ensures { result ≡ has_block name.now.0.items self.now }
     {
         self.lines.contains_key(name)
     }
 
-    /// The lines of the grow-zone script of this name; none where there is no such script.
+    /// Returns the lines of the grow-zone script of this name; no lines where there is no such script.
     pub fn lines(&self, name: &Label) -> &[Line]
         ensures { result.now ≡ block_of name.now.0.items self.now }
     {
@@ -49,7 +49,7 @@ impl Blocks {
         }
     }
 
-    /// Adds a grow-zone script of a new name behind the others.
+    /// Adds a grow-zone script of a new name after the others. Nothing is added where the host is out of memory.
     pub fn add(&mut self, name: Label, lines: Vec<Line>) -> Result<(), AllocError>
         requires { has_block name.0.items self.old ≡ false }
         ensures added { OnOk result (self.new ≡ self.old ++ (name.0.items, lines.items) ∷ []) }

@@ -1,5 +1,5 @@
-//! The lines of desk.log, which says when applications were launched, how they ended, and what forks they wrote.
-//! Each function appends to a text; where the host refuses memory, the text may end in part of a line.
+//! The lines of desk.log, which records when applications were launched, how they ended, and which forks they wrote.
+//! Each function appends to a text; where the host is out of memory, the text may end in part of a line.
 
 ghost use Rattle.std.specs.Prelude.{◌≡◌, ◌++◌, OnOk, codes, decimal};
 ghost use Rattle.script_text.specs.DeskLog.{launch_of, refusal_of, end_of, fork_of};
@@ -21,7 +21,7 @@ pub fn write_app_launch(text: &mut Vec<u8>, name: &Label, size: u32) -> Result<(
     text.extend_from_slice(b"\n")
 }
 
-/// Appends the line of a launch that was refused: `launch`, the application's name and the code.
+/// Appends the line of a launch that was refused: `launch`, the application's name and the result code.
 pub fn write_app_refusal(text: &mut Vec<u8>, name: &Label, code: OsErr) -> Result<(), AllocError>
     ensures { OnOk result (text.new.items ≡ text.old.items ++ refusal_of name.now.0.items code.0) }
 {
@@ -32,7 +32,7 @@ pub fn write_app_refusal(text: &mut Vec<u8>, name: &Label, code: OsErr) -> Resul
     text.extend_from_slice(b"\n")
 }
 
-/// Appends the line of an application's end: `end`, its name and the code.
+/// Appends the line of an application's end: `end`, the application's name and the result code.
 pub fn write_app_end(text: &mut Vec<u8>, name: &Label, code: OsErr) -> Result<(), AllocError>
     ensures { OnOk result (text.new.items ≡ text.old.items ++ end_of name.now.0.items code.0) }
 {
@@ -43,7 +43,7 @@ pub fn write_app_end(text: &mut Vec<u8>, name: &Label, code: OsErr) -> Result<()
     text.extend_from_slice(b"\n")
 }
 
-/// Appends `fork`, an application's name, and the place of a file among the application's.
+/// Appends `fork`, an application's name, and the number of a file among the application's files.
 fn push_place(text: &mut Vec<u8>, name: &Label, place: usize) -> Result<(), AllocError>
     ensures { OnOk result (text.new.items
         ≡ text.old.items ++ (codes "fork " ++ name.now.0.items ++ codes " " ++ decimal place)) }
@@ -54,7 +54,7 @@ fn push_place(text: &mut Vec<u8>, name: &Label, place: usize) -> Result<(), Allo
     text.extend_from_slice(Buffer::new().format(place).as_bytes())
 }
 
-/// Appends a file's name in hexadecimal behind a `$`, and the length of its fork.
+/// Appends `$` and a file's name in hexadecimal, and the length of the file's fork.
 fn push_file(text: &mut Vec<u8>, file: &FileName, length: usize) -> Result<(), AllocError>
     ensures { OnOk result (text.new.items
         ≡ text.old.items ++ (codes " $" ++ hex file.now.0.items ++ codes " " ++ decimal length)) }
@@ -65,8 +65,9 @@ fn push_file(text: &mut Vec<u8>, file: &FileName, length: usize) -> Result<(), A
     text.extend_from_slice(Buffer::new().format(length).as_bytes())
 }
 
-/// Appends the line of a fork that was written: `fork`, the application's name, the place of the file among the
-/// application's from 0, the file's name as `$` and hexadecimal digits in lower case, and the fork's length in bytes.
+/// Appends the line of a fork that was written: `fork`, the application's name, the number of the file among the
+/// application's files, from 0, the file's name as `$` and hexadecimal digits in lower case, and the fork's length in
+/// bytes.
 pub fn write_app_fork(
     text: &mut Vec<u8>,
     name: &Label,

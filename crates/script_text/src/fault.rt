@@ -11,20 +11,20 @@ use std::alloc::{AllocError, AllocFailed};
 pub enum FaultKind {
     /// The line's first word is no call, or no word of a job. Outside a grow-zone script `end` is no call.
     UnknownCall,
-    /// An argument is missing, is one too many, or isn't spelled as its kind asks; the name of a new grow-zone script
-    /// is used already, or is `none`; a `grow` has no `end`, or `SetGrowZone` names a grow-zone script that isn't
-    /// there. In a job also a line that may not stand where it does.
+    /// An argument is missing, is one too many, or is not spelled as its kind asks; the name of a new grow-zone
+    /// script is used already, or is `none`; a `grow` has no `end`, or `SetGrowZone` names a grow-zone script that is
+    /// not there. In a job, a line that may not stand where it does has this fault too.
     BadArgument,
-    /// A call that a grow-zone script may not hold, or a `grow` in one.
+    /// The call may not stand in a grow-zone script, or is a `grow` in one.
     NotAllowed,
     /// The line has more than 65,535 bytes, its end not counted.
     LongLine,
-    /// The host refused memory. It says nothing of the text.
+    /// The host is out of memory. This fault says nothing about the text.
     HostMemory,
 }
 
 impl FaultKind {
-    /// The number by which a person is told the fault: 1 to 5, in the order of the variants.
+    /// Returns the number by which an error line names the fault: 1 to 5, in the order of the variants.
     pub fn number(self) -> u8
         ensures { result ≡ number_of self }
     {
@@ -54,16 +54,16 @@ impl<T: Drop> From<AllocFailed<T>> for FaultKind {
     }
 }
 
-/// Why a script or a job could not be read: its first faulty line and what is wrong with it.
+/// Why a script or a job could not be read: its first faulty line, and what is wrong with that line.
 #[derive(Clone, Copy, Debug, PartialEq, Eq)]
 pub struct ScriptFault {
-    /// The line, from 1 on, skipped lines counted; 0 for `HostMemory`.
+    /// The number of the line, from 1 on, skipped lines counted; 0 for `HostMemory`.
     pub line: usize,
     pub kind: FaultKind,
 }
 
 impl ScriptFault {
-    /// What is wrong with a line, with the line's number.
+    /// Makes the fault of the line `number`.
     pub(crate) fn at(number: usize, kind: FaultKind) -> ScriptFault
         ensures line { result.line ≡ line_of number kind }
         ensures kind { result.kind ≡ kind }

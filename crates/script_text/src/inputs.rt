@@ -1,4 +1,4 @@
-//! The inputs of a job, and which may follow others.
+//! The inputs of a job, and which input may follow which.
 
 ghost use Rattle.std.specs.Prelude.{◌≡◌, ◌<◌, ◌&&◌, nat_lt, not, map, length, take, drop, IfSome};
 ghost use Rattle.std.specs.List.{list_any};
@@ -30,7 +30,7 @@ fn app_count(inputs: &[Input]) -> usize
     count
 }
 
-/// The number of the application of this name, in the order of the `app` lines, from 0.
+/// Returns the number of the application of this name, counted from 0 in the order of the `app` lines.
 pub fn find_app(inputs: &[Input], wanted: &[u8]) -> Option<usize>
     ensures named { result ≡ app_named wanted.now (map input_seen inputs.now) }
     ensures below { IfSome result (λ number. number < length (app_names (map input_seen inputs.now))) }
@@ -47,7 +47,7 @@ pub fn find_app(inputs: &[Input], wanted: &[u8]) -> Option<usize>
     None
 }
 
-/// Whether the application of this number has this name.
+/// Reports whether the application of this number has this name.
 fn is_app_named(inputs: &[Input], wanted: usize, wanted_name: &[u8]) -> bool
     ensures { result ≡ has_name wanted_name.now (take 1 (drop wanted (app_names (map input_seen inputs.now)))) }
 {
@@ -77,7 +77,7 @@ fn file_count(inputs: &[Input], wanted: usize) -> usize
     count
 }
 
-/// Whether an application was given a file of this name.
+/// Reports whether a line gave an application a file of this name.
 fn has_file(inputs: &[Input], wanted: usize, wanted_name: &[u8]) -> bool
     ensures { result ≡ has_name wanted_name.now (given_names wanted (map input_seen inputs.now)) }
 {
@@ -91,7 +91,7 @@ fn has_file(inputs: &[Input], wanted: usize, wanted_name: &[u8]) -> bool
     false
 }
 
-/// Whether an application has this name.
+/// Reports whether an application has this name.
 #[tactic(auto, using(crate::proofs::JobInputs::found_among))]
 fn is_app(inputs: &[Input], name: &[u8]) -> bool
     ensures { result ≡ has_name name.now (app_names (map input_seen inputs.now)) }
@@ -99,7 +99,7 @@ fn is_app(inputs: &[Input], name: &[u8]) -> bool
     find_app(inputs, name).is_some()
 }
 
-/// Whether an application has a file of this name, its fork among them.
+/// Reports whether an application has a file of this name, its fork among its files.
 #[tactic(auto, using(crate::proofs::JobInputs::among_both))]
 fn is_file(inputs: &[Input], app: usize, name: &[u8]) -> bool
     ensures { result ≡ has_name name.now (file_names app (map input_seen inputs.now)) }
@@ -107,7 +107,7 @@ fn is_file(inputs: &[Input], app: usize, name: &[u8]) -> bool
     is_app_named(inputs, app, name) || has_file(inputs, app, name)
 }
 
-/// Whether an application may have one more file, of this name.
+/// Reports whether an application may have one more file, of this name.
 fn may_have_file(inputs: &[Input], app: usize, name: &[u8]) -> bool
     ensures { result ≡ (nat_lt (length (given_names app (map input_seen inputs.now))) 255
         && not (has_name name.now (file_names app (map input_seen inputs.now)))) }
@@ -115,8 +115,8 @@ fn may_have_file(inputs: &[Input], app: usize, name: &[u8]) -> bool
     file_count(inputs, app) < 255 && !is_file(inputs, app, name)
 }
 
-/// Whether an input may follow others: one System, 64 applications and 256 files of each at most, of names that are
-/// new.
+/// Reports whether an input may follow others: a job has at most one System file, 64 applications, and 256 files of
+/// each application with its fork, all of names that are new.
 pub fn fits(inputs: &[Input], input: &Input) -> bool
     ensures { result ≡ may_follow (map input_seen inputs.now) (input_seen input.now) }
 {

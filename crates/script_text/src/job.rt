@@ -1,4 +1,4 @@
-//! Jobs.
+//! Reading jobs.
 
 ghost use Rattle.std.specs.Prelude.{◌≡◌, ◌<◌, map, length, IsTrue, IfOk};
 ghost use Rattle.std.specs.Str.Lines.{lines};
@@ -19,42 +19,42 @@ use mac_words::{FileName, Label};
 use std::alloc::Global;
 use std::marker::Model;
 
-/// What a job takes from outside. Paths are lent: they stay where they stand in the job's text, and may be empty.
+/// What a job takes from outside. Paths are lent from the job's text, and may be empty.
 #[derive(Debug, Drop)]
 pub enum Input<'t> {
-    /// The System's fork.
+    /// The System file's fork.
     System {
-        /// Where the fork is read.
+        /// The path where the fork is read.
         path: &'t str,
     },
     /// An application. Applications have numbers from 0, in the order of their lines.
     App {
-        /// The application's name, that is also the name of its fork as a file.
+        /// The application's name, which is also the file name of its fork.
         name: Label,
-        /// Where its fork is read.
+        /// The path where the application's fork is read.
         fork: &'t str,
-        /// Where its script is read.
+        /// The path where the application's script is read.
         script: &'t str,
     },
-    /// A file of an application, besides its fork.
+    /// A file of an application, besides the application's fork.
     File {
         /// The application's number.
         app: usize,
         /// The file's name.
         name: FileName,
-        /// Where its fork is read.
+        /// The path where the file's fork is read.
         path: &'t str,
     },
 }
 
-/// An event of a job, of an application by its number.
+/// An event of a job; an application is given by its number.
 #[derive(Clone, Copy, Debug, PartialEq, Eq)]
 pub enum Event {
     /// The application is launched.
     Launch(usize),
     /// The application makes its next step.
     Step(usize),
-    /// The application makes steps up to the end of its turn.
+    /// The application makes a turn: its steps up to and including its next `WaitNextEvent`.
     Turn(usize),
     /// The application quits.
     Quit(usize),
@@ -62,7 +62,7 @@ pub enum Event {
     Rest,
 }
 
-/// A job as its text says it.
+/// A job as its text states it.
 #[derive(Debug, Drop)]
 pub struct JobText<'t> {
     /// The size of the memory in bytes.
@@ -73,7 +73,7 @@ pub struct JobText<'t> {
     pub events: Vec<Event>,
 }
 
-/// What was read so far.
+/// What the lines read so far have stated.
 #[derive(Drop)]
 struct Reader<'t> {
     alloc: Global,
@@ -94,7 +94,7 @@ impl<'t> Model for Reader<'t> {
     ghost invariant = { λ r. IsJobKept r.memory r.inputs.items r.events.items };
 }
 
-/// Whether a job may have so much memory.
+/// Reports whether a job may have a memory of `size` bytes: a multiple of 16 from 512 to 134,217,728.
 fn is_memory(size: u32) -> bool
     ensures { result ≡ is_memory_size size }
 {
@@ -102,7 +102,7 @@ fn is_memory(size: u32) -> bool
 }
 
 impl<'t> Reader<'t> {
-    /// Takes one more input, behind the memory and before all events.
+    /// Adds an input, which must stand after the memory and before all events.
     fn add_input(&mut self, input: Input<'t>) -> Result<(), FaultKind>
         ensures { Gives (λ _. self.new) result (with_input self.old (input_seen input.entry)) }
     {
@@ -114,7 +114,7 @@ impl<'t> Reader<'t> {
         }
     }
 
-    /// Takes one more event, behind the memory.
+    /// Adds an event, which must stand after the memory.
     #[tactic(auto, using(crate::proofs::JobKept::kept_with_event))]
     fn add_event(&mut self, event: Event) -> Result<(), FaultKind>
         requires { IsTrue (is_event_of (length (app_names self.old.inputs)) event) }
@@ -128,7 +128,7 @@ impl<'t> Reader<'t> {
         }
     }
 
-    /// Reads a line `memory N`.
+    /// Reads the rest of a line `memory N`.
     fn read_memory(&mut self, rest: &[u8]) -> Result<(), FaultKind>
         ensures { Gives (λ _. self.new) result (memory_line self.old rest.now) }
     {
@@ -140,7 +140,7 @@ impl<'t> Reader<'t> {
         Ok(())
     }
 
-    /// Reads a line `system PATH`.
+    /// Reads the rest of a line `system PATH`.
     fn read_system(&mut self, rest: &'t [u8]) -> Result<(), FaultKind>
         ensures { Gives (λ _. self.new) result (system_line self.old rest.now) }
     {
@@ -149,7 +149,7 @@ impl<'t> Reader<'t> {
         self.add_input(Input::System { path })
     }
 
-    /// Reads a line `app NAME FORK SCRIPT`.
+    /// Reads the rest of a line `app NAME FORK SCRIPT`.
     fn read_app(&mut self, rest: &'t [u8]) -> Result<(), FaultKind>
         ensures { Gives (λ _. self.new) result (app_line self.old rest.now) }
     {
@@ -160,7 +160,7 @@ impl<'t> Reader<'t> {
         self.add_input(Input::App { name, fork, script })
     }
 
-    /// Reads a line `file NAME FILE PATH`.
+    /// Reads the rest of a line `file NAME FILE PATH`.
     fn read_file(&mut self, rest: &'t [u8]) -> Result<(), FaultKind>
         ensures { Gives (λ _. self.new) result (file_line self.old rest.now) }
     {
@@ -174,7 +174,7 @@ impl<'t> Reader<'t> {
         }
     }
 
-    /// The number of the application that an event's line names.
+    /// Returns the number of the application that the line of an event names.
     fn read_owner(&self, rest: &[u8]) -> Result<usize, FaultKind>
         ensures owner { Gives (λ app. app) result (owner_at self.now rest.now) }
         ensures below { IfOk result (λ app. app < length (app_names self.now.inputs)) }
@@ -186,7 +186,7 @@ impl<'t> Reader<'t> {
         }
     }
 
-    /// Reads a line `rest`.
+    /// Reads the rest of a line `rest`.
     fn read_rest(&mut self, rest: &[u8]) -> Result<(), FaultKind>
         ensures { Gives (λ _. self.new) result (rest_line self.old rest.now) }
     {
@@ -194,7 +194,7 @@ impl<'t> Reader<'t> {
         self.add_event(Event::Rest)
     }
 
-    /// Reads one more line by its word.
+    /// Reads a line by its word and the rest of the line.
     fn read_word(&mut self, word: JobWord, rest: &'t [u8]) -> Result<(), FaultKind>
         ensures { Gives (λ _. self.new) result (with_word self.old word rest.now) }
     {
@@ -223,7 +223,7 @@ impl<'t> Reader<'t> {
         }
     }
 
-    /// Reads one more line by its first token.
+    /// Reads a line by its first token and the rest of the line.
     #[tactic(auto, unfolding(crate::specs::Job::with_token))]
     fn read_words(&mut self, token: &[u8], rest: &'t [u8]) -> Result<(), FaultKind>
         ensures { Gives (λ _. self.new) result (with_token self.old token.now rest.now) }
@@ -234,7 +234,7 @@ impl<'t> Reader<'t> {
         }
     }
 
-    /// Reads one more line.
+    /// Reads a line.
     #[tactic(auto, unfolding(crate::specs::Job::with_line))]
     fn read(&mut self, line: &'t [u8]) -> Result<(), FaultKind>
         ensures { Gives (λ _. self.new) result (with_line self.old line.now) }
@@ -253,7 +253,7 @@ impl<'t> Reader<'t> {
     }
 }
 
-/// The lines of a text in order.
+/// Reads the lines of a text in order.
 fn read_lines<'t>(alloc: Global, text: &'t [u8]) -> Result<Reader<'t>, ScriptFault>
     ensures { GivesAt (λ reader. reader) result (with_lines 1 nothing (lines text.now)) }
 {
@@ -277,36 +277,37 @@ fn read_lines<'t>(alloc: Global, text: &'t [u8]) -> Result<Reader<'t>, ScriptFau
     Ok(reader)
 }
 
-/// Reads a job. Its lines and tokens are those of a script. The first line that isn't skipped is `memory N`. Then come,
-/// in any order, `system PATH`, `app NAME FORK SCRIPT` and `file NAME FILE PATH`, each name defined before its use, and
-/// behind them all the events: `launch NAME`, `step NAME`, `turn NAME`, `quit NAME` and `rest`. Paths are UTF-8 in
-/// quotes, perhaps of no bytes.
+/// Reads a job. Its lines and tokens are those of a script. The first line that is not skipped is `memory N`. Then
+/// follow, in any order, `system PATH`, `app NAME FORK SCRIPT` and `file NAME FILE PATH`, each name defined before
+/// its use, and after them all the events: `launch NAME`, `step NAME`, `turn NAME`, `quit NAME` and `rest`. Paths are
+/// UTF-8 in quotes, and may be empty.
 ///
 /// # Errors
 ///
-/// The first faulty line, with its fault: in a line a length over 65,535 bytes comes first, then an unknown first word,
-/// then a bad argument. A line that may not stand where it does is a bad argument: any but `memory` as the first, a
-/// second `memory` or `system`, and an input behind an event. So is a memory that isn't a multiple of 16 from 512 to
-/// 134217728, a 65th application, a 256th file of one, an application's name that is used or isn't defined, and a
-/// file's name that its application has already, its own among them. A job with no line to read is a bad argument at
-/// line 1. `HostMemory` where the host refused memory.
+/// Returns the first faulty line with its fault. In a line, a length over 65,535 bytes comes first, then an unknown
+/// first word, then a bad argument. A line that may not stand where it does is a bad argument: any line but `memory`
+/// as the first, a second `memory` or `system`, and an input after an event. So is a memory that is not a multiple of
+/// 16 from 512 to 134217728, a 65th application, a 256th `file` line of one application, an application's name that
+/// is used already or is not defined, and a file's name that its application has already, the application's own name
+/// among them. A job without a line to read is a bad argument at line 1. The fault is `HostMemory` where the host is
+/// out of memory.
 #[tactic(auto, using(crate::proofs::JobInputs::files_in_order), unfolding(crate::specs::Job::job_of))]
 pub fn read_job<'t>(alloc: Global, text: &'t [u8]) -> Result<JobText<'t>, ScriptFault>
     ensures job { GivesAt job_seen result (job_of text.now) }
 
-    // Its memory is in its limits.
+    // The memory of the job is in its limits.
     ensures memory { IfOk result (λ job. IsMemory job.memory) }
 
-    // Each input may follow those before it: a file's application stands above it, and its name is new.
+    // Each input may follow those before it: a file's application stands above the file, and each name is new.
     ensures order { IfOk result (λ job. AreInOrder (map input_seen job.inputs.items)) }
 
-    // It has at most 64 applications, of names that differ.
+    // The job has at most 64 applications, whose names differ.
     ensures apps { IfOk result (λ job. AreApps (map input_seen job.inputs.items)) }
 
-    // Each application has at most 256 files, its fork among them, of names that differ.
+    // Each application has at most 256 files, its fork among them, whose names differ.
     ensures files { IfOk result (λ job. AreFiles (map input_seen job.inputs.items)) }
 
-    // Its events are of its applications.
+    // The events of the job are of the job's own applications.
     ensures events { IfOk result (λ job. AreEventsOf (map input_seen job.inputs.items) job.events.items) }
 {
     let reader = read_lines(alloc, text)?;

@@ -1,9 +1,9 @@
-//! The words that lines of a job begin with.
+//! The words with which the lines of a job begin.
 
 ghost use Rattle.std.specs.Prelude.{◌≡◌};
 ghost use Rattle.script_text.specs.Job.{spelling, word_spelled};
 
-/// The word that a line of a job begins with.
+/// The word with which a line of a job begins.
 #[derive(Clone, Copy)]
 pub enum JobWord {
     Memory,
@@ -30,7 +30,7 @@ static JOB_WORDS: [JobWord; 9] = [
 ];
 
 impl JobWord {
-    /// How the word is spelled.
+    /// Returns the spelling of the word.
     pub fn text(self) -> &'static [u8]
         ensures { result.now ≡ spelling self }
     {
@@ -47,7 +47,7 @@ impl JobWord {
         }
     }
 
-    /// The word that is spelled so.
+    /// Returns the word that a token spells.
     #[tactic(auto, unfolding(crate::specs::Job::word_spelled))]
     pub fn find(token: &[u8]) -> Option<JobWord>
         ensures { result ≡ word_spelled token.now }

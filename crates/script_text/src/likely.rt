@@ -1,4 +1,4 @@
-//! Words by their length.
+//! The words of calls, by their length.
 
 use crate::word::Word;
 
@@ -99,8 +99,8 @@ static OF_SEVENTEEN: [Word; 1] = [Word::Get1NamedResource];
 
 static OF_TWENTY_ONE: [Word; 1] = [Word::GetResourceSizeOnDisk];
 
-/// The words of so many letters, where a token of that length is looked for first. A word that is missing here is found
-/// all the same, among all.
+/// Returns the words of `length` letters, among which a token of that length is searched for first. A word that is
+/// missing here is found nevertheless, since all words are searched afterwards.
 pub fn likely(length: usize) -> &'static [Word] {
     match length {
         3 => &OF_THREE,

@@ -1,4 +1,4 @@
-//! Scripts.
+//! Reading scripts.
 
 ghost use Rattle.std.specs.Prelude.{◌≡◌, false, true, List, [], ◌∷◌, ◌++◌, map, IsTrue, IfOk, OnOk, codes, bytes_eq};
 ghost use Rattle.std.specs.Option.{option_map};
@@ -22,7 +22,7 @@ use mac_words::{Call, ControlCall, Label};
 use std::alloc::{AllocError, Global};
 use std::marker::Model;
 
-/// A line that holds a call.
+/// A line of a script that holds a call.
 #[derive(Debug, Drop)]
 pub struct Line {
     /// The line's number, from 1 on, skipped lines counted.
@@ -46,11 +46,11 @@ impl Model for Script {
 }
 
 impl Script {
-    /// The steps of the script. The lines of its grow-zone scripts are none.
+    /// Returns the steps of the script, without the lines of its grow-zone scripts.
     pub fn steps(&self) -> &[Line]
         ensures steps { result.now ≡ self.now.steps }
 
-        // Its grow-zone scripts hold no call that isn't allowed there.
+        // The grow-zone scripts hold only calls that are allowed in one.
         ensures allowed { AllAllowed self.now.blocks }
 
         // No grow-zone script is named `none`.
@@ -59,7 +59,7 @@ impl Script {
         &self.steps
     }
 
-    /// The lines of the grow-zone script of this name; none where there is no such script.
+    /// Returns the lines of the grow-zone script of this name; no lines where there is no such script.
     pub fn block(&self, name: &Label) -> &[Line]
         ensures { result.now ≡ block_of name.now.0.items self.now.blocks }
     {
@@ -70,13 +70,13 @@ impl Script {
 /// A grow-zone script whose `end` is still to come.
 #[derive(Drop)]
 struct Begun {
-    /// The line of its `grow`.
+    /// The number of its `grow` line.
     line: usize,
     name: Label,
     lines: Vec<Line>,
 }
 
-/// What was read so far.
+/// What the lines read so far have stated.
 #[derive(Drop)]
 struct Reader {
     alloc: Global,
@@ -97,7 +97,7 @@ impl Model for Reader {
     ghost invariant = { λ r. IsKept r.blocks r.begun };
 }
 
-/// Whether a name stands for no grow-zone script.
+/// Reports whether a name is `none`, which stands for no grow-zone script.
 fn names_none(name: &Label) -> bool
     ensures { result ≡ bytes_eq name.now.0.items (codes "none") }
 {
@@ -114,7 +114,7 @@ fn has_name(begun: &Option<Begun>, name: &Label) -> bool
 }
 
 impl Reader {
-    /// Takes a call as a step, or as a line of the grow-zone script whose `end` is still to come.
+    /// Adds a call as a step, or as a line of the grow-zone script whose `end` is still to come.
     fn take(&mut self, number: usize, word: Word, rest: &[u8]) -> Result<(), FaultKind>
         ensures { Gives (λ _. self.new) result (call_at number self.old word rest.now) }
     {
@@ -133,7 +133,7 @@ impl Reader {
         Ok(())
     }
 
-    /// Begins a grow-zone script.
+    /// Begins a grow-zone script at a line `grow NAME`.
     #[tactic(auto, using(crate::proofs::Naming::has_seen))]
     fn begin(&mut self, number: usize, rest: &[u8]) -> Result<(), FaultKind>
         ensures { Gives (λ _. self.new) result (grow_at number self.old rest.now) }
@@ -153,7 +153,7 @@ impl Reader {
         Ok(())
     }
 
-    /// Ends the grow-zone script whose `end` this is.
+    /// Ends the grow-zone script that is begun at a line `end`.
     fn finish(&mut self, rest: &[u8]) -> Result<(), FaultKind>
         ensures { Gives (λ _. self.new) result (end_at self.old self.old.begun rest.now) }
     {
@@ -165,7 +165,7 @@ impl Reader {
         Ok(())
     }
 
-    /// Reads the words of one more line.
+    /// Reads a line by its first token and the rest of the line.
     #[tactic(auto, unfolding(crate::specs::Script::with_token))]
     fn read_words(&mut self, number: usize, token: &[u8], rest: &[u8]) -> Result<(), FaultKind>
         ensures { Gives (λ _. self.new) result (with_token number self.old token.now rest.now) }
@@ -180,7 +180,7 @@ impl Reader {
         }
     }
 
-    /// Reads one more line.
+    /// Reads a line.
     #[tactic(auto, unfolding(crate::specs::Script::read_at))]
     fn read(&mut self, number: usize, line: &[u8]) -> Result<(), FaultKind>
         ensures { Gives (λ _. self.new) result (read_at number self.old line.now) }
@@ -198,7 +198,7 @@ impl Reader {
         }
     }
 
-    /// Whether a grow-zone script of this name is there, or the name stands for none.
+    /// Reports whether there is a grow-zone script of this name, or the name is `none`.
     #[tactic(auto, using(crate::proofs::Naming::has_seen))]
     fn is_there(&self, name: &Label) -> bool
         ensures { result ≡ is_there self.now name.now.0.items }
@@ -206,7 +206,7 @@ impl Reader {
         names_none(name) || self.blocks.has(name) || has_name(&self.begun, name)
     }
 
-    /// Whether a call sets a grow-zone script that isn't there.
+    /// Reports whether a call sets a grow-zone script that is not there.
     fn is_missing_for(&self, call: &Call) -> bool
         ensures { result ≡ sets_missing self.now (said_as call.now) }
     {
@@ -216,7 +216,8 @@ impl Reader {
         }
     }
 
-    /// The line where a grow-zone script is missing or has no `end`.
+    /// Returns the number of the first line that sets a grow-zone script that is not there, or of a `grow` line
+    /// without `end`.
     fn unfinished(&self) -> Option<usize>
         ensures { result ≡ unfinished self.now }
     {
@@ -227,7 +228,7 @@ impl Reader {
     }
 }
 
-/// The first of these lines that sets a grow-zone script that isn't there.
+/// Returns the number of the first of these lines that sets a grow-zone script that is not there.
 fn first_missing_for(reader: &Reader, lines: &[Line]) -> Option<usize>
     ensures { result ≡ first_missing reader.now (map statement lines.now) }
 {
@@ -239,7 +240,7 @@ fn first_missing_for(reader: &Reader, lines: &[Line]) -> Option<usize>
     None
 }
 
-/// The lines of a text in order.
+/// Reads the lines of a text in order.
 fn read_lines(alloc: Global, text: &[u8]) -> Result<Reader, ScriptFault>
     ensures { GivesAt (λ reader. reader) result (read_from 1 no_lines (lines text.now)) }
 {
@@ -263,23 +264,23 @@ fn read_lines(alloc: Global, text: &[u8]) -> Result<Reader, ScriptFault>
     Ok(reader)
 }
 
-/// Reads a script. A line ends with LF; a CR right before it is dropped, and the last LF may be missing.
-/// Tokens stand apart by spaces or tabs. A line without tokens, or whose first token begins with `#`, is
-/// skipped. Every other line is the name of a call and its arguments, or belongs to a grow-zone script: a line
-/// `grow NAME`, lines of calls that are no steps, and a line `end`. Its name is new, and isn't `none`.
+/// Reads a script. A line ends with LF; a CR right before the LF is dropped, and the last LF may be missing. Tokens
+/// are separated by spaces or tabs. A line without tokens, or whose first token begins with `#`, is skipped. Every
+/// other line is the name of a call and its arguments, or belongs to a grow-zone script: a line `grow NAME`, lines of
+/// calls, which are no steps, and a line `end`. The name of a grow-zone script is new, and is not `none`.
 ///
 /// # Errors
 ///
-/// The first faulty line, with its fault: in a line a length over 65,535 bytes comes first, then an unknown
-/// call (as `end` outside a grow-zone script), then a call that a grow-zone script may not hold (as `grow`), then a
-/// bad argument. Where no line is faulty, the first `grow` without `end`, or the first `SetGrowZone` whose grow-zone
-/// script is nowhere in the text, is a bad argument; `SetGrowZone none` never is. `HostMemory` where the host refused
-/// memory.
+/// Returns the first faulty line with its fault. In a line, a length over 65,535 bytes comes first, then an unknown
+/// call (such as `end` outside a grow-zone script), then a call that a grow-zone script may not hold (such as
+/// `grow`), then a bad argument. Where no line is faulty, the first `grow` without `end`, or the first `SetGrowZone`
+/// whose grow-zone script is nowhere in the text, is a bad argument; `SetGrowZone none` never is. The fault is
+/// `HostMemory` where the host is out of memory.
 #[tactic(auto, unfolding(crate::specs::Script::script_of))]
 pub fn read_script(alloc: Global, text: &[u8]) -> Result<Script, ScriptFault>
     ensures script { GivesAt spelled result (script_of text.now) }
 
-    // Its grow-zone scripts hold no call that isn't allowed there.
+    // The grow-zone scripts hold only calls that are allowed in one.
     ensures allowed { IfOk result (λ script. AllAllowed script.blocks) }
 
     // No grow-zone script is named `none`.

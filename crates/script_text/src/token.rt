@@ -31,7 +31,7 @@ fn quote_in(text: &[u8]) -> Option<usize>
     text.iter().position(|b| *b == b'"')
 }
 
-/// The text without its leading blanks.
+/// Returns the text without its leading blanks.
 #[tactic(auto, unfolding(crate::specs::Token::after_blanks))]
 pub fn trim(text: &[u8]) -> &[u8]
     ensures { result.now ≡ after_blanks text.now }
@@ -42,7 +42,7 @@ pub fn trim(text: &[u8]) -> &[u8]
     }
 }
 
-/// Where the first blank stands, or the end.
+/// Returns the place of the first blank of a text, or of the text's end.
 pub fn first_blank(text: &[u8]) -> usize
     ensures { result ≡ place is_blank text.now }
 {
@@ -69,7 +69,8 @@ fn ends_token(text: &[u8]) -> bool
     }
 }
 
-/// The token at the front, and the text behind it.
+/// Returns the token at the front of a text, and the text after it; a bad argument where the token does not end at a
+/// blank or at the end of the text.
 #[tactic(auto, unfolding(crate::specs::Token::token_at))]
 pub fn token(text: &[u8]) -> Result<(&[u8], &[u8]), FaultKind>
     ensures { Gives (λ cut. (cut.0.now, cut.1.now)) result (token_at text.now) }

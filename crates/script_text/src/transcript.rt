@@ -1,5 +1,5 @@
-//! Transcripts. Each function appends to a text; where the host refuses memory, the text may end in part
-//! of a line.
+//! The lines of a transcript. Each function appends to a text; where the host is out of memory, the text may end in
+//! part of a line.
 
 ghost use Rattle.std.specs.Prelude.{◌≡◌, ◌<◌, ◌++◌, OnOk, map};
 ghost use Rattle.std.specs.Option.{option_map};
@@ -13,7 +13,7 @@ use itoa::Buffer;
 use mac_words::{Name, OsErr, OsType, Reply};
 use std::alloc::AllocError;
 
-/// A hexadecimal digit in lower case.
+/// Returns the hexadecimal digit of a value below 16, in lower case.
 fn digit_of(value: u8) -> u8
     requires { value < 16 }
     ensures { result ≡ hex_digit value }
@@ -109,7 +109,7 @@ fn push_values(text: &mut Vec<u8>, reply: &Reply, bytes: Option<&[u8]>) -> Resul
     Ok(())
 }
 
-/// Appends a code in decimal.
+/// Appends a result code in decimal.
 pub(crate) fn push_code(text: &mut Vec<u8>, code: OsErr) -> Result<(), AllocError>
     ensures { OnOk result (text.new.items ≡ text.old.items ++ signed_decimal code.0) }
 {
@@ -129,7 +129,7 @@ pub fn write_launch(text: &mut Vec<u8>, size: u32) -> Result<(), AllocError>
     text.extend_from_slice(b"\n")
 }
 
-/// Appends the last line of a transcript: `end` and the code.
+/// Appends the last line of a transcript: `end` and the result code.
 pub fn write_end(text: &mut Vec<u8>, code: OsErr) -> Result<(), AllocError>
     ensures { OnOk result (text.new.items ≡ text.old.items ++ end_line code.0) }
 {
@@ -138,7 +138,7 @@ pub fn write_end(text: &mut Vec<u8>, code: OsErr) -> Result<(), AllocError>
     text.extend_from_slice(b"\n")
 }
 
-/// Appends where a call stands and how it is spelled.
+/// Appends the number of a call's line and the call's name.
 fn push_call(text: &mut Vec<u8>, line: usize, word: Word) -> Result<(), AllocError>
     ensures { OnOk result (text.new.items ≡ text.old.items ++ call_at line word) }
 {
@@ -147,7 +147,7 @@ fn push_call(text: &mut Vec<u8>, line: usize, word: Word) -> Result<(), AllocErr
     text.extend_from_slice(word.text())
 }
 
-/// Appends a code, and after code 0 the values.
+/// Appends a result code and, after code 0, the values.
 fn push_outcome(text: &mut Vec<u8>, reply: &Reply, bytes: Option<&[u8]>) -> Result<(), AllocError>
     ensures { OnOk result (text.new.items
         ≡ text.old.items ++ outcome reply.now.code.0 (values_of reply.now (option_map (λ b. b.now) bytes.entry))) }
@@ -161,8 +161,8 @@ fn push_outcome(text: &mut Vec<u8>, reply: &Reply, bytes: Option<&[u8]>) -> Resu
     }
 }
 
-/// Appends the line of a call: where it stands, its word, the reply's code and, after code 0, its values:
-/// the numbers in decimal, then the type, the name and `bytes`, what the call shows, each as `$` and
+/// Appends the line of a call: the number of its line, its name, the reply's result code and, after code 0, its
+/// values: the numbers in decimal, then the type, the name and `bytes`, which the call shows, each as `$` and
 /// hexadecimal digits in lower case.
 pub fn write_reply(
     text: &mut Vec<u8>,
@@ -180,7 +180,7 @@ pub fn write_reply(
     Ok(())
 }
 
-/// Appends the line of a call of a grow-zone script: the line that `write_reply` appends, behind a `+`.
+/// Appends the line of a call of a grow-zone script: a `+`, and the line that `write_reply` appends.
 pub fn write_grow_reply(
     text: &mut Vec<u8>,
     line: usize,

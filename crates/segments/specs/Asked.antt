@@ -9,8 +9,8 @@ use Rattle.res_calls.specs.Own.{own_handle}
 use Rattle.segments.specs.Calls.{Program, Answer, Called, Shown, load_seg, unload_seg, call_entry, show_entry}
 use Rattle.segments.specs.Calls.{code_type}
 
--- what a call came to: what it tells, what it read, the emptied handle that it reads again, whether it is refused for
--- want of room, and the program after it
+-- What a try of a call comes to: its reply as a transcript prints it, what it read, the empty handle into whose block
+-- it reads again, whether it is refused because there is no room, and the program after it.
 pub record Served : Type 0 where
   pub told : Told
   pub reads : Reads
@@ -18,7 +18,7 @@ pub record Served : Type 0 where
   pub wants : Bool
   pub after : Program
 
--- an answer as it is told
+-- An answer with its reply as a transcript prints it.
 abbrev pub telling : {T : Type 0} → (T → Told) → Answer T → Served
 telling tell a = record {
   told = told_as tell a.reply;
@@ -28,7 +28,7 @@ telling tell a = record {
   after = a.after;
 }
 
--- how a loaded segment, one that was called, and an entry are told
+-- How a transcript prints a loaded segment, a segment that was called, and an entry.
 abbrev pub tell_loaded : Fetched → Told
 tell_loaded f = Number f.read
 
@@ -38,19 +38,19 @@ tell_called c = tells.Entry c.segment c.read
 abbrev pub tell_shown : Shown → Told
 tell_shown e = tells.Entry e.segment (if e.loaded then 1 else 0)
 
--- one try of a call
+-- One try of a call.
 abbrev pub served : SegmentCall → Program → Served
 served (segment.LoadSeg n) p = telling tell_loaded (load_seg n p)
 served (segment.UnloadSeg n) p = telling (λ _. Done) (unload_seg n p)
 served (segment.CallEntry i) p = telling tell_called (call_entry i p)
 served (segment.ShowEntry i) p = telling tell_shown (show_entry i p)
 
--- a handle is this one
+-- Whether a handle is h.
 abbrev pub is_same : ℕ → Option ℕ → Bool
 is_same h None = false
 is_same h (Some k) = k == h
 
--- a call that unlocks a handle's block: it unloads its segment
+-- Whether a call unlocks the block of the handle h: it does where it unloads the segment of h.
 abbrev pub unlocks : ℕ → SegmentCall → Managers → Bool
 unlocks h (segment.UnloadSeg n) s = is_same h (own_handle code_type n s.resources)
 unlocks h call s = false

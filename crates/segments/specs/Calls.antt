@@ -11,20 +11,20 @@ use Rattle.res_calls.specs.Own.{own_datum, own_handle, fetch_own}
 use Rattle.res_calls.specs.Rows.{bars, with_memory}
 use Rattle.segments.specs.Table.{Entry, can_load, first_entry, entry_count, loaded_from, unloaded}
 
--- The calls of the Segment Manager, and calls through the jump table.
--- Inside Macintosh: Processes, chapter 7, "Segment Manager Routines".
+-- The calls of the Segment Manager, and calls through the jump table. Inside Macintosh: Processes, chapter 7,
+-- "Segment Manager Routines".
 
--- the type of segments
+-- The resource type of segments: 'CODE'.
 abbrev pub code_type : ℕ
 code_type = 0x434F4445
 
--- the managers of an application, and its jump table
+-- The managers of an application, and its jump table.
 pub record Program : Type 0 where
   pub managers : Managers
   pub table : List Entry
 
--- what a call answers: its reply, what it read, the emptied handle that it reads again, if there was room for that or
--- not, whether it is refused for want of room, and the program after it
+-- The answer of a call: its reply, what it read, the empty handle into whose block it reads again, whether or not
+-- there was room, whether it is refused because there is no room, and the program after it.
 pub record Answer (T : Type 0) : Type 0 where
   pub reply : Result T OsErr
   pub reads : Reads
@@ -32,20 +32,20 @@ pub record Answer (T : Type 0) : Type 0 where
   pub wants : Bool
   pub after : Program
 
--- a call that read nothing
+-- The answer of a call that is done and read nothing.
 abbrev pub done : {T : Type 0} → T → Program → Answer T
 done value p = record { reply = Ok value; reads = []; reading = None; wants = false; after = p }
 
--- a refusal, which changes nothing
+-- The answer of a call that is refused with a code, and changes nothing.
 abbrev pub refused : {T : Type 0} → OsErr → Program → Answer T
 refused code p = record { reply = Err code; reads = []; reading = None; wants = false; after = p }
 
--- the managers where a handle's block is held high
+-- The managers where the block of the handle h is moved to the top of its run, and locked there.
 abbrev pub held : ℕ → Managers → Managers
 held h s = with_memory (inside (held_high h) s.memory) s
 
--- a segment that was read, if it was, is held high, and the entries that it names are loaded; system error 15 where it
--- can't be loaded
+-- A segment whose resource was fetched: its block is held high, and the entries that the resource names are loaded;
+-- system error 15 where the segment cannot be loaded.
 abbrev pub load_fetched : ℤ → List ℕ → Fetched → fetching.Answer Fetched → List Entry → Answer Fetched
 load_fetched n code f a table = if can_load n code table
     then record {
@@ -65,7 +65,7 @@ load_fetched n code f a table = if can_load n code table
       after = record { managers = a.after; table = table };
     }
 
--- a segment that wasn't fetched: system error 15, for want of room or for another reason
+-- A segment whose resource could not be fetched: system error 15, because there is no room or for another reason.
 abbrev pub load_refused : OsErr → fetching.Answer Fetched → List Entry → Answer Fetched
 load_refused code a table = record {
   reply = Err SYSTEM_ERROR;
@@ -84,18 +84,19 @@ load_datum n None p = refused SYSTEM_ERROR p
 load_datum n (Some code) p =
     load_by n code (fetch_own code_type n p.managers).reply (fetch_own code_type n p.managers) p.table
 
--- LoadSeg: system error 15 where the fork isn't open, the number is 0, there is no such segment or no room for it, or
--- what its resource names isn't its own
+-- LoadSeg: fetches a segment's resource and loads its entries; system error 15 where the fork is not open, the number
+-- is 0, there is no such segment or no room for its block, or the entries that its resource names are not its own.
 abbrev pub load_seg : ℤ → Program → Answer Fetched
 load_seg n p = if int_eq n (pos 0) then refused SYSTEM_ERROR p
     else load_datum n (own_datum code_type n p.managers.resources) p
 
--- the managers where a segment's block, if it has one, is unlocked and may be emptied
+-- The managers where the block of a segment, if it has one, is unlocked and made purgeable.
 abbrev pub let_loose : Option ℕ → Managers → Managers
 let_loose None s = s
 let_loose (Some h) s = with_memory (inside (loosened h) s.memory) s
 
--- UnloadSeg: all entries of the segment are unloaded, whatever its resource names
+-- UnloadSeg: unloads all entries of a segment, whatever its resource names, and lets its block move and be purged;
+-- -117 (memLockedErr) where the segment's handle is busy.
 abbrev pub unload_handle : ℤ → Option ℕ → Program → Answer (Unit {0})
 unload_handle n handle p = if bars handle p.managers.memory then refused LOCKED p
     else done tt (record { managers = let_loose handle p.managers; table = unloaded n p.table })
@@ -103,12 +104,12 @@ unload_handle n handle p = if bars handle p.managers.memory then refused LOCKED 
 abbrev pub unload_seg : ℤ → Program → Answer (Unit {0})
 unload_seg n p = unload_handle n (own_handle code_type n p.managers.resources) p
 
--- a segment that was called through one of its entries, and how often it was read for that: once or not at all
+-- A segment that was called through one of its entries, and how often it was read for the call: once or not at all.
 pub record Called : Type 0 where
   pub segment : ℤ
   pub read : ℕ
 
--- the answer of a call through an entry, where its segment was loaded for it
+-- The answer of a call through an entry, where the entry's segment was loaded for the call.
 abbrev pub called : ℤ → Result Fetched OsErr → Result Called OsErr
 called n (Err code) = Err code
 called n (Ok f) = Ok (record { segment = n; read = f.read })
@@ -122,12 +123,12 @@ call_loading n a = record {
   after = a.after;
 }
 
--- a handle has a block
+-- Whether a handle has a block.
 abbrev pub is_there : Option ℕ → Managers → Bool
 is_there None s = false
 is_there (Some h) s = is_some (bytes_of h s.memory.heap)
 
--- a call through a loaded entry, whose segment may be gone all the same
+-- A call through a loaded entry; -30001 (profileErr) where its segment has no block all the same.
 abbrev pub call_loaded : ℤ → Program → Answer Called
 call_loaded n p = if is_there (own_handle code_type n p.managers.resources) p.managers
     then done (record { segment = n; read = 0 }) p else refused PROFILE p
@@ -140,11 +141,12 @@ abbrev pub call_found : Option Entry → Program → Answer Called
 call_found None p = refused PROFILE p
 call_found (Some e) p = call_through e.segment e.loaded p
 
--- CallEntry: an unloaded entry's segment is loaded first. System error 15 also where the entry belongs to none
+-- CallEntry: calls through an entry; the segment of an unloaded entry is loaded first. System error 15 also where the
+-- entry belongs to no segment, and -30001 (profileErr) where there is no such entry.
 abbrev pub call_entry : ℕ → Program → Answer Called
 call_entry i p = call_found (slice_get p.table i) p
 
--- an entry's segment, and whether it is loaded
+-- An entry's segment, and whether the entry is loaded.
 pub record Shown : Type 0 where
   pub segment : ℤ
   pub loaded : Bool
@@ -157,6 +159,7 @@ abbrev pub show_found : Option Entry → Program → Answer Shown
 show_found None p = refused PROFILE p
 show_found (Some e) p = show_of e.segment e.loaded p
 
--- ShowEntry
+-- ShowEntry: an entry's segment, and whether the entry is loaded; -30001 (profileErr) where there is no such entry,
+-- or it belongs to no segment.
 abbrev pub show_entry : ℕ → Program → Answer Shown
 show_entry i p = show_found (slice_get p.table i) p

@@ -20,10 +20,11 @@ use heap_calls::{Heap, Refusal};
 use mac_words::{OsErr, OsType};
 use res_calls::{Resources, Unread};
 
-/// The type of segments.
+/// The resource type of segments.
 const CODE: OsType = OsType(*b"CODE");
 
-/// A segment that wasn't fetched.
+/// Returns why a segment was not loaded whose resource could not be fetched: system error 15, and whether the fetch
+/// found no room; or the host is out of memory.
 fn unfetched(unread: Unread) -> Unloaded
     ensures answer { (n : ℤ) (code : List ℕ) (a : Fetch) (table : List Entry) (after : Managers)
         → IsUnread a unread.refusal unread.reading after
@@ -46,14 +47,16 @@ fn unfetched(unread: Unread) -> Unloaded
 }
 
 impl JumpTable {
-    /// `LoadSeg`: fetches 'CODE' of this ID from the application's own fork, whatever the current file is and whether
-    /// loading is on or not, moves its block high and locks it, and loads the entries that it names. Whether it was
-    /// read.
+    /// `LoadSeg`: fetches the resource of type 'CODE' with this ID from the application's own fork, whatever the
+    /// current resource file is and whether loading is on or off, moves its block to the top of the block's run and
+    /// locks the block there, and loads the entries that the resource names. Returns whether the resource was read
+    /// for the call.
     ///
-    /// It is refused with system error 15 where the fork isn't open, the segment is 0, there is no such resource or no
-    /// room for it, it has fewer than 4 bytes or is of the far model, the offset of its first entry is no multiple of
-    /// 8, or the entries that it names aren't all in the table and its own. A want of host memory leaves the table and
-    /// the resources as they were, and the heap too over a store that takes none.
+    /// Returns system error 15 where the fork is not open, the segment is 0, there is no such resource or no room for
+    /// its block, the resource has fewer than 4 bytes or is of the far model, the offset of its first entry is no
+    /// multiple of 8, or not all entries that it names are in the table and belong to the segment. Where the host is
+    /// out of memory, the table and the resources stay as they were; so does the heap over a store that takes no host
+    /// memory, and over another all of the heap but the zone and the count of moves.
     pub fn load<S: BlockStore>(
         &mut self,
         heap: &mut Heap<S>,
@@ -87,8 +90,9 @@ impl JumpTable {
         Ok(fetched.read)
     }
 
-    /// `UnloadSeg`: unlocks a segment's block, if it has one, and lets it be emptied, and unloads all its entries.
-    /// -117 where its handle is busy.
+    /// `UnloadSeg`: unlocks the block of a segment, if the segment has one, makes the block purgeable, and unloads
+    /// all entries of the segment. Returns -117 (memLockedErr), and changes nothing, where the segment's handle is
+    /// busy.
     pub fn unload<S: BlockStore>(
         &mut self,
         heap: &mut Heap<S>,
@@ -106,9 +110,10 @@ impl JumpTable {
         Ok(())
     }
 
-    /// `CallEntry`: calls the routine of an entry, counted from 0, and loads its segment first where the entry is
-    /// unloaded, as `load` does. -30001 where there is no such entry, or where it is loaded and its segment's block is
-    /// gone all the same; system error 15 where it belongs to no segment.
+    /// `CallEntry`: calls the routine of an entry, counted from 0; where the entry is unloaded, its segment is loaded
+    /// first, as `load` does. Returns -30001 (profileErr) where there is no such entry, or where the entry is loaded
+    /// although its segment has no block; system error 15 where the entry belongs to no segment, or where its segment
+    /// cannot be loaded.
     pub fn call<S: BlockStore>(
         &mut self,
         heap: &mut Heap<S>,
@@ -136,7 +141,7 @@ impl JumpTable {
         }
     }
 
-    /// Calls a routine whose segment is loaded for it.
+    /// Calls a routine whose segment is loaded for the call.
     fn call_loading<S: BlockStore>(
         &mut self,
         heap: &mut Heap<S>,
@@ -158,7 +163,7 @@ impl JumpTable {
     }
 }
 
-/// Calls a routine of a loaded segment.
+/// Calls a routine of a loaded segment; returns -30001 (profileErr) where the segment has no block.
 fn call_loaded<S: BlockStore>(
     heap: &Heap<S>,
     resources: &Resources,
@@ -178,7 +183,7 @@ fn call_loaded<S: BlockStore>(
     }
 }
 
-/// Whether there is a handle, and it has a block.
+/// Reports whether there is a handle and it has a block.
 fn is_there<S: BlockStore>(heap: &Heap<S>, handle: Option<usize>) -> bool
     ensures { (r : ResourcesValue) → result ≡ is_there handle (managers r heap.now) }
 {
@@ -188,7 +193,8 @@ fn is_there<S: BlockStore>(heap: &Heap<S>, handle: Option<usize>) -> bool
     }
 }
 
-/// Unlocks the block of a handle, if there is one, and lets it be emptied; -117 where the handle is busy.
+/// Unlocks the block of a handle, if there is a handle, and makes the block purgeable; returns -117 (memLockedErr)
+/// where the handle is busy.
 fn loosen_idle<S: BlockStore>(heap: &mut Heap<S>, handle: Option<usize>) -> Result<(), OsErr>
     ensures reply { result ≡ done_if (bars handle heap.old) }
     ensures after { (r : ResourcesValue) → managers r heap.new

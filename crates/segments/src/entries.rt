@@ -12,23 +12,23 @@ use crate::entry::Entry;
 use byteorder::{BigEndian, ByteOrder};
 use std::alloc::{AllocError, Global};
 
-/// The bytes of 'CODE' 0 before the first entry.
+/// The number of bytes of 'CODE' 0 before the first entry.
 const HEADER_SIZE: usize = 16;
-/// The bytes of an entry.
+/// The number of bytes of an entry.
 const ENTRY_SIZE: usize = 8;
-/// An instruction that pushes a segment's number.
+/// The instruction that pushes a segment's number.
 const PUSH_NUMBER: u16 = 0x3f3c;
 /// The trap of `LoadSeg`.
 const LOAD_SEG_TRAP: u16 = 0xa9f0;
-/// What a segment of the far model begins with.
+/// The word with which a segment of the far model begins.
 const FAR_MODEL: u16 = 0xffff;
 
 /// Entries that follow one another.
 #[derive(Clone, Copy)]
 pub(crate) struct Named {
-    /// The place of the first one.
+    /// The place of the first entry.
     pub(crate) first: usize,
-    /// How many there are.
+    /// The number of entries.
     pub(crate) count: usize,
 }
 
@@ -39,7 +39,7 @@ fn half(bytes: &[u8], at: usize) -> u16
     BigEndian::read_u16(&bytes[at..])
 }
 
-/// The segment of the entry at an offset of 'CODE' 0; none where it is of another form than an unloaded one.
+/// Returns the segment of the entry at an offset of 'CODE' 0; `None` where the entry is not of the unloaded form.
 fn segment_at(code: &[u8], at: usize) -> Option<i16>
     requires { at + 8 ≤ length code.now }
     ensures { result ≡ (table.entry_at code.now at).segment }
@@ -51,7 +51,7 @@ fn segment_at(code: &[u8], at: usize) -> Option<i16>
     }
 }
 
-/// The entry at an offset of 'CODE' 0.
+/// Returns the entry at an offset of 'CODE' 0.
 fn entry_at(code: &[u8], at: usize) -> Entry
     requires { at + 8 ≤ length code.now }
     ensures { view_entry result ≡ table.entry_at code.now at }
@@ -62,7 +62,7 @@ fn entry_at(code: &[u8], at: usize) -> Entry
     }
 }
 
-/// How many entries 'CODE' 0 has: as many as both the table's length and the resource hold.
+/// Returns the number of entries of 'CODE' 0: as many as both the table's length and the resource hold.
 fn entries_of(code: &[u8]) -> usize
     requires { 16 ≤ length code.now }
     ensures count { result ≡ table.entries_of code.now }
@@ -73,7 +73,7 @@ fn entries_of(code: &[u8]) -> usize
     told.min(held)
 }
 
-/// The entries of 'CODE' 0, of which none is loaded.
+/// Reads the entries of 'CODE' 0, none of them loaded.
 #[tactic(auto, using(fork_format::proofs::Loops::pushed_goes_on))]
 fn read_entries(alloc: Global, code: &[u8]) -> Result<Vec<Entry>, AllocError>
     requires { 16 ≤ length code.now }
@@ -90,7 +90,7 @@ fn read_entries(alloc: Global, code: &[u8]) -> Result<Vec<Entry>, AllocError>
     Ok(entries)
 }
 
-/// The jump table of 'CODE' 0; fewer than 16 bytes hold no entry.
+/// Reads the jump table of 'CODE' 0; fewer than 16 bytes hold no entry.
 pub fn read_table(alloc: Global, code: &[u8]) -> Result<Vec<Entry>, AllocError>
     ensures { IfOk result (λ v. view_entries v.items ≡ table.table_of code.now) }
 {
@@ -101,21 +101,21 @@ pub fn read_table(alloc: Global, code: &[u8]) -> Result<Vec<Entry>, AllocError>
 }
 
 impl Entry {
-    /// Whether it is of a segment.
+    /// Reports whether the entry belongs to a segment.
     fn is_of(&self, segment: i16) -> bool
         ensures { result ≡ is_of segment (view_entry self.now) }
     {
         self.segment == Some(segment)
     }
 
-    /// The same entry, loaded or not.
+    /// Returns the same entry, loaded or unloaded.
     fn set_loaded(self, loaded: bool) -> Entry
         ensures { view_entry result ≡ set_loaded loaded (view_entry self) }
     {
         Entry { loaded, ..self }
     }
 
-    /// The same entry, unloaded if it is of a segment.
+    /// Returns the same entry, unloaded if it belongs to a segment.
     fn unloaded(self, segment: i16) -> Entry
         ensures { view_entry result ≡ table.unloaded_of segment (view_entry self) }
     {
@@ -127,7 +127,7 @@ impl Entry {
     }
 }
 
-/// Whether entries are all in the table, and of a segment.
+/// Reports whether the named entries are all in the table, and belong to a segment.
 fn are_own(entries: &[Entry], named: Named, segment: i16) -> bool
     requires { named.first + named.count < 2 ^ 32 }
     ensures { result ≡ are_own segment named.first named.count (view_entries entries.now) }
@@ -141,8 +141,9 @@ fn are_own(entries: &[Entry], named: Named, segment: i16) -> bool
     true
 }
 
-/// The entries that a segment's resource names as it begins, where it can be loaded: it isn't of the far model, and
-/// they are all in the table and of the segment.
+/// Returns the entries that a segment's resource names in its first 4 bytes, where the segment can be loaded: the
+/// resource has 4 bytes and is not of the far model, the offset of the first entry is a multiple of 8, and the
+/// entries are all in the table and belong to the segment.
 pub fn named_by(code: &[u8], entries: &[Entry], segment: i16) -> Option<Named>
     ensures named { result ≡ named_by segment code.now (view_entries entries.now) }
     ensures small { IfSome result (λ n. n.first + n.count < 2 ^ 32) }
@@ -165,7 +166,7 @@ pub fn named_by(code: &[u8], entries: &[Entry], segment: i16) -> Option<Named>
     }
 }
 
-/// Loads the entry in a place; where there is none, nothing is done.
+/// Loads the entry in a place; nothing is done where there is none.
 fn load_entry(entries: &mut [Entry], at: usize)
     ensures { view_entries entries.new ≡ loaded_from at 1 (view_entries entries.old) }
 {

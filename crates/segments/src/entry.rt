@@ -3,8 +3,8 @@
 /// An entry of a jump table.
 #[derive(Clone, Copy)]
 pub(crate) struct Entry {
-    /// Its segment, if it belongs to one.
+    /// The entry's segment, if the entry belongs to one.
     pub(crate) segment: Option<i16>,
-    /// Whether it is loaded.
+    /// Whether the entry is loaded.
     pub(crate) loaded: bool,
 }

@@ -16,7 +16,8 @@ use mac_words::OsErr;
 use std::alloc::{AllocError, Global};
 use std::marker::Model;
 
-/// The jump table of an application, through which its segments call each other. It takes no room in the zone.
+/// The jump table of an application, through which its segments call one another. The table takes no room in the
+/// zone.
 ///
 /// *Inside Macintosh: Processes*, chapter 7, "The Jump Table".
 #[derive(Drop)]
@@ -35,8 +36,8 @@ impl Model for JumpTable {
 }
 
 impl JumpTable {
-    /// The jump table of 'CODE' 0, with no segment loaded: as many entries as both the table's length and the resource
-    /// hold. None where there is no 'CODE' 0, or it has fewer than 16 bytes.
+    /// Reads the jump table of 'CODE' 0, with no segment loaded: as many entries as both the table's length and the
+    /// resource hold, and no entry where there is no 'CODE' 0, or fewer than 16 bytes of it.
     ///
     /// *Inside Macintosh: Processes*, chapter 7, "The Jump Table Segment".
     pub fn read(alloc: Global, code: Option<&[u8]>) -> Result<JumpTable, AllocError>
@@ -49,14 +50,14 @@ impl JumpTable {
         Ok(JumpTable { entries })
     }
 
-    /// An entry, counted from 0.
+    /// Returns an entry, counted from 0.
     pub(crate) fn entry(&self, index: u32) -> Option<Entry>
         ensures { option_map view_entry result ≡ slice_get self.now index }
     {
         self.entries.get(index as usize).copied()
     }
 
-    /// The entries that a segment's resource names, where it can be loaded.
+    /// Returns the entries that a segment's resource names, where the segment can be loaded.
     pub(crate) fn named_by(&self, code: &[u8], segment: i16) -> Option<Named>
         ensures named { result ≡ named_by segment code.now self.now }
         ensures small { IfSome result (λ n. n.first + n.count < 2 ^ 32) }
@@ -79,7 +80,8 @@ impl JumpTable {
         unload_entries(&mut self.entries, segment);
     }
 
-    /// `ShowEntry`: an entry, counted from 0. -30001 where there is none, or it belongs to no segment.
+    /// `ShowEntry`: returns the segment of an entry, counted from 0, and whether the entry is loaded. Returns -30001
+    /// (profileErr) where there is no such entry, or where the entry belongs to no segment.
     pub fn show(&self, index: u32) -> Result<Shown, OsErr>
         ensures { (s : Managers) → (show_entry index (record { managers = s; table = self.now })).reply
             ≡ shown_as result }

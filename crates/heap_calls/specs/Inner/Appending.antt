@@ -6,26 +6,27 @@ use Rattle.block_store.specs.Room.{Spot, spot}
 use Rattle.heap_calls.specs.Copying.{written_in}
 use Rattle.heap_calls.specs.Inner.Growing.{fitted}
 
--- bytes behind those of a block
+-- Bytes appended to a block.
 
--- a size, if a block can have it
+-- A size, if a block can have it.
 abbrev pub size_for : ℕ → Option ℕ
 size_for n = if is_some (phys n) then Some n else None
 
--- the zone with x behind the first len bytes of the block of a slot
+-- The zone with x written after the first len bytes of the block of a slot.
 abbrev pub behind : ℕ → ℕ → List ℕ → List Block → List Block
 behind slot len x zone = written_in slot len x zone (spot (is_relocatable slot) zone)
 
--- the zone with the block of a slot, of len bytes, grown and x behind them, where there is room
+-- The zone where the block of a slot, of len bytes, has grown and x is written after them; `None` where there is no
+-- room.
 abbrev pub lengthened : (Block → Bool) → ℕ → ℕ → List ℕ → List Block → Option (List Block)
 lengthened spared slot len x zone = option_map (behind slot len x)
     (fitted (is_relocatable slot) spared (len + length x) zone)
 
--- the bytes of the block of a spot
+-- The bytes of the block at a spot.
 abbrev pub bytes_of : Option Spot → List ℕ
 bytes_of None = []
 bytes_of (Some s) = content_of s.here
 
--- how many bytes the block of a slot has
+-- The logical size in bytes of the block of a slot.
 abbrev pub length_of : ℕ → List Block → ℕ
 length_of slot zone = length (bytes_of (spot (is_relocatable slot) zone))

@@ -8,15 +8,15 @@ use Rattle.heap_calls.specs.Inner.Search.{tries}
 
 -- Room at the base of a run.
 
--- the run for a block of p bytes that doesn't move, after as few purges as give one
+-- The run for a block of p bytes that does not move, after as few purges as serve.
 abbrev pub base : ℕ → Sparing → List Block → Option RunSpot
 base p sparing zone = least (λ k. run_spot (has_free p) (purged k sparing zone)) (most_purges sparing zone)
 
--- the searches that this takes
+-- The number of searches for that run.
 abbrev pub base_searches : ℕ → Sparing → List Block → ℕ
 base_searches p sparing zone = tries (λ k. run_spot (has_free p) (purged k sparing zone)) (most_purges sparing zone)
 
--- a place where p bytes are Free at the bottom of a run, so that a block put there stands at the bottom
+-- A place where p bytes are free at the bottom of a run, so that a block put there stands at the bottom of the run.
 pub record IsBase (p : ℕ) (r : RunSpot) (zone : List Block) (place : ℕ) : Type 0 where
   pub s : Spot
   pub at : spot_at place zone ≡ Some s
@@ -24,7 +24,7 @@ pub record IsBase (p : ℕ) (r : RunSpot) (zone : List Block) (place : ℕ) : Ty
   pub distance : sizes s.below ≡ place
   pub fills : (new : Block) → size new ≡ p → free_of new ≡ 0 → filled new s ≡ tidy (with_run (low new) r)
 
--- the bottom of the wanted run, with p Free bytes, is a zone's at a place
+-- The bottom of the wanted run, with p free bytes, is at this place in the zone; `None` where no run is wanted.
 abbrev pub IsBaseAt : ℕ → Option RunSpot → List Block → Option ℕ → Type 0
 IsBaseAt p wanted zone None = wanted ≡ None
 IsBaseAt p wanted zone (Some place) = (r : RunSpot) × (wanted ≡ Some r) × (zone ≡ tidy (with_run (low (Free p)) r))

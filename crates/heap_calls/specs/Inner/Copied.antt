@@ -8,7 +8,8 @@ use Rattle.heap_calls.specs.Inner.NewBlock.{IsPut, IsNewBlock}
 
 -- Copies of blocks in a store.
 
--- a new block of as many bytes 0 was put in its place, and is as a block with the bytes of another would be
+-- A new block of n bytes was put in its place, and the zone is what it would be had a block with the bytes of the
+-- source been put there.
 pub record IsCopied (source n slot : ℕ) (zone : List Block) (rest : Rest) (zone' : List Block) (rest' : Rest) : Type 0
   where
     pub made : List Block
@@ -18,7 +19,7 @@ pub record IsCopied (source n slot : ℕ) (zone : List Block) (rest : Rest) (zon
         (put_in_place (Relocatable slot no_flags (content_of s.here))) (is_relocatable source) put.ready ≡ Some zone')
     pub kept : IsRest mid rest'
 
--- the slot of a copy, or that none could be made
+-- The slot of a copy; `None` where no copy could be made.
 abbrev pub IsCopy : ℕ → ℕ → List Block → Rest → Option ℕ → List Block → Rest → Type 0
 IsCopy source n zone rest (Some slot) zone' rest' = IsCopied source n slot zone rest zone' rest'
 IsCopy source n zone rest None zone' rest' = IsNewBlock (One source) n zone rest None zone' rest'

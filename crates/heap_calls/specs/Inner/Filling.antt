@@ -17,22 +17,23 @@ use Rattle.heap_calls.specs.declared.search.Room.{Room}
 use Rattle.heap_calls.specs.declared.refusal.Refusal.{Refusal}
 use Rattle.heap_calls.specs.Inner.NewBlock.{fresh_block, IsPut, IsNewBlock}
 
--- Blocks that get flags and bytes of their own.
+-- Blocks with given flags and bytes.
 
--- so many bytes as the size of a block; where no block has so many, a size that no block has
+-- n is the wanted number of bytes; or no block can have the wanted number, nor n.
 abbrev pub IsSizeOf : ℕ → ℕ → Type 0
 IsSizeOf wanted n = (n ≡ wanted) ⊎ ((phys n ≡ None) × (phys wanted ≡ None))
 
--- the block of a slot is there, and new
+-- The block of a slot is there, and is new.
 abbrev pub IsFresh : ℕ → ℕ → List Block → Type 0
 IsFresh slot n zone = IsSomeAnd (spot (is_relocatable slot) zone) (λ s. s.here ≡ fresh_block slot n)
 
--- the block of a slot has these flags and bytes in place of its own
+-- The block of a slot has these flags and bytes in place of its own.
 abbrev pub IsReplaced : ℕ → Flags → List ℕ → List Block → List Block → Type 0
 IsReplaced slot flags x zone zone' = IfSome (spot (is_relocatable slot) zone) (λ s.
     zone' ≡ s.below ++ Relocatable slot flags x ∷ s.above)
 
--- a new block was put in its place, and is as one with these flags and bytes would be
+-- A new block was put in its place, and the zone is what it would be had a block with these flags and bytes been put
+-- there.
 pub record IsFilled (flags : Flags) (x : List ℕ) (slot : ℕ) (zone : List Block) (rest : Rest) (zone' : List Block)
     (rest' : Rest) : Type 0 where
   pub made : List Block
@@ -41,27 +42,27 @@ pub record IsFilled (flags : Flags) (x : List ℕ) (slot : ℕ) (zone : List Blo
   pub filled : room (put_in_place (Relocatable slot flags x)) nothing put.ready ≡ Some zone'
   pub kept : IsRest mid rest'
 
--- the slot of a block with these flags and bytes, or that none could be made
+-- The slot of a new block with these flags and bytes; `None` where none could be made.
 abbrev pub IsFilling : Flags → List ℕ → List Block → Rest → Option ℕ → List Block → Rest → Type 0
 IsFilling flags x zone rest (Some slot) zone' rest' = IsFilled flags x slot zone rest zone' rest'
 IsFilling flags x zone rest None zone' rest' = IsNewBlock Nothing (length x) zone rest None zone' rest'
 
--- the zone with a block of these flags and bytes for a name that has none, where it can be had
+-- The zone with a block of these flags and bytes for a name that has none; `None` where there is no room.
 abbrev pub refilled : ℕ → Flags → List ℕ → List Block → Option (List Block)
 refilled name flags x zone = if is_some (phys (length x)) then room (put_in_place (Relocatable name flags x)) nothing
     zone else None
 
--- the looks that this takes
+-- The number of searches for its room.
 abbrev pub refilled_searches : ℕ → ℕ → List Block → ℕ
 refilled_searches name n zone = if is_some (phys n) then room_searches
     (put_in_place (Relocatable name no_flags (replicate n 0))) nothing zone else 0
 
--- the blocks that packing for it moves
+-- The number of blocks that packing moves down for it.
 abbrev pub refilled_moves : ℕ → ℕ → List Block → ℕ
 refilled_moves name n zone = if is_some (phys n) then put_moves (Relocatable name no_flags (replicate n 0)) nothing zone
     else 0
 
--- a slot was given a block again, or there was no room and nothing changed
+-- A slot was given a block again, or there was no room and nothing changed.
 pub record IsRefilling (slot : ℕ) (flags : Flags) (x : List ℕ) (zone : List Block) (rest : Rest) (room : Room)
     (zone' : List Block) (rest' : Rest) : Type 0 where
   pub none : MatchOption room.place ((refilled slot flags x zone ≡ None) × (zone' ≡ zone))
@@ -69,22 +70,23 @@ pub record IsRefilling (slot : ℕ) (flags : Flags) (x : List ℕ) (zone : List 
   pub searches : room.searches ≡ refilled_searches slot (length x) zone
   pub slots : KeepsSlots rest rest'
 
--- the same; where the host had no memory the slots are what they were
+-- A slot was given a block again, or there was no room and nothing changed; where the host was out of memory, the
+-- slots are what they were.
 abbrev pub IsRefilled : {E : Type 0} → ℕ → Flags → List ℕ → List Block → Rest → Result Room E → List Block → Rest
     → Type 0
 IsRefilled slot flags x zone rest (Ok room) zone' rest' = IsRefilling slot flags x zone rest room zone' rest'
 IsRefilled slot flags x zone rest (Err error) zone' rest' = KeepsSlots rest rest'
 
--- the heap whose new handle, if one was made, becomes a resource's
+-- The heap in which the new handle, if one was made, is a resource's.
 abbrev pub owned_by : Bool → Result ℕ Refusal → State → State
 owned_by guarded (Ok number) s = cast (λ _. resource_role guarded) number s
 owned_by guarded (Err refusal) s = s
 
--- the flags and the bytes of a resource that is wanted
+-- The flags and the bytes of a wanted resource.
 abbrev pub wanted_as : Filling → Flags × List ℕ
 wanted_as w = (w.flags, w.bytes.now)
 
--- a resource was made next, or found no room
+-- The next resource was made, or found no room.
 abbrev pub IsNext : Flags → List ℕ → Memory → Option ℕ → Memory → Type 0
 IsNext flags x old number new = (number_if (new_inside Resource flags x old).0 ≡ number)
     × ((new_inside Resource flags x old).1 ≡ new)

@@ -19,49 +19,53 @@ use Rattle.heap_calls.specs.declared.anchor.Anchor.TheVariants as entry
 use Rattle.heap_calls.specs.declared.anchor.Found.{Found}
 use Rattle.block_store.specs.declared.measures.TheConstants.{GREATEST_ZONE, HEADER_SIZE}
 
--- what is given back, and the state after it, are the answer; where the host had no memory nothing is said
+-- The result of a method and the state after it are the answer of a definition; nothing is said where the host was
+-- out of memory.
 abbrev pub IsAnswer : {T S : Type 0} → Result T OsErr × S → Result T Refusal → S → Type 0
 IsAnswer answer (Ok value) after = answer ≡ (Ok value, after)
 IsAnswer answer (Err (Code code)) after = answer ≡ (Err code, after)
 IsAnswer answer (Err HostMemory) after = Unit {0}
 
--- the same where bytes are lent
+-- The result of a method that lends bytes and the state after it are the answer of a definition; nothing is said
+-- where the host was out of memory.
 abbrev pub IsShown : {S : Type 0} → Result (List ℕ) OsErr × S → Result (Bor (List ℕ)) Refusal → S → Type 0
 IsShown answer (Ok bytes) after = answer ≡ (Ok bytes.now, after)
 IsShown answer (Err (Code code)) after = answer ≡ (Err code, after)
 IsShown answer (Err HostMemory) after = Unit {0}
 
--- all but the blocks of the zone is what it was, and how often packing moved one down
+-- All but the blocks of the zone and the count of moves is what it was.
 abbrev pub KeepsNames : Memory → Memory → Type 0
 KeepsNames old new = new ≡ record old { heap = record old.heap { zone = new.heap.zone }; moves = new.moves }
 
--- all but the blocks of the zone is what it was, and none was packed
+-- All but the blocks of the zone is what it was, and no move was counted.
 abbrev pub KeepsMoves : Memory → Memory → Type 0
 KeepsMoves old new = new ≡ record old { heap = record old.heap { zone = new.heap.zone } }
 
--- the code of the last call after one that gave this; where the host had no memory it stays
+-- The code that MemError returns after a result, from the code before; where the host was out of memory the code
+-- stays.
 abbrev pub last_after : {T : Type 0} → Result T Refusal → OsErr → OsErr
 last_after (Ok value) last = NO_ERR
 last_after (Err (Code code)) last = code
 last_after (Err HostMemory) last = last
 
--- a handle, its slot, and whether it is guarded
+-- A handle: its number, its slot, and whether it is guarded.
 abbrev pub found : ℕ → ℕ → Bool → Found
 found number slot guarded = record { number = number; slot = slot; guarded = guarded }
 
--- the slot of a handle's entry; or why it has none: never given, a pointer, or disposed of
+-- The slot of a handle's entry; -109 (nilHandleErr) where the number was never given, -111 (memWZErr) where it is a
+-- pointer's or was disposed of.
 abbrev pub slot_at : ℕ → Option Anchor → Result Found Refusal
 slot_at h None = Err (Code NIL_HANDLE)
 slot_at h (Some (entry.Handle slot guarded)) = Ok (found h slot guarded)
 slot_at h (Some (entry.Pointer place)) = Err (Code WRONG_ZONE)
 slot_at h (Some entry.Disposed) = Err (Code WRONG_ZONE)
 
--- the slot of the handle that a name is bound to
+-- The slot of the handle that a name is bound to; -109 (nilHandleErr) where the name is unbound.
 abbrev pub slot_of : Option ℕ → List Anchor → Result Found Refusal
 slot_of None es = Err (Code NIL_HANDLE)
 slot_of (Some h) es = slot_at h (slice_get es h)
 
--- the store's place of the block of a handle; or why there is none
+-- The store's place of the block of a handle, or the code that says why there is none.
 abbrev pub FindsBlock : List Block → (ℕ → Slot) → List Anchor → Option ℕ → Result ℕ Refusal → Type 0
 FindsBlock zone slots es handle (Ok place) =
     (h : ℕ) × (s : Spot) × (look_up handle (state_of zone slots es)
@@ -71,7 +75,7 @@ FindsBlock zone slots es handle (Ok place) =
 FindsBlock zone slots es handle (Err (Code code)) = look_up handle (state_of zone slots es) ≡ Err code
 FindsBlock zone slots es handle (Err HostMemory) = ⊥
 
--- the flags of a block that was looked at, where it is a relocatable one
+-- The flags of a block, as it is seen; `None` unless it is a relocatable block.
 abbrev pub seen_flags : Option Seen → Option Flags
 seen_flags None = None
 seen_flags (Some (see.Free n)) = None
@@ -79,7 +83,7 @@ seen_flags (Some (see.Fixed n)) = None
 seen_flags (Some see.Masters) = None
 seen_flags (Some (see.Relocatable slot flags n)) = Some flags
 
--- a block that was looked at, if there was one, is an unlocked relocatable one
+-- Whether a block, as it is seen, is an unlocked relocatable block.
 abbrev pub seen_mover : Option Seen → Bool
 seen_mover None = false
 seen_mover (Some (see.Free n)) = false
@@ -87,7 +91,7 @@ seen_mover (Some (see.Fixed n)) = false
 seen_mover (Some see.Masters) = false
 seen_mover (Some (see.Relocatable slot flags n)) = not flags.locked
 
--- a block that was looked at, if there was one, is of those that a run is made of
+-- Whether a block, as it is seen, belongs to a run: a free block or an unlocked relocatable block.
 abbrev pub seen_in_run : Option Seen → Bool
 seen_in_run None = false
 seen_in_run (Some (see.Free n)) = true

@@ -14,12 +14,13 @@ use Rattle.heap_calls.specs.Inner.Search.{FindsSeat, tries}
 use Rattle.heap_calls.specs.declared.growing.Growth.{Growth}
 use Rattle.heap_calls.specs.declared.growing.Growth.TheVariants as grows
 
--- the block that passes, at n bytes of content
+-- The block at a spot, with n bytes of content.
 abbrev pub grown : ℕ → Option Spot → Block
 grown n None = Masters
 grown n (Some s) = resized n s.here
 
--- how a block grows in a zone, by the first that serves
+-- How the block that passes a test grows in a zone to the block `new`, by the first way that serves; `None` where
+-- none does.
 abbrev pub FindsGrowth : (Block → Bool) → Block → List Block → Option Growth → Type 0
 FindsGrowth test new zone None = grow_mover test new zone ≡ None
 FindsGrowth test new zone (Some grows.Up) = (s : Spot) × (spot test zone ≡ Some s) × (is_some (grow_up new s) ≡ true)
@@ -29,47 +30,48 @@ FindsGrowth test new zone (Some (grows.Last run)) =
     (s : Spot) × (spot test zone ≡ Some s) × (grow_up new s ≡ None) × (place (size new) zone ≡ None)
     × FindsLowestRun (λ run. has test run && has_free (growth new s) run) zone (Some run)
 
--- the blocks that pass aren't emptied
+-- The blocks that pass a test are not purged.
 abbrev pub Spares : Sparing → (Block → Bool) → Type 0
 Spares sparing test = (b : Block) → test b ≡ true → spared sparing b ≡ true
 
--- no named block counts as Free
+-- No block that is named in `Sparing` counts as free.
 abbrev pub Stays : Sparing → (Block → Bool) → Type 0
 Stays sparing.Nothing test = Unit {0}
 Stays (sparing.One slot) test = Unit {0}
 Stays (sparing.Two slot other) test = Unit {0}
 Stays (sparing.Freed slot) test = ⊥
 
--- the zone with the block that passes grown, after as few purges as serve
+-- The zone in which the block that passes a test has grown, after as few purges as serve.
 abbrev pub growing : (Block → Bool) → Block → Sparing → List Block → Option (List Block)
 growing test new sparing zone = least (λ k. grow_mover test new (purged k sparing zone)) (most_purges sparing zone)
 
--- the looks that this takes
+-- The number of searches for the growth of that block.
 abbrev pub growing_searches : (Block → Bool) → Block → Sparing → List Block → ℕ
 growing_searches test new sparing zone = tries (λ k. grow_mover test new (purged k sparing zone))
     (most_purges sparing zone)
 
--- the block that passes is there, and is to grow to n bytes of content
+-- The block that passes a test is there, and is to grow to n bytes of content.
 abbrev pub IsToGrow : (Block → Bool) → ℕ → List Block → Type 0
 IsToGrow test n zone = IsSomeAnd (spot test zone) (λ s. size s.here < size (resized n s.here))
 
--- the block that a slot leads to
+-- The block that a slot leads to.
 abbrev pub block_of : ℕ → List Block → Option Block
 block_of number zone = option_map (λ (s : Spot). s.here) (spot (is_relocatable number) zone)
 
--- each slot leads to the same block
+-- Each slot leads to the same block as before.
 abbrev pub SameBlocks : List Block → List Block → Type 0
 SameBlocks old new = (number : ℕ) → block_of number new ≡ block_of number old
 
--- the block that passes can grow to n bytes of content into the Free block above it
+-- The block that passes a test can grow to n bytes of content into the free block above it.
 abbrev pub CanGrowUp : (Block → Bool) → ℕ → List Block → Type 0
 CanGrowUp test n zone = (s : Spot) × (spot test zone ≡ Some s) × (size s.here < size (resized n s.here))
     × (is_some (grow_up (resized n s.here) s) ≡ true)
 
--- and did
+-- The block that passes a test has grown to n bytes of content into the free block above it.
 abbrev pub GrewUp : (Block → Bool) → ℕ → List Block → List Block → Type 0
 GrewUp test n old new = IfSome (spot test old) (λ s. grow_up (resized n s.here) s ≡ Some new)
 
--- the zone with the block that passes at n bytes of content, if a block can have so many
+-- The zone in which the block that passes a test has n bytes of content; `None` where there is no room or no block
+-- can have that size.
 abbrev pub fitted : (Block → Bool) → (Block → Bool) → ℕ → List Block → Option (List Block)
 fitted test spared n zone = if is_some (phys n) then grow test spared n zone else None

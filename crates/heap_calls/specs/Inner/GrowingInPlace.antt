@@ -7,37 +7,37 @@ use Rattle.block_store.specs.declared.sparing.Seen.{Seen}
 use Rattle.block_store.specs.declared.sparing.Seen.TheVariants as see
 use Rattle.block_store.specs.declared.measures.TheConstants.{MASTERS_SIZE}
 
--- a zone, if it was made
+-- A zone, if it was made.
 abbrev pub made_zone : Bool → List Block → Option (List Block)
 made_zone false zone = None
 made_zone true zone = Some zone
 
--- the bytes that a block takes, as it is seen
+-- The physical size of a block, as it is seen.
 abbrev pub seen_size : Seen → ℕ
 seen_size (see.Free n) = n
 seen_size (see.Fixed n) = padded n
 seen_size see.Masters = MASTERS_SIZE
 seen_size (see.Relocatable slot flags n) = padded n
 
--- the block of a spot is a Free one of at least d bytes
+-- Whether the block at a spot is a free block of at least d bytes.
 abbrev pub room_at : ℕ → Option Spot → Bool
 room_at d None = false
 room_at d (Some s) = is_room d s.here
 
--- a run, if it has d Free bytes
+-- A run, if it has d free bytes.
 abbrev pub enough : ℕ → List Block → Option (List Block)
 enough d run = if has_free d run then Some run else None
 
--- how many blocks of a run go, as few as serve, so that it has d Free bytes
+-- The least number of blocks to purge from a run so that it has d free bytes; `None` where no number serves.
 abbrev pub FindsPurges : ℕ → (Block → Bool) → List Block → Option ℕ → Type 0
 FindsPurges d spared run None = room (enough d) spared run ≡ None
 FindsPurges d spared run (Some k) = (k ≤ count_of spared run) × (has_free d (purge k spared run) ≡ true)
     × (room (enough d) spared run ≡ Some (purge k spared run))
 
--- a run and the parts above it, without d Free bytes at its bottom
+-- A run and the parts above it, without d free bytes at the bottom of the run.
 abbrev pub above_taken : ℕ → List Block → List Stretch → List Block
 above_taken d run parts = joined (movers run ++ free (free_sum run - d)) parts
 
--- the blocks above with d Free bytes at the bottom of the run that comes first, of which k blocks are emptied
+-- The blocks above a block, with d free bytes at the bottom of the first run, from which k blocks are purged.
 abbrev pub pushed_up : ℕ → ℕ → (Block → Bool) → List Block → List Block
 pushed_up d k spared above = add (Free d) (above_taken d (purge k spared (segments above).first) (segments above).rest)

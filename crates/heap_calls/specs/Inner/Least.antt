@@ -7,9 +7,10 @@ use Rattle.block_store.specs.Sparing.{spared}
 use Rattle.block_store.specs.declared.sparing.Sparing.{Sparing}
 use Rattle.heap_calls.specs.Inner.Growing.{Spares, Stays, grown}
 
--- What has to be known of a zone for something to be looked for in it.
+-- What has to be known of a zone for a search in it.
 
--- the block of a slot is there to grow by so many bytes to p, and to n bytes of content, and isn't emptied for it
+-- The block of a slot is there, is to grow by d bytes to p bytes, with n bytes of content, and is not purged for the
+-- room that it needs.
 pub record CanGrow (slot n p d : ℕ) (sparing : Sparing) (zone : List Block) : Type 0 where
   pub takes : size (grown n (spot (is_relocatable slot) zone)) ≡ p
   pub positive : 0 < p
@@ -17,15 +18,15 @@ pub record CanGrow (slot n p d : ℕ) (sparing : Sparing) (zone : List Block) : 
   pub stays : Stays sparing (is_relocatable slot)
   pub more : IsSomeAnd (spot (is_relocatable slot) zone) (λ s. growth (grown n (spot (is_relocatable slot) zone)) s ≡ d)
 
--- so many blocks may go from the run above a spot
+-- `most` is the number of blocks that may be purged from the run above a spot.
 abbrev pub IsMost : ℕ → Sparing → Option Spot → Type 0
 IsMost most sparing o = IsSomeAnd o (λ s. most ≡ count_of (spared sparing) (segments s.above).first)
 
--- the run above a spot has d Free bytes after k purges in it
+-- Whether the run above a spot has d free bytes after k purges in it.
 abbrev pub enough_above : ℕ → ℕ → Sparing → Option Spot → Bool
 enough_above d k sparing None = false
 enough_above d k sparing (Some s) = has_free d (purge k (spared sparing) (segments s.above).first)
 
--- no smaller number passes
+-- No smaller number passes a test.
 abbrev pub NoneBelow : (ℕ → Bool) → ℕ → Type 0
 NoneBelow test n = (k : ℕ) → k < n → test k ≡ false

@@ -16,8 +16,8 @@ use Rattle.heap_calls.specs.Inner.Search.{FindsSeat}
 use Rattle.heap_calls.specs.Inner.Growing.{grown, FindsGrowth}
 use Rattle.heap_calls.specs.Inner.Least.{CanGrow, IsMost, enough_above}
 
--- The laws of what is looked for: what is there after some purges is there after more, and once all that may go are
--- gone no purge does more.
+-- The laws of searches: what is there after some purges is there after more, and once every block is purged that may
+-- be, a further purge changes nothing.
 
 pub seat-ends : (p : ℕ) (n : Sparing) (zone : List Block) (k : ℕ) → most_purges n zone ≤ k
     → is_some (place p (purged k n zone)) ≡ is_some (place p (purged (most_purges n zone) n zone))

@@ -21,7 +21,7 @@ use Rattle.heap_calls.specs.declared.refusal.Refusal.TheVariants.{Code, HostMemo
 use Rattle.heap_calls.specs.declared.anchor.Anchor.{Anchor}
 use Rattle.heap_calls.specs.declared.anchor.Anchor.TheVariants as entry
 
--- the flags with those that are given
+-- The flags with those that are given in place of their own.
 abbrev pub flags_with : Option Bool → Option Bool → Flags → Flags
 flags_with locked purgeable f = record {
   locked = unwrap_or locked f.locked;
@@ -29,21 +29,21 @@ flags_with locked purgeable f = record {
       f.purgeable;
 }
 
--- flags as bits of a byte
+-- Flags as bits of a byte: 128 for locked, 64 for purgeable.
 abbrev pub bits_of : Option Flags → ℕ
 bits_of None = 0
 bits_of (Some f) = bit 128 f.locked + bit 64 f.purgeable
 
--- a handle that was found, unless it has a block that is locked
+-- A handle that was looked up; -112 (memPurErr) where it has a locked block.
 abbrev pub loose : Result Known OsErr → List Block → Result Known OsErr
 loose (Err code) zone = Err code
 loose (Ok k) zone = if is_loose (spot (is_relocatable k.number) zone) then Ok k else Err PURGED
 
--- the handle that a name is bound to, unless it has a block that is locked
+-- The handle that a name is bound to; -112 (memPurErr) where it has a locked block.
 abbrev pub loose_at : Option ℕ → State → Result Known OsErr
 loose_at handle s = loose (handle_at handle s) s.zone
 
--- its slot; or why there is none
+-- The slot of that handle, or the code that says why there is none.
 abbrev pub FindsLoose : List Block → (ℕ → Slot) → List Anchor → Option ℕ → Result ℕ Refusal → Type 0
 FindsLoose zone slots es handle (Ok slot) =
     (h : ℕ) × (guarded : Bool)
@@ -52,21 +52,22 @@ FindsLoose zone slots es handle (Ok slot) =
 FindsLoose zone slots es handle (Err (Code code)) = loose_at handle (state_of zone slots es) ≡ Err code
 FindsLoose zone slots es handle (Err HostMemory) = ⊥
 
--- the zone with a new block of n bytes 0 for that of a name, where it can be had
+-- The zone with a new block of n bytes, all 0, in place of the block of a name; `None` where there is no room or no
+-- block can have that size.
 abbrev pub renewed : ℕ → ℕ → List Block → Option (List Block)
 renewed name n zone = if is_some (phys n) then reallocated name n zone else None
 
--- the looks that this takes
+-- The number of searches for the room of the new block.
 abbrev pub renewed_searches : ℕ → ℕ → List Block → ℕ
 renewed_searches name n zone = if is_some (phys n) then room_searches
     (put_in_place (Relocatable name no_flags (replicate n 0))) nothing (freed (is_relocatable name) zone) else 0
 
--- the blocks that packing for it moves
+-- The number of blocks that packing moves down for the new block.
 abbrev pub renewed_moves : ℕ → ℕ → List Block → ℕ
 renewed_moves name n zone = if is_some (phys n) then put_moves (Relocatable name no_flags (replicate n 0)) nothing
     (freed (is_relocatable name) zone) else 0
 
--- a block was renewed, or there was no room and nothing changed
+-- A block was replaced by a new one, or there was no room and nothing changed.
 pub record IsRenewal (slot n : ℕ) (zone : List Block) (rest : Rest) (room : Room) (zone' : List Block)
     (rest' : Rest) : Type 0 where
   pub none : MatchOption room.place ((renewed slot n zone ≡ None) × (zone' ≡ zone))
@@ -74,7 +75,8 @@ pub record IsRenewal (slot n : ℕ) (zone : List Block) (rest : Rest) (room : Ro
   pub searches : room.searches ≡ renewed_searches slot n zone
   pub slots : KeepsSlots rest rest'
 
--- the same; where the host had no memory the slots are what they were
+-- A block was replaced by a new one, or there was no room and nothing changed; where the host was out of memory, the
+-- slots are what they were.
 abbrev pub IsRenewed : {E : Type 0} → ℕ → ℕ → List Block → Rest → Result Room E → List Block → Rest → Type 0
 IsRenewed slot n zone rest (Ok room) zone' rest' = IsRenewal slot n zone rest room zone' rest'
 IsRenewed slot n zone rest (Err error) zone' rest' = KeepsSlots rest rest'

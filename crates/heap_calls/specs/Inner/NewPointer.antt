@@ -7,15 +7,16 @@ use Rattle.block_store.specs.declared.sparing.Sparing.TheVariants as sparing
 use Rattle.heap_calls.specs.Inner.Base.{base, base_searches}
 use Rattle.heap_calls.specs.Answer.{nothing}
 
--- a new Fixed block of n bytes 0
+-- A new nonrelocatable block of n bytes, all 0.
 abbrev pub fresh_fixed : ℕ → ℕ → Block
 fresh_fixed name n = Fixed name (replicate n 0)
 
--- the looks for room for it
+-- The number of searches for the room of a new nonrelocatable block.
 abbrev pub fixed_searches : ℕ → List Block → ℕ
 fixed_searches n zone = if is_some (phys n) then base_searches (padded n) sparing.Nothing zone else 0
 
--- a new Fixed block of n bytes was put at the base of a run, and no other went
+-- A new nonrelocatable block of n bytes was put at the base of a run, and every other nonrelocatable block is still
+-- there.
 pub record IsFixedPut (n place : ℕ) (zone zone' : List Block) : Type 0 where
   pub fits : is_some (phys n) ≡ true
   pub put : room (put_at_base (fresh_fixed place n)) nothing zone ≡ Some zone'
@@ -23,7 +24,8 @@ pub record IsFixedPut (n place : ℕ) (zone zone' : List Block) : Type 0 where
   pub there : has (is_fixed place) zone' ≡ true
   pub others : (other : ℕ) → has (is_fixed other) zone ≡ true → has (is_fixed other) zone' ≡ true
 
--- the place of a new Fixed block; none where it would be too large or there is no room, and then nothing changed
+-- The place of a new nonrelocatable block; `None` where the block would be too large or there is no room, and then
+-- nothing changed.
 abbrev pub IsNewFixed : ℕ → List Block → Option ℕ → List Block → Type 0
 IsNewFixed n zone (Some place) zone' = IsFixedPut n place zone zone'
 IsNewFixed n zone None zone' = (zone' ≡ zone) × ((phys n ≡ None) ⊎ (base (padded n) sparing.Nothing zone ≡ None))

@@ -10,9 +10,9 @@ use Rattle.heap_calls.specs.State as names
 use Rattle.heap_calls.specs.declared.anchor.Anchor.{Anchor}
 use Rattle.heap_calls.specs.declared.anchor.Anchor.TheVariants as entry
 
--- How a heap is seen in a store: blocks that the store names by slot or place are named by number.
+-- How a store is seen as a heap: the blocks that the store names by slot or place are named by number.
 
--- whose the handle of a slot is, guarded or not; only a resource's is guarded
+-- The role of the handle of a slot, guarded or not; only a resource's handle is guarded.
 abbrev pub role_of : Slot → Bool → Role
 role_of NoSlot guarded = Plain
 role_of Unused guarded = Plain
@@ -20,41 +20,41 @@ role_of (Used false) guarded = Plain
 role_of (Used true) false = Resource
 role_of (Used true) true = SystemResource
 
--- what an entry stands for, by the table of slots
+-- What an entry stands for, by the table of slots.
 abbrev pub name_of : (ℕ → Slot) → Anchor → Meaning
 name_of slots (entry.Handle slot guarded) = names.Handle (role_of (slots slot) guarded)
 name_of slots (entry.Pointer place) = names.Pointer
 name_of slots entry.Disposed = names.Disposed
 
--- an entry of a slot
+-- Whether an entry is that of the handle of a slot.
 abbrev pub leads_to : ℕ → Anchor → Bool
 leads_to slot (entry.Handle s guarded) = s == slot
 leads_to slot (entry.Pointer place) = false
 leads_to slot entry.Disposed = false
 
--- an entry of a place
+-- Whether an entry is that of the pointer to a place.
 abbrev pub points_to : ℕ → Anchor → Bool
 points_to place (entry.Handle slot guarded) = false
 points_to place (entry.Pointer p) = p == place
 points_to place entry.Disposed = false
 
--- no number is so large
+-- A number larger than any that is given.
 abbrev pub no_number : ℕ
 no_number = 2 ^ 64
 
--- the number of the first entry that passes, counted from n
+-- The number of the first entry that passes a test, counted from n.
 abbrev pub number_from : ℕ → (Anchor → Bool) → List Anchor → ℕ
 number_from n test [] = no_number
 number_from n test (e ∷ entries) = if test e then n else number_from (n + 1) test entries
 
--- the number of the handle of a slot, and of the pointer to a place
+-- The number of the handle of a slot, and that of the pointer to a place.
 abbrev pub handle_number : List Anchor → ℕ → ℕ
 handle_number entries slot = number_from 0 (leads_to slot) entries
 
 abbrev pub pointer_number : List Anchor → ℕ → ℕ
 pointer_number entries place = number_from 0 (points_to place) entries
 
--- the heap that a store's zone and slots are for its names
+-- The heap of a store's zone and slots, and the entries of its numbers.
 abbrev pub state_of : List Block → (ℕ → Slot) → List Anchor → State
 state_of zone slots entries = record {
   zone = rename (handle_number entries) (pointer_number entries) zone;
@@ -62,7 +62,8 @@ state_of zone slots entries = record {
       (name_of slots) entries;
 }
 
--- the same with what its calls so far came to, how often a block was moved down, and where it lies
+-- The heap of a store's zone and slots, with the log of its calls, the number of blocks moved down, and the place of
+-- the store in the memory.
 abbrev pub memory_of : List Block → Rest → List Anchor → Log → Memory
 memory_of zone rest entries log = record {
   heap = state_of zone rest.slots entries;
@@ -71,20 +72,20 @@ memory_of zone rest entries log = record {
   window = rest.window;
 }
 
--- the Fixed blocks are those that there were
+-- The places of the nonrelocatable blocks are what they were.
 abbrev pub KeepsFixed : List Block → List Block → Type 0
 KeepsFixed old new = (place : ℕ) → has (is_fixed place) new ≡ has (is_fixed place) old
 
--- the names and the store agree
+-- The entries and the store agree.
 pub record Agrees (zone : List Block) (rest : Rest) (entries : List Anchor) : Type 0 where
-  -- a handle's slot is used, and by no other handle
+  -- The slot of a handle is used, and by no other handle.
   pub used : (h slot : ℕ) (guarded : Bool) → slice_get entries h ≡ Some (entry.Handle slot guarded)
       → is_used (rest.slots slot) ≡ true
   pub apart : (h k slot : ℕ) (guarded other : Bool) → slice_get entries h ≡ Some (entry.Handle slot guarded)
       → slice_get entries k ≡ Some (entry.Handle slot other) → h ≡ k
-  -- a pointer's block is there, and is no other pointer's
+  -- The block of a pointer is there, and is no other pointer's.
   pub pointed : (h place : ℕ) → slice_get entries h ≡ Some (entry.Pointer place) → has (is_fixed place) zone ≡ true
   pub lone : (h k place : ℕ) → slice_get entries h ≡ Some (entry.Pointer place)
       → slice_get entries k ≡ Some (entry.Pointer place) → h ≡ k
-  -- each slot is a handle's or unused
+  -- Each slot is a handle's or is unused.
   pub counted : rest.unused + count_by uses_slot (map (name_of rest.slots) entries) ≡ rest.all

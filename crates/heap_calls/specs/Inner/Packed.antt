@@ -9,24 +9,24 @@ use Rattle.heap_calls.specs.Inner.NewBlock.{ready_count}
 use Rattle.heap_calls.specs.Inner.NewSlot.{zone_slotted}
 use Rattle.heap_calls.specs.Inner.Search.{seat_searches}
 
--- How many blocks a store's packing moves down.
+-- How many blocks the packing of a store moves down.
 
--- so many were moved down
+-- n blocks were moved down.
 abbrev pub Packs : ℕ → Rest → Rest → Type 0
 Packs n old new = new.moves ≡ counted old.moves n
 
--- none was moved down
+-- No block was moved down.
 abbrev pub PacksNone : Rest → Rest → Type 0
 PacksNone old new = new.moves ≡ old.moves
 
--- for a relocatable block of p bytes, after as few purges as give a place
+-- The moves for a relocatable block of p bytes, after as few purges as give it a place.
 abbrev pub seat_moves : ℕ → Sparing → List Block → ℕ
 seat_moves p sparing zone = place_moves p (purged (seat_searches p sparing zone - 1) sparing zone)
 
--- for one of n bytes of content
+-- The moves for a relocatable block of n bytes of content.
 abbrev pub content_moves : Sparing → ℕ → List Block → ℕ
 content_moves sparing n zone = if is_some (phys n) then seat_moves (padded n) sparing zone else 0
 
--- for a new slot and its block of n bytes, where so many slots are unused
+-- The moves for a new slot and its block of n bytes, by the number of slots that are unused.
 abbrev pub new_moves : Sparing → ℕ → ℕ → List Block → ℕ
 new_moves sparing n unused zone = ready_count (zone_slotted sparing unused zone) (content_moves sparing n)

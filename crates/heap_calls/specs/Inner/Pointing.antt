@@ -14,23 +14,24 @@ use Rattle.block_store.specs.declared.measures.TheConstants.{GREATEST_ZONE, HEAD
 
 -- How a pointer is looked up.
 
--- a pointer, and the place of its block
+-- A pointer: its number, and the place of its block.
 abbrev pub target : ℕ → ℕ → Target
 target number place = record { number = number; place = place }
 
--- the place of a pointer's entry; or why it has none: never given, a handle, or disposed of
+-- The place of a pointer's entry; -109 (nilHandleErr) where the number was never given, -111 (memWZErr) where it is a
+-- handle's or was disposed of.
 abbrev pub target_at : ℕ → Option Anchor → Result Target Refusal
 target_at p None = Err (Code NIL_HANDLE)
 target_at p (Some (entry.Handle slot guarded)) = Err (Code WRONG_ZONE)
 target_at p (Some (entry.Pointer place)) = Ok (target p place)
 target_at p (Some entry.Disposed) = Err (Code WRONG_ZONE)
 
--- the place of the block of the pointer that a name is bound to
+-- The place of the block of the pointer that a name is bound to; -109 (nilHandleErr) where the name is unbound.
 abbrev pub target_of : Option ℕ → List Anchor → Result Target Refusal
 target_of None es = Err (Code NIL_HANDLE)
 target_of (Some p) es = target_at p (slice_get es p)
 
--- the store's place of the block that is looked up; or why there is none
+-- The store's place of the block that was looked up, or the code that says why there is none.
 abbrev pub FindsHeld : Result Held OsErr → List Block → List Anchor → Result ℕ Refusal → Type 0
 FindsHeld looked zone es (Ok place) =
     (n : ℕ) × (s : Spot) × (looked ≡ Ok (record {

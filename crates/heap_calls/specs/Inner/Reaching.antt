@@ -12,7 +12,7 @@ use Rattle.heap_calls.specs.declared.anchor.Anchor.{Anchor}
 use Rattle.heap_calls.specs.declared.anchor.Anchor.TheVariants as entry
 use Rattle.heap_calls.specs.declared.reaching.Reached.{Reached}
 
--- the block of a handle in the store, with its slot and its place; or why there is none
+-- The block of a handle in the store, with its slot and its place, or the code that says why there is none.
 abbrev pub Reaches : List Block → (ℕ → Slot) → List Anchor → Option ℕ → Result Reached Refusal → Type 0
 Reaches zone slots es handle (Ok r) =
     (s : Spot) × (look_up handle (state_of zone slots es) ≡ Ok
@@ -22,7 +22,7 @@ Reaches zone slots es handle (Ok r) =
 Reaches zone slots es handle (Err (Code code)) = look_up handle (state_of zone slots es) ≡ Err code
 Reaches zone slots es handle (Err HostMemory) = ⊥
 
--- what a call tells whose block got another size, or didn't for want of room
+-- The reply of a call that needs room for a block: done, or -108 (memFullErr).
 abbrev pub sized_reply : Bool → Result (Unit {0}) Refusal
 sized_reply true = Ok tt
 sized_reply false = Err (Code MEM_FULL)

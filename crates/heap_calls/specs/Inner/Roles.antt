@@ -5,13 +5,13 @@ use Rattle.heap_calls.specs.Answer.{Known}
 
 -- The role of a handle that was looked up.
 
--- of a System resource
+-- Whether a role is a System resource's.
 abbrev pub is_guarded_role : Role → Bool
 is_guarded_role Plain = false
 is_guarded_role Resource = false
 is_guarded_role SystemResource = true
 
--- a handle of a System resource
+-- Whether a handle that was looked up is a System resource's.
 abbrev pub is_system : Result Known OsErr → Bool
 is_system (Err code) = false
 is_system (Ok k) = is_guarded_role k.role
