@@ -45,7 +45,8 @@ prints, where first.script holds the two lines 'NewHandle a 100' and 'FreeMem':
   2 FreeMem 0 624
   end 0
 
-A name is a letter or '_', then letters, digits and '_'; sizes, offsets and flags are decimal; bytes are written as \"Hi\" or $4869.
+A name is a letter or '_', then letters, digits and '_'; sizes, offsets and flags are decimal; bytes are written as
+\"Hi\" or $4869.
 A faulty line is reported as 'macmem: SCRIPT: line N: fault K': 1 unknown call, 2 bad argument, 3 call not allowed in a
 grow-zone script, 4 line of more than 65535 bytes.
 The lines of a grow-zone script stand before the line of the call that found no room, and begin with '+'.
