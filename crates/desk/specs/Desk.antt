@@ -19,15 +19,15 @@ use Rattle.desk.specs.Progress.{Progress, Waiting, Running, Ended, Lost, Left, C
 -- The desk: several applications in one memory, each in a window of its own. Inside Macintosh: Processes, chapter 1,
 -- "Partitions" and "Scheduling of Processes".
 
--- an application's place at the desk: its name, its script, the resources with which it is launched, or the code for
--- which its fork can't be opened, and how far it has come
+-- An application's place at the desk: its name; its script; the resources with which it is launched, or the result
+-- code for which its fork can't be opened; and how far it has come.
 pub record Place : Type 0 where
   pub name : List ℕ
   pub script : Parts
   pub start : Result Resources OsErr
   pub progress : Progress
 
--- the memory's size, the windows that are out, the applications in order, and the desk's log so far
+-- The memory's size, the windows in use, the applications in order, and the desk's log so far.
 pub record State : Type 0 where
   pub memory : ℕ
   pub windows : List Window
@@ -36,16 +36,16 @@ pub record State : Type 0 where
 
 -- What an application does.
 
--- how far it comes
+-- How far an application comes by an act.
 abbrev pub coming : Act → Place → Coming
 coming act p = acted_by act p.start p.script p.progress
 
--- the windows that are out, without the one that it leaves
+-- The windows in use, without the one that an application leaves.
 abbrev pub windows_after : Option Left → List Window → List Window
 windows_after None windows = windows
 windows_after (Some left) windows = taken_out left.window windows
 
--- the line of its end, if it ended
+-- The line of an application's end, if it ended.
 abbrev pub end_told : List ℕ → Option Left → List ℕ
 end_told name None = []
 end_told name (Some left) = end_of name left.code.0
@@ -61,11 +61,11 @@ acted_in act i (Some p) s = record s {
   log = s.log ++ end_told p.name (coming act p).left;
 }
 
--- application i takes a step or a turn, or quits: where it runs
+-- The desk after application `i` takes a step or a turn, or quits, if it runs.
 abbrev pub acted_at : Act → ℕ → State → State
 acted_at act i s = acted_in act i (slice_get s.places i) s
 
--- the same of the list of places
+-- The list of places after an act of application `i`.
 abbrev pub places_acted : Act → ℕ → Option Place → List Place → List Place
 places_acted act i None places = places
 places_acted act i (Some p) places = slice_set places i (place_come p (coming act p))
@@ -76,7 +76,7 @@ left_by act (Some p) = (coming act p).left
 
 -- A launch.
 
--- the window, or -108
+-- The window that is granted, or -108 (memFullErr).
 abbrev pub granted : Option Window → Result Window OsErr
 granted None = Err MEM_FULL
 granted (Some w) = Ok w
@@ -88,15 +88,15 @@ abbrev pub granted_start : Result Resources OsErr → State → Result Window Os
 granted_start (Err code) s = Err code
 granted_start (Ok resources) s = granted_sizes (sizes_of resources) s
 
--- what it is launched with; nothing, where it runs or has ended already
+-- The resources with which a waiting application is launched; -30001 (profileErr) for one that runs or has ended.
 abbrev pub ready : Progress → Result Resources OsErr → Result Resources OsErr
 ready Waiting start = start
 ready (Running w n) start = Err PROFILE
 ready (Ended size n asked) start = Err PROFILE
 ready (Lost w) start = Err PROFILE
 
--- the window in which an application is launched, or the code for which it isn't: it runs or has ended already, its fork
--- can't be opened, there is no room
+-- The window in which an application is launched, or the result code for which it is not: it runs or has ended
+-- already, its fork can't be opened, or there is no room.
 abbrev pub launch_answer : Place → State → Result Window OsErr
 launch_answer p s = granted_start (ready p.progress p.start) s
 
@@ -112,30 +112,30 @@ abbrev pub launched_in : ℕ → Option Place → State → State
 launched_in i None s = s
 launched_in i (Some p) s = launched_by (launch_answer p s) i p s
 
--- a launch of application i; where it is refused only the log tells of it
+-- The desk after a launch of application `i`; a refused launch changes only the log.
 abbrev pub launched_at : ℕ → State → State
 launched_at i s = launched_in i (slice_get s.places i) s
 
--- Turns of all.
+-- Turns of all applications.
 
--- the k applications from i on take a turn each, in order
+-- The desk after the `k` applications from `i` on take a turn each, in order.
 abbrev pub each_turned : ℕ → ℕ → State → State
 each_turned zero i s = s
 each_turned (suc k) i s = each_turned k (i + 1) (acted_at Turn i s)
 
--- a round: each application takes a turn, where it runs
+-- A round: each application takes a turn, if it runs.
 abbrev pub round : State → State
 round s = each_turned (length s.places) 0 s
 
 abbrev pub any_runs : State → Bool
 any_runs s = list_any (λ (p : Place). runs p.progress) s.places
 
--- rounds until none runs, at most so many
+-- Rounds until no application runs, at most the given number of them.
 abbrev pub rounds : ℕ → State → State
 rounds zero s = s
 rounds (suc more) s = if any_runs s then rounds more (round s) else s
 
--- the steps of the longest script, or so many
+-- The number of steps of the longest script; the larger of two numbers.
 abbrev pub larger : ℕ → ℕ → ℕ
 larger m n = if nat_lt m n then n else m
 
@@ -146,7 +146,8 @@ longest_or most (p ∷ places) = longest_or (larger most (length p.script.steps)
 abbrev pub longest : List Place → ℕ
 longest places = longest_or 0 places
 
--- no more rounds are wanted: each takes a step of each that runs, and the one behind its last is its quit
+-- A rest. No more rounds are needed: each round takes a step of each application that runs, and the step after an
+-- application's last call is its quit.
 abbrev pub rested : State → State
 rested s = rounds (suc (longest s.places)) s
 

@@ -11,16 +11,16 @@ use Rattle.desk.specs.Whole.{system_of}
 
 -- Places of the memory that are in no partition.
 
--- the byte at this place is in no partition
+-- The byte at a place is in no partition.
 abbrev pub IsFree : ℕ → State → Type 0
 IsFree place s = IsOutsideAll place s.windows
 
--- neither before the first of these events nor after any of them
+-- The byte at a place is in no partition before the first of the events, nor after any of them.
 abbrev pub StaysFree : ℕ → List Event → State → Type 0
 StaysFree place [] s = IsFree place s
 StaysFree place (e ∷ events) s = IsFree place s × StaysFree place events (after_event e s)
 
--- nor at any time of a job's run
+-- The byte at a place is in no partition at any time of a job's run.
 abbrev pub FreeThrough : ℕ → Result Content OsErr → ℕ → List App → List Event → Type 0
 FreeThrough place (Err code) memory apps events = Unit {0}
 FreeThrough place (Ok system) memory apps events = StaysFree place events (opening memory system apps)

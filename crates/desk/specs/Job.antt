@@ -8,9 +8,9 @@ use Rattle.desk.specs.declared.job.AppFile.{AppFile}
 use Rattle.desk.specs.Progress.{Waiting}
 use Rattle.desk.specs.Desk.{Place, State}
 
--- What is handed in for a run, as the desk begins with it.
+-- What is given for a run, as the desk begins with it.
 
--- the files of an application: its own, which has its name, and the others; none was written yet
+-- The files of an application: its own, which has the application's name, and the others. No file was written yet.
 abbrev pub file_given : AppFile → File
 file_given f = record { name = f.name.0.items; fork = f.fork.items; written = false }
 
@@ -18,11 +18,12 @@ abbrev pub files_given : App → List File
 files_given app =
     record { name = app.name.0.items; fork = app.fork.items; written = false } ∷ map file_given app.files.items
 
--- the resources with which it is launched, by the System file's content, or the code for which its fork can't be opened
+-- The resources with which an application is launched, with the System file's content, or the result code for which
+-- the application's fork can't be opened.
 abbrev pub start_of : Content → App → Result Resources OsErr
 start_of system app = launched_resources (files_given app) system
 
--- it waits
+-- The place of an application that waits for its launch.
 abbrev pub place_given : Content → App → Place
 place_given system app = record {
   name = app.name.0.items;
@@ -31,7 +32,7 @@ place_given system app = record {
   progress = Waiting;
 }
 
--- the desk before the first event: every application waits, no window is out, and the log is empty
+-- The desk before the first event: every application waits, no window is in use, and the log is empty.
 abbrev pub opening : ℕ → Content → List App → State
 opening memory system apps = record {
   memory = memory;

@@ -17,13 +17,14 @@ use Rattle.desk.specs.declared.outcome.Launched.{Launched as Leaves}
 use Rattle.desk.specs.Progress.{Running, Ended, Coming, staying}
 use Rattle.desk.specs.Outcome.{Launched}
 
--- An application that runs at the desk is what it is alone after as many steps, but for the place where it lies.
+-- An application that runs at the desk is what it is alone after the same number of steps, except for the place where
+-- it lies.
 
--- its transcript after n steps in a partition of that size, before the line of its end
+-- The transcript of an application after `n` steps in a partition of `size` bytes, before the line of its end.
 abbrev pub told_so_far : Resources → Parts → ℕ → ℕ → List ℕ
 told_so_far resources script size n = launch_line size ++ lines_told (first_steps resources size script n).lines
 
--- after n steps it goes on, and these are its transcript so far and its state
+-- After `n` steps the application goes on, with this transcript so far and this state.
 pub record GoesOn (resources : Resources) (script : Parts) (size n : ℕ) (told : List ℕ) (r : application.Running)
     : Type 0 where
   pub within : n ≤ length script.steps
@@ -31,13 +32,14 @@ pub record GoesOn (resources : Resources) (script : Parts) (size n : ℕ) (told 
   pub state : r ≡ moved r.memory.window (first_steps resources size script n).after
   pub text : told ≡ told_so_far resources script size n
 
--- after n steps, and a quit where one was asked for, it ends so; this is its transcript so far
+-- After `n` steps, and a quit if one was asked for, the application ends with this exit; this is its transcript so
+-- far.
 pub record EndsBy (exit : Option Exit) (resources : Resources) (script : Parts) (size n : ℕ) (asked : Bool)
     (told : List ℕ) (r : application.Running) : Type 0 where
   pub text : told ≡ told_so_far resources script size n
   pub end : ending resources size script n asked ≡ Some (end_by exit r)
 
--- what an application leaves that was launched, as the code has it
+-- What a launched application leaves, as the code holds it.
 abbrev pub leaves_seen : Leaves → Launched
 leaves_seen l = record {
   size = l.size;
@@ -47,13 +49,13 @@ leaves_seen l = record {
   files = map view_file l.files.items;
 }
 
--- after n steps, and a quit where one was asked for, these are its transcript and its files
+-- After `n` steps, and a quit if one was asked for, these are the application's transcript and files.
 pub record Gives (resources : Resources) (script : Parts) (size n : ℕ) (asked : Bool) (told : List ℕ)
     (left : List File) : Type 0 where
   pub text : told ≡ (alone resources size script n asked).transcript
   pub files : left ≡ (alone resources size script n asked).files
 
--- the same of the fields of one
+-- `GoesOn`, `EndsBy` and `Gives`, of the fields of an application that runs.
 abbrev pub IsLive : {S : Type 0} → Resources → Live S → Type 0
 IsLive resources live =
     GoesOn resources live.script.now live.window.len live.steps live.text.items live.application
@@ -66,7 +68,7 @@ abbrev pub LiveGives : {S : Type 0} → Resources → Bool → Live S → Type 0
 LiveGives resources asked live = Gives resources live.script.now live.window.len live.steps asked live.text.items
     live.application.resources.files
 
--- what came of something that it did: it goes on, or it has ended with a code
+-- What came of an act: the application goes on, or it has ended with a result code.
 abbrev pub HasCome : {S : Type 0} → Resources → Bool → Coming → Option OsErr → Live S → Type 0
 HasCome resources asked come None live =
     (come ≡ staying (Running live.window live.steps)) × IsLive resources live
@@ -77,7 +79,7 @@ HasCome resources asked come (Some code) live =
     })
     × LiveGives resources asked live
 
--- the window of an application, and where the store of its zone lies
+-- The window of an application, and where the store of its zone lies.
 abbrev pub Lot : Type 0
 Lot = Window × Site
 

@@ -11,8 +11,8 @@ use Rattle.desk.specs.Desk.{Place, State}
 
 -- What a run leaves.
 
--- of an application that was launched: the size of its partition, how many steps it took, whether a quit was asked for,
--- its transcript, and its files with what was written of them
+-- What a launched application leaves: the size of its partition, the number of its steps, whether a quit was asked
+-- for, its transcript, and its files with what was written of them.
 pub record Launched : Type 0 where
   pub size : ℕ
   pub steps : ℕ
@@ -20,7 +20,7 @@ pub record Launched : Type 0 where
   pub transcript : List ℕ
   pub files : List File
 
--- what it gives alone
+-- What a launched application leaves that runs alone.
 abbrev pub launched_alone : Resources → Parts → ℕ → ℕ → Bool → Launched
 launched_alone resources script size n asked = record {
   size = size;
@@ -30,7 +30,7 @@ launched_alone resources script size n asked = record {
   files = (alone resources size script n asked).files;
 }
 
--- nothing of one that wasn't launched
+-- What an application leaves; nothing if it was not launched.
 abbrev pub told_of : Result Resources OsErr → Parts → Progress → Option Launched
 told_of (Ok resources) script (Running w n) = Some (launched_alone resources script w.len n false)
 told_of (Ok resources) script (Ended size n asked) = Some (launched_alone resources script size n asked)
@@ -38,7 +38,7 @@ told_of (Ok resources) script Waiting = None
 told_of (Ok resources) script (Lost w) = None
 told_of (Err code) script progress = None
 
--- of an application: its name, and what it leaves if it was launched
+-- An application's name, and what it leaves if it was launched.
 pub record Told : Type 0 where
   pub name : List ℕ
   pub launched : Option Launched
@@ -46,7 +46,7 @@ pub record Told : Type 0 where
 abbrev pub told : Place → Told
 told p = record { name = p.name; launched = told_of p.start p.script p.progress }
 
--- a line for each file, from the k-th on, whose fork was written
+-- A line for each file, from the `k`-th on, whose fork was written.
 abbrev pub fork_told : List ℕ → ℕ → File → List ℕ
 fork_told name k f = if f.written then fork_of name k f.name (length f.fork) else []
 
@@ -61,7 +61,7 @@ forks_of t = by_launched t.launched
     by_launched None = []
     by_launched (Some l) = forks_told t.name 0 l.files
 
--- of a run: the desk's log, which ends with the forks that were written, and what the applications leave
+-- What a run leaves: the desk's log, which ends with the forks that were written, and what the applications leave.
 pub record Outcome : Type 0 where
   pub log : List ℕ
   pub apps : List Told

@@ -10,33 +10,34 @@ use Rattle.applications.specs.Alone.{Ending, ending}
 use Rattle.desk.specs.declared.act.Act.{Act}
 use Rattle.desk.specs.declared.act.Act.TheVariants.{Step, Turn, Quit}
 
--- How far an application has come, and what a step, a turn and a quit make of that. What it is then is what it is alone
--- after so many steps (applications/specs/Alone.antt). Inside Macintosh: Processes, chapter 2, "Launching Applications"
--- and "Terminating a Process".
+-- How far an application has come, and what a step, a turn and a quit make of that. Its state is then the one that it
+-- has alone after the same number of steps (applications/specs/Alone.antt). Inside Macintosh: Processes, chapter 2,
+-- "Launching Applications" and "Terminating a Process".
 
--- it waits for its launch; it runs in a window, and has taken so many steps; it has ended after them in a partition of
--- that size, by itself or as it was asked to; or the host had no memory for it, so that its zone can only be closed
+-- An application waits for its launch; or it runs in a window, and has taken a number of steps; or it has ended after
+-- a number of steps in a partition of a size, asked to or not; or the host was out of memory for it, so that its zone
+-- can only be closed.
 pub data Progress : Type 0 where
   Waiting : Progress
   Running : (window : Window) → (steps : ℕ) → Progress
   Ended : (size : ℕ) → (steps : ℕ) → (asked : Bool) → Progress
   Lost : (window : Window) → Progress
 
--- what an application leaves as it ends: its window is free, and its end has a code
+-- What an application leaves as it ends: a window, which is given back, and the result code of its end.
 pub record Left : Type 0 where
   pub window : Window
   pub code : OsErr
 
--- how far an application comes by something, and what it leaves if it ends
+-- How far an application comes by an act, and what it leaves if it ends.
 pub record Coming : Type 0 where
   pub progress : Progress
   pub left : Option Left
 
--- it stays as it is
+-- An application that stays as it is.
 abbrev pub staying : Progress → Coming
 staying progress = record { progress = progress; left = None }
 
--- after n steps it runs, or it has ended
+-- After `n` steps an application runs, or it has ended.
 abbrev pub come_by : Option Ending → Window → ℕ → Bool → Coming
 come_by None w n asked = staying (Running w n)
 come_by (Some e) w n asked = record {
@@ -47,15 +48,15 @@ come_by (Some e) w n asked = record {
 abbrev pub come_to : Resources → Parts → Window → ℕ → Bool → Coming
 come_to resources script w n asked = come_by (ending resources w.len script n asked) w n asked
 
--- a step: the next call, or a quit where there is none
+-- A step: the next call, or a quit if there is none.
 abbrev pub stepped : Resources → Parts → Window → ℕ → Coming
 stepped resources script w n = come_to resources script w (n + 1) false
 
--- a quit that is asked for
+-- A quit that is asked for.
 abbrev pub quitted : Resources → Parts → Window → ℕ → Coming
 quitted resources script w n = come_to resources script w n true
 
--- a turn: steps up to and including the next WaitNextEvent, or to the end
+-- A turn: steps up to and including the next WaitNextEvent, or to the end.
 abbrev pub turn_through : Resources → Parts → Window → List Line → ℕ → Coming
 turn_through resources script w [] n = stepped resources script w n
 turn_through resources script w (l ∷ lines) n =
@@ -65,7 +66,7 @@ turn_through resources script w (l ∷ lines) n =
 abbrev pub turned : Resources → Parts → Window → ℕ → Coming
 turned resources script w n = turn_through resources script w (drop n script.steps) n
 
--- what an application does, or is made to do
+-- What an application does, or is made to do.
 abbrev pub acted : Act → Resources → Parts → Window → ℕ → Coming
 acted Step resources script w n = stepped resources script w n
 acted Turn resources script w n = turned resources script w n
@@ -76,7 +77,7 @@ is_quit Step = false
 is_quit Turn = false
 is_quit Quit = true
 
--- only an application that runs does anything
+-- Only an application that runs does anything.
 abbrev pub acted_by : Act → Result Resources OsErr → Parts → Progress → Coming
 acted_by act (Ok resources) script (Running w n) = acted act resources script w n
 acted_by act (Err code) script (Running w n) = staying (Running w n)
@@ -84,7 +85,7 @@ acted_by act start script Waiting = staying Waiting
 acted_by act start script (Ended size n asked) = staying (Ended size n asked)
 acted_by act start script (Lost w) = staying (Lost w)
 
--- the window in which its zone is open
+-- The window in which an application's zone is open.
 abbrev pub window_of : Progress → Option Window
 window_of Waiting = None
 window_of (Running w n) = Some w

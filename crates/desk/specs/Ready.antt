@@ -7,7 +7,7 @@ use Rattle.desk.specs.declared.preparing.Ready.{Ready}
 use Rattle.desk.specs.declared.sizes.PartitionSizes.{PartitionSizes}
 use Rattle.desk.specs.Sizes.{Sizes}
 
--- What an application is launched with, as the code has it; where the host had no memory nothing is said.
+-- What an application is launched with, as the code holds it; nothing is said if the host was out of memory.
 abbrev pub IsReady : Result Resources OsErr → Result Ready Refusal → Type 0
 IsReady start (Ok ready) = start ≡ Ok ready.resources
 IsReady start (Err (Code code)) = start ≡ Err code

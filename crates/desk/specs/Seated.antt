@@ -19,17 +19,17 @@ use Rattle.desk.specs.Live.{IsLive, leaves_seen}
 
 -- What holds of an application at its place: what runs there, or has ended there, is what it is alone.
 
--- a place: the System file's content, what was handed in for the application, and how far it has come
+-- A place: the System file's content, what was given for the application, and how far it has come.
 pub record Placed (S : Type 0) : Type 0 where
   pub system : Bor Content
   pub app : Bor App
   pub phase : Phase S
 
--- what an application leaves is what it gives alone
+-- What an application leaves is what it leaves when it runs alone.
 abbrev pub HasGiven : Resources → Parts → Leaves → Type 0
 HasGiven resources script l = leaves_seen l ≡ launched_alone resources script l.size l.steps l.asked
 
--- it runs with resources that it was launched with
+-- An application runs with the resources with which it was launched.
 abbrev pub RunsWith : {S : Type 0} → Result Resources OsErr → Parts → Live S → Type 0
 RunsWith start script live =
     (resources : Resources) × (start ≡ Ok resources) × (live.script.now ≡ script) × IsLive resources live
@@ -41,11 +41,11 @@ IsSeated start script (phase.Ended launched) =
     (resources : Resources) × (start ≡ Ok resources) × HasGiven resources script launched
 IsSeated start script (phase.Lost live) = Unit {0}
 
--- the same of what stands at a place
+-- What holds of the phase at a place, by the System file's content and the application.
 abbrev pub IsSeatedAt : {S : Type 0} → Bor Content → Bor App → Phase S → Type 0
 IsSeatedAt system app state = IsSeated (start_of (view system.now) app.now) app.now.script state
 
--- each type of the System file's resources is there once, and has resources
+-- Each type occurs once among the types of the System file's resources, and has resources.
 abbrev pub IsSound : Bor Content → Type 0
 IsSound system = IsTrue (are_distinct (map (λ (g : Group). g.kind) (view system.now).groups))
     × IsTrue (list_all has_refs (view system.now).groups)

@@ -3,26 +3,27 @@ use Rattle.fork_format.specs.Fork.{number}
 use Rattle.res_calls.specs.Files.{Resources}
 use Rattle.res_calls.specs.Own.{own_datum}
 
--- The sizes of the partition that an application asks for. Macintosh Toolbox Essentials, chapter 2, "The Size Resource".
+-- The sizes of the partition that an application asks for. Macintosh Toolbox Essentials, chapter 2, "The Size
+-- Resource".
 
 pub record Sizes : Type 0 where
   pub preferred : ℕ
   pub minimum : ℕ
 
--- 'SIZE' as a number
+-- 'SIZE' as a number.
 abbrev pub size_type : ℕ
 size_type = 0x53495A45
 
--- a size as partitions have it: a multiple of 16, at least 512
+-- The size of a partition for a size that was asked for: rounded down to a multiple of 16, but at least 512.
 abbrev pub rounded : ℕ → ℕ
 rounded n = if nat_lt n 512 then 512 else n - n % 16
 
--- a minimum above the preferred size is read as that
+-- The minimum size; one above the preferred size is read as the preferred size.
 abbrev pub capped : ℕ → ℕ → ℕ
 capped preferred minimum = if nat_lt preferred minimum then preferred else minimum
 
--- flags (2 bytes), the preferred size (4) and the minimum (4); where there is no such resource, or it is shorter, both
--- are 512 kilobytes
+-- The sizes in the stored data of a 'SIZE' resource: flags (2 bytes), the preferred size (4) and the minimum (4). If
+-- there is no such resource, or it is shorter, both sizes are 512 kilobytes.
 abbrev pub sizes_read : List ℕ → Sizes
 sizes_read datum = record {
   preferred = rounded (number 4 2 datum);
@@ -36,6 +37,6 @@ abbrev pub sizes_in : Option (List ℕ) → Sizes
 sizes_in None = usual_sizes
 sizes_in (Some datum) = if nat_lt (length datum) 10 then usual_sizes else sizes_read datum
 
--- those of an application: its 'SIZE' -1
+-- The sizes that an application asks for: those of its 'SIZE' -1.
 abbrev pub sizes_of : Resources → Sizes
 sizes_of resources = sizes_in (own_datum size_type (negsuc 0) resources)

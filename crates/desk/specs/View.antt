@@ -31,7 +31,7 @@ place_seen seat = record {
 abbrev pub seen : {S : Type 0} → List (Placed S) → List Place
 seen seats = map place_seen seats
 
--- the windows of applications, and where the stores of their zones lie
+-- The windows of applications, and where the stores of their zones lie.
 abbrev pub lot_of : {S : Type 0} → Phase S → Option Lot
 lot_of phase.Waiting = None
 lot_of (phase.Running live) = Some (lot_of_live live)
@@ -41,16 +41,16 @@ lot_of (phase.Lost live) = Some (lot_of_live live)
 abbrev pub lots : {S : Type 0} → List (Placed S) → List (Option Lot)
 lots seats = map (λ seat. lot_of seat.phase) seats
 
--- a desk: its state, and the maker of its zones
+-- A desk: its state, and the maker of its zones.
 pub record DeskSeen (Z : Type 0) : Type 0 where
   pub state : State
   pub zones : Z
 
--- what an application leaves as it ends
+-- What an application leaves as it ends.
 abbrev pub left_of : {S : Type 0} → Departure S → Left
 left_of d = record { window = d.window; code = d.code }
 
--- what applications leave, and what a run leaves
+-- What applications leave, and what a run leaves.
 abbrev pub told_seen : AppOutcome → Told
 told_seen a = record { name = a.name.0.items; launched = option_map leaves_seen a.launched }
 

@@ -25,15 +25,15 @@ use Rattle.desk.specs.View.{outcome_seen}
 
 -- Whole runs.
 
--- the content of a fork, or the code for which it can't be read: -39 where it has no bytes, -199 where its bytes spell
--- none
+-- The content of a fork, or the result code for which the fork can't be read: -39 (eofErr) if it has no bytes, -199
+-- (mapReadErr) if its bytes spell no content.
 abbrev pub content_in : List ℕ → Result Content OsErr
 content_in fork =
     if length fork == 0 then Err END_OF_FILE
     else if is_fork fork then Ok (content_of fork)
     else Err MAP_READ
 
--- the content of the System file: none has no resources
+-- The content of the System file; if there is none, the content has no resources.
 abbrev pub system_in : Option (List ℕ) → Result Content OsErr
 system_in None = Ok no_content
 system_in (Some fork) = content_in fork
@@ -41,7 +41,7 @@ system_in (Some fork) = content_in fork
 abbrev pub system_of : Job → Result Content OsErr
 system_of job = system_in (option_map (λ fork. fork.items) job.system)
 
--- what a run leaves, or the code for which the System file's fork can't be read
+-- What a run leaves, or the result code for which the System file's fork can't be read.
 abbrev pub run_by : Result Content OsErr → ℕ → List App → List Event → Result Outcome OsErr
 run_by (Err code) memory apps events = Err code
 run_by (Ok system) memory apps events = Ok (outcome_of (after_events events (opening memory system apps)))
@@ -49,13 +49,14 @@ run_by (Ok system) memory apps events = Ok (outcome_of (after_events events (ope
 abbrev pub run_of : Job → Result Outcome OsErr
 run_of job = run_by (system_of job) job.memory job.apps.items job.events.items
 
--- that, as the code has it; where the host had no memory nothing is said
+-- The result of a run, as the code holds it; nothing is said if the host was out of memory.
 abbrev pub IsRun : Result Outcome OsErr → Result declared.Outcome RunFault → Type 0
 IsRun run (Ok outcome) = run ≡ Ok (outcome_seen outcome)
 IsRun run (Err (System code)) = run ≡ Err code
 IsRun run (Err HostMemory) = Unit {0}
 
--- Laws of each application that was launched, by the resources with which it was, its script, and what it leaves.
+-- Laws of each application that was launched, of the resources with which it was launched, its script, and what it
+-- leaves.
 abbrev pub Law : Type 1
 Law = Resources → Parts → Launched → Type 0
 
@@ -68,7 +69,7 @@ OfEach P (p ∷ places) (t ∷ told) = OfLaunched P p t × OfEach P places told
 OfEach P [] (t ∷ told) = ⊥
 OfEach P (p ∷ places) [] = ⊥
 
--- of the applications of a job
+-- A law holds of each launched application of a job.
 abbrev pub OfEachApp : Law → Result Content OsErr → List App → List Told → Type 0
 OfEachApp P (Err code) apps told = ⊥
 OfEachApp P (Ok system) apps told = OfEach P (map (place_given system) apps) told
@@ -76,19 +77,19 @@ OfEachApp P (Ok system) apps told = OfEach P (map (place_given system) apps) tol
 abbrev pub EachLaunched : Law → Job → declared.Outcome → Type 0
 EachLaunched P job outcome = OfEachApp P (system_of job) job.apps.items (outcome_seen outcome).apps
 
--- its transcript, and its files with what was written, are those that it gives alone after as many steps, in a partition
--- of that size
+-- An application's transcript, and its files with what was written of them, are those that it leaves when it runs
+-- alone in a partition of the same size for the same number of steps.
 abbrev pub IsAlone : Law
 IsAlone resources script l =
     (l.transcript ≡ (alone resources l.size script l.steps l.asked).transcript)
     × (l.files ≡ (alone resources l.size script l.steps l.asked).files)
 
--- each try of its steps keeps a law
+-- Each try of an application's steps keeps a law.
 abbrev pub InEachTry : ((ℕ → List ℕ) → history.Event → Type 0) → Law
 InEachTry P resources script l = EachTry P (put_at_launch resources l.size)
     (first_steps resources l.size script l.steps).events
 
--- the System file's content, as the code has it; where the host had no memory nothing is said
+-- The System file's content, as the code holds it; nothing is said if the host was out of memory.
 abbrev pub IsSystem : Result Content OsErr → Result Stored RunFault → Type 0
 IsSystem system (Ok content) = system ≡ Ok (view content)
 IsSystem system (Err (System code)) = system ≡ Err code

@@ -3,10 +3,10 @@
 /// What an application does, or is made to do.
 #[derive(Clone, Copy)]
 pub enum Act {
-    /// It takes its next step; where it has no call left, it quits.
+    /// The application takes its next step; if it has no call left, it quits.
     Step,
-    /// It takes steps up to and including the next `WaitNextEvent`, or to its end.
+    /// The application takes steps up to and including the next `WaitNextEvent`, or to its end.
     Turn,
-    /// It is asked to quit.
+    /// The application is asked to quit.
     Quit,
 }

@@ -6,12 +6,12 @@ use windows::Window;
 
 /// What an application gives back as it ends.
 pub struct Departure<'j, S: BlockStore> {
-    /// Its name.
+    /// The application's name.
     pub(crate) name: &'j Label,
-    /// Its window of the memory.
+    /// The application's window of the memory.
     pub(crate) window: Window,
-    /// The code of its end.
+    /// The result code of the application's end.
     pub(crate) code: OsErr,
-    /// The store of its zone.
+    /// The store of the application's zone.
     pub(crate) store: S,
 }

@@ -51,7 +51,7 @@ pub struct Desk<'j, Z: ZoneMaker> {
     zones: Z,
     grants: Grants,
     seats: Vec<Seat<'j, Z::Store>>,
-    /// Room for what each application leaves.
+    /// The list in which `finish` gathers what each application leaves. Its memory is taken when the desk is made.
     outcome: Vec<AppOutcome>,
     log: Vec<u8>,
 }
@@ -80,8 +80,8 @@ impl<'j, Z: ZoneMaker> Model for Desk<'j, Z> {
 }
 
 impl<'j, Z: ZoneMaker> Desk<'j, Z> {
-    /// A desk of a memory of that size, at which every application waits. An `Err` hands the maker of zones back: the
-    /// host has no memory.
+    /// Makes a desk of a memory of `memory` bytes, at which every application waits for its launch. Returns the maker
+    /// of zones in an `Err` if the host is out of memory.
     pub fn new(
         alloc: Global,
         memory: u32,
@@ -118,13 +118,14 @@ impl<'j, Z: ZoneMaker> Desk<'j, Z> {
         }
     }
 
-    /// Launches application `i`, if there is one of that number; the log tells whether it was launched, or why not.
+    /// Launches application `i`, if there is an application of that number; the log says that the application was
+    /// launched, or why it was not.
     ///
     /// *Inside Macintosh: Processes*, chapter 2, "Launching Applications".
     ///
     /// # Errors
     ///
-    /// The host has no memory: the desk can then only be finished.
+    /// The host is out of memory: after this the desk can only be finished.
     pub fn launch(&mut self, i: usize) -> Result<(), AllocError>
         ensures ok { OnOk result (self.new.state ≡ launched_at i self.old.state) }
         ensures memory { self.new.state.memory ≡ self.old.state.memory }
@@ -158,12 +159,12 @@ impl<'j, Z: ZoneMaker> Desk<'j, Z> {
         write_app_launch(&mut self.log, &app.name, size)
     }
 
-    /// Application `i` takes its next step, if there is one of that number and it runs: its next call, or a quit where it
-    /// has none left.
+    /// Takes the next step of application `i`, if there is an application of that number and it runs: its next call,
+    /// or a quit if it has no call left.
     ///
     /// # Errors
     ///
-    /// The host has no memory: the desk can then only be finished.
+    /// The host is out of memory: after this the desk can only be finished.
     pub fn step(&mut self, i: usize) -> Result<(), AllocError>
         ensures ok { OnOk result (self.new.state ≡ acted_at Step i self.old.state) }
         ensures memory { self.new.state.memory ≡ self.old.state.memory }
@@ -174,14 +175,14 @@ impl<'j, Z: ZoneMaker> Desk<'j, Z> {
         self.act(i, Act::Step)
     }
 
-    /// Application `i` takes a turn, if there is one of that number and it runs: steps up to and including the next
-    /// `WaitNextEvent`, or to its end.
+    /// Takes a turn of application `i`, if there is an application of that number and it runs: its steps up to and
+    /// including the next `WaitNextEvent`, or to its end.
     ///
     /// *Inside Macintosh: Processes*, chapter 1, "Scheduling of Processes".
     ///
     /// # Errors
     ///
-    /// The host has no memory: the desk can then only be finished.
+    /// The host is out of memory: after this the desk can only be finished.
     pub fn turn(&mut self, i: usize) -> Result<(), AllocError>
         ensures ok { OnOk result (self.new.state ≡ acted_at Turn i self.old.state) }
         ensures memory { self.new.state.memory ≡ self.old.state.memory }
@@ -192,11 +193,11 @@ impl<'j, Z: ZoneMaker> Desk<'j, Z> {
         self.act(i, Act::Turn)
     }
 
-    /// Application `i` is asked to quit, and ends, if there is one of that number and it runs.
+    /// Asks application `i` to quit, which ends it, if there is an application of that number and it runs.
     ///
     /// # Errors
     ///
-    /// The host has no memory: the desk can then only be finished.
+    /// The host is out of memory: after this the desk can only be finished.
     pub fn quit(&mut self, i: usize) -> Result<(), AllocError>
         ensures ok { OnOk result (self.new.state ≡ acted_at Quit i self.old.state) }
         ensures memory { self.new.state.memory ≡ self.old.state.memory }
@@ -207,8 +208,8 @@ impl<'j, Z: ZoneMaker> Desk<'j, Z> {
         self.act(i, Act::Quit)
     }
 
-    /// Application `i` does as it is told, if there is one of that number and it runs. Where it ends, its zone is closed
-    /// and its window is free before the log tells of it.
+    /// Performs an act of application `i`, if there is an application of that number and it runs. If the application
+    /// ends, its zone is closed and its window is given back before the log has the line of the end.
     pub(crate) fn act(&mut self, i: usize, act: Act) -> Result<(), AllocError>
         ensures ok { OnOk result (self.new.state ≡ acted_at act i self.old.state) }
         ensures memory { self.new.state.memory ≡ self.old.state.memory }
@@ -232,29 +233,30 @@ impl<'j, Z: ZoneMaker> Desk<'j, Z> {
         }
     }
 
-    /// How many applications there are.
+    /// Returns the number of applications.
     pub(crate) fn count(&self) -> usize
         ensures { result ≡ length self.now.state.places }
     {
         self.seats.len()
     }
 
-    /// Whether any application runs.
+    /// Reports whether any application runs.
     pub(crate) fn any_runs(&self) -> bool
         ensures { result ≡ any_runs self.now.state }
     {
         seats::any_runs(&self.seats)
     }
 
-    /// How many steps the longest script has.
+    /// Returns the number of steps of the longest script.
     pub(crate) fn longest(&self) -> usize
         ensures { result ≡ longest self.now.state.places }
     {
         longest_script(&self.seats)
     }
 
-    /// What the applications leave, in order, the desk's log, and the maker of zones with none open. In the windows of those
-    /// that still ran their zones lie, as they have them alone. It takes no memory of the host.
+    /// Returns what the applications leave, in order; the desk's log; and the maker of zones, with no zone open. In
+    /// the window of each application that still ran lies its zone, as it would be if the application ran alone. Takes
+    /// no host memory.
     pub fn finish(self) -> (Vec<AppOutcome>, Vec<u8>, Z)
         ensures apps { map told_seen result.0.items ≡ map told self.entry.state.places }
         ensures log { result.1.items ≡ self.entry.state.log }
@@ -284,7 +286,7 @@ impl<'j, Z: ZoneMaker> Desk<'j, Z> {
     }
 }
 
-/// Closes the zone of an application, and its window is free.
+/// Closes the zone of an application, and gives the application's window back.
 fn give_back<Z: ZoneMaker>(zones: &mut Z, grants: &mut Grants, window: Window, store: Z::Store)
     requires same { Z.windows zones.old ≡ grants.old.windows }
     requires made { Z.made zones.old window (Z.Store.rest store).window }
@@ -303,7 +305,7 @@ fn give_back<Z: ZoneMaker>(zones: &mut Z, grants: &mut Grants, window: Window, s
     grants.give_back(window);
 }
 
-/// The same of a window and a store, where there are any.
+/// Closes a store and gives its window back, if there are any.
 fn release<Z: ZoneMaker>(zones: &mut Z, grants: &mut Grants, freed: Option<(Window, Z::Store)>)
     requires same { Z.windows zones.old ≡ grants.old.windows }
     requires made { MadeOf (Z.made zones.old) (option_map (λ f. (f.0, (Z.Store.rest f.1).window)) freed) }
@@ -323,11 +325,12 @@ fn release<Z: ZoneMaker>(zones: &mut Z, grants: &mut Grants, freed: Option<(Wind
     }
 }
 
-/// A window that is granted, and the store of a fresh zone in it. Nothing where there is no room.
+/// Opens a fresh zone in a window that is granted, and returns the window and the zone's store. Returns `None` if
+/// there is no room.
 ///
 /// # Errors
 ///
-/// The host has no memory: nothing is granted.
+/// The host is out of memory: no window is granted.
 fn open_zone<Z: ZoneMaker>(
     zones: &mut Z,
     grants: &mut Grants,
@@ -365,11 +368,11 @@ fn open_zone<Z: ZoneMaker>(
     }
 }
 
-/// An application that is launched, in the window that is granted. Nothing where there is no room.
+/// Launches an application in a window that is granted. Returns `None` if there is no room.
 ///
 /// # Errors
 ///
-/// The host has no memory: no window is granted, and no zone stays open.
+/// The host is out of memory: no window is granted, and no zone stays open.
 fn begin<'j, Z: ZoneMaker>(
     alloc: Global,
     zones: &mut Z,

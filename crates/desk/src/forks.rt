@@ -12,7 +12,7 @@ use res_calls::File;
 use script_text::write_app_fork;
 use std::alloc::AllocError;
 
-/// Appends the line of a file whose fork was written, the one at this place among the application's.
+/// Appends the line of a file, the one at `place` among the application's files, if its fork was written.
 fn write_file(text: &mut Vec<u8>, name: &Label, place: usize, file: &File) -> Result<(), AllocError>
     ensures { OnOk result (text.new.items
         ≡ text.old.items ++ fork_told name.now.0.items place (view_file file.now)) }
@@ -35,7 +35,7 @@ fn write_files(text: &mut Vec<u8>, name: &Label, files: &[File]) -> Result<(), A
     Ok(())
 }
 
-/// Appends a line for each fork that an application wrote, if it was launched.
+/// Appends a line for each fork that an application wrote, if the application was launched.
 fn write_app(text: &mut Vec<u8>, app: &AppOutcome) -> Result<(), AllocError>
     ensures { OnOk result (text.new.items ≡ text.old.items ++ forks_of (told_seen app.now)) }
 {

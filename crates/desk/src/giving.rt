@@ -1,4 +1,4 @@
-//! What an application gives alone in a region.
+//! What an application leaves that runs alone in a region.
 
 ghost use Rattle.std.specs.Prelude.{◌≡◌, ◌%◌, ◌≤◌, [], length, IfOk};
 ghost use Rattle.applications.specs.Alone.{alone, zone_alone};
@@ -11,12 +11,13 @@ use res_calls::Resources;
 use script_text::Script;
 use std::alloc::{AllocError, Global};
 
-/// What an application gives alone, as `give_in` says, in a partition that fills a region, whatever lay there. The region
-/// comes back, with its zone in its bytes as it then is: headers, contents and master pointers.
+/// Runs an application alone, as `give_in` does, in a partition that fills a region, whatever the region's bytes were.
+/// Returns what the application leaves, and the region, in whose bytes the zone lies as it then is: headers, contents
+/// and master pointers.
 ///
 /// # Errors
 ///
-/// The host has no memory for it.
+/// The host is out of memory.
 pub fn give_in_region<W: Watch>(
     alloc: Global,
     region: Region,

@@ -15,12 +15,12 @@ use raw_region::Region;
 use raw_zone::RegionZones;
 use std::alloc::Global;
 
-/// Runs a job as `run_with` does, in the bytes of a region. The region is handed back with all its parts home, whatever the
-/// answer; the zones of applications that still run lie there as they were.
+/// Runs a job as `run_with` does, in the bytes of a region. The region is returned with all its parts returned to it,
+/// whatever the result is; the zones of applications that still run lie in its bytes as they were.
 ///
 /// # Errors
 ///
-/// The System file's fork can't be read, or the host has no memory.
+/// The System file's fork can't be read, or the host is out of memory.
 ///
 /// *Inside Macintosh: Processes*, chapter 1.
 pub fn run(alloc: Global, region: Region, job: &Job) -> (Result<Outcome, RunFault>, Region)
@@ -30,14 +30,15 @@ pub fn run(alloc: Global, region: Region, job: &Job) -> (Result<Outcome, RunFaul
     requires small { job.now.memory ≤ GREATEST_ZONE }
     requires few { length job.now.apps.items ≤ 64 }
 
-    // What it leaves is what the definition of the desk gives for the events, one after the other: the log, and of each
-    // application its transcript and its files. It is a fault of the System file exactly where its fork can't be read.
+    // What the run leaves is what the definition of the desk says for the events, one after another: the log, and of
+    // each application the transcript and the files. The run is refused for the System file exactly if that file's
+    // fork can't be read.
     ensures outcome { IsRun (run_of job.now) result.0 }
 
     // For every interleaving of launches, calls and quits, each launched application's transcript and forks are those
-    // that it would give alone with the same partition size, its own files and the same System file; each handle that was
-    // neither emptied nor disposed of shows the bytes last put there, wherever its block has moved; and no locked block
-    // moves or is purged.
+    // that it would give alone with the same partition size, its own files and the same System file; each handle that
+    // was neither emptied nor disposed of shows the bytes last put there, wherever its block has moved; and no locked
+    // block moves or is purged.
     ensures alone { IfOk result.0 (λ o. EachLaunched IsAlone job.now o) }
     ensures shown { IfOk result.0 (λ o. EachLaunched (InEachTry ShowsPut) job.now o) }
     ensures held { IfOk result.0 (λ o. EachLaunched (InEachTry HoldsPut) job.now o) }
@@ -45,14 +46,14 @@ pub fn run(alloc: Global, region: Region, job: &Job) -> (Result<Outcome, RunFaul
     ensures fixed { IfOk result.0 (λ o. EachLaunched (InEachTry KeepsFixed) job.now o) }
     ensures purged { IfOk result.0 (λ o. EachLaunched (InEachTry EmptiesPurgeable) job.now o) }
 
-    // In the window of each application that still runs its zone lies, as the application has it alone.
+    // In the window of each application that still runs lies its zone, as it would be if the application ran alone.
     ensures lies { IfOk result.0 (λ o. LieAtEnd (λ w blocks. LiesThere result.1.bytes w blocks) job.now) }
 
-    // Each byte that was in no partition at any time is as it was.
+    // Each byte that was in no partition at any time keeps its value.
     ensures untouched { IfOk result.0 (λ o. (place : ℕ) → IsNeverGranted place job.now
         → slice_get result.1.bytes place ≡ slice_get region.bytes place) }
 
-    // It is the same region that comes back, with all its parts home.
+    // The region that is returned is the one that was given, with all its parts returned.
     ensures same { result.1.home ≡ region.home }
     ensures home { result.1.out ≡ [] }
     ensures length { length result.1.bytes ≡ length region.bytes }

@@ -1,39 +1,39 @@
-//! What is handed in for a run.
+//! What is given for a run.
 
 use mac_words::{FileName, Label};
 use script_text::{Event, Script};
 
-/// A file of an application, as it is handed in.
+/// A file of an application, as it is given.
 #[derive(Debug, Drop)]
 pub struct AppFile {
-    /// Its name.
+    /// The file's name.
     pub name: FileName,
-    /// The bytes of its resource fork.
+    /// The bytes of the file's resource fork.
     pub fork: Vec<u8>,
 }
 
-/// An application, as it is handed in.
+/// An application, as it is given.
 #[derive(Debug, Drop)]
 pub struct App {
-    /// Its name, which is also that of its own file.
+    /// The application's name, which is also the name of its own file.
     pub name: Label,
-    /// The bytes of its own resource fork.
+    /// The bytes of the application's own resource fork.
     pub fork: Vec<u8>,
-    /// Its other files, in order: at most 255.
+    /// The application's other files, in order: at most 255.
     pub files: Vec<AppFile>,
-    /// Its calls.
+    /// The application's script.
     pub script: Script,
 }
 
-/// What is handed in for a run: a memory, a System file, applications, and what happens to them.
+/// What is given for a run: a memory, a System file, applications, and the events.
 #[derive(Debug, Drop)]
 pub struct Job {
-    /// How many bytes the memory has: 512 to 134217728, a multiple of 16.
+    /// The number of bytes of the memory: 512 to 134217728, a multiple of 16.
     pub memory: u32,
-    /// The bytes of the System file's resource fork; none is a fork without resources.
+    /// The bytes of the System file's resource fork; `None` stands for a fork without resources.
     pub system: Option<Vec<u8>>,
     /// The applications, in order: at most 64.
     pub apps: Vec<App>,
-    /// What happens, in order. An application is named by its place among them, from 0.
+    /// The events, in order. An event names an application by its place among `apps`, from 0.
     pub events: Vec<Event>,
 }

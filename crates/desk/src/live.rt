@@ -19,23 +19,23 @@ use script_text::{Line, Script, write_end, write_launch};
 use std::alloc::{AllocError, Global};
 use windows::Window;
 
-/// An application that runs: in a window of the memory, so many steps after its launch.
+/// An application that runs in a window of the memory, with the number of steps that it took since its launch.
 pub struct Live<'j, S: BlockStore> {
     pub(crate) application: Application<'j, S>,
     pub(crate) script: &'j Script,
     pub(crate) window: Window,
-    /// How many steps it took.
+    /// The number of steps that the application took.
     pub(crate) steps: usize,
-    /// Its transcript so far.
+    /// The transcript so far.
     pub(crate) text: Vec<u8>,
 }
 
 impl<'j, S: BlockStore> Live<'j, S> {
-    /// An application with such resources, launched in the store of a fresh zone, its window.
+    /// Launches an application with the given resources in the store of a fresh zone, which fills the window.
     ///
     /// # Errors
     ///
-    /// The host has no memory for it: the store is given back, where it lay.
+    /// The host is out of memory: the store is returned, where it lay.
     pub(crate) fn begin(
         alloc: Global,
         window: Window,
@@ -69,7 +69,7 @@ impl<'j, S: BlockStore> Live<'j, S> {
         })
     }
 
-    /// Ends so; the line of the end is appended to its transcript.
+    /// Ends the application with the given exit, and appends the line of the end to the transcript.
     fn end(&mut self, exit: Option<Exit>) -> Result<OsErr, AllocError>
         ensures came { (resources : Opened) (asked : Bool) → LiveEndsBy exit resources asked self.old
             → IfOk result (λ code. HasCome resources asked
@@ -83,7 +83,7 @@ impl<'j, S: BlockStore> Live<'j, S> {
         Ok(code)
     }
 
-    /// Takes its next call, which this line has.
+    /// Takes the next call of the application, that of `line`.
     fn follow(&mut self, line: &Line) -> Result<Option<OsErr>, AllocError>
         requires next { slice_get self.old.script.now.steps self.old.steps ≡ Some line.now }
         requires few { self.old.steps + 1 < 2 ^ 64 }
@@ -100,7 +100,7 @@ impl<'j, S: BlockStore> Live<'j, S> {
         }
     }
 
-    /// Quits, as it has no call left: that is a step too.
+    /// Quits the application, which has no call left. The quit counts as a step.
     fn run_out(&mut self) -> Result<Option<OsErr>, AllocError>
         requires { length self.old.script.now.steps ≤ self.old.steps }
         ensures came { (resources : Opened) → IsLive resources self.old → IfOk result (λ end. HasCome resources false
@@ -113,7 +113,8 @@ impl<'j, S: BlockStore> Live<'j, S> {
         Ok(Some(self.end(None)?))
     }
 
-    /// Takes a step: its next call, or a quit where there is none. Gives the code of its end, if it ends.
+    /// Takes a step: the next call, or a quit if no call is left. Returns the result code of the end if the
+    /// application ends.
     fn step(&mut self) -> Result<Option<OsErr>, AllocError>
         ensures came { (resources : Opened) → IsLive resources self.old → IfOk result (λ end. HasCome resources false
             (stepped resources self.old.script.now self.old.window self.old.steps) end self.new) }
@@ -144,7 +145,7 @@ impl<'j, S: BlockStore> Live<'j, S> {
         self.step()
     }
 
-    /// Quits, as it is asked to.
+    /// Quits the application, which is asked to quit.
     fn quit(&mut self) -> Result<Option<OsErr>, AllocError>
         ensures came { (resources : Opened) → IsLive resources self.old → IfOk result (λ end. HasCome resources true
             (come_to resources self.old.script.now self.old.window self.old.steps true) end self.new) }
@@ -155,11 +156,11 @@ impl<'j, S: BlockStore> Live<'j, S> {
         Ok(Some(self.end(None)?))
     }
 
-    /// Does as it is told. Gives the code of its end, if it ends.
+    /// Performs an act. Returns the result code of the end if the application ends.
     ///
     /// # Errors
     ///
-    /// The host has no memory for it: the application can then only be closed. It lies where it lay.
+    /// The host is out of memory: after this the application can only be closed. Its zone stays where it lies.
     pub(crate) fn act(&mut self, act: Act) -> Result<Option<OsErr>, AllocError>
         ensures came { (resources : Opened) → IsLive resources self.old → IfOk result (λ end. HasCome resources
             (is_quit act) (acted act resources self.old.script.now self.old.window self.old.steps) end self.new) }
@@ -174,7 +175,7 @@ impl<'j, S: BlockStore> Live<'j, S> {
         }
     }
 
-    /// Lets it go, asked to or not: what it leaves, and its window and store.
+    /// Returns what the application leaves, and its window and store. `asked` says whether it was asked to quit.
     pub(crate) fn leave(self, asked: bool) -> (Launched, Window, S)
         ensures running { asked ≡ false → (resources : Opened) → IsLive resources self.entry
             → leaves_seen result.0 ≡ launched_alone resources self.entry.script.now self.entry.window.len
@@ -207,7 +208,7 @@ impl<'j, S: BlockStore> Live<'j, S> {
     }
 }
 
-/// The lines of a script behind the first `n`.
+/// Returns the lines of a script after the first `n`.
 fn rest_of(script: &Script, n: usize) -> &[Line]
     ensures { result.now ≡ drop n script.now.steps }
 {

@@ -6,24 +6,24 @@ use res_calls::File;
 /// What an application leaves that was launched.
 #[derive(Debug, Drop)]
 pub struct Launched {
-    /// The size of its partition in bytes.
+    /// The size of the application's partition in bytes.
     pub size: u32,
-    /// How many steps it took; a step with no call left is a quit, and counts.
+    /// The number of steps that the application took; a step with no call left is a quit, and counts.
     pub steps: usize,
-    /// Whether it was asked to quit, and so ended.
+    /// Whether the application ended because it was asked to quit.
     pub asked: bool,
-    /// Its transcript.
+    /// The application's transcript.
     pub transcript: Vec<u8>,
-    /// Its files, in order, its own first, with what was written of them.
+    /// The application's files, in order, its own first, with what was written of them.
     pub files: Vec<File>,
 }
 
 /// What an application leaves.
 #[derive(Debug, Drop)]
 pub struct AppOutcome {
-    /// Its name.
+    /// The application's name.
     pub name: Label,
-    /// What it leaves, if it was launched.
+    /// What the application leaves, if it was launched.
     pub launched: Option<Launched>,
 }
 
@@ -32,15 +32,15 @@ pub struct AppOutcome {
 pub struct Outcome {
     /// The desk's log: a line for each launch and each end, and one for each fork that was written.
     pub desk: Vec<u8>,
-    /// The applications, in order.
+    /// What the applications leave, in order.
     pub apps: Vec<AppOutcome>,
 }
 
-/// Why a run has no outcome.
+/// The reason why a run has no outcome.
 #[derive(Clone, Copy, Debug, PartialEq, Eq)]
 pub enum RunFault {
-    /// The System file's fork can't be read: -39 where it has no bytes, -199 where they are damaged.
+    /// The System file's fork can't be read: -39 (eofErr) if it has no bytes, -199 (mapReadErr) if they are damaged.
     System(OsErr),
-    /// The host has no memory.
+    /// The host is out of memory.
     HostMemory,
 }

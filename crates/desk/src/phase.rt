@@ -6,12 +6,12 @@ use block_store::BlockStore;
 
 /// How far an application has come.
 pub enum Phase<'j, S: BlockStore> {
-    /// It was not launched yet.
+    /// The application waits for its launch.
     Waiting,
-    /// It runs.
+    /// The application runs.
     Running(Live<'j, S>),
-    /// It has ended.
+    /// The application has ended.
     Ended(Launched),
-    /// The host had no memory for something that it did: its zone can only be closed.
+    /// The host was out of memory for an act of the application: its zone can only be closed.
     Lost(Live<'j, S>),
 }

@@ -30,7 +30,7 @@ pub struct Ready {
     pub(crate) sizes: PartitionSizes,
 }
 
-/// The application's own file: it has its name.
+/// Returns the application's own file, which has the application's name.
 fn own_file(alloc: Global, app: &App) -> Result<File, AllocError>
     ensures { IfOk result (λ f. view_file f ≡ record {
       name = app.now.name.0.items;
@@ -45,7 +45,7 @@ fn own_file(alloc: Global, app: &App) -> Result<File, AllocError>
     })
 }
 
-/// Another of its files.
+/// Returns another file of the application.
 fn other_file(alloc: Global, file: &AppFile) -> Result<File, AllocError>
     ensures { IfOk result (λ f. view_file f ≡ file_given file.now) }
 {
@@ -56,7 +56,7 @@ fn other_file(alloc: Global, file: &AppFile) -> Result<File, AllocError>
     })
 }
 
-/// The files of an application, as they lie on the disk before its launch: its own first.
+/// Returns the files of an application, as they lie on the disk before its launch: its own first.
 fn files_of(alloc: Global, app: &App) -> Result<Vec<File>, AllocError>
     ensures { IfOk result (λ v. map view_file v.items ≡ files_given app.now) }
 {
@@ -68,7 +68,8 @@ fn files_of(alloc: Global, app: &App) -> Result<Vec<File>, AllocError>
     Ok(files)
 }
 
-/// The resources with which an application is launched, or the code for which its fork can't be opened.
+/// Opens the resources with which an application is launched. Returns the result code for which its fork can't be
+/// opened as a refusal.
 fn opened(alloc: Global, app: &App, system: &Content<'_>) -> Result<Resources, Refusal>
     requires types { IsTrue (are_distinct (map (λ (g : GroupValue). g.kind) (view system.now).groups)) }
     requires references { IsTrue (list_all has_refs (view system.now).groups) }
@@ -78,7 +79,7 @@ fn opened(alloc: Global, app: &App, system: &Content<'_>) -> Result<Resources, R
     Resources::new(alloc, files, system)
 }
 
-/// The same with the sizes of its partition.
+/// Opens the resources with which an application is launched, and reads the sizes of its partition.
 fn launched_with(alloc: Global, app: &App, system: &Content<'_>) -> Result<Ready, Refusal>
     requires types { IsTrue (are_distinct (map (λ (g : GroupValue). g.kind) (view system.now).groups)) }
     requires references { IsTrue (list_all has_refs (view system.now).groups) }
@@ -90,8 +91,8 @@ fn launched_with(alloc: Global, app: &App, system: &Content<'_>) -> Result<Ready
     Ok(Ready { resources, sizes })
 }
 
-/// What a waiting application is launched with. -30001 where it runs or has ended, and the code of its fork where that
-/// can't be opened.
+/// Returns what a waiting application is launched with. Refuses with -30001 (profileErr) if the application runs or
+/// has ended, and with the result code of its fork if the fork can't be opened.
 pub(crate) fn prepared<S: BlockStore>(alloc: Global, seat: &Seat<'_, S>) -> Result<Ready, Refusal>
     ensures answer { IsReady (ready (progress_seen seat.now.phase) (start_of (view seat.now.system.now) seat.now.app.now)) result }
     ensures sizes { IfOk result (λ r. sizes_seen r.sizes ≡ sizes_of r.resources) }

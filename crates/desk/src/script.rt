@@ -1,4 +1,4 @@
-//! A script, run to its end.
+//! A script that is run to its end.
 
 ghost use Rattle.std.specs.Prelude.{◌≡◌, ◌%◌, ◌≤◌, ◌+◌, [], length, IfOk};
 ghost use Rattle.applications.specs.Trying.{launched, own_resources as own, nowhere};
@@ -14,16 +14,16 @@ use raw_region::Region;
 use script_text::Script;
 use std::alloc::{AllocError, Global};
 
-/// Runs a script to its end in a partition that fills a region, whatever lay there, and gives its transcript: the line of
-/// the launch, the lines of each call, and the line of the end, each as the call tables say. Where a call finds no room,
-/// the lines of its grow-zone script stand before its own. The region comes back with the zone in its bytes. The watch
-/// is told how many lines are done.
+/// Runs a script to its end in a partition that fills a region, whatever the region's bytes were, and returns the
+/// script's transcript: the line of the launch, the lines of each call, and the line of the end, each as the call
+/// tables say. If a call finds no room, the lines of its grow-zone script precede its own line. The zone lies in the
+/// bytes of the region that is returned. `watch` is informed of the number of lines that are done.
 ///
 /// *Inside Macintosh: Memory*, chapter 1, "Organization of Memory".
 ///
 /// # Errors
 ///
-/// Where the host refuses memory there is no transcript.
+/// The host is out of memory: there is no transcript.
 #[tactic(auto, using(applications::proofs::Quits::all_steps, applications::proofs::Runs::shows_put, applications::proofs::Runs::holds_put, applications::proofs::Runs::locked_stays, applications::proofs::Runs::fixed_stays, applications::proofs::Runs::only_purgeable_go, applications::proofs::Runs::looks_few, applications::proofs::Runs::refused_leave, applications::proofs::Runs::resources_stay, applications::proofs::Runs::files_stay, applications::proofs::Runs::table_stays, applications::proofs::Runs::refused_bind, applications::proofs::Runs::goes_by_rule, applications::proofs::Runs::linked, applications::proofs::Runs::nothing_stays_busy))]
 pub fn run_script_watched<W: Watch>(
     alloc: Global,
@@ -37,23 +37,23 @@ pub fn run_script_watched<W: Watch>(
     requires high { length region.bytes ≤ 134217728 }
 
     // For every interleaving of launches, calls and quits, each launched application's transcript and forks are those
-    // that it would give alone with the same partition size, its own files and the same System file; each handle that was
-    // neither emptied nor disposed of shows the bytes last put there, wherever its block has moved; and no locked block
-    // moves or is purged.
+    // that it would give alone with the same partition size, its own files and the same System file; each handle that
+    // was neither emptied nor disposed of shows the bytes last put there, wherever its block has moved; and no locked
+    // block moves or is purged.
     //
-    // Here there is one application, and the transcript is what it gives alone: its fork has no resources, it has no
-    // other files, and there are none of the System's.
+    // Here there is one application, and the transcript is the one that it leaves when it runs alone: its fork has no
+    // resources, it has no other files, and the System file has no resources.
     ensures transcript { IfOk result.0 (λ text. text.items
         ≡ (script_alone (length region.bytes) script.now).transcript) }
 
-    // It is that of all its steps, of which the laws speak.
+    // The transcript is that of all steps of the application, of which the laws speak.
     ensures whole { first_steps own (length region.bytes) script.now (length script.now.steps + 1)
         ≡ run_alone (length region.bytes) script.now }
 
-    // Each step is a try, and the same step again as long as its grow-zone script makes room: no bound ends it.
+    // Each step is a try, and the same step again as long as its grow-zone script makes room: no bound ends the tries.
     ensures rule { GoesByRule script.now.blocks script.now.steps (launched (length region.bytes) nowhere) }
 
-    // Each try begins with the heap that the one before it left.
+    // Each try begins with the heap that the try before it left.
     ensures linked { Linked (launched (length region.bytes) nowhere).memory.heap
         (run_alone (length region.bytes) script.now).events }
 
@@ -61,12 +61,13 @@ pub fn run_script_watched<W: Watch>(
     ensures shown { EachTry ShowsPut (λ _. [])
         (run_alone (length region.bytes) script.now).events }
 
-    // After each try, those of grow-zone scripts too, each handle with a block, and each pointer, holds the bytes last
-    // put into it.
+    // After each try, including those of grow-zone scripts, each handle with a block, and each pointer, holds the
+    // bytes last put into it.
     ensures held { EachTry HoldsPut (λ _. [])
         (run_alone (length region.bytes) script.now).events }
 
-    // A locked block is neither moved nor emptied by a try, unless that disposes of its handle or unlocks it.
+    // A locked block is neither moved nor purged nor emptied by a try, unless the try disposes of its handle or
+    // unlocks it.
     ensures locked { EachTry KeepsLocked (λ _. [])
         (run_alone (length region.bytes) script.now).events }
 
@@ -74,28 +75,31 @@ pub fn run_script_watched<W: Watch>(
     ensures fixed { EachTry KeepsFixed (λ _. [])
         (run_alone (length region.bytes) script.now).events }
 
-    // What a try empties was unlocked and purgeable, unless the call lets go of that handle.
+    // Each block that a try purges was unlocked and purgeable, unless the call itself empties or disposes of the
+    // block's handle.
     ensures purged { EachTry EmptiesPurgeable (λ _. [])
         (run_alone (length region.bytes) script.now).events }
 
-    // A try, but for one of OpenResFile, looks for room at most once more than there are blocks at its start.
+    // The number of searches for room in a try, other than one of OpenResFile, is at most one more than the number of
+    // blocks at the start of the try.
     ensures looks { EachTry LooksFew (λ _. [])
         (run_alone (length region.bytes) script.now).events }
 
-    // A refused try leaves the heap and the resources as they were, but for the zone where the tables say so and for
-    // ResError's code, and each name bound as it was. A segment that can't be loaded ends the application instead.
+    // A refused try leaves the heap, the resources and the names' bindings as they were, except for the zone where the
+    // tables say so and for the code that ResError returns. A segment that can't be loaded ends the application
+    // instead.
     ensures refused { EachTry RefusedLeaves (λ _. [])
         (run_alone (length region.bytes) script.now).events }
 
-    // A call of the Memory Manager changes nothing of the resources, whatever it empties.
+    // A call of the Memory Manager leaves the resources as they are, whatever it purges.
     ensures resources { EachTry KeepsResources (λ _. [])
         (run_alone (length region.bytes) script.now).events }
 
-    // No try changes a file, but for those of CreateResFile, UpdateResFile and CloseResFile.
+    // No try changes a file, except those of CreateResFile, UpdateResFile and CloseResFile.
     ensures files { EachTry KeepsFiles (λ _. [])
         (run_alone (length region.bytes) script.now).events }
 
-    // No try changes the jump table, but for those of the Segment Manager's calls.
+    // No try changes the jump table, except those of the Segment Manager's calls.
     ensures table { EachTry KeepsTable (λ _. [])
         (run_alone (length region.bytes) script.now).events }
 
@@ -105,16 +109,16 @@ pub fn run_script_watched<W: Watch>(
     // A step whose call is refused binds no name.
     ensures bound { RefusedBinds script.now.blocks script.now.steps (launched (length region.bytes) nowhere) }
 
-    // What lies in the region then is the zone that the application leaves: headers tile the bytes, each master pointer of
-    // a handle leads to its block, and the unused ones are one list.
+    // After the run, the region holds the zone that the application leaves: headers tile the bytes, each handle's
+    // master pointer leads to its block, and the unused master pointers are one list.
     ensures lies { IfOk result.0 (λ _. LieAs (script_zone (length region.bytes) script.now) result.1.bytes) }
 
-    // It is the region that was handed in, with all its parts home, whatever the answer.
+    // The region that is returned is the one that was given, with all its parts returned, whatever the result is.
     ensures home { result.1.out ≡ [] }
     ensures same { result.1.home ≡ region.home }
     ensures length { length result.1.bytes ≡ length region.bytes }
 
-    // Being watched prints nothing.
+    // Watching the run prints nothing.
     ensures silent { W.printed watch.new ≡ W.printed watch.old }
 {
     let resources = match own_resources(alloc) {
@@ -129,11 +133,11 @@ pub fn run_script_watched<W: Watch>(
     }
 }
 
-/// Runs a script to its end that nobody watches, as `run_script_watched` does.
+/// Runs a script to its end as `run_script_watched` does, without a watch.
 ///
 /// # Errors
 ///
-/// Where the host refuses memory there is no transcript.
+/// The host is out of memory: there is no transcript.
 pub fn run_script(
     alloc: Global,
     region: Region,
@@ -145,23 +149,23 @@ pub fn run_script(
     requires high { length region.bytes ≤ 134217728 }
 
     // For every interleaving of launches, calls and quits, each launched application's transcript and forks are those
-    // that it would give alone with the same partition size, its own files and the same System file; each handle that was
-    // neither emptied nor disposed of shows the bytes last put there, wherever its block has moved; and no locked block
-    // moves or is purged.
+    // that it would give alone with the same partition size, its own files and the same System file; each handle that
+    // was neither emptied nor disposed of shows the bytes last put there, wherever its block has moved; and no locked
+    // block moves or is purged.
     //
-    // Here there is one application, and the transcript is what it gives alone: its fork has no resources, it has no
-    // other files, and there are none of the System's.
+    // Here there is one application, and the transcript is the one that it leaves when it runs alone: its fork has no
+    // resources, it has no other files, and the System file has no resources.
     ensures transcript { IfOk result.0 (λ text. text.items
         ≡ (script_alone (length region.bytes) script.now).transcript) }
 
-    // It is that of all its steps, of which the laws speak.
+    // The transcript is that of all steps of the application, of which the laws speak.
     ensures whole { first_steps own (length region.bytes) script.now (length script.now.steps + 1)
         ≡ run_alone (length region.bytes) script.now }
 
-    // Each step is a try, and the same step again as long as its grow-zone script makes room: no bound ends it.
+    // Each step is a try, and the same step again as long as its grow-zone script makes room: no bound ends the tries.
     ensures rule { GoesByRule script.now.blocks script.now.steps (launched (length region.bytes) nowhere) }
 
-    // Each try begins with the heap that the one before it left.
+    // Each try begins with the heap that the try before it left.
     ensures linked { Linked (launched (length region.bytes) nowhere).memory.heap
         (run_alone (length region.bytes) script.now).events }
 
@@ -169,12 +173,13 @@ pub fn run_script(
     ensures shown { EachTry ShowsPut (λ _. [])
         (run_alone (length region.bytes) script.now).events }
 
-    // After each try, those of grow-zone scripts too, each handle with a block, and each pointer, holds the bytes last
-    // put into it.
+    // After each try, including those of grow-zone scripts, each handle with a block, and each pointer, holds the
+    // bytes last put into it.
     ensures held { EachTry HoldsPut (λ _. [])
         (run_alone (length region.bytes) script.now).events }
 
-    // A locked block is neither moved nor emptied by a try, unless that disposes of its handle or unlocks it.
+    // A locked block is neither moved nor purged nor emptied by a try, unless the try disposes of its handle or
+    // unlocks it.
     ensures locked { EachTry KeepsLocked (λ _. [])
         (run_alone (length region.bytes) script.now).events }
 
@@ -182,28 +187,31 @@ pub fn run_script(
     ensures fixed { EachTry KeepsFixed (λ _. [])
         (run_alone (length region.bytes) script.now).events }
 
-    // What a try empties was unlocked and purgeable, unless the call lets go of that handle.
+    // Each block that a try purges was unlocked and purgeable, unless the call itself empties or disposes of the
+    // block's handle.
     ensures purged { EachTry EmptiesPurgeable (λ _. [])
         (run_alone (length region.bytes) script.now).events }
 
-    // A try, but for one of OpenResFile, looks for room at most once more than there are blocks at its start.
+    // The number of searches for room in a try, other than one of OpenResFile, is at most one more than the number of
+    // blocks at the start of the try.
     ensures looks { EachTry LooksFew (λ _. [])
         (run_alone (length region.bytes) script.now).events }
 
-    // A refused try leaves the heap and the resources as they were, but for the zone where the tables say so and for
-    // ResError's code, and each name bound as it was. A segment that can't be loaded ends the application instead.
+    // A refused try leaves the heap, the resources and the names' bindings as they were, except for the zone where the
+    // tables say so and for the code that ResError returns. A segment that can't be loaded ends the application
+    // instead.
     ensures refused { EachTry RefusedLeaves (λ _. [])
         (run_alone (length region.bytes) script.now).events }
 
-    // A call of the Memory Manager changes nothing of the resources, whatever it empties.
+    // A call of the Memory Manager leaves the resources as they are, whatever it purges.
     ensures resources { EachTry KeepsResources (λ _. [])
         (run_alone (length region.bytes) script.now).events }
 
-    // No try changes a file, but for those of CreateResFile, UpdateResFile and CloseResFile.
+    // No try changes a file, except those of CreateResFile, UpdateResFile and CloseResFile.
     ensures files { EachTry KeepsFiles (λ _. [])
         (run_alone (length region.bytes) script.now).events }
 
-    // No try changes the jump table, but for those of the Segment Manager's calls.
+    // No try changes the jump table, except those of the Segment Manager's calls.
     ensures table { EachTry KeepsTable (λ _. [])
         (run_alone (length region.bytes) script.now).events }
 
@@ -213,11 +221,11 @@ pub fn run_script(
     // A step whose call is refused binds no name.
     ensures bound { RefusedBinds script.now.blocks script.now.steps (launched (length region.bytes) nowhere) }
 
-    // What lies in the region then is the zone that the application leaves: headers tile the bytes, each master pointer of
-    // a handle leads to its block, and the unused ones are one list.
+    // After the run, the region holds the zone that the application leaves: headers tile the bytes, each handle's
+    // master pointer leads to its block, and the unused master pointers are one list.
     ensures lies { IfOk result.0 (λ _. LieAs (script_zone (length region.bytes) script.now) result.1.bytes) }
 
-    // It is the region that was handed in, with all its parts home, whatever the answer.
+    // The region that is returned is the one that was given, with all its parts returned, whatever the result is.
     ensures home { result.1.out ≡ [] }
     ensures same { result.1.home ≡ region.home }
     ensures length { length result.1.bytes ≡ length region.bytes }

@@ -6,7 +6,8 @@ use block_store::BlockStore;
 use fork_format::Content;
 use std::marker::Model;
 
-/// An application's place at the desk: what was handed in for it, the System file's content, and how far it has come.
+/// An application's place at the desk: what was given for the application, the System file's content, and how far the
+/// application has come.
 pub struct Seat<'j, S: BlockStore> {
     pub(crate) system: &'j Content<'j>,
     pub(crate) app: &'j App,

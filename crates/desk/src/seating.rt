@@ -24,11 +24,11 @@ use mac_words::Label;
 use std::alloc::AllocError;
 use windows::Window;
 
-/// The application of a place does as it is told, if it runs. Gives what it leaves, if it ends.
+/// Performs an act of the application of a place, if it runs. Returns what the application gives back if it ends.
 ///
 /// # Errors
 ///
-/// The host has no memory for it: the application can then only be closed.
+/// The host is out of memory: after this the application can only be closed.
 pub(crate) fn act<'j, S: BlockStore>(
     seat: &mut Seat<'j, S>,
     act: Act,
@@ -45,7 +45,7 @@ pub(crate) fn act<'j, S: BlockStore>(
     replace_with(&mut seat.phase, (&app.name, act), advance)
 }
 
-/// How far an application comes that does as it is told, and what it leaves, if it ends.
+/// Returns how far an application has come after an act, and what it gives back if it ends.
 fn advance<'j, S: BlockStore>(
     phase: Phase<'j, S>,
     told: (&'j Label, Act),
@@ -69,7 +69,7 @@ fn advance<'j, S: BlockStore>(
     }
 }
 
-/// The same of an application that runs.
+/// Performs an act of an application that runs. Returns how far it has come, and what it gives back if it ends.
 fn go_on<'j, S: BlockStore>(
     live: Live<'j, S>,
     name: &'j Label,
@@ -103,7 +103,7 @@ fn go_on<'j, S: BlockStore>(
     }
 }
 
-/// Whether an end is one that was asked for.
+/// Reports whether the end of an act is one that was asked for.
 fn is_asked(act: Act) -> bool
     ensures { result ≡ is_quit act }
 {
@@ -113,7 +113,7 @@ fn is_asked(act: Act) -> bool
     }
 }
 
-/// The application of a place, which waits, begins to run.
+/// Makes the waiting application of a place run.
 pub(crate) fn start<'j, S: BlockStore>(seat: &mut Seat<'j, S>, live: Live<'j, S>)
     requires waits { (place_seen seat.old).progress ≡ Waiting }
     requires live { RunsWith (place_seen seat.old).start (place_seen seat.old).script live }
@@ -137,14 +137,15 @@ fn occupy<'j, S: BlockStore>(phase: Phase<'j, S>, live: Live<'j, S>) -> (Phase<'
     }
 }
 
-/// Whether the application of a place runs.
+/// Reports whether the application of a place runs.
 pub(crate) fn is_running<S: BlockStore>(seat: &Seat<'_, S>) -> bool
     ensures { result ≡ runs (progress_seen seat.now.phase) }
 {
     matches!(seat.phase, Phase::Running(_))
 }
 
-/// What an application leaves; its window and the store of its zone, where that is open.
+/// Returns what an application leaves, if it was launched, and its window and the store of its zone, if the zone is
+/// open.
 pub(crate) fn part<'j, S: BlockStore>(
     phase: Phase<'j, S>,
 ) -> (Option<Launched>, Option<(Window, S)>)
@@ -169,7 +170,7 @@ pub(crate) fn part<'j, S: BlockStore>(
     }
 }
 
-/// A name again.
+/// Returns a copy of a name.
 pub(crate) fn own_name(name: &Label) -> Label
     ensures { result.0.items ≡ name.now.0.items }
 {

@@ -29,7 +29,7 @@ use fork_format::Content;
 use std::alloc::{AllocError, Global};
 use windows::Window;
 
-/// A place for each application, where it waits.
+/// Returns a place for each application, at which it waits for its launch.
 pub(crate) fn places<'j, S: BlockStore>(
     alloc: Global,
     system: &'j Content<'j>,
@@ -60,7 +60,8 @@ pub(crate) fn places<'j, S: BlockStore>(
     Ok(seats)
 }
 
-/// Application `i` does as it is told, if there is one of that number and it runs. Gives what it leaves, if it ends.
+/// Performs an act of application `i`, if there is an application of that number and it runs. Returns what the
+/// application gives back if it ends.
 pub(crate) fn act_at<'j, S: BlockStore>(
     seats: &mut Vec<Seat<'j, S>>,
     i: usize,
@@ -84,7 +85,7 @@ pub(crate) fn act_at<'j, S: BlockStore>(
     }
 }
 
-/// A waiting application begins to run.
+/// Makes the waiting application `i` run.
 pub(crate) fn start_at<'j, S: BlockStore>(seats: &mut Vec<Seat<'j, S>>, i: usize, live: Live<'j, S>)
     requires waits { IfSome (slice_get (seen seats.old.items) i) (λ p. p.progress ≡ Waiting) }
     requires live { IfSome (slice_get (seen seats.old.items) i) (λ p. RunsWith p.start p.script live) }
@@ -97,7 +98,7 @@ pub(crate) fn start_at<'j, S: BlockStore>(seats: &mut Vec<Seat<'j, S>>, i: usize
     seating::start(&mut seats[i], live);
 }
 
-/// What an application leaves; its window and the store of its zone, where that is open.
+/// Returns what an application leaves, and its window and the store of its zone, if the zone is open.
 pub(crate) fn leave<'j, S: BlockStore>(seat: Seat<'j, S>) -> (AppOutcome, Option<(Window, S)>)
     ensures told { told_seen result.0 ≡ told (place_seen seat.entry) }
     ensures window { option_map (λ f. f.0) result.1 ≡ window_of (progress_seen seat.entry.phase) }
@@ -115,7 +116,7 @@ pub(crate) fn leave<'j, S: BlockStore>(seat: Seat<'j, S>) -> (AppOutcome, Option
     (AppOutcome { name, launched }, freed)
 }
 
-/// Whether any application runs.
+/// Reports whether any application runs.
 pub(crate) fn any_runs<S: BlockStore>(seats: &[Seat<'_, S>]) -> bool
     ensures { result ≡ list_any (λ (p : Place). runs p.progress) (seen seats.now) }
 {

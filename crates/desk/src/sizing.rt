@@ -1,4 +1,4 @@
-//! The sizes that an application asks for.
+//! The sizes of the partition that an application asks for.
 
 ghost use Rattle.std.specs.Prelude.{◌≡◌, ◌≤◌, ◌%◌, length, option_map};
 ghost use Rattle.desk.specs.Sizes as sizes;
@@ -9,22 +9,22 @@ use byteorder::{BigEndian, ByteOrder};
 use mac_words::OsType;
 use res_calls::Resources;
 
-/// The type of the resource that says the sizes.
+/// The type of the resource that holds the sizes.
 const SIZE: OsType = OsType(*b"SIZE");
-/// Its ID.
+/// The ID of the resource that holds the sizes.
 const SIZE_ID: i16 = -1;
-/// Where the preferred size stands in it.
+/// The place of the preferred size in the resource.
 const PREFERRED_AT: usize = 2;
-/// Where the minimum stands in it.
+/// The place of the minimum size in the resource.
 const MINIMUM_AT: usize = 6;
-/// How many bytes it has at least.
+/// The least number of bytes of a resource that holds the sizes.
 const LEAST_BYTES: usize = 10;
-/// The size where nothing is said: 512 kilobytes.
+/// The size of a partition if no resource holds one: 512 kilobytes.
 const USUAL_SIZE: u32 = 524288;
-/// No partition is smaller.
+/// The least size of a partition.
 const LEAST_SIZE: u32 = 512;
 
-/// A size as partitions have it: a multiple of 16, at least 512.
+/// Rounds a size to that of a partition: down to a multiple of 16, but to at least 512.
 fn rounded(size: u32) -> u32
     ensures value { result ≡ sizes.rounded size }
     ensures whole { result % 16 ≡ 0 }
@@ -37,7 +37,7 @@ fn rounded(size: u32) -> u32
     }
 }
 
-/// The sizes that a resource of this type says.
+/// Reads the sizes in the stored data of a 'SIZE' resource.
 fn read_sizes(datum: &[u8]) -> PartitionSizes
     requires { 10 ≤ length datum.now }
     ensures { sizes_seen result ≡ sizes.sizes_read datum.now }
@@ -48,7 +48,8 @@ fn read_sizes(datum: &[u8]) -> PartitionSizes
     PartitionSizes { preferred, minimum }
 }
 
-/// The sizes that a resource of this type says, or the usual ones where it says none.
+/// Reads the sizes in the stored data of a 'SIZE' resource; returns the usual sizes if there is none, or it is too
+/// short.
 fn sizes_in(datum: Option<&[u8]>) -> PartitionSizes
     ensures { sizes_seen result ≡ sizes.sizes_in (option_map (λ b. b.now) datum.entry) }
 {
@@ -62,7 +63,7 @@ fn sizes_in(datum: Option<&[u8]>) -> PartitionSizes
 }
 
 impl PartitionSizes {
-    /// The sizes that an application asks for: those of its 'SIZE' -1.
+    /// Returns the sizes that an application asks for: those of its 'SIZE' -1.
     pub(crate) fn of(resources: &Resources) -> PartitionSizes
         ensures { sizes_seen result ≡ sizes.sizes_of resources.now }
     {

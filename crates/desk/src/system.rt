@@ -13,11 +13,11 @@ use fork_format::{Content, ForkFault, read_fork};
 use mac_words::OsErr;
 use std::alloc::Global;
 
-/// The content of the System file's fork; where there is none, it has no resources.
+/// Reads the content of the System file's fork; if there is no such file, the content has no resources.
 ///
 /// # Errors
 ///
-/// The fork can't be read, or the host has no memory.
+/// The fork can't be read, or the host is out of memory.
 pub(crate) fn read_system<'b>(
     alloc: Global,
     system: &'b Option<Vec<u8>>,

@@ -1,4 +1,4 @@
-//! What happens at the desk.
+//! The events at the desk.
 
 ghost use Rattle.std.specs.Prelude.{◌≡◌, ℕ, OnOk};
 ghost use Rattle.windows.specs.declared.Window.{Window as Stretch};
@@ -16,14 +16,14 @@ use block_store::{BlockStore, ZoneMaker};
 use script_text::Event;
 use std::alloc::AllocError;
 
-/// The larger number.
+/// Returns the larger of two numbers.
 fn larger(most: usize, other: usize) -> usize
     ensures { result ≡ larger most other }
 {
     if most < other { other } else { most }
 }
 
-/// How many steps the longest script has.
+/// Returns the number of steps of the longest script.
 #[tactic(auto, using(crate::proofs::Rounds::longest_next))]
 pub(crate) fn longest_script<S: BlockStore>(seats: &[Seat<'_, S>]) -> usize
     ensures { result ≡ longest (seen seats.now) }
@@ -36,7 +36,7 @@ pub(crate) fn longest_script<S: BlockStore>(seats: &[Seat<'_, S>]) -> usize
 }
 
 impl<'j, Z: ZoneMaker> Desk<'j, Z> {
-    /// Each application in order takes a turn, where it runs.
+    /// Takes a round: each application in order takes a turn, if it runs.
     #[tactic(auto, using(crate::proofs::Rounds::turned_next))]
     fn round(&mut self) -> Result<(), AllocError>
         ensures ok { OnOk result (self.new.state ≡ round self.old.state) }
@@ -56,7 +56,7 @@ impl<'j, Z: ZoneMaker> Desk<'j, Z> {
     ///
     /// # Errors
     ///
-    /// The host has no memory: the desk can then only be finished.
+    /// The host is out of memory: after this the desk can only be finished.
     #[tactic(auto, using(crate::proofs::Rounds::round_next, crate::proofs::Rounds::round_none))]
     pub fn rest(&mut self) -> Result<(), AllocError>
         ensures ok { OnOk result (self.new.state ≡ rested self.old.state) }
@@ -78,11 +78,11 @@ impl<'j, Z: ZoneMaker> Desk<'j, Z> {
         Ok(())
     }
 
-    /// Lets an event happen.
+    /// Performs an event.
     ///
     /// # Errors
     ///
-    /// The host has no memory: the desk can then only be finished.
+    /// The host is out of memory: after this the desk can only be finished.
     pub fn serve(&mut self, event: Event) -> Result<(), AllocError>
         ensures ok { OnOk result (self.new.state ≡ after_event event self.old.state) }
         ensures memory { self.new.state.memory ≡ self.old.state.memory }
@@ -100,7 +100,8 @@ impl<'j, Z: ZoneMaker> Desk<'j, Z> {
     }
 }
 
-/// Lets events happen, up to the first that the host has no memory for, and tells a watch how many have happened.
+/// Performs events, up to the first for which the host is out of memory, and informs a watch of the number of events
+/// that have happened.
 #[tactic(auto, using(crate::proofs::Rounds::events_next))]
 pub(crate) fn serve_all<Z: ZoneMaker, W: Watch>(
     desk: &mut Desk<'_, Z>,

@@ -27,7 +27,7 @@ use block_store::ZoneMaker;
 use fork_format::Content;
 use std::alloc::{AllocError, Global};
 
-/// Runs the events of a job at a desk, and ends its log with a line for each fork that was written.
+/// Performs the events of a job at a desk, and ends the desk's log with a line for each fork that was written.
 fn run_events<Z: ZoneMaker, W: Watch>(
     mut desk: Desk<'_, Z>,
     job: &Job,
@@ -55,7 +55,7 @@ fn run_events<Z: ZoneMaker, W: Watch>(
     }
 }
 
-/// Runs a job by the System file's content.
+/// Runs a job with the content of the System file.
 fn run_by<Z: ZoneMaker, W: Watch>(
     alloc: Global,
     job: &Job,
@@ -86,12 +86,12 @@ fn run_by<Z: ZoneMaker, W: Watch>(
     }
 }
 
-/// Runs a job: its applications wait at a desk of its memory, and its events happen there in order. The maker of zones
-/// comes back with none open. The watch is told how many events have happened.
+/// Runs a job: its applications wait at a desk of the job's memory, and its events happen there in order. The maker of
+/// zones is returned with no zone open. `watch` is informed of the number of events that have happened.
 ///
 /// # Errors
 ///
-/// The System file's fork can't be read, or the host has no memory.
+/// The System file's fork can't be read, or the host is out of memory.
 ///
 /// *Inside Macintosh: Processes*, chapter 1.
 pub fn run_watched<Z: ZoneMaker, W: Watch>(
@@ -105,14 +105,15 @@ pub fn run_watched<Z: ZoneMaker, W: Watch>(
     requires multiple { job.now.memory % 16 ≡ 0 }
     requires few { length job.now.apps.items ≤ 64 }
 
-    // What it leaves is what the definition of the desk gives for the events, one after the other: the log, and of each
-    // application its transcript and its files. It is a fault of the System file exactly where its fork can't be read.
+    // What the run leaves is what the definition of the desk says for the events, one after another: the log, and of
+    // each application the transcript and the files. The run is refused for the System file exactly if that file's
+    // fork can't be read.
     ensures outcome { IsRun (run_of job.now) result.0 }
 
     // For every interleaving of launches, calls and quits, each launched application's transcript and forks are those
-    // that it would give alone with the same partition size, its own files and the same System file; each handle that was
-    // neither emptied nor disposed of shows the bytes last put there, wherever its block has moved; and no locked block
-    // moves or is purged.
+    // that it would give alone with the same partition size, its own files and the same System file; each handle that
+    // was neither emptied nor disposed of shows the bytes last put there, wherever its block has moved; and no locked
+    // block moves or is purged.
     ensures alone { IfOk result.0 (λ o. EachLaunched IsAlone job.now o) }
     ensures shown { IfOk result.0 (λ o. EachLaunched (InEachTry ShowsPut) job.now o) }
     ensures held { IfOk result.0 (λ o. EachLaunched (InEachTry HoldsPut) job.now o) }
@@ -120,19 +121,19 @@ pub fn run_watched<Z: ZoneMaker, W: Watch>(
     ensures fixed { IfOk result.0 (λ o. EachLaunched (InEachTry KeepsFixed) job.now o) }
     ensures purged { IfOk result.0 (λ o. EachLaunched (InEachTry EmptiesPurgeable) job.now o) }
 
-    // The maker of zones comes back with none open.
+    // The maker of zones is returned with no zone open.
     ensures windows { Z.windows result.1 ≡ [] }
     ensures memory { Z.memory result.1 ≡ job.now.memory }
 
-    // In the window of each application that still runs its zone lies, as the application has it alone.
+    // In the window of each application that still runs lies its zone, as it would be if the application ran alone.
     ensures lies { IfOk result.0 (λ o. LieAtEnd (Z.left result.1) job.now) }
 
-    // It is a maker in the same memory, and each byte that was in no partition at any time is as it was.
+    // The maker of zones works in the same memory, and each byte that was in no partition at any time keeps its value.
     ensures kept { (w : Window) (site : Site) → Z.made zones w site → Z.made result.1 w site }
     ensures outside { IfOk result.0 (λ o. (place : ℕ) → IsNeverGranted place job.now
         → Z.byte result.1 place ≡ Z.byte zones place) }
 
-    // Being watched prints nothing.
+    // Watching the run prints nothing.
     ensures silent { W.printed watch.new ≡ W.printed watch.old }
 {
     let system = match read_system(alloc, &job.system) {
@@ -146,25 +147,26 @@ pub fn run_watched<Z: ZoneMaker, W: Watch>(
     }
 }
 
-/// Runs a job that nobody watches, as `run_watched` does.
+/// Runs a job as `run_watched` does, without a watch.
 ///
 /// # Errors
 ///
-/// The System file's fork can't be read, or the host has no memory.
+/// The System file's fork can't be read, or the host is out of memory.
 pub fn run_with<Z: ZoneMaker>(alloc: Global, job: &Job, zones: Z) -> (Result<Outcome, RunFault>, Z)
     requires none { Z.windows zones ≡ [] }
     requires memory { Z.memory zones ≡ job.now.memory }
     requires multiple { job.now.memory % 16 ≡ 0 }
     requires few { length job.now.apps.items ≤ 64 }
 
-    // What it leaves is what the definition of the desk gives for the events, one after the other: the log, and of each
-    // application its transcript and its files. It is a fault of the System file exactly where its fork can't be read.
+    // What the run leaves is what the definition of the desk says for the events, one after another: the log, and of
+    // each application the transcript and the files. The run is refused for the System file exactly if that file's
+    // fork can't be read.
     ensures outcome { IsRun (run_of job.now) result.0 }
 
     // For every interleaving of launches, calls and quits, each launched application's transcript and forks are those
-    // that it would give alone with the same partition size, its own files and the same System file; each handle that was
-    // neither emptied nor disposed of shows the bytes last put there, wherever its block has moved; and no locked block
-    // moves or is purged.
+    // that it would give alone with the same partition size, its own files and the same System file; each handle that
+    // was neither emptied nor disposed of shows the bytes last put there, wherever its block has moved; and no locked
+    // block moves or is purged.
     ensures alone { IfOk result.0 (λ o. EachLaunched IsAlone job.now o) }
     ensures shown { IfOk result.0 (λ o. EachLaunched (InEachTry ShowsPut) job.now o) }
     ensures held { IfOk result.0 (λ o. EachLaunched (InEachTry HoldsPut) job.now o) }
@@ -172,14 +174,14 @@ pub fn run_with<Z: ZoneMaker>(alloc: Global, job: &Job, zones: Z) -> (Result<Out
     ensures fixed { IfOk result.0 (λ o. EachLaunched (InEachTry KeepsFixed) job.now o) }
     ensures purged { IfOk result.0 (λ o. EachLaunched (InEachTry EmptiesPurgeable) job.now o) }
 
-    // The maker of zones comes back with none open.
+    // The maker of zones is returned with no zone open.
     ensures windows { Z.windows result.1 ≡ [] }
     ensures memory { Z.memory result.1 ≡ job.now.memory }
 
-    // In the window of each application that still runs its zone lies, as the application has it alone.
+    // In the window of each application that still runs lies its zone, as it would be if the application ran alone.
     ensures lies { IfOk result.0 (λ o. LieAtEnd (Z.left result.1) job.now) }
 
-    // It is a maker in the same memory, and each byte that was in no partition at any time is as it was.
+    // The maker of zones works in the same memory, and each byte that was in no partition at any time keeps its value.
     ensures kept { (w : Window) (site : Site) → Z.made zones w site → Z.made result.1 w site }
     ensures outside { IfOk result.0 (λ o. (place : ℕ) → IsNeverGranted place job.now
         → Z.byte result.1 place ≡ Z.byte zones place) }

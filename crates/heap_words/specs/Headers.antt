@@ -1,18 +1,18 @@
--- The header of a block: physical size with the tag, logical size, slot, flags (Inside Macintosh: Memory, chapter 1,
--- "Block Headers").
+-- The header of a block: the physical size with the tag, the logical size, the slot, and the flags (Inside Macintosh:
+-- Memory, chapter 1, "Block Headers").
 use Rattle.std.specs.Prelude.{ℕ, ◌+◌, List}
 use Rattle.heap_words.specs.Words.{header}
 use Rattle.heap_words.specs.declared.header.Tag.{Tag}
 use Rattle.heap_words.specs.declared.header.Tag.TheVariants.{Free, Fixed, Masters, Relocatable}
 use Rattle.heap_words.specs.declared.header.Header.{Header}
 
--- what a tag adds to the physical size, which is a multiple of 16
+-- The number of a tag, which is added to the physical size, a multiple of 16.
 abbrev pub tag_number : Tag → ℕ
 tag_number Free = 0
 tag_number Fixed = 1
 tag_number Masters = 2
 tag_number Relocatable = 3
 
--- the bytes of a header
+-- The bytes of a header.
 abbrev pub header_bytes : Header → List ℕ
 header_bytes h = header (h.size + tag_number h.tag) h.logical h.slot h.flags

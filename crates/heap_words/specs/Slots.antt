@@ -5,9 +5,8 @@ use Rattle.heap_words.specs.declared.word.TheConstants.{UNIT}
 use Rattle.heap_words.specs.declared.slot.SlotWord.{SlotWord}
 use Rattle.heap_words.specs.declared.slot.SlotWord.TheVariants.{Block, Emptied, Unused}
 
--- the number that stands in a slot: the place of its block, or 2 for an emptied one (18 for a resource), or 16 times
--- the
--- place of the next unused slot plus 1 (1 alone where none follows)
+-- The number that stands in a slot: the place of its block; or 2 for an empty handle (18 for a resource's); or, of an
+-- unused slot, 16 times the place of the next unused slot plus 1 (1 alone where none follows).
 abbrev pub slot_number : SlotWord → ℕ
 slot_number (Block at) = at
 slot_number (Emptied true) = EMPTIED_RESOURCE
@@ -15,14 +14,14 @@ slot_number (Emptied false) = EMPTIED
 slot_number (Unused None) = LAST_UNUSED
 slot_number (Unused (Some next)) = UNIT * next + LAST_UNUSED
 
--- what can stand in a slot: a block has a multiple of 16 for its place, and neither a block nor a slot lies at 0
+-- What can stand in a slot: the place of a block is a multiple of 16, and neither a block nor a slot has the place 0.
 abbrev pub IsSlot : SlotWord → Type 0
 IsSlot (Block at) = (at % UNIT ≡ 0) × (0 < at)
 IsSlot (Emptied resource) = Unit {0}
 IsSlot (Unused None) = Unit {0}
 IsSlot (Unused (Some next)) = (0 < next) × (UNIT * next + LAST_UNUSED < 2 ^ 32)
 
--- the numbers of these
+-- The numbers that can stand in a slot.
 abbrev pub IsSlotNumber : ℕ → Type 0
 IsSlotNumber n =
     ((n % UNIT ≡ 0) × (0 < n)) ⊎ ((n ≡ EMPTIED) ⊎ ((n ≡ EMPTIED_RESOURCE) ⊎ (n % UNIT ≡ LAST_UNUSED)))

@@ -1,16 +1,16 @@
--- The words of a zone: four bytes, the highest first (Inside Macintosh: Memory, chapter 1, "Block Headers").
+-- The words of a zone: four bytes each, the highest first (Inside Macintosh: Memory, chapter 1, "Block Headers").
 use Rattle.std.specs.Prelude.{ℕ, ◌++◌, List}
 use Rattle.byteorder.specs.Endian.{big_bytes, big_number}
 use Rattle.windows.specs.Writes.{piece}
 
--- the word at a place
+-- The word at a place.
 unfoldable pub word_at : ℕ → List ℕ → ℕ
 word_at at xs = big_number 4 (piece at 4 xs)
 
--- the four bytes of a word
+-- The four bytes of a word.
 unfoldable pub word : ℕ → List ℕ
 word n = big_bytes 4 n
 
--- the four words of a header
+-- The sixteen bytes of the four words of a header.
 abbrev pub header : ℕ → ℕ → ℕ → ℕ → List ℕ
 header a b c d = word a ++ (word b ++ (word c ++ word d))

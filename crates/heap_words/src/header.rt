@@ -8,31 +8,32 @@ ghost use Rattle.heap_words.specs.declared.word.TheConstants.{UNIT};
 use crate::word::{UNIT, read_word, write_word};
 use raw_region::Part;
 
-/// How many bytes a header takes.
+/// The number of bytes of a header.
 pub const HEADER: u32 = 16;
 
-/// The kind of a block, as its header tells it.
+/// The kind of a block, as its header says.
 #[derive(Clone, Copy, Debug, PartialEq, Eq, Drop)]
 pub enum Tag {
-    /// Nothing is in it.
+    /// A free block.
     Free,
     /// A nonrelocatable block.
     Fixed,
-    /// A block of master pointers.
+    /// A master pointer block.
     Masters,
     /// A relocatable block.
     Relocatable,
 }
 
-/// The four words that stand before the content of a block (Inside Macintosh: Memory, chapter 1, "Block Headers").
+/// The four words that precede the content of a block (Inside Macintosh: Memory, chapter 1, "Block Headers").
 #[derive(Clone, Copy, Debug, PartialEq, Eq, Drop)]
 pub struct Header {
-    /// The physical size: all bytes of the block, with its header. A multiple of `UNIT`.
+    /// The physical size: all bytes of the block, including its header. It is a multiple of `UNIT`.
     pub size: u32,
     pub tag: Tag,
-    /// How many bytes of content were asked for; for a block of master pointers, the bytes of its slots.
+    /// The logical size: the number of bytes of content that were asked for, or, of a master pointer block, the bytes
+    /// of its slots.
     pub logical: u32,
-    /// The place of the slot that a relocatable block belongs to, or 0.
+    /// The place of the slot of a relocatable block, or 0.
     pub slot: u32,
     pub flags: u32,
 }
@@ -60,7 +61,7 @@ fn tag_of(code: u32) -> Tag
     }
 }
 
-/// The header of the block at a place. Of a free block only the first word counts.
+/// Reads the header of the block at `at`. Of the header of a free block, only the first word has a meaning.
 pub fn read_header(part: &Part, at: u32) -> Header
     requires multiple { at % 4 ≡ 0 }
     requires inside { at + HEADER ≤ length part.now.bytes }
@@ -82,7 +83,7 @@ pub fn read_header(part: &Part, at: u32) -> Header
     }
 }
 
-/// Writes the header of a block at a place. All other bytes stay.
+/// Writes the header of the block at `at`. All other bytes keep their values.
 pub fn write_header(part: &mut Part, at: u32, header: Header)
     requires multiple { at % 4 ≡ 0 }
     requires inside { at + HEADER ≤ length part.old.bytes }

@@ -1,4 +1,4 @@
-//! What was written is read back.
+//! Laws of headers and slots: what was written is read back.
 
 ghost use Rattle.std.specs.Prelude.{◌≡◌, ◌+◌, ◌%◌, ◌≤◌, ◌<◌, ◌^◌, length};
 ghost use Rattle.windows.specs.Writes.{written};
@@ -12,7 +12,8 @@ use crate::header::{Header, read_header, write_header};
 use crate::slot::{SlotWord, read_slot, write_slot};
 use raw_region::Part;
 
-/// A header is written, and nothing else; what is then read there is that header.
+/// Writes a header and no other byte, and reads the header at that place again: the header that is read is the one
+/// that was written.
 pub fn header_read_again(part: &mut Part, at: u32, header: Header) -> Header
     requires multiple { at % 4 ≡ 0 }
     requires inside { at + HEADER ≤ length part.old.bytes }
@@ -31,7 +32,8 @@ pub fn header_read_again(part: &mut Part, at: u32, header: Header) -> Header
     read_header(part, at)
 }
 
-/// The word of a master pointer's slot is written, and nothing else; what is then read there is that word.
+/// Writes the word of a slot and no other byte, and reads the slot at that place again: the word that is read is the
+/// one that was written.
 pub fn slot_read_again(part: &mut Part, at: u32, slot: SlotWord) -> SlotWord
     requires multiple { at % 4 ≡ 0 }
     requires inside { at + 4 ≤ length part.old.bytes }

@@ -1,5 +1,6 @@
-//! The words that stand in a zone: headers of blocks and slots of master pointers, over the bytes of a part. Places and
-//! numbers are those of the zone, which begins at place 0 of its part; each number takes four bytes, the highest first.
+//! The words of a zone: the headers of its blocks and its master pointers' slots, in the bytes of a part. Places and
+//! numbers are those of the zone, which begins at place 0 of its part; each number takes four bytes, the highest
+//! first.
 #![tactic(auto)]
 
 mod header;

@@ -7,23 +7,23 @@ ghost use Rattle.heap_words.specs.Words.{word, word_at};
 use crate::word::{UNIT, read_word, write_word};
 use raw_region::Part;
 
-// The slot of a handle whose block was emptied.
+// The word of the slot of an empty handle.
 const EMPTIED: u32 = 2;
 
-// The slot of a resource's handle whose block was emptied.
+// The word of the slot of a resource's empty handle.
 const EMPTIED_RESOURCE: u32 = 18;
 
-// An unused slot that no other follows.
+// The word of an unused slot that no other unused slot follows.
 const LAST_UNUSED: u32 = 1;
 
-/// What stands in a slot (Inside Macintosh: Memory, chapter 1).
+/// The content of a slot (Inside Macintosh: Memory, chapter 1).
 #[derive(Clone, Copy, Debug, PartialEq, Eq, Drop)]
 pub enum SlotWord {
     /// The place of the slot's block, a multiple of `UNIT` that is not 0.
     Block(u32),
-    /// The block was purged or emptied; whether it held a resource.
+    /// NIL: the handle's block was purged or emptied. The flag says whether the block was a resource.
     Emptied(bool),
-    /// Nothing; the place of the next unused slot, where one follows.
+    /// The slot is unused. It holds the place of the next unused slot, if another follows.
     Unused(Option<u32>),
 }
 
@@ -54,7 +54,7 @@ fn slot_of(number: u32) -> SlotWord
     }
 }
 
-/// What stands in the slot at a place.
+/// Reads the slot at `at`.
 pub fn read_slot(part: &Part, at: u32) -> SlotWord
     requires multiple { at % 4 ≡ 0 }
     requires inside { at + 4 ≤ length part.now.bytes }
@@ -65,7 +65,7 @@ pub fn read_slot(part: &Part, at: u32) -> SlotWord
     slot_of(read_word(part, at as usize))
 }
 
-/// Writes the slot at a place. All other bytes stay.
+/// Writes the slot at `at`. All other bytes keep their values.
 pub fn write_slot(part: &mut Part, at: u32, slot: SlotWord)
     requires multiple { at % 4 ≡ 0 }
     requires inside { at + 4 ≤ length part.old.bytes }

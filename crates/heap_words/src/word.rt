@@ -1,4 +1,4 @@
-//! One word.
+//! A word of a zone.
 ghost use Rattle.std.specs.Prelude.{◌≡◌, ◌+◌, ◌%◌, ◌≤◌, length};
 ghost use Rattle.windows.specs.Writes.{written};
 ghost use Rattle.heap_words.specs.Words.{word, word_at};
@@ -6,10 +6,10 @@ ghost use Rattle.heap_words.specs.Words.{word, word_at};
 use byteorder::{BigEndian, ByteOrder};
 use raw_region::Part;
 
-/// Places and physical sizes of blocks are multiples of this.
+/// The places and physical sizes of blocks are multiples of this.
 pub const UNIT: u32 = 16;
 
-/// The word at a place, which is a multiple of 4.
+/// Reads the word at `at`, which is a multiple of 4.
 pub fn read_word(part: &Part, at: usize) -> u32
     requires multiple { at % 4 ≡ 0 }
     requires inside { at + 4 ≤ length part.now.bytes }
@@ -19,7 +19,7 @@ pub fn read_word(part: &Part, at: usize) -> u32
     BigEndian::read_u32(&bytes)
 }
 
-/// Writes the word at a place, which is a multiple of 4.
+/// Writes the word at `at`, which is a multiple of 4.
 pub fn write_word(part: &mut Part, at: usize, number: u32)
     requires multiple { at % 4 ≡ 0 }
     requires inside { at + 4 ≤ length part.old.bytes }

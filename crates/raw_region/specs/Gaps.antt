@@ -1,4 +1,4 @@
--- The windows that are out, and the bytes between them.
+-- The windows in use, and the free bytes between them.
 use Rattle.std.specs.Prelude.{◌≡◌, ℕ, ◌+◌, ◌-◌, ◌^◌, ◌<◌, ◌≤◌, Bool, List, [], ◌∷◌, ◌++◌, length, take, drop, map}
 use Rattle.std.specs.Prelude.{replicate}
 use denote.RawPtr.{Ptr}
@@ -8,31 +8,31 @@ use Rattle.std.specs.List.{All}
 use Rattle.raw_region.specs.declared.raw.Run.{Run}
 use Rattle.raw_region.specs.declared.gaps.Gap.{Gap}
 
--- the window of a gap
+-- The window of an entry.
 abbrev pub window_of : Gap → Window
 window_of g = window g.at g.len
 
--- it ends by this place
+-- Reports whether the window of `g` ends at or below the place `at`.
 abbrev pub gap_ends_by : ℕ → Gap → Bool
 gap_ends_by at g = ends_by at (window_of g)
 
--- it is the one of len bytes from `at` on
+-- Reports whether the window of `g` is the one of `len` bytes at `at`.
 abbrev pub gap_is : ℕ → ℕ → Gap → Bool
 gap_is at len g = is_window at len (window_of g)
 
--- no sum of a window's place and length overflows
+-- No sum of a window's place and length overflows 64 bits.
 abbrev pub EndsFit : List Gap → Type 0
 EndsFit gs = All (λ g. g.at + g.len < 2 ^ 64) gs
 
--- a window of these bytes lies in those after g
+-- A window of `len` bytes at `at` lies within the free bytes after `g`, and its end does not overflow 64 bits.
 abbrev pub Fits : ℕ → ℕ → Gap → Type 0
 Fits at len g = (g.at + g.len ≤ at) × (at + len ≤ g.at + g.len + length g.after.items) × (at + len < 2 ^ 64)
 
--- how many bytes stand before the window
+-- The number of free bytes between the window of `g` and the place `at`.
 abbrev pub before : ℕ → Gap → ℕ
 before at g = at - (g.at + g.len)
 
--- g with the bytes before the window
+-- The entry `g`, followed only by the free bytes below a new window at `at`.
 abbrev pub front : ℕ → Gap → Gap
 front at g = record {
   at = g.at;
@@ -40,7 +40,7 @@ front at g = record {
   after = record { home = g.after.home; at = g.after.at; items = take (before at g) g.after.items };
 }
 
--- the window's bytes
+-- The bytes of a new window of `len` bytes at `at`.
 abbrev pub middle : ℕ → ℕ → Gap → Run
 middle at len g = record {
   home = g.after.home;
@@ -48,7 +48,7 @@ middle at len g = record {
   items = take len (drop (before at g) g.after.items);
 }
 
--- the window, with the bytes after it
+-- The entry of a new window of `len` bytes at `at`, followed by the free bytes above it.
 abbrev pub back : ℕ → ℕ → Gap → Gap
 back at len g =
     record {
@@ -61,12 +61,12 @@ back at len g =
       };
     }
 
--- the run lies between the bytes after a and those after b
+-- The run `r` lies between the free bytes after `a` and those after `b`, with nothing between.
 abbrev pub Beside : Gap → Run → Gap → Type 0
 Beside a r b = (r.home ≡ a.after.home) × (b.after.home ≡ a.after.home) × (r.at ≡ a.after.at + length a.after.items)
     × (b.after.at ≡ r.at + length r.items)
 
--- a with the run and the bytes after b
+-- The entry `a`, followed by its own free bytes, the run `r`, and the free bytes after `b`.
 abbrev pub joined : Gap → Run → Gap → Gap
 joined a r b = record {
   at = a.at;
@@ -74,31 +74,31 @@ joined a r b = record {
   after = record { home = a.after.home; at = a.after.at; items = a.after.items ++ r.items ++ b.after.items };
 }
 
--- f and s are r, cut after n bytes
+-- The runs `f` and `s` are the first `n` bytes of the run `r` and its other bytes.
 abbrev pub IsCut : Run → ℕ → Run → Run → Type 0
 IsCut r n f s = ((f.home ≡ r.home) × (f.at ≡ r.at) × (f.items ≡ take n r.items))
     × ((s.home ≡ r.home) × (s.at ≡ r.at + n) × (s.items ≡ drop n r.items))
 
--- t is r and then s
+-- The run `t` is the run `r` followed by the run `s`.
 abbrev pub IsGlued : Run → Run → Run → Type 0
 IsGlued r s t = (t.home ≡ r.home) × (t.at ≡ r.at) × (t.items ≡ r.items ++ s.items)
 
--- the bytes of the region, those of a window that is out being 0
+-- The bytes of the region, in which each byte of a window in use is 0.
 abbrev pub bytes_of : List Gap → List ℕ
 bytes_of [] = []
 bytes_of (g ∷ gs) = replicate g.len 0 ++ (g.after.items ++ bytes_of gs)
 
--- the windows that are out
+-- The windows in use; the first entry, which stands for the region's start, is left out.
 abbrev pub windows_of : List Gap → List Window
 windows_of gs = map window_of (drop 1 gs)
 
--- the gaps lie one after another from o on, in the region at h
+-- The entries and their free bytes lie one after another from place `o` on, in the region at the address `h`.
 abbrev pub IsLaid : Ptr → ℕ → List Gap → Type 0
 IsLaid h o [] = Unit {0}
 IsLaid h o (g ∷ gs) = (g.at ≡ o) × (g.after.home ≡ h) × (g.after.at ≡ o + g.len)
     × IsLaid h (o + (g.len + length g.after.items)) gs
 
--- the first stands for the region's start
+-- The first entry stands for the region's start: its window has no bytes.
 abbrev pub IsStart : List Gap → Type 0
 IsStart [] = ⊥
 IsStart (g ∷ gs) = g.len ≡ 0

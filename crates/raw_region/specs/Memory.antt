@@ -3,17 +3,19 @@ use Rattle.std.specs.Prelude.{ℕ, List, ◌++◌, length, take, drop}
 use denote.RawPtr.{Ptr}
 use Rattle.windows.specs.declared.Window.{Window}
 
--- a part: where its region begins, its place there, and its bytes
+-- A part: the address of its region, its place in that region, and its bytes.
 pub record Bytes : Type 0 where
   pub home : Ptr
   pub at : ℕ
   pub bytes : List ℕ
 
--- p with ws for its bytes. Where ws has another length it is cut, or filled up from p's, so that the length stays
+-- The part `p` with the bytes `ws`. A list that is longer than the part is cut, and one that is shorter is filled up
+-- with the part's own bytes, so that the length stays.
 abbrev pub with_bytes : Bytes → List ℕ → Bytes
 with_bytes p ws = record { home = p.home; at = p.at; bytes = take (length p.bytes) (ws ++ drop (length ws) p.bytes) }
 
--- a region: where it begins, its bytes, those of a window that is out being 0, and the windows that are out, by place
+-- A region: its address; its bytes, in which each byte of a window in use is 0; and the windows in use, in order of
+-- place.
 pub record Whole : Type 0 where
   pub home : Ptr
   pub bytes : List ℕ

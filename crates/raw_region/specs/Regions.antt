@@ -1,4 +1,4 @@
--- The fields of a `Region`.
+-- The fields of a `Region`, and what holds of them.
 use Rattle.std.specs.Prelude.{◌≡◌, ◌≤◌, ◌+◌, length, vec_capacity}
 use denote.RawPtr.{InBlock}
 use Rattle.raw_region.specs.Memory.{Whole}
@@ -9,7 +9,7 @@ use Rattle.raw_region.specs.declared.region.TheConstants.{MOST_BYTES, MOST_OUT}
 abbrev pub region_view : Inside → Whole
 region_view r = record { home = r.home; bytes = bytes_of r.gaps.items; out = windows_of r.gaps.items }
 
--- the gaps fill the block, and there is room for each window
+-- The entries fill the allocation, and the list has room for the greatest number of windows in use.
 pub record IsRegion (r : Inside) : Type 0 where
   pub start : r.frame.ptr ≡ r.home
   pub placed : InBlock r.home

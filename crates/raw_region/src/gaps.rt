@@ -1,5 +1,5 @@
-//! The windows that are out, by address, each with the bytes that follow it up to the next. The first stands for the
-//! region's start and has no byte.
+//! The windows in use, in order of address, each with the free bytes that follow it up to the next window. The first
+//! entry stands for the start of the region and has a window of no bytes.
 ghost use Rattle.std.specs.Prelude.{◌≡◌, ℕ, ◌+◌, ◌-◌, ◌^◌, ◌<◌, ◌≤◌, List, [], ◌∷◌, ◌++◌, length, take, drop};
 ghost use Rattle.std.specs.Prelude.{slice_index_or, nat_le, nat_eq, ◌&&◌, not, vec_len, vec_capacity};
 ghost use Rattle.std.specs.List.{prefix_len, position_or_len};
@@ -17,7 +17,8 @@ pub(crate) struct Gap {
     pub(crate) after: Run,
 }
 
-// The index of the first window that does not end by `at`.
+// Returns the index of the first window that ends above `at`, or the number of entries if every window ends at or
+// below `at`. The entry of the region's start is not considered.
 pub(crate) fn index_after(gaps: &[Gap], at: usize) -> usize
     requires start { 0 < length gaps.now }
     requires ends_fit { EndsFit gaps.now }
@@ -30,7 +31,7 @@ pub(crate) fn index_after(gaps: &[Gap], at: usize) -> usize
     i
 }
 
-// The index of this window, or the number of gaps.
+// Returns the index of the window of `len` bytes at `at`, or the number of entries if there is no such window.
 pub(crate) fn index_of(gaps: &[Gap], at: usize, len: usize) -> usize
     requires { 0 < length gaps.now }
     ensures { result ≡ 1 + position_or_len (gap_is at len) (drop 1 gaps.now) }
@@ -42,7 +43,8 @@ pub(crate) fn index_of(gaps: &[Gap], at: usize, len: usize) -> usize
     i
 }
 
-// Takes a window out of the bytes after the i-th.
+// Cuts a window of `len` bytes at `at` out of the free bytes after the `i`-th window, and returns the bytes of the new
+// window. The new window is entered after the `i`-th.
 pub(crate) fn open(gaps: &mut Vec<Gap>, i: usize, at: usize, len: usize) -> Run
     requires there { i < vec_len gaps.old }
     requires room { vec_len gaps.old < vec_capacity gaps.old }
@@ -66,7 +68,8 @@ pub(crate) fn open(gaps: &mut Vec<Gap>, i: usize, at: usize, len: usize) -> Run
     }
 }
 
-// Puts a window's bytes back: the i-th gap goes, and the one before it takes them with its own.
+// Returns the bytes of a window: removes the `i`-th entry and joins its bytes, and the free bytes on both sides of
+// them, in the entry below it.
 pub(crate) fn shut(gaps: &mut Vec<Gap>, i: usize, run: Run)
     requires not_start { 0 < i }
     requires there { i < vec_len gaps.old }

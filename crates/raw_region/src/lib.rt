@@ -1,4 +1,4 @@
-//! One raw region of memory, and the parts that are cut from it.
+//! A region of memory, and the parts that are cut from it.
 #![tactic(auto)]
 
 mod gaps;

@@ -1,14 +1,16 @@
-//! Bytes that move within a slice, where the two ranges may overlap. They go in strides, each through a buffer.
+//! Moves of bytes within a slice, where source and destination may overlap. The bytes are moved in strides, each
+//! through a buffer.
 ghost use Rattle.std.specs.Prelude.{◌≡◌, ◌+◌, ◌≤◌, length, take, drop};
 ghost use Rattle.windows.specs.Writes.{written};
 
-// Bytes a stride: few enough that the buffer stays in the nearest cache.
+// The number of bytes in a stride. The buffer is small enough to stay in the nearest cache.
 const STRIDE: usize = 4096;
 
-// So few go in one stride through a buffer of their own: a new buffer is filled with zeros, and most blocks are small.
+// The greatest number of bytes that are moved in one stride, through a smaller buffer. A new buffer is filled with
+// zeros, and most blocks are small.
 pub(crate) const FEW: usize = 512;
 
-// Moves one stride.
+// Moves one stride: copies `count` bytes from `from` to `to` through `buffer`.
 fn carry(bytes: &mut [u8], from: usize, to: usize, count: usize, buffer: &mut [u8])
     requires count { count ≤ length buffer.old }
     requires from_inside { from + count ≤ length bytes.old }
@@ -20,7 +22,7 @@ fn carry(bytes: &mut [u8], from: usize, to: usize, count: usize, buffer: &mut [u
     bytes[to..to + count].copy_from_slice(buffer);
 }
 
-// All at once.
+// Moves at most `FEW` bytes in one stride.
 pub(crate) fn move_few(bytes: &mut [u8], from: usize, to: usize, count: usize)
     requires few { count ≤ FEW }
     requires from_inside { from + count ≤ length bytes.old }
@@ -31,7 +33,7 @@ pub(crate) fn move_few(bytes: &mut [u8], from: usize, to: usize, count: usize)
     carry(bytes, from, to, count, &mut buffer);
 }
 
-// So far down that the two ranges have no byte in common: without a buffer.
+// Moves bytes down so far that source and destination have no byte in common. No buffer is needed.
 pub(crate) fn move_far_down(bytes: &mut [u8], from: usize, to: usize, count: usize)
     requires far { to + count ≤ from }
     requires inside { from + count ≤ length bytes.old }
@@ -41,7 +43,7 @@ pub(crate) fn move_far_down(bytes: &mut [u8], from: usize, to: usize, count: usi
     low[to..to + count].copy_from_slice(&high[..count]);
 }
 
-// From the first byte on, since the bytes go down.
+// Moves bytes down, from the first byte on, so that no byte is overwritten before it was copied.
 pub(crate) fn move_down(bytes: &mut [u8], from: usize, to: usize, count: usize)
     requires down { to ≤ from }
     requires inside { from + count ≤ length bytes.old }
@@ -56,7 +58,7 @@ pub(crate) fn move_down(bytes: &mut [u8], from: usize, to: usize, count: usize)
     }
 }
 
-// From the last byte on, since the bytes go up.
+// Moves bytes up, from the last byte on, so that no byte is overwritten before it was copied.
 pub(crate) fn move_up(bytes: &mut [u8], from: usize, to: usize, count: usize)
     requires up { from ≤ to }
     requires inside { to + count ≤ length bytes.old }

@@ -1,4 +1,4 @@
-//! A part of a region, out on loan.
+//! A part that is cut from a region.
 ghost use Rattle.std.specs.Prelude.{◌≡◌, ◌+◌, ◌%◌, ◌≤◌, ◌++◌, length, take, drop, replicate};
 ghost use Rattle.std.specs.Borrow.{sem, Lends, Array, u8};
 ghost use Rattle.raw_region.specs.Memory.{with_bytes};
@@ -10,8 +10,9 @@ use crate::moves::{FEW, move_down, move_far_down, move_few, move_up};
 use std::marker::Model;
 use std_alloc::vec::Lodged;
 
-/// A stretch of a region's bytes that nobody else has, as a heap zone has its own (Inside Macintosh: Memory,
-/// chapter 1). Places count bytes from the part's start. It can't be dropped: it comes home by `Region::join`.
+/// A stretch of a region's bytes that no other part shares, as a heap zone has its own memory (Inside Macintosh:
+/// Memory, chapter 1). Places are counted in bytes from the part's start. A part can't be dropped: it is returned to
+/// its region by `Region::join`.
 pub struct Part {
     pub(crate) bytes: Vec<u8, Lodged>,
     pub(crate) home: *mut u8,
@@ -31,7 +32,7 @@ impl Model for Part {
 }
 
 impl Part {
-    /// How many bytes it has: a multiple of `UNIT`.
+    /// Returns the number of bytes of the part, which is a multiple of `UNIT`.
     pub fn len(&self) -> usize
         ensures count { result ≡ length self.now.bytes }
         ensures multiple { result % UNIT ≡ 0 }
@@ -39,14 +40,14 @@ impl Part {
         self.bytes.len()
     }
 
-    /// All its bytes, to read.
+    /// Returns all bytes of the part, to be read.
     pub fn bytes(&self) -> &[u8]
         ensures { result.now ≡ self.now.bytes }
     {
         self.bytes.as_slice()
     }
 
-    /// All its bytes, to write.
+    /// Returns all bytes of the part, to be written.
     pub fn bytes_mut(&mut self) -> &mut [u8]
         ensures* writes_back { sem 𝓛 (Lends the_row (Array u8 0) self.entry result (with_bytes self.old)) }
         ensures value { result.now ≡ self.old.bytes }
@@ -55,7 +56,7 @@ impl Part {
         bytes.as_mut_slice()
     }
 
-    /// The four bytes from `at` on, a multiple of 4.
+    /// Returns the four bytes at `at`, which is a multiple of 4.
     pub fn word(&self, at: usize) -> [u8; 4]
         requires multiple { at % 4 ≡ 0 }
         requires inside { at + 4 ≤ length self.now.bytes }
@@ -65,7 +66,7 @@ impl Part {
         [bytes[at], bytes[at + 1], bytes[at + 2], bytes[at + 3]]
     }
 
-    /// Writes the four bytes from `at` on, a multiple of 4.
+    /// Writes the four bytes at `at`, which is a multiple of 4.
     pub fn put_word(&mut self, at: usize, word: [u8; 4])
         requires multiple { at % 4 ≡ 0 }
         requires inside { at + 4 ≤ length self.old.bytes }
@@ -77,8 +78,8 @@ impl Part {
         self.bytes.as_mut_slice()[at..at + 4].copy_from_slice(&word);
     }
 
-    /// Moves `count` bytes from `from` on to the places from `to` on, which may overlap them. The bytes go in
-    /// strides, at about the speed of a plain copy, whatever the distance.
+    /// Moves `count` bytes from `from` to `to`; source and destination may overlap. The bytes are moved in strides, at
+    /// about the speed of a plain copy, whatever the distance.
     pub fn slide(&mut self, from: usize, to: usize, count: usize)
         requires from_inside { from + count ≤ length self.old.bytes }
         requires to_inside { to + count ≤ length self.old.bytes }
@@ -99,7 +100,7 @@ impl Part {
         }
     }
 
-    /// Turns the `count` bytes from `at` on, so that the one at `by` among them comes first.
+    /// Rotates the `count` bytes at `at`, so that the byte at index `by` among them comes first.
     pub fn rotate(&mut self, at: usize, count: usize, by: usize)
         requires turn { by ≤ count }
         requires inside { at + count ≤ length self.old.bytes }
@@ -112,7 +113,7 @@ impl Part {
         self.bytes.as_mut_slice()[at..at + count].rotate_left(by);
     }
 
-    /// Gives each of the `count` bytes from `from` on this value.
+    /// Sets each of the `count` bytes at `from` to `byte`.
     pub fn fill(&mut self, from: usize, count: usize, byte: u8)
         requires { from + count ≤ length self.old.bytes }
         ensures same_home { self.new.home ≡ self.old.home }

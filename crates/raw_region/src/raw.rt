@@ -1,5 +1,6 @@
-//! The few functions that hold raw memory. What takes no memory here is ghost state. Four of them take memory from a
-//! `Vec` or give it back (`detach`, `attach`, `house`, `vacate`); the three of `Run` part and join who owns it.
+//! The functions that take, give and split the ownership of raw memory; the memory's owner is ghost state, which takes
+//! no memory when the program runs. Four of them take the memory of a `Vec` or give it back (`detach`, `attach`,
+//! `house`, `vacate`), and the three of `Run` make, split and join runs.
 ghost use Rattle.std.specs.Prelude.{◌≡◌, ℕ, ◌+◌, ◌^◌, ◌<◌, ◌≤◌, List, [], ◌∷◌, ◌++◌, length, take, drop};
 ghost use Rattle.std.specs.Vec.{with_items};
 ghost use base.Fml.{ftrue, fex, fall, fwand, fsep, feq};
@@ -9,7 +10,7 @@ ghost use Rattle.raw_region.specs.Ownership.{Extent, extent_code, run_owns};
 use std::marker::{Model, Move, Owns};
 use std_alloc::vec::{Lodged, lodge};
 
-// The bytes that lie `at` bytes past `home`, which nothing else can reach.
+// The bytes at distance `at` from the address `home`, which nothing else can reach.
 #[derive(Drop)]
 pub(crate) struct Run {
     ghost home: { Ptr },
@@ -21,7 +22,7 @@ impl Model for Run {
     ghost also_owns = { λ r. run_owns (r.home +ₚ r.at) r.items };
 }
 
-// A `Vec` whose elements are out as runs.
+// A `Vec` whose elements are owned by runs.
 pub(crate) struct Frame {
     vec: Vec<u8>,
 }
@@ -41,7 +42,7 @@ impl Move for Frame {
         fex Inside (λ v. fsep (feq ℕ v.vec.len e.len) (fall (List ℕ) (λ xs. fwand (Back xs) (Whole v xs)))) };
 }
 
-// Parts a `Vec` from its bytes.
+// Separates a `Vec` from its bytes.
 pub(crate) fn detach(vec: Vec<u8>) -> (Run, Frame)
     requires some { 0 < vec.len }
     ensures home { result.0.home ≡ vec.ptr }
@@ -54,7 +55,7 @@ pub(crate) fn detach(vec: Vec<u8>) -> (Run, Frame)
     (Run {}, Frame { vec })
 }
 
-// Gives them back to it.
+// Gives the bytes of a run back to the `Vec` from which they were separated.
 pub(crate) fn attach(run: Run, frame: Frame) -> Vec<u8>
     requires home { run.home ≡ frame.ptr }
     requires start { run.at ≡ 0 }
@@ -66,7 +67,7 @@ pub(crate) fn attach(run: Run, frame: Frame) -> Vec<u8>
     vec
 }
 
-// A `Vec` over the run, which neither grows nor frees it.
+// Makes a `Vec` over the bytes of a run. The `Vec` neither grows nor frees the bytes.
 pub(crate) fn house(ptr: *mut u8, len: usize, run: Run) -> Vec<u8, Lodged>
     requires there { run.home +ₚ run.at ≡ ptr }
     requires whole { length run.items ≡ len }
@@ -81,7 +82,7 @@ pub(crate) fn house(ptr: *mut u8, len: usize, run: Run) -> Vec<u8, Lodged>
     unsafe { lodge(ptr, len, len) }
 }
 
-// Takes the run out of such a `Vec`.
+// Takes the run back from a `Vec` that `house` made.
 pub(crate) fn vacate(vec: Vec<u8, Lodged>, _home: *mut u8, _at: usize) -> Run
     requires some { 0 < vec.len }
     requires there { vec.ptr ≡ _home +ₚ _at }
@@ -94,14 +95,14 @@ pub(crate) fn vacate(vec: Vec<u8, Lodged>, _home: *mut u8, _at: usize) -> Run
 }
 
 impl Run {
-    // No byte at all.
+    // Makes a run of no bytes.
     pub(crate) fn empty() -> Run
         ensures { result.items ≡ [] }
     {
         Run {}
     }
 
-    // The first bytes, and the others.
+    // Splits a run into its first `mid` bytes and the others.
     pub(crate) fn cut(self, mid: usize) -> (Run, Run)
         requires { mid ≤ length self.items }
         ensures front_home { result.0.home ≡ self.home }
@@ -115,7 +116,7 @@ impl Run {
         (Run {}, Run {})
     }
 
-    // Two runs side by side are one.
+    // Joins two runs that lie side by side.
     pub(crate) fn glue(self, other: Run) -> Run
         requires home { other.home ≡ self.home }
         requires behind { other.at ≡ self.at + length self.items }

@@ -1,4 +1,4 @@
-//! The region: one allocation, and the list of the windows that are out.
+//! The region: one allocation, and the list of the windows in use.
 ghost use Rattle.std.specs.Prelude.{◌≡◌, ◌+◌, ◌%◌, ◌^◌, ◌<◌, ◌≤◌, [], length, take, drop, replicate, IfOk};
 ghost use Rattle.std.specs.List.{Contains};
 ghost use Rattle.windows.specs.Windows.{window, InOrder, IsApart, with_window, without_window};
@@ -13,14 +13,14 @@ use std::marker::Model;
 /// The length of a region, and the place and length of a part, are multiples of this.
 pub const UNIT: usize = 16;
 
-/// A region has no more bytes than these.
+/// The greatest number of bytes of a region: 128 MB.
 pub const MOST_BYTES: usize = 134217728;
 
-/// No more windows are out at a time.
+/// The greatest number of windows in use at a time.
 pub const MOST_OUT: usize = 64;
 
-/// One block of memory, from which parts are cut, and to which they come home in any order. It begins at place 0. Of a
-/// window that is out its bytes read as 0.
+/// One block of host memory, from which parts are cut, and to which they are returned in any order. The region begins
+/// at place 0. The bytes of a window in use read as 0.
 pub struct Region {
     frame: Frame,
     home: *mut u8,
@@ -41,11 +41,12 @@ impl Model for Region {
 }
 
 impl Region {
-    /// A region of `len` bytes, all 0. The room for the windows out is taken here too, so no other call takes memory.
+    /// Makes a region of `len` bytes, all 0. The memory for the list of windows is taken here too, so no other call
+    /// takes host memory.
     ///
     /// # Errors
     ///
-    /// Where the memory is refused.
+    /// Returns `AllocError` if the host is out of memory.
     pub fn new(alloc: Global, len: usize) -> Result<Region, AllocError>
         requires multiple { len % UNIT ≡ 0 }
         requires some { UNIT ≤ len }
@@ -73,14 +74,14 @@ impl Region {
         }
     }
 
-    /// How many bytes it has, those of the windows that are out among them.
+    /// Returns the number of bytes of the region, including those of the windows in use.
     pub fn len(&self) -> usize
         ensures { result ≡ length self.now.bytes }
     {
         self.len
     }
 
-    /// Lends the `len` bytes from `at` on. No byte is then in two of the windows that are out.
+    /// Cuts a part of `len` bytes at `at` from the region. After this, no byte belongs to two of the windows in use.
     pub fn cut(&mut self, at: usize, len: usize) -> Part
         requires place { at % UNIT ≡ 0 }
         requires multiple { len % UNIT ≡ 0 }
@@ -106,7 +107,8 @@ impl Region {
         Part { bytes, home, at }
     }
 
-    /// Takes a part back, with the bytes that it now has. The other windows stay out, apart from one another.
+    /// Returns a part to the region; the part's bytes keep their values. The other windows stay in use, and no two of
+    /// them have a byte in common.
     pub fn join(&mut self, part: Part)
         requires of_this { part.home ≡ self.old.home }
         requires out { Contains self.old.out (window part.at (length part.bytes)) }
@@ -123,7 +125,7 @@ impl Region {
         shut(&mut self.gaps, i, run);
     }
 
-    /// How many windows are out. No byte is in two of them.
+    /// Returns the number of windows in use. No byte belongs to two of them.
     pub fn count_out(&self) -> usize
         ensures count { result ≡ length self.now.out }
         ensures in_order { InOrder 0 self.now.out (length self.now.bytes) }
@@ -131,7 +133,7 @@ impl Region {
         self.gaps.len() - 1
     }
 
-    /// Gives the memory back.
+    /// Gives the region's memory back to the host.
     pub fn close(self)
         requires { self.out ≡ [] }
     {

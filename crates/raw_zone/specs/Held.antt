@@ -1,4 +1,4 @@
--- What a clause sees of a RawZone.
+-- What a clause sees of a `RawZone`.
 use Rattle.std.specs.Prelude.{ℕ}
 use Rattle.raw_region.specs.Memory.{Bytes}
 use Rattle.zone_bytes.specs.Lawful.{IsLawful}

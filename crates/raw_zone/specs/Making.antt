@@ -4,6 +4,6 @@ use Rattle.windows.specs.declared.Window.{Window}
 use Rattle.block_store.specs.Rest.{Site}
 use Rattle.raw_region.specs.Memory.{Whole}
 
--- a store at this site lies in this window of the region
+-- A store at this site lies in the window `w` of the region.
 abbrev pub LiesIn : Whole → Window → Site → Type 0
 LiesIn region w site = (site.home ≡ region.home) × (site.window ≡ w)

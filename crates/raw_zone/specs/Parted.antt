@@ -1,4 +1,4 @@
--- What a RawZone is as a store.
+-- What a `RawZone` is as a store.
 use Rattle.std.specs.Prelude.{◌≡◌, ℕ, ◌≤◌, false, List}
 use native.Mathlib.Bridge.{le_prop}
 use Rattle.std.specs.Coded.{Coded-set, coded_bool}

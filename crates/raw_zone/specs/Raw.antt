@@ -1,4 +1,4 @@
--- What is true of a RawZone.
+-- The value and the invariant of a `RawZone`.
 use Rattle.raw_zone.specs.Held.{Held}
 use Rattle.zone_bytes.specs.Marked.{IsMarked}
 use Rattle.raw_zone.specs.declared.zone.RawZone.TheInside.{Inside}

@@ -9,8 +9,8 @@ use raw_region::Region;
 use std::alloc::AllocError;
 use windows::Window;
 
-/// A region in whose parts zones are opened. What a zone leaves in its window when it is closed stays there until a
-/// window that meets it is opened.
+/// A region in whose parts zones are opened. The bytes that a zone leaves in its window when the zone is closed stay
+/// there until a window that overlaps it is opened.
 ///
 /// *Inside Macintosh: Processes*, chapter 1, and *Memory*, chapter 1, "Organization of Memory".
 pub struct RegionZones {
@@ -19,7 +19,7 @@ pub struct RegionZones {
 }
 
 impl RegionZones {
-    /// A region whose zones are to be opened.
+    /// Makes a maker of zones of a region.
     pub fn new(region: Region) -> RegionZones
         requires { length region.bytes ≤ GREATEST_ZONE }
         ensures { result.region ≡ region }
@@ -27,7 +27,7 @@ impl RegionZones {
         RegionZones { region }
     }
 
-    /// The region as it is. Parts whose zones are open are still out.
+    /// Returns the region as it is. The parts of zones that are still open are still in use.
     pub fn into_region(self) -> Region
         ensures { result ≡ self.region }
     {

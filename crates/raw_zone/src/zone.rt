@@ -23,9 +23,9 @@ use zone_bytes::{
     walk_above, walk_from,
 };
 
-/// A zone in the bytes of a part: each block begins with its header, and the slots lie in the blocks of master
-/// pointers. The slots of no handle are one list, threaded through their words; beside the part stand its first
-/// one, how many there are, the count of Free bytes, and a bound on the bytes that may be emptied.
+/// A zone in the bytes of a part: each block begins with its header, and the slots lie in the master pointer blocks.
+/// The slots of no handle are one list, threaded through their words. Beside the part stand the first slot of that
+/// list, the number of its slots, the number of free bytes, and a bound on the bytes that may be purged.
 ///
 /// *Inside Macintosh: Memory*, chapter 2, "Organization of Memory".
 pub struct RawZone {
@@ -52,7 +52,8 @@ impl Model for RawZone {
     ghost invariant = { IsRawZone };
 }
 
-/// Whether a search looks at the zone as it stands.
+/// Reports whether a search considers the zone as it stands: after no purges, and with no block counted as free that
+/// is not free.
 fn is_as_it_stands(purges: u32, sparing: Sparing) -> bool
     ensures { result ≡ true → (zone : List Block) → tidy zone ≡ zone → purged purges sparing zone ≡ zone }
 {
@@ -79,7 +80,7 @@ impl RawZone {
     ghost use Rattle.block_store.specs.Seen.{seen};
     ghost use Rattle.block_store.specs.declared.sparing.Seen.TheVariants as see;
 
-    /// A fresh zone, whatever the bytes were: a block of 64 master pointers, and the rest Free.
+    /// Makes a fresh zone, whatever the bytes were: a block of 64 master pointers, and one free block.
     ///
     /// *Inside Macintosh: Memory*, chapter 2, "Heap Zones".
     pub fn new(mut part: Part) -> RawZone
@@ -109,7 +110,7 @@ impl RawZone {
         }
     }
 
-    /// The zone's bytes as they lie in memory: headers, contents and master pointers.
+    /// Returns the zone's bytes as they lie in memory: headers, contents and master pointers.
     ///
     /// *Inside Macintosh: Memory*, chapter 2, "Memory Blocks".
     pub fn image(&self) -> &[u8]
@@ -120,7 +121,7 @@ impl RawZone {
         self.part.bytes()
     }
 
-    /// The part in which it lay, with its bytes as they are.
+    /// Returns the part in which the zone lay, with its bytes as they are.
     pub fn into_part(self) -> Part
         ensures part { result ≡ self.part }
         ensures laid { LaysOut result.bytes (⟦<RawZone as BlockStore>⟧.zone self)
@@ -139,7 +140,7 @@ impl RawZone {
         part
     }
 
-    /// Packs the run at a place, and counts nothing.
+    /// Packs the run at a place, without counting the moves.
     fn pack(&mut self, run: u32) -> PackedRun
         requires { IsSome (run_at run (zone_of self.old)) }
         ensures zone { IfSome (run_at run (zone_of self.old)) (λ r. zone_of self.new ≡ tidy (with_run settle r)) }
@@ -155,7 +156,8 @@ impl RawZone {
         packed
     }
 
-    /// Empties the lowest blocks that may go, so many of them, and frees a block that counts as Free, by one walk.
+    /// Purges the lowest blocks that may be purged, `purges` of them, and frees a block that counts as free, by one
+    /// walk.
     fn empty(&mut self, purges: u32, sparing: Sparing)
         ensures zone { zone_of self.new ≡ purged purges sparing (zone_of self.old) }
         ensures rest { IsRest (rest_of self.old) (rest_of self.new) }
@@ -166,7 +168,7 @@ impl RawZone {
         self.marks.renew_all(&self.part);
     }
 
-    /// The block that a handle's slot leads to.
+    /// Returns the block of a handle.
     fn block_of(&self, number: u32) -> SlotBlock
         requires { IsSome (spot (is_relocatable number) (zone_of self.now)) }
         ensures place { FindsLowest (is_relocatable number) (zone_of self.now) (Some result.place) }
@@ -176,7 +178,7 @@ impl RawZone {
         block_of_slot(&self.part, number)
     }
 
-    /// The bytes that a handle's block would give if it were emptied.
+    /// Returns the bytes that a handle's block would free if it were purged; 0 if the handle is empty.
     fn purgeable_of(&self, number: u32) -> u32
         requires { IsTrue (is_used ((rest_of self.now).slots number)) }
         ensures { result ≡ purgeable_at (spot (is_relocatable number) (zone_of self.now)) }
@@ -187,7 +189,7 @@ impl RawZone {
         }
     }
 
-    /// Makes the Fixed block at a place the block of an emptied handle's slot.
+    /// Makes the nonrelocatable block at a place the block of an empty handle's slot.
     fn adopt(&mut self, place: u32, number: u32, flags: Flags)
         requires block { IsSomeAnd (spot_at place (zone_of self.old)) (λ s. is_fixed place s.here ≡ true) }
         requires used { IsTrue (is_used ((rest_of self.old).slots number)) }

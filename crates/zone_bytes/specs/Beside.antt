@@ -6,11 +6,12 @@ use Rattle.block_store.specs.Rest.{Rest}
 use Rattle.zone_bytes.specs.Decode.{zone_in}
 use Rattle.zone_bytes.specs.Table.{slot_in}
 
--- a part lies where it lay, and is as long
+-- A part keeps its place and its length.
 abbrev pub KeepsPlace : Bytes → Bytes → Type 0
 KeepsPlace old new = (new.home ≡ old.home) × (new.at ≡ old.at) × (length new.bytes ≡ length old.bytes)
 
--- the slots that the bytes tell, with so many unused ones and so many moves
+-- The slots that the bytes spell, with the given numbers of unused slots and of moves, and the number of all slots and
+-- the window of the part.
 abbrev pub rest_in : Bytes → ℕ → ℕ → Rest
 rest_in part unused moves = record {
   slots = slot_in part.bytes;

@@ -1,4 +1,4 @@
--- Edges of blocks that are noted while these are moved, and landmarks that are laid by them.
+-- Edges of blocks that are noted while the blocks are moved, and landmarks that are laid by them.
 use Rattle.std.specs.Prelude.{◌≡◌, ℕ, ◌+◌, ◌≤◌, ◌<◌, ◌⊎◌, true, List, [], ◌∷◌, ◌++◌, length, take, drop, get_or}
 use Rattle.block_store.specs.Block.{Block, size, sizes, is_mover}
 use Rattle.zone_bytes.specs.Layout.{Each}
@@ -7,19 +7,19 @@ use Rattle.zone_bytes.specs.declared.edges.Edges.{Edges}
 use Rattle.zone_bytes.specs.declared.landmark.Landmark.{Landmark}
 use Rattle.zone_bytes.specs.declared.landmark.Tally.TheVariants as tally
 
--- one of the blocks from `at` on begins at a place
+-- One of the blocks from the place `at` on begins at `place`.
 abbrev pub Starts : ℕ → ℕ → List Block → Type 0
 Starts place at [] = ⊥
 Starts place at (b ∷ above) = (place ≡ at) ⊎ Starts place (at + size b) above
 
--- one of the blocks from `at` on begins at each edge
+-- One of the blocks from the place `at` on begins at each edge.
 abbrev pub AreEdges : Edges → ℕ → List Block → Type 0
 AreEdges edges at blocks = (number : ℕ) → number < edges.count → Starts (get_or edges.places number 0) at blocks
 
 abbrev pub IsMover : Block → Type 0
 IsMover b = is_mover b ≡ true
 
--- relocatable blocks that may move lie one after another from `base` on, and begin at the edges
+-- Movable blocks lie one after another from the place `base` on, and some of them begin at the edges.
 pub record ArePacked (edges : Edges) (base : ℕ) (zone : List Block) : Type 0 where
   pub below : List Block
   pub movers : List Block
@@ -29,16 +29,18 @@ pub record ArePacked (edges : Edges) (base : ℕ) (zone : List Block) : Type 0 w
   pub solid : Each IsMover movers
   pub edges_are : AreEdges edges base movers
 
--- there are no edges, or they are of blocks that lie packed
+-- There are no edges, or the edges are of blocks that lie packed from `base` on.
 abbrev pub ByEdges : Edges → ℕ → List Block → Type 0
 ByEdges edges base zone = AreEdges edges base [] ⊎ ArePacked edges base zone
 
--- none of the blocks that begin from one place up to another ends a run or has a Free byte
+-- None of the blocks that begin from `lo` up to `hi` ends a run or has a free byte.
 abbrev pub IsBare : ℕ → ℕ → List Block → Type 0
 IsBare lo hi zone = AtEach (AtMost 0 lo hi) 0 zone × IsTally (tally.Open 0) (between lo hi 0 zone)
 
--- the landmarks below an index are those of a zone, up to the place where its own is to stand, and so are the others as
--- they are
+-- Landmarks while they are laid anew: those below `index` are landmarks of the zone, and the last of them covers the
+-- blocks up to the place `at`, where the landmark at `index` is to stand. Those from `index` on, where they still
+-- stand, are landmarks of the zone too. A block begins at `at`; where no landmark is left to be laid, `at` is above
+-- every zone.
 pub record AreLaid (index at : ℕ) (zone : List Block) (marks : List Landmark) : Type 0 where
   pub below : AreMarks at zone (take index marks)
   pub above : AreMarks 4294967295 zone (drop index marks)

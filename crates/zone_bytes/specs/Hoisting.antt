@@ -1,10 +1,10 @@
--- A block that is moved over the others of its run.
+-- A block that is moved above the other blocks of its run.
 use Rattle.std.specs.Prelude.{◌≡◌, ℕ, Bool, ◌+◌, ◌≤◌, List, [], ◌∷◌, ◌++◌, length}
 use Rattle.block_store.specs.Block.{Block, sizes}
 use Rattle.zone_bytes.specs.Layout.{Each}
 use Rattle.zone_bytes.specs.Settling.{InRun, Lies, HasSlots, SameOthers}
 
--- a block, those that follow it in its run, and what is below and above them
+-- A block, those that follow it in its run, and what is below and above them.
 pub record Hoist : Type 0 where
   pub resource : ℕ → Bool
   pub below : List Block
@@ -22,7 +22,7 @@ hoisted_run z = z.over ++ z.block ∷ []
 abbrev pub hoisted : Hoist → List Block
 hoisted z = z.below ++ (hoisted_run z ++ z.above)
 
--- the block is at place, and the last that follows it ends at stop
+-- The block is at `place`, and the last block that follows it in its run ends at `stop`.
 pub record MayHoist (z : Hoist) (place stop : ℕ) : Type 0 where
   pub lies : Lies z.resource (unhoisted z) z.bytes
   pub slots : HasSlots (unhoisted z)

@@ -6,15 +6,16 @@ use Rattle.block_store.specs.Block.{Block}
 use Rattle.block_store.specs.Slot.{Slot}
 use Rattle.zone_bytes.specs.Table.{Lays}
 
--- the bytes are a zone of these blocks and these slots: headers tile them, each slot of a handle leads to its block or
--- says that it is emptied, each relocatable block's header names its slot, and the slots of no handle are one list
+-- The bytes are a zone of these blocks and these slots: headers tile the bytes, each slot of a handle leads to the
+-- handle's block or says that the handle is empty, each relocatable block's header names its slot, and the slots of no
+-- handle are one list.
 abbrev pub LaysOut : List ℕ → List Block → (ℕ → Slot) → Type 0
 LaysOut xs blocks slots = (unused : List ℕ) × Lays xs blocks slots unused
 
--- the bytes are a zone of these blocks, with some slots
+-- The bytes are a zone of these blocks, with some slots.
 abbrev pub IsLaid : List ℕ → List Block → Type 0
 IsLaid xs blocks = (slots : ℕ → Slot) × LaysOut xs blocks slots
 
--- the bytes in a window are a zone of these blocks
+-- The bytes in a window are a zone of these blocks.
 abbrev pub LiesThere : List ℕ → Window → List Block → Type 0
 LiesThere bytes w blocks = IsLaid (piece w.at w.len bytes) blocks

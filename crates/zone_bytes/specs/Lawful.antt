@@ -1,4 +1,4 @@
--- What every store promises of its zone, of the zone that bytes spell.
+-- The laws of a store, said of the zone that bytes spell.
 use Rattle.std.specs.Prelude.{◌≡◌, ℕ, ◌≤◌, false, List, length}
 use Rattle.block_store.specs.Block.{sizes, free_sum, count, is_relocatable, tidy}
 use Rattle.block_store.specs.Run.{has}
@@ -15,7 +15,8 @@ pub record IsLawful (xs : List ℕ) : Type 0 where
   pub aligned : Aligned (zone_in xs)
   pub placed : Placed 0 (zone_in xs)
 
--- the bytes lay the zone that they spell, and the list of unused slots begins at `first`
+-- The bytes are the layout of the zone that they spell; the list of unused slots begins at `first` and has `count`
+-- slots; and no two free blocks are side by side.
 pub record IsSound (xs : List ℕ) (first count : ℕ) : Type 0 where
   pub unused : List ℕ
   pub lays : Lays xs (zone_in xs) (slot_in xs) unused
@@ -23,7 +24,7 @@ pub record IsSound (xs : List ℕ) (first count : ℕ) : Type 0 where
   pub counted : count ≡ length unused
   pub tidied : tidy (zone_in xs) ≡ zone_in xs
 
--- and so many of them are Free
+-- The bytes are sound, and `free` of them are free.
 pub record IsKept (xs : List ℕ) (first unused free : ℕ) : Type 0 where
   pub sound : IsSound xs first unused
   pub free_is : free ≡ free_sum (zone_in xs)

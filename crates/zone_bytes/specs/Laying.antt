@@ -1,4 +1,4 @@
--- A block that is laid from a place on, and what is left of the bytes above it.
+-- A block that is laid at a place, and what is left of the bytes above it.
 use Rattle.std.specs.Prelude.{◌≡◌, ℕ, ◌+◌, ◌-◌, ◌%◌, ◌≤◌, nat_lt, if◌then◌else◌, List, [], ◌∷◌, length, replicate}
 use Rattle.windows.specs.Writes.{written}
 use Rattle.heap_words.specs.Words.{word}
@@ -6,20 +6,21 @@ use Rattle.heap_words.specs.Headers.{header_bytes}
 use Rattle.heap_words.specs.declared.header.Header.{Header}
 use Rattle.block_store.specs.Block.{Block, Free, Fixed, Masters, Relocatable, free_of}
 
--- the bytes from a place up to `top` made one Free block, where there are any
+-- The bytes in which those from `at` up to `top` are one free block, if there are any.
 abbrev pub left_over : ℕ → ℕ → List ℕ → List ℕ
 left_over at top xs = if nat_lt at top then written at (word (top - at)) xs else xs
 
--- a header and its content at `bottom`, of which the first `held` bytes are those that stood there and the others are 0
+-- The bytes with a header and its content at `bottom`: the first `held` bytes of the content keep their values, and
+-- the others are 0.
 abbrev pub headed : Header → ℕ → ℕ → List ℕ → List ℕ
 headed header bottom held xs =
     written (bottom + 16 + held) (replicate (header.logical - held) 0) (written bottom (header_bytes header) xs)
 
--- and what is left up to `top` is Free
+-- The bytes with a block at `bottom`, and a free block of what is left up to `top`.
 abbrev pub laid : Header → ℕ → ℕ → ℕ → List ℕ → List ℕ
 laid header bottom top held xs = left_over (bottom + header.size) top (headed header bottom held xs)
 
--- a block with this header may be laid from bottom to top
+-- A block with this header may be laid from `bottom` up to `top`.
 pub record MayLay (header : Header) (bottom top held : ℕ) (xs : List ℕ) : Type 0 where
   pub even : (bottom % 16 ≡ 0) × (top % 16 ≡ 0) × (header.size % 16 ≡ 0)
   pub inside : top ≤ length xs
@@ -28,12 +29,12 @@ pub record MayLay (header : Header) (bottom top held : ℕ) (xs : List ℕ) : Ty
   pub whole : 16 + header.logical ≤ header.size
   pub fits : bottom + 16 + held ≤ top
 
--- the bytes of the Free block that comes first, or 0
+-- The bytes of the first block if it is a free block, else 0.
 abbrev pub free_first : List Block → ℕ
 free_first [] = 0
 free_first (b ∷ above) = free_of b
 
--- the blocks above it
+-- The blocks above the first block if it is a free block, else all blocks.
 abbrev pub past_free : List Block → List Block
 past_free [] = []
 past_free (Free n ∷ above) = above

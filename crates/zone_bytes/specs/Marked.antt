@@ -7,12 +7,12 @@ use Rattle.zone_bytes.specs.Marks.{AreMarks, AreTops}
 use Rattle.zone_bytes.specs.Purgeable.{purgeable_sum}
 use Rattle.zone_bytes.specs.declared.keeping.Landmarks.{Landmarks}
 
--- the landmarks are those of the zone, and the tops those of their groups
+-- The landmarks are those of the zone, and the tops are those of the landmarks' groups.
 abbrev pub AreOf : Landmarks → List Block → Type 0
 AreOf landmarks zone = AreMarks 4294967295 zone landmarks.marks × AreTops landmarks.tops landmarks.marks
 
--- the bytes lay the zone that they spell, so many of them are Free, no more may be emptied than so many, and the
--- landmarks are those of that zone
+-- The bytes are sound, `free` of them are free, at most `purgeable` of them would be freed by purges, and the
+-- landmarks are those of the zone that the bytes spell.
 pub record IsMarked (xs : List ℕ) (first unused free purgeable : ℕ) (landmarks : Landmarks) : Type 0 where
   pub sound : IsSound xs first unused
   pub free_is : free ≡ free_sum (zone_in xs)

@@ -1,4 +1,4 @@
--- Landmarks of a zone: places at which blocks begin, between which no Free block is larger than is noted.
+-- Landmarks of a zone: places at which blocks begin, each with a bound on the free blocks up to the next.
 use Rattle.std.specs.Prelude.{◌≡◌, ℕ, ◌+◌, ◌*◌, ◌≤◌, ◌<◌, ◌⊎◌, Bool, true, false, not, ◌&&◌, if◌then◌else◌, nat_le, nat_lt}
 use Rattle.std.specs.Prelude.{List, [], ◌∷◌, ◌++◌, length, drop, get_or}
 use Rattle.block_store.specs.Block.{Block, size, sizes, free_of, free_sum, is_room}
@@ -10,73 +10,76 @@ use Rattle.zone_bytes.specs.declared.landmark.Tally.TheVariants as tally
 use Rattle.zone_bytes.specs.declared.measuring.Measured.{Measured}
 use Rattle.zone_bytes.specs.declared.landmark.TheConstants.{GROUP}
 
--- something holds of each of the blocks from `at` on and its place
+-- The relation `R` holds of each of the blocks from the place `at` on and its place.
 abbrev pub AtEach : (ℕ → Block → Type 0) → ℕ → List Block → Type 0
 AtEach R at [] = Unit {0}
 AtEach R at (b ∷ above) = R at b × AtEach R (at + size b) above
 
--- a block that begins from lo up to hi has at most so many Free bytes
+-- A block that begins from `lo` up to `hi` has at most `most` free bytes.
 abbrev pub AtMost : ℕ → ℕ → ℕ → ℕ → Block → Type 0
 AtMost most lo hi at b = lo ≤ at → at < hi → free_of b ≤ most
 
--- a block that begins from lo up to hi is no room for so many bytes
+-- A block that begins from `lo` up to `hi` is no free block of `bytes` bytes or more.
 abbrev pub NoRoom : ℕ → ℕ → ℕ → ℕ → Block → Type 0
 NoRoom bytes lo hi at b = lo ≤ at → at < hi → is_room bytes b ≡ false
 
--- one of the blocks from `at` on begins at a place, or they end there
+-- One of the blocks from the place `at` on begins at `place`, or the blocks end there.
 abbrev pub Begins : ℕ → ℕ → List Block → Type 0
 Begins place at [] = place ≡ at
 Begins place at (b ∷ above) = (place ≡ at) ⊎ Begins place (at + size b) above
 
--- the blocks that begin from lo up to hi, of those from `at` on
+-- The blocks that begin from `lo` up to `hi`, of those from the place `at` on.
 abbrev pub between : ℕ → ℕ → ℕ → List Block → List Block
 between lo hi at [] = []
 between lo hi at (b ∷ above) = if nat_le lo at && nat_lt at hi then b ∷ between lo hi (at + size b) above
     else between lo hi (at + size b) above
 
--- a block that ends a run
+-- A block that ends a run: a nonrelocatable block, a master pointer block, or a locked relocatable block.
 abbrev pub ends_run : Block → Bool
 ends_run b = not (in_run b)
 
--- what a tally says of blocks
+-- What a tally says of blocks: that none of them ends a run and exactly `free` of their bytes are free, that one of
+-- them ends a run and at most `free` of their bytes are free, or nothing.
 abbrev pub IsTally : Tally → List Block → Type 0
 IsTally (tally.Open free) blocks = (has ends_run blocks ≡ false) × (free_sum blocks ≡ free)
 IsTally (tally.Barred free) blocks = (has ends_run blocks ≡ true) × (free_sum blocks ≤ free)
 IsTally tally.Unknown blocks = Unit {0}
 
--- what a walk tells of the blocks that begin from lo up to hi
+-- What a walk finds of the blocks that begin from `lo` up to `hi`: a bound on each free block, the sum of the free
+-- bytes, and whether one of the blocks ends a run.
 pub record Measures (lo hi at : ℕ) (zone : List Block) (m : Measured) : Type 0 where
   pub most : AtEach (AtMost m.most lo hi) at zone
   pub free : free_sum (between lo hi at zone) ≡ m.free
   pub barred : has ends_run (between lo hi at zone) ≡ m.barred
 
--- no landmark
+-- A landmark that stands for none.
 abbrev pub no_mark : Landmark
 no_mark = record { at = 0; most = 0; tally = tally.Open 0 }
 
--- where the first of some landmarks stands; `end` where there is none
+-- The place of the first of some landmarks; `end` if there are none.
 abbrev pub next_of : ℕ → List Landmark → ℕ
 next_of end [] = end
 next_of end (m ∷ marks) = m.at
 
--- a block begins at each landmark, no Free block from one up to the next is larger than is noted, the tally is of the
--- blocks there, and the landmarks rise
+-- A block begins at each landmark, no free block from a landmark up to the next is larger than the landmark notes, the
+-- landmark's tally is of the blocks there, and the landmarks are in order of place.
 abbrev pub AreMarks : ℕ → List Block → List Landmark → Type 0
 AreMarks end zone [] = Unit {0}
 AreMarks end zone (m ∷ marks) = Begins m.at 0 zone × AtEach (AtMost m.most m.at (next_of end marks)) 0 zone
     × IsTally m.tally (between m.at (next_of end marks) 0 zone) × (m.at ≤ next_of end marks) × AreMarks end zone marks
 
--- landmarks are in groups, and none of a group notes more than the group's top
+-- The landmarks are in groups, and no landmark of a group notes more than the group's top.
 pub record AreTops (tops : List ℕ) (marks : List Landmark) : Type 0 where
   pub whole : length marks ≡ GROUP * length tops
   pub each : (group index : ℕ) → GROUP * group ≤ index → index < GROUP * group + GROUP → index < length marks
       → (get_or marks index no_mark).most ≤ get_or tops group 0
 
--- no room for so many bytes lies below a landmark; where there are no so many of them, none lies in the zone
+-- No free block of `bytes` bytes or more lies below the landmark at `index`; if there is no such landmark, none lies
+-- in the zone.
 abbrev pub NoneBelow : ℕ → List Block → List Landmark → ℕ → Type 0
 NoneBelow bytes zone marks index = AtEach (NoRoom bytes 0 (next_of 4294967295 (drop index marks))) 0 zone
 
--- the blocks from lo to hi became others of as many bytes
+-- The blocks from `lo` to `hi` became others of as many bytes.
 pub record Replaced (lo hi : ℕ) (old new : List Block) : Type 0 where
   pub below : List Block
   pub here : List Block
@@ -88,7 +91,7 @@ pub record Replaced (lo hi : ℕ) (old new : List Block) : Type 0 where
   pub high : lo + sizes here ≡ hi
   pub span : sizes there ≡ sizes here
 
--- the block at a place became another of as many bytes
+-- The block at `place` became another of as many bytes.
 pub record Became (place : ℕ) (old new : List Block) : Type 0 where
   pub below : List Block
   pub here : Block
@@ -99,7 +102,7 @@ pub record Became (place : ℕ) (old new : List Block) : Type 0 where
   pub low : sizes below ≡ place
   pub span : size there ≡ size here
 
--- a block is from `at` to `end`, has so many Free bytes, and ends a run or not
+-- A block is from the place `at` to `end`, has `free` free bytes, and ends a run or not.
 pub record Spans (at end free : ℕ) (barrier : Bool) (xs : List ℕ) : Type 0 where
   pub here : Block
   pub is : left_in at xs ≡ here ∷ left_in end xs
@@ -109,13 +112,13 @@ pub record Spans (at end free : ℕ) (barrier : Bool) (xs : List ℕ) : Type 0 w
   pub way : IsOnWay end xs
   pub some : at < end
 
--- a block with room for so many bytes begins at a place
+-- A free block of `bytes` bytes or more begins at `place`.
 pub record RoomAt (bytes place : ℕ) (xs : List ℕ) : Type 0 where
   pub here : Block
   pub above : List Block
   pub is : left_in place xs ≡ here ∷ above
   pub room : is_room bytes here ≡ true
 
--- a place strictly between two others goes down to the lower one, and any other stays
+-- A place strictly between `lo` and `hi` is lowered to `lo`, and any other place stays.
 abbrev pub Lowered : ℕ → ℕ → ℕ → ℕ → Type 0
 Lowered lo hi at now = ((lo < at) × (at < hi) × (now ≡ lo)) ⊎ ((now ≡ at) × ((at ≤ lo) ⊎ (hi ≤ at)))

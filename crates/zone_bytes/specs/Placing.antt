@@ -20,7 +20,7 @@ lay_from xs (Some r) = record {
   bytes = xs;
 }
 
--- the run at a place
+-- The run at a place.
 abbrev pub lay_at : List ℕ → ℕ → Lay
 lay_at xs place = lay_from xs (run_at place (zone_in xs))
 
@@ -43,6 +43,6 @@ hoist_from xs (Some s) = record {
   bytes = xs;
 }
 
--- the block at a place, and those that follow it in its run
+-- The block at a place, and those that follow it in its run.
 abbrev pub hoist_at : List ℕ → ℕ → Hoist
 hoist_at xs place = hoist_from xs (spot_at place (zone_in xs))

@@ -1,10 +1,10 @@
--- A run that has been moved as a whole, and whose slots are made to lead to it again.
+-- A run that was moved as a whole, and whose slots are made to lead to its blocks again.
 use Rattle.std.specs.Prelude.{◌≡◌, ℕ, ◌+◌, ◌%◌, ◌≤◌, List, ◌++◌, length}
 use Rattle.block_store.specs.Block.{Block, sizes}
 use Rattle.zone_bytes.specs.Layout.{head_of, Tiles, Leads, Each}
 use Rattle.zone_bytes.specs.Settling.{Lay, InRun, Lies, HasSlots, SameOthers}
 
--- the blocks lie in the bytes; the slots of the run from place to stop may lead anywhere
+-- The blocks lie in the bytes; the slots of the blocks of the run from `place` to `stop` may lead anywhere.
 pub record IsMoved (lay : Lay) (place stop : ℕ) : Type 0 where
   pub tiles : Tiles (head_of lay.resource) lay.bytes (lay.below ++ (lay.run ++ lay.above))
   pub slots : HasSlots (lay.below ++ (lay.run ++ lay.above))
@@ -15,7 +15,7 @@ pub record IsMoved (lay : Lay) (place stop : ℕ) : Type 0 where
   pub low : Leads 0 lay.below lay.bytes
   pub high : Leads stop lay.above lay.bytes
 
--- the slots of the blocks below `from` lead to them
+-- The slots of the blocks below `from` lead to these blocks; those of the rest of the run may lead anywhere.
 pub record PointingAt (lay : Lay) (stop from : ℕ) (xs : List ℕ) (done rest : List Block) : Type 0 where
   pub parts : done ++ rest ≡ lay.run
   pub tiles : Tiles (head_of lay.resource) xs ((lay.below ++ done) ++ (rest ++ lay.above))

@@ -1,17 +1,18 @@
--- What blocks would give if they were emptied. Inside Macintosh: Memory, chapter 1, "Purging and Reallocating Blocks".
+-- The bytes that blocks would free if they were purged. Inside Macintosh: Memory, chapter 1, "Purging and Reallocating
+-- Blocks".
 use Rattle.std.specs.Prelude.{ℕ, Option, Some, None, List, if◌then◌else◌}
 use Rattle.block_store.specs.Block.{Block, size, is_purgeable, total}
 use Rattle.block_store.specs.Room.{Spot}
 
--- the bytes that a block would give: all that it takes, where it may be emptied
+-- The bytes that a block would free if it were purged: its physical size if it may be purged, else 0.
 abbrev pub purgeable_of : Block → ℕ
 purgeable_of b = if is_purgeable b then size b else 0
 
--- the bytes that blocks would give
+-- The bytes that blocks would free if all of them that may be purged were purged.
 abbrev pub purgeable_sum : List Block → ℕ
 purgeable_sum blocks = total purgeable_of blocks
 
--- the bytes that the block at a spot would give, if there is one
+-- The bytes that the block at a spot would free if it were purged; 0 if there is no block.
 abbrev pub purgeable_at : Option Spot → ℕ
 purgeable_at None = 0
 purgeable_at (Some s) = purgeable_of s.here

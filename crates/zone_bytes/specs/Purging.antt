@@ -1,4 +1,4 @@
--- A pass over a zone that empties its lowest blocks that may go, and joins Free neighbours.
+-- A pass over a zone that purges its lowest purgeable blocks and joins free blocks that stand side by side.
 use Rattle.std.specs.Prelude.{◌≡◌, ℕ, ◌+◌, ◌-◌, ◌≤◌, List, ◌∷◌, ◌++◌}
 use Rattle.block_store.specs.Block.{Block, sizes, free, free_sum, tidy}
 use Rattle.block_store.specs.Room.{emptied}
@@ -9,15 +9,16 @@ use Rattle.block_store.specs.declared.sparing.Sparing.{Sparing}
 use Rattle.zone_bytes.specs.Joining.{Freeing}
 use Rattle.zone_bytes.specs.Table.{Lays}
 
--- the zone that a pass is to leave, before Free neighbours are one; its slots; and the Free bytes before the pass
+-- The zone that a pass is to leave, before free blocks that stand side by side are joined; the zone's slots; and its
+-- free bytes before the pass.
 pub record Purge : Type 0 where
   pub goal : List Block
   pub slots : ℕ → Slot
   pub unused : List ℕ
   pub free : ℕ
 
--- the blocks below `start` are done, Free bytes are from there to `at`, and the rest is as it was; so many purges are
--- left, and so many bytes became Free
+-- The blocks below `start` are done, free bytes are from `start` to `at`, and the other blocks are as they were;
+-- `left` purges are left, and `freed` bytes became free.
 pub record Purging (p : Purge) (n : Sparing) (start at left freed : ℕ) (xs : List ℕ) : Type 0 where
   pub done : List Block
   pub rest : List Block
@@ -33,13 +34,13 @@ pub record Purged (p : Purge) (freed : ℕ) (xs : List ℕ) : Type 0 where
   pub lays : Lays xs (tidy p.goal) p.slots p.unused
   pub count : free_sum (tidy p.goal) ≡ p.free + freed
 
--- a block is at a place of a tidy zone
+-- A block is at `place` in a zone with no two free blocks side by side.
 pub record MayPurge (f : Freeing) (place : ℕ) (xs : List ℕ) : Type 0 where
   pub lays : Lays xs (f.below ++ f.here ∷ f.above) f.slots f.unused
   pub low : sizes f.below ≡ place
   pub tidied : tidy (f.below ++ f.here ∷ f.above) ≡ f.below ++ f.here ∷ f.above
 
--- the pass over the blocks above it
+-- The pass over the blocks above a block.
 abbrev pub purge_above : Freeing → ℕ → Sparing → Purge
 purge_above f purges n = record {
   goal = f.below ++ f.here ∷ emptied purges (spared n) f.above;

@@ -5,7 +5,8 @@ use Rattle.block_store.specs.Run.{low}
 use Rattle.zone_bytes.specs.Layout.{head_of, Tiles, Leads, Each}
 use Rattle.zone_bytes.specs.Settling.{Lay, InRun, Lies, HasSlots, IsRun, SameOthers}
 
--- the relocatable blocks of a packed run, the bytes that come below them and those that stay above them
+-- The relocatable blocks of a packed run, the number of free bytes that are to be below them, and the number of those
+-- that stay above them.
 pub record Raise : Type 0 where
   pub resource : ℕ → Bool
   pub below : List Block
@@ -24,7 +25,7 @@ raised_run z = Free z.gap ∷ (z.movers ++ free z.rest)
 abbrev pub raised : Raise → List Block
 raised z = z.below ++ (raised_run z ++ z.above)
 
--- the blocks lie packed, and the slots of the relocatable ones lead `gap` above them
+-- The blocks lie packed, and the slots of the relocatable blocks lead to the places `gap` above them.
 pub record MayRaise (z : Raise) (place top stop gap : ℕ) : Type 0 where
   pub tiles : Tiles (head_of z.resource) z.bytes (packed z)
   pub low : Leads 0 z.below z.bytes
@@ -45,11 +46,11 @@ pub record Raised (z : Raise) (xs : List ℕ) : Type 0 where
   pub others : SameOthers (packed z) z.bytes xs
   pub kept : length xs ≡ length z.bytes
 
--- so many Free bytes, the relocatable blocks of a run, and the rest of its Free bytes
+-- A run with the given number of free bytes at its bottom, then its relocatable blocks, and then its other free bytes.
 abbrev pub lifted : ℕ → List Block → List Block
 lifted gap run = tidy (low (Free gap) run)
 
--- the run of `lay` begins at place, and has so many Free bytes
+-- The run of `lay` begins at `place`, and has at least `gap` free bytes.
 pub record MayLift (lay : Lay) (place gap : ℕ) : Type 0 where
   pub run : IsRun lay place (place + sizes lay.run)
   pub some : 0 < gap

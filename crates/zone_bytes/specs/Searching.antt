@@ -1,4 +1,4 @@
--- Searches for a run and for room that go over a zone by landmarks.
+-- Searches for a run and for room that use the landmarks of a zone.
 use Rattle.std.specs.Prelude.{◌≡◌, ℕ, ◌+◌, ◌≤◌, ◌<◌, ◌⊎◌, ◌&&◌, nat_le, true, false, Option, Some, None, List, ◌++◌, length}
 use Rattle.std.specs.Option.{option_map}
 use Rattle.block_store.specs.Block.{Block, sizes, free_sum, is_room}
@@ -21,29 +21,29 @@ use Rattle.zone_bytes.specs.declared.finding_runs.Search.{Search}
 use Rattle.zone_bytes.specs.declared.finding_runs.Search.TheVariants as search
 use Rattle.zone_bytes.specs.declared.landmark.Tally.{Tally}
 
--- the run so far has enough
+-- The run so far has at least `bytes` free bytes, and the block that it must have.
 abbrev pub IsFound : ℕ → RunScan → Type 0
 IsFound bytes s = (s.met && nat_le bytes s.free) ≡ true
 
--- a search that begins at a place, when no purges are left
+-- A search that begins at the place `at` with no purges left.
 abbrev pub begun : ℕ → RunScan
 begun at = record { left = 0; start = at; free = 0; met = true; place = at }
 
--- the place of the run that a search finds from where it is
+-- The place of the run that a search finds from where it is.
 abbrev pub finds_from : ℕ → RunScan → List ℕ → Option ℕ
 finds_from bytes s xs = scan_from None bytes (spared sparing.Nothing) s (left_in s.place xs)
 
--- the blocks from one place up to another
+-- The blocks `here` are those from the place `from` up to the place `to`.
 pub record IsPiece (from to : ℕ) (xs : List ℕ) (here : List Block) : Type 0 where
   pub is : left_in from xs ≡ here ++ left_in to xs
   pub up : from + sizes here ≡ to
   pub edge : Begins to 0 (zone_in xs)
 
--- a tally is of the blocks from one place up to another
+-- A tally is of the blocks from the place `from` up to the place `to`.
 abbrev pub IsStretch : Tally → ℕ → ℕ → List ℕ → Type 0
 IsStretch t from to xs = (here : List Block) × IsPiece from to xs here × IsTally t here
 
--- a search that is at a place, or has found a run, finds what is looked for
+-- A search that is at the place `at`, or has found a run, finds the run that is sought.
 pub record IsKnown (bytes : ℕ) (answer : Option ℕ) (at : ℕ) (xs : List ℕ) (s : RunScan) : Type 0 where
   pub begins : Begins s.place 0 (zone_in xs)
   pub left : s.left ≡ 0
@@ -52,7 +52,8 @@ pub record IsKnown (bytes : ℕ) (answer : Option ℕ) (at : ℕ) (xs : List ℕ
   pub finds : answer ≡ finds_from bytes s xs
   pub here : IsFound bytes s ⊎ (s.place ≡ at)
 
--- so does one that begins where blocks were passed, up to a place, which are too few for a run that begins among them
+-- A search that begins at the first of the blocks that were passed finds the run that is sought. These blocks reach up
+-- to the place `at`, and a run that begins among them has too few free bytes so far.
 pub record IsBehind (bytes : ℕ) (answer : Option ℕ) (at : ℕ) (xs : List ℕ) (p : Passed) : Type 0 where
   pub begins : Begins p.at 0 (zone_in xs)
   pub finds : answer ≡ finds_from bytes (begun p.at) xs
@@ -69,20 +70,21 @@ abbrev pub IsSearch : ℕ → Option ℕ → ℕ → List ℕ → Search → Typ
 IsSearch bytes answer at xs (search.Known s) = IsKnown bytes answer at xs s
 IsSearch bytes answer at xs (search.Behind p) = IsBehind bytes answer at xs p
 
--- no less than the Free bytes of the run that a search is in
+-- A number that is at least that of the free bytes of the run in which a search is.
 abbrev pub most_had : Search → ℕ
 most_had (search.Known s) = s.free
 most_had (search.Behind p) = p.most + p.beyond
 
--- the place of the lowest Free block with enough bytes after so many purges
+-- The place of the lowest free block of `bytes` bytes or more after the given number of purges.
 abbrev pub lowest_room : ℕ → ℕ → Sparing → List ℕ → Option ℕ
 lowest_room bytes purges n xs = option_map (λ s. sizes s.below) (spot (is_room bytes) (purged purges n (zone_in xs)))
 
--- what a search for room finds from where it is
+-- The place that a search for room finds from where it is.
 abbrev pub finds_room : ℕ → Sparing → RoomScan → List ℕ → Option ℕ
 finds_room bytes n s xs = stretch bytes (spared n) s.left s.start s.free s.place (opened n (left_in s.place xs))
 
--- a search for room that goes on finds what is looked for, at the zone's end or where no stretch has begun
+-- A search for room that goes on finds the room that is sought. It is at the zone's end, or has no purges left and is
+-- not in a stretch of free blocks.
 pub record IsOnRoom (bytes purges : ℕ) (n : Sparing) (xs : List ℕ) (s : RoomScan) : Type 0 where
   pub begins : Begins s.place 0 (zone_in xs)
   pub finds : lowest_room bytes purges n xs ≡ finds_room bytes n s xs

@@ -6,13 +6,13 @@ use Rattle.block_store.specs.Block.{Block, free_of, free_sum, is_mover, size, si
 use Rattle.block_store.specs.Run.{in_run, movers, settle}
 use Rattle.zone_bytes.specs.Layout.{head_of, Tiles, IsSlot, names, Leads, Apart, Each, Pairs}
 
--- how many relocatable blocks of a run come lower, where there are so many Free bytes below it
+-- The number of relocatable blocks of a run that move down when the run is packed and `gap` free bytes are below it.
 abbrev pub falling_from : ℕ → List Block → ℕ
 falling_from gap [] = 0
 falling_from gap (b ∷ blocks) = (if is_mover b then (if nat_lt 0 gap then 1 else 0) else 0) + falling_from
     (gap + free_of b) blocks
 
--- a zone with one of its runs, and the bytes in which it lies
+-- A zone with one of its runs, and the bytes in which the zone lies.
 pub record Lay : Type 0 where
   pub resource : ℕ → Bool
   pub below : List Block
@@ -23,29 +23,29 @@ pub record Lay : Type 0 where
 abbrev pub InRun : Block → Type 0
 InRun b = in_run b ≡ true
 
--- the blocks lie in xs, and each relocatable one is led to by its slot
+-- The blocks lie in `xs`, and the slot of each relocatable block leads to the block.
 pub record Lies (resource : ℕ → Bool) (blocks : List Block) (xs : List ℕ) : Type 0 where
   pub tiles : Tiles (head_of resource) xs blocks
   pub leads : Leads 0 blocks xs
 
--- the slots of blocks are slots of Masters blocks, each another
+-- The slots of blocks are slots of master pointer blocks, and no two blocks have the same slot.
 pub record HasSlots (blocks : List Block) : Type 0 where
   pub slots : Each (λ s. IsSlot s blocks) (names blocks)
   pub apart : Pairs Apart (names blocks)
 
--- nothing, or blocks that begin with one that ends a run
+-- There are no blocks, or the first of them ends a run.
 abbrev pub EndsRun : List Block → Type 0
 EndsRun [] = Unit {0}
 EndsRun (b ∷ above) = in_run b ≡ false
 
--- whether a block belongs to a run, by the number of its kind and the flags in its header
+-- Reports whether a block belongs to a run, by the number of its kind and the flags in its header.
 abbrev pub runs_on : ℕ → ℕ → Bool
 runs_on zero f = true
 runs_on (suc zero) f = false
 runs_on (suc (suc zero)) f = false
 runs_on (suc (suc (suc k))) f = nat_lt f 128
 
--- the run of `lay` is from place to stop
+-- The run of `lay` is from `place` to `stop`.
 pub record IsRun (lay : Lay) (place stop : ℕ) : Type 0 where
   pub lies : Lies lay.resource (lay.below ++ (lay.run ++ lay.above)) lay.bytes
   pub slots : HasSlots (lay.below ++ (lay.run ++ lay.above))
@@ -54,12 +54,12 @@ pub record IsRun (lay : Lay) (place stop : ℕ) : Type 0 where
   pub in_run : Each InRun lay.run
   pub small : length lay.bytes ≤ 134217728
 
--- the slot words that lead to no block are those that were in the bytes
+-- The slots that lead to none of the blocks hold the words that they held before.
 abbrev pub SameOthers : List Block → List ℕ → List ℕ → Type 0
 SameOthers blocks old new = (s : ℕ) → IsSlot s blocks → Each (Apart s) (names blocks) → piece s 4 new ≡ piece s 4 old
 
--- the run's blocks below `from` are `moved` now, up to `to`, and `moves` of them came lower; `rest` lie as they did.
--- The slots of those that were moved lead `gap` above them
+-- The run's blocks below `from` now lie packed below `to` as `moved`, and `moves` of them moved down; the blocks
+-- `rest` lie as they did. The slots of the blocks that were moved lead to the places `gap` above them.
 pub record PackingAt (lay : Lay) (gap stop from to moves : ℕ) (xs : List ℕ) (moved rest : List Block) : Type 0 where
   pub low : Tiles (head_of lay.resource) (take to xs) (lay.below ++ moved)
   pub high : Tiles (head_of lay.resource) (drop from xs) (rest ++ lay.above)
@@ -77,7 +77,7 @@ pub record PackingAt (lay : Lay) (gap stop from to moves : ℕ) (xs : List ℕ) 
   pub count : moves + falling_from (from - to) rest ≡ falling_from 0 lay.run
   pub others : SameOthers (lay.below ++ (lay.run ++ lay.above)) lay.bytes xs
 
--- of the run's blocks the `gone` ones were passed, and the relocatable ones of these were moved
+-- Of the run's blocks the blocks `gone` were passed, and the relocatable blocks among them were moved.
 pub record Packing (lay : Lay) (gap stop from to moves : ℕ) (xs : List ℕ) : Type 0 where
   pub gone : List Block
   pub moved : List Block
@@ -86,8 +86,8 @@ pub record Packing (lay : Lay) (gap stop from to moves : ℕ) (xs : List ℕ) : 
   pub those : moved ≡ movers gone
   pub state : PackingAt lay gap stop from to moves xs moved rest
 
--- the run's relocatable blocks lie one after another from its bottom on, with one Free block above them, and their slots
--- lead `gap` above them
+-- The run's relocatable blocks lie one after another from its bottom on, with one free block above them, and their
+-- slots lead to the places `gap` above them.
 pub record Packed (lay : Lay) (gap moves : ℕ) (xs : List ℕ) : Type 0 where
   pub tiles : Tiles (head_of lay.resource) xs (lay.below ++ (settle lay.run ++ lay.above))
   pub low : Leads 0 lay.below xs
@@ -97,7 +97,7 @@ pub record Packed (lay : Lay) (gap moves : ℕ) (xs : List ℕ) : Type 0 where
   pub moved : moves ≡ falling_from 0 lay.run
   pub kept : length xs ≡ length lay.bytes
 
--- the first blocks of a run, with the others above them
+-- The first blocks of a run as a run, with the other blocks of the run above them.
 abbrev pub cut : Lay → List Block → List Block → Lay
 cut lay gone rest = record {
   resource = lay.resource;
@@ -107,7 +107,7 @@ cut lay gone rest = record {
   bytes = lay.bytes;
 }
 
--- the blocks of a list that lie in its first n bytes, and those behind them
+-- The blocks of a list that lie in its first `n` bytes, and the blocks after them.
 abbrev pub first_in : ℕ → List Block → List Block
 first_in n [] = []
 first_in n (b ∷ blocks) = if nat_le (size b) n then b ∷ first_in (n - size b) blocks else []
@@ -116,15 +116,15 @@ abbrev pub left_behind : ℕ → List Block → List Block
 left_behind n [] = []
 left_behind n (b ∷ blocks) = if nat_le (size b) n then left_behind (n - size b) blocks else b ∷ blocks
 
--- the blocks of a run below a place, and the others
+-- The blocks of a run below a place, and the other blocks of the run.
 abbrev pub gone_to : Lay → ℕ → List Block
 gone_to lay stop = first_in (stop - sizes lay.below) lay.run
 
 abbrev pub rest_from : Lay → ℕ → List Block
 rest_from lay stop = left_behind (stop - sizes lay.below) lay.run
 
--- the first blocks of a run are packed, up to `top`, with one Free block above them, up to `stop`: all of the run, or
--- as many as have `enough` Free bytes among them
+-- The first blocks of a run are packed, up to `top`, with one free block above them, up to `stop`. They are all blocks
+-- of the run, or as many as have `enough` free bytes among them.
 pub record UntilAt (lay : Lay) (place gap enough moves top stop : ℕ) (xs : List ℕ) (gone rest : List Block) : Type 0 where
   pub split : gone ++ rest ≡ lay.run
   pub packed : Packed (cut lay gone rest) gap moves xs
@@ -136,7 +136,7 @@ abbrev pub PackedUntil : Lay → ℕ → ℕ → ℕ → ℕ → ℕ → ℕ →
 PackedUntil lay place gap enough moves top stop xs =
     UntilAt lay place gap enough moves top stop xs (gone_to lay stop) (rest_from lay stop)
 
--- they are packed, and each is led to by its slot
+-- The run is packed, and the slot of each relocatable block leads to the block.
 pub record Settled (lay : Lay) (moves : ℕ) (xs : List ℕ) : Type 0 where
   pub lies : Lies lay.resource (lay.below ++ (settle lay.run ++ lay.above)) xs
   pub others : SameOthers (lay.below ++ (lay.run ++ lay.above)) lay.bytes xs

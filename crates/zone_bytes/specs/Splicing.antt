@@ -5,21 +5,21 @@ use Rattle.mac_words.specs.Size.{padded}
 use Rattle.zone_bytes.specs.Layout.{flag_word, names, Each, Apart, IsSlot}
 use Rattle.zone_bytes.specs.Settling.{Lies}
 
--- the bytes below lo and from hi on are the same
+-- The bytes below `lo` and those from `hi` on keep their values.
 pub record SameOutside (lo hi : ℕ) (old new : List ℕ) : Type 0 where
   pub kept : length new ≡ length old
   pub ordered : (lo ≤ hi) × (hi ≤ length old)
   pub low : take lo new ≡ take lo old
   pub high : drop hi new ≡ drop hi old
 
--- a zone's blocks below a stretch of them, the stretch, and those above it
+-- A stretch of a zone's blocks, and the blocks below and above it.
 pub record Splice : Type 0 where
   pub resource : ℕ → Bool
   pub below : List Block
   pub here : List Block
   pub above : List Block
 
--- the stretch of `zone` is from bottom to top in xs, and no slot is in it
+-- The stretch of `zone` is from `bottom` to `top` in `xs`, and has no slots.
 pub record IsSplice (zone : Splice) (bottom top : ℕ) (xs : List ℕ) : Type 0 where
   pub lies : Lies zone.resource (zone.below ++ (zone.here ++ zone.above)) xs
   pub low : sizes zone.below ≡ bottom
@@ -30,7 +30,7 @@ pub record IsSplice (zone : Splice) (bottom top : ℕ) (xs : List ℕ) : Type 0 
       (λ s. IsSlot s (zone.below ++ (zone.here ++ zone.above))) (names zone.above)
   pub no_masters : (s : ℕ) → IsSlot s zone.here → ⊥
 
--- a block of `size` bytes for a slot of no block may be put at the lower end of the Free block from bottom to top
+-- A block of `size` bytes for a slot of no block may be put at the lower end of the free block from `bottom` to `top`.
 pub record MayCarve (zone : Splice) (bottom top slot size flags : ℕ) (xs : List ℕ) : Type 0 where
   pub splice : IsSplice zone bottom top xs
   pub here : zone.here ≡ Free (top - bottom) ∷ []

@@ -8,18 +8,19 @@ use Rattle.zone_bytes.specs.Layout.{names, Each, ArePlaced}
 use Rattle.zone_bytes.specs.Decode.{flags_of, blocks_in}
 use Rattle.zone_bytes.specs.Walking.{Walk}
 
--- what the words of a header tell: its kind, physical and logical size, slot and flags
+-- The block that the words of a header describe: `n` is its physical size, `c` its logical size, `s` its slot, and `f`
+-- its flags.
 abbrev pub header_seen : ℕ → ℕ → ℕ → ℕ → ℕ → Seen
 header_seen zero n c s f = see.Free n
 header_seen (suc zero) n c s f = see.Fixed c
 header_seen (suc (suc zero)) n c s f = see.Masters
 header_seen (suc (suc (suc k))) n c s f = see.Relocatable s (flags_of f) c
 
--- the blocks from a place on
+-- The blocks from the place `at` on.
 abbrev pub left_in : ℕ → List ℕ → List Block
 left_in at xs = blocks_in (length xs) at (drop at xs)
 
--- blocks lie from a place on
+-- Blocks lie from the place `at` on to the end of the bytes.
 pub record IsOnWay (at : ℕ) (xs : List ℕ) : Type 0 where
   pub resource : ℕ → Bool
   pub rest : List Block
@@ -28,7 +29,7 @@ pub record IsOnWay (at : ℕ) (xs : List ℕ) : Type 0 where
   pub words : Each (λ s. s < 2 ^ 32) (names rest)
   pub small : length xs ≤ 134217728
 
--- a block that is seen so is from `at` to `end`
+-- A block with this description is from the place `at` to `end`.
 pub record Steps (at : ℕ) (block : Seen) (end : ℕ) (xs : List ℕ) : Type 0 where
   pub here : Block
   pub is : left_in at xs ≡ here ∷ left_in end xs

@@ -1,4 +1,4 @@
--- What is true of a RawWalk.
+-- The value and the invariant of a `RawWalk`.
 use Rattle.std.specs.Prelude.{List}
 use Rattle.block_store.specs.Block.{Block}
 use Rattle.zone_bytes.specs.Stepping.{left_in, IsOnWay}

@@ -1,4 +1,4 @@
-//! A Fixed block becomes the block of a slot.
+//! A nonrelocatable block becomes the block of a handle.
 
 ghost use Rattle.std.specs.Prelude.{◌≡◌, ◌+◌, ◌%◌, ◌≤◌, ◌<◌, ◌∷◌, ℕ, List, length};
 ghost use Rattle.heap_words.specs.Words.{word_at};
@@ -16,7 +16,7 @@ use block_store::{Flags, Seen, Walk};
 use heap_words::{Header, Tag};
 use raw_region::Part;
 
-/// The block that a slot leads to: where it stands, its flags and how many bytes it holds.
+/// The block of a handle: its place, its flags, and its logical size.
 #[derive(Clone, Copy, Drop)]
 pub struct SlotBlock {
     pub place: u32,
@@ -24,7 +24,7 @@ pub struct SlotBlock {
     pub length: u32,
 }
 
-/// The block that a slot leads to.
+/// Reads the block to which a slot leads.
 pub fn block_of_slot(part: &Part, slot: u32) -> SlotBlock
     requires slot { (slot % 4 ≡ 0) × (slot + 4 ≤ length part.now.bytes) }
     requires leads { LeadsHere slot part.now.bytes }
@@ -44,7 +44,8 @@ pub fn block_of_slot(part: &Part, slot: u32) -> SlotBlock
     }
 }
 
-/// Makes the Fixed block at a place the block of a slot whose handle was emptied.
+/// Makes the nonrelocatable block at `place` the block of a slot whose handle was empty. The resource flag of the
+/// handle is kept.
 pub fn adopt(part: &mut Part, place: u32, slot: u32, flags: Flags)
     requires way { IsOnWay place part.old.bytes }
     requires some { place < length part.old.bytes }

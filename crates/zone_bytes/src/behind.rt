@@ -1,4 +1,4 @@
-//! Room behind the block that a slot leads to.
+//! The room above the block of a handle.
 
 ghost use Rattle.std.specs.Prelude.{◌≡◌, ◌+◌, ◌%◌, ◌≤◌, ℕ, IfSome, is_some, length};
 ghost use Rattle.heap_words.specs.Words.{word_at};
@@ -16,7 +16,7 @@ use crate::words::read_word;
 use block_store::{Sparing, room_above_in};
 use raw_region::Part;
 
-/// The word of a slot; 0 for a number at which no word lies.
+/// Reads the word of a slot. Returns 0 for a number at which no word lies.
 fn word_of_slot(part: &Part, slot: u32) -> u32
     ensures { slot % 4 ≡ 0 → slot + 4 ≤ length part.now.bytes → result ≡ word_at slot part.now.bytes }
 {
@@ -26,7 +26,8 @@ fn word_of_slot(part: &Part, slot: u32) -> u32
     read_word(part, slot)
 }
 
-/// An edge at or below the block that a slot leads to: the landmark there, by the place that the slot's word tells.
+/// Returns the place of a block at or below the block of a slot: that of the landmark there, sought by the place that
+/// the slot's word holds.
 fn edge_below(part: &Part, marks: &Landmarks, slot: u32) -> u32
     requires sound { (first : ℕ) × (unused : ℕ) × IsSound part.now.bytes first unused }
     requires marks { AreOf marks.now (zone_in part.now.bytes) }
@@ -36,8 +37,9 @@ fn edge_below(part: &Part, marks: &Landmarks, slot: u32) -> u32
     marks.below(word_of_slot(part, slot).saturating_add(1))
 }
 
-/// Whether so many Free bytes follow the block that a slot leads to, in the zone as it stands, by a walk from the
-/// landmark at or below it. Any number may be asked for: where it leads to no block, the walk goes to the zone's end.
+/// Reports whether a free block of at least `bytes` bytes follows the block of a slot in the zone as it stands, by a
+/// walk from the landmark at or below that block. Any number may be asked for as a slot: if it leads to no block, the
+/// walk goes on to the zone's end.
 pub fn has_room_behind(part: &Part, marks: &Landmarks, slot: u32, bytes: u32) -> bool
     requires sound { (first : ℕ) × (unused : ℕ) × IsSound part.now.bytes first unused }
     requires marks { AreOf marks.now (zone_in part.now.bytes) }

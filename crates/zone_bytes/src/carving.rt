@@ -1,4 +1,4 @@
-//! A Free block is made, and a block at the lower end of one.
+//! A free block is made, and a relocatable block is put at the lower end of a free block.
 
 ghost use Rattle.std.specs.Prelude.{◌≡◌, ◌+◌, ◌-◌, ◌≤◌, ◌<◌, ◌∷◌, ◌++◌};
 ghost use Rattle.std.specs.Prelude.{◌^◌, ◌%◌, ◌==◌, if◌then◌else◌, ℕ, [], length, replicate};
@@ -15,7 +15,7 @@ use crate::words::{read_word, write_header, write_word};
 use heap_words::{Header, Tag};
 use raw_region::Part;
 
-/// Makes the blocks from `bottom` to `top` one Free block.
+/// Makes the blocks from `bottom` to `top` one free block.
 pub fn make_free(part: &mut Part, bottom: u32, top: u32)
     requires { (z : Splice) × IsSplice z bottom top part.old.bytes }
     ensures same { KeepsPlace part.old part.new }
@@ -26,7 +26,7 @@ pub fn make_free(part: &mut Part, bottom: u32, top: u32)
     write_word(part, bottom, top - bottom);
 }
 
-/// The bytes that a block of so many takes.
+/// Returns the physical size of a block whose logical size is `bytes`.
 pub fn padded_size(bytes: u32) -> u32
     requires { padded bytes < 2 ^ 32 }
     ensures { result ≡ padded bytes }
@@ -34,7 +34,8 @@ pub fn padded_size(bytes: u32) -> u32
     (16 + 16 * ((bytes as u64 + 15) / 16)) as u32
 }
 
-/// Puts a new block of `size` bytes 0 at the lower end of the Free block from `bottom` to `top`.
+/// Puts a new relocatable block of `size` bytes, all 0, at the lower end of the free block from `bottom` to `top`, and
+/// makes its slot lead to it.
 pub fn carve(part: &mut Part, bottom: u32, top: u32, slot: u32, size: u32, flags: u32)
     requires { (z : Splice) × MayCarve z bottom top slot size flags part.old.bytes }
     ensures same { KeepsPlace part.old part.new }
@@ -59,7 +60,7 @@ pub fn carve(part: &mut Part, bottom: u32, top: u32, slot: u32, size: u32, flags
     write_word(part, slot, bottom);
 }
 
-/// The flags of a new block for a slot: those that its emptied handle kept.
+/// Returns the flags of a new block for a slot: the resource flag that the empty handle's slot kept.
 pub fn kept_flags(part: &Part, slot: u32) -> u32
     requires { (slot % 4 ≡ 0) × (slot + 4 ≤ length part.now.bytes) }
     ensures { result ≡ (if word_at slot part.now.bytes == 18 then 32 else 0) }

@@ -1,4 +1,4 @@
-//! The bytes that a block holds.
+//! The content of a block.
 
 ghost use Rattle.std.specs.Prelude.{◌≡◌, ◌+◌, ◌≤◌, ◌<◌, ◌%◌, ◌==◌, ◌∷◌, List, length};
 ghost use Rattle.heap_words.specs.Headers.{tag_number};
@@ -10,7 +10,7 @@ use crate::writing::get_bytes;
 use heap_words::Tag;
 use raw_region::Part;
 
-/// Whether blocks of a kind hold bytes.
+/// Reports whether blocks of a kind have content.
 pub(crate) fn has_content(tag: Tag) -> bool
     ensures { result ≡ (tag_number tag % 2 == 1) }
 {
@@ -20,7 +20,7 @@ pub(crate) fn has_content(tag: Tag) -> bool
     }
 }
 
-/// The bytes that the block at a place holds.
+/// Returns the content of the block at `place`.
 pub fn content_at(part: &Part, place: u32) -> &[u8]
     requires way { IsOnWay place part.now.bytes }
     requires some { place < length part.now.bytes }

@@ -1,4 +1,4 @@
-//! Edges of blocks, noted while these are moved.
+//! Edges of blocks, noted while the blocks are moved. An edge is a place at which a block begins.
 
 ghost use Rattle.std.specs.Prelude.{◌≡◌, ◌+◌, ◌∷◌, ◌++◌, [], ℕ, List, IfSome};
 ghost use Rattle.block_store.specs.Block.{Block, sizes};
@@ -6,9 +6,9 @@ ghost use Rattle.zone_bytes.specs.Edges.{AreEdges, Starts};
 
 use crate::paging::LANDMARKS;
 
-/// Places at which relocatable blocks of a run begin once they lie packed: for each page above the run's first one, the
-/// lowest at or above the page's bottom. They are noted by the walk that moves the blocks, so that landmarks are laid
-/// with no other.
+/// Places at which relocatable blocks of a run begin once the run is packed: for each page above the run's first page,
+/// the lowest such place at or above the page's bottom. The walk that moves the blocks notes these edges, so that
+/// landmarks are laid without another walk.
 #[derive(Drop)]
 pub struct Edges {
     places: [u32; LANDMARKS],
@@ -18,7 +18,7 @@ pub struct Edges {
 }
 
 impl Edges {
-    /// No edges.
+    /// Makes a list of no edges.
     pub fn new() -> Edges
         ensures { (base : ℕ) → AreEdges result base [] }
     {
@@ -30,8 +30,8 @@ impl Edges {
         }
     }
 
-    /// Forgets what was noted. What is noted from now on is the first edge at or above `bottom`, where a page begins, and
-    /// then one for each page above.
+    /// Removes all edges. The edges to be noted from now on are the first one at or above `bottom`, where a page
+    /// begins, and then one for each page above.
     pub fn restart(&mut self, bottom: u32, page: u32)
         ensures { (base : ℕ) → AreEdges self.new base [] }
     {
@@ -40,7 +40,7 @@ impl Edges {
         self.page = page;
     }
 
-    /// A block comes to begin at a place, above those that were noted.
+    /// Notes that a block will begin at `place`, above all blocks that were noted before.
     pub fn pass(&mut self, place: u32)
         ensures { (base : ℕ) (before : List Block) (block : Block) → base + sizes before ≡ place →
             AreEdges self.old base before → AreEdges self.new base (before ++ block ∷ []) }
@@ -52,7 +52,7 @@ impl Edges {
         }
     }
 
-    /// The edge of a number, from the lowest one up.
+    /// Returns the edge of the given number, counted from the lowest edge.
     pub fn get(&self, number: usize) -> Option<u32>
         ensures { IfSome result (λ place. (base : ℕ) (blocks : List Block) → AreEdges self.now base blocks →
             Starts place base blocks) }

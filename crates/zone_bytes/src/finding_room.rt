@@ -1,4 +1,4 @@
-//! The search for a Free block after purges: by landmarks, once no purges are left.
+//! The search for a free block after purges, which uses landmarks once no purges are left.
 
 ghost use Rattle.std.specs.Prelude.{◌≡◌, ◌+◌, ℕ, List, false};
 ghost use Rattle.std.specs.Option.{option_map};
@@ -19,23 +19,23 @@ use crate::raw_walk::{step_at, walk_from};
 use block_store::{RoomScan, Sparing, find_free_in, scan_room, suffices};
 use raw_region::Part;
 
-/// What a search for room came to.
+/// The result of a search for room as long as purges were left.
 #[derive(Clone, Copy, Drop)]
 pub enum Scanned {
-    /// It has found room at a place.
+    /// The search has found room at this place.
     Found(u32),
-    /// It has come to the zone's end, or has no purges left and is behind a block that isn't Free.
+    /// The search has reached the zone's end, or has no purges left and stands after a block that is not free.
     On(RoomScan),
 }
 
-/// Whether a search still has purges, or is in a stretch of Free blocks.
+/// Reports whether a search has purges left or is in a stretch of free blocks.
 fn is_within(scan: RoomScan) -> bool
     ensures { result ≡ false → (scan.left ≡ 0) × (scan.free ≡ 0) × (scan.start ≡ scan.place) }
 {
     scan.left > 0 || scan.free > 0 || scan.start != scan.place
 }
 
-/// The search while it has purges, and to the end of the stretch that it is in then.
+/// Searches for room as long as purges are left, and then to the end of the stretch of free blocks that has begun.
 fn scan_purges(part: &Part, bytes: u32, purges: u32, sparing: Sparing) -> Scanned
     requires { (first : ℕ) × (unused : ℕ) × IsSound part.now.bytes first unused }
     ensures { IsRoomScan bytes purges sparing part.now.bytes result }
@@ -57,7 +57,7 @@ fn scan_purges(part: &Part, bytes: u32, purges: u32, sparing: Sparing) -> Scanne
     Scanned::On(scan)
 }
 
-/// The place of the lowest Free block of at least so many bytes, of those from an edge on.
+/// Returns the place of the lowest free block of at least `bytes` bytes, of those from the place `edge` on.
 fn room_from(marks: &[Landmark], tops: &[u32], part: &Part, edge: u32, bytes: u32) -> Option<u32>
     requires sound { (first : ℕ) × (unused : ℕ) × IsSound part.now.bytes first unused }
     requires marks { AreMarks 4294967295 (zone_in part.now.bytes) marks.now }
@@ -73,8 +73,8 @@ fn room_from(marks: &[Landmark], tops: &[u32], part: &Part, edge: u32, bytes: u3
     Some(edge + above)
 }
 
-/// The place of the lowest Free block of at least so many bytes, after so many purges. Where a block counts as Free
-/// that isn't, a zone's landmarks don't tell.
+/// Returns the place of the lowest free block of at least `bytes` bytes after the given number of purges. The zone's
+/// landmarks can't be used if `sparing` counts a block as free that is not free.
 pub fn find_room_by_marks(
     marks: &[Landmark],
     tops: &[u32],

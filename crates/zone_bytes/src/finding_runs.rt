@@ -1,5 +1,5 @@
-//! The search for a run by landmarks: stretches that can't bring it to enough Free bytes are passed without a look at
-//! their blocks.
+//! The search for a run by landmarks: stretches that can't bring the run to enough free bytes are passed without a
+//! walk over their blocks.
 
 ghost use Rattle.std.specs.Prelude.{◌≡◌, ◌+◌, ◌≤◌, ◌<◌, ◌⊎◌, ◌&&◌, ◌^◌, ℕ, List, Option, Some, None, false, true, nat_le};
 ghost use Rattle.std.specs.Prelude.{get_or, length, IfSome, MatchOption, []};
@@ -23,14 +23,15 @@ use crate::raw_walk::step_at;
 use block_store::{RunScan, Sparing, scan_run};
 use raw_region::Part;
 
-/// Whether the run so far is the one.
+/// Reports whether the run so far is the one that is sought.
 fn is_found(scan: RunScan, bytes: u32) -> bool
     ensures { result ≡ (scan.met && nat_le bytes scan.free) }
 {
     scan.met && bytes <= scan.free
 }
 
-/// The search to the first block at or above a place, and farther until no purges are left; or until it has found.
+/// Searches up to the first block at or above `to`, and on from there until no purges are left, or until the run is
+/// found.
 fn scan_up_to(part: &Part, scan: RunScan, to: u32, bytes: u32, sparing: Sparing) -> RunScan
     requires way { IsOnWay scan.place part.now.bytes }
     requires free { scan.free ≤ scan.place }
@@ -55,7 +56,7 @@ fn scan_up_to(part: &Part, scan: RunScan, to: u32, bytes: u32, sparing: Sparing)
     scan
 }
 
-/// A search that begins at a place, with so many purges.
+/// Returns a search that begins at `place` with the given number of purges.
 fn begun_at(place: u32, purges: u32) -> RunScan
     ensures { result ≡ (record { left = purges; start = place; free = 0; met = true; place = place }) }
 {
@@ -68,8 +69,8 @@ fn begun_at(place: u32, purges: u32) -> RunScan
     }
 }
 
-/// Blocks that were passed and not looked at: among those from `at` up to `end` a run ends, and no more than `most`
-/// bytes are Free; among those from there on none ends, and `beyond` bytes are.
+/// Blocks that were passed without a walk over them. Among those from `at` up to `end` a run ends, and at most `most`
+/// bytes are free; among those from `end` on no run ends, and exactly `beyond` bytes are free.
 #[derive(Clone, Copy, Drop)]
 pub struct Passed {
     pub at: u32,
@@ -78,16 +79,16 @@ pub struct Passed {
     pub beyond: u32,
 }
 
-/// How far a search is.
+/// The state of a search.
 #[derive(Clone, Copy, Drop)]
 pub enum Search {
-    /// It has come to a place, or has found a run.
+    /// The search is as far as one that went block by block: it has come to a place, or has found a run.
     Known(RunScan),
-    /// It is behind blocks that were passed, in a run that begins among them.
+    /// The search stands above blocks that were passed, in a run that begins among them.
     Behind(Passed),
 }
 
-/// The search past blocks among which no run ends, of which so many bytes are Free, up to a place.
+/// Takes a search up to the place `next` past blocks among which no run ends and of which `free` bytes are free.
 fn past_open(scan: RunScan, free: u32, next: u32, bytes: u32) -> RunScan
     requires { (scan.met && nat_le bytes scan.free) ≡ false → scan.free + free < 2 ^ 32 }
     ensures { (answer : Option ℕ) (at : ℕ) (xs : List ℕ) (here : List Block) → IsKnown bytes answer at xs scan →
@@ -106,7 +107,7 @@ fn past_open(scan: RunScan, free: u32, next: u32, bytes: u32) -> RunScan
     }
 }
 
-/// A search that is at a place, as it is known by a look at what it has passed.
+/// Returns the state of a search at the place `at` as it is after a walk over the blocks that the search has passed.
 fn known_at(part: &Part, search: Search, at: u32, bytes: u32) -> RunScan
     requires sound { (first : ℕ) × (unused : ℕ) × IsSound part.now.bytes first unused }
     requires search { (answer : Option ℕ) × IsSearch bytes answer at part.now.bytes search }
@@ -123,7 +124,7 @@ fn known_at(part: &Part, search: Search, at: u32, bytes: u32) -> RunScan
     }
 }
 
-/// The search past a stretch by a look at all its blocks.
+/// Takes a search past a stretch by a walk over all blocks of the stretch.
 fn look_past(part: &Part, search: Search, at: u32, next: u32, bytes: u32) -> Search
     requires sound { (first : ℕ) × (unused : ℕ) × IsSound part.now.bytes first unused }
     requires search { (answer : Option ℕ) × IsSearch bytes answer at part.now.bytes search }
@@ -135,7 +136,7 @@ fn look_past(part: &Part, search: Search, at: u32, next: u32, bytes: u32) -> Sea
     Search::Known(scan_up_to(part, known, next, bytes, Sparing::Nothing))
 }
 
-/// No less than the Free bytes of the run that a search is in.
+/// Returns a number that is at least that of the free bytes of the run in which a search is.
 fn most_free(search: Search) -> u32
     ensures { result ≡ most_had search ⊎ (result ≡ 4294967295) }
 {
@@ -145,7 +146,8 @@ fn most_free(search: Search) -> u32
     }
 }
 
-/// What was passed by a search that stays behind it: with so many Free bytes more its run has too few.
+/// Returns the blocks that were passed if a search needs no walk over them: with `free` more free bytes, its run still
+/// has fewer than `bytes`.
 fn short_behind(search: Search, free: u32, bytes: u32) -> Option<Passed>
     ensures { IfSome result (λ p. (search ≡ how.Behind p) × (p.most + p.beyond + free < bytes)) }
 {
@@ -155,7 +157,7 @@ fn short_behind(search: Search, free: u32, bytes: u32) -> Option<Passed>
     }
 }
 
-/// The search past a stretch in which no run ends, of which so many bytes are Free.
+/// Takes a search past a stretch in which no run ends and of which `free` bytes are free.
 fn past_opened(part: &Part, search: Search, at: u32, next: u32, free: u32, bytes: u32) -> Search
     requires sound { (first : ℕ) × (unused : ℕ) × IsSound part.now.bytes first unused }
     requires search { (answer : Option ℕ) × IsSearch bytes answer at part.now.bytes search }
@@ -175,7 +177,7 @@ fn past_opened(part: &Part, search: Search, at: u32, next: u32, free: u32, bytes
     Search::Known(past_open(known, free, next, bytes))
 }
 
-/// The search past a stretch in which a run ends, of which no more than so many bytes are Free.
+/// Takes a search past a stretch in which a run ends and of which at most `free` bytes are free.
 fn past_barred(part: &Part, search: Search, at: u32, next: u32, free: u32, bytes: u32) -> Search
     requires sound { (first : ℕ) × (unused : ℕ) × IsSound part.now.bytes first unused }
     requires search { (answer : Option ℕ) × IsSearch bytes answer at part.now.bytes search }
@@ -195,7 +197,7 @@ fn past_barred(part: &Part, search: Search, at: u32, next: u32, free: u32, bytes
     look_past(part, search, at, next, bytes)
 }
 
-/// The search past the stretch of a landmark.
+/// Takes a search past the stretch of a landmark.
 fn past_stretch(part: &Part, mark: Landmark, next: u32, search: Search, bytes: u32) -> Search
     requires sound { (first : ℕ) × (unused : ℕ) × IsSound part.now.bytes first unused }
     requires search { (answer : Option ℕ) × IsSearch bytes answer mark.at part.now.bytes search }
@@ -211,7 +213,7 @@ fn past_stretch(part: &Part, mark: Landmark, next: u32, search: Search, bytes: u
     }
 }
 
-/// Where the run begins that a search has found.
+/// Returns the place of the run that a search has found, if it has found one.
 fn start_found(search: Search, bytes: u32) -> Option<u32>
     ensures found { IfSome result (λ start. (answer : Option ℕ) (at : ℕ) (xs : List ℕ) →
         IsSearch bytes answer at xs search → answer ≡ Some start) }
@@ -224,7 +226,7 @@ fn start_found(search: Search, bytes: u32) -> Option<u32>
     }
 }
 
-/// What a search finds that is at the place of a landmark, or at the zone's end.
+/// Returns the place of the run found by a search that is at the place of a landmark, or at the zone's end.
 fn past_stretches(
     marks: &[Landmark],
     part: &Part,
@@ -259,7 +261,7 @@ fn past_stretches(
     start_found(search, bytes)
 }
 
-/// A search that has no purges left.
+/// Returns a search without its purges.
 fn without_purges(scan: RunScan) -> RunScan
     ensures { result ≡ (record { left = 0; start = scan.start; free = scan.free; met = scan.met; place = scan.place }) }
 {
@@ -272,8 +274,8 @@ fn without_purges(scan: RunScan) -> RunScan
     }
 }
 
-/// The lowest run with at least so many Free bytes, after so many purges. Where a block counts as Free that isn't, a
-/// zone's landmarks don't tell.
+/// Returns the place of the lowest run with at least `bytes` free bytes after the given number of purges. The zone's
+/// landmarks can't be used if `sparing` counts a block as free that is not free.
 pub fn find_run_by_marks(
     marks: &[Landmark],
     part: &Part,

@@ -12,7 +12,7 @@ use block_store::Flags;
 use heap_words::Tag;
 use raw_region::Part;
 
-/// The number of flags.
+/// Returns the number of the flags: 128 for locked, 64 for purgeable.
 pub fn flag_bits(flags: Flags) -> u32
     ensures { result ≡ flag_word flags false }
 {
@@ -21,7 +21,7 @@ pub fn flag_bits(flags: Flags) -> u32
     locked + purgeable
 }
 
-/// Whether a kind is that of relocatable blocks.
+/// Reports whether a kind is that of relocatable blocks.
 fn moves(tag: Tag) -> bool
     ensures { result ≡ (tag_number tag == 3) }
 {
@@ -31,7 +31,7 @@ fn moves(tag: Tag) -> bool
     }
 }
 
-/// Sets the flags of the block at a place, where it is a relocatable one; whether it is a resource stays.
+/// Sets the flags of the block at `place`, if it is a relocatable block; its resource flag keeps its value.
 pub fn flag_at(part: &mut Part, place: u32, flags: Flags)
     requires way { IsOnWay place part.old.bytes }
     requires some { place < length part.old.bytes }

@@ -1,4 +1,4 @@
-//! Blocks are made Free, and joined with their Free neighbours.
+//! Blocks are made free, and joined with free blocks beside them.
 
 ghost use Rattle.std.specs.Prelude.{◌≡◌, ◌+◌, ◌-◌, ◌%◌, ◌∷◌, ◌++◌, nat_le, length};
 ghost use Rattle.block_store.specs.Block.{Free, size, free, add, tidy, free_sum, is_relocatable};
@@ -18,15 +18,15 @@ use block_store::UNIT;
 use heap_words::Tag;
 use raw_region::Part;
 
-/// The word of the slot of a handle that is emptied, by the flags of its block's header.
+/// Returns the word of the slot of a handle that is emptied, by the flags in the header of the handle's block.
 fn word_of_emptied(flags: u32) -> u32
     ensures { result ≡ emptied_word (nat_le 32 (flags % 64)) }
 {
     if flags % 64 >= 32 { 18 } else { 2 }
 }
 
-/// Makes the block at a place one with the Free bytes from `start` to there; a handle that led to it is
-/// emptied. Answers where the block ended.
+/// Makes the block at `at`, together with the free bytes from `start` to there, one free block, and empties the handle
+/// that led to the block. Returns the place at which the block ended.
 pub fn free_up(part: &mut Part, start: u32, at: u32) -> u32
     requires { (f : Freeing) × MayFree f start at part.old.bytes }
     ensures same { KeepsPlace part.old part.new }
@@ -43,7 +43,7 @@ pub fn free_up(part: &mut Part, start: u32, at: u32) -> u32
     end
 }
 
-/// Makes the Free bytes from `start` to `at` one with a Free block that begins there.
+/// Joins the free bytes from `start` to `at` with a free block that begins at `at`, if there is one.
 fn join_above(part: &mut Part, start: u32, at: u32)
     requires { (j : Joining) × MayJoin j start at part.old.bytes }
     ensures same { KeepsPlace part.old part.new }
@@ -58,7 +58,7 @@ fn join_above(part: &mut Part, start: u32, at: u32)
     }
 }
 
-/// How many bytes became Free, and from where to where blocks became one Free block.
+/// The number of bytes that became free, and the places from and to which blocks became one free block.
 #[derive(Clone, Copy, Drop)]
 pub struct Freed {
     pub bytes: u32,
@@ -66,7 +66,8 @@ pub struct Freed {
     pub to: u32,
 }
 
-/// Makes the block at a place Free, and its Free neighbours one with it; the one below is found from a landmark.
+/// Makes the block at `place` free, and joins it with the free blocks beside it. The free block below it is found by a
+/// walk from a landmark.
 pub fn free_block(part: &mut Part, marks: &Landmarks, place: u32) -> Freed
     requires { (f : Freeing) × MayRelease f place part.old.bytes × AreOf marks.now (f.below ++ f.here ∷ f.above) }
     ensures same { KeepsPlace part.old part.new }
@@ -88,8 +89,7 @@ pub fn free_block(part: &mut Part, marks: &Landmarks, place: u32) -> Freed
     }
 }
 
-/// Makes the block that a handle's slot leads to Free, and its Free neighbours one with it; does nothing where
-/// the handle is emptied.
+/// Makes the block of a handle free, and joins it with the free blocks beside it. Does nothing if the handle is empty.
 pub fn free_slot(part: &mut Part, marks: &Landmarks, slot: u32) -> Freed
     requires { (t : Table) × HasHandle t slot part.old.bytes × AreOf marks.now t.blocks }
     ensures same { KeepsPlace part.old part.new }

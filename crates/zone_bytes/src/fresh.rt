@@ -10,7 +10,7 @@ use crate::words::{write_header, write_word};
 use heap_words::{Header, Tag};
 use raw_region::Part;
 
-/// Makes the bytes a fresh zone, whose 64 slots are unused.
+/// Makes the bytes a fresh zone: a master pointer block with 64 unused slots, and one free block.
 pub fn make_fresh(part: &mut Part, end: u32)
     requires { (length part.old.bytes ≡ end) × (end % 16 ≡ 0) × (512 ≤ end) × (end ≤ 134217728) }
     ensures same { KeepsPlace part.old part.new }

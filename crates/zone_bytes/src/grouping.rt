@@ -1,4 +1,4 @@
-//! Landmarks in groups, of each of which is known how much its landmarks note at most.
+//! Landmarks in groups. For each group a top is kept, which is at least each bound that the group's landmarks note.
 
 ghost use Rattle.std.specs.Prelude.{◌≤◌, ◌<◌, ◌*◌, ℕ, List, length, get_or, set};
 ghost use Rattle.zone_bytes.specs.Marks.{AreTops, no_mark};
@@ -8,7 +8,7 @@ ghost use Rattle.zone_bytes.specs.declared.landmark.TheConstants.{GROUP};
 use crate::landmark::{GROUP, Landmark};
 use crate::measuring::greater;
 
-/// Raises the top of a landmark's group, where the landmark notes more from now on.
+/// Raises the top of a landmark's group to at least `most`, the bound that the landmark notes from now on.
 pub fn raise_top(tops: &mut [u32], index: usize, most: u32)
     requires { index < GROUP * length tops.old }
     ensures { (marks : List Landmark) (mark : Landmark) → mark.most ≤ most → AreTops tops.old marks →
@@ -18,7 +18,7 @@ pub fn raise_top(tops: &mut [u32], index: usize, most: u32)
     tops[group] = greater(tops[group], most);
 }
 
-/// The most that one of some landmarks notes.
+/// Returns the greatest bound that one of the landmarks notes.
 fn most_noted(marks: &[Landmark]) -> u32
     ensures { (index : ℕ) → index < length marks.now →
         (get_or marks.now index no_mark).most ≤ result }
@@ -30,7 +30,7 @@ fn most_noted(marks: &[Landmark]) -> u32
     most
 }
 
-/// Takes the tops of those groups anew that have landmarks from one index up to another.
+/// Computes the tops anew of the groups that have landmarks from the index `from` up to the index `to`.
 pub fn renew_tops(marks: &[Landmark], tops: &mut [u32], from: usize, to: usize)
     requires { AreTops tops.old marks.now }
     ensures { AreTops tops.new marks.now }

@@ -8,7 +8,7 @@ use crate::pointing::lead_run;
 use crate::words::read_header;
 use raw_region::Part;
 
-/// Moves the block at a place over those that follow it up to `stop`.
+/// Moves the block at `place` above the blocks that follow it up to `stop`.
 pub fn hoist_block(part: &mut Part, place: u32, stop: u32)
     ghost hoist: { Hoist }
     requires { (part.old.bytes ≡ hoist.bytes) × MayHoist hoist place stop }

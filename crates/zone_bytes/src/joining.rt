@@ -1,4 +1,4 @@
-//! Free blocks are found below and above a place.
+//! The free block that ends at a place.
 
 ghost use Rattle.std.specs.Prelude.{◌≡◌, ◌+◌, ◌≤◌, ◌++◌, List, length};
 ghost use Rattle.block_store.specs.Block.{Block, sizes};
@@ -10,8 +10,8 @@ use crate::words::read_header;
 use heap_words::Tag;
 use raw_region::Part;
 
-/// Where the Free block that ends at a place begins, by a walk from a lower one; the place itself where there is
-/// none.
+/// Returns the place of the free block that ends at `place`, by a walk from the lower place `from`; `place` itself if
+/// there is no such block.
 pub fn last_free_below(part: &Part, from: u32, place: u32) -> u32
     requires up { LeadsUp from place part.now.bytes }
     requires inside { place ≤ length part.now.bytes }

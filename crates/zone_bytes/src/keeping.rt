@@ -24,12 +24,13 @@ use crate::placing::size_at;
 use block_store::Sparing;
 use raw_region::Part;
 
-/// How many groups of landmarks a zone has. The search for room goes over all of them.
+/// The number of groups of landmarks of a zone. The search for room goes over all of them.
 const GROUPS: usize = LANDMARKS / GROUP;
 
-/// Places of known blocks of a zone, one for each page of its bytes, and between each two of them a bound on each Free
-/// block, how many bytes are Free, and whether a run ends there; and for each group of them a bound on the Free blocks.
-/// They lie beside the zone's bytes, and can be thrown away at any time.
+/// Landmarks of a zone: places at which blocks begin, one for each page of the zone's bytes. Each has a bound on the
+/// size of each free block up to the next landmark, the number of free bytes there, and whether a run ends there; and
+/// each group of landmarks has a bound on the free blocks. Landmarks lie beside the zone's bytes, and can be thrown
+/// away and made anew at any time.
 #[derive(Drop)]
 pub struct Landmarks {
     marks: [Landmark; LANDMARKS],
@@ -38,7 +39,7 @@ pub struct Landmarks {
 }
 
 impl Landmarks {
-    /// The landmarks of a zone, by one walk over it.
+    /// Makes the landmarks of a zone, by one walk over the zone.
     pub fn of(part: &Part) -> Landmarks
         requires sound { (first : ℕ) × (unused : ℕ) × IsSound part.now.bytes first unused }
         ensures { AreOf result (zone_in part.now.bytes) }
@@ -52,8 +53,8 @@ impl Landmarks {
         landmarks
     }
 
-    /// The landmarks of another zone, by one walk over it, whatever they were. Those that it has no pages for stand at
-    /// its end.
+    /// Makes the landmarks those of another zone, whatever they were, by one walk over that zone. The landmarks for
+    /// which the zone has no pages stand at its end.
     pub fn renew_all(&mut self, part: &Part)
         requires sound { (first : ℕ) × (unused : ℕ) × IsSound part.now.bytes first unused }
         ensures { AreOf self.new (zone_in part.now.bytes) }
@@ -71,7 +72,7 @@ impl Landmarks {
         self.renew(part, 0, end);
     }
 
-    /// The page of a place, where its landmark is likely to be.
+    /// Returns the page of a place, near whose landmark a search by place begins.
     fn page_of(&self, place: u32) -> usize {
         match place.checked_div(self.page) {
             Some(page) => page as usize,
@@ -79,7 +80,7 @@ impl Landmarks {
         }
     }
 
-    /// A landmark below a place; 0 where there is none.
+    /// Returns the place of a landmark below `place`, or 0 if there is none.
     pub fn below(&self, place: u32) -> u32
         ensures below { (result < place) ⊎ (result ≡ 0) }
         ensures begins { (zone : List Block) → AreOf self.now zone → Begins result 0 zone }
@@ -87,7 +88,7 @@ impl Landmarks {
         mark_below(&self.marks, place, self.page_of(place))
     }
 
-    /// The place of the lowest Free block of at least so many bytes.
+    /// Returns the place of the lowest free block of at least `bytes` bytes.
     pub fn find(&self, part: &Part, bytes: u32) -> Option<u32>
         requires sound { (first : ℕ) × (unused : ℕ) × IsSound part.now.bytes first unused }
         requires marks { AreOf self.now (zone_in part.now.bytes) }
@@ -96,8 +97,8 @@ impl Landmarks {
         find_by_marks(&self.marks, &self.tops, part, bytes)
     }
 
-    /// The place of the lowest Free block of at least so many bytes, after so many purges. Where a block counts as Free
-    /// that isn't, landmarks don't tell.
+    /// Returns the place of the lowest free block of at least `bytes` bytes after the given number of purges.
+    /// Landmarks can't be used if `sparing` counts a block as free that is not free.
     pub fn find_after(&self, part: &Part, bytes: u32, purges: u32, sparing: Sparing) -> Option<u32>
         requires sound { (first : ℕ) × (unused : ℕ) × IsSound part.now.bytes first unused }
         requires marks { AreOf self.now (zone_in part.now.bytes) }
@@ -107,8 +108,8 @@ impl Landmarks {
         find_room_by_marks(&self.marks, &self.tops, part, bytes, purges, sparing)
     }
 
-    /// The place of the lowest run with at least so many Free bytes, after so many purges. Where a block counts as Free
-    /// that isn't, landmarks don't tell.
+    /// Returns the place of the lowest run with at least `bytes` free bytes after the given number of purges.
+    /// Landmarks can't be used if `sparing` counts a block as free that is not free.
     pub fn find_run(&self, part: &Part, bytes: u32, purges: u32, sparing: Sparing) -> Option<u32>
         requires sound { (first : ℕ) × (unused : ℕ) × IsSound part.now.bytes first unused }
         requires marks { AreOf self.now (zone_in part.now.bytes) }
@@ -118,7 +119,7 @@ impl Landmarks {
         find_run_by_marks(&self.marks, part, bytes, purges, sparing)
     }
 
-    /// Notes that the blocks from one place to another became others.
+    /// Renews the landmarks after the blocks from `lo` to `hi` became others.
     pub fn note(&mut self, part: &Part, lo: u32, hi: u32)
         requires sound { (first : ℕ) × (unused : ℕ) × IsSound part.now.bytes first unused }
         requires marks { (old : List Block) × Replaced lo hi old (zone_in part.now.bytes)
@@ -135,7 +136,7 @@ impl Landmarks {
         }
     }
 
-    /// Notes that the block at a place became another, of as many bytes.
+    /// Renews the landmarks after the block at `place` became another of the same size.
     pub fn note_block(&mut self, part: &Part, place: u32)
         requires sound { (first : ℕ) × (unused : ℕ) × IsSound part.now.bytes first unused }
         requires marks { (old : List Block) × Became place old (zone_in part.now.bytes) × AreOf self.old old }
@@ -145,8 +146,8 @@ impl Landmarks {
         self.note(part, place, place + size);
     }
 
-    /// Notes that the blocks from one place to another became others, and walks over none of them: no landmark stands
-    /// between the two until they are renewed.
+    /// Changes the landmarks after the blocks from `lo` to `hi` became others, without a walk over these blocks: no
+    /// landmark stands strictly between `lo` and `hi` until `renew` is called.
     pub fn forget(&mut self, part: &Part, lo: u32, hi: u32)
         requires sound { (first : ℕ) × (unused : ℕ) × IsSound part.now.bytes first unused }
         requires marks { (old : List Block) × Replaced lo hi old (zone_in part.now.bytes)
@@ -157,7 +158,7 @@ impl Landmarks {
         change_marks(&mut self.marks, &mut self.tops, part, lo, hi, false, likely);
     }
 
-    /// Puts the landmarks of the pages from one place to another where their blocks are, by one walk over these.
+    /// Moves the landmarks of the pages from `lo` to `hi` to where their blocks are, by one walk over these blocks.
     pub fn renew(&mut self, part: &Part, lo: u32, hi: u32)
         requires sound { (first : ℕ) × (unused : ℕ) × IsSound part.now.bytes first unused }
         requires marks { AreOf self.old (zone_in part.now.bytes) }
@@ -168,7 +169,7 @@ impl Landmarks {
         self.lay(part, next, next.index, page, hi);
     }
 
-    /// A landmark that is to be laid anew, where it is.
+    /// Returns the next landmark to be laid anew, which is to stand where it stands.
     fn next_at(&self, index: usize) -> NextMark
         ensures laid { (zone : List Block) → AreOf self.now zone → AreLaid result.index result.at zone self.now.marks }
     {
@@ -179,8 +180,8 @@ impl Landmarks {
         }
     }
 
-    /// Lays the landmarks from the next one on anew, up to the first that stands where it is to above a place. Others from
-    /// `first` on were laid before.
+    /// Lays the landmarks from the next one on anew, up to the first one above `hi` that stands where it is to stand.
+    /// Those from the index `first` up to the next one were laid before.
     fn lay(&mut self, part: &Part, next: NextMark, first: usize, page: u32, hi: u32)
         requires sound { (first : ℕ) × (unused : ℕ) × IsSound part.now.bytes first unused }
         requires laid { AreLaid next.index next.at (zone_in part.now.bytes) self.old.marks }
@@ -191,7 +192,8 @@ impl Landmarks {
         renew_tops(&self.marks, &mut self.tops, first, end);
     }
 
-    /// Makes ready to note the edges of blocks that are to be packed from a place on: those of the pages above its own.
+    /// Makes `edges` ready to note the edges of blocks that are to be packed from `lo` on: those of the pages above
+    /// the page of `lo`.
     pub fn await_edges(&self, part: &Part, edges: &mut Edges, lo: u32)
         requires sound { (first : ℕ) × (unused : ℕ) × IsSound part.now.bytes first unused }
         ensures { (base : ℕ) → AreEdges edges.new base [] }
@@ -200,8 +202,9 @@ impl Landmarks {
         edges.restart(page_end((lo / page) as usize, page), page);
     }
 
-    /// Notes that the blocks from one place to another became others, of which those from `base` on lie packed, with the
-    /// edges that were noted: where landmarks stand is known from these, and no walk goes over the blocks.
+    /// Renews the landmarks after the blocks from `lo` to `hi` became others, of which those from `base` on lie
+    /// packed, by the edges that were noted. The blocks between two noted edges are not walked over; the stretch below
+    /// the first edge (if it begins below `base`) and the stretches above the last edge are.
     pub fn note_packed(&mut self, part: &Part, edges: &Edges, base: u32, lo: u32, hi: u32)
         requires sound { (first : ℕ) × (unused : ℕ) × IsSound part.now.bytes first unused }
         requires marks { (old : List Block) × Replaced lo hi old (zone_in part.now.bytes) × AreOf self.old old }

@@ -1,21 +1,21 @@
 //! Landmarks of a zone, by which its blocks are found without a walk from the bottom.
 
-/// How many landmarks a group has.
+/// The number of landmarks in a group.
 pub const GROUP: usize = 64;
 
 /// What is known of the blocks that begin from a landmark up to the next one.
 #[derive(Clone, Copy, Drop)]
 pub enum Tally {
-    /// None of them ends a run, and so many bytes are Free.
+    /// No block of them ends a run, and exactly this number of bytes is free.
     Open(u32),
-    /// One of them ends a run, and no more bytes than so many are Free.
+    /// A block of them ends a run, and at most this number of bytes is free.
     Barred(u32),
-    /// Nothing.
+    /// Nothing is known.
     Unknown,
 }
 
 /// A place at which a block begins, and what is known of the blocks that begin from there up to the next landmark: a
-/// bound on each Free one of them, and a tally of all.
+/// bound on the size of each free block, and a tally of all blocks.
 #[derive(Clone, Copy, Drop)]
 pub struct Landmark {
     pub at: u32,
@@ -23,7 +23,7 @@ pub struct Landmark {
     pub tally: Tally,
 }
 
-/// A landmark that is one of any zone, since it says nothing.
+/// A landmark of every zone: it stands at the bottom, and nothing is known of the blocks above it.
 pub const UNKNOWN: Landmark = Landmark {
     at: 0,
     most: u32::MAX,

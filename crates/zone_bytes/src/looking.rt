@@ -1,4 +1,4 @@
-//! Where a handle's slot leads, and the resource flag of the handle.
+//! The block and the resource flag of a handle.
 
 ghost use Rattle.std.specs.Prelude.{◌≡◌, ◌+◌, ◌*◌, ◌/◌, ◌∷◌, Bool, List, if◌then◌else◌};
 ghost use Rattle.std.specs.Option.{option_map};
@@ -16,14 +16,14 @@ use crate::words::{read_word, write_word};
 use block_store::Walk;
 use raw_region::Part;
 
-/// The word of an emptied handle's slot.
+/// Returns the word of the slot of an empty handle.
 fn emptied(resource: bool) -> u32
     ensures { result ≡ emptied_word resource }
 {
     if resource { 18 } else { 2 }
 }
 
-/// The flags of a header with the resource flag set or cleared.
+/// Returns the flags of a header with the resource flag set or cleared.
 fn with_resource(flags: u32, resource: bool) -> u32
     ensures { result ≡ flags / 64 * 64 + (if resource then 32 else 0) }
 {
@@ -31,7 +31,7 @@ fn with_resource(flags: u32, resource: bool) -> u32
     flags / 64 * 64 + bit
 }
 
-/// The place that a slot's word is.
+/// Returns the place that a slot's word holds; `None` for the word of an empty handle.
 fn leads_to(word: u32) -> Option<u32>
     ensures { result ≡ place_of_word word }
 {
@@ -42,7 +42,7 @@ fn leads_to(word: u32) -> Option<u32>
     }
 }
 
-/// The place of the block that a handle's slot leads to; none where the handle is emptied.
+/// Returns the place of the block of a handle; `None` if the handle is empty.
 pub fn slot_place(part: &Part, slot: u32) -> Option<u32>
     requires { (t : Table) × IsHandle part.now.bytes t slot }
     ensures { (t : Table) → IsHandle part.now.bytes t slot →
@@ -51,7 +51,7 @@ pub fn slot_place(part: &Part, slot: u32) -> Option<u32>
     leads_to(read_word(part, slot))
 }
 
-/// Whether the resource flag of a handle's slot is set.
+/// Reports whether the resource flag of a handle is set.
 pub fn slot_resource(part: &Part, slot: u32) -> bool
     requires { (t : Table) × IsHandle part.now.bytes t slot }
     ensures { (t : Table) → IsHandle part.now.bytes t slot → result ≡ is_resource (t.slots slot) }
@@ -63,7 +63,7 @@ pub fn slot_resource(part: &Part, slot: u32) -> bool
     }
 }
 
-/// Sets or clears the resource flag of a handle: in its slot where it is emptied, else in its block's header.
+/// Sets or clears the resource flag of a handle: in its slot if the handle is empty, else in its block's header.
 pub fn mark_slot(part: &mut Part, slot: u32, resource: bool)
     requires { (t : Table) × IsHandle part.old.bytes t slot }
     ensures same { KeepsPlace part.old part.new }
@@ -79,7 +79,7 @@ pub fn mark_slot(part: &mut Part, slot: u32, resource: bool)
     }
 }
 
-/// A walk over the blocks above the one at a place.
+/// Returns a walk over the blocks above the block at `place`.
 pub fn walk_above<'a>(part: &'a Part, place: u32) -> RawWalk<'a>
     requires { IsOnWay place part.now.bytes }
     ensures { (b : Block) (above : List Block) → left_in place part.now.bytes ≡ b ∷ above → result ≡ above }

@@ -1,4 +1,4 @@
-//! Finds by landmarks, and landmarks of a zone that changes.
+//! Searches by landmarks, and changes of the landmarks of a zone.
 
 ghost use Rattle.std.specs.Prelude.{◌≡◌, ◌≤◌, ◌<◌, ◌+◌, ◌-◌, ◌*◌, ◌⊎◌, ℕ, List, Some, IsTrue, MatchOption, IfSome, false, true};
 ghost use Rattle.std.specs.Prelude.{length, drop, get_or};
@@ -19,8 +19,8 @@ use crate::measuring::{Measured, greater, measure_up_to, room_between};
 use crate::paging::page_end;
 use raw_region::Part;
 
-/// Which landmark is to be looked at next, of those from one up to another: the one that is likely, or one just beside
-/// it; where it was not there either, the one in the middle.
+/// Returns the landmark to be compared next, of those from `low` up to `high`: the likely one, or one just beside it;
+/// if the landmark was not there either, the one in the middle.
 fn next_look(low: usize, high: usize, likely: usize) -> usize
     requires { low < high }
     ensures { (low ≤ result) × (result < high) }
@@ -36,8 +36,8 @@ fn next_look(low: usize, high: usize, likely: usize) -> usize
     }
 }
 
-/// The first landmark at or above a place, where they rise; their number where there is none. It is likely to be one
-/// of these.
+/// Returns the index of the first landmark at or above `place`, or the number of landmarks if there is none; the
+/// landmarks are in order of place. The search begins at the index `likely`.
 pub fn index_above(marks: &[Landmark], place: u32, likely: usize) -> usize
     ensures index { result ≤ length marks.now }
     ensures above { place ≤ next_of 4294967295 (drop result marks.now) }
@@ -56,7 +56,8 @@ pub fn index_above(marks: &[Landmark], place: u32, likely: usize) -> usize
     low
 }
 
-/// A landmark below a place, the last one; 0 where there is none. It is likely to stand beside one of these.
+/// Returns the place of the last landmark below `place`, or 0 if there is none. The search begins at the index
+/// `likely`.
 pub fn mark_below(marks: &[Landmark], place: u32, likely: usize) -> u32
     ensures below { (result < place) ⊎ (result ≡ 0) }
     ensures begins { (end : ℕ) (zone : List Block) → AreMarks end zone marks.now → Begins result 0 zone }
@@ -68,7 +69,7 @@ pub fn mark_below(marks: &[Landmark], place: u32, likely: usize) -> u32
     marks[above - 1].at
 }
 
-/// Where a landmark stands; above all zones where there are no so many.
+/// Returns the place of a landmark. For an index equal to the number of landmarks, returns a place above every zone.
 pub fn place_of_mark(marks: &[Landmark], index: usize) -> u32
     requires { index ≤ length marks.now }
     ensures { result ≡ next_of 4294967295 (drop index marks.now) }
@@ -79,7 +80,8 @@ pub fn place_of_mark(marks: &[Landmark], index: usize) -> u32
     marks[index].at
 }
 
-/// The lowest Free block of at least so many bytes in the stretch of a landmark, where there is none below it.
+/// Returns the place of the lowest free block of at least `bytes` bytes in the stretch of a landmark, below which
+/// there is none.
 fn room_in_stretch(part: &Part, mark: Landmark, to: u32, bytes: u32) -> Option<u32>
     requires sound { (first : ℕ) × (unused : ℕ) × IsSound part.now.bytes first unused }
     requires begins { Begins mark.at 0 (zone_in part.now.bytes) }
@@ -95,8 +97,8 @@ fn room_in_stretch(part: &Part, mark: Landmark, to: u32, bytes: u32) -> Option<u
     }
 }
 
-/// The lowest Free block of at least so many bytes in the stretches of a group's landmarks, where there is none below
-/// them.
+/// Returns the place of the lowest free block of at least `bytes` bytes in the stretches of a group's landmarks, below
+/// which there is none.
 fn room_in_group(marks: &[Landmark], part: &Part, group: usize, bytes: u32) -> Option<u32>
     requires sound { (first : ℕ) × (unused : ℕ) × IsSound part.now.bytes first unused }
     requires marks { AreMarks 4294967295 (zone_in part.now.bytes) marks.now }
@@ -116,7 +118,7 @@ fn room_in_group(marks: &[Landmark], part: &Part, group: usize, bytes: u32) -> O
     None
 }
 
-/// The place of the lowest Free block of at least so many bytes.
+/// Returns the place of the lowest free block of at least `bytes` bytes.
 pub fn find_by_marks(marks: &[Landmark], tops: &[u32], part: &Part, bytes: u32) -> Option<u32>
     requires sound { (first : ℕ) × (unused : ℕ) × IsSound part.now.bytes first unused }
     requires marks { AreMarks 4294967295 (zone_in part.now.bytes) marks.now }
@@ -136,14 +138,14 @@ pub fn find_by_marks(marks: &[Landmark], tops: &[u32], part: &Part, bytes: u32) 
     None
 }
 
-/// Where a landmark stands once the blocks from one place to another are others.
+/// Returns the place of a landmark after the blocks from `lo` to `hi` became others.
 fn lowered_mark(at: u32, lo: u32, hi: u32) -> u32
     ensures { Lowered lo hi at result }
 {
     if lo < at && at < hi { lo } else { at }
 }
 
-/// A landmark at a place, with what a walk up to another tells of the blocks between.
+/// Makes a landmark at `at`, with what a walk up to `above` finds of the blocks between.
 fn measured_mark(part: &Part, at: u32, above: u32) -> Landmark
     requires { IsOnWay at part.now.bytes }
     ensures at { result.at ≡ at }
@@ -158,8 +160,9 @@ fn measured_mark(part: &Part, at: u32, above: u32) -> Landmark
     }
 }
 
-/// A landmark once the blocks from one place to another are others; the next one was at `next` and is at `above`. What
-/// is known of its blocks is taken anew where some of them became others, or, if no walk is wanted, is forgotten.
+/// Returns a landmark after the blocks from `lo` to `hi` became others; the next landmark stood at `next` and stands
+/// at `above`. If some of its own blocks became others, what is known of them is measured anew by a walk, or, unless
+/// `walks` is set, forgotten.
 fn changed_mark(
     mark: Landmark,
     next: u32,
@@ -196,8 +199,8 @@ fn changed_mark(
     }
 }
 
-/// The landmarks once the blocks from one place to another became others: only those are touched whose stretches
-/// have some of these. The last of them is likely to be the one that is named.
+/// Changes the landmarks after the blocks from `lo` to `hi` became others: only those landmarks change whose stretches
+/// have some of these blocks. The search for the last of these landmarks begins at the index `likely`.
 pub fn change_marks(
     marks: &mut [Landmark],
     tops: &mut [u32],
@@ -229,7 +232,8 @@ pub fn change_marks(
     renew_tops(marks, tops, first, last);
 }
 
-/// The stretch of a new landmark: up to the first edge at or above a place, and for the last one to the zone's top.
+/// Measures the stretch of a new landmark: up to the first edge at or above `place`, or, for the last landmark, to the
+/// zone's top.
 fn stretch_from(part: &Part, at: u32, place: u32, last: bool) -> Measured
     requires { IsOnWay at part.now.bytes }
     ensures last { last ≡ true → result.edge ≡ 4294967295 }
@@ -250,15 +254,15 @@ fn stretch_from(part: &Part, at: u32, place: u32, last: bool) -> Measured
     }
 }
 
-/// Which landmark is to be laid next, and where.
+/// The index of the landmark to be laid next, and the place where it is to stand.
 #[derive(Clone, Copy, Drop)]
 pub struct NextMark {
     pub index: usize,
     pub at: u32,
 }
 
-/// A landmark at a place, with what is known of the blocks up to another: from `base` on these are relocatable ones that
-/// lie packed, and below it a walk tells.
+/// Makes a landmark at `at`, with what is known of the blocks up to `edge`: from `base` on these are relocatable
+/// blocks that lie packed, and below `base` they are measured by a walk.
 fn packed_mark(part: &Part, at: u32, edge: u32, base: u32) -> Landmark
     requires sound { (first : ℕ) × (unused : ℕ) × IsSound part.now.bytes first unused }
     requires begins { Begins at 0 (zone_in part.now.bytes) }
@@ -277,8 +281,9 @@ fn packed_mark(part: &Part, at: u32, edge: u32, base: u32) -> Landmark
     measured_mark(part, at, edge)
 }
 
-/// Lays landmarks at edges that were noted: the next one up to the first of these, and one at each but the last, which is
-/// for the one that is next then. From `base` on no walk is needed.
+/// Lays landmarks by the noted edges: the next landmark, with its stretch up to the first edge, and a landmark at each
+/// edge except the last. Returns the landmark to be laid after these, which is to stand at the last edge. From `base`
+/// on no walk is needed.
 pub fn lay_edges(
     marks: &mut [Landmark],
     tops: &mut [u32],
@@ -312,8 +317,8 @@ pub fn lay_edges(
     next
 }
 
-/// Lays the landmarks from the next one on anew, each at the first edge of its page or above it, up to the first that
-/// stands so above a place, whose index is the answer.
+/// Lays the landmarks from the next one on anew, each at the first edge in its page or above it, up to the first
+/// landmark above `hi` that stands there already. Returns the index of that landmark.
 pub fn lay_marks(
     marks: &mut [Landmark],
     tops: &mut [u32],

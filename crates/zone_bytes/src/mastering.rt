@@ -1,4 +1,4 @@
-//! A block of master pointers is put into a Free block.
+//! A master pointer block is put into a free block.
 
 ghost use Rattle.std.specs.Prelude.{◌≡◌, ◌+◌, ◌%◌, ◌≤◌, ◌<◌, ◌++◌, ℕ, IsTrue, IsSomeAnd, IfSome, length};
 ghost use Rattle.block_store.specs.Block.{Masters, is_room};
@@ -17,7 +17,8 @@ use block_store::{HEADER_SIZE, MASTERS_SIZE};
 use heap_words::{Header, Tag};
 use raw_region::Part;
 
-/// Threads the slots of the Masters block at a place; the last leads to the slot `first`.
+/// Chains the 64 slots of the master pointer block at `place`: each holds the place of the next one, and the last one
+/// holds the place `first`.
 fn thread_slots(part: &mut Part, place: u32, first: u32)
     requires even { place % 4 ≡ 0 }
     requires inside { place + MASTERS_SIZE ≤ length part.old.bytes }
@@ -35,8 +36,8 @@ fn thread_slots(part: &mut Part, place: u32, first: u32)
     }
 }
 
-/// Puts a block of 64 slots at the lower end of the Free block at a place; they come before the unused ones, of
-/// which `first` is the first.
+/// Puts a master pointer block of 64 slots at the lower end of the free block at `place`. The new slots precede the
+/// unused ones, of which `first` is the first.
 ///
 /// *Inside Macintosh: Memory*, chapter 2, "Allocating Master Pointers".
 pub fn add_masters(part: &mut Part, place: u32, first: u32)

@@ -14,7 +14,7 @@ use crate::words::read_word;
 use block_store::UNIT;
 use raw_region::Part;
 
-/// The lower of a place and the zone's end.
+/// Returns the lower of a place and the zone's end.
 pub fn within(to: u32, end: u32) -> u32
     ensures low { result ≤ end }
     ensures least { result ≤ to }
@@ -23,7 +23,7 @@ pub fn within(to: u32, end: u32) -> u32
     if to < end { to } else { end }
 }
 
-/// The greater of two numbers of bytes.
+/// Returns the greater of two numbers of bytes.
 pub fn greater(most: u32, bytes: u32) -> u32
     ensures first { most ≤ result }
     ensures second { bytes ≤ result }
@@ -32,7 +32,7 @@ pub fn greater(most: u32, bytes: u32) -> u32
     if most < bytes { bytes } else { most }
 }
 
-/// Where a block ends, its Free bytes, and whether it ends a run.
+/// The end of a block, its free bytes, and whether it ends a run.
 #[derive(Clone, Copy, Drop)]
 struct Span {
     end: u32,
@@ -40,15 +40,15 @@ struct Span {
     barrier: bool,
 }
 
-/// The Free bytes of a block of so many bytes, by the number of its kind.
+/// Returns the free bytes of a block of `size` bytes, by the number of its kind.
 fn free_by_tag(tag: u32, size: u32) -> u32
     ensures { result ≡ (if tag == 0 then size else 0) }
 {
     if tag == 0 { size } else { 0 }
 }
 
-/// Whether the block at a place ends a run, by the number of its kind: a Fixed or Masters one does, and a relocatable
-/// one that is locked. Only of a relocatable one the flags are read.
+/// Reports whether the block at `at` ends a run, by the number of its kind: a nonrelocatable block and a master
+/// pointer block do, and a relocatable block that is locked. The flags are read of a relocatable block only.
 fn ends_run_at(part: &Part, at: u32, tag: u32) -> bool
     requires multiple { at % 4 ≡ 0 }
     requires inside { at + 16 ≤ length part.now.bytes }
@@ -61,7 +61,7 @@ fn ends_run_at(part: &Part, at: u32, tag: u32) -> bool
     read_word(part, at + 12) >= 128
 }
 
-/// The block at a place.
+/// Measures the block at a place.
 fn span_at(part: &Part, at: u32) -> Span
     requires way { IsOnWay at part.now.bytes }
     requires some { at < length part.now.bytes }
@@ -77,8 +77,8 @@ fn span_at(part: &Part, at: u32) -> Span
     }
 }
 
-/// What a walk from a place tells: where it ended, the bytes of the largest Free block that it passed and of all Free
-/// ones, and whether it passed one that ends a run.
+/// The result of a walk from a place: where the walk ended, the size of the largest free block that it passed, the
+/// free bytes of all blocks that it passed, and whether one of these blocks ends a run.
 #[derive(Clone, Copy, Drop)]
 pub struct Measured {
     pub edge: u32,
@@ -88,7 +88,7 @@ pub struct Measured {
 }
 
 impl Measured {
-    /// The tally of the blocks that were passed.
+    /// Returns the tally of the blocks that were passed.
     pub fn tally(self) -> Tally
         ensures { (blocks : List Block) → free_sum blocks ≡ self.free → has ends_run blocks ≡ self.barred →
             IsTally result blocks }
@@ -101,7 +101,7 @@ impl Measured {
     }
 }
 
-/// A walk from one place to the first block that begins at or above another, or to the zone's end.
+/// Walks from one place to the first block that begins at or above another, or to the zone's end.
 pub fn measure_up_to(part: &Part, from: u32, place: u32) -> Measured
     requires { IsOnWay from part.now.bytes }
     ensures edge { Begins result.edge from (left_in from part.now.bytes) }
@@ -129,7 +129,7 @@ pub fn measure_up_to(part: &Part, from: u32, place: u32) -> Measured
     }
 }
 
-/// The place of the lowest Free block of at least so many bytes that begins from one place up to another.
+/// Returns the place of the lowest free block of at least `bytes` bytes that begins at or above `from` and below `to`.
 pub fn room_between(part: &Part, from: u32, to: u32, bytes: u32) -> Option<u32>
     requires { IsOnWay from part.now.bytes }
     ensures none { MatchOption result (AtEach (NoRoom bytes from to) from (left_in from part.now.bytes)) (λ _. Unit {0}) }

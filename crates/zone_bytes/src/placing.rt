@@ -1,4 +1,4 @@
-//! A block is laid at the lower end of a stretch, and a Fixed one in a Free block.
+//! A block is laid at the lower end of a stretch, and a nonrelocatable block in a free block.
 
 ghost use Rattle.std.specs.Prelude.{◌≡◌, ◌+◌, ◌≤◌, ◌<◌, ◌∷◌, ℕ, List, IsTrue, IsSomeAnd, IfSome, length, replicate};
 ghost use Rattle.std.specs.Prelude.{take, drop};
@@ -19,7 +19,7 @@ use block_store::HEADER_SIZE;
 use heap_words::{Header, Tag};
 use raw_region::Part;
 
-/// The bytes of the block at a place, its header included.
+/// Returns the physical size of the block at `place`.
 pub fn size_at(part: &Part, place: u32) -> u32
     requires way { IsOnWay place part.now.bytes }
     requires some { place < length part.now.bytes }
@@ -28,8 +28,8 @@ pub fn size_at(part: &Part, place: u32) -> u32
     read_header(part, place).size
 }
 
-/// Lays a block from `bottom` on: the first `held` bytes of its content are those that stand there, the others
-/// are 0. The bytes above it up to `top` become a Free block.
+/// Lays a block at `bottom`: the first `held` bytes of its content keep their values, and the others become 0. The
+/// bytes above the block up to `top` become a free block.
 pub fn lay_block(part: &mut Part, bottom: u32, top: u32, header: Header, held: u32)
     requires { MayLay header bottom top held part.old.bytes }
     ensures same { KeepsPlace part.old part.new }
@@ -44,7 +44,7 @@ pub fn lay_block(part: &mut Part, bottom: u32, top: u32, header: Header, held: u
     }
 }
 
-/// Puts a new Fixed block of `size` bytes 0 at the lower end of the Free block at a place.
+/// Puts a new nonrelocatable block of `size` bytes, all 0, at the lower end of the free block at `place`.
 pub fn carve_fixed(part: &mut Part, place: u32, size: u32)
     requires sound { (first : ℕ) × (unused : ℕ) × IsSound part.old.bytes first unused }
     requires room { IsSomeAnd (spot_at place (zone_in part.old.bytes)) (λ s. IsTrue (is_room (padded size) s.here)) }
@@ -64,7 +64,7 @@ pub fn carve_fixed(part: &mut Part, place: u32, size: u32)
     lay_block(part, place, top, header, 0);
 }
 
-/// Moves `count` bytes from one place to another, which may overlap.
+/// Moves `count` bytes from one place to another; the two ranges may overlap.
 pub fn move_bytes(part: &mut Part, from: u32, to: u32, count: u32)
     requires from { from + count ≤ length part.old.bytes }
     requires to { to + count ≤ length part.old.bytes }

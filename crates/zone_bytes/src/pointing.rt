@@ -9,7 +9,7 @@ use crate::words::{read_header, write_word};
 use heap_words::Tag;
 use raw_region::Part;
 
-/// Makes the slots of the blocks from `place` to `stop` lead to them.
+/// Makes the slots of the blocks from `place` to `stop` lead to these blocks.
 pub fn lead_run(part: &mut Part, place: u32, stop: u32)
     ghost lay: { Lay }
     requires { (part.old.bytes ≡ lay.bytes) × IsMoved lay place stop }

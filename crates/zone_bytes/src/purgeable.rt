@@ -1,4 +1,4 @@
-//! What blocks would give if they were emptied.
+//! The bytes that blocks would free if they were purged.
 
 ghost use Rattle.std.specs.Prelude.{true, false, ◌≡◌, ◌≤◌, ◌<◌, ◌+◌, ◌^◌, ◌∷◌, ℕ, List, length};
 ghost use Rattle.block_store.specs.Block.{Block, size, sizes, free_sum, resized};
@@ -15,7 +15,7 @@ use crate::words::read_header;
 use block_store::{Flags, Seen, Sparing, Walk, may_go_now, size_of_seen};
 use raw_region::Part;
 
-/// The bytes that a block would give, which takes so many.
+/// Returns the bytes that a block of `bytes` bytes would free if it were purged.
 fn purgeable_of_seen(block: Seen, bytes: u32) -> u32
     ensures { (b : Block) → seen b ≡ block → size b ≡ bytes → result ≡ purgeable_of b }
 {
@@ -26,7 +26,7 @@ fn purgeable_of_seen(block: Seen, bytes: u32) -> u32
     }
 }
 
-/// The bytes that the block at a place would give.
+/// Returns the bytes that the block at `place` would free if it were purged.
 pub fn purgeable_at(part: &Part, place: u32) -> u32
     requires way { IsOnWay place part.now.bytes }
     requires some { place < length part.now.bytes }
@@ -36,7 +36,7 @@ pub fn purgeable_at(part: &Part, place: u32) -> u32
     purgeable_of_seen(seen_of(header), header.size)
 }
 
-/// The bytes that a block of so many bytes would give with these flags.
+/// Returns a bound on the bytes that a block of `bytes` bytes would free if it were purged, once it has these flags.
 pub fn given_with(flags: Flags, bytes: u32) -> u32
     ensures { (b : Block) → size b ≡ bytes → purgeable_of (with_flags flags b) ≤ result }
 {
@@ -47,7 +47,7 @@ pub fn given_with(flags: Flags, bytes: u32) -> u32
     }
 }
 
-/// The bytes that a block would give at another size, which gave so many.
+/// Returns a bound on the bytes that a block would free at another size, if it would free `before` bytes now.
 pub fn given_at(before: u32, bytes: u32) -> u32
     requires { (b : Block) × (purgeable_of b ≡ before) × (size (resized bytes b) < 2 ^ 32) }
     ensures { (b : Block) → purgeable_of b ≡ before → purgeable_of (resized bytes b) ≤ result }
@@ -55,14 +55,15 @@ pub fn given_at(before: u32, bytes: u32) -> u32
     if before == 0 { 0 } else { padded_size(bytes) }
 }
 
-/// No less than what blocks would give, of which one gave `before` and gives `after`.
+/// Returns a bound on the bytes that blocks would free, from the old bound `most`, where one block would have freed
+/// `before` bytes and would now free `after` bytes.
 pub fn changed_bound(most: u32, before: u32, after: u32) -> u32
     ensures { (old new : ℕ) → old ≤ most → new + before ≤ old + after → new < 2 ^ 32 → new ≤ result }
 {
     most.saturating_sub(before).saturating_add(after)
 }
 
-/// The bytes that all blocks would give.
+/// Returns the bytes that all blocks of a walk would free if they were purged.
 pub fn purgeable_bytes_in<W: Walk>(walk: &mut W) -> u32
     requires { sizes (W.rest walk.old) < 2 ^ 32 }
     ensures { result ≡ purgeable_sum (W.rest walk.old) }
@@ -74,7 +75,7 @@ pub fn purgeable_bytes_in<W: Walk>(walk: &mut W) -> u32
     total
 }
 
-/// Whether a block counts as Free that isn't.
+/// Reports whether `sparing` counts a block as free that is not free.
 pub fn frees_one(sparing: Sparing) -> bool
     ensures { result ≡ false → (zone : List Block) → opened sparing zone ≡ zone }
 {
@@ -84,7 +85,7 @@ pub fn frees_one(sparing: Sparing) -> bool
     }
 }
 
-/// No less than what the blocks of a zone would give after purges by which so many bytes became Free.
+/// Returns a bound on the bytes that the blocks of a zone would free after purges by which `freed` bytes became free.
 pub fn purgeable_left(part: &Part, most: u32, freed: u32, sparing: Sparing) -> u32
     requires { (first : ℕ) × (unused : ℕ) × IsSound part.now.bytes first unused }
     ensures { (k : ℕ) (zone : List Block) → zone_in part.now.bytes ≡ purged k sparing zone
@@ -98,8 +99,9 @@ pub fn purgeable_left(part: &Part, most: u32, freed: u32, sparing: Sparing) -> u
     }
 }
 
-/// Whether a whole zone has fewer bytes than so many, of its Free ones and those that purges may give: then no run of
-/// it has them, and no Free block. Where a block counts as Free that isn't, nothing is told.
+/// Reports whether a whole zone has fewer than `bytes` bytes, of its free ones and those that purges would free: then
+/// no run of the zone, and no free block, has as many as `bytes`. If `sparing` counts a block as free that is not
+/// free, nothing is known and the answer is `false`.
 pub fn falls_short(free: u32, most: u32, bytes: u32, purges: u32, sparing: Sparing) -> bool
     ensures { result ≡ true → (zone : List Block) → free ≡ free_sum zone → purgeable_sum zone ≤ most
         → free_sum (purged purges sparing zone) < bytes }

@@ -1,4 +1,4 @@
-//! The lowest blocks that may go are emptied.
+//! The lowest purgeable blocks are purged.
 
 ghost use Rattle.std.specs.Prelude.{◌≡◌, ◌<◌, ◌==◌, List, length, if◌then◌else◌};
 ghost use Rattle.heap_words.specs.Headers.{tag_number};
@@ -18,8 +18,8 @@ use block_store::{Seen, Sparing, is_counted_free, may_be_emptied};
 use heap_words::{Header, Tag};
 use raw_region::Part;
 
-/// How far a pass is: the Free bytes from `start` to `at` are one block, so many purges are left, and so many
-/// bytes became Free.
+/// The state of a pass over a zone: the free bytes from `start` to `at` are one block, `left` purges are left, and
+/// `freed` bytes became free.
 #[derive(Clone, Copy)]
 struct Pass {
     start: u32,
@@ -28,7 +28,7 @@ struct Pass {
     freed: u32,
 }
 
-/// The purges left after a block that is Free or is emptied; none where it stays.
+/// Returns the purges left after a block that is free or is purged; `None` for a block that stays.
 fn left_after(block: Seen, left: u32, sparing: Sparing) -> Option<u32>
     ensures { (b : Block) → seen b ≡ block → result ≡ left_past (spared sparing) left (opened_block sparing b) }
 {
@@ -42,7 +42,7 @@ fn left_after(block: Seen, left: u32, sparing: Sparing) -> Option<u32>
     }
 }
 
-/// The bytes that become Free with a block.
+/// Returns the number of bytes that become free with a block.
 fn new_free(header: Header) -> u32
     ensures { result ≡ (if tag_number header.tag == 0 then 0 else header.size) }
 {
@@ -52,7 +52,7 @@ fn new_free(header: Header) -> u32
     }
 }
 
-/// Goes over one block.
+/// Passes one block: frees it if it is to be purged or counts as free, and joins it with the free bytes below.
 fn pass_block(part: &mut Part, pass: Pass, sparing: Sparing) -> Pass
     requires pass { (p : Purge) × Purging p sparing pass.start pass.at pass.left pass.freed part.old.bytes }
     requires some { pass.at < length part.old.bytes }
@@ -81,8 +81,8 @@ fn pass_block(part: &mut Part, pass: Pass, sparing: Sparing) -> Pass
     }
 }
 
-/// Empties the lowest blocks from a place on that may go, so many of them, where the bytes from `start` to there
-/// are Free; frees a block that counts as Free. Answers how many bytes became Free.
+/// Purges the lowest blocks from `at` on that may be purged, `purges` of them, where the bytes from `start` to `at`
+/// are free, and frees a block that counts as free. Returns the number of bytes that became free.
 pub fn purge_from(part: &mut Part, start: u32, at: u32, purges: u32, sparing: Sparing) -> u32
     requires { (p : Purge) × Purging p sparing start at purges 0 part.old.bytes }
     ensures same { KeepsPlace part.old part.new }
@@ -101,7 +101,7 @@ pub fn purge_from(part: &mut Part, start: u32, at: u32, purges: u32, sparing: Sp
     pass.freed
 }
 
-/// The same blocks are spared, and none counts as Free.
+/// Returns what spares the same blocks and counts no block as free that is not free.
 fn without_freed(sparing: Sparing) -> Sparing
     ensures same { (b : Block) → spared result b ≡ spared sparing b }
     ensures none { (blocks : List Block) → opened result blocks ≡ blocks }
@@ -112,8 +112,8 @@ fn without_freed(sparing: Sparing) -> Sparing
     }
 }
 
-/// Empties the lowest blocks above the one at a place that may go, so many of them. Answers how many bytes became
-/// Free.
+/// Purges the lowest blocks above the block at `place` that may be purged, `purges` of them. Returns the number of
+/// bytes that became free.
 pub fn purge_above(part: &mut Part, place: u32, purges: u32, sparing: Sparing) -> u32
     requires { (f : Freeing) × MayPurge f place part.old.bytes }
     ensures same { KeepsPlace part.old part.new }

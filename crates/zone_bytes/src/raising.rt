@@ -13,8 +13,8 @@ use crate::settling::{PackedRun, pack_until, settle_run};
 use crate::words::write_word;
 use raw_region::Part;
 
-/// Moves the blocks of a packed run up by `gap`, where their slots lead already. Its Free block was from `top` to
-/// `stop`: `gap` of its bytes come below the blocks.
+/// Moves the blocks of a packed run up by `gap`; their slots lead to their new places already. The run's free block
+/// was from `top` to `stop`: `gap` of its bytes are below the blocks after the move.
 fn lift_blocks(part: &mut Part, place: u32, top: u32, stop: u32, gap: u32)
     ghost raise: { Raise }
     requires { (part.old.bytes ≡ raise.bytes) × MayRaise raise place top stop gap }
@@ -32,7 +32,7 @@ fn lift_blocks(part: &mut Part, place: u32, top: u32, stop: u32, gap: u32)
     }
 }
 
-/// Packs what is left of a run above blocks of it that were packed, and then raised by `gap`.
+/// Packs the rest of a run above blocks of the run that were packed and then raised by `gap`.
 fn settle_above(part: &mut Part, edges: &mut Edges, packed: PackedRun, gap: u32) -> PackedRun
     ghost lay: { Lay }
     requires bytes { part.old.bytes ≡ lay.bytes }
@@ -47,9 +47,9 @@ fn settle_above(part: &mut Part, edges: &mut Edges, packed: PackedRun, gap: u32)
     settle_run(part, edges, packed.top + gap)
 }
 
-/// Packs the run at a place, and raises its relocatable blocks by `gap`, which become Free bytes below them. Only the
-/// lowest ones are moved up, those with no more than `gap` Free bytes among them; the others move down to where they are
-/// to lie. Where they will be is noted as edges. Answers where the run ends.
+/// Packs the run at `place`, and raises its relocatable blocks by `gap`, so that `gap` free bytes are below them. Only
+/// the lowest blocks are moved up, those with no more than `gap` free bytes among them; the others move down to where
+/// they are to lie. The new places of the blocks are noted as edges. Returns the place at which the run ends.
 pub fn raise_run(part: &mut Part, edges: &mut Edges, place: u32, gap: u32) -> u32
     ghost lay: { Lay }
     requires { (part.old.bytes ≡ lay.bytes) × MayLift lay place gap × EndsRun lay.above }

@@ -10,7 +10,7 @@ use heap_words::{Header, Tag};
 use raw_region::Part;
 use std::marker::Model;
 
-/// What a header tells of its block.
+/// Returns the block that a header describes, without its content.
 pub fn seen_of(header: Header) -> Seen
     ensures { result ≡ header_seen (tag_number header.tag) header.size header.logical header.slot header.flags }
 {
@@ -26,14 +26,14 @@ pub fn seen_of(header: Header) -> Seen
     }
 }
 
-/// A block as it is seen, and where it ends.
+/// A block without its content, and the place at which it ends.
 #[derive(Clone, Copy, Drop)]
 pub struct Step {
     pub block: Seen,
     pub end: u32,
 }
 
-/// The block at a place.
+/// Reads the block at a place.
 pub fn step_at(part: &Part, at: u32) -> Step
     requires way { IsOnWay at part.now.bytes }
     requires some { at < length part.now.bytes }
@@ -65,7 +65,7 @@ impl<'a> Model for RawWalk<'a> {
     ghost invariant = { IsRawWalk };
 }
 
-/// A walk over the blocks from a place on.
+/// Returns a walk over the blocks from a place on.
 pub fn walk_from<'a>(part: &'a Part, at: u32) -> RawWalk<'a>
     requires { IsOnWay at part.now.bytes }
     ensures { result ≡ left_in at part.now.bytes }

@@ -19,7 +19,7 @@ use crate::words::read_header;
 use heap_words::{Header, Tag};
 use raw_region::Part;
 
-/// The bytes of the Free block that begins at a place, or 0 where none does.
+/// Returns the size of the free block that begins at a place, or 0 if no free block begins there.
 pub fn free_behind(part: &Part, at: u32) -> u32
     requires { IsOnWay at part.now.bytes }
     ensures { result ≡ free_first (left_in at part.now.bytes) }
@@ -35,17 +35,17 @@ pub fn free_behind(part: &Part, at: u32) -> u32
     }
 }
 
-/// What is told of a block that was given another size.
+/// The result of giving a block another size.
 #[derive(Clone, Copy, Debug)]
 pub struct ResizedBlock {
-    /// How many bytes of the zone are Free.
+    /// The number of free bytes of the zone.
     pub free: u32,
-    /// Where the blocks end that became others.
+    /// The place at which the blocks end that became others.
     pub top: u32,
 }
 
-/// Gives the block at a place another size: cuts it where it stands, or lets it grow into the Free block that
-/// follows it. New bytes are 0. There were `free` Free bytes.
+/// Gives the block at `place` another size: cuts the block where it stands, or lets it grow into the free block that
+/// follows it. New bytes are 0. `free` is the number of free bytes of the zone before.
 pub fn resize_block(part: &mut Part, place: u32, bytes: u32, free: u32) -> ResizedBlock
     requires sound { (first : ℕ) × (unused : ℕ) × IsSound part.old.bytes first unused }
     requires free { free ≡ free_sum (zone_in part.old.bytes) }

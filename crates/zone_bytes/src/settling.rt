@@ -15,19 +15,19 @@ use crate::words::{read_header, write_word};
 use heap_words::{Header, Tag};
 use raw_region::Part;
 
-/// What is told of a run that was packed.
+/// The result of packing a run.
 #[derive(Clone, Copy, Debug)]
 pub struct PackedRun {
-    /// How many of its blocks came lower.
+    /// The number of blocks of the run that moved down.
     pub lowered: u32,
-    /// Where its Free block begins.
+    /// The place at which the run's free block begins.
     pub top: u32,
-    /// Where it ends.
+    /// The place at which the run ends.
     pub stop: u32,
 }
 
-/// Moves a block of `size` bytes down, and makes its slot lead `gap` above its new place. Answers whether it came
-/// lower.
+/// Moves a block of `size` bytes down, and makes its slot lead to the place `gap` above the block's new place. Returns
+/// 1 if the block moved down, else 0.
 fn move_block(part: &mut Part, from: u32, to: u32, size: u32, slot: u32, gap: u32) -> u32
     requires down { to ≤ from }
     requires inside { from + size ≤ length part.old.bytes }
@@ -50,7 +50,8 @@ fn move_block(part: &mut Part, from: u32, to: u32, size: u32, slot: u32, gap: u3
     0
 }
 
-/// Whether a header's block belongs to a run: it is Free, or relocatable and unlocked.
+/// Reports whether the block of a header belongs to a run of movable blocks: the block is free, or relocatable and
+/// unlocked.
 fn is_in_run(header: Header) -> bool
     ensures { result ≡ runs_on (tag_number header.tag) header.flags }
 {
@@ -61,7 +62,8 @@ fn is_in_run(header: Header) -> bool
     }
 }
 
-/// Whether blocks that were packed from a place up to `to` have `enough` Free bytes above them, up to `from`.
+/// Reports whether blocks that were packed from `place` up to `to` have at least `enough` free bytes above them, up to
+/// `from`.
 fn is_enough(place: u32, to: u32, from: u32, enough: u32) -> bool
     requires { to ≤ from }
     ensures { result ≡ true → (place < to) × (enough ≤ from - to) }
@@ -69,9 +71,9 @@ fn is_enough(place: u32, to: u32, from: u32, enough: u32) -> bool
     place < to && enough <= from - to
 }
 
-/// Moves relocatable blocks of the run at a place down, makes their slots lead `gap` above them, and makes one Free
-/// block of what is between them and the rest of the run. It finds the run's end as it goes, and ends before it where
-/// the Free block has `enough` bytes. Where the blocks will be is noted as edges.
+/// Moves relocatable blocks of the run at `place` down, makes their slots lead to the places `gap` above them, and
+/// makes the bytes between them and the rest of the run one free block. The walk itself finds the run's end, and ends
+/// before it if the free block has `enough` bytes. The future places of the blocks are noted as edges.
 pub(crate) fn pack_until(
     part: &mut Part,
     edges: &mut Edges,
@@ -118,8 +120,8 @@ pub(crate) fn pack_until(
     }
 }
 
-/// Moves the relocatable blocks of the run at a place down, and makes one Free block of the rest. Where they will be is
-/// noted as edges.
+/// Moves the relocatable blocks of the run at `place` down, and makes the rest of the run one free block. The new
+/// places of the blocks are noted as edges.
 pub fn settle_run(part: &mut Part, edges: &mut Edges, place: u32) -> PackedRun
     ghost lay: { Lay }
     requires bytes { part.old.bytes ≡ lay.bytes }

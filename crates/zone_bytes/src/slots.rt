@@ -8,7 +8,8 @@ ghost use Rattle.zone_bytes.specs.Beside.{KeepsPlace};
 use crate::words::{read_word, write_word};
 use raw_region::Part;
 
-/// Takes the slot `first` from the list of unused ones, for an emptied handle. Answers the next one.
+/// Takes the slot `first` from the list of unused slots, for an empty handle. Returns the slot that follows it in the
+/// list.
 pub fn take_slot(part: &mut Part, first: u32) -> u32
     requires { (t : Table) × Lays part.old.bytes t.blocks t.slots (first ∷ t.unused) }
     ensures same { KeepsPlace part.old part.new }
@@ -20,7 +21,7 @@ pub fn take_slot(part: &mut Part, first: u32) -> u32
     next
 }
 
-/// Puts the slot of an emptied handle at the front of the list of unused ones.
+/// Puts the slot of an empty handle at the front of the list of unused slots.
 pub fn give_slot(part: &mut Part, slot: u32, first: u32)
     requires { (t : Table) × MayGive part.old.bytes t slot first }
     ensures same { KeepsPlace part.old part.new }

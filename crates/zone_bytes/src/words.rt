@@ -9,7 +9,7 @@ ghost use Rattle.zone_bytes.specs.Beside.{KeepsPlace};
 use heap_words::Header;
 use raw_region::Part;
 
-/// The word at a place.
+/// Reads the word at a place.
 pub fn read_word(part: &Part, at: u32) -> u32
     requires { (at % 4 ≡ 0) × (at + 4 ≤ length part.now.bytes) }
     ensures { result ≡ word_at at part.now.bytes }
@@ -26,7 +26,7 @@ pub fn write_word(part: &mut Part, at: u32, number: u32)
     heap_words::write_word(part, at as usize, number);
 }
 
-/// The header at a place.
+/// Reads the header at a place.
 pub fn read_header(part: &Part, at: u32) -> Header
     requires within { (at % 4 ≡ 0) × (at + 16 ≤ length part.now.bytes) }
     requires fits { at + 16 < 2 ^ 32 }

@@ -1,4 +1,4 @@
-//! Bytes are written into a block.
+//! The bytes of a block are read and written.
 
 ghost use Rattle.std.specs.Prelude.{◌≡◌, ◌+◌, ◌≤◌, length};
 ghost use Rattle.windows.specs.Writes.{written, piece};
@@ -6,7 +6,7 @@ ghost use Rattle.zone_bytes.specs.Beside.{KeepsPlace};
 
 use raw_region::Part;
 
-/// Writes bytes from a place on.
+/// Writes bytes at a place.
 pub fn put_bytes(part: &mut Part, at: u32, bytes: &[u8])
     requires { at + length bytes.now ≤ length part.old.bytes }
     ensures same { KeepsPlace part.old part.new }
@@ -16,7 +16,7 @@ pub fn put_bytes(part: &mut Part, at: u32, bytes: &[u8])
     part.bytes_mut()[start..start + bytes.len()].copy_from_slice(bytes);
 }
 
-/// The `count` bytes from a place on.
+/// Returns the `count` bytes at a place.
 pub fn get_bytes(part: &Part, at: u32, count: u32) -> &[u8]
     requires { at + count ≤ length part.now.bytes }
     ensures { result.now ≡ piece at count part.now.bytes }
