@@ -1,5 +1,6 @@
 #!/usr/bin/env python3
-"""Looks for links of pages that lead nowhere, and for paths of the repository that pages name and that are not there.
+"""Looks for links of pages that lead nowhere, and for paths of the repository that pages name and that are not there. A path with
+NAME in it stands for several.
 
 usage: tools/links.py PAGE..
 
@@ -31,7 +32,8 @@ def missing(page, top):
         found = os.path.exists(file) and (not anchor or (file.endswith(".md") and anchor[1:] in headings(file)))
         yield target + anchor, found
     for path in PATH.findall(text):
-        yield path, os.path.exists(f"{top}/crates/{path}") or os.path.exists(f"{top}/{path}")
+        if "NAME" not in path:
+            yield path, os.path.exists(f"{top}/crates/{path}") or os.path.exists(f"{top}/{path}")
 
 
 def main(pages):
