@@ -1,4 +1,4 @@
-//! The words of the command line. Only this module sees the parser.
+//! The words of the command line. No other module uses the parser.
 
 use crate::fault::ToolFault;
 use crate::running::Errand;
@@ -100,7 +100,7 @@ const JOB_HELP: &str =
 const OUT_HELP: &str =
     "Folder that is made for what the applications leave. It must not be there yet";
 
-/// The name of the flag, behind its two hyphens.
+/// The name of the flag, after its two hyphens.
 const PROGRESS: &str = "progress";
 
 const PROGRESS_HELP: &str = concat!(
@@ -147,7 +147,7 @@ fn argument<'a>(alloc: Global, name: &'a str, help: &'a str) -> Arg<'a> {
         .help(help)
 }
 
-/// The flag `--progress`.
+/// Returns the flag `--progress`.
 fn progress<'a>(alloc: Global) -> Arg<'a> {
     Arg::new(alloc, PROGRESS)
         .long(PROGRESS)
@@ -199,7 +199,7 @@ fn program<'a>(alloc: Global) -> Result<Command<'a>, AllocError> {
         .subcommand(fork_command(alloc, "check", CHECK_ABOUT, CHECK_EXAMPLES)?)
 }
 
-/// What the parser says, as a fault.
+/// Returns an error of the parser as a fault.
 fn usage(alloc: Global, error: &Error) -> ToolFault {
     match error.kind() {
         ErrorKind::OutOfMemory => ToolFault::HostMemory,
@@ -210,7 +210,7 @@ fn usage(alloc: Global, error: &Error) -> ToolFault {
     }
 }
 
-/// A mistake in the words that the parser doesn't know, told in its form.
+/// Returns a mistake in the words that the parser doesn't find, in the form of the parser's errors.
 fn mistake(alloc: Global, command: Command<'_>, message: &str) -> ToolFault {
     let mut command = command;
     match command.error(ErrorKind::ValueValidation, message) {
@@ -236,7 +236,7 @@ pub enum Request<'a> {
     Run(Errand<'a>),
 }
 
-/// A word that isn't UTF-8.
+/// Returns the fault of a word that isn't UTF-8.
 pub fn not_utf8(alloc: Global) -> ToolFault {
     match program(alloc) {
         Ok(command) => mistake(
@@ -248,7 +248,7 @@ pub fn not_utf8(alloc: Global) -> ToolFault {
     }
 }
 
-/// The value of an argument that the parser asks for.
+/// Returns the value of an argument that the parser requires.
 fn value<'a>(matches: &ArgMatches<'a>, name: &str) -> &'a str {
     matches.get_str(name).unwrap_or("")
 }
@@ -273,7 +273,7 @@ fn fork_task<'a>(work: Work, matches: &ArgMatches<'a>) -> Task<'a> {
     }
 }
 
-/// What is asked for by the words behind the program's name.
+/// Returns what the words after the program's name ask for.
 fn asked<'a>(alloc: Global, matches: &ArgMatches<'a>) -> Result<Request<'a>, ToolFault> {
     match matches.subcommand() {
         Some(("script", inner)) => Ok(Request::Look(script_task(alloc, inner)?)),
