@@ -210,7 +210,7 @@ fn usage(alloc: Global, error: &Error) -> ToolFault {
     }
 }
 
-/// Returns a mistake in the words that the parser doesn't find, in the form of the parser's errors.
+/// Returns the fault of a mistake that the parser doesn't find, in the form of the parser's own errors.
 fn mistake(alloc: Global, command: Command<'_>, message: &str) -> ToolFault {
     let mut command = command;
     match command.error(ErrorKind::ValueValidation, message) {
