@@ -5,9 +5,9 @@ use Rattle.script_text.specs.declared.fault.FaultKind.{FaultKind}
 use Rattle.commands.specs.declared.fault.ToolFault.{ToolFault}
 use Rattle.commands.specs.declared.fault.ToolFault.TheVariants as fault
 
--- What a fault tells.
+-- What a fault says.
 
--- what a person is told: a fault without where its texts lie
+-- The message of a fault: a fault without the places where its texts lie.
 pub data Message : Type 0 where
   Usage : (text : List ℕ) → Message
   CannotRead : (path : List ℕ) → Message
@@ -24,7 +24,7 @@ message_of (fault.Fork path code) = Fork (string_bytes path) code
 message_of (fault.CannotWrite path) = CannotWrite (string_bytes path)
 message_of fault.HostMemory = HostMemory
 
--- which line is told: 0 for usage and help, 1 to 5 for the lines
+-- The number of the line that is printed: 0 for usage and help, 1 to 5 for the lines.
 abbrev pub kind_of : ToolFault → ℕ
 kind_of (fault.Usage text) = 0
 kind_of (fault.CannotRead path) = 1
@@ -33,7 +33,7 @@ kind_of (fault.Fork path code) = 3
 kind_of (fault.CannotWrite path) = 4
 kind_of fault.HostMemory = 5
 
--- the status at the end
+-- The status with which the program ends.
 abbrev pub status_of : ToolFault → ℕ
 status_of (fault.Usage text) = 2
 status_of (fault.CannotRead path) = 1
@@ -42,7 +42,7 @@ status_of (fault.Fork path code) = 1
 status_of (fault.CannotWrite path) = 1
 status_of fault.HostMemory = 1
 
--- the path that the line names
+-- The path that the line names.
 abbrev pub path_of : ToolFault → List ℕ
 path_of (fault.Usage text) = []
 path_of (fault.CannotRead path) = string_bytes path
@@ -51,7 +51,7 @@ path_of (fault.Fork path code) = string_bytes path
 path_of (fault.CannotWrite path) = string_bytes path
 path_of fault.HostMemory = []
 
--- the line of the script
+-- The line of the script.
 abbrev pub line_of : ToolFault → ℕ
 line_of (fault.Usage text) = 0
 line_of (fault.CannotRead path) = 0
@@ -60,7 +60,7 @@ line_of (fault.Fork path code) = 0
 line_of (fault.CannotWrite path) = 0
 line_of fault.HostMemory = 0
 
--- the number of the script's fault, or the fork's result code
+-- The number of the script's fault, or the fork's result code.
 abbrev pub number_of : ToolFault → ℤ
 number_of (fault.Usage text) = pos 0
 number_of (fault.CannotRead path) = pos 0
@@ -69,7 +69,7 @@ number_of (fault.Fork path code) = code.0
 number_of (fault.CannotWrite path) = pos 0
 number_of fault.HostMemory = pos 0
 
--- the text of usage and help
+-- The text of usage and help.
 abbrev pub text_of : ToolFault → List ℕ
 text_of (fault.Usage text) = string_bytes text
 text_of (fault.CannotRead path) = []

@@ -4,17 +4,17 @@ use Rattle.desk.specs.declared.job.App.{App}
 
 -- What the lines of a job name.
 
--- the name of an application
+-- The name of an application.
 abbrev pub name_of : App → List ℕ
 name_of app = app.name.0.items
 
--- whether a file's application is one of so many
+-- Reports whether the application of a file is one of the first `n` applications.
 abbrev pub owner_is_in : ℕ → Input → Bool
 owner_is_in n (System path) = true
 owner_is_in n (AppLine name fork script) = true
 owner_is_in n (File app name path) = nat_lt app n
 
--- where the System is read: the first such line; none is an empty path
+-- The path of the System file: that of the first such line, or an empty path if there is no such line.
 abbrev pub system_path : List Input → List ℕ
 system_path [] = []
 system_path (System path ∷ inputs) = path

@@ -8,8 +8,8 @@ use Rattle.commands.specs.declared.outputs.Output.{Output}
 
 -- The files that a run leaves in a folder.
 
--- The paths, each of them the folder's as it was given, one slash, and a name. An application's name is one of letters,
--- digits and `_`, which are written as they are.
+-- The paths of the files: the folder's path as it was given, a slash, and a name. The name of an application has only
+-- letters, digits and `_`, which are written as they are.
 abbrev pub app_within : List ℕ → List ℕ → List ℕ
 app_within folder name = folder ++ codes "/app-" ++ encode_utf8_all name
 
@@ -22,12 +22,12 @@ fork_within folder name k = app_within folder name ++ codes "-" ++ decimal k ++ 
 abbrev pub desk_within : List ℕ → List ℕ
 desk_within folder = folder ++ codes "/desk.log"
 
--- a file: its path and its bytes
+-- A file: its path and its bytes.
 pub record Written : Type 0 where
   pub path : List ℕ
   pub bytes : List ℕ
 
--- the log of an application that was launched: its transcript
+-- The log of an application that was launched: its transcript.
 abbrev pub log_left : List ℕ → Told → List Written
 log_left folder t = of_launched t.launched
   where
@@ -35,14 +35,14 @@ log_left folder t = of_launched t.launched
     of_launched None = []
     of_launched (Some l) = record { path = log_within folder t.name; bytes = l.transcript } ∷ []
 
--- the forks that were written of these files of an application, which are its k-th and those behind it
+-- The forks that were written of an application's files, from its `k`-th file on.
 abbrev pub forks_within : List ℕ → List ℕ → ℕ → List File → List Written
 forks_within folder name k [] = []
 forks_within folder name k (f ∷ files) =
     (if f.written then record { path = fork_within folder name k; bytes = f.fork } ∷ [] else [])
     ++ forks_within folder name (k + 1) files
 
--- those of an application that was launched
+-- The forks that were written of an application that was launched.
 abbrev pub forks_left : List ℕ → Told → List Written
 forks_left folder t = of_launched t.launched
   where
@@ -50,7 +50,7 @@ forks_left folder t = of_launched t.launched
     of_launched None = []
     of_launched (Some l) = forks_within folder t.name 0 l.files
 
--- in order: the desk's log, the logs of the applications, and their forks
+-- The files that a run leaves, in order: the desk's log, the logs of the applications, and their forks.
 abbrev pub logs_left : List ℕ → List Told → List Written
 logs_left folder apps = flat_map (log_left folder) apps
 
@@ -61,6 +61,6 @@ abbrev pub left_by : List ℕ → Outcome → List Written
 left_by folder o =
     record { path = desk_within folder; bytes = o.log } ∷ logs_left folder o.apps ++ all_forks_left folder o.apps
 
--- a file, as the code has it
+-- A file, as the code holds it.
 abbrev pub output_seen : Output → Written
 output_seen output = record { path = string_bytes output.path; bytes = output.bytes.now }

@@ -3,14 +3,14 @@ use Rattle.std.specs.List.{list_all}
 use Rattle.std.specs.Char.{is_ascii_digit}
 use Rattle.script_text.specs.Argument.{number_from}
 
--- a number, rounded down to a multiple of 16
+-- A number rounded down to a multiple of 16.
 abbrev pub rounded_down : ℕ → ℕ
 rounded_down n = n - n % 16
 
--- a number within the limits of a partition
+-- A number within the limits of a partition, rounded down to a multiple of 16.
 abbrev pub within_limits : ℕ → Option ℕ
 within_limits n = if nat_le 512 n && nat_le n 134217728 then Some (rounded_down n) else None
 
--- the size that a text writes: decimal digits only, leading zeros allowed
+-- The size in a text: the text has only decimal digits, and leading zeros are allowed.
 abbrev pub partition_size : List ℕ → Option ℕ
 partition_size text = if list_all is_ascii_digit text then within_limits (number_from 0 text) else None

@@ -8,30 +8,30 @@ use Rattle.commands.specs.Listing.{listing}
 use Rattle.commands.specs.declared.work.Form.{Form}
 use Rattle.commands.specs.declared.work.Form.TheVariants.{Canonical, Accepted}
 
--- a transcript of a script's text in a fresh partition of n bytes: that of the steps and the grow-zone scripts which
--- the text spells
+-- The transcript of a script's text in a fresh partition of `n` bytes: that of the steps and the grow-zone scripts
+-- which the text spells.
 abbrev pub IsTranscriptOf : ℕ → List ℕ → List ℕ → Type 0
 IsTranscriptOf n text out =
     (script : Parts) × (script_of text ≡ Ok (spelled script)) × (out ≡ (script_alone n script).transcript)
 
--- a listing of a fork: that of the content which the bytes spell
+-- The listing of a resource fork: that of the content which its bytes spell.
 abbrev pub IsListingOf : List ℕ → List ℕ → Type 0
 IsListingOf bytes out = IsTrue (is_fork bytes) × (out ≡ listing (content_of bytes))
 
--- what bytes are to a content that they spell: its canonical fork, or another one
+-- What bytes are to a content that they spell: its canonical fork, or another fork.
 abbrev pub TellsForm : Form → Content → List ℕ → Type 0
 TellsForm Canonical c bytes = IsTrue (fits c) × (bytes ≡ canon c)
 TellsForm Accepted c bytes = ¬ (IsTrue (fits c) × (bytes ≡ canon c))
 
--- what a fork is to the content that it spells
+-- The form of a resource fork: what its bytes are to the content that they spell.
 abbrev pub IsFormOf : List ℕ → Form → Type 0
 IsFormOf bytes form = IsTrue (is_fork bytes) × TellsForm form (content_of bytes) bytes
 
--- the line that tells it
+-- The line that is printed for a form.
 abbrev pub text_of : Form → List ℕ
 text_of Canonical = codes "canonical\n"
 text_of Accepted = codes "accepted\n"
 
--- the line that tells what a fork is to the content that it spells
+-- The line that is printed for the form of a resource fork.
 abbrev pub IsFormText : List ℕ → List ℕ → Type 0
 IsFormText bytes out = (form : Form) × IsFormOf bytes form × (out ≡ text_of form)

@@ -1,6 +1,6 @@
 //! From the words of the command line to what is printed or written: the words ask for a task, whose file is read and
-//! which is done on the bytes, or for a job to be run. Between the words and the host stand `tasks::do_task` and
-//! `running::run_job` alone.
+//! whose bytes are worked on, or for a job to be run. Between the words and the host stand only `tasks::do_task` and
+//! `running::run_job`.
 
 ghost use Rattle.std.specs.Prelude.{◌≡◌, IfErr};
 ghost use Rattle.commands.specs.Fault.{message_of};
@@ -14,10 +14,10 @@ use crate::tasks::do_task;
 use crate::words::{Request, read_words};
 use std::alloc::Global;
 
-/// Does what the words of the command line ask for, the program's name being the first of them. All input
-/// is read before anything is printed or written; files that are there are only read.
+/// Does what the words of the command line ask for; the first word is the program's name. All input is read before
+/// anything is printed or written, and existing files are only read.
 pub fn tool<H: Host>(alloc: Global, words: &[&str], host: &mut H) -> Result<(), ToolFault>
-    // Nothing is printed where the words ask for nothing, the file can't be read, or its bytes are faulty.
+    // Nothing is printed if the words ask for nothing, the file can't be read, or its bytes are faulty.
     ensures quiet { IfErr result (λ fault. IsQuiet (H.printed host.old) (H.printed host.new) (message_of fault)) }
 {
     match read_words(alloc, words)? {

@@ -1,4 +1,4 @@
-//! Why the work was not done.
+//! Faults: why the work was not done.
 
 ghost use Rattle.std.specs.Prelude.{◌≡◌};
 ghost use Rattle.commands.specs.Fault.{kind_of, status_of, path_of, line_of, number_of, text_of};
@@ -9,14 +9,14 @@ use script_text::FaultKind;
 use std::alloc::AllocError;
 use thiserror::Error;
 
-/// Why the work was not done. Its `Display` is what a person is told on the standard error: one line, or
-/// the text of the command line's parser.
+/// The reason why the work was not done. Its `Display` is the text printed on the standard error: one line, or the
+/// text of the command line's parser.
 #[derive(Debug, Drop, Error)]
 pub enum ToolFault {
     /// The words ask for nothing that the program does, or for help.
     #[error("{text}")]
     Usage {
-        /// What the parser says, with the ends of its lines.
+        /// The text of the parser, with the ends of its lines.
         text: String,
     },
     /// A file could not be read.
@@ -30,12 +30,12 @@ pub enum ToolFault {
     Script {
         /// The script's path as it was given.
         path: String,
-        /// The line, from 1 on.
+        /// The number of the line, from 1 on.
         line: usize,
-        /// What is wrong with it.
+        /// The kind of the fault.
         kind: FaultKind,
     },
-    /// Bytes are no fork.
+    /// Bytes are no resource fork.
     #[error("macmem: {path}: fork {}", .code.number())]
     Fork {
         /// The path of the bytes as it was given.
@@ -43,19 +43,19 @@ pub enum ToolFault {
         /// The result code.
         code: OsErr,
     },
-    /// What was to be written could not be.
+    /// The output could not be written.
     #[error("macmem: {path}: cannot write")]
     CannotWrite {
         /// The path, or `-` for the standard output.
         path: String,
     },
-    /// The host refused memory.
+    /// The host is out of memory.
     #[error("macmem: no host memory")]
     HostMemory,
 }
 
 impl ToolFault {
-    /// Which line a person is told: 0 for usage and help, then 1 to 5 in the order of the variants.
+    /// Returns the number of the line that is printed: 0 for usage and help, then 1 to 5 in the order of the variants.
     pub fn kind(&self) -> u8
         ensures { result ≡ kind_of self.now }
     {
@@ -69,7 +69,7 @@ impl ToolFault {
         }
     }
 
-    /// The status that the program ends with: 2 for usage and help, else 1.
+    /// Returns the status with which the program ends: 2 for usage and help, else 1.
     pub fn status(&self) -> u8
         ensures { result ≡ status_of self.now }
     {
@@ -79,7 +79,7 @@ impl ToolFault {
         }
     }
 
-    /// The path that the line names, empty where it names none.
+    /// Returns the path that the line names, or an empty text if it names no path.
     pub fn path(&self) -> &str
         ensures { result.now ≡ path_of self.now }
     {
@@ -92,7 +92,7 @@ impl ToolFault {
         }
     }
 
-    /// The line of a script that the line names, 0 where it names none.
+    /// Returns the line of a script that the line names, or 0 if it names no line.
     pub fn line(&self) -> usize
         ensures { result ≡ line_of self.now }
     {
@@ -102,7 +102,7 @@ impl ToolFault {
         }
     }
 
-    /// The number of a script's fault, or a fork's result code; 0 where there is none.
+    /// Returns the number of a script's fault, or a fork's result code, or 0 for other faults.
     pub fn number(&self) -> i16
         ensures { result ≡ number_of self.now }
     {
@@ -113,7 +113,7 @@ impl ToolFault {
         }
     }
 
-    /// The text of the command line's parser, empty for all but usage and help.
+    /// Returns the text of the command line's parser, or an empty text for faults other than usage and help.
     pub fn text(&self) -> &str
         ensures { result.now ≡ text_of self.now }
     {

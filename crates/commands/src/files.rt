@@ -1,4 +1,4 @@
-//! Real files.
+//! The host's files.
 
 ghost use Rattle.std.specs.Prelude.{None};
 
@@ -10,27 +10,27 @@ use std::fs::{self, File, OpenFile};
 use std::io::{self, Read, Write};
 use std::rt::Files;
 
-/// The most bytes that an input may have.
+/// The greatest number of bytes of an input.
 const MOST: u32 = 268_435_456;
 
-/// The standard input by its path.
+/// The path of the standard input.
 const STANDARD_INPUT: &str = "/dev/stdin";
 
-/// Real files, the standard input, the standard output and the standard error.
+/// The host's files, the standard input, the standard output and the standard error.
 #[derive(Drop)]
 pub struct HostFiles<'r, R> {
     rt: &'r R,
 }
 
 impl<'r, R> HostFiles<'r, R> {
-    /// The files of a runtime.
+    /// Makes a host of a runtime's files.
     pub fn new(rt: &'r R) -> HostFiles<'r, R> {
         HostFiles { rt }
     }
 }
 
-/// Reads a file into room for its length, but none that is known to be too long. The room is one byte more,
-/// so that the read which finds the end needs no other.
+/// Reads a file into memory taken for the file's length. Refuses a file that is known to be too long. One byte more is
+/// taken, so that the read which finds the file's end needs no more memory.
 fn read_file<F: OpenFile + Read>(alloc: Global, file: &mut F) -> Result<Vec<u8>, ReadError> {
     match file.metadata() {
         Ok(about) if about.len() <= MOST as u64 => {
@@ -40,7 +40,7 @@ fn read_file<F: OpenFile + Read>(alloc: Global, file: &mut F) -> Result<Vec<u8>,
     }
 }
 
-/// Writes bytes to a file that is open.
+/// Writes bytes to an open file.
 fn write_file<W: Write>(file: &mut W, bytes: &[u8]) -> Result<(), WriteError> {
     match file.write_all(bytes) {
         Ok(()) => Ok(()),
@@ -49,18 +49,18 @@ fn write_file<W: Write>(file: &mut W, bytes: &[u8]) -> Result<(), WriteError> {
 }
 
 impl<'r, R: Eprint> Watch for HostFiles<'r, R> {
-    // What a terminal, a pipe or a file has taken is known to nobody.
+    // The bytes that a terminal, a pipe or a file has taken are not known.
     ghost printed = { λ _. None };
 
-    /// A line on the standard error. Where that fails the work goes on.
+    /// Prints a line on the standard error. If that fails the work goes on.
     fn done(&mut self, done: usize, of: usize) {
         let _ = eprintln!(self.rt; "macmem: {done} of {of} done");
     }
 }
 
 impl<'r, R: Files + Input + Print + Eprint> Host for HostFiles<'r, R> {
-    /// Pipes and devices are read like files. The standard input is read as it is open, since a host need
-    /// not let it be opened by its path.
+    /// Reads pipes and devices like files. The standard input is read as it is open, since a host need not let it be
+    /// opened by its path.
     fn read(&mut self, alloc: Global, path: &str) -> Result<Vec<u8>, ReadError> {
         if path == STANDARD_INPUT {
             return read_all(alloc, &mut self.rt.reader(), 0, MOST);

@@ -1,4 +1,4 @@
-//! What the lines of a job name is read, in the order of the lines.
+//! The inputs that the lines of a job name are read, in the order of the lines.
 
 ghost use Rattle.std.specs.Prelude.{◌≡◌, ◌<◌, ◌++◌, ◌∷◌, [], map, length, OnOk, IfOk, IsTrue};
 ghost use Rattle.script_text.specs.Job.{input_seen, app_names};
@@ -14,7 +14,7 @@ use mac_words::{FileName, Label};
 use script_text::{Input, JobText, Script, read_script};
 use std::alloc::{AllocError, Global};
 
-/// The script at a path.
+/// Reads the script at a path.
 fn script_at<H: Host>(alloc: Global, host: &mut H, path: &str) -> Result<Script, ToolFault>
     ensures silent { H.printed host.new ≡ H.printed host.old }
 {
@@ -25,7 +25,7 @@ fn script_at<H: Host>(alloc: Global, host: &mut H, path: &str) -> Result<Script,
     }
 }
 
-/// An application, without files as yet: its fork is read, and then its script.
+/// Reads an application, which has no other files yet: its resource fork, and then its script.
 fn app_at<H: Host>(
     alloc: Global,
     host: &mut H,
@@ -46,7 +46,7 @@ fn app_at<H: Host>(
     })
 }
 
-/// A file of an application.
+/// Reads a file of an application.
 fn file_at<H: Host>(
     alloc: Global,
     host: &mut H,
@@ -63,7 +63,7 @@ fn file_at<H: Host>(
     })
 }
 
-/// One more application.
+/// Adds an application.
 fn push_app(apps: &mut Vec<App>, app: App) -> Result<(), AllocError>
     ensures { OnOk result (map name_of apps.new.items ≡ map name_of apps.old.items ++ name_of app ∷ []) }
 {
@@ -71,7 +71,7 @@ fn push_app(apps: &mut Vec<App>, app: App) -> Result<(), AllocError>
     Ok(())
 }
 
-/// One more file of application `i`.
+/// Adds a file to application `i`.
 fn push_file(apps: &mut Vec<App>, i: usize, file: AppFile) -> Result<(), AllocError>
     requires { i < length apps.old.items }
     ensures { map name_of apps.new.items ≡ map name_of apps.old.items }
@@ -80,7 +80,7 @@ fn push_file(apps: &mut Vec<App>, i: usize, file: AppFile) -> Result<(), AllocEr
     Ok(())
 }
 
-/// Reads what a line names: the System's fork, an application, or a file of one that is there.
+/// Reads what a line names: the System file's fork, an application, or a file of an application named before.
 fn add<H: Host>(
     alloc: Global,
     host: &mut H,
@@ -109,16 +109,16 @@ fn add<H: Host>(
     Ok(())
 }
 
-/// What the lines of a job name.
+/// The inputs that the lines of a job name.
 #[derive(Drop)]
 struct Gathered {
-    /// The System's fork, where one is named.
+    /// The System file's fork, if a line names it.
     system: Option<Vec<u8>>,
     /// The applications, each with its files.
     apps: Vec<App>,
 }
 
-/// Reads what lines name, in their order.
+/// Reads what the lines name, in their order.
 fn read_inputs<H: Host>(
     alloc: Global,
     host: &mut H,
@@ -136,7 +136,7 @@ fn read_inputs<H: Host>(
     Ok(Gathered { system, apps })
 }
 
-/// Where a job's System is read; empty where it has none.
+/// Returns the path of a job's System file, or an empty text if the job has no System file.
 pub fn system_path<'t>(inputs: &[Input<'t>]) -> &'t str
     ensures { result.now ≡ system_path (map input_seen inputs.now) }
 {
@@ -148,12 +148,12 @@ pub fn system_path<'t>(inputs: &[Input<'t>]) -> &'t str
     ""
 }
 
-/// A job with all that its lines name.
+/// Reads a job with all that its lines name.
 ///
 /// # Errors
 ///
-/// The first input that can't be read, or script that is faulty, in the order of the lines; an application's fork comes
-/// before its script.
+/// The first input that can't be read, or the first script that is faulty, in the order of the lines; an application's
+/// fork precedes its script.
 pub fn gather<H: Host>(alloc: Global, host: &mut H, text: JobText<'_>) -> Result<Job, ToolFault>
     requires order { AreInOrder (map input_seen text.inputs.items) }
     ensures silent { H.printed host.new ≡ H.printed host.old }

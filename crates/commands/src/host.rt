@@ -1,4 +1,4 @@
-//! What the program may do outside.
+//! The host: the program's access to files and the standard output.
 
 ghost use Rattle.std.specs.Prelude.{◌≡◌, OnOk};
 ghost use Rattle.std.specs.Io.KnownBytes.{append_known};
@@ -9,12 +9,12 @@ ghost use Rattle.commands.specs.declared.host.WriteError.TheVariants as write_er
 use applications::Watch;
 use std::alloc::{AllocError, Global};
 
-/// Why a file could not be read.
+/// The reason why a file could not be read.
 #[derive(Clone, Copy, Debug, PartialEq)]
 pub enum ReadError {
-    /// It isn't there, may not be read, gave an error on the way, or is too long.
+    /// The file is not there, may not be read, fails while it is read, or is too long.
     CannotRead,
-    /// The host refused memory.
+    /// The host is out of memory.
     HostMemory,
 }
 
@@ -26,12 +26,12 @@ impl From<AllocError> for ReadError {
     }
 }
 
-/// Why bytes were not printed, or not all of them, or a folder or a file was not made.
+/// The reason why bytes were not printed, or not all of them, or why a folder or a file was not made.
 #[derive(Clone, Copy)]
 pub enum WriteError {
-    /// The standard output, or the disk, gave an error.
+    /// The standard output, or the disk, returned an error.
     CannotWrite,
-    /// The host refused memory.
+    /// The host is out of memory.
     HostMemory,
 }
 
@@ -43,27 +43,27 @@ impl From<AllocError> for WriteError {
     }
 }
 
-/// The world outside of the program. It can be told how far a long run has come.
+/// The world outside of the program. A host is also the watch of a long run.
 pub trait Host: Watch {
-    /// All bytes of a file.
+    /// Reads all bytes of a file.
     fn read(&mut self, alloc: Global, path: &str) -> Result<Vec<u8>, ReadError>
         // Nothing is printed.
         ensures silent { Self.printed self.new ≡ Self.printed self.old };
 
-    /// Writes bytes to the standard output, behind those that have been printed.
+    /// Writes bytes to the standard output, after those that have been printed.
     fn print(&mut self, bytes: &[u8]) -> Result<(), WriteError>
         ensures all { OnOk result (Self.printed self.new ≡ append_known (Self.printed self.old) bytes.now) }
 
-        // Where it fails, a front of the bytes may have been written.
+        // If the call fails, a front of the bytes may have been written.
         ensures front { PrintsFront bytes.now (Self.printed self.old) (Self.printed self.new) };
 
-    /// Makes a folder. It fails where the path is one of a file or a folder that is there.
+    /// Makes a folder. The call fails if a file or a folder of that path exists.
     fn make_folder(&mut self, path: &str) -> Result<(), WriteError>
         // Nothing is printed.
         ensures silent { Self.printed self.new ≡ Self.printed self.old };
 
-    /// Makes a file of these bytes. It fails where the path is one of a file or a folder that is there; where it fails on
-    /// the way, a file with a front of the bytes may stay.
+    /// Makes a file of the given bytes. The call fails if a file or a folder of that path exists; if it fails while
+    /// the bytes are written, a file with a front of the bytes may remain.
     fn write(&mut self, path: &str, bytes: &[u8]) -> Result<(), WriteError>
         // Nothing is printed.
         ensures silent { Self.printed self.new ≡ Self.printed self.old };

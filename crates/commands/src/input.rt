@@ -6,11 +6,11 @@ use crate::fault::ToolFault;
 use crate::host::{Host, ReadError};
 use std::alloc::Global;
 
-/// All bytes of a file.
+/// Reads all bytes of a file.
 ///
 /// # Errors
 ///
-/// It can't be read, or the host refuses memory.
+/// The file can't be read, or the host is out of memory.
 pub fn read_input<H: Host>(alloc: Global, host: &mut H, path: &str) -> Result<Vec<u8>, ToolFault>
     ensures silent { H.printed host.new ≡ H.printed host.old }
 {

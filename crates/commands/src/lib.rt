@@ -1,4 +1,4 @@
-//! What the program does: scripts and jobs are run, and resource forks listed and checked.
+//! The work of the program: scripts and jobs are run, and resource forks are listed and checked.
 #![tactic(auto)]
 
 mod doing;

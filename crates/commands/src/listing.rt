@@ -1,4 +1,4 @@
-//! What a fork holds, as a person reads it.
+//! The listing of the content of a resource fork.
 
 ghost use Rattle.std.specs.Prelude.{◌≡◌, ◌<◌, ◌≤◌, ◌*◌, ◌++◌, OnOk, length, take};
 ghost use Rattle.std.specs.List.{flat_map};
@@ -16,13 +16,13 @@ use fork_format::{Content, Group, Ref, RefName, kind_of};
 use itoa::Buffer;
 use std::alloc::{AllocError, Global};
 
-/// So many bytes of lines are printed at a time.
+/// The number of bytes of lines that are gathered before they are printed.
 const MANY: usize = 65_536;
 
-/// No line has more bytes.
+/// The greatest number of bytes of a line.
 const LONGEST: usize = 600;
 
-/// The hexadecimal digit of a number below 16, in lower case.
+/// Returns the hexadecimal digit of a number below 16, in lower case.
 fn digit_of(value: u8) -> u8
     requires { value < 16 }
     ensures { result ≡ hex_digit value }
@@ -30,7 +30,7 @@ fn digit_of(value: u8) -> u8
     if value < 10 { b'0' + value } else { 87 + value }
 }
 
-/// The digits of a type.
+/// Returns the eight hexadecimal digits of a type.
 fn digits_of(kind: u32) -> [u8; 8]
     ensures { result ≡ hex (big_bytes 4 kind) }
 {
@@ -48,7 +48,7 @@ fn digits_of(kind: u32) -> [u8; 8]
     ]
 }
 
-/// Puts the two digits of each byte in their place.
+/// Writes the two digits of each byte, in order.
 fn put_digits(digits: &mut [u8; 510], bytes: &[u8])
     requires { length bytes.now ≤ 255 }
     ensures { take (2 * length bytes.now) digits.new ≡ hex bytes.now }
@@ -60,7 +60,7 @@ fn put_digits(digits: &mut [u8; 510], bytes: &[u8])
     }
 }
 
-/// Appends a name, or `-` for none.
+/// Appends a name, or `-` for no name.
 fn push_name(text: &mut Vec<u8>, name: &Option<RefName<'_>>) -> Result<(), AllocError>
     ensures { OnOk result (text.new.items ≡ text.old.items ++ name_listed (view_name name.now)) }
 {
@@ -75,7 +75,7 @@ fn push_name(text: &mut Vec<u8>, name: &Option<RefName<'_>>) -> Result<(), Alloc
     }
 }
 
-/// Appends the numbers of a resource, a blank before each.
+/// Appends the numbers of a resource, with a blank before each.
 fn push_numbers(text: &mut Vec<u8>, resource: &Ref<'_>) -> Result<(), AllocError>
     ensures { OnOk result (text.new.items ≡ text.old.items ++ numbers_listed (view_ref resource.now)) }
 {
@@ -87,7 +87,7 @@ fn push_numbers(text: &mut Vec<u8>, resource: &Ref<'_>) -> Result<(), AllocError
     text.extend_from_slice(Buffer::new().format(resource.datum.len()).as_bytes())
 }
 
-/// Appends the line of a resource, whose type has these digits.
+/// Appends the line of a resource, whose type has the given digits.
 fn push_resource(text: &mut Vec<u8>, digits: &[u8; 8], resource: &Ref<'_>) -> Result<(), AllocError>
     ensures { OnOk result (text.new.items ≡ text.old.items ++ line_behind digits.now (view_ref resource.now)) }
 {
@@ -99,7 +99,7 @@ fn push_resource(text: &mut Vec<u8>, digits: &[u8; 8], resource: &Ref<'_>) -> Re
     text.extend_from_slice(b"\n")
 }
 
-/// How many resources there are.
+/// Returns the number of resources.
 fn count_of(content: &Content<'_>) -> u128
     ensures { result ≡ length (refs_of (view content.now).groups) }
 {
@@ -110,7 +110,7 @@ fn count_of(content: &Content<'_>) -> u128
     count
 }
 
-/// Appends the line that stands above the resources.
+/// Appends the line that precedes the resources.
 fn push_head(text: &mut Vec<u8>, content: &Content<'_>) -> Result<(), AllocError>
     ensures { OnOk result (text.new.items ≡ text.old.items ++ head_line (view content.now)) }
 {
@@ -123,7 +123,7 @@ fn push_head(text: &mut Vec<u8>, content: &Content<'_>) -> Result<(), AllocError
     text.extend_from_slice(b"\n")
 }
 
-/// Prints the lines that wait, once they are many.
+/// Prints the gathered lines once they have `MANY` bytes.
 fn print_many<H: Host>(host: &mut H, lines: &mut Vec<u8>) -> Result<(), WriteError>
     ensures some { OnOk result (PrintsBut lines.old.items lines.new.items (H.printed host.old) (H.printed host.new)) }
     ensures front { PrintsFront lines.old.items (H.printed host.old) (H.printed host.new) }
@@ -135,7 +135,7 @@ fn print_many<H: Host>(host: &mut H, lines: &mut Vec<u8>) -> Result<(), WriteErr
     Ok(())
 }
 
-/// Prints the lines that wait and those of a type's resources, of which the last may be left waiting.
+/// Prints the gathered lines and those of a type's resources, of which the last may remain gathered.
 fn print_group<H: Host>(
     host: &mut H,
     lines: &mut Vec<u8>,
@@ -154,7 +154,7 @@ fn print_group<H: Host>(
     Ok(())
 }
 
-/// Prints the lines that wait and those of all resources, of which the last may be left waiting.
+/// Prints the gathered lines and those of all resources, of which the last may remain gathered.
 fn print_groups<H: Host>(
     host: &mut H,
     lines: &mut Vec<u8>,
@@ -171,11 +171,12 @@ fn print_groups<H: Host>(
     Ok(())
 }
 
-/// Prints the listing of a content: a line with the map's attributes and the numbers of types and of resources,
-/// then a line for each resource: its type, ID, attributes, length in bytes, and name. Types and names are
-/// `$` and hexadecimal digits in lower case; `-` stands for no name.
+/// Prints the listing of a content: a line with the map's attributes and the numbers of types and of resources, then a
+/// line for each resource: its type, ID, attributes, length in bytes, and name. Types and names are `$` and
+/// hexadecimal digits in lower case; `-` stands for no name.
 ///
-/// The lines are gathered in room that is taken before any is printed, and printed some 65,536 bytes at a time.
+/// The memory in which the lines are gathered is taken before any line is printed, and the lines are printed some
+/// 65,536 bytes at a time.
 pub fn print_listing<H: Host>(
     alloc: Global,
     host: &mut H,

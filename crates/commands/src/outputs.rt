@@ -16,13 +16,13 @@ use std::alloc::{AllocError, Global};
 /// A file that a run leaves.
 #[derive(Drop)]
 pub struct Output<'o> {
-    /// Its path.
+    /// The file's path.
     pub path: String,
-    /// Its bytes.
+    /// The file's bytes.
     pub bytes: &'o [u8],
 }
 
-/// Adds a name to a path, which has letters, digits and `_` alone.
+/// Appends a name, which has only letters, digits and `_`, to a path.
 fn push_letters(path: &mut String, letters: &[u8]) -> Result<(), AllocError>
     ensures { OnOk result (string_bytes path.new ≡ string_bytes path.old ++ encode_utf8_all letters.now) }
 {
@@ -32,7 +32,7 @@ fn push_letters(path: &mut String, letters: &[u8]) -> Result<(), AllocError>
     Ok(())
 }
 
-/// How the paths of an application's files begin.
+/// Returns the beginning of the paths of an application's files.
 fn app_path(alloc: Global, folder: &str, name: &Label) -> Result<String, AllocError>
     ensures { IfOk result (λ path. string_bytes path ≡ app_within folder.now name.now.0.items) }
 {
@@ -42,7 +42,7 @@ fn app_path(alloc: Global, folder: &str, name: &Label) -> Result<String, AllocEr
     Ok(path)
 }
 
-/// The path of an application's log.
+/// Returns the path of an application's log.
 fn log_path(alloc: Global, folder: &str, name: &Label) -> Result<String, AllocError>
     ensures { IfOk result (λ path. string_bytes path ≡ log_within folder.now name.now.0.items) }
 {
@@ -51,7 +51,7 @@ fn log_path(alloc: Global, folder: &str, name: &Label) -> Result<String, AllocEr
     Ok(path)
 }
 
-/// The path of the fork of an application's file, of the k-th, from 0.
+/// Returns the path of the fork of an application's `k`-th file, from 0.
 fn fork_path(alloc: Global, folder: &str, name: &Label, k: usize) -> Result<String, AllocError>
     ensures { IfOk result (λ path. string_bytes path ≡ fork_within folder.now name.now.0.items k) }
 {
@@ -63,7 +63,7 @@ fn fork_path(alloc: Global, folder: &str, name: &Label, k: usize) -> Result<Stri
     Ok(path)
 }
 
-/// Adds the log of an application that was launched.
+/// Adds the log of an application, if the application was launched.
 fn push_log<'o>(
     alloc: Global,
     folder: &str,
@@ -123,7 +123,7 @@ fn push_written<'o>(
     Ok(())
 }
 
-/// Adds the written forks of an application that was launched.
+/// Adds the forks that were written of an application, if the application was launched.
 fn push_forks_of<'o>(
     alloc: Global,
     folder: &str,
@@ -139,7 +139,7 @@ fn push_forks_of<'o>(
     }
 }
 
-/// Adds the written forks of the applications that were launched.
+/// Adds the forks that were written of the applications that were launched.
 fn push_forks<'o>(
     alloc: Global,
     folder: &str,
@@ -155,7 +155,7 @@ fn push_forks<'o>(
     Ok(())
 }
 
-/// The path of the desk's log.
+/// Returns the path of the desk's log.
 fn desk_path(alloc: Global, folder: &str) -> Result<String, AllocError>
     ensures { IfOk result (λ path. string_bytes path ≡ desk_within folder.now) }
 {
@@ -164,8 +164,8 @@ fn desk_path(alloc: Global, folder: &str) -> Result<String, AllocError>
     Ok(path)
 }
 
-/// The files that a run leaves in a folder, in the order in which they are written: the desk's log, the logs of the
-/// applications that were launched, and the forks that were written.
+/// Returns the files that a run leaves in a folder, in the order in which they are written: the desk's log, the logs
+/// of the applications that were launched, and the forks that were written.
 pub fn outputs_of<'o>(
     alloc: Global,
     folder: &str,

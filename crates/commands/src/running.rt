@@ -17,8 +17,8 @@ use raw_zone::RegionZones;
 use script_text::{JobText, read_job};
 use std::alloc::Global;
 
-/// What is asked for of a job: its path and the folder for what it leaves, as they were given, and whether it is told how
-/// far the job has come.
+/// What is asked for of a job: its path and the folder for what it leaves, as they were given, and whether the
+/// progress of the job is to be reported.
 #[derive(Clone, Copy)]
 pub struct Errand<'a> {
     pub job: &'a str,
@@ -26,7 +26,7 @@ pub struct Errand<'a> {
     pub watched: bool,
 }
 
-/// What a job's text says.
+/// Reads the text of a job.
 fn job_text<'t>(alloc: Global, path: &str, text: &'t [u8]) -> Result<JobText<'t>, ToolFault>
     ensures memory { IfOk result (λ job. IsMemory job.memory) }
     ensures order { IfOk result (λ job. AreInOrder (map input_seen job.inputs.items)) }
@@ -38,12 +38,13 @@ fn job_text<'t>(alloc: Global, path: &str, text: &'t [u8]) -> Result<JobText<'t>
     }
 }
 
-/// What a job leaves, or why it doesn't run to its end. Its memory is one region. The host is told how far it has come where that is asked for.
+/// Runs a job and returns what it leaves, or why the job does not run to its end. The job's memory is one region. The
+/// progress is reported to the host if `watched` is set.
 fn ran<H: Host>(alloc: Global, host: &mut H, job: &Job, watched: bool) -> Result<Outcome, RunFault>
     requires memory { IsMemory job.now.memory }
     requires few { length job.now.apps.items ≤ 64 }
 
-    // It is what the definition of the desk gives.
+    // The outcome is what the definition of the desk says.
     ensures outcome { IsRun (run_of job.now) result }
 
     // Nothing is printed.
@@ -63,7 +64,7 @@ fn ran<H: Host>(alloc: Global, host: &mut H, job: &Job, watched: bool) -> Result
     outcome
 }
 
-/// What a job leaves, whose System is read at this path.
+/// Runs a job whose System file is read at the path `system`, and returns what the job leaves.
 fn outcome_of<H: Host>(
     alloc: Global,
     host: &mut H,
@@ -96,7 +97,7 @@ fn make_folder<H: Host>(alloc: Global, host: &mut H, path: &str) -> Result<(), T
     }
 }
 
-/// Writes files, up to the first that can't be written.
+/// Writes files, up to the first file that can't be written.
 fn write_files<H: Host>(
     alloc: Global,
     host: &mut H,
@@ -113,13 +114,14 @@ fn write_files<H: Host>(
     Ok(())
 }
 
-/// Runs a job: reads it, and what its lines name, in their order; lets its events happen; and writes what it leaves into
-/// a new folder.
+/// Runs a job: reads the job, and what its lines name, in their order; performs its events; and writes what it leaves
+/// into a new folder.
 ///
 /// # Errors
 ///
-/// A file that can't be read, the first faulty line of the job or of a script, and a System that is no fork: nothing is
-/// written then. A folder that is there already, or a file that can't be written: no other is written behind it.
+/// A file that can't be read, the first faulty line of the job or of a script, or a System file that is no resource
+/// fork: then nothing is written. A folder that exists already, or a file that can't be written: then no other file is
+/// written after it.
 pub fn run_job<H: Host>(alloc: Global, host: &mut H, errand: Errand<'_>) -> Result<(), ToolFault>
     ensures silent { H.printed host.new ≡ H.printed host.old }
 {

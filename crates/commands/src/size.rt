@@ -1,4 +1,4 @@
-//! The size of a partition, as a person writes it.
+//! The size of a partition, as it is given on the command line.
 
 ghost use Rattle.std.specs.Prelude.{◌≡◌, ◌≤◌, ◌%◌};
 ghost use Rattle.std.specs.List.{list_all};
@@ -6,10 +6,10 @@ ghost use Rattle.std.specs.Option.{option_map};
 ghost use Rattle.std.specs.Char.{is_ascii_digit};
 ghost use Rattle.commands.specs.Size.{partition_size, within_limits};
 
-/// The fewest bytes of a partition.
+/// The least number of bytes of a partition.
 const SMALLEST: u32 = 512;
 
-/// The most bytes of a partition.
+/// The greatest number of bytes of a partition.
 const LARGEST: u32 = 134_217_728;
 
 /// The size of a partition in bytes: a multiple of 16 within the limits.
@@ -28,7 +28,7 @@ fn has_digits_only(text: &str) -> bool
 }
 
 impl PartitionSize {
-    /// A number of bytes within the limits, rounded down to a multiple of 16.
+    /// Returns a number of bytes rounded down to a multiple of 16, if the number is within the limits.
     fn within_limits(size: u32) -> Option<PartitionSize>
         ensures { option_map (λ s. s.bytes) result ≡ within_limits size }
     {
@@ -41,7 +41,7 @@ impl PartitionSize {
         }
     }
 
-    /// The size that a text of decimal digits writes, rounded down to a multiple of 16.
+    /// Reads the size in a text of decimal digits, rounded down to a multiple of 16.
     pub fn read(text: &str) -> Option<PartitionSize>
         ensures { option_map (λ s. s.bytes) result ≡ partition_size text.now }
     {

@@ -21,14 +21,14 @@ use std::alloc::{AllocError, Global};
 /// The path that stands for the standard output.
 const STANDARD_OUTPUT: &str = "-";
 
-/// What is done with the bytes of a file.
+/// The work that is done with the bytes of a file.
 #[derive(Clone, Copy)]
 pub enum Work {
-    /// They are run as a script in a partition of this size.
+    /// The bytes are run as a script in a partition of this size.
     Script(PartitionSize),
-    /// They are listed as a fork.
+    /// The bytes are listed as a resource fork.
     Map,
-    /// They are told to be the canonical fork of their content, or another one.
+    /// The bytes are compared with the canonical fork of their content.
     Check,
 }
 
@@ -38,22 +38,22 @@ pub struct Task<'a> {
     pub work: Work,
     /// The file's path as it was given.
     pub path: &'a str,
-    /// Whether it is told how far a script has come.
+    /// Whether the progress of a script is to be reported.
     pub watched: bool,
 }
 
 /// What a task prints of the bytes of its file.
 #[derive(Drop)]
 pub enum Output<'b> {
-    /// A script's transcript.
+    /// The transcript of a script.
     Transcript(Vec<u8>),
-    /// The listing of a fork's content, which is made as it is printed, from the fork's bytes.
+    /// The listing of a fork's content, which is made from the fork's bytes as it is printed.
     Listing(Content<'b>),
-    /// The line of a fork's form.
+    /// The line with a fork's form.
     Form(Form),
 }
 
-/// A script's fault, or a job's, with its path.
+/// Returns the fault of a script or of a job, with its path.
 pub fn script_fault(alloc: Global, path: &str, fault: ScriptFault) -> Result<ToolFault, AllocError>
     ensures { IfOk result (λ told. message_of told ≡ script_message path.now fault.line fault.kind) }
 {
@@ -67,7 +67,7 @@ pub fn script_fault(alloc: Global, path: &str, fault: ScriptFault) -> Result<Too
     }
 }
 
-/// A fork's fault, with the fork's path.
+/// Returns the fault of a resource fork, with its path.
 fn fork_fault(alloc: Global, path: &str, fault: ForkFault) -> Result<ToolFault, AllocError>
     ensures { IfOk result (λ told. message_of told ≡ fork_message path.now fault) }
 {
@@ -80,7 +80,7 @@ fn fork_fault(alloc: Global, path: &str, fault: ForkFault) -> Result<ToolFault, 
     }
 }
 
-/// The fault of what could not be written, with its path.
+/// Returns the fault of output that could not be written, with its path.
 pub fn write_fault(alloc: Global, path: &str, error: WriteError) -> Result<ToolFault, AllocError>
     ensures { IfOk result (λ told. message_of told ≡ write_message path.now error) }
 {
@@ -92,7 +92,7 @@ pub fn write_fault(alloc: Global, path: &str, error: WriteError) -> Result<ToolF
     }
 }
 
-/// The transcript of a script.
+/// Runs a script and returns its transcript.
 fn script_output<'b, W: Watch>(
     alloc: Global,
     size: PartitionSize,
@@ -110,7 +110,7 @@ fn script_output<'b, W: Watch>(
     }
 }
 
-/// The listing of a fork.
+/// Returns the listing of a resource fork.
 fn map_output<'b>(alloc: Global, path: &str, bytes: &'b [u8]) -> Result<Output<'b>, ToolFault>
     ensures output { IfOk result (λ output. IsListingOf bytes.now (output_text output)) }
     ensures fault { IfErr result (λ fault. IsForkFault path.now bytes.now (message_of fault)) }
@@ -121,7 +121,7 @@ fn map_output<'b>(alloc: Global, path: &str, bytes: &'b [u8]) -> Result<Output<'
     }
 }
 
-/// What a fork is to its content.
+/// Returns the form of a resource fork: whether it is the canonical fork of its content.
 fn check_output<'b>(alloc: Global, path: &str, bytes: &'b [u8]) -> Result<Output<'b>, ToolFault>
     ensures output { IfOk result (λ output. IsFormText bytes.now (output_text output)) }
     ensures fault { IfErr result (λ fault. IsForkFault path.now bytes.now (message_of fault)) }
@@ -132,18 +132,19 @@ fn check_output<'b>(alloc: Global, path: &str, bytes: &'b [u8]) -> Result<Output
     }
 }
 
-/// What a task prints of the bytes of its file. The host is told how far a script has come, where that is asked for.
+/// Returns what a task prints of the bytes of its file. The progress of a script is reported to the host if the task
+/// asks for that.
 ///
 /// # Errors
 ///
-/// The fault of the bytes, with the file's path. Where the host refuses memory nothing is said of them.
+/// The fault of the bytes, with the file's path. If the host is out of memory nothing is said of the bytes.
 pub fn output_of<'b, H: Host>(
     alloc: Global,
     host: &mut H,
     task: Task<'_>,
     bytes: &'b [u8],
 ) -> Result<Output<'b>, ToolFault>
-    // A script's transcript, a fork's listing, or the line that tells a fork's form.
+    // A script's transcript, a fork's listing, or the line with a fork's form.
     ensures output { IfOk result (λ output. IsPrinted task.entry.work bytes.now (output_text output)) }
 
     // The script's first faulty line, or the result code of bytes that are no fork.
@@ -160,7 +161,7 @@ pub fn output_of<'b, H: Host>(
     }
 }
 
-/// Prints an output: a listing piece by piece, and all else at once.
+/// Prints an output: a listing in pieces, and any other output as a whole.
 fn print_output<H: Host>(alloc: Global, host: &mut H, output: &Output<'_>) -> Result<(), WriteError>
     ensures all { OnOk result (H.printed host.new ≡ append_known (H.printed host.old) (output_text output.now)) }
     ensures front { PrintsFront (output_text output.now) (H.printed host.old) (H.printed host.new) }
@@ -172,23 +173,23 @@ fn print_output<H: Host>(alloc: Global, host: &mut H, output: &Output<'_>) -> Re
     }
 }
 
-/// Does a task: prints what it prints of the bytes of its file. Nothing is printed before it is known that they
-/// have no fault.
+/// Does a task: prints what it prints of the bytes of its file. Nothing is printed before the bytes are known to have
+/// no fault.
 ///
 /// # Errors
 ///
-/// The fault of the bytes, with the file's path. Where the standard output fails, or the host refuses memory, a front
-/// of what is to be printed may have been.
+/// The fault of the bytes, with the file's path. If the standard output fails, or the host is out of memory, a front
+/// of what is to be printed may have been printed.
 pub fn do_task<H: Host>(
     alloc: Global,
     host: &mut H,
     task: Task<'_>,
     bytes: &[u8],
 ) -> Result<(), ToolFault>
-    // A script's transcript, a fork's listing, or the line that tells a fork's form: that and nothing else.
+    // A script's transcript, a fork's listing, or the line with a fork's form is printed, and nothing else.
     ensures printed { OnOk result (Prints task.entry.work bytes.now (H.printed host.old) (H.printed host.new)) }
 
-    // Faulty bytes, of which nothing is printed, or a print that failed.
+    // The bytes are faulty and nothing is printed, or printing failed.
     ensures fault { IfErr result (λ fault. IsRefusal task.entry.work task.entry.path.now bytes.now
         (H.printed host.old) (H.printed host.new) (message_of fault)) }
 {

@@ -1,4 +1,4 @@
-//! The words of the command line. Only this module sees the parser.
+//! The words of the command line. No other module uses the parser.
 
 use crate::fault::ToolFault;
 use crate::running::Errand;
@@ -148,7 +148,7 @@ fn argument<'a>(alloc: Global, name: &'a str, help: &'a str) -> Arg<'a> {
         .help(help)
 }
 
-/// The flag `--progress`.
+/// Returns the flag `--progress`.
 fn progress<'a>(alloc: Global) -> Arg<'a> {
     Arg::new(alloc, PROGRESS)
         .long(PROGRESS)
@@ -200,7 +200,7 @@ fn program<'a>(alloc: Global) -> Result<Command<'a>, AllocError> {
         .subcommand(fork_command(alloc, "check", CHECK_ABOUT, CHECK_EXAMPLES)?)
 }
 
-/// What the parser says, as a fault.
+/// Returns an error of the parser as a fault.
 fn usage(alloc: Global, error: &Error) -> ToolFault {
     match error.kind() {
         ErrorKind::OutOfMemory => ToolFault::HostMemory,
@@ -211,7 +211,7 @@ fn usage(alloc: Global, error: &Error) -> ToolFault {
     }
 }
 
-/// Reports a mistake in the words that the parser does not know, in the parser's form.
+/// Returns the fault of a mistake that the parser doesn't find, in the form of the parser's own errors.
 fn mistake(alloc: Global, command: Command<'_>, message: &str) -> ToolFault {
     let mut command = command;
     match command.error(ErrorKind::ValueValidation, message) {
@@ -237,7 +237,7 @@ pub enum Request<'a> {
     Run(Errand<'a>),
 }
 
-/// A word that isn't UTF-8.
+/// Returns the fault of a word that isn't UTF-8.
 pub fn not_utf8(alloc: Global) -> ToolFault {
     match program(alloc) {
         Ok(command) => mistake(
@@ -249,7 +249,7 @@ pub fn not_utf8(alloc: Global) -> ToolFault {
     }
 }
 
-/// The value of an argument that the parser asks for.
+/// Returns the value of an argument that the parser requires.
 fn value<'a>(matches: &ArgMatches<'a>, name: &str) -> &'a str {
     matches.get_str(name).unwrap_or("")
 }

@@ -16,17 +16,17 @@ use raw_region::Region;
 use script_text::{FaultKind, Script, ScriptFault, read_script};
 use std::alloc::{AllocError, Global};
 
-/// What a fork is to its content.
+/// The form of a resource fork: what its bytes are to its content.
 #[derive(Clone, Copy)]
 pub enum Form {
-    /// It is the one fork that is written of its content.
+    /// The bytes are the one fork that is written of their content.
     Canonical,
-    /// It is read, but is written otherwise, or not at all.
+    /// The bytes are read as a fork, but their content is written otherwise, or not at all.
     Accepted,
 }
 
 impl Form {
-    /// The line that tells it.
+    /// Returns the line that is printed for the form.
     pub fn text(self) -> &'static [u8]
         ensures { result.now ≡ text_of self }
     {
@@ -37,26 +37,27 @@ impl Form {
     }
 }
 
-/// That the host has no memory for a script.
+/// The fault of a script for which the host is out of memory.
 const NO_MEMORY: ScriptFault = ScriptFault {
     line: 0,
     kind: FaultKind::HostMemory,
 };
 
-/// The transcript of a script in a fresh partition, which is a region of its own. The watch is told how many lines are done.
+/// Runs a script in a fresh partition, which is a region of its own, and returns the script's transcript. `watch` is
+/// informed of the number of lines that are done.
 pub fn transcript_of<W: Watch>(
     alloc: Global,
     size: PartitionSize,
     text: &[u8],
     watch: &mut W,
 ) -> Result<Vec<u8>, ScriptFault>
-    // The script's lines are run to their end.
+    // The transcript is that of the script's lines, run to their end.
     ensures transcript { IfOk result (λ out. IsTranscriptOf size.bytes text.now out.items) }
 
-    // The first faulty line, or no host memory.
+    // The fault is the first faulty line, or that the host is out of memory.
     ensures fault { IfErr result (λ f. FailsAt f.line f.kind (script_of text.now)) }
 
-    // Being watched prints nothing.
+    // Watching the run prints nothing.
     ensures silent { W.printed watch.new ≡ W.printed watch.old }
 {
     let script = read_script(alloc, text)?;
@@ -71,7 +72,7 @@ pub fn transcript_of<W: Watch>(
     }
 }
 
-/// Whether bytes are the canonical fork of a content.
+/// Reports whether bytes are the canonical fork of a content.
 fn is_canonical(alloc: Global, content: &Content<'_>, bytes: &[u8]) -> Result<bool, AllocError>
     ensures { IfOk result (λ b. IsTrue b ↔ (IsTrue (fits (view content.now))
         × (bytes.now ≡ canon (view content.now)))) }
@@ -83,7 +84,7 @@ fn is_canonical(alloc: Global, content: &Content<'_>, bytes: &[u8]) -> Result<bo
     }
 }
 
-/// What bytes are to a content.
+/// Returns what bytes are to a content.
 fn form_for(alloc: Global, content: &Content<'_>, bytes: &[u8]) -> Result<Form, AllocError>
     ensures { IfOk result (λ f. TellsForm f (view content.now) bytes.now) }
 {
@@ -94,12 +95,12 @@ fn form_for(alloc: Global, content: &Content<'_>, bytes: &[u8]) -> Result<Form, 
     }
 }
 
-/// What a fork is to its content.
+/// Returns the form of a resource fork.
 pub fn form_of(alloc: Global, bytes: &[u8]) -> Result<Form, ForkFault>
     // The form is what the bytes are to the content that they spell.
     ensures form { IfOk result (λ form. IsFormOf bytes.now form) }
 
-    // No bytes, or bytes that spell no content.
+    // The errors are no bytes, and bytes that spell no content.
     ensures empty { (result ≡ Err ForkFault.Empty) ↔ (bytes.now ≡ []) }
     ensures bad_map { (result ≡ Err ForkFault.BadMap) ↔ ((bytes.now ≢ []) × IsUnspelled bytes.now) }
 {

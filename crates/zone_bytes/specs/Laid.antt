@@ -1,4 +1,4 @@
--- That a zone lies in bytes.
+-- The layout of a zone in bytes.
 use Rattle.std.specs.Prelude.{ℕ, List}
 use Rattle.windows.specs.declared.Window.{Window}
 use Rattle.windows.specs.Writes.{piece}

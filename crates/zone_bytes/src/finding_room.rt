@@ -24,7 +24,7 @@ use raw_region::Part;
 pub enum Scanned {
     /// The search has found room at this place.
     Found(u32),
-    /// The search has reached the zone's end, or has no purges left and stands after a block that is not free.
+    /// The search has reached the zone's end, or has no purges left and is not in a stretch of free blocks.
     On(RoomScan),
 }
 

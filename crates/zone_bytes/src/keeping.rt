@@ -28,9 +28,9 @@ use raw_region::Part;
 const GROUPS: usize = LANDMARKS / GROUP;
 
 /// Landmarks of a zone: places at which blocks begin, one for each page of the zone's bytes. Each has a bound on the
-/// size of each free block up to the next landmark, the number of free bytes there, and whether a run ends there; and
-/// each group of landmarks has a bound on the free blocks. Landmarks lie beside the zone's bytes, and can be thrown
-/// away and made anew at any time.
+/// size of each free block up to the next landmark, and a tally of the blocks there: how many bytes are free, and
+/// whether a run ends there. Each group of landmarks has a bound on its free blocks. Landmarks lie beside the zone's
+/// bytes, and can be thrown away and made anew at any time.
 #[derive(Drop)]
 pub struct Landmarks {
     marks: [Landmark; LANDMARKS],
@@ -180,8 +180,8 @@ impl Landmarks {
         }
     }
 
-    /// Lays the landmarks from the next one on anew, up to the first one above `hi` that stands where it is to stand.
-    /// Those from the index `first` up to the next one were laid before.
+    /// Lays the landmarks from the next one on anew, up to the first one at or above `hi` that stands where it is to
+    /// stand. The landmarks from the index `first` up to the next one were laid before.
     fn lay(&mut self, part: &Part, next: NextMark, first: usize, page: u32, hi: u32)
         requires sound { (first : ℕ) × (unused : ℕ) × IsSound part.now.bytes first unused }
         requires laid { AreLaid next.index next.at (zone_in part.now.bytes) self.old.marks }

@@ -318,7 +318,7 @@ pub fn lay_edges(
 }
 
 /// Lays the landmarks from the next one on anew, each at the first edge in its page or above it, up to the first
-/// landmark above `hi` that stands there already. Returns the index of that landmark.
+/// landmark at or above `hi` that stands there already. Returns the index of that landmark.
 pub fn lay_marks(
     marks: &mut [Landmark],
     tops: &mut [u32],

@@ -28,7 +28,7 @@ struct Pass {
     freed: u32,
 }
 
-/// Returns the purges left after a block that is free or is purged; `None` for a block that stays.
+/// Returns the purges left after a block that counts as free or is purged; `None` for a block that stays.
 fn left_after(block: Seen, left: u32, sparing: Sparing) -> Option<u32>
     ensures { (b : Block) → seen b ≡ block → result ≡ left_past (spared sparing) left (opened_block sparing b) }
 {
