@@ -4,7 +4,7 @@ use Rattle.mac_words.specs.Size.{padded}
 use Rattle.block_store.specs.declared.flags.Flags.{Flags}
 use Rattle.block_store.specs.declared.measures.TheConstants.{MASTERS_SIZE}
 
--- The blocks of a heap zone, from bottom to top. Inside Macintosh: Memory, chapter 1, "Heap Zones", and chapter 2,
+-- The blocks of a heap zone, from bottom to top. Inside Macintosh: Memory, chapter 2, "Heap Zones", and chapter 2,
 -- "Blocks" and "Heap Zones".
 
 -- a new block is unlocked and unpurgeable

@@ -4,7 +4,7 @@ use crate::flags::Flags;
 
 /// The handles that a call names, by their slots, while room is sought for it.
 ///
-/// *Inside Macintosh: Memory*, chapter 1, "Memory Reservation" and "Purging and Reallocating Blocks".
+/// *Inside Macintosh: Memory*, chapter 1, "Memory Reservation" and "Purging and Reallocating Relocatable Blocks".
 #[derive(Clone, Copy, Debug, PartialEq, Eq)]
 pub enum Sparing {
     /// Any block may be emptied that can be.

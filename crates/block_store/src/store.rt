@@ -28,7 +28,7 @@ use std::alloc::AllocError;
 /// The blocks of a zone, and the slots through which its relocatable blocks are reached. A place is a
 /// block's distance in bytes from the zone's bottom; a run is named by the place of its bottom.
 ///
-/// *Inside Macintosh: Memory*, chapter 1, "Heap Zones" and "Master Pointers".
+/// *Inside Macintosh: Memory*, chapter 2, "Heap Zones", and chapter 1, "Relocatable and Nonrelocatable Blocks".
 pub trait BlockStore {
     /// Whether its calls may answer that the host has no memory. A store gives the constant, and the value
     /// that clauses name: both are proved equal.

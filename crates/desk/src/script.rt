@@ -19,7 +19,7 @@ use std::alloc::{AllocError, Global};
 /// tables say. If a call finds no room, the lines of its grow-zone script precede its own line. The zone lies in the
 /// bytes of the region that is returned. `watch` is informed of the number of lines that are done.
 ///
-/// *Inside Macintosh: Memory*, chapter 1, "Organization of Memory".
+/// *Inside Macintosh: Memory*, chapter 1, "Organization of Memory in an Application Partition".
 ///
 /// # Errors
 ///

@@ -140,7 +140,7 @@ impl Look for FreeBlock {
 /// Returns how many blocks are purged, lowest first, until a free block of `bytes` bytes stands; the number of all
 /// that may be purged where no such block stands even then, or where `bytes` is `None`.
 ///
-/// *Inside Macintosh: Memory*, chapter 1, "Purging and Reallocating Blocks".
+/// *Inside Macintosh: Memory*, chapter 1, "Purging and Reallocating Relocatable Blocks".
 fn purges_for<S: BlockStore>(store: &S, bytes: Option<u32>) -> u32
     ensures { result ≡ blocks_purged bytes (S.zone store.now) }
 {

@@ -1,5 +1,5 @@
 -- The header of a block: the physical size with the tag, the logical size, the slot, and the flags (Inside Macintosh:
--- Memory, chapter 1, "Block Headers").
+-- Memory, chapter 2, "Block Headers").
 use Rattle.std.specs.Prelude.{ℕ, ◌+◌, List}
 use Rattle.heap_words.specs.Words.{header}
 use Rattle.heap_words.specs.declared.header.Tag.{Tag}

@@ -1,4 +1,4 @@
--- The words of a zone: four bytes each, the highest first (Inside Macintosh: Memory, chapter 1, "Block Headers").
+-- The words of a zone: four bytes each, the highest first (Inside Macintosh: Memory, chapter 2, "Block Headers").
 use Rattle.std.specs.Prelude.{ℕ, ◌++◌, List}
 use Rattle.byteorder.specs.Endian.{big_bytes, big_number}
 use Rattle.windows.specs.Writes.{piece}

@@ -24,7 +24,7 @@ pub enum Tag {
     Relocatable,
 }
 
-/// The four words that precede the content of a block (Inside Macintosh: Memory, chapter 1, "Block Headers").
+/// The four words that precede the content of a block (Inside Macintosh: Memory, chapter 2, "Block Headers").
 #[derive(Clone, Copy, Debug, PartialEq, Eq, Drop)]
 pub struct Header {
     /// The physical size: all bytes of the block, including its header. It is a multiple of `UNIT`.

@@ -12,7 +12,7 @@ use windows::Window;
 /// A region in whose parts zones are opened. The bytes that a zone leaves in its window when the zone is closed stay
 /// there until a window that overlaps it is opened.
 ///
-/// *Inside Macintosh: Processes*, chapter 1, and *Memory*, chapter 1, "Organization of Memory".
+/// *Inside Macintosh: Processes*, chapter 1, and *Memory*, chapter 1, "Organization of Memory in an Application Partition".
 pub struct RegionZones {
     region: Region,
     ghost small: { length region.bytes ≤ GREATEST_ZONE },
