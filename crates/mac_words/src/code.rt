@@ -48,8 +48,8 @@ impl OsErr {
     /// `inputOutOfBounds` (-190) says that an offset is past the end of a resource; no call of this project returns
     /// this code.
     pub const OFFSET: OsErr = OsErr(-190);
-    /// `resNotFound` (-192) is returned when a search finds no resource, or when a name in the call is bound to no
-    /// resource's handle.
+    /// `resNotFound` (-192) is returned when a search finds no resource, or when a name in the call is bound to no handle
+    /// or, but for `AddResource` and `RemoveResource`, to no resource's handle.
     pub const RES_NOT_FOUND: OsErr = OsErr(-192);
     /// `resFNotFound` (-193) is returned when no resource fork is open under the number in the call.
     pub const RES_FILE_NOT_FOUND: OsErr = OsErr(-193);

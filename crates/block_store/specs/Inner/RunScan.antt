@@ -32,7 +32,7 @@ meets number run = any_run number || has (is_wanted number) run
 abbrev pub suits : Option ℕ → ℕ → List Block → Bool
 suits number p run = meets number run && has_free p run
 
--- Whether the run has the block that it must have, after one block more.
+-- The run has the block that it must have, where `met` says this of the blocks before this one.
 abbrev pub met_after : Option ℕ → Bool → Block → Bool
 met_after number met (Free n) = met
 met_after number met (Fixed id content) = met
