@@ -68,6 +68,6 @@ pub enum ResourceCall {
     GetResourceSizeOnDisk(Label),
     /// Sets whether the calls that return a handle also read the resource's stored data.
     SetResLoad(bool),
-    /// Returns the result code of the last Resource Manager call that sets it.
+    /// Returns the result code of the last Resource Manager call before this one; `ResError` itself sets no code.
     ResError,
 }
