@@ -10,96 +10,96 @@ use Rattle.block_store.specs.Run.{Stretch, RunSpot, segments, runs, joined, has,
 use Rattle.block_store.specs.Room.{spot}
 use Rattle.block_store.specs.Rest.{falling}
 
--- The largest that can be had, and compaction. Inside Macintosh: Memory, chapter 2, "Freeing Memory": MaxBlock and
--- CompactMem.
+-- The largest block that can be allocated, and compaction. Inside Macintosh: Memory, chapter 2, "Freeing Memory":
+-- MaxBlock and CompactMem.
 
--- the largest of what each comes to; 0 where there is none
+-- The largest of the numbers of the items; 0 where there is no item.
 abbrev pub largest : {A : Type 0} → (A → ℕ) → List A → ℕ
 largest of [] = 0
 largest of (x ∷ xs) = max (of x) (largest of xs)
 
--- the bytes of the largest Free block
+-- The size of the largest free block of the zone; 0 where there is no free block.
 abbrev pub largest_free : List Block → ℕ
 largest_free zone = largest free_of zone
 
--- the largest free sum of a run
+-- The greatest number of free bytes in one run of the zone.
 abbrev pub largest_run : List Block → ℕ
 largest_run zone = largest free_sum (runs zone)
 
--- what follows a run
+-- The blocks that follow a run.
 abbrev pub beyond : List Stretch → List Block
 beyond [] = []
 beyond (p ∷ parts) = p.barrier ∷ joined p.run parts
 
--- the place behind the first of the blocks that begin at a place; none where there is none
+-- The place above the first of the blocks that begin at a place; none where there is no block.
 abbrev pub place_behind : ℕ → List Block → Option ℕ
 place_behind place [] = None
 place_behind place (b ∷ above) = Some (place + size b)
 
--- the place of the run above a run: behind the block that ends it
+-- The place of the run above a run: above the block that ends the run.
 abbrev pub next_run : RunSpot → Option ℕ
 next_run r = place_behind (sizes r.below + sizes r.run) r.above
 
--- a run and the parts above it, of which the k lowest runs are settled
+-- A run and what stands above it, with the k lowest runs compacted.
 abbrev pub settled_runs : ℕ → List Block → List Stretch → List Block
 settled_runs zero run parts = joined run parts
 settled_runs (suc k) run [] = settle run
 settled_runs (suc k) run (p ∷ parts) = settle run ++ p.barrier ∷ settled_runs k p.run parts
 
--- the zone with its k lowest runs settled
+-- The zone with its k lowest runs compacted.
 abbrev pub settled : ℕ → List Block → List Block
 settled k zone = settled_runs k (segments zone).first (segments zone).rest
 
--- the blocks that move where the k lowest runs are settled
+-- The number of blocks that move when the k lowest runs are compacted.
 abbrev pub falls : ℕ → List (List Block) → ℕ
 falls zero runs = 0
 falls (suc k) [] = 0
 falls (suc k) (run ∷ runs) = falling run + falls k runs
 
--- the least of 0 .. n that passes; n where none does
+-- The least of 0 .. n that passes the test; n where none of them does.
 abbrev pub least_or_last : (ℕ → Bool) → ℕ → ℕ
 least_or_last test zero = 0
 least_or_last test (suc n) = if test 0 then 0 else suc (least_or_last (λ k. test (suc k)) n)
 
--- there is a Free block of so many bytes; there is none of no size
+-- The zone has a free block of at least p bytes; where no size is given, it has none.
 abbrev pub has_room : Option ℕ → List Block → Bool
 has_room None zone = false
 has_room (Some p) zone = has (is_room p) zone
 
--- how many of the lowest runs are settled until a Free block of so many bytes stands, at most all
+-- The number of runs that are compacted, lowest first, until there is a free block of at least p bytes: at most all.
 abbrev pub runs_settled : Option ℕ → List Block → ℕ
 runs_settled p zone = least_or_last (λ k. has_room p (settled k zone)) (length (runs zone))
 
--- compaction until a Free block of so many bytes stands
+-- The zone compacted until there is a free block of at least p bytes.
 abbrev pub compacted : Option ℕ → List Block → List Block
 compacted p zone = settled (runs_settled p zone) zone
 
--- the distance of the block of a slot from the zone's bottom
+-- The distance of the block of a master pointer from the bottom of the zone.
 abbrev pub distance : ℕ → List Block → Option ℕ
 distance number zone = option_map (λ s. sizes s.below) (spot (is_relocatable number) zone)
 
--- there are both distances, and the first is less
+-- There are both distances, and the first is less than the second.
 abbrev pub is_less : Option ℕ → Option ℕ → Bool
 is_less None was = false
 is_less (Some is) None = false
 is_less (Some is) (Some was) = nat_lt is was
 
--- a relocatable block stands lower in the new list than in the old one
+-- The relocatable block stands lower in the new list than in the old one.
 abbrev pub stands_lower : List Block → List Block → Block → Bool
 stands_lower old new (Free n) = false
 stands_lower old new (Fixed id content) = false
 stands_lower old new Masters = false
 stands_lower old new (Relocatable id flags content) = is_less (distance id new) (distance id old)
 
--- how many relocatable blocks of the old list stand lower in the new one
+-- The number of relocatable blocks of the old list that stand lower in the new one.
 abbrev pub lowered : List Block → List Block → ℕ
 lowered old new = count (stands_lower old new) old
 
--- no block is higher than it was
+-- No relocatable block stands higher in the new list than in the old one.
 abbrev pub NoneRises : List Block → List Block → Type 0
 NoneRises old new = (number was is : ℕ) → distance number old ≡ Some was → distance number new ≡ Some is → is ≤ was
 
--- each Free block takes a multiple of 16 bytes; all other blocks do by their sizes
+-- The size of each free block is a multiple of 16 bytes; the physical size of any other block is one by its definition.
 abbrev pub Aligned : List Block → Type 0
 Aligned [] = Unit {0}
 Aligned (b ∷ above) = (free_of b % UNIT ≡ 0) × Aligned above
@@ -108,7 +108,7 @@ pub Aligned-prop : (zone : List Block) → IsProp (Aligned zone)
 Aligned-prop [] = hlevel
 Aligned-prop (b ∷ above) = hlevel (Aligned-prop above, ℕ_set)
 
--- each Fixed block, of blocks that begin at a place, is named by its own place
+-- Each nonrelocatable block is named by its own place, where the blocks begin at this place.
 abbrev pub Placed : ℕ → List Block → Type 0
 Placed place [] = Unit {0}
 Placed place (Free n ∷ above) = Placed (place + n) above

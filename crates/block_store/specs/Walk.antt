@@ -6,14 +6,14 @@ use Rattle.block_store.specs.Seen.{seen}
 use Rattle.block_store.specs.declared.sparing.Seen.{Seen}
 use Rattle.block_store.specs.declared.sparing.Seen.TheVariants as see
 
--- How a walk tells blocks.
+-- The blocks that a walk reads.
 
--- the first of the blocks is told, and those above it are still to come
+-- The first of the blocks is read, and the blocks above it are still to be read; none is read where there is no block.
 abbrev pub Tells : List Block → Option Seen → List Block → Type 0
 Tells [] told after = (told ≡ None) × (after ≡ [])
 Tells (b ∷ above) told after = (told ≡ Some (seen b)) × (after ≡ above)
 
--- the bytes that a block takes, of which so much was seen
+-- The physical size of a block, from what is seen of the block.
 abbrev pub seen_size : Seen → ℕ
 seen_size (see.Free n) = n
 seen_size (see.Fixed n) = padded n

@@ -1,4 +1,4 @@
-//! Bytes copied from one block of a list into another, or into itself.
+//! Bytes copied from one block of a list into another, or within a block.
 
 ghost use Rattle.std.specs.Prelude.{◌≡◌, ◌+◌, ◌≤◌, ◌<◌, ◌^◌, ◌++◌, ◌∷◌, take, length, vec_len, IfSome, IsSomeAnd};
 ghost use Rattle.block_store.specs.Block.{sizes, content_of, with_content};
@@ -8,7 +8,7 @@ ghost use Rattle.block_store.specs.Inner.ListStore.{block_of, blocks_of, nth_spo
 
 use crate::entries::{StoredBlock, index_at, written_entry};
 
-/// The bytes that an entry's block holds.
+/// Returns the content of an entry's block.
 fn content(entry: &StoredBlock) -> &[u8]
     ensures { result.now ≡ content_of (block_of entry.now) }
 {
@@ -19,7 +19,7 @@ fn content(entry: &StoredBlock) -> &[u8]
     }
 }
 
-/// Writes the first bytes of some content over others of it, from an offset on.
+/// Writes the first `bytes` bytes of a content over other bytes of the same content, from the offset `from` on.
 fn repeat(content: &mut Vec<u8>, bytes: usize, from: usize)
     requires { from + bytes ≤ vec_len content.old }
     ensures { content.new.items ≡ written from (take bytes content.old.items) content.old.items }
@@ -27,7 +27,7 @@ fn repeat(content: &mut Vec<u8>, bytes: usize, from: usize)
     content.copy_within(0..bytes, from);
 }
 
-/// An entry with the first bytes of its content written into it, from an offset on.
+/// Returns the entry with the first `bytes` bytes of its content written into its content, from the offset `from` on.
 fn repeated_entry(entry: StoredBlock, bytes: usize, from: usize) -> StoredBlock
     requires { from + bytes ≤ length (content_of (block_of entry)) }
     ensures { block_of result ≡ with_content
@@ -46,7 +46,7 @@ fn repeated_entry(entry: StoredBlock, bytes: usize, from: usize) -> StoredBlock
     }
 }
 
-/// Writes the first bytes of the entry at an index into itself, from an offset on.
+/// Writes the first `bytes` bytes of the entry at the index `i` into the same entry, from the offset `from` on.
 fn copy_inside(entries: &mut Vec<StoredBlock>, i: usize, bytes: usize, from: usize)
     requires index { i < vec_len entries.old }
     requires within { IsSomeAnd (nth_spot i (blocks_of entries.old.items)) (λ s.
@@ -59,7 +59,8 @@ fn copy_inside(entries: &mut Vec<StoredBlock>, i: usize, bytes: usize, from: usi
     entries[i] = repeated_entry(entry, bytes, from);
 }
 
-/// Writes the first bytes of the entry at an index into that at another, from an offset on.
+/// Writes the first `bytes` bytes of the entry at the index `i` into the entry at the index `j`, from the offset `from`
+/// on.
 fn copy_between(entries: &mut Vec<StoredBlock>, i: usize, bytes: usize, j: usize, from: usize)
     requires first { i < vec_len entries.old }
     requires second { j < vec_len entries.old }
@@ -77,7 +78,8 @@ fn copy_between(entries: &mut Vec<StoredBlock>, i: usize, bytes: usize, j: usize
     entries[j] = written_entry(entry, from, &source[..bytes]);
 }
 
-/// Writes the first bytes of the entry at a place into one at another, from an offset on.
+/// Writes the first `bytes` bytes of the entry at the place `source` into the entry at the place `place`, from the
+/// offset `from` on.
 pub fn copy_at(entries: &mut Vec<StoredBlock>, source: u32, bytes: u32, place: u32, from: u32)
     requires fits { sizes (blocks_of entries.old.items) < 2 ^ 32 }
     requires source { IsSomeAnd (spot_at source (blocks_of entries.old.items)) (λ s.

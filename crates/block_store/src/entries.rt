@@ -15,7 +15,8 @@ use crate::flags::Flags;
 use crate::measures::{HEADER_SIZE, MASTERS_SIZE, UNIT};
 use std::alloc::{AllocError, Global};
 
-/// A block and what it holds: a Fixed one with its place, a relocatable one with its slot.
+/// An entry of the list: a block with its content. A nonrelocatable block has its place as well, and a relocatable
+/// block its master pointer and its flags.
 #[derive(Drop)]
 pub enum StoredBlock {
     Free(u32),
@@ -24,7 +25,7 @@ pub enum StoredBlock {
     Relocatable(u32, Flags, Vec<u8>),
 }
 
-/// What a block of so many bytes takes.
+/// Returns the physical size of a block whose logical size is `bytes` bytes.
 pub fn padded_size(bytes: usize) -> u32
     requires { padded bytes < 2 ^ 32 }
     ensures { result ≡ padded bytes }
@@ -32,7 +33,7 @@ pub fn padded_size(bytes: usize) -> u32
     HEADER_SIZE + UNIT * ((bytes + 15) / UNIT as usize) as u32
 }
 
-/// The bytes that an entry's block takes.
+/// Returns the physical size of an entry's block.
 pub fn entry_size(entry: &StoredBlock) -> u32
     requires { size (block_of entry.now) < 2 ^ 32 }
     ensures { result ≡ size (block_of entry.now) }
@@ -45,7 +46,7 @@ pub fn entry_size(entry: &StoredBlock) -> u32
     }
 }
 
-/// Whether a slot leads to an entry's block.
+/// Reports whether a master pointer leads to an entry's block.
 pub fn is_of_slot(entry: &StoredBlock, number: u32) -> bool
     ensures { result ≡ is_relocatable number (block_of entry.now) }
 {
@@ -55,7 +56,7 @@ pub fn is_of_slot(entry: &StoredBlock, number: u32) -> bool
     }
 }
 
-/// The index of the entry at a place.
+/// Returns the index of the entry at a place.
 pub fn index_at(entries: &[StoredBlock], place: u32) -> Option<usize>
     requires { sizes (blocks_of entries.now) < 2 ^ 32 }
     ensures { MatchOption result (spot_at place (blocks_of entries.now) ≡ None)
@@ -75,7 +76,7 @@ pub fn index_at(entries: &[StoredBlock], place: u32) -> Option<usize>
     None
 }
 
-/// The Free bytes of entries.
+/// Returns the number of free bytes in the entries.
 pub fn free_total(entries: &[StoredBlock]) -> u32
     requires { sizes (blocks_of entries.now) < 2 ^ 32 }
     ensures { result ≡ free_sum (blocks_of entries.now) }
@@ -89,7 +90,7 @@ pub fn free_total(entries: &[StoredBlock]) -> u32
     total
 }
 
-/// Makes the entry at an index one with the next where both are Free, and drops it where it is of no bytes.
+/// Joins the entry at an index with the next one where both are free blocks, and removes it where it has no bytes.
 fn join_at(entries: &mut Vec<StoredBlock>, i: usize)
     requires within { i < vec_len entries.old }
     requires fits { sizes (blocks_of entries.old.items) < 2 ^ 32 }
@@ -111,7 +112,7 @@ fn join_at(entries: &mut Vec<StoredBlock>, i: usize)
     }
 }
 
-/// Makes neighbouring Free entries one, and drops those of no bytes.
+/// Joins neighbouring free blocks, and removes free blocks of no bytes.
 pub fn tidy_entries(entries: &mut Vec<StoredBlock>)
     requires { sizes (blocks_of entries.old.items) < 2 ^ 32 }
     ensures { blocks_of entries.new.items ≡ tidy (blocks_of entries.old.items) }
@@ -123,7 +124,7 @@ pub fn tidy_entries(entries: &mut Vec<StoredBlock>)
     }
 }
 
-/// Makes the entry at an index Free, where it is the slot's.
+/// Makes the entry at an index a free block, where it is the block of the master pointer `number`.
 fn free_if(entries: &mut Vec<StoredBlock>, i: usize, number: u32)
     requires within { i < vec_len entries.old }
     requires fits { sizes (blocks_of entries.old.items) < 2 ^ 32 }
@@ -137,7 +138,7 @@ fn free_if(entries: &mut Vec<StoredBlock>, i: usize, number: u32)
     }
 }
 
-/// Makes the entries of a slot Free.
+/// Makes the entries of a master pointer free blocks.
 pub fn free_slot(entries: &mut Vec<StoredBlock>, number: u32)
     requires { sizes (blocks_of entries.old.items) < 2 ^ 32 }
     ensures { blocks_of entries.new.items ≡ freed (is_relocatable number) (blocks_of entries.old.items) }
@@ -147,7 +148,7 @@ pub fn free_slot(entries: &mut Vec<StoredBlock>, number: u32)
     }
 }
 
-/// Puts an entry at the lower end of the one at a place, and what it leaves of it above as Free.
+/// Puts an entry at the lower end of the one at a place; the bytes that are left above the entry become free.
 pub fn fill(entries: &mut Vec<StoredBlock>, place: u32, new: StoredBlock) -> Result<(), AllocError>
     requires fits { sizes (blocks_of entries.old.items) < 2 ^ 32 }
     requires room { IsSomeAnd (spot_at place (blocks_of entries.old.items)) (λ s. size (block_of new) ≤ size s.here) }
@@ -165,7 +166,7 @@ pub fn fill(entries: &mut Vec<StoredBlock>, place: u32, new: StoredBlock) -> Res
     Ok(())
 }
 
-/// Writes bytes in place.
+/// Writes bytes into a content, from an offset on.
 fn overwrite(content: &mut Vec<u8>, from: usize, bytes: &[u8])
     requires { from + length bytes.now ≤ vec_len content.old }
     ensures { content.new.items ≡ written from bytes.now content.old.items }
@@ -173,7 +174,7 @@ fn overwrite(content: &mut Vec<u8>, from: usize, bytes: &[u8])
     content[from..from + bytes.len()].copy_from_slice(bytes);
 }
 
-/// An entry with bytes written into its content.
+/// Returns the entry with bytes written into its content, from an offset on.
 pub fn written_entry(entry: StoredBlock, from: usize, bytes: &[u8]) -> StoredBlock
     requires { from + length bytes.now ≤ length (content_of (block_of entry)) }
     ensures { block_of result ≡ with_content (written from bytes.now (content_of (block_of entry))) (block_of entry) }
@@ -208,7 +209,7 @@ pub fn write_at(entries: &mut Vec<StoredBlock>, place: u32, from: u32, bytes: &[
     entries[i] = written_entry(entry, from as usize, bytes);
 }
 
-/// Bytes that are 0.
+/// Returns a content of `n` bytes 0.
 pub fn zeros(alloc: Global, n: usize) -> Result<Vec<u8>, AllocError>
     ensures { IfOk result (λ v. v.items ≡ replicate n 0) }
 {

@@ -1,4 +1,4 @@
-//! Fixed blocks of a list, and new blocks of master pointers.
+//! Nonrelocatable blocks of a list, and new master pointer blocks.
 
 ghost use Rattle.std.specs.Prelude.{◌≡◌, ◌+◌, ◌<◌, ◌^◌, ◌++◌, take, drop, ◌≤◌, vec_len, replicate, IsTrue, IfSome};
 ghost use Rattle.std.specs.Prelude.{IsSomeAnd, OnOk, OnErr};
@@ -14,7 +14,7 @@ use crate::measures::{MASTERS_SIZE, SLOTS_A_BLOCK};
 use crate::slots::SlotEntry;
 use std::alloc::AllocError;
 
-/// Whether an entry is the Fixed block of a place.
+/// Reports whether an entry is the nonrelocatable block of a place.
 fn is_fixed_at(entry: &StoredBlock, place: u32) -> bool
     ensures { result ≡ is_fixed place (block_of entry.now) }
 {
@@ -24,7 +24,7 @@ fn is_fixed_at(entry: &StoredBlock, place: u32) -> bool
     }
 }
 
-/// Makes the entry at an index Free, where it is the Fixed block of a place.
+/// Makes the entry at an index a free block, where it is the nonrelocatable block of a place.
 fn free_if(entries: &mut Vec<StoredBlock>, i: usize, place: u32)
     requires within { i < vec_len entries.old }
     requires fits { sizes (blocks_of entries.old.items) < 2 ^ 32 }
@@ -38,7 +38,7 @@ fn free_if(entries: &mut Vec<StoredBlock>, i: usize, place: u32)
     }
 }
 
-/// Makes the Fixed entries of a place Free.
+/// Makes the nonrelocatable blocks of a place free blocks.
 fn free_fixed(entries: &mut Vec<StoredBlock>, place: u32)
     requires { sizes (blocks_of entries.old.items) < 2 ^ 32 }
     ensures { blocks_of entries.new.items ≡ freed (is_fixed place) (blocks_of entries.old.items) }
@@ -48,7 +48,7 @@ fn free_fixed(entries: &mut Vec<StoredBlock>, place: u32)
     }
 }
 
-/// Makes the Fixed block at a place Free, and its Free neighbours one with it.
+/// Makes the nonrelocatable block at a place a free block, and joins it with its free neighbours.
 pub fn free_place(entries: &mut Vec<StoredBlock>, place: u32)
     requires { sizes (blocks_of entries.old.items) < 2 ^ 32 }
     ensures { blocks_of entries.new.items ≡ tidy (freed (is_fixed place) (blocks_of entries.old.items)) }
@@ -57,7 +57,7 @@ pub fn free_place(entries: &mut Vec<StoredBlock>, place: u32)
     tidy_entries(entries);
 }
 
-/// Adds the slots of a new block of master pointers, for which there is room.
+/// Adds the master pointers of a new master pointer block to the list, which has room for them.
 fn add_slots(slots: &mut Vec<SlotEntry>)
     requires { vec_len slots.old + SLOTS_A_BLOCK ≤ vec_capacity slots.old }
     ensures { slots.new.items ≡ slots.old.items ++ replicate SLOTS_A_BLOCK Unused }
@@ -68,7 +68,7 @@ fn add_slots(slots: &mut Vec<SlotEntry>)
     }
 }
 
-/// Puts a block of master pointers at the lower end of the Free one at a place, and adds its slots.
+/// Puts a master pointer block at the lower end of the free block at a place, and adds its master pointers to the list.
 pub fn put_masters(
     entries: &mut Vec<StoredBlock>,
     slots: &mut Vec<SlotEntry>,

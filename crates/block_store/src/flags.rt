@@ -1,18 +1,18 @@
 //! The flags of a relocatable block.
 
-/// What may be done to a relocatable block.
+/// The properties of a relocatable block: what may be done to the block.
 ///
 /// *Inside Macintosh: Memory*, chapter 1, "Properties of Relocatable Blocks".
 #[derive(Clone, Copy, Debug, PartialEq, Eq)]
 pub struct Flags {
-    /// The block doesn't move and isn't emptied.
+    /// The block is locked: it is neither moved nor purged.
     pub locked: bool,
-    /// The block may be emptied where room is wanted.
+    /// The block is purgeable: it may be purged to make room.
     pub purgeable: bool,
 }
 
 impl Flags {
-    /// The flags of a new block: unlocked and unpurgeable.
+    /// The flags of a new block, which is unlocked and unpurgeable.
     pub const NONE: Flags = Flags {
         locked: false,
         purgeable: false,

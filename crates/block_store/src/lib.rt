@@ -1,4 +1,4 @@
-//! The blocks of a heap zone and the slots through which its relocatable blocks are reached: the
+//! The blocks of a heap zone, and the master pointers through which its relocatable blocks are reached: their
 //! definitions, the contract that every store of them meets, and a store that keeps them in a list.
 #![tactic(auto)]
 

@@ -32,8 +32,8 @@ use crate::store::BlockStore;
 use crate::stretch::find_free_in;
 use std::alloc::{AllocError, Global};
 
-/// A store that keeps its blocks in a list, from bottom to top, and its slots in another, where a slot is
-/// an index.
+/// A store that keeps its blocks in a list, from bottom to top, and its master pointers in another list, in which a
+/// master pointer's number is its index.
 #[derive(Drop)]
 pub struct ListStore {
     alloc: Global,
@@ -53,7 +53,8 @@ pub struct ListStore {
 }
 
 impl ListStore {
-    /// A fresh zone of so many bytes: a block of 64 master pointers, and the rest Free.
+    /// Makes a fresh zone of `len` bytes: a master pointer block of 64 master pointers, and one free block of the other
+    /// bytes.
     ///
     /// *Inside Macintosh: Memory*, chapter 2, "Heap Zones".
     pub fn new(alloc: Global, len: u32) -> Result<ListStore, AllocError>

@@ -1,4 +1,4 @@
-//! A walk over a list of blocks, and what is told of a list from a place on.
+//! A walk over a list of blocks, and what is found in a list from a place on.
 
 ghost use Rattle.std.specs.Prelude.{◌≡◌, ◌<◌, ◌^◌, drop, IsSome, IfSome};
 ghost use Rattle.std.specs.Option.{option_map};
@@ -24,7 +24,7 @@ pub struct ListWalk<'a> {
     ghost small: { sizes (blocks_of entries.now) < 2 ^ 32 },
 }
 
-/// A walk over all entries.
+/// Returns a walk over all entries.
 pub fn walk_over(entries: &[StoredBlock]) -> ListWalk<'_>
     requires { sizes (blocks_of entries.now) < 2 ^ 32 }
     ensures { ⟦<ListWalk<'static> as Walk>⟧.rest result ≡ blocks_of entries.now }
@@ -32,7 +32,7 @@ pub fn walk_over(entries: &[StoredBlock]) -> ListWalk<'_>
     ListWalk { entries, index: 0 }
 }
 
-/// An entry's block without its bytes.
+/// Returns an entry's block without its bytes.
 fn look(entry: &StoredBlock) -> Seen
     requires { size (block_of entry.now) < 2 ^ 32 }
     ensures { result ≡ seen (block_of entry.now) }
@@ -60,7 +60,7 @@ impl Walk for ListWalk<'_> {
     }
 }
 
-/// The block at a place, without its bytes.
+/// Returns the block at a place, without its bytes.
 pub fn look_at(entries: &[StoredBlock], place: u32) -> Option<Seen>
     requires { sizes (blocks_of entries.now) < 2 ^ 32 }
     ensures { result ≡ option_map (λ s. seen s.here) (spot_at place (blocks_of entries.now)) }
@@ -69,7 +69,7 @@ pub fn look_at(entries: &[StoredBlock], place: u32) -> Option<Seen>
     Some(look(&entries[i]))
 }
 
-/// The place of the run above the run at a place; none where there is none.
+/// Returns the place of the run above the run at a place, if there is one.
 pub fn run_above(entries: &[StoredBlock], run: u32) -> Option<u32>
     requires fits { sizes (blocks_of entries.now) < 2 ^ 32 }
     requires there { IsSome (run_at run (blocks_of entries.now)) }
@@ -84,7 +84,7 @@ pub fn run_above(entries: &[StoredBlock], run: u32) -> Option<u32>
     Some(run + above)
 }
 
-/// Whether the run above the block at a place has so many Free bytes, after so many purges in it.
+/// Reports whether the run above the block at a place has `bytes` free bytes, after `purges` purges in the run.
 pub fn has_free_above(
     entries: &[StoredBlock],
     place: u32,
@@ -103,7 +103,7 @@ pub fn has_free_above(
     run_has_free_in(&mut walk_over(&entries[i + 1..]), bytes, purges, sparing)
 }
 
-/// How many blocks may go in the run above the block at a place.
+/// Returns the number of blocks that may be purged in the run above the block at a place.
 pub fn purgeable_above(entries: &[StoredBlock], place: u32, sparing: Sparing) -> u32
     requires fits { sizes (blocks_of entries.now) < 2 ^ 32 }
     requires there { IsSome (spot_at place (blocks_of entries.now)) }

@@ -10,8 +10,8 @@ use crate::measures::{GREATEST_ZONE, UNIT};
 use std::alloc::{AllocError, Global};
 use windows::{MOST_WINDOWS, Window, put_window, take_window};
 
-/// A memory of which only the length and the open windows are noted: each zone is a `ListStore`, which keeps its
-/// bytes elsewhere.
+/// A memory of which only the length and the open windows are noted: each zone is a `ListStore`, which keeps its bytes
+/// elsewhere.
 #[derive(Drop)]
 pub struct ListZones {
     alloc: Global,
@@ -22,11 +22,11 @@ pub struct ListZones {
 }
 
 impl ListZones {
-    /// A memory of `len` bytes with no zone in it. The room for the list of open windows is taken here.
+    /// Makes a memory of `len` bytes with no zone in it. The room for the list of open windows is taken here.
     ///
     /// # Errors
     ///
-    /// Where the host has no memory.
+    /// Returns an error where the host is out of memory.
     pub fn new(alloc: Global, len: u32) -> Result<ListZones, AllocError>
         requires multiple { len % UNIT ≡ 0 }
         requires some { UNIT ≤ len }
@@ -42,7 +42,7 @@ impl ListZones {
         })
     }
 
-    /// The windows that are open, in the order of their places.
+    /// Returns the open windows, in the order of their places.
     pub fn open_windows(&self) -> &[Window]
         ensures { result.now ≡ ⟦<ListZones as ZoneMaker>⟧.windows self.now }
     {

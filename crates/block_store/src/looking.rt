@@ -1,4 +1,4 @@
-//! Looks at the blocks of a zone, some of which would be emptied.
+//! Searches among the blocks of a zone, some of which would be purged.
 
 ghost use Rattle.std.specs.Prelude.{◌≡◌, ◌≤◌, ◌<◌, ◌^◌, is_some, IfSome};
 ghost use Rattle.std.specs.Option.{option_map};
@@ -15,7 +15,7 @@ use crate::sparing::{Seen, Sparing};
 use crate::stretch::suffices;
 use crate::walk::{Walk, is_counted_free, is_of, may_be_emptied, size_of_seen};
 
-/// The place of the block that a slot leads to.
+/// Returns the place of the block to which a master pointer leads, if there is one.
 pub fn place_in<W: Walk>(walk: &mut W, number: u32) -> Option<u32>
     requires small { sizes (W.rest walk.old) < 2 ^ 32 }
     requires apart { tidy (W.rest walk.old) ≡ W.rest walk.old }
@@ -31,7 +31,8 @@ pub fn place_in<W: Walk>(walk: &mut W, number: u32) -> Option<u32>
     None
 }
 
-/// The place of the lowest block that may be emptied, in the zone before the purges.
+/// Returns the place of the lowest block that may be purged after `purges` purges, as the place is in the zone before
+/// them.
 fn find_purgeable_in<W: Walk>(walk: &mut W, purges: u32, sparing: Sparing) -> Option<u32>
     requires { sizes (W.rest walk.old) < 2 ^ 32 }
     ensures { result ≡ option_map (λ s. sizes s.below)
@@ -51,7 +52,7 @@ fn find_purgeable_in<W: Walk>(walk: &mut W, purges: u32, sparing: Sparing) -> Op
     None
 }
 
-/// The place of the lowest block that may be emptied, after so many purges.
+/// Returns the place of the lowest block that may be purged after `purges` purges.
 pub fn next_purgeable_in<W: Walk>(walk: &mut W, purges: u32, sparing: Sparing) -> Option<u32>
     requires { sizes (W.rest walk.old) < 2 ^ 32 }
     ensures { FindsLowest (may_go (spared sparing)) (purged purges sparing (W.rest walk.old)) result }
@@ -59,7 +60,7 @@ pub fn next_purgeable_in<W: Walk>(walk: &mut W, purges: u32, sparing: Sparing) -
     find_purgeable_in(walk, purges, sparing)
 }
 
-/// How many blocks may be emptied.
+/// Returns the number of blocks that may be purged.
 pub fn purgeable_in<W: Walk>(walk: &mut W, sparing: Sparing) -> u32
     requires { sizes (W.rest walk.old) < 2 ^ 32 }
     ensures { result ≡ most_purges sparing (W.rest walk.old) }
@@ -73,7 +74,7 @@ pub fn purgeable_in<W: Walk>(walk: &mut W, sparing: Sparing) -> u32
     total
 }
 
-/// The purges left after a block that is Free or is emptied; none where it stays.
+/// Returns the purges left after a block that is free or is purged; `None` where the block stays.
 pub fn left_after(block: Seen, left: u32, sparing: Sparing) -> Option<u32>
     ensures { (b : Block) → seen b ≡ block → result ≡ left_past (spared sparing) left (opened_block sparing b) }
 {
@@ -86,7 +87,8 @@ pub fn left_after(block: Seen, left: u32, sparing: Sparing) -> Option<u32>
     }
 }
 
-/// Goes on behind the block of a slot, where it stays after so many purges; the purges left there.
+/// Walks past the block of a master pointer, where the block stays after `purges` purges, and returns the purges left
+/// there.
 fn go_behind<W: Walk>(walk: &mut W, number: u32, purges: u32, sparing: Sparing) -> Option<u32>
     ensures above { option_map (λ s. s.above)
         (spot (is_relocatable number) (emptied purges (spared sparing) (opened sparing (W.rest walk.old))))
@@ -104,7 +106,7 @@ fn go_behind<W: Walk>(walk: &mut W, number: u32, purges: u32, sparing: Sparing) 
     None
 }
 
-/// The bytes of the Free blocks that come first, after so many purges.
+/// Returns the size in bytes of the free blocks with which the walk begins, after `purges` purges.
 fn free_first_in<W: Walk>(walk: &mut W, purges: u32, sparing: Sparing) -> u32
     requires { sizes (W.rest walk.old) < 2 ^ 32 }
     ensures { result ≡ leading_free (spared sparing) purges (opened sparing (W.rest walk.old)) }
@@ -121,7 +123,7 @@ fn free_first_in<W: Walk>(walk: &mut W, purges: u32, sparing: Sparing) -> u32
     total
 }
 
-/// Whether so many Free bytes follow the block of a slot, after so many purges.
+/// Reports whether `bytes` free bytes follow the block of a master pointer, after `purges` purges.
 pub fn room_above_in<W: Walk>(
     walk: &mut W,
     number: u32,

@@ -16,33 +16,35 @@ use crate::store::BlockStore;
 use std::alloc::AllocError;
 use windows::Window;
 
-/// A memory in which zones are opened and closed. Each lies in a window of its own, as each application has a
-/// partition of its own, and no byte of the memory is in two of them. At most `MOST_WINDOWS` are open at a time.
+/// A memory in which zones are opened and closed. Each zone lies in a window of its own, as each application has a
+/// partition of its own, and no byte of the memory is in two windows. At most `MOST_WINDOWS` windows are open at a
+/// time.
 ///
 /// *Inside Macintosh: Processes*, chapter 1.
 pub trait ZoneMaker {
     type Store: BlockStore;
 
-    /// How many bytes the memory has.
+    /// The size of the memory in bytes.
     ghost memory: { Self → ℕ };
 
-    /// The windows that are open, in the order of their places.
+    /// The open windows, in the order of their places.
     ghost windows: { Self → List Window };
 
     /// A store that lies at this site has its zone in this window of this memory.
     ghost made: { Self → Window → Site → Type 0 };
 
-    /// The bytes in a window are those of a zone of these blocks. It says nothing where the memory has no bytes.
+    /// The bytes in a window are those of a zone of these blocks. Where the memory has no bytes, this says nothing.
     ghost left: { Self → Window → List Block → Type 0 };
 
-    /// The byte at a place of the memory, where that is in no window that is open. None where the memory has no bytes.
+    /// The byte at a place of the memory, where the place is in no open window; none where the memory has no bytes.
     ghost byte: { Self → ℕ → Option ℕ };
 
-    /// A fresh zone in a window: a block of 64 master pointers, and the rest Free.
+    /// Opens a fresh zone in a window: a master pointer block of 64 master pointers, and one free block of the other
+    /// bytes.
     ///
     /// # Errors
     ///
-    /// Where the host has no memory. Nothing is changed then.
+    /// Returns an error where the host is out of memory. Nothing is changed then.
     fn open(&mut self, window: Window) -> Result<Self::Store, AllocError>
         requires multiples { (window.at % UNIT ≡ 0) × (window.len % UNIT ≡ 0) }
         requires large { LEAST_ZONE ≤ window.len }
@@ -66,7 +68,7 @@ pub trait ZoneMaker {
             (w : Window) (blocks : List Block) → left self.old w blocks → left self.new w blocks }
         ensures outside { (place : ℕ) → IsOutside place window → byte self.new place ≡ byte self.old place };
 
-    /// Closes the zone of a window. Its bytes stay as they are until a window that meets it is opened.
+    /// Closes the zone of a window. The bytes of the zone stay as they are until a window that meets them is opened.
     fn close(&mut self, window: Window, store: Self::Store)
         requires made { made self.old window (Self.Store.rest store).window }
         requires open { Contains (windows self.old) window }

@@ -1,19 +1,19 @@
-//! The sizes of a zone, of a block's header and of a block of master pointers.
+//! The sizes of a zone, of a block's header and of a master pointer block.
 
-/// The bytes of a block's header.
+/// The size of a block's header in bytes.
 pub const HEADER_SIZE: u32 = 16;
 
-/// Each block takes a multiple of so many bytes.
+/// The physical size of each block is a multiple of this number of bytes.
 pub const UNIT: u32 = 16;
 
-/// The master pointers of a block of them.
+/// The number of master pointers in a master pointer block.
 pub const SLOTS_A_BLOCK: usize = 64;
 
-/// The bytes that a block of master pointers takes: its header, and 4 for each of them.
+/// The physical size of a master pointer block: its header, and 4 bytes for each master pointer.
 pub const MASTERS_SIZE: u32 = 272;
 
-/// The fewest bytes of a zone.
+/// The least size of a zone in bytes.
 pub const LEAST_ZONE: u32 = 512;
 
-/// The most bytes of a zone: 2^27.
+/// The greatest size of a zone in bytes: 2^27.
 pub const GREATEST_ZONE: u32 = 134_217_728;

@@ -1,4 +1,4 @@
-//! The runs of a list of blocks, and how they are packed.
+//! The runs of a list of blocks, and how they are compacted.
 
 ghost use Rattle.std.specs.Prelude.{◌≡◌, ℕ, ◌+◌, ◌-◌, ◌≤◌, ◌<◌, ◌^◌, ◌++◌, ◌∷◌, List, [], Bool, true, false, IsTrue};
 ghost use Rattle.std.specs.Prelude.{length, take, drop, map, slice_index, MatchOption, IsSome, IfSome, IsSomeAnd, OnOk};
@@ -15,7 +15,7 @@ ghost use Rattle.block_store.specs.Inner.Packing.{Loose, cleared, cleared_first,
 use crate::entries::{StoredBlock, entry_size, free_total, is_of_slot, tidy_entries};
 use std::alloc::AllocError;
 
-/// Whether a run may have an entry's block.
+/// Reports whether an entry's block may be part of a run.
 pub fn is_loose(entry: &StoredBlock) -> bool
     ensures { result ≡ in_run (block_of entry.now) }
 {
@@ -26,14 +26,14 @@ pub fn is_loose(entry: &StoredBlock) -> bool
     }
 }
 
-/// Whether an entry's block is Free.
+/// Reports whether an entry's block is free.
 fn is_free_entry(entry: &StoredBlock) -> bool
     ensures { result ≡ is_free (block_of entry.now) }
 {
     matches!(entry, StoredBlock::Free(_))
 }
 
-/// The index at the bottom of the run at a place.
+/// Returns the index at the bottom of the run at a place.
 pub fn run_start(entries: &[StoredBlock], place: u32) -> Option<usize>
     requires { sizes (blocks_of entries.now) < 2 ^ 32 }
     ensures { MatchOption result (run_at place (blocks_of entries.now) ≡ None)
@@ -60,7 +60,7 @@ pub fn run_start(entries: &[StoredBlock], place: u32) -> Option<usize>
     }
 }
 
-/// How many entries the lowest run has.
+/// Returns the number of entries in the lowest run.
 fn run_length(entries: &[StoredBlock]) -> usize
     ensures within { result ≤ length entries.now }
     ensures run { (segments (blocks_of entries.now)).first ≡ take result (blocks_of entries.now) }
@@ -74,7 +74,7 @@ fn run_length(entries: &[StoredBlock]) -> usize
     entries.len()
 }
 
-/// The indexes between which the run at a place lies.
+/// Returns the indexes between which the run at a place lies.
 fn run_bounds(entries: &[StoredBlock], place: u32) -> (usize, usize)
     requires fits { sizes (blocks_of entries.now) < 2 ^ 32 }
     requires run { IsSome (run_at place (blocks_of entries.now)) }
@@ -88,7 +88,7 @@ fn run_bounds(entries: &[StoredBlock], place: u32) -> (usize, usize)
     (i, i + run_length(&entries[i..]))
 }
 
-/// How many entries of a run move where it is settled.
+/// Returns the number of entries of a run that move when the run is compacted.
 fn count_falling(run: &[StoredBlock]) -> u64
     ensures { result ≡ falling (blocks_of run.now) }
 {
@@ -104,7 +104,7 @@ fn count_falling(run: &[StoredBlock]) -> u64
     falls
 }
 
-/// The index of the first Free entry.
+/// Returns the index of the first free block.
 fn first_free(entries: &[StoredBlock]) -> Option<usize>
     ensures { MatchOption result (has is_free (blocks_of entries.now) ≡ false)
         (λ i. (i < length entries.now) × IsSomeAnd (nth_spot i (blocks_of entries.now)) (λ s.
@@ -118,7 +118,7 @@ fn first_free(entries: &[StoredBlock]) -> Option<usize>
     None
 }
 
-/// The index of the first entry of a slot.
+/// Returns the index of the first entry of a master pointer.
 fn index_of(entries: &[StoredBlock], number: u32) -> Option<usize>
     ensures { MatchOption result (has (is_relocatable number) (blocks_of entries.now) ≡ false)
         (λ i. (i < length entries.now) × IsSomeAnd (nth_spot i (blocks_of entries.now)) (λ s.
@@ -141,7 +141,7 @@ fn move_last(entries: &mut [StoredBlock], i: usize)
     entries[i..].rotate_left(1);
 }
 
-/// Leaves no bytes to the entry at an index, where it is Free.
+/// Takes all bytes from the entry at an index, where it is a free block.
 fn clear_if(run: &mut [StoredBlock], i: usize)
     requires { i < length run.old }
     ensures { blocks_of run.new ≡ take i (blocks_of run.old) ++ cleared_first (drop i (blocks_of run.old)) }
@@ -151,7 +151,7 @@ fn clear_if(run: &mut [StoredBlock], i: usize)
     }
 }
 
-/// Leaves no bytes to the Free entries.
+/// Takes all bytes from the free blocks.
 fn clear(run: &mut [StoredBlock])
     ensures { blocks_of run.new ≡ map cleared (blocks_of run.old) }
 {
@@ -160,8 +160,8 @@ fn clear(run: &mut [StoredBlock])
     }
 }
 
-/// Packs a run, where so many of its Free bytes are left out: its relocatable entries in order, then a Free
-/// one, and Free ones of no bytes among them.
+/// Compacts a run, of whose free bytes `less` are left out: its relocatable blocks stand in order, then a free block,
+/// and free blocks of no bytes are among them.
 fn pack(run: &mut [StoredBlock], less: u32)
     requires loose { Loose (blocks_of run.old) }
     requires fits { sizes (blocks_of run.old) < 2 ^ 32 }
@@ -179,7 +179,7 @@ fn pack(run: &mut [StoredBlock], less: u32)
     run[last] = StoredBlock::Free(left);
 }
 
-/// Moves the entry of a slot to the end of its run, and packs the others.
+/// Moves the entry of a master pointer to the end of its run, and compacts the others below it.
 fn pack_below(run: &mut [StoredBlock], number: u32)
     requires loose { Loose (blocks_of run.old) }
     requires fits { sizes (blocks_of run.old) < 2 ^ 32 }
@@ -196,7 +196,7 @@ fn pack_below(run: &mut [StoredBlock], number: u32)
     pack(&mut run[..last], 0);
 }
 
-/// Packs the run between two indexes, where so many of its Free bytes are left out.
+/// Compacts the run between two indexes, of whose free bytes `less` are left out.
 fn pack_between(entries: &mut Vec<StoredBlock>, start: usize, end: usize, less: u32)
     requires order { start ≤ end }
     requires within { end ≤ vec_len entries.old }
@@ -210,7 +210,7 @@ fn pack_between(entries: &mut Vec<StoredBlock>, start: usize, end: usize, less: 
     tidy_entries(entries);
 }
 
-/// Packs the run at a place, and counts the entries that move.
+/// Compacts the run at a place, and returns the number of entries that move.
 pub fn settle_run(entries: &mut Vec<StoredBlock>, place: u32) -> u64
     requires fits { sizes (blocks_of entries.old.items) < 2 ^ 32 }
     requires run { IsSome (run_at place (blocks_of entries.old.items)) }
@@ -224,7 +224,7 @@ pub fn settle_run(entries: &mut Vec<StoredBlock>, place: u32) -> u64
     falls
 }
 
-/// Packs the run between two indexes, with the entry of a slot at its top.
+/// Compacts the run between two indexes, with the entry of a master pointer at its top.
 fn hoist_between(entries: &mut Vec<StoredBlock>, start: usize, end: usize, number: u32)
     requires order { start ≤ end }
     requires within { end ≤ vec_len entries.old }
@@ -239,7 +239,7 @@ fn hoist_between(entries: &mut Vec<StoredBlock>, start: usize, end: usize, numbe
     tidy_entries(entries);
 }
 
-/// Packs the run at a place, with the entry of a slot at its top.
+/// Compacts the run at a place, with the entry of a master pointer at its top.
 pub fn hoist_slot(entries: &mut Vec<StoredBlock>, place: u32, number: u32)
     requires fits { sizes (blocks_of entries.old.items) < 2 ^ 32 }
     requires run { IsSomeAnd (run_at place (blocks_of entries.old.items)) (λ r.
@@ -252,7 +252,7 @@ pub fn hoist_slot(entries: &mut Vec<StoredBlock>, place: u32, number: u32)
     hoist_between(entries, start, end, number);
 }
 
-/// Packs the run at a place upward, with so many Free bytes at its bottom.
+/// Compacts the run at a place upward, with `bytes` free bytes at its bottom.
 pub fn raise_run(entries: &mut Vec<StoredBlock>, place: u32, bytes: u32) -> Result<(), AllocError>
     requires fits { sizes (blocks_of entries.old.items) < 2 ^ 31 }
     requires run { IsSomeAnd (run_at place (blocks_of entries.old.items)) (λ r. IsTrue (has_free bytes r.run)) }

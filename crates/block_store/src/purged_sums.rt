@@ -1,4 +1,4 @@
-//! The Free bytes of blocks, some of which would be emptied.
+//! The free bytes of blocks, some of which would be purged.
 
 ghost use Rattle.std.specs.Prelude.{◌≡◌, ◌<◌, ◌^◌};
 ghost use Rattle.block_store.specs.Block.{sizes, free_sum};
@@ -10,7 +10,7 @@ use crate::runs::larger;
 use crate::sparing::Sparing;
 use crate::walk::{Walk, size_of_seen};
 
-/// The Free bytes after so many purges.
+/// Returns the number of free bytes after `purges` purges.
 pub fn free_after_in<W: Walk>(walk: &mut W, purges: u32, sparing: Sparing) -> u32
     requires { sizes (W.rest walk.old) < 2 ^ 32 }
     ensures { result ≡ free_sum (purged purges sparing (W.rest walk.old)) }
@@ -26,8 +26,8 @@ pub fn free_after_in<W: Walk>(walk: &mut W, purges: u32, sparing: Sparing) -> u3
     total
 }
 
-/// The bytes of the largest Free block after so many purges: of the largest stretch of neighbours that are
-/// Free or are emptied.
+/// Returns the size in bytes of the largest free block after `purges` purges: of the largest stretch of neighbouring
+/// blocks that are free or are purged.
 pub fn largest_after_in<W: Walk>(walk: &mut W, purges: u32, sparing: Sparing) -> u32
     requires { sizes (W.rest walk.old) < 2 ^ 32 }
     ensures { result ≡ largest_free (purged purges sparing (W.rest walk.old)) }

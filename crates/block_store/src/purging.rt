@@ -1,4 +1,4 @@
-//! Blocks of a list that are emptied, and their flags.
+//! Blocks of a list that are purged, and their flags.
 
 ghost use Rattle.std.specs.Prelude.{◌≡◌, ◌+◌, ◌≤◌, ◌<◌, ◌^◌, ◌∷◌, ◌++◌, take, drop, length, vec_len, IsSome, IfSome};
 ghost use Rattle.block_store.specs.Block.{sizes, tidy};
@@ -12,7 +12,7 @@ use crate::flags::Flags;
 use crate::sparing::Sparing;
 use crate::walk::is_spared;
 
-/// Whether an entry's block may be emptied as it stands.
+/// Reports whether an entry's block, as it stands, may be purged.
 fn may_go_at(entry: &StoredBlock, sparing: Sparing) -> bool
     ensures { result ≡ may_go (spared sparing) (block_of entry.now) }
 {
@@ -24,7 +24,8 @@ fn may_go_at(entry: &StoredBlock, sparing: Sparing) -> bool
     }
 }
 
-/// Makes the entry at an index Free where purges are left and it may be emptied; the purges left above it.
+/// Makes the entry at an index a free block, where purges are left and the block may be purged; returns the purges left
+/// above it.
 fn empty_at(entries: &mut Vec<StoredBlock>, i: usize, left: u32, sparing: Sparing) -> u32
     requires within { i < vec_len entries.old }
     requires fits { sizes (blocks_of entries.old.items) < 2 ^ 32 }
@@ -44,7 +45,7 @@ fn empty_at(entries: &mut Vec<StoredBlock>, i: usize, left: u32, sparing: Sparin
     }
 }
 
-/// Makes the lowest entries Free that may be emptied, so many of those from an index on.
+/// Makes the `purges` lowest blocks that may be purged, among the entries from an index on, free blocks.
 fn empty_from(entries: &mut Vec<StoredBlock>, from: usize, purges: u32, sparing: Sparing)
     requires within { from ≤ vec_len entries.old }
     requires fits { sizes (blocks_of entries.old.items) < 2 ^ 32 }
@@ -58,7 +59,7 @@ fn empty_from(entries: &mut Vec<StoredBlock>, from: usize, purges: u32, sparing:
     }
 }
 
-/// Makes the entries Free that count as Free.
+/// Makes the entries that count as free blocks free blocks.
 fn open_entries(entries: &mut Vec<StoredBlock>, sparing: Sparing)
     requires { sizes (blocks_of entries.old.items) < 2 ^ 32 }
     ensures { blocks_of entries.new.items ≡ opened sparing (blocks_of entries.old.items) }
@@ -68,7 +69,7 @@ fn open_entries(entries: &mut Vec<StoredBlock>, sparing: Sparing)
     }
 }
 
-/// Empties the lowest blocks that may go, so many of them, and frees a block that counts as Free.
+/// Purges the `purges` lowest blocks that may be purged, and makes the block that counts as free a free block.
 pub fn purge_entries(entries: &mut Vec<StoredBlock>, purges: u32, sparing: Sparing)
     requires { sizes (blocks_of entries.old.items) < 2 ^ 32 }
     ensures { blocks_of entries.new.items ≡ purged purges sparing (blocks_of entries.old.items) }
@@ -78,7 +79,7 @@ pub fn purge_entries(entries: &mut Vec<StoredBlock>, purges: u32, sparing: Spari
     tidy_entries(entries);
 }
 
-/// Empties the lowest blocks that may go above the block at a place, so many of them.
+/// Purges the `purges` lowest blocks that may be purged above the block at a place.
 pub fn purge_above(entries: &mut Vec<StoredBlock>, place: u32, purges: u32, sparing: Sparing)
     requires fits { sizes (blocks_of entries.old.items) < 2 ^ 32 }
     requires spot { IsSome (spot_at place (blocks_of entries.old.items)) }
@@ -92,7 +93,7 @@ pub fn purge_above(entries: &mut Vec<StoredBlock>, place: u32, purges: u32, spar
     tidy_entries(entries);
 }
 
-/// An entry with other flags, where its block is relocatable.
+/// Returns the entry with other flags, where its block is relocatable.
 fn flagged_entry(entry: StoredBlock, flags: Flags) -> StoredBlock
     ensures { block_of result ≡ with_flags flags (block_of entry) }
 {
@@ -104,7 +105,7 @@ fn flagged_entry(entry: StoredBlock, flags: Flags) -> StoredBlock
     }
 }
 
-/// Sets the flags of the block at a place, where it is a relocatable one.
+/// Sets the flags of the block at a place, where the block is relocatable.
 pub fn flag_at(entries: &mut Vec<StoredBlock>, place: u32, flags: Flags)
     requires fits { sizes (blocks_of entries.old.items) < 2 ^ 32 }
     requires spot { IsSome (spot_at place (blocks_of entries.old.items)) }

@@ -1,4 +1,4 @@
-//! The search for a run among blocks, some of which would be emptied.
+//! The search for a run among blocks, some of which would be purged.
 
 ghost use Rattle.std.specs.Prelude.{◌≡◌, ◌+◌, ◌≤◌, ◌<◌, ◌^◌, ◌&&◌, ◌∷◌, ℕ, List, None, true, false, nat_le};
 ghost use Rattle.std.specs.Option.{option_map};
@@ -13,8 +13,8 @@ ghost use Rattle.block_store.specs.Inner.RunScan.{is_wanted, suits, scan_from};
 use crate::sparing::{Seen, Sparing};
 use crate::walk::{Walk, is_counted_free, is_in_run, may_be_emptied, size_of_seen};
 
-/// How far a search is: the purges left, where the run began, its Free bytes so far, whether it has the
-/// block that it must have, and the place.
+/// The state of a search for a run: the purges left, the place where the current run began, its number of free bytes so
+/// far, whether it has the block that it must have, and the place of the search.
 #[derive(Clone, Copy, Debug, PartialEq, Eq)]
 pub struct RunScan {
     pub left: u32,
@@ -24,7 +24,7 @@ pub struct RunScan {
     pub place: u32,
 }
 
-/// Whether a block is the one that a run must have.
+/// Reports whether a block is the one that a run must have.
 fn is_block_wanted(block: Seen, number: Option<u32>) -> bool
     ensures { (b : Block) → seen b ≡ block → result ≡ is_wanted number b }
 {
@@ -34,14 +34,14 @@ fn is_block_wanted(block: Seen, number: Option<u32>) -> bool
     }
 }
 
-/// Whether the run so far is the one.
+/// Reports whether the run suffices as far as it was read.
 fn is_enough(scan: RunScan, bytes: u32) -> bool
     ensures { result ≡ (scan.met && nat_le bytes scan.free) }
 {
     scan.met && bytes <= scan.free
 }
 
-/// The search after a block, where the run so far is not yet the one.
+/// Returns the state of the search after a block, where the run does not yet suffice.
 pub fn scan_run(block: Seen, number: Option<u32>, scan: RunScan, sparing: Sparing) -> RunScan
     requires room { scan.place + seen_size block < 2 ^ 32 }
     requires free { scan.free ≤ scan.place }
@@ -76,8 +76,8 @@ pub fn scan_run(block: Seen, number: Option<u32>, scan: RunScan, sparing: Sparin
     next
 }
 
-/// The place of the lowest run that has so many Free bytes after so many purges, and the block of a slot
-/// where one is given.
+/// Returns the place of the lowest run that has `bytes` free bytes after `purges` purges, and, where `number` is given,
+/// the block of that master pointer.
 #[tactic(auto, using(crate::proofs::Regroup::RunScans::scan_kept))]
 pub fn search_runs_in<W: Walk>(
     walk: &mut W,
@@ -97,7 +97,7 @@ pub fn search_runs_in<W: Walk>(
         met: number.is_none(),
         place: 0,
     };
-    // A run that is the one stays it, whatever else it has.
+    // A run that suffices still suffices with more blocks.
     while !is_enough(scan, bytes) {
         let Some(block) = walk.next_block() else {
             return None;
@@ -107,7 +107,7 @@ pub fn search_runs_in<W: Walk>(
     Some(scan.start)
 }
 
-/// The lowest run with at least so many Free bytes, after so many purges.
+/// Returns the place of the lowest run with at least `bytes` free bytes, after `purges` purges.
 pub fn find_run_in<W: Walk>(walk: &mut W, bytes: u32, purges: u32, sparing: Sparing) -> Option<u32>
     requires { sizes (W.rest walk.old) < 2 ^ 32 }
     ensures { FindsLowestRun (has_free bytes) (purged purges sparing (W.rest walk.old)) result }
@@ -115,7 +115,8 @@ pub fn find_run_in<W: Walk>(walk: &mut W, bytes: u32, purges: u32, sparing: Spar
     search_runs_in(walk, None, bytes, purges, sparing)
 }
 
-/// The run of the block of a slot, if it has so many Free bytes after so many purges.
+/// Returns the place of the run of a master pointer's block, where the run has `bytes` free bytes after `purges`
+/// purges.
 pub fn run_of_in<W: Walk>(
     walk: &mut W,
     number: u32,

@@ -1,4 +1,4 @@
-//! What blocks tell of their runs.
+//! What is found out about runs of movable blocks by a walk over a zone.
 
 ghost use Rattle.std.specs.Prelude.{◌≡◌, ◌<◌, ◌^◌, ◌&&◌, max, nat_lt};
 ghost use Rattle.block_store.specs.Block.{Block, sizes, free_sum};
@@ -11,14 +11,14 @@ ghost use Rattle.block_store.specs.Seen.{seen};
 use crate::sparing::{Seen, Sparing};
 use crate::walk::{Walk, free_of_seen, is_in_run, may_go_now, size_of_seen};
 
-/// The larger of two numbers.
+/// Returns the larger of two numbers.
 pub fn larger(a: u32, b: u32) -> u32
     ensures { result ≡ max a b }
 {
     if a < b { b } else { a }
 }
 
-/// The bytes of the largest Free block; 0 where there is none.
+/// Returns the size in bytes of the largest free block; 0 where there is no free block.
 pub fn largest_free_in<W: Walk>(walk: &mut W) -> u32
     requires { sizes (W.rest walk.old) < 2 ^ 32 }
     ensures { result ≡ largest_free (W.rest walk.old) }
@@ -30,7 +30,7 @@ pub fn largest_free_in<W: Walk>(walk: &mut W) -> u32
     most
 }
 
-/// The most Free bytes that one run has.
+/// Returns the greatest number of free bytes in one run.
 pub fn largest_run_in<W: Walk>(walk: &mut W) -> u32
     requires { sizes (W.rest walk.old) < 2 ^ 32 }
     ensures { result ≡ largest_run (W.rest walk.old) }
@@ -48,7 +48,8 @@ pub fn largest_run_in<W: Walk>(walk: &mut W) -> u32
     larger(most, free)
 }
 
-/// How far above the run that comes first the next one is; none where there is no other.
+/// Returns the distance from the walk's first block to the bottom of the run after the first one; `None` where there is
+/// no other run.
 pub fn next_run_in<W: Walk>(walk: &mut W) -> Option<u32>
     requires { sizes (W.rest walk.old) < 2 ^ 32 }
     ensures { result ≡ place_behind (sizes (segments (W.rest walk.old)).first)
@@ -64,14 +65,14 @@ pub fn next_run_in<W: Walk>(walk: &mut W) -> Option<u32>
     None
 }
 
-/// Whether a block is emptied where so many purges are left.
+/// Reports whether a block is purged where `left` purges are left.
 fn goes(block: Seen, left: u32, sparing: Sparing) -> bool
     ensures { (b : Block) → seen b ≡ block → result ≡ (nat_lt 0 left && may_go (spared sparing) b) }
 {
     left > 0 && may_go_now(block, sparing)
 }
 
-/// The Free bytes of the run that comes first, after so many purges in it.
+/// Returns the number of free bytes in the first run, after `purges` purges in the run.
 fn run_free_in<W: Walk>(walk: &mut W, purges: u32, sparing: Sparing) -> u32
     requires { sizes (W.rest walk.old) < 2 ^ 32 }
     ensures { result ≡ free_sum (emptied purges (spared sparing) (segments (W.rest walk.old)).first) }
@@ -92,7 +93,7 @@ fn run_free_in<W: Walk>(walk: &mut W, purges: u32, sparing: Sparing) -> u32
     free
 }
 
-/// Whether the run that comes first has so many Free bytes, after so many purges in it.
+/// Reports whether the first run has `bytes` free bytes, after `purges` purges in the run.
 pub fn run_has_free_in<W: Walk>(walk: &mut W, bytes: u32, purges: u32, sparing: Sparing) -> bool
     requires { sizes (W.rest walk.old) < 2 ^ 32 }
     ensures { result ≡ has_free bytes (emptied purges (spared sparing) (segments (W.rest walk.old)).first) }
@@ -100,7 +101,7 @@ pub fn run_has_free_in<W: Walk>(walk: &mut W, bytes: u32, purges: u32, sparing: 
     bytes <= run_free_in(walk, purges, sparing)
 }
 
-/// How many blocks of the run that comes first may be emptied.
+/// Returns the number of blocks of the first run that may be purged.
 pub fn purgeable_in_run_in<W: Walk>(walk: &mut W, sparing: Sparing) -> u32
     requires { sizes (W.rest walk.old) < 2 ^ 32 }
     ensures { result ≡ count_of (spared sparing) (segments (W.rest walk.old)).first }

@@ -14,7 +14,7 @@ use crate::entries::{
 };
 use std::alloc::{AllocError, Global};
 
-/// Bytes cut, or filled with zeros, to a size.
+/// Returns a content cut, or filled with bytes 0, to a size.
 fn resized_bytes(alloc: Global, content: &[u8], bytes: usize) -> Result<Vec<u8>, AllocError>
     ensures { IfOk result (λ v. v.items ≡ resized_content bytes content.now) }
 {
@@ -25,7 +25,7 @@ fn resized_bytes(alloc: Global, content: &[u8], bytes: usize) -> Result<Vec<u8>,
     Ok(resized)
 }
 
-/// An entry like this one with its content at another size.
+/// Returns a copy of the entry with its content at another size.
 fn resized_entry(
     alloc: Global,
     entry: &StoredBlock,
@@ -47,7 +47,7 @@ fn resized_entry(
     }
 }
 
-/// An entry like a slot's with its content at another size.
+/// Returns a copy of the entry of a master pointer with its content at another size.
 fn resized_slot(
     alloc: Global,
     entries: &[StoredBlock],
@@ -66,7 +66,7 @@ fn resized_slot(
     unreachable!()
 }
 
-/// Takes bytes from the Free entry at an index, and drops it where none are left.
+/// Takes bytes from the free block at an index, and removes its entry where no bytes are left.
 fn take_bytes(entries: &mut Vec<StoredBlock>, i: usize, bytes: u32)
     requires fits { sizes (blocks_of entries.old.items) < 2 ^ 32 }
     requires room { IsSome (taken bytes (drop i (blocks_of entries.old.items))) }
@@ -81,7 +81,7 @@ fn take_bytes(entries: &mut Vec<StoredBlock>, i: usize, bytes: u32)
     }
 }
 
-/// Puts an entry in place of a smaller one, and takes the bytes from the Free entry that follows.
+/// Puts an entry in place of a smaller one, and takes the bytes that it needs from the free block that follows.
 fn grow(entries: &mut Vec<StoredBlock>, place: u32, new: StoredBlock)
     requires fits { sizes (blocks_of entries.old.items) < 2 ^ 31 }
     requires more { IsSomeAnd (spot_at place (blocks_of entries.old.items)) (λ s. size s.here < size (block_of new)) }
@@ -98,8 +98,8 @@ fn grow(entries: &mut Vec<StoredBlock>, place: u32, new: StoredBlock)
     entries[i] = new;
 }
 
-/// Puts an entry in place of the one at a place: what is left is Free, and what is wanted is taken from the
-/// Free entry that follows.
+/// Puts an entry in place of the one at a place: bytes that are left become free, and bytes that are needed are taken
+/// from the free block that follows.
 fn replace(entries: &mut Vec<StoredBlock>, place: u32, new: StoredBlock) -> Result<(), AllocError>
     requires fits { sizes (blocks_of entries.old.items) < 2 ^ 31 }
     requires room { IsSomeAnd (spot_at place (blocks_of entries.old.items)) (λ s.
@@ -122,8 +122,8 @@ fn replace(entries: &mut Vec<StoredBlock>, place: u32, new: StoredBlock) -> Resu
     Ok(())
 }
 
-/// Gives the entry at a place another size: what is left is Free, and what is wanted is taken from the Free
-/// entry that follows.
+/// Changes the logical size of the entry at a place: bytes that are left become free, and bytes that are needed are
+/// taken from the free block that follows.
 pub fn resize_at(
     alloc: Global,
     entries: &mut Vec<StoredBlock>,
@@ -147,7 +147,8 @@ pub fn resize_at(
     replace(entries, place, new)
 }
 
-/// Makes a slot's entry Free, and puts another at the lower end of the Free one at a place.
+/// Makes the block of a master pointer a free block, and puts another entry at the lower end of the free block at a
+/// place.
 fn put_away(
     entries: &mut Vec<StoredBlock>,
     place: u32,
@@ -172,7 +173,7 @@ fn put_away(
     Ok(())
 }
 
-/// Moves the entry of a slot, at another size, to the lower end of the Free one at a place.
+/// Moves the block of a master pointer, at another logical size, to the lower end of the free block at a place.
 pub fn move_slot(
     alloc: Global,
     entries: &mut Vec<StoredBlock>,

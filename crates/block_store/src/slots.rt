@@ -1,17 +1,17 @@
-//! The list of a store's slots.
+//! The list of a store's master pointers.
 
 ghost use Rattle.std.specs.Prelude.{◌≡◌, ◌<◌, length, count_by, MatchOption};
 ghost use Rattle.block_store.specs.Slot.{Unused, is_used, is_resource};
 ghost use Rattle.block_store.specs.Inner.ListStore.{is_unused, slots_of};
 
-/// A slot: of no handle, or of one, with its resource flag.
+/// A master pointer: unused, or the master pointer of a handle, with the handle's resource flag.
 #[derive(Clone, Copy, PartialEq, Eq)]
 pub enum SlotEntry {
     Unused,
     Used(bool),
 }
 
-/// The index of the first slot of no handle.
+/// Returns the index of the first unused master pointer, if there is one.
 pub fn first_unused(slots: &[SlotEntry]) -> Option<usize>
     ensures { MatchOption result (count_by is_unused slots.now ≡ 0) (λ i.
         (i < length slots.now) × (slots_of slots.now i ≡ Unused)) }
@@ -24,7 +24,7 @@ pub fn first_unused(slots: &[SlotEntry]) -> Option<usize>
     None
 }
 
-/// Whether a number is the slot of a handle whose resource flag is set.
+/// Reports whether a number is that of a handle's master pointer whose resource flag is set.
 pub fn has_flag(slots: &[SlotEntry], number: u32) -> bool
     ensures { result ≡ is_resource (slots_of slots.now number) }
 {

@@ -1,23 +1,23 @@
-//! What a search for room spares, and what a look at a block tells.
+//! What a search for room spares, and a block as a search sees it.
 
 use crate::flags::Flags;
 
-/// The handles that a call names, by their slots, while room is sought for it.
+/// The handles that a call names, by their master pointers, while room is sought for the call.
 ///
 /// *Inside Macintosh: Memory*, chapter 1, "Memory Reservation" and "Purging and Reallocating Relocatable Blocks".
 #[derive(Clone, Copy, Debug, PartialEq, Eq)]
 pub enum Sparing {
-    /// Any block may be emptied that can be.
+    /// The search spares no block: any unlocked, purgeable block may be purged.
     Nothing,
-    /// The block of this slot isn't emptied.
+    /// The block of this master pointer isn't purged.
     One(u32),
-    /// The blocks of these slots aren't emptied.
+    /// The blocks of these master pointers aren't purged.
     Two(u32, u32),
-    /// The block of this slot counts as Free.
+    /// The block of this master pointer counts as a free block.
     Freed(u32),
 }
 
-/// A block without its bytes: how many it holds and, for a Free one, how many it takes.
+/// A block without its bytes: the logical size of an allocated block, and the physical size of a free block.
 #[derive(Clone, Copy, Debug, PartialEq, Eq)]
 pub enum Seen {
     Free(u32),

@@ -25,117 +25,119 @@ use crate::measures::{MASTERS_SIZE, SLOTS_A_BLOCK, UNIT};
 use crate::sparing::{Seen, Sparing};
 use std::alloc::AllocError;
 
-/// The blocks of a zone, and the slots through which its relocatable blocks are reached. A place is a
-/// block's distance in bytes from the zone's bottom; a run is named by the place of its bottom.
+/// The blocks of a zone, and the master pointers (slots) through which its relocatable blocks are reached. A place is a
+/// block's distance in bytes from the bottom of the zone; a run is named by the place of its bottom. A master pointer
+/// is named by its number, its slot.
 ///
 /// *Inside Macintosh: Memory*, chapter 2, "Heap Zones", and chapter 1, "Relocatable and Nonrelocatable Blocks".
 pub trait BlockStore {
-    /// Whether its calls may answer that the host has no memory. A store gives the constant, and the value
-    /// that clauses name: both are proved equal.
+    /// Says whether calls of the store may fail because the host is out of memory. A store defines this constant, and
+    /// the value that the clauses name: the two are proved equal.
     const TAKES_HOST: bool;
 
     ghost TAKES_HOST: { Bool };
 
-    /// The blocks from bottom to top; a relocatable block is named by its slot, a Fixed one by its place.
+    /// The blocks from bottom to top; a relocatable block is named by its slot, a nonrelocatable block by its place.
     ghost zone: { Self → List Block };
 
-    /// The slots, the moves and where the store lies.
+    /// The master pointers, the count of moves, and the window in which the store lies.
     ghost rest: { Self → Rest };
 
-    /// The bytes of the zone.
+    /// Returns the size of the zone in bytes.
     fn len(&self) -> u32
         ensures { result ≡ sizes (zone self.now) };
 
-    /// The bytes of its Free blocks, headers included.
+    /// Returns the total size in bytes of the free blocks, headers included.
     fn free_bytes(&self) -> u32
         ensures { result ≡ free_sum (zone self.now) };
 
-    /// The bytes of its largest Free block; 0 where it has none.
+    /// Returns the size in bytes of the largest free block; 0 where there is no free block.
     fn largest_free(&self) -> u32
         ensures { result ≡ largest_free (zone self.now) };
 
-    /// The most Free bytes that one run has.
+    /// Returns the greatest number of free bytes in one run.
     fn largest_run(&self) -> u32
         ensures { result ≡ largest_run (zone self.now) };
 
-    /// How often a block was moved down by `settle`; it stays at its greatest value.
+    /// Returns the number of times that `settle` moved a block down; the count stays at the greatest value of its type.
     fn moves(&self) -> u64
         ensures { result ≡ (rest self.now).moves };
 
-    /// The block at a place where one begins; none at the zone's end.
+    /// Returns the block that begins at a place; `None` at the zone's end.
     fn block_at(&self, place: u32) -> Option<Seen>
         requires { IsEdge place (zone self.now) }
         ensures { result ≡ option_map (λ s. seen s.here) (spot_at place (zone self.now)) };
 
-    /// The place of the block that a handle's slot leads to; none where the handle is emptied.
+    /// Returns the place of the block to which a handle's master pointer leads; `None` for an empty handle.
     fn place_of(&self, number: u32) -> Option<u32>
         requires { IsTrue (is_used ((rest self.now).slots number)) }
         ensures { FindsLowest (is_relocatable number) (zone self.now) result };
 
-    /// The place of the lowest Free block of at least so many bytes, after so many purges.
+    /// Returns the place of the lowest free block of at least `bytes` bytes, after `purges` purges, if there is one.
     fn find_free(&self, bytes: u32, purges: u32, sparing: Sparing) -> Option<u32>
         ensures { FindsLowest (is_room bytes) (purged purges sparing (zone self.now)) result };
 
-    /// The lowest run with at least so many Free bytes, after so many purges.
+    /// Returns the place of the lowest run with at least `bytes` free bytes, after `purges` purges, if there is one.
     fn find_run(&self, bytes: u32, purges: u32, sparing: Sparing) -> Option<u32>
         ensures { FindsLowestRun (has_free bytes) (purged purges sparing (zone self.now)) result };
 
-    /// The run above a run; none above the highest. The lowest run is at place 0.
+    /// Returns the place of the run above a run; `None` above the highest run. The lowest run is at place 0.
     fn next_run(&self, run: u32) -> Option<u32>
         requires { IsSome (run_at run (zone self.now)) }
         ensures { IfSome (run_at run (zone self.now)) (λ r. result ≡ next_run r) };
 
-    /// The place of the block that is emptied next, after so many purges.
+    /// Returns the place of the block that is purged next, after `purges` purges, if there is one.
     fn next_purgeable(&self, purges: u32, sparing: Sparing) -> Option<u32>
         ensures { FindsLowest (may_go (spared sparing)) (purged purges sparing (zone self.now)) result };
 
-    /// How many blocks may be emptied.
+    /// Returns the number of blocks that may be purged.
     fn purgeable(&self, sparing: Sparing) -> u32
         ensures { result ≡ most_purges sparing (zone self.now) };
 
-    /// Whether so many Free bytes follow the block of a slot, after so many purges.
+    /// Reports whether `bytes` free bytes follow the block of a master pointer, after `purges` purges.
     fn room_above(&self, number: u32, bytes: u32, purges: u32, sparing: Sparing) -> bool
         ensures { IfSome (spot (is_relocatable number) (purged purges sparing (zone self.now))) (λ s.
             result ≡ is_some (taken bytes s.above)) };
 
-    /// The run of the block of a slot, if it has so many Free bytes after so many purges.
+    /// Returns the place of the run of a master pointer's block, where the run has `bytes` free bytes after `purges`
+    /// purges.
     fn run_of(&self, number: u32, bytes: u32, purges: u32, sparing: Sparing) -> Option<u32>
         ensures { FindsLowestRun (λ run. has (is_relocatable number) run && has_free bytes run)
             (purged purges sparing (zone self.now)) result };
 
-    /// The Free bytes after so many purges.
+    /// Returns the number of free bytes after `purges` purges.
     fn free_after(&self, purges: u32, sparing: Sparing) -> u32
         ensures { result ≡ free_sum (purged purges sparing (zone self.now)) };
 
-    /// The bytes of the largest Free block after so many purges; 0 where there is none.
+    /// Returns the size in bytes of the largest free block after `purges` purges; 0 where there is no free block.
     fn largest_after(&self, purges: u32, sparing: Sparing) -> u32
         ensures { result ≡ largest_free (purged purges sparing (zone self.now)) };
 
-    /// Empties the lowest blocks that may go, so many of them, and frees a block that counts as Free.
+    /// Purges the `purges` lowest blocks that may be purged, and makes the block that counts as free a free block.
     fn purge(&mut self, purges: u32, sparing: Sparing)
         ensures zone { zone self.new ≡ purged purges sparing (zone self.old) }
         ensures rest { IsRest (rest self.old) (rest self.new) };
 
-    /// Whether the run above the block at a place has so many Free bytes, after so many purges in it.
+    /// Reports whether the run above the block at a place has `bytes` free bytes, after `purges` purges in the run.
     fn run_after(&self, place: u32, bytes: u32, purges: u32, sparing: Sparing) -> bool
         requires { IsSome (spot_at place (zone self.now)) }
         ensures { IfSome (spot_at place (zone self.now)) (λ s.
             result ≡ has_free bytes (emptied purges (spared sparing) (segments s.above).first)) };
 
-    /// How many blocks may go in the run above the block at a place.
+    /// Returns the number of blocks that may be purged in the run above the block at a place.
     fn purgeable_after(&self, place: u32, sparing: Sparing) -> u32
         requires { IsSome (spot_at place (zone self.now)) }
         ensures { IfSome (spot_at place (zone self.now)) (λ s.
             result ≡ count_of (spared sparing) (segments s.above).first) };
 
-    /// Empties the lowest blocks that may go above the block at a place, so many of them.
+    /// Purges the `purges` lowest blocks that may be purged above the block at a place.
     fn purge_after(&mut self, place: u32, purges: u32, sparing: Sparing)
         requires { IsSome (spot_at place (zone self.old)) }
         ensures zone { IfSome (spot_at place (zone self.old)) (λ s.
             zone self.new ≡ tidy (s.below ++ s.here ∷ emptied purges (spared sparing) s.above)) }
         ensures rest { IsRest (rest self.old) (rest self.new) };
 
-    /// Packs a run: its relocatable blocks in order, then one Free block.
+    /// Compacts a run: its relocatable blocks stand in order, then one free block.
     ///
     /// *Inside Macintosh: Memory*, chapter 1, "Heap Compaction".
     fn settle(&mut self, run: u32)
@@ -143,12 +145,12 @@ pub trait BlockStore {
         ensures zone { IfSome (run_at run (zone self.old)) (λ r. zone self.new ≡ tidy (with_run settle r)) }
         ensures rest { IfSome (run_at run (zone self.old)) (λ r.
             IsRest (with_moves (falling r.run) (rest self.old)) (rest self.new)) }
-        // What is counted are the relocatable blocks that stand lower afterwards.
+        // The relocatable blocks that stand lower afterwards are counted, and no others.
         ensures counted { IfSome (run_at run (zone self.old)) (λ r.
             falling r.run ≡ lowered (zone self.old) (zone self.new)) }
         ensures lower { NoneRises (zone self.old) (zone self.new) };
 
-    /// Packs a run upward, with so many Free bytes at its bottom.
+    /// Compacts a run upward, with `bytes` free bytes at its bottom.
     fn raise(&mut self, run: u32, bytes: u32) -> Result<(), AllocError>
         requires run { IsSomeAnd (run_at run (zone self.old)) (λ r. IsTrue (has_free bytes r.run)) }
         requires even { bytes % UNIT ≡ 0 }
@@ -159,14 +161,14 @@ pub trait BlockStore {
         ensures err { OnErr result (zone self.new ≡ zone self.old) }
         ensures host { IsErr result → IsTrue TAKES_HOST };
 
-    /// Moves the block of a slot to the top of its run.
+    /// Moves the block of a master pointer to the top of its run.
     fn hoist(&mut self, run: u32, number: u32)
         requires { IsSomeAnd (run_at run (zone self.old)) (λ r. IsTrue (has (is_relocatable number) r.run)) }
         ensures zone { IfSome (run_at run (zone self.old)) (λ r.
             zone self.new ≡ tidy (with_run (high (is_relocatable number)) r)) }
         ensures rest { IsRest (rest self.old) (rest self.new) };
 
-    /// Puts a new block of `size` bytes 0 at the lower end of the Free block at a place.
+    /// Puts a new relocatable block of `size` bytes 0 at the lower end of the free block at a place.
     fn carve(&mut self, place: u32, number: u32, size: u32) -> Result<(), AllocError>
         requires room { IsSomeAnd (spot_at place (zone self.old)) (λ s. IsTrue (is_room (padded size) s.here)) }
         requires used { IsTrue (is_used ((rest self.old).slots number)) }
@@ -177,7 +179,7 @@ pub trait BlockStore {
         ensures err { OnErr result (zone self.new ≡ zone self.old) }
         ensures host { IsErr result → IsTrue TAKES_HOST };
 
-    /// Puts a new Fixed block of `size` bytes 0 at the lower end of the Free block at a place.
+    /// Puts a new nonrelocatable block of `size` bytes 0 at the lower end of the free block at a place.
     fn carve_fixed(&mut self, place: u32, size: u32) -> Result<(), AllocError>
         requires { IsSomeAnd (spot_at place (zone self.old)) (λ s. IsTrue (is_room (padded size) s.here)) }
         ensures ok { OnOk result (IfSome (spot_at place (zone self.old)) (λ s.
@@ -186,7 +188,7 @@ pub trait BlockStore {
         ensures err { OnErr result (zone self.new ≡ zone self.old) }
         ensures host { IsErr result → IsTrue TAKES_HOST };
 
-    /// Puts a block of 64 new slots at the lower end of the Free block at a place.
+    /// Puts a new master pointer block, of 64 master pointers, at the lower end of the free block at a place.
     ///
     /// *Inside Macintosh: Memory*, chapter 2, "Allocating Master Pointers".
     fn add_masters(&mut self, place: u32) -> Result<(), AllocError>
@@ -194,7 +196,7 @@ pub trait BlockStore {
         ensures ok { OnOk result (IfSome (spot_at place (zone self.old)) (λ s. zone self.new ≡ filled Masters s)) }
         ensures unused { OnOk result ((rest self.new).unused ≡ (rest self.old).unused + SLOTS_A_BLOCK) }
         ensures all { OnOk result ((rest self.new).all ≡ (rest self.old).all + SLOTS_A_BLOCK) }
-        // A slot stays what it was; what was none may now be an unused one.
+        // A master pointer of a handle stays as it was; a number that was no master pointer may become an unused one.
         ensures slots { OnOk result
             ((k : ℕ) → IsTrue (is_used ((rest self.old).slots k)) → (rest self.new).slots k ≡ (rest self.old).slots k) }
         ensures moves { (rest self.new).moves ≡ (rest self.old).moves }
@@ -203,20 +205,20 @@ pub trait BlockStore {
         ensures same { OnErr result (IsRest (rest self.old) (rest self.new)) }
         ensures host { IsErr result → IsTrue TAKES_HOST };
 
-    /// Makes the Fixed block at a place Free.
+    /// Makes the nonrelocatable block at a place a free block.
     fn free_at(&mut self, place: u32)
         requires { IsSomeAnd (spot_at place (zone self.old)) (λ s. is_fixed place s.here ≡ true) }
         ensures zone { zone self.new ≡ tidy (freed (is_fixed place) (zone self.old)) }
         ensures rest { IsRest (rest self.old) (rest self.new) };
 
-    /// Makes the block that a handle's slot leads to Free; does nothing where the handle is emptied.
+    /// Makes the block to which a handle's master pointer leads a free block; does nothing for an empty handle.
     fn release(&mut self, number: u32)
         requires { IsTrue (is_used ((rest self.old).slots number)) }
         ensures zone { zone self.new ≡ tidy (freed (is_relocatable number) (zone self.old)) }
         ensures rest { IsRest (rest self.old) (rest self.new) };
 
-    /// Gives the block at a place another size: cuts it where it stands, or lets it grow into the Free block
-    /// that follows it. New bytes are 0.
+    /// Changes the logical size of the block at a place: cuts the block where it stands, or lets it grow into the free
+    /// block that follows. New bytes are 0.
     fn resize(&mut self, place: u32, bytes: u32) -> Result<(), AllocError>
         requires { IsSomeAnd (spot_at place (zone self.old)) (λ s.
             (size (resized bytes s.here) ≤ size s.here) ⊎ IsSome (grow_up (resized bytes s.here) s)) }
@@ -229,8 +231,8 @@ pub trait BlockStore {
         ensures err { OnErr result (zone self.new ≡ zone self.old) }
         ensures host { IsErr result → IsTrue TAKES_HOST };
 
-    /// Moves the block of a slot, at another size, to the lower end of the Free block at a place. New bytes
-    /// are 0.
+    /// Moves the block of a master pointer, at another logical size, to the lower end of the free block at a place. New
+    /// bytes are 0.
     fn move_to(&mut self, place: u32, number: u32, bytes: u32) -> Result<(), AllocError>
         requires room { IsSomeAnd (spot_at place (zone self.old)) (λ s. IsTrue (is_room (padded bytes) s.here)) }
         requires block { IsSome (spot (is_relocatable number) (zone self.old)) }
@@ -241,14 +243,14 @@ pub trait BlockStore {
         ensures err { OnErr result (zone self.new ≡ zone self.old) }
         ensures host { IsErr result → IsTrue TAKES_HOST };
 
-    /// Sets the flags of the block at a place, where it is a relocatable one.
+    /// Sets the flags of the block at a place, where the block is relocatable.
     fn set_flags(&mut self, place: u32, flags: Flags)
         requires { IsSome (spot_at place (zone self.old)) }
         ensures zone { IfSome (spot_at place (zone self.old)) (λ s.
             zone self.new ≡ s.below ++ with_flags flags s.here ∷ s.above) }
         ensures rest { IsRest (rest self.old) (rest self.new) };
 
-    /// Takes a slot for a new handle.
+    /// Takes an unused master pointer for a new handle; returns `None` where there is no unused one.
     fn take_slot(&mut self) -> Option<u32>
         ensures was { IfSome result (λ number. (rest self.old).slots number ≡ Unused) }
         ensures one { IfSome result (λ number. (rest self.new).unused + 1 ≡ (rest self.old).unused) }
@@ -258,19 +260,20 @@ pub trait BlockStore {
         ensures same { MatchOption result (IsRest (rest self.old) (rest self.new)) (λ _. Unit {0}) }
         ensures zone { zone self.new ≡ zone self.old };
 
-    /// Gives the slot of a handle back.
+    /// Gives back the master pointer of a handle that has no block.
     fn give_slot(&mut self, number: u32)
         requires used { IsTrue (is_used ((rest self.old).slots number)) }
         requires no_block { has (is_relocatable number) (zone self.old) ≡ false }
         ensures rest { IsRest (with_slot number Unused ((rest self.old).unused + 1) (rest self.old)) (rest self.new) }
         ensures zone { zone self.new ≡ zone self.old };
 
-    /// Whether the resource flag of a handle's slot is set.
+    /// Reports whether the resource flag of a handle's master pointer is set.
     fn is_resource(&self, number: u32) -> bool
         requires { IsTrue (is_used ((rest self.now).slots number)) }
         ensures { result ≡ is_resource ((rest self.now).slots number) };
 
-    /// Sets or clears the resource flag of a handle's slot, whether the handle has a block or is emptied.
+    /// Sets or clears the resource flag of a handle's master pointer, whether the handle has a block or is an empty
+    /// handle.
     ///
     /// *Inside Macintosh: Memory*, chapter 2, "Setting the Properties of Relocatable Blocks".
     fn set_resource(&mut self, number: u32, resource: bool)
@@ -279,7 +282,7 @@ pub trait BlockStore {
             (rest self.new) }
         ensures zone { zone self.new ≡ zone self.old };
 
-    /// The bytes of the block at a place.
+    /// Returns the content of the block at a place.
     fn bytes(&self, place: u32) -> &[u8]
         requires { IsSome (spot_at place (zone self.now)) }
         ensures { IfSome (spot_at place (zone self.now)) (λ s. result.now ≡ content_of s.here) };
@@ -292,7 +295,7 @@ pub trait BlockStore {
             zone self.new ≡ s.below ++ with_content (written from bytes.now (content_of s.here)) s.here ∷ s.above) }
         ensures rest { IsRest (rest self.old) (rest self.new) };
 
-    /// Writes the first bytes of one block into another, or into itself, from an offset on.
+    /// Writes the first `bytes` bytes of one block into another block, or into the same block, from an offset on.
     fn copy(&mut self, source: u32, bytes: u32, place: u32, from: u32)
         requires source { IsSomeAnd (spot_at source (zone self.old)) (λ s. bytes ≤ length (content_of s.here)) }
         requires within { IsSomeAnd (spot_at place (zone self.old)) (λ s. from + bytes ≤ length (content_of s.here)) }
@@ -304,22 +307,22 @@ pub trait BlockStore {
     /// A zone has at most 2^27 bytes.
     ghost small: { (store : Self) → sizes (zone store) ≤ GREATEST_ZONE };
 
-    /// A Masters block has 64 slots.
+    /// A master pointer block has 64 master pointers.
     ghost masters: { (store : Self) → (rest store).all ≡ SLOTS_A_BLOCK * count is_masters (zone store) };
 
-    /// A slot of no handle leads to no block.
+    /// A number that is no handle's master pointer leads to no block.
     ghost no_block: { (store : Self) (number : ℕ) → is_used ((rest store).slots number) ≡ false
         → has (is_relocatable number) (zone store) ≡ false };
 
-    /// No two blocks have one slot.
+    /// No two blocks have the same master pointer.
     ghost once: { (store : Self) (number : ℕ) → count (is_relocatable number) (zone store) ≤ 1 };
 
-    /// No block takes no bytes, and no two Free blocks are neighbours.
+    /// No free block has a size of 0 bytes, and no two free blocks are neighbours.
     ghost tidied: { (store : Self) → tidy (zone store) ≡ zone store };
 
-    /// Each block takes a multiple of 16 bytes.
+    /// The physical size of each block is a multiple of 16 bytes.
     ghost aligned: { (store : Self) → Aligned (zone store) };
 
-    /// A Fixed block is named by its place.
+    /// A nonrelocatable block is named by its place.
     ghost placed: { (store : Self) → Placed 0 (zone store) };
 }

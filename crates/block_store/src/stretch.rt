@@ -1,4 +1,4 @@
-//! The search for room among blocks, some of which would be emptied.
+//! The search for room among blocks, some of which would be purged.
 
 ghost use Rattle.std.specs.Prelude.{◌≡◌, ◌+◌, ◌≤◌, ◌<◌, ◌^◌, ◌∷◌, List, IfSome};
 ghost use Rattle.std.specs.Option.{option_map};
@@ -13,7 +13,8 @@ ghost use Rattle.block_store.specs.Inner.Stretch.{is_enough, stretch, after_scan
 use crate::sparing::{Seen, Sparing};
 use crate::walk::{Walk, is_counted_free, may_be_emptied, size_of_seen};
 
-/// How far a search is: the purges left, where the stretch began, its bytes so far, and the place.
+/// The state of a search for room: the purges left, the place where the current stretch began, its number of bytes so
+/// far, and the place of the search.
 #[derive(Clone, Copy, Debug, PartialEq, Eq)]
 pub struct RoomScan {
     pub left: u32,
@@ -22,14 +23,14 @@ pub struct RoomScan {
     pub place: u32,
 }
 
-/// Whether a stretch is room for so many bytes.
+/// Reports whether a stretch of `free` bytes is room for `bytes` bytes.
 pub fn suffices(free: u32, bytes: u32) -> bool
     ensures { result ≡ is_enough bytes free }
 {
     free > 0 && bytes <= free
 }
 
-/// The search after a block; none where the stretch is the one.
+/// Returns the state of the search after a block; `None` where the stretch that ends there suffices.
 pub fn scan_room(block: Seen, bytes: u32, scan: RoomScan, sparing: Sparing) -> Option<RoomScan>
     requires room { scan.place + seen_size block < 2 ^ 32 }
     requires free { scan.free ≤ scan.place }
@@ -68,7 +69,7 @@ pub fn scan_room(block: Seen, bytes: u32, scan: RoomScan, sparing: Sparing) -> O
     })
 }
 
-/// The place of the lowest stretch that is room for so many bytes, after so many purges.
+/// Returns the place of the lowest stretch that is room for `bytes` bytes, after `purges` purges.
 fn find_room_in<W: Walk>(walk: &mut W, bytes: u32, purges: u32, sparing: Sparing) -> Option<u32>
     requires { sizes (W.rest walk.old) < 2 ^ 32 }
     ensures { result ≡ option_map (λ s. sizes s.below)
@@ -89,7 +90,7 @@ fn find_room_in<W: Walk>(walk: &mut W, bytes: u32, purges: u32, sparing: Sparing
     suffices(scan.free, bytes).then_some(scan.start)
 }
 
-/// The place of the lowest Free block of at least so many bytes, after so many purges.
+/// Returns the place of the lowest free block of at least `bytes` bytes, after `purges` purges.
 pub fn find_free_in<W: Walk>(walk: &mut W, bytes: u32, purges: u32, sparing: Sparing) -> Option<u32>
     requires { sizes (W.rest walk.old) < 2 ^ 32 }
     ensures { FindsLowest (is_room bytes) (purged purges sparing (W.rest walk.old)) result }

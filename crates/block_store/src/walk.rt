@@ -1,4 +1,4 @@
-//! Walks over the blocks of a zone, whatever it lies in, and what is told of one block.
+//! Walks over the blocks of a zone, in whatever the zone is kept, and what is said of a block that a walk reads.
 
 ghost use Rattle.std.specs.Prelude.{◌≡◌, ◌<◌, ◌^◌, List, []};
 ghost use Rattle.block_store.specs.Block.{Block, Relocatable, free_of, is_relocatable, no_flags};
@@ -13,17 +13,17 @@ use crate::entries::padded_size;
 use crate::measures::MASTERS_SIZE;
 use crate::sparing::{Seen, Sparing};
 
-/// What tells the blocks of a zone one after another, without their bytes.
+/// A walk, which reads the blocks of a zone one after another, without their bytes.
 pub trait Walk {
-    /// The blocks that are still to come.
+    /// The blocks that are still to be read.
     ghost rest: { Self → List Block };
 
-    /// The next block; none behind the last.
+    /// Reads the next block; returns `None` after the last.
     fn next_block(&mut self) -> Option<Seen>
         ensures { Tells (rest self.old) result (rest self.new) };
 }
 
-/// The bytes that a block takes.
+/// Returns the physical size of a block.
 pub fn size_of_seen(block: Seen) -> u32
     requires { seen_size block < 2 ^ 32 }
     ensures { result ≡ seen_size block }
@@ -36,7 +36,7 @@ pub fn size_of_seen(block: Seen) -> u32
     }
 }
 
-/// The Free bytes of a block.
+/// Returns the number of free bytes of a block.
 pub fn free_of_seen(block: Seen) -> u32
     ensures { (b : Block) → seen b ≡ block → result ≡ free_of b }
 {
@@ -46,7 +46,7 @@ pub fn free_of_seen(block: Seen) -> u32
     }
 }
 
-/// Whether a slot leads to a block.
+/// Reports whether a master pointer leads to a block.
 pub fn is_of(block: Seen, number: u32) -> bool
     ensures { (b : Block) → seen b ≡ block → result ≡ is_relocatable number b }
 {
@@ -56,7 +56,7 @@ pub fn is_of(block: Seen, number: u32) -> bool
     }
 }
 
-/// Whether a run may have a block.
+/// Reports whether a block may be part of a run.
 pub fn is_in_run(block: Seen) -> bool
     ensures { (b : Block) → seen b ≡ block → result ≡ in_run b }
 {
@@ -67,7 +67,7 @@ pub fn is_in_run(block: Seen) -> bool
     }
 }
 
-/// Whether a block is Free, or counts as Free.
+/// Reports whether a block is free, or counts as free.
 pub fn is_counted_free(block: Seen, sparing: Sparing) -> bool
     ensures { (b : Block) → seen b ≡ block → result ≡ is_free (opened_block sparing b) }
 {
@@ -78,7 +78,7 @@ pub fn is_counted_free(block: Seen, sparing: Sparing) -> bool
     }
 }
 
-/// Whether a call names a slot.
+/// Reports whether a call names a master pointer.
 fn is_named(slot: u32, sparing: Sparing) -> bool
     ensures { result ≡ names sparing slot }
 {
@@ -90,7 +90,7 @@ fn is_named(slot: u32, sparing: Sparing) -> bool
     }
 }
 
-/// Whether a block is emptied where purges are left.
+/// Reports whether a block may be purged, where purges are left.
 pub fn may_be_emptied(block: Seen, sparing: Sparing) -> bool
     ensures { (b : Block) → seen b ≡ block → result ≡ may_go (spared sparing) (opened_block sparing b) }
 {
@@ -102,7 +102,7 @@ pub fn may_be_emptied(block: Seen, sparing: Sparing) -> bool
     }
 }
 
-/// Whether a search spares the block of a slot.
+/// Reports whether a search spares the block of a master pointer.
 pub fn is_spared(slot: u32, sparing: Sparing) -> bool
     ensures { result ≡ spared sparing (Relocatable slot no_flags []) }
 {
@@ -113,7 +113,7 @@ pub fn is_spared(slot: u32, sparing: Sparing) -> bool
     }
 }
 
-/// Whether a block may be emptied as it stands.
+/// Reports whether a block, as it stands, may be purged.
 pub fn may_go_now(block: Seen, sparing: Sparing) -> bool
     ensures { (b : Block) → seen b ≡ block → result ≡ may_go (spared sparing) b }
 {

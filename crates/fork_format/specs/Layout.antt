@@ -2,8 +2,8 @@ use Rattle.std.specs.Prelude.{Bool, Option, Some, None, if◌then◌else◌, ◌
 use Rattle.fork_format.specs.declared.layout.Layout.{Layout}
 use Rattle.fork_format.specs.Fork.{data_start, map_start, data_end, map_end, type_list, name_list}
 
--- where the parts of bytes lie, which lie in them
--- More Macintosh Toolbox, chapter 1, "Resource File Format"
+-- Where the parts of a resource fork lie, of which resource data and map lie in its bytes.
+-- More Macintosh Toolbox, chapter 1, "Resource File Format".
 pub record IsLayout (l : Layout) (bytes : List ℕ) : Type 0 where
   pub data_start : l.data_start ≡ data_start bytes
   pub map_start : l.map_start ≡ map_start bytes
@@ -18,6 +18,6 @@ pub record IsLayout (l : Layout) (bytes : List ℕ) : Type 0 where
   pub small_lists : l.type_list < 2 ^ 33
   pub small_names : l.name_list < 2 ^ 33
 
--- a number where a test passes
+-- A number where the test passes; else none.
 abbrev pub sizes_if : Bool → ℕ → Option ℕ
 sizes_if test n = if test then Some n else None

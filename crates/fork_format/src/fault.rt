@@ -1,4 +1,4 @@
-//! Why a fork could not be read or written.
+//! Why a resource fork could not be read or written.
 
 ghost use Rattle.std.specs.Prelude.{◌≡◌, Some, None};
 ghost use Rattle.fork_format.specs.declared.fault.ForkFault.TheVariants as fork_fault;
@@ -8,19 +8,20 @@ ghost use Rattle.fork_format.specs.Code.{read_code, write_code};
 use mac_words::OsErr;
 use std::alloc::{AllocError, AllocFailed};
 
-/// Why bytes could not be read as a fork.
+/// The reason why bytes could not be read as a resource fork.
 #[derive(Clone, Copy, Debug, PartialEq, Eq)]
 pub enum ForkFault {
     /// There are no bytes.
     Empty,
-    /// The bytes spell no content.
+    /// The bytes are damaged: they spell no content.
     BadMap,
-    /// The host has no memory.
+    /// The host is out of memory.
     HostMemory,
 }
 
 impl ForkFault {
-    /// The result code: `eofErr`, or `mapReadErr`. There is none where the host has no memory.
+    /// Returns the result code: -39 (eofErr) for `Empty`, -199 (mapReadErr) for `BadMap`, and none where the host is
+    /// out of memory.
     ///
     /// *More Macintosh Toolbox*, chapter 1, "Result Codes".
     pub fn code(self) -> Option<OsErr>
@@ -42,17 +43,17 @@ impl From<AllocError> for ForkFault {
     }
 }
 
-/// Why a content could not be written as a fork.
+/// The reason why a content could not be written as a resource fork.
 #[derive(Clone, Copy, Debug, PartialEq, Eq)]
 pub enum WriteFault {
     /// The content does not fit the format.
     TooLarge,
-    /// The host has no memory.
+    /// The host is out of memory.
     HostMemory,
 }
 
 impl WriteFault {
-    /// The result code: `dskFulErr`. There is none where the host has no memory.
+    /// Returns the result code: -34 (dskFulErr) for `TooLarge`, and none where the host is out of memory.
     ///
     /// *More Macintosh Toolbox*, chapter 1, "Result Codes".
     pub fn code(self) -> Option<OsErr>

@@ -1,4 +1,4 @@
-//! Whether a content can be written, and what the parts of its fork take.
+//! Whether a content can be written, and the sizes of the parts of its canonical fork.
 
 ghost use Rattle.std.specs.Prelude.{◌≡◌, ◌+◌, ◌≤◌, ◌==◌, ◌↔◌, ℕ, not, length, map, IsTrue, IsSome, IfSome, Some};
 ghost use Rattle.std.specs.Prelude.{None, if◌then◌else◌};
@@ -14,26 +14,26 @@ use crate::content::{Content, Group, Ref};
 use byteorder::{BigEndian, ByteOrder};
 use mac_words::OsType;
 
-/// The largest offset of a datum, in three bytes.
+/// The largest offset of a resource's stored data, which has three bytes.
 const MAX_DATUM_OFFSET: usize = 16_777_215;
-/// The largest offset of a name. One more stands for no name.
+/// The largest offset of a name. The next number, 65535, stands for no name.
 const MAX_NAME_OFFSET: usize = 65_534;
-/// The most bytes of data, with their lengths.
+/// The greatest size of the resource data in bytes: of all stored data, with its lengths.
 const MAX_DATA: usize = 134_217_728;
-/// Where the references may end at most, from the type list, which stands 28 bytes behind the map's start:
-/// the offset of the name list, from the map's start, has two bytes.
+/// The greatest offset, from the type list, at which the references may end. The type list stands 28 bytes above the
+/// start of the map, and the offset of the name list, from the start of the map, has two bytes.
 const MAX_REFS_END: usize = 65_507;
-/// The most types whose entries end there in time.
+/// The greatest number of types whose entries end at or below `MAX_REFS_END`.
 const MAX_TYPES: usize = 8_188;
 
-/// Where a datum and a name begin, from the data's start and from the name list.
+/// Where the stored data and the name of a resource begin, from the start of the resource data and from the name list.
 #[derive(Clone, Copy)]
 pub struct Starts {
     pub datum: usize,
     pub name: usize,
 }
 
-/// What the parts of a canonical fork take, in bytes: type list and references, data, and names.
+/// The sizes of the parts of a canonical fork in bytes: type list and references, resource data, and names.
 #[derive(Clone, Copy)]
 pub struct Extents {
     pub refs_end: usize,
@@ -41,14 +41,15 @@ pub struct Extents {
     pub names_len: usize,
 }
 
-/// The number whose four bytes a type is.
+/// Returns the number whose four bytes are the type.
 pub fn kind_of(ty: OsType) -> u32
     ensures { result ≡ big_number 4 ty.0 }
 {
     BigEndian::read_u32(&ty.0)
 }
 
-/// Whether a resource's datum and name may begin where they do, and its datum ends in time.
+/// Reports whether a resource's stored data and name may begin at these offsets, and the stored data ends within the
+/// limit.
 fn may_begin(r: &Ref<'_>, starts: Starts) -> bool
     ensures { result ≡ is_low starts (view_ref r.now) }
 {
@@ -57,7 +58,7 @@ fn may_begin(r: &Ref<'_>, starts: Starts) -> bool
         && r.datum.len() <= MAX_DATA - 4 - starts.datum
 }
 
-/// Where the datum and the name of the next resource begin.
+/// Returns where the stored data and the name of the next resource begin.
 pub fn starts_after(r: &Ref<'_>, starts: Starts) -> Starts
     requires { IsTrue (is_low starts (view_ref r.now)) }
     ensures next { result ≡ next starts (view_ref r.now) }
@@ -74,7 +75,8 @@ pub fn starts_after(r: &Ref<'_>, starts: Starts) -> Starts
     }
 }
 
-/// Where data and names begin behind resources, if those of the resources may begin where they do.
+/// Returns where stored data and names begin after these resources, if those of each of the resources may begin where
+/// they do.
 fn starts_behind(refs: &[Ref<'_>], starts: Starts) -> Option<Starts>
     requires datum { starts.datum ≤ 134217728 }
     requires name { starts.name ≤ 65790 }
@@ -92,7 +94,7 @@ fn starts_behind(refs: &[Ref<'_>], starts: Starts) -> Option<Starts>
     Some(next)
 }
 
-/// What all data and names take, if each may begin where it does.
+/// Returns where the stored data and the names of all resources end, if those of each resource may begin where they do.
 fn ends_of(groups: &[Group<'_>]) -> Option<Starts>
     ensures behind { result ≡ behind no_starts (refs_of (map view_group groups.now)) }
     ensures datum { IfSome result (λ s. s.datum ≤ 134217728) }
@@ -108,7 +110,7 @@ fn ends_of(groups: &[Group<'_>]) -> Option<Starts>
     Some(ends)
 }
 
-/// Where the references end, from the type list, if no group is empty and the name list may begin there.
+/// Returns where the references end, from the type list, if no group is empty and the name list may begin there.
 fn refs_end_of(groups: &[Group<'_>]) -> Option<usize>
     ensures end { result ≡ refs_end (refs_offset (map view_group groups.now)) (map view_group groups.now) }
     ensures low { IfSome result (λ at. at ≤ 65507) }
@@ -127,7 +129,7 @@ fn refs_end_of(groups: &[Group<'_>]) -> Option<usize>
     Some(at)
 }
 
-/// Whether no group is of the type.
+/// Reports whether no group is of the type.
 fn is_type_new(kind: u32, groups: &[Group<'_>]) -> bool
     ensures { result ≡ list_all (λ m. not (m == kind)) (map (λ (g : GroupValue). g.kind) (map view_group groups.now)) }
 {
@@ -139,7 +141,7 @@ fn is_type_new(kind: u32, groups: &[Group<'_>]) -> bool
     true
 }
 
-/// Whether no two groups are of one type.
+/// Reports whether no two groups are of the same type.
 fn are_types_different(groups: &[Group<'_>]) -> bool
     ensures { result ≡ are_distinct (map (λ (g : GroupValue). g.kind) (map view_group groups.now)) }
 {
@@ -151,8 +153,8 @@ fn are_types_different(groups: &[Group<'_>]) -> bool
     true
 }
 
-/// What the parts of the canonical fork take, if the content fits. The types are compared last, when
-/// there are few.
+/// Returns the sizes of the parts of the canonical fork, if the content fits. The types are compared last, when there
+/// are few.
 pub fn extents_of(content: &Content<'_>) -> Option<Extents>
     ensures found { IfSome result (λ e. AreExtents e (view content.now).groups) }
     ensures fits { IsSome result ↔ IsTrue (canonical.fits (view content.now)) }
@@ -174,10 +176,10 @@ pub fn extents_of(content: &Content<'_>) -> Option<Extents>
     })
 }
 
-/// Whether a content can be written as a fork: no group is empty, no two groups are of one type, there are
-/// at most 65,535 groups, and each offset of a reference list, of the name list (at most 65,535), of a
-/// name (at most 65,534) and of a datum (at most 16,777,215) can be written; the data take at most
-/// 134,217,728 bytes with their lengths.
+/// Reports whether a content can be written as a resource fork: no group is empty, no two groups are of the same type,
+/// there are at most 65,535 groups, and each offset of a reference list, of the name list (at most 65,535), of a name
+/// (at most 65,534) and of a resource's stored data (at most 16,777,215) can be written; the resource data takes at
+/// most 134,217,728 bytes.
 ///
 /// *More Macintosh Toolbox*, chapter 1, "Resource File Format".
 pub fn fits(content: &Content<'_>) -> bool

@@ -1,4 +1,4 @@
-//! Where the parts of a fork lie, and whether they lie in it.
+//! Where the parts of a resource fork lie, and whether they lie in its bytes.
 
 ghost use Rattle.std.specs.Prelude.{◌≡◌, ◌+◌, ◌*◌, ◌≤◌, ◌<◌, ◌^◌, length, ℕ, IsTrue, IfSome, IsNone, IsSome, ◌↔◌};
 ghost use Rattle.std.specs.Prelude.{Some, None, if◌then◌else◌, sum_by};
@@ -10,12 +10,12 @@ ghost use Rattle.fork_format.specs.Layout.{IsLayout, sizes_if};
 
 use byteorder::{BigEndian, ByteOrder};
 
-/// The most references that a fork is read with.
+/// The greatest number of references with which a fork is read.
 const MAX_REFS: usize = 65_536;
-/// The most bytes of data, with their lengths, that a fork is read with.
+/// The greatest total size of the stored data in bytes, with its lengths, with which a fork is read.
 const MAX_DATA: usize = 134_217_728;
 
-/// Where data, map, type list and name list begin or end.
+/// Where resource data, map, type list and name list begin or end.
 #[derive(Clone, Copy)]
 pub struct Layout {
     pub data_start: usize,
@@ -58,7 +58,7 @@ pub fn byte(bytes: &[u8], at: usize) -> usize
     bytes[at] as usize
 }
 
-/// The layout of bytes whose data and map lie in them.
+/// Returns the layout of bytes whose resource data and map lie in them.
 fn layout_of(bytes: &[u8]) -> Option<Layout>
     ensures found { IfSome result (λ l. IsLayout l bytes.now) }
     ensures fit { IsSome result ↔ IsTrue (parts_fit bytes.now) }
@@ -117,7 +117,7 @@ pub fn datum_place_of(l: Layout, bytes: &[u8], at: usize) -> usize
     l.data_start + three(bytes, at + 5)
 }
 
-/// How many types there are.
+/// Returns the number of types.
 pub fn type_count_of(l: Layout, bytes: &[u8]) -> usize
     requires layout { IsLayout l bytes.now }
     requires room { l.type_list + 2 ≤ length bytes.now }
@@ -126,7 +126,7 @@ pub fn type_count_of(l: Layout, bytes: &[u8]) -> usize
     (half(bytes, l.type_list) + 1) % 65536
 }
 
-/// What a datum takes with its length, if it lies in the data.
+/// Returns the size of a resource's stored data with its length, if it lies in the resource data.
 fn datum_size_of(l: Layout, bytes: &[u8], at: usize) -> Option<usize>
     requires layout { IsLayout l bytes.now }
     requires small { at < 2 ^ 40 }
@@ -144,7 +144,8 @@ fn datum_size_of(l: Layout, bytes: &[u8], at: usize) -> Option<usize>
     }
 }
 
-/// What the datum of a reference takes, if the reference lies in the map, and its name, and the datum in the data.
+/// Returns the size of the stored data of a reference, if the reference and its name lie in the map, and the stored
+/// data in the resource data.
 fn ref_size_of(l: Layout, bytes: &[u8], at: usize) -> Option<usize>
     requires layout { IsLayout l bytes.now }
     requires small { at < 2 ^ 40 }
@@ -158,7 +159,7 @@ fn ref_size_of(l: Layout, bytes: &[u8], at: usize) -> Option<usize>
     }
 }
 
-/// What the data of references take, if all of these lie where they must.
+/// Returns the total size of the stored data of references, if all of them lie where they must.
 #[tactic(auto, using(crate::proofs::Loops::tally_goes_on))]
 fn refs_size_of(l: Layout, bytes: &[u8], first: usize, count: usize) -> Option<usize>
     requires layout { IsLayout l bytes.now }
@@ -180,7 +181,7 @@ fn refs_size_of(l: Layout, bytes: &[u8], first: usize, count: usize) -> Option<u
     Some(data)
 }
 
-/// What the data of a type's references take, if all of these lie where they must.
+/// Returns the total size of the stored data of a type's references, if all of them lie where they must.
 fn type_size_of(l: Layout, bytes: &[u8], at: usize) -> Option<usize>
     requires layout { IsLayout l bytes.now }
     requires room { at + 8 ≤ length bytes.now }
@@ -195,7 +196,7 @@ fn type_size_of(l: Layout, bytes: &[u8], at: usize) -> Option<usize>
     )
 }
 
-/// What the data of all types' references take, if all of these lie where they must.
+/// Returns the total size of the stored data of all types' references, if all of them lie where they must.
 #[tactic(auto, using(crate::proofs::Loops::tally_goes_on, crate::proofs::Loops::tally_ends))]
 fn types_size_of(l: Layout, bytes: &[u8], first: usize, count: usize) -> Option<usize>
     requires layout { IsLayout l bytes.now }
@@ -216,7 +217,7 @@ fn types_size_of(l: Layout, bytes: &[u8], first: usize, count: usize) -> Option<
     Some(data)
 }
 
-/// How many references all types have.
+/// Returns the number of references of all types.
 fn refs_of_types(bytes: &[u8], first: usize, count: usize) -> usize
     requires room { first + 8 * count ≤ length bytes.now }
     requires few { count ≤ 65535 }
@@ -231,7 +232,7 @@ fn refs_of_types(bytes: &[u8], first: usize, count: usize) -> usize
     refs
 }
 
-/// The layout of bytes that spell a content. Nothing is copied: the limits are tested too.
+/// Returns the layout of bytes that spell a content. The limits are tested as well, and nothing is copied.
 pub fn layout_of_fork(bytes: &[u8]) -> Option<Layout>
     ensures found { IfSome result (λ l. IsLayout l bytes.now) }
     ensures fork { IsSome result ↔ IsTrue (is_fork bytes.now) }

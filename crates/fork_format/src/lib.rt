@@ -1,4 +1,4 @@
-//! The resource fork format, both ways.
+//! The format of a resource fork: reading and writing.
 #![tactic(auto)]
 
 mod content;

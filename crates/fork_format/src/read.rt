@@ -1,4 +1,4 @@
-//! Reading a fork: the content that bytes spell.
+//! Reading a resource fork: the content that its bytes spell.
 
 ghost use Rattle.std.specs.Prelude.{◌≡◌, ◌+◌, ◌*◌, ◌≤◌, ◌<◌, ◌^◌, ◌++◌, length, IsTrue, IfOk, OnOk, ◌↔◌, ◌≢◌, []};
 ghost use Rattle.std.specs.Prelude.{map, Some};
@@ -27,7 +27,7 @@ use mac_words::{Attrs, OsType};
 use std::alloc::{AllocError, Global};
 use std::collections::BTreeMap;
 
-/// The name at a place, if there is one.
+/// Returns the name at a place, if there is one.
 fn name_of<'b>(l: Layout, bytes: &'b [u8], place: Option<usize>) -> Option<RefName<'b>>
     requires layout { IsLayout l bytes.now }
     requires fits { IsTrue (name_fits place bytes.now) }
@@ -40,7 +40,7 @@ fn name_of<'b>(l: Layout, bytes: &'b [u8], place: Option<usize>) -> Option<RefNa
     })
 }
 
-/// The ID in the reference at an offset.
+/// Returns the resource ID in the reference at an offset.
 fn id_of(bytes: &[u8], at: usize) -> i16
     requires { at + 2 ≤ length bytes.now }
     ensures { result ≡ cast_signed w16 (number 2 at bytes.now) }
@@ -48,7 +48,7 @@ fn id_of(bytes: &[u8], at: usize) -> i16
     BigEndian::read_i16(&bytes[at..])
 }
 
-/// The attributes at an offset, without `resChanged`.
+/// Returns the attributes at an offset, without `resChanged`.
 fn attrs_of(bytes: &[u8], at: usize) -> Attrs
     requires { at + 1 ≤ length bytes.now }
     ensures { result.0 ≡ kept (number 1 at bytes.now) }
@@ -56,7 +56,7 @@ fn attrs_of(bytes: &[u8], at: usize) -> Attrs
     Attrs(bytes[at]).unchanged()
 }
 
-/// The datum at an offset, without its length.
+/// Returns the stored data at an offset, without its length.
 fn datum_of<'b>(bytes: &'b [u8], at: usize) -> &'b [u8]
     requires room { at + 4 ≤ length bytes.now }
     requires inside { at + 4 + number 4 at bytes.now ≤ length bytes.now }
@@ -66,7 +66,7 @@ fn datum_of<'b>(bytes: &'b [u8], at: usize) -> &'b [u8]
     &bytes[at + 4..at + 4 + size]
 }
 
-/// The resource of the reference at an offset.
+/// Returns the resource of the reference at an offset.
 fn ref_of<'b>(l: Layout, bytes: &'b [u8], at: usize) -> Ref<'b>
     requires layout { IsLayout l bytes.now }
     requires fits { IsTrue (ref_fits bytes.now at) }
@@ -83,7 +83,7 @@ fn ref_of<'b>(l: Layout, bytes: &'b [u8], at: usize) -> Ref<'b>
     }
 }
 
-/// Puts the resources of references that follow one another behind those that are there.
+/// Appends the resources of references that follow one another to `refs`.
 #[tactic(auto, using(crate::proofs::Loops::all_goes_on, crate::proofs::Loops::pushed_goes_on))]
 fn read_refs<'b>(
     l: Layout,
@@ -109,7 +109,7 @@ fn read_refs<'b>(
     Ok(())
 }
 
-/// The type at an offset, as a number.
+/// Returns the type at an offset, as a number.
 fn kind_at(bytes: &[u8], at: usize) -> u32
     requires { at + 4 ≤ length bytes.now }
     ensures { result ≡ number 4 at bytes.now }
@@ -117,14 +117,14 @@ fn kind_at(bytes: &[u8], at: usize) -> u32
     BigEndian::read_u32(&bytes[at..])
 }
 
-/// The type whose four bytes a number is.
+/// Returns the type whose four bytes are a number.
 fn type_of(kind: u32) -> OsType
     ensures { big_number 4 result.0 ≡ kind }
 {
     OsType(kind.to_be_bytes())
 }
 
-/// Puts the resources of a type's entry into a group.
+/// Appends the resources of a type's entry to a group.
 fn fill<'b>(l: Layout, bytes: &'b [u8], at: usize, group: &mut Group<'b>) -> Result<(), AllocError>
     requires layout { IsLayout l bytes.now }
     requires room { at + 8 ≤ length bytes.now }
@@ -139,7 +139,7 @@ fn fill<'b>(l: Layout, bytes: &'b [u8], at: usize, group: &mut Group<'b>) -> Res
     read_refs(l, bytes, first, count, &mut group.refs)
 }
 
-/// The place of a type's group. The group of a new type is put behind the others, with no resource yet.
+/// Returns the place of a type's group. The group of a new type is put after the others, with no resource yet.
 fn place_of<'b>(
     alloc: Global,
     kind: u32,
@@ -163,7 +163,7 @@ fn place_of<'b>(
     Ok(place)
 }
 
-/// Puts the resources of a type's entry behind those of its type.
+/// Appends the resources of a type's entry to those of its type.
 fn read_type<'b>(
     alloc: Global,
     l: Layout,
@@ -185,7 +185,7 @@ fn read_type<'b>(
     Ok(())
 }
 
-/// The groups of types that follow one another, of which some are the same.
+/// Returns the groups of types that follow one another, some of which are the same.
 fn read_joined<'b>(
     alloc: Global,
     l: Layout,
@@ -209,7 +209,7 @@ fn read_joined<'b>(
     Ok(groups)
 }
 
-/// The group of a type's entry.
+/// Returns the group of a type's entry.
 fn group_of<'b>(
     alloc: Global,
     l: Layout,
@@ -231,7 +231,7 @@ fn group_of<'b>(
     })
 }
 
-/// The groups of types that follow one another, each for itself.
+/// Returns the groups of types that follow one another, one group for each entry.
 fn read_apart<'b>(
     alloc: Global,
     l: Layout,
@@ -255,7 +255,7 @@ fn read_apart<'b>(
     Ok(groups)
 }
 
-/// The types of entries that follow one another, as numbers.
+/// Returns the types of entries that follow one another, as numbers.
 fn kinds_of(alloc: Global, bytes: &[u8], first: usize, count: usize) -> Result<Vec<u32>, AllocError>
     requires { first + 8 * count ≤ length bytes.now }
     ensures { IfOk result (λ v. v.items ≡ map (kind_in bytes.now) (offsets first 8 count)) }
@@ -269,7 +269,7 @@ fn kinds_of(alloc: Global, bytes: &[u8], first: usize, count: usize) -> Result<V
     Ok(kinds)
 }
 
-/// Whether each number is below the next.
+/// Reports whether each number is below the next.
 fn do_rise(numbers: &[u32]) -> bool
     ensures { IsTrue result ↔ IsStrictlyIncreasing numbers.now }
 {
@@ -281,7 +281,7 @@ fn do_rise(numbers: &[u32]) -> bool
     true
 }
 
-/// Whether no two numbers are the same. They are sorted.
+/// Reports whether no two numbers are the same, and leaves the numbers sorted.
 fn are_apart(numbers: &mut [u32]) -> bool
     ensures { result ≡ are_distinct numbers.old }
 {
@@ -289,7 +289,7 @@ fn are_apart(numbers: &mut [u32]) -> bool
     do_rise(numbers)
 }
 
-/// The groups of types that follow one another. Types are joined only where some are the same.
+/// Returns the groups of types that follow one another. Groups are joined only where two types are the same.
 fn read_types<'b>(
     alloc: Global,
     l: Layout,
@@ -311,7 +311,7 @@ fn read_types<'b>(
     }
 }
 
-/// The bytes behind the header.
+/// Returns the 240 bytes after the header.
 fn area_of(l: Layout, bytes: &[u8]) -> [u8; 240]
     requires { IsLayout l bytes.now }
     ensures { result ≡ fork.area_of bytes.now }
@@ -323,7 +323,7 @@ fn area_of(l: Layout, bytes: &[u8]) -> [u8; 240]
     area
 }
 
-/// The attributes of the map, without `mapCompact` and `mapChanged`.
+/// Returns the attributes of the map, without `mapCompact` and `mapChanged`.
 fn map_attrs_of(l: Layout, bytes: &[u8]) -> u16
     requires layout { IsLayout l bytes.now }
     requires room { l.map_start + 30 ≤ length bytes.now }
@@ -332,7 +332,7 @@ fn map_attrs_of(l: Layout, bytes: &[u8]) -> u16
     BigEndian::read_u16(&bytes[l.map_start + 22..]) & 0xff9f
 }
 
-/// The content of a fork.
+/// Returns the content of a fork.
 fn read_content<'b>(alloc: Global, l: Layout, bytes: &'b [u8]) -> Result<Content<'b>, AllocError>
     requires layout { IsLayout l bytes.now }
     requires fork { IsTrue (is_fork bytes.now) }
@@ -349,17 +349,17 @@ fn read_content<'b>(alloc: Global, l: Layout, bytes: &'b [u8]) -> Result<Content
 
 /// Reads a resource fork.
 ///
-/// A fork that is read has at most 65,536 references in all, and at most 134,217,728 bytes of data with
-/// their lengths, summed over the references; data and lists may be shared. Nothing is copied before
-/// these limits are known to hold.
+/// A fork that is read has at most 65,536 references in all, and at most 134,217,728 bytes of stored data with its
+/// lengths, summed over the references; stored data and lists may be shared. Nothing is copied before these limits are
+/// known to hold.
 ///
 /// *More Macintosh Toolbox*, chapter 1, "Resource File Format".
 pub fn read_fork<'b>(alloc: Global, bytes: &'b [u8]) -> Result<Content<'b>, ForkFault>
-    // The bytes spell the content, and no other.
+    // The bytes spell the content, and no other content.
     ensures content { IfOk result (λ c. Spells bytes.now (view c)) }
     ensures only { IfOk result (λ c. (d : ContentValue) → Spells bytes.now d → d ≡ view c) }
 
-    // No bytes, or bytes that spell no content.
+    // A fork is refused where there are no bytes, or where the bytes spell no content.
     ensures empty { (result ≡ Err ForkFault.Empty) ↔ (bytes.now ≡ []) }
     ensures bad_map { (result ≡ Err ForkFault.BadMap) ↔ ((bytes.now ≢ []) × IsUnspelled bytes.now) }
 {

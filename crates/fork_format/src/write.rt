@@ -1,4 +1,4 @@
-//! Writing a fork: the one canonical fork of a content.
+//! Writing a resource fork: the one canonical fork of a content.
 
 ghost use Rattle.std.specs.Prelude.{◌≡◌, ◌<◌, ◌^◌, ◌++◌, map, false, ◌↔◌, IsTrue, IsSome, IfOk, OnOk, Some};
 ghost use Rattle.std.specs.List.{list_all, flat_map};
@@ -19,7 +19,7 @@ use crate::fit::{Extents, Starts, extents_of, kind_of, starts_after};
 use byteorder::{BigEndian, ByteOrder};
 use std::alloc::{AllocError, Global};
 
-/// What stands for the offset of a name where there is none.
+/// The number that stands for the offset of a name where there is no name.
 const NO_NAME: u16 = 0xffff;
 
 fn put_word(out: &mut Vec<u8>, number: u32) -> Result<(), AllocError>
@@ -66,7 +66,7 @@ fn put_id(out: &mut Vec<u8>, id: i16) -> Result<(), AllocError>
     Ok(())
 }
 
-/// Offsets and lengths of data and map.
+/// Writes the offsets and the lengths of resource data and map.
 fn put_header(out: &mut Vec<u8>, extents: Extents, content: &Content<'_>) -> Result<(), AllocError>
     requires { AreExtents extents (view content.now).groups }
     ensures { OnOk result (out.new.items ≡ out.old.items ++ header (view content.now).groups) }
@@ -79,7 +79,7 @@ fn put_header(out: &mut Vec<u8>, extents: Extents, content: &Content<'_>) -> Res
     Ok(())
 }
 
-/// The data of resources, each with its length.
+/// Writes the stored data of resources, each with its length.
 fn put_data(out: &mut Vec<u8>, refs: &[Ref<'_>]) -> Result<(), AllocError>
     requires { IsTrue (list_all is_short (map view_ref refs.now)) }
     ensures { OnOk result (out.new.items ≡ out.old.items ++ flat_map datum (map view_ref refs.now)) }
@@ -91,7 +91,7 @@ fn put_data(out: &mut Vec<u8>, refs: &[Ref<'_>]) -> Result<(), AllocError>
     Ok(())
 }
 
-/// The data of all types' resources.
+/// Writes the stored data of all types' resources.
 fn put_all_data(out: &mut Vec<u8>, groups: &[Group<'_>]) -> Result<(), AllocError>
     requires { IsTrue (list_all are_short (map view_group groups.now)) }
     ensures { OnOk result (out.new.items ≡ out.old.items ++ data_of (map view_group groups.now)) }
@@ -102,7 +102,7 @@ fn put_all_data(out: &mut Vec<u8>, groups: &[Group<'_>]) -> Result<(), AllocErro
     Ok(())
 }
 
-/// The entries of the types, whose references stand one after the other.
+/// Writes the entries of the types, whose references stand one after another.
 fn put_types(out: &mut Vec<u8>, groups: &[Group<'_>], first: usize) -> Result<(), AllocError>
     requires { IsSome (refs_end first (map view_group groups.now)) }
     ensures types { OnOk result (out.new.items ≡ out.old.items ++ types first (map view_group groups.now)) }
@@ -118,7 +118,7 @@ fn put_types(out: &mut Vec<u8>, groups: &[Group<'_>], first: usize) -> Result<()
     Ok(())
 }
 
-/// The offset of a name, or what stands for none.
+/// Returns the offset of a name, or the number that stands for no name.
 fn name_offset_of(name: &Option<RefName<'_>>, at: usize) -> u16
     requires { IsTrue (is_name_low at (view_name name.now)) }
     ensures { result ≡ name_offset (view_name name.now) at }
@@ -129,7 +129,7 @@ fn name_offset_of(name: &Option<RefName<'_>>, at: usize) -> u16
     }
 }
 
-/// The reference of a resource whose datum and name begin where they do.
+/// Writes the reference of a resource whose stored data and name begin at these offsets.
 fn put_reference(out: &mut Vec<u8>, r: &Ref<'_>, starts: Starts) -> Result<(), AllocError>
     requires { IsTrue (is_low starts (view_ref r.now)) }
     ensures reference { OnOk result (out.new.items ≡ out.old.items
@@ -146,7 +146,7 @@ fn put_reference(out: &mut Vec<u8>, r: &Ref<'_>, starts: Starts) -> Result<(), A
     Ok(())
 }
 
-/// The references of resources, and where the datum and the name of the next one begin.
+/// Writes the references of resources, and returns where the stored data and the name of the next resource begin.
 fn put_references(out: &mut Vec<u8>, refs: &[Ref<'_>], starts: Starts) -> Result<Starts, AllocError>
     requires { IsSome (behind starts (map view_ref refs.now)) }
     ensures references { OnOk result (out.new.items ≡ out.old.items
@@ -162,7 +162,7 @@ fn put_references(out: &mut Vec<u8>, refs: &[Ref<'_>], starts: Starts) -> Result
     Ok(next)
 }
 
-/// The references of all types' resources.
+/// Writes the references of all types' resources.
 fn put_all_references(out: &mut Vec<u8>, groups: &[Group<'_>]) -> Result<(), AllocError>
     requires { IsSome (behind no_starts (refs_of (map view_group groups.now))) }
     ensures references { OnOk result (out.new.items ≡ out.old.items
@@ -176,7 +176,7 @@ fn put_all_references(out: &mut Vec<u8>, groups: &[Group<'_>]) -> Result<(), All
     Ok(())
 }
 
-/// The name of a resource with its length, if it has one.
+/// Writes the name of a resource with its length, if the resource has a name.
 fn put_name(out: &mut Vec<u8>, r: &Ref<'_>) -> Result<(), AllocError>
     ensures { OnOk result (out.new.items ≡ out.old.items ++ name (view_ref r.now)) }
 {
@@ -187,7 +187,7 @@ fn put_name(out: &mut Vec<u8>, r: &Ref<'_>) -> Result<(), AllocError>
     Ok(())
 }
 
-/// The names of resources.
+/// Writes the names of resources.
 fn put_names(out: &mut Vec<u8>, refs: &[Ref<'_>]) -> Result<(), AllocError>
     ensures { OnOk result (out.new.items ≡ out.old.items ++ flat_map name (map view_ref refs.now)) }
 {
@@ -197,7 +197,7 @@ fn put_names(out: &mut Vec<u8>, refs: &[Ref<'_>]) -> Result<(), AllocError>
     Ok(())
 }
 
-/// The names of all types' resources.
+/// Writes the names of all types' resources.
 fn put_all_names(out: &mut Vec<u8>, groups: &[Group<'_>]) -> Result<(), AllocError>
     ensures { OnOk result (out.new.items ≡ out.old.items ++ names_of (map view_group groups.now)) }
 {
@@ -207,7 +207,7 @@ fn put_all_names(out: &mut Vec<u8>, groups: &[Group<'_>]) -> Result<(), AllocErr
     Ok(())
 }
 
-/// Type list, references and names.
+/// Writes the type list, the references and the names.
 fn put_lists(out: &mut Vec<u8>, content: &Content<'_>) -> Result<(), AllocError>
     requires { IsTrue (canonical.fits (view content.now)) }
     ensures lists { OnOk result (out.new.items ≡ out.old.items ++ lists (view content.now).groups) }
@@ -222,7 +222,7 @@ fn put_lists(out: &mut Vec<u8>, content: &Content<'_>) -> Result<(), AllocError>
     Ok(())
 }
 
-/// The map.
+/// Writes the resource map.
 fn put_map(out: &mut Vec<u8>, extents: Extents, content: &Content<'_>) -> Result<(), AllocError>
     requires extents { AreExtents extents (view content.now).groups }
     requires fits { IsTrue (canonical.fits (view content.now)) }
@@ -241,7 +241,7 @@ fn put_map(out: &mut Vec<u8>, extents: Extents, content: &Content<'_>) -> Result
     Ok(())
 }
 
-/// The canonical fork.
+/// Writes the canonical fork.
 fn put_fork(out: &mut Vec<u8>, extents: Extents, content: &Content<'_>) -> Result<(), AllocError>
     requires extents { AreExtents extents (view content.now).groups }
     requires fits { IsTrue (canonical.fits (view content.now)) }
@@ -255,16 +255,17 @@ fn put_fork(out: &mut Vec<u8>, extents: Extents, content: &Content<'_>) -> Resul
     Ok(())
 }
 
-/// Writes the canonical fork of a content: header, area, data, map. The data, the references and the names
-/// follow one another without gaps, in the order of the resources.
+/// Returns the canonical fork of a content: header, area, resource data, map. The stored data, the references and the
+/// names follow one another without gaps, in the order of the resources.
 ///
 /// *More Macintosh Toolbox*, chapter 1, "Resource File Format".
 pub fn write_fork(alloc: Global, content: &Content<'_>) -> Result<Vec<u8>, WriteFault>
-    // The fork is the canonical one, and is read again, without the bits that a reader clears.
+    // The fork is the canonical one, and a reader reads the content from it again, without the bits that a reader
+    // clears.
     ensures fork { IfOk result (λ fork. fork.items ≡ canon (view content.now)) }
     ensures read_again { IfOk result (λ fork. Spells fork.items (clear (view content.now))) }
 
-    // Just what doesn't fit is refused.
+    // A content is refused exactly where it does not fit.
     ensures fits { OnOk result (IsTrue (canonical.fits (view content.now))) }
     ensures too_large { (result ≡ Err WriteFault.TooLarge) ↔ (canonical.fits (view content.now) ≡ false) }
 {

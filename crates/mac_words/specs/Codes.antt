@@ -1,17 +1,17 @@
 use Rattle.std.specs.Prelude.{ℕ, ◌-◌, ℤ, pos, negsuc}
 
--- Result codes by Apple's names, each as a number
--- Inside Macintosh: Memory, "Result Codes"; More Macintosh Toolbox, chapter 1, "Result Codes"
+-- Result codes by Apple's names, each as a number.
+-- Inside Macintosh: Memory, "Result Codes"; More Macintosh Toolbox, chapter 1, "Result Codes".
 
--- minus so much, where that is more than 0
+-- The negative of a number above 0.
 abbrev pub minus : ℕ → ℤ
 minus number = negsuc (number - 1)
 
--- the call was done
+-- The call was done.
 abbrev pub noErr : ℤ
 noErr = pos 0
 
--- a segment can't be loaded (the System Error Handler's number)
+-- A segment can't be loaded: the System Error Handler's number.
 abbrev pub segmentErr : ℤ
 segmentErr = pos 15
 
@@ -72,12 +72,12 @@ resAttrErr = minus 198
 abbrev pub mapReadErr : ℤ
 mapReadErr = minus 199
 
--- this project's own
+-- The manuals leave the result undefined: this project's own code.
 abbrev pub profileErr : ℤ
 profileErr = minus 30001
 
--- Bits of a resource's attributes by Apple's names, each as its value
--- More Macintosh Toolbox, chapter 1, "Resource Attributes"
+-- Bits of a resource's attributes by Apple's names, each as its value.
+-- More Macintosh Toolbox, chapter 1, "Resource Attributes".
 
 abbrev pub resSysHeap : ℕ
 resSysHeap = 64

@@ -1,9 +1,11 @@
 use Rattle.std.specs.Prelude.{ℕ, ℤ, List}
 use Rattle.mac_words.specs.declared.code.OsErr.{OsErr}
 
--- what a call tells: it was done, or gave a new number, or a resource's handle and whether its datum was read (1 or 0),
--- or tells a number or two, a code, bytes, a type, or the ID, type and name of a resource, or the segment of a jump
--- table's entry and a flag (1 or 0): whether it was read for the call, or is loaded; or was refused
+-- What a call returns. The call was done (`Done`), or returned a new number (`Given`), or a resource's handle and
+-- whether its stored data was read for it, 1 or 0 (`Fetched`); it returned a number or two, a result code, bytes, a
+-- type (`Kind`), or the ID, type and name of a resource (`Info`); it returned the segment of a jump table's entry and a
+-- flag, 1 or 0, which says whether the segment was read for the call, or whether the entry is loaded (`Entry`); or it
+-- was refused, with a result code.
 pub data Told : Type 0 where
   Done : Told
   Given : (number : ℕ) → Told

@@ -3,48 +3,48 @@
 ghost use Rattle.std.specs.Prelude.{◌≡◌};
 ghost use Rattle.mac_words.specs.Attributes.{unchanged, changed, set, has_bit};
 
-/// The attribute byte of a resource. Bits that have no name here are kept as they stand.
+/// The attribute byte of a resource. Bits without a name here keep their values.
 ///
 /// *More Macintosh Toolbox*, chapter 1, "Resource Attributes".
 #[derive(Clone, Copy, Debug, PartialEq, Eq)]
 pub struct Attrs(pub u8);
 
 impl Attrs {
-    /// `resSysHeap`: the resource is for the system heap.
+    /// `resSysHeap`: the resource belongs in the system heap.
     pub const SYSTEM_HEAP: u8 = 64;
-    /// `resPurgeable`: its block may be emptied.
+    /// `resPurgeable`: the block of the resource is purgeable.
     pub const PURGEABLE: u8 = 32;
-    /// `resLocked`: its block is locked when it is read.
+    /// `resLocked`: the block of the resource is locked when the resource is read.
     pub const LOCKED: u8 = 16;
-    /// `resProtected`: it can't be changed.
+    /// `resProtected`: the resource can't be changed.
     pub const PROTECTED: u8 = 8;
-    /// `resPreload`: it is read as its file is opened.
+    /// `resPreload`: the resource is read when its file is opened.
     pub const PRELOAD: u8 = 4;
-    /// `resChanged`: it is to be written at the next update.
+    /// `resChanged`: the resource is written at the next update.
     pub const CHANGED: u8 = 2;
 
-    /// The attributes without `resChanged`, as they are read from a fork.
+    /// Returns the attributes without `resChanged`, as a reader of a resource fork keeps them.
     pub fn unchanged(self) -> Attrs
         ensures { result.0 ≡ unchanged self.0 }
     {
         Attrs(self.0 & 0xfd)
     }
 
-    /// The attributes with `resChanged`.
+    /// Returns the attributes with `resChanged`.
     pub fn changed(self) -> Attrs
         ensures { result.0 ≡ changed self.0 }
     {
         Attrs(self.0 | Attrs::CHANGED)
     }
 
-    /// Other attributes, with `resChanged` as it is here.
+    /// Returns the new attributes, with `resChanged` as it stands in the old ones.
     pub fn set(self, new: Attrs) -> Attrs
         ensures { result.0 ≡ set new.0 self.0 }
     {
         Attrs((new.0 & 0xfd) | (self.0 & Attrs::CHANGED))
     }
 
-    /// Whether the attributes have a bit, given by its value.
+    /// Reports whether the attributes have a bit, given by the bit's value.
     pub fn has(self, bit: u8) -> bool
         ensures { result ≡ has_bit bit self.0 }
     {

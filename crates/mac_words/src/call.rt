@@ -11,7 +11,7 @@ pub enum Call {
     Heap(HeapCall),
     /// A call of the Resource Manager.
     Resource(ResourceCall),
-    /// A call of the Segment Manager, or through the jump table.
+    /// A call of the Segment Manager, or a call through the jump table.
     Segment(SegmentCall),
     /// A call by which an application says how it is run.
     Control(ControlCall),
@@ -19,92 +19,96 @@ pub enum Call {
 
 /// A call of the Memory Manager. Sizes and offsets are in bytes.
 ///
-/// *Inside Macintosh: Memory*, chapter 2, "Memory Manager Routines". `Put`, `Show`, `PutPtr`, `ShowPtr` and
-/// `Where` stand for what an application does with a pointer, or with the one that a handle leads to.
+/// *Inside Macintosh: Memory*, chapter 2, "Memory Manager Routines". `Put`, `Show`, `PutPtr`, `ShowPtr` and `Where`
+/// stand for what an application does with a pointer, or with the master pointer to which a handle leads.
 #[derive(Debug, Drop)]
 pub enum HeapCall {
-    /// Binds the name to a new handle with so many bytes 0.
+    /// Binds the name to a new handle, whose block has the given number of bytes 0.
     NewHandle(Label, u32),
-    /// Binds the name to a new handle that is emptied.
+    /// Binds the name to a new empty handle.
     NewEmptyHandle(Label),
     /// Disposes of a handle and its block.
     DisposeHandle(Label),
-    /// Tells how many bytes a handle has.
+    /// Returns the logical size of a handle's block.
     GetHandleSize(Label),
-    /// Gives a handle's block another size; new bytes are 0.
+    /// Changes the logical size of a handle's block; new bytes are 0.
     SetHandleSize(Label, u32),
-    /// Gives a handle a new block of so many bytes 0 in place of its own, if it has one.
+    /// Allocates a new block with the given number of bytes 0 for a handle, and releases the handle's old block, if
+    /// there is one.
     ReallocateHandle(Label, u32),
-    /// Empties a handle: its block goes, and the handle stays.
+    /// Purges the block of a handle; the handle becomes an empty handle.
     EmptyHandle(Label),
-    /// Locks a handle's block: it isn't moved or purged any more.
+    /// Locks a handle's block: the block is neither moved nor purged until it is unlocked.
     HLock(Label),
     /// Unlocks a handle's block.
     HUnlock(Label),
-    /// Lets a handle's block be purged.
+    /// Makes a handle's block purgeable.
     HPurge(Label),
-    /// Keeps a handle's block from being purged.
+    /// Makes a handle's block unpurgeable.
     HNoPurge(Label),
-    /// Tells the flags of a handle: locked 128, purgeable 64, resource 32.
+    /// Returns the flags of a handle as a sum: locked 128, purgeable 64, resource 32.
     HGetState(Label),
-    /// Sets whether a handle is locked and purgeable, by the bits 128 and 64.
+    /// Sets whether a handle's block is locked and whether it is purgeable, from the bits 128 and 64 of the byte.
     HSetState(Label, u8),
-    /// Moves a handle's block as high as it goes.
+    /// Moves a handle's block to the top of its run of movable blocks.
     MoveHHi(Label),
-    /// Moves a handle's block as high as it goes, and locks it.
+    /// Moves a handle's block to the top of its run of movable blocks, and locks the block.
     HLockHi(Label),
-    /// Binds the first name to a new handle with the bytes of the second.
+    /// Binds the first name to a new handle, whose block is a copy of the block of the second.
     HandToHand(Label, Box<Label>),
-    /// Appends the bytes of the first handle to the second.
+    /// Appends the bytes of the first handle's block to the block of the second.
     HandAndHand(Label, Box<Label>),
-    /// Appends bytes to a handle.
+    /// Appends bytes to a handle's block.
     PtrAndHand(Label, Vec<u8>),
-    /// Binds the name to a new nonrelocatable block with so many bytes 0.
+    /// Binds the name to a pointer to a new nonrelocatable block with the given number of bytes 0.
     NewPtr(Label, u32),
     /// Disposes of a nonrelocatable block.
     DisposePtr(Label),
-    /// Tells how many bytes a nonrelocatable block has.
+    /// Returns the logical size of a nonrelocatable block.
     GetPtrSize(Label),
-    /// Gives a nonrelocatable block another size; new bytes are 0.
+    /// Changes the logical size of a nonrelocatable block; new bytes are 0.
     SetPtrSize(Label, u32),
-    /// Tells the bytes of all Free blocks, headers included.
+    /// Returns the total size in bytes of the free blocks, headers included.
     FreeMem,
-    /// Tells how large a block could be made by moving others, without purging.
+    /// Returns the size of the largest block that could be allocated after compaction, without purging.
     MaxBlock,
-    /// Tells the bytes that are Free or may be purged, and how large a block could be made by purging alone.
+    /// Returns the total size in bytes of the free and the purgeable blocks, and the size of the largest block that
+    /// could be allocated if these were purged and no block were moved.
     PurgeSpace,
-    /// Moves blocks together until so many bytes fit, and tells how large a block then can be.
+    /// Compacts the zone run by run until a block of the given size fits, and returns the size of the largest block
+    /// that then could be allocated without another move.
     CompactMem(u32),
-    /// Purges blocks until so many bytes fit.
+    /// Purges blocks until a block of the given size fits.
     PurgeMem(u32),
-    /// Purges all blocks that may be, moves blocks together, and tells how large a block then can be.
+    /// Purges all purgeable blocks, compacts the zone, and returns the size of the largest block that then could be
+    /// allocated.
     MaxMem,
-    /// Makes room for so many bytes as low as it can be.
+    /// Makes room for a block of the given size as low in the zone as possible.
     ReserveMem(u32),
-    /// Makes a new block of master pointers.
+    /// Allocates a new master pointer block.
     MoreMasters,
-    /// Tells the code of the last call that sets it.
+    /// Returns the result code of the last Memory Manager call; this call and those below it in this table set none.
     MemError,
     /// Writes bytes into a handle's block, from an offset on.
     Put(Label, u32, Vec<u8>),
-    /// Tells the bytes of a handle's block.
+    /// Returns the bytes of a handle's block.
     Show(Label),
     /// Writes bytes into a nonrelocatable block, from an offset on.
     PutPtr(Label, u32, Vec<u8>),
-    /// Tells the bytes of a nonrelocatable block.
+    /// Returns the bytes of a nonrelocatable block.
     ShowPtr(Label),
-    /// Tells the offset of a block's content from the partition's start.
+    /// Returns the offset of a block's content from the start of the partition.
     Where(Label),
 }
 
-/// A call by which an application says how it is run: what is done for want of room, and when its turn or its run
-/// ends.
+/// A call by which an application says how it is run: which grow-zone script is run when there is no room, and when its
+/// turn or its run ends.
 ///
-/// *Inside Macintosh: Memory*, chapter 2, "Memory Manager Routines"; *Inside Macintosh: Processes*, chapter 2,
-/// "Process Manager Routines"; *Inside Macintosh: Macintosh Toolbox Essentials*, chapter 2, "Event Manager Routines".
+/// *Inside Macintosh: Memory*, chapter 2, "Memory Manager Routines"; *Inside Macintosh: Processes*, chapter 2, "Process
+/// Manager Routines"; *Inside Macintosh: Macintosh Toolbox Essentials*, chapter 2, "Event Manager Routines".
 #[derive(Debug, Drop)]
 pub enum ControlCall {
-    /// Sets the grow-zone script; the name `none` sets none.
+    /// Sets the grow-zone script; the name `none` removes it.
     SetGrowZone(Label),
     /// Ends the application's turn.
     WaitNextEvent,

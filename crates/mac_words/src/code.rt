@@ -2,59 +2,74 @@
 
 ghost use Rattle.std.specs.Prelude.{◌≡◌};
 
-/// A result code of the toolbox: 0 where a call was done, else why not.
+/// A result code of the Toolbox: 0 when a call was done, else the reason why it was not.
 ///
 /// *Inside Macintosh: Memory*, "Result Codes"; *More Macintosh Toolbox*, chapter 1, "Result Codes".
 #[derive(Clone, Copy, Debug, PartialEq, Eq)]
 pub struct OsErr(pub i16);
 
 impl OsErr {
-    /// `noErr`: the call was done.
+    /// `noErr` (0) is returned when a call was done.
     pub const NO_ERR: OsErr = OsErr(0);
-    /// A segment that can't be loaded. It ends the application.
+    /// `dsLoadErr` (system error 15) is returned by `LoadSeg` and `CallEntry` when a segment can't be loaded, or when
+    /// an entry of the jump table belongs to no segment; it ends the application.
     pub const SYSTEM_ERROR: OsErr = OsErr(15);
-    /// `dskFulErr`: a content does not fit the fork format, or an application has too many files.
+    /// `dskFulErr` (-34) is returned by `UpdateResFile`, `CloseResFile` and the end of an application when changed
+    /// resources do not fit the format of a resource fork, and by `CreateResFile` when an application has 256 files.
     pub const DISK_FULL: OsErr = OsErr(-34);
-    /// `eofErr`: a fork of no bytes.
+    /// `eofErr` (-39) is returned when a resource fork that is to be opened has no bytes.
     pub const END_OF_FILE: OsErr = OsErr(-39);
-    /// `fnfErr`: there is no file of this name.
+    /// `fnfErr` (-43) is returned by `OpenResFile` when the application has no file of the given name.
     pub const FILE_NOT_FOUND: OsErr = OsErr(-43);
-    /// `dupFNErr`: the file has a resource fork already.
+    /// `dupFNErr` (-48) is returned by `CreateResFile` when the file has a resource fork already.
     pub const DUPLICATE_FILE: OsErr = OsErr(-48);
-    /// `wrPermErr`: the System's resources can't be changed.
+    /// `wrPermErr` (-61) is returned by `AddResource`, `RemoveResource`, `ChangedResource` and `SetResInfo` when the
+    /// call would change the resources of the System file.
     pub const WRITE_PERMISSION: OsErr = OsErr(-61);
-    /// `memFullErr`: no room in the zone or in the memory.
+    /// `memFullErr` (-108) is returned when the zone has no room for a block, or the memory none for a partition.
     pub const MEM_FULL: OsErr = OsErr(-108);
-    /// `nilHandleErr`: the name is unbound, or its handle is emptied.
+    /// `nilHandleErr` (-109) is returned when a name in the call is unbound, or when its handle is an empty handle and
+    /// the call needs a block.
     pub const NIL_HANDLE: OsErr = OsErr(-109);
-    /// `memWZErr`: the handle was disposed of, or the name is of the other kind.
+    /// `memWZErr` (-111) is returned when the handle or the pointer was disposed of, or when the call needs a handle
+    /// and the name is bound to a pointer, or the other way round.
     pub const WRONG_ZONE: OsErr = OsErr(-111);
-    /// `memPurErr`: the block is locked, so that its handle can't be emptied.
+    /// `memPurErr` (-112) is returned by `EmptyHandle` and `ReallocateHandle` when the block is locked, so that it
+    /// can't be purged.
     pub const PURGED: OsErr = OsErr(-112);
-    /// `memLockedErr`: the block is locked, so that it can't be moved.
+    /// `memLockedErr` (-117) is returned by `MoveHHi` and `HLockHi` when the block is locked, so that it can't be
+    /// moved, and by a call of a grow-zone script on a busy handle or pointer.
     pub const LOCKED: OsErr = OsErr(-117);
-    /// `resourceInMemory`: the resource's handle has a block.
+    /// `resourceInMemory` (-188) says that a resource's handle has a block; no call of this project returns this code.
     pub const IN_MEMORY: OsErr = OsErr(-188);
-    /// `writingPastEnd`: a resource would have more bytes than one can have.
+    /// `writingPastEnd` (-189) says that a resource would have more bytes than a resource can have; no call of this
+    /// project returns this code.
     pub const TOO_LONG: OsErr = OsErr(-189);
-    /// `inputOutOfBounds`: an offset is past the end of a resource.
+    /// `inputOutOfBounds` (-190) says that an offset is past the end of a resource; no call of this project returns
+    /// this code.
     pub const OFFSET: OsErr = OsErr(-190);
-    /// `resNotFound`: there is no such resource, or the handle is none of a resource.
+    /// `resNotFound` (-192) is returned when a search finds no resource, or when a name in the call is bound to no handle
+    /// or, but for `AddResource` and `RemoveResource`, to no resource's handle.
     pub const RES_NOT_FOUND: OsErr = OsErr(-192);
-    /// `resFNotFound`: no resource fork is open under this number.
+    /// `resFNotFound` (-193) is returned when no resource fork is open under the number in the call.
     pub const RES_FILE_NOT_FOUND: OsErr = OsErr(-193);
-    /// `addResFailed`: the handle can't be made a resource: it is one already, or is emptied.
+    /// `addResFailed` (-194) is returned by `AddResource` when the handle is a resource's already, or is an empty
+    /// handle.
     pub const ADD_RES_FAILED: OsErr = OsErr(-194);
-    /// `rmvResFailed`: the resource can't be removed from its fork.
+    /// `rmvResFailed` (-196) is returned by `RemoveResource` when the handle is no resource's, or when the resource is
+    /// protected or belongs to another file than the current one.
     pub const REMOVE_RES_FAILED: OsErr = OsErr(-196);
-    /// `resAttrErr`: the resource's attributes forbid it.
+    /// `resAttrErr` (-198) is returned by `ChangedResource` and `SetResInfo` when the resource is protected, and by
+    /// `DetachResource` when the resource was changed.
     pub const RES_ATTR: OsErr = OsErr(-198);
-    /// `mapReadErr`: the bytes spell no fork.
+    /// `mapReadErr` (-199) is returned when a resource fork that is to be opened is damaged: its bytes spell no
+    /// content.
     pub const MAP_READ: OsErr = OsErr(-199);
-    /// `profileErr`, this project's own: what the manuals leave undefined.
+    /// `profileErr` (-30001), this project's own code, is returned when the manuals leave the result of a call
+    /// undefined.
     pub const PROFILE: OsErr = OsErr(-30001);
 
-    /// The number of the code.
+    /// Returns the number of the code.
     pub fn number(self) -> i16
         ensures { result ≡ self.0 }
     {

@@ -1,11 +1,12 @@
-//! The numbers of the result codes and of the attributes' bits.
+//! The numbers of the result codes, and the values of the attributes' bits.
 
 ghost use Rattle.std.specs.Prelude.{◌≡◌};
 ghost use Rattle.mac_words.specs.Codes.{noErr, segmentErr, dskFulErr, eofErr, fnfErr, dupFNErr, wrPermErr, memFullErr, nilHandleErr, memWZErr, memPurErr, memLockedErr, resourceInMemory, writingPastEnd, inputOutOfBounds, resNotFound, resFNotFound, addResFailed, rmvResFailed, resAttrErr, mapReadErr, profileErr, resSysHeap, resPurgeable, resLocked, resProtected, resPreload, resChanged};
 ghost use Rattle.mac_words.specs.declared.code.TheConstants.OsErr as TheCodes;
 ghost use Rattle.mac_words.specs.declared.attributes.TheConstants.Attrs as TheBits;
 
-/// Each result code is the number that it has in Apple's headers, or, for this project's own, the one that it chose.
+/// Each result code has the number that Apple's headers give it; this project's own code has the number that this
+/// project chose.
 ///
 /// *Inside Macintosh: Memory*, "Result Codes"; *More Macintosh Toolbox*, chapter 1, "Result Codes".
 pub fn codes_are_the_manuals()
@@ -33,7 +34,7 @@ pub fn codes_are_the_manuals()
     ensures profile_err { TheCodes.PROFILE.0 ≡ profileErr }
 {}
 
-/// Each bit of a resource's attributes has the value that it has in Apple's headers.
+/// Each bit of a resource's attributes has the value that Apple's headers give it.
 ///
 /// *More Macintosh Toolbox*, chapter 1, "Resource Attributes".
 pub fn attribute_bits_are_the_manuals()

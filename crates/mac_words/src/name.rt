@@ -2,12 +2,12 @@
 
 use arrayvec::ArrayVec;
 
-/// A name of a script, that is bound to a handle or a pointer: 1 to 63 bytes, a letter or `_` and
-/// then letters, digits and `_`.
+/// A name of a script, to which a handle or a pointer is bound: 1 to 63 bytes, first a letter or `_` and then letters,
+/// digits and `_`.
 #[derive(Clone, Debug, PartialEq, Eq, Hash, Drop)]
 pub struct Label(pub ArrayVec<u8, 63>);
 
-/// The name of a file: 1 to 63 bytes, compared byte by byte.
+/// The name of a file: 1 to 63 bytes. Names of files are compared byte by byte.
 #[derive(Clone, Debug, PartialEq, Eq, Hash, Drop)]
 pub struct FileName(pub ArrayVec<u8, 63>);
 
@@ -15,6 +15,6 @@ pub struct FileName(pub ArrayVec<u8, 63>);
 #[derive(Clone, Debug, PartialEq, Eq, Hash, Drop)]
 pub struct Name(pub ArrayVec<u8, 255>);
 
-/// The type of a resource: four bytes, as `TEXT`.
+/// The type of a resource: four bytes, for example `TEXT`.
 #[derive(Clone, Copy, Debug, PartialEq, Eq, Hash)]
 pub struct OsType(pub [u8; 4]);

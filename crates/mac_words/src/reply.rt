@@ -6,8 +6,8 @@ use crate::code::OsErr;
 use crate::name::{Name, OsType};
 use arrayvec::ArrayVec;
 
-/// What a call answers: its code and, after code 0, its values in the order of the fields. Bytes that a
-/// call shows are no part of it: they are written from where they stand.
+/// The reply of a call: its result code and, after code 0, its values in the order of the fields. Bytes that a call
+/// shows are no part of the reply: they are written from the block in which they stand.
 #[derive(Debug, Drop)]
 pub struct Reply {
     pub code: OsErr,
@@ -17,7 +17,7 @@ pub struct Reply {
 }
 
 impl Reply {
-    /// A code and no value.
+    /// Returns a reply of a result code and no value.
     pub fn of(code: OsErr) -> Reply
         ensures code { result.code ≡ code }
         ensures numbers { result.numbers.items ≡ [] }
@@ -32,7 +32,7 @@ impl Reply {
         }
     }
 
-    /// Code 0 and the number of another code.
+    /// Returns a reply of code 0 and the number of another result code.
     pub fn telling(code: OsErr) -> Reply
         ensures code { result.code ≡ OsErr.NO_ERR }
         ensures numbers { result.numbers.items ≡ code.0 ∷ [] }
@@ -49,7 +49,7 @@ impl Reply {
         }
     }
 
-    /// Code 0 and two numbers.
+    /// Returns a reply of code 0 and two numbers.
     pub fn pair(one: u32, other: u32) -> Reply
         ensures code { result.code ≡ OsErr.NO_ERR }
         ensures numbers { result.numbers.items ≡ pos one ∷ pos other ∷ [] }
@@ -67,7 +67,7 @@ impl Reply {
         }
     }
 
-    /// Code 0, the segment of a jump table's entry, and a flag as 1 or 0.
+    /// Returns a reply of code 0, the segment of a jump table's entry, and a flag as 1 or 0.
     pub fn entry(segment: i16, flag: bool) -> Reply
         ensures code { result.code ≡ OsErr.NO_ERR }
         ensures numbers { result.numbers.items ≡ segment ∷ pos (if flag then 1 else 0) ∷ [] }
@@ -85,7 +85,7 @@ impl Reply {
         }
     }
 
-    /// Code 0 and a number.
+    /// Returns a reply of code 0 and a number.
     pub fn number(number: u32) -> Reply
         ensures code { result.code ≡ OsErr.NO_ERR }
         ensures numbers { result.numbers.items ≡ pos number ∷ [] }
@@ -95,7 +95,7 @@ impl Reply {
         Reply::count(number as usize)
     }
 
-    /// Code 0 and how many there are of something.
+    /// Returns a reply of code 0 and a count.
     pub fn count(number: usize) -> Reply
         requires { number < 2 ^ 63 }
         ensures code { result.code ≡ OsErr.NO_ERR }
@@ -113,7 +113,7 @@ impl Reply {
         }
     }
 
-    /// Code 0 and the type of a resource.
+    /// Returns a reply of code 0 and the type of a resource.
     pub fn kind(ty: OsType) -> Reply
         ensures code { result.code ≡ OsErr.NO_ERR }
         ensures numbers { result.numbers.items ≡ [] }
@@ -128,7 +128,7 @@ impl Reply {
         }
     }
 
-    /// Code 0 and a resource's ID, type and name. A resource without a name is told as one whose name is empty.
+    /// Returns a reply of code 0 and a resource's ID, type and name. A resource without a name is given an empty name.
     pub fn info(id: i16, ty: OsType, name: Box<Name>) -> Reply
         ensures code { result.code ≡ OsErr.NO_ERR }
         ensures numbers { result.numbers.items ≡ id ∷ [] }

@@ -2,69 +2,72 @@
 
 use crate::name::{FileName, Label, Name, OsType};
 
-/// A call of the Resource Manager. Files are told apart by the numbers that `OpenResFile` gives; types and resources
-/// are counted from 1. The name that comes first is bound to the resource's handle, or is a name that is bound.
+/// A call of the Resource Manager. An open resource fork is named by the number that `OpenResFile` returns; types and
+/// resources are counted from 1. The first name of a call is bound to the resource's handle by the call, or is bound
+/// already.
 ///
-/// *More Macintosh Toolbox*, chapter 1, "Resource Manager Routines". Calls that give a handle also tell whether the
-/// resource's bytes were read for it, 1 or 0.
+/// *More Macintosh Toolbox*, chapter 1, "Resource Manager Routines". Calls that return a handle also report whether the
+/// resource's stored data was read for it, as 1 or 0.
 #[derive(Debug, Drop)]
 pub enum ResourceCall {
-    /// Opens a file's resource fork, which becomes the current one, and tells its number.
+    /// Opens a file's resource fork, makes it the current one, and returns its number.
     OpenResFile(FileName),
-    /// Makes a file whose resource fork has no resources.
+    /// Creates a file whose resource fork has no resources.
     CreateResFile(FileName),
-    /// Closes a resource fork and disposes of the handles of its resources.
+    /// Updates and closes a resource fork, and disposes of the handles of its resources.
     CloseResFile(u32),
-    /// Writes the resource fork of an open file, if its references were changed.
+    /// Writes the resource fork of an open file, if the file is touched.
     UpdateResFile(u32),
-    /// Makes a resource fork that is open the current one, where searches begin.
+    /// Makes an open resource fork the current one, in which searches begin.
     UseResFile(u32),
-    /// Tells the number of the current resource fork.
+    /// Returns the number of the current resource fork.
     CurResFile,
-    /// Tells the number of the resource fork that a resource belongs to.
+    /// Returns the number of the resource fork to which a resource belongs.
     HomeResFile(Label),
-    /// Binds the name to the first resource of a type and ID, from the current resource fork on.
+    /// Binds the name to the handle of the first resource of a type and ID on the search path.
     GetResource(Label, OsType, i16),
-    /// Binds the name to the resource of a type and ID in the current resource fork alone.
+    /// Binds the name to the handle of the resource of a type and ID in the current resource fork alone.
     Get1Resource(Label, OsType, i16),
-    /// Binds the name to the first resource of a type and name, from the current resource fork on.
+    /// Binds the name to the handle of the first resource of a type and name on the search path.
     GetNamedResource(Label, OsType, Box<Name>),
-    /// Binds the name to the resource of a type and name in the current resource fork alone.
+    /// Binds the name to the handle of the resource of a type and name in the current resource fork alone.
     Get1NamedResource(Label, OsType, Box<Name>),
-    /// Tells how many types the current resource fork has.
+    /// Returns the number of types in the current resource fork.
     Count1Types,
-    /// Tells a type of the current resource fork by its place, from 1 on.
+    /// Returns the type at the given place, from 1 on, in the current resource fork.
     Get1IndType(u32),
-    /// Tells how many resources of a type the current resource fork has.
+    /// Returns the number of resources of a type in the current resource fork.
     Count1Resources(OsType),
-    /// Binds the name to a resource of a type in the current resource fork, by its place from 1 on.
+    /// Binds the name to the handle of the resource of a type at the given place, from 1 on, in the current resource
+    /// fork.
     Get1IndResource(Label, OsType, u32),
-    /// Reads a resource's bytes for its handle, if that is emptied.
+    /// Reads a resource's stored data into its block, if its handle is an empty handle.
     LoadResource(Label),
-    /// Disposes of a resource's handle; the resource stays in its fork.
+    /// Disposes of a resource's handle; the resource stays in its resource fork.
     ReleaseResource(Label),
-    /// Makes a resource's handle a plain one; the resource stays in its fork.
+    /// Makes a resource's handle the application's own; the resource stays in its resource fork.
     DetachResource(Label),
-    /// Makes a plain handle that of a new resource of a type, ID and name in the current resource fork.
+    /// Makes the application's own handle the handle of a new resource of a type, ID and name in the current resource
+    /// fork.
     AddResource(Label, OsType, i16, Box<Name>),
-    /// Takes a resource out of the current resource fork; its handle stays as a plain one.
+    /// Removes a resource from the current resource fork; its handle stays as the application's own.
     RemoveResource(Label),
-    /// Marks a resource as changed: its fork's next update writes the handle's bytes.
+    /// Marks a resource as changed: the next update of its file stores the bytes of its block.
     ChangedResource(Label),
-    /// Stores a changed resource's bytes at once.
+    /// Stores the bytes of a changed resource's block, before the next update of its file.
     WriteResource(Label),
-    /// Tells a resource's ID, type and name.
+    /// Returns a resource's ID, type and name.
     GetResInfo(Label),
-    /// Gives a resource another ID and name.
+    /// Changes a resource's ID and name.
     SetResInfo(Label, i16, Box<Name>),
-    /// Tells a resource's attributes.
+    /// Returns a resource's attributes.
     GetResAttrs(Label),
-    /// Gives a resource other attributes.
+    /// Changes a resource's attributes.
     SetResAttrs(Label, u8),
-    /// Tells how many bytes a resource has in its fork.
+    /// Returns the size in bytes of a resource's stored data.
     GetResourceSizeOnDisk(Label),
-    /// Sets whether the calls that give a handle also read the resource's bytes.
+    /// Sets whether the calls that return a handle also read the resource's stored data.
     SetResLoad(bool),
-    /// Tells the code of the last call that sets it.
+    /// Returns the result code of the last Resource Manager call before this one; `ResError` itself sets no code.
     ResError,
 }

@@ -1,10 +1,10 @@
-//! The size of a block.
+//! The physical size of a block.
 
 ghost use Rattle.std.specs.Prelude.{◌≡◌};
 ghost use Rattle.mac_words.specs.Size.{phys as physical_size};
 
-/// The bytes that a block of `size` bytes of content takes in its zone: 16 of header, and the content
-/// rounded up to a multiple of 16. `None` above 2147483616 bytes: no zone holds such a block.
+/// Returns the physical size of a block whose logical size is `size` bytes: 16 bytes of header, and the logical size
+/// rounded up to a multiple of 16. Returns `None` above 2147483616 bytes, since no zone holds a block of that size.
 ///
 /// *Inside Macintosh: Memory*, chapter 2, "Block Headers".
 pub fn phys(size: u32) -> Option<u32>

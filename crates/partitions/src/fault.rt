@@ -1,4 +1,4 @@
-//! Why no window was granted.
+//! Why no partition was granted.
 
 ghost use Rattle.std.specs.Prelude.{◌≡◌};
 ghost use Rattle.partitions.specs.declared.fault.GrantFault.TheVariants as grant_fault;
@@ -7,17 +7,17 @@ ghost use Rattle.partitions.specs.Code.{grant_code};
 use mac_words::OsErr;
 use std::alloc::AllocError;
 
-/// Why an application was given no window of the memory.
+/// The reason why an application was granted no partition of the memory.
 #[derive(Clone, Copy, Debug, PartialEq, Eq)]
 pub enum GrantFault {
     /// No hole has the minimum size.
     NoRoom,
-    /// The host has no memory.
+    /// The host is out of memory.
     HostMemory,
 }
 
 impl GrantFault {
-    /// The result code: `memFullErr`. There is none where the host has no memory.
+    /// Returns the result code: -108 (memFullErr) for `NoRoom`, and none where the host is out of memory.
     ///
     /// *Inside Macintosh: Processes*, chapter 2, "Result Codes".
     pub fn code(self) -> Option<OsErr>

@@ -1,4 +1,4 @@
-//! The holes between the windows of a memory, and which of them is given.
+//! The holes between the partitions of a memory, and the partition that a launch is granted.
 
 ghost use Rattle.std.specs.Prelude.{◌≡◌, ◌+◌, ◌-◌, ◌%◌, ◌≤◌, IfSome};
 ghost use Rattle.std.specs.List.{All, find};
@@ -9,14 +9,14 @@ ghost use Rattle.partitions.specs.Granted.{HoldsZone};
 
 use windows::Window;
 
-// The larger of two holes, the lower one where they are equal.
+// Returns the larger of two holes; the lower one where they are equally large.
 fn larger(low: Window, high: Window) -> Window
     ensures { result ≡ larger low high }
 {
     if low.len < high.len { high } else { low }
 }
 
-// So many bytes at the lower end of the lowest hole that has them.
+// Returns the `size` bytes at the lower end of the lowest hole that has them.
 #[tactic(auto, using(crate::proofs::Order::window_ends))]
 fn lowest(memory: u32, windows: &[Window], size: u32) -> Option<Window>
     requires { InOrder 0 windows.now memory }
@@ -43,7 +43,7 @@ fn lowest(memory: u32, windows: &[Window], size: u32) -> Option<Window>
     }
 }
 
-// The largest hole, the lowest of equals.
+// Returns the largest hole; the lowest one where several are equally large.
 #[tactic(auto, using(crate::proofs::Order::window_ends, crate::proofs::Largest::larger_holes))]
 fn largest(memory: u32, windows: &[Window]) -> Window
     requires { InOrder 0 windows.now memory }
@@ -67,7 +67,7 @@ fn largest(memory: u32, windows: &[Window]) -> Window
     larger(best, hole)
 }
 
-// The whole largest hole, where it has so many bytes.
+// Returns the whole largest hole, where it has at least `size` bytes.
 fn largest_of(memory: u32, windows: &[Window], size: u32) -> Option<Window>
     requires { InOrder 0 windows.now memory }
     ensures { result ≡ at_least size (largest (holes memory 0 windows.now)) }
@@ -76,7 +76,7 @@ fn largest_of(memory: u32, windows: &[Window], size: u32) -> Option<Window>
     if size <= hole.len { Some(hole) } else { None }
 }
 
-// The window that is given, exactly.
+// Returns the partition that is granted, exactly as the definition says.
 fn given(memory: u32, windows: &[Window], preferred: u32, minimum: u32) -> Option<Window>
     requires { InOrder 0 windows.now memory }
     ensures { result ≡ grant memory windows.now preferred minimum }
@@ -87,7 +87,7 @@ fn given(memory: u32, windows: &[Window], preferred: u32, minimum: u32) -> Optio
     }
 }
 
-/// The window that is given, and what holds of it.
+/// Returns the partition that is granted; the clauses say what holds of every partition that is granted.
 pub fn granted(memory: u32, windows: &[Window], preferred: u32, minimum: u32) -> Option<Window>
     requires whole { memory % 16 ≡ 0 }
     requires order { InOrder 0 windows.now memory }

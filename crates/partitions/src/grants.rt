@@ -1,4 +1,4 @@
-//! The windows that are granted.
+//! The partitions that are granted.
 
 ghost use Rattle.std.specs.Prelude.{◌≡◌, ◌≤◌, ◌%◌, vec_capacity};
 ghost use Rattle.std.specs.List.{All};
@@ -12,7 +12,7 @@ use std::alloc::{AllocError, Global};
 use std::marker::Model;
 use windows::{MOST_WINDOWS, Window, put_window, take_window};
 
-/// A memory, and the windows that are granted in it, in the order of their places.
+/// A memory, and the partitions that are granted in it, as windows in the order of their places.
 #[derive(Drop)]
 pub struct Grants {
     memory: u32,
@@ -43,12 +43,12 @@ impl Grants {
     ghost use Rattle.partitions.specs.Grant.{grant};
     ghost use Rattle.partitions.specs.declared.fault.GrantFault.TheVariants as grant_fault;
 
-    /// A memory of `len` bytes in which nothing is granted. The room for 64 windows is taken here, so no other call takes
-    /// memory of the host.
+    /// Makes a memory of `len` bytes in which no partition is granted. The room for 64 windows is taken here, so no
+    /// other call takes host memory.
     ///
     /// # Errors
     ///
-    /// Where the host has no memory.
+    /// Returns an error where the host is out of memory.
     pub fn new(alloc: Global, len: u32) -> Result<Grants, AllocError>
         requires multiple { len % 16 ≡ 0 }
         ensures memory { IfOk result (λ g. g.memory ≡ len) }
@@ -61,14 +61,15 @@ impl Grants {
         })
     }
 
-    /// Gives a launched application its window: so many bytes as it prefers at the lower end of the lowest hole that has
-    /// them; else the whole largest hole, the lowest of equals, if it has the minimum. No memory of the host is taken.
+    /// Grants a launched application its partition: of the preferred size, at the lower end of the lowest hole that has
+    /// as many bytes; else the whole largest hole, the lowest of equals, if the hole has at least the minimum size. No
+    /// host memory is taken.
     ///
     /// *Inside Macintosh: Processes*, chapter 2, "Launching Other Applications".
     ///
     /// # Errors
     ///
-    /// Where no hole has the minimum. Nothing is granted then.
+    /// Returns `NoRoom` where no hole has the minimum size. Nothing is granted then.
     pub fn grant(&mut self, preferred: u32, minimum: u32) -> Result<Window, GrantFault>
         requires multiple { preferred % 16 ≡ 0 }
         requires least { 512 ≤ minimum }
@@ -94,7 +95,7 @@ impl Grants {
         }
     }
 
-    /// Takes back the window of an application that has ended, and that one alone. No memory of the host is taken.
+    /// Takes back the partition of an application that has ended, and no other partition. No host memory is taken.
     #[tactic(auto, using(crate::proofs::Order::free_given_back))]
     pub fn give_back(&mut self, window: Window)
         requires { Contains self.old.windows window }
@@ -105,7 +106,7 @@ impl Grants {
         take_window(&mut self.windows, window);
     }
 
-    /// The windows that are out, in the order of their places.
+    /// Returns the granted windows, in the order of their places.
     pub fn windows(&self) -> &[Window]
         ensures windows { result.now ≡ self.now.windows }
         ensures order { InOrder 0 self.now.windows self.now.memory }

@@ -1,4 +1,4 @@
-//! The partitions of one memory: which window of it a launched application is given.
+//! The partitions of one memory: which window of the memory a launched application is granted.
 #![tactic(auto)]
 
 mod fault;

@@ -2,18 +2,18 @@ use Rattle.std.specs.Prelude.{ℕ, suc, List, [], ◌∷◌, map, take, drop, if
 use Rattle.fork_format.specs.Content.{Group}
 use Rattle.res_map.specs.Map.{Reference, is_of}
 
--- References of one type that stand one after the other.
+-- References of one type that stand one after another.
 
--- how many there are before one of another type
+-- The number of references before the first one of another type.
 abbrev pub run : ℕ → List Reference → ℕ
 run kind [] = 0
 run kind (r ∷ references) = if is_of kind r then suc (run kind references) else 0
 
--- what is stored of references, as a group of a type
+-- What is stored of the references, as a group of a type.
 abbrev pub stored_group : ℕ → List Reference → Group
 stored_group kind references = record { kind = kind; refs = map (λ (r : Reference). r.stored) references }
 
--- for each type in its turn, what is stored of the references of that type with which the rest of them begins
+-- For each type in turn, the group of the references of that type with which the remaining references begin.
 abbrev pub runs : List ℕ → List Reference → List Group
 runs [] references = []
 runs (kind ∷ kinds) references = stored_group kind (take (run kind references) references)

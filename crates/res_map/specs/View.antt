@@ -7,10 +7,11 @@ use Rattle.res_map.specs.declared.stored.StoredReference.{StoredReference}
 use Rattle.res_map.specs.declared.entry.Entry.{Entry}
 use Rattle.res_map.specs.Map.{Reference}
 
--- a name, a reference and one that is lent as values, without where they lie in memory
+-- A name as a value, without the place where it lies in memory.
 abbrev pub view_name : Option StoredName → Option (List ℕ)
 view_name name = option_map (λ (n : StoredName). n.bytes.items) name
 
+-- A reference as a value.
 abbrev pub view_reference : StoredReference → Reference
 view_reference r = record {
   kind = r.kind;
@@ -23,12 +24,14 @@ view_reference r = record {
   handle = r.rest.value.handle;
 }
 
+-- A reference that is lent as a value.
 abbrev pub view_entry : Entry → Reference
 view_entry e = record { kind = big_number 4 e.ty.0; stored = view_ref e.stored; handle = e.handle }
 
--- bytes that may be there, and those of many, as values
+-- Bytes that may be given, as a value.
 abbrev pub view_bytes : Option (Vec ℕ Global) → Option (List ℕ)
 view_bytes bytes = option_map (λ (v : Vec ℕ Global). v.items) bytes
 
+-- The bytes that may be given for each of many references, as values.
 abbrev pub view_all : List (Option (Vec ℕ Global)) → List (Option (List ℕ))
 view_all all = map view_bytes all

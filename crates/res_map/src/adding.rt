@@ -1,4 +1,4 @@
-//! References that are added, and those that go.
+//! References that are added to a map and removed from it.
 
 ghost use Rattle.std.specs.Prelude.{◌≡◌, ◌<◌, ◌≤◌, ◌==◌, not, filter, map, length, Some, None, List, ℕ};
 ghost use Rattle.std.specs.Prelude.{IfOk, OnOk, OnErr};
@@ -13,7 +13,7 @@ use crate::stored::{Rest, StoredReference};
 use mac_words::{Attrs, Name};
 use std::alloc::{AllocError, Global};
 
-/// A reference with a handle: it is to be written, and nothing is stored of it yet.
+/// Returns a new reference with a handle: the resource is marked as changed, and has no stored data yet.
 pub fn new_one(
     alloc: Global,
     kind: u32,
@@ -38,7 +38,7 @@ pub fn new_one(
     })
 }
 
-/// Puts a reference behind the last one of its type, which ends at a place.
+/// Inserts a reference after the last one of its type; `end` is the place after that last one.
 fn put_behind(
     refs: &mut Vec<StoredReference>,
     end: usize,
@@ -56,7 +56,7 @@ fn put_behind(
     Ok(())
 }
 
-/// Puts the first reference of a type behind all others, and its type behind the other types.
+/// Adds the first reference of a type as the last of all, and its type as the last of the types.
 fn put_last(
     kinds: &mut Vec<u32>,
     refs: &mut Vec<StoredReference>,
@@ -76,7 +76,7 @@ fn put_last(
     Ok(())
 }
 
-/// Puts a reference behind the last one of its type; the first of a type behind all others.
+/// Adds a reference after the last one of its type; the first of a type is added as the last of all.
 pub fn put_in(
     kinds: &mut Vec<u32>,
     refs: &mut Vec<StoredReference>,
@@ -94,14 +94,14 @@ pub fn put_in(
     }
 }
 
-/// Takes a type out of the list of types.
+/// Removes a type from the list of types.
 fn forget(kinds: &mut Vec<u32>, kind: u32)
     ensures { kinds.new.items ≡ filter (λ k. not (k == kind)) kinds.old.items }
 {
     kinds.retain(|k| *k != kind);
 }
 
-/// Takes the reference at a place away, and its type too where it was the last one of it.
+/// Removes the reference at a place, and its type where the reference was the last of the type.
 pub fn take_out(kinds: &mut Vec<u32>, refs: &mut Vec<StoredReference>, index: usize)
     requires { index < length refs.old.items }
     ensures references { map view_reference refs.new.items ≡ remove (map view_reference refs.old.items) index }

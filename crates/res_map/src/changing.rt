@@ -8,14 +8,14 @@ use crate::stored::{StoredName, StoredReference};
 use mac_words::{Attrs, Name};
 use std::alloc::{AllocError, Global};
 
-/// Gives a reference a handle, or takes it away.
+/// Sets the handle of a reference, or takes it away.
 fn hold(r: &mut StoredReference, handle: Option<usize>)
     ensures { view_reference r.new ≡ with_handle handle (view_reference r.old) }
 {
     r.rest.handle = handle;
 }
 
-/// Gives the reference at a place a handle, or takes it away.
+/// Sets the handle of the reference at a place, or takes it away.
 pub fn put_handle(refs: &mut Vec<StoredReference>, index: usize, handle: Option<usize>)
     requires { index < length refs.old.items }
     ensures { IfSome (slice_get (map view_reference refs.old.items) index) (λ r. map view_reference refs.new.items
@@ -24,14 +24,14 @@ pub fn put_handle(refs: &mut Vec<StoredReference>, index: usize, handle: Option<
     hold(&mut refs[index], handle);
 }
 
-/// Gives a reference other attributes.
+/// Sets the attributes of a reference.
 fn mark(r: &mut StoredReference, attrs: Attrs)
     ensures { view_reference r.new ≡ with_attrs attrs.0 (view_reference r.old) }
 {
     r.attrs = attrs;
 }
 
-/// Gives the reference at a place other attributes.
+/// Sets the attributes of the reference at a place.
 pub fn put_attrs(refs: &mut Vec<StoredReference>, index: usize, attrs: Attrs)
     requires { index < length refs.old.items }
     ensures { IfSome (slice_get (map view_reference refs.old.items) index) (λ r. map view_reference refs.new.items
@@ -40,7 +40,7 @@ pub fn put_attrs(refs: &mut Vec<StoredReference>, index: usize, attrs: Attrs)
     mark(&mut refs[index], attrs);
 }
 
-/// Stores other bytes of a resource, which is changed no more.
+/// Replaces the stored data of a reference, and clears its resChanged.
 fn keep(r: &mut StoredReference, datum: Vec<u8>)
     ensures { view_reference r.new ≡ stored_anew (Some datum.items) (view_reference r.old) }
 {
@@ -48,7 +48,7 @@ fn keep(r: &mut StoredReference, datum: Vec<u8>)
     r.rest.datum = datum;
 }
 
-/// Stores other bytes of the resource at a place, which is changed no more.
+/// Replaces the stored data of the reference at a place, and clears its resChanged.
 pub fn put_datum(refs: &mut Vec<StoredReference>, index: usize, datum: Vec<u8>)
     requires { index < length refs.old.items }
     ensures { IfSome (slice_get (map view_reference refs.old.items) index) (λ r. map view_reference refs.new.items
@@ -57,7 +57,7 @@ pub fn put_datum(refs: &mut Vec<StoredReference>, index: usize, datum: Vec<u8>)
     keep(&mut refs[index], datum);
 }
 
-/// The name that a text is: none, where it is empty.
+/// Returns the name that a text spells; an empty text spells no name.
 pub fn name_of(alloc: Global, name: &Name) -> Result<Option<StoredName>, AllocError>
     ensures { IfOk result (λ o. view_name o ≡ name_by name.now.0.items None) }
 {
@@ -69,7 +69,7 @@ pub fn name_of(alloc: Global, name: &Name) -> Result<Option<StoredName>, AllocEr
     Ok(Some(StoredName { bytes }))
 }
 
-/// Gives a reference another ID, and another name where there is one.
+/// Sets the ID of a reference, and its name where a name is given.
 fn call(r: &mut StoredReference, id: i16, text: &[u8], name: Option<StoredName>)
     requires { view_name name ≡ name_by text.now None }
     ensures { view_reference r.new ≡ renamed id text.now (view_reference r.old) }
@@ -80,7 +80,7 @@ fn call(r: &mut StoredReference, id: i16, text: &[u8], name: Option<StoredName>)
     }
 }
 
-/// Gives the reference at a place another ID, and another name where there is one.
+/// Sets the ID of the reference at a place, and its name where a name is given.
 pub fn put_name(
     refs: &mut Vec<StoredReference>,
     index: usize,

@@ -9,25 +9,25 @@ use crate::stored::{StoredName, StoredReference};
 use fork_format::{Ref, RefName};
 use mac_words::OsType;
 
-/// A reference of an open file: its type, what is stored of it, and its handle, if it has one.
+/// A reference of an open file: its type, what the file stores of it, and its handle, if it has one.
 #[derive(Clone, Copy, Debug, PartialEq, Eq)]
 pub struct Entry<'a> {
     /// The type.
     pub ty: OsType,
-    /// The ID, the name, the attributes and the bytes, as they are stored.
+    /// The ID, the name, the attributes and the stored data.
     pub stored: Ref<'a>,
-    /// The number of the handle.
+    /// The number of the handle, if the reference has one.
     pub handle: Option<usize>,
 }
 
-/// The type whose four bytes a number is.
+/// Returns the type whose four bytes are a number.
 pub fn type_of(kind: u32) -> OsType
     ensures { big_number 4 result.0 ≡ kind }
 {
     OsType(kind.to_be_bytes())
 }
 
-/// A name as it is lent.
+/// Returns a name as it is lent.
 pub fn lent_name<'a>(name: &'a Option<StoredName>) -> Option<RefName<'a>>
     ensures { fork.view_name result ≡ view_name name.now }
 {
@@ -39,7 +39,7 @@ pub fn lent_name<'a>(name: &'a Option<StoredName>) -> Option<RefName<'a>>
     }
 }
 
-/// A reference as it is lent.
+/// Returns a reference as it is lent.
 pub fn entry_of<'a>(r: &'a StoredReference) -> Entry<'a>
     ensures { view_entry result ≡ view_reference r.now }
 {

@@ -1,4 +1,4 @@
-//! What holds of each content that is opened, and of what is told of a map.
+//! Laws of each content that is opened, and of the content that a map makes.
 
 ghost use Rattle.std.specs.Prelude.{◌≡◌, true, None, map};
 ghost use Rattle.std.specs.List.{list_all};
@@ -6,14 +6,14 @@ ghost use Rattle.fork_format.specs.Content.{Group as GroupValue, Content as Cont
 ghost use Rattle.fork_format.specs.Canonical.{has_refs, are_distinct};
 ghost use Rattle.res_map.specs.Map.{Reference, Map, stand_together, with_handle, content, map_of};
 
-/// What is told of the map of a content is that content: nothing of it is lost as its file is opened.
+/// The map of a content makes that content again: nothing of the content is lost when its file is opened.
 #[tactic(auto, using(crate::proofs::Contents::content_told))]
 pub fn a_content_that_is_opened_is_told_again()
     ensures { (c : ContentValue) → are_distinct (map (λ (g : GroupValue). g.kind) c.groups) ≡ true
         → list_all has_refs c.groups ≡ true → content (map_of c) ≡ c }
 {}
 
-/// A map whose content is opened is that map again, but for its handles.
+/// The content that a map makes is opened as the same map, but without handles.
 #[tactic(auto, using(crate::proofs::Contents::map_told))]
 pub fn a_map_whose_content_is_opened_is_there_again()
     ensures { (m : Map) → stand_together (map (λ (r : Reference). r.kind) m.references) ≡ true

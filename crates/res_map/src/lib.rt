@@ -1,4 +1,4 @@
-//! The map of one open file: its references in order, each with the handle that it has, if any.
+//! The resource map of one open file: its references in order, each with its handle, if it has one.
 //!
 //! *More Macintosh Toolbox*, chapter 1, "The Resource Map".
 #![tactic(auto)]

@@ -1,4 +1,4 @@
-//! The references of a content, as its file is opened.
+//! The references of a content, read when its file is opened.
 
 ghost use Rattle.std.specs.Prelude.{◌≡◌, ◌++◌, map, OnOk, IfOk};
 ghost use Rattle.fork_format.specs.Content.{Group as GroupValue};
@@ -11,7 +11,7 @@ use crate::stored::{Rest, StoredName, StoredReference};
 use fork_format::{Group, Ref, RefName, kind_of};
 use std::alloc::{AllocError, Global};
 
-/// A name with bytes of its own.
+/// Returns a copy of a name that owns its bytes.
 fn own_name(alloc: Global, name: &Option<RefName<'_>>) -> Result<Option<StoredName>, AllocError>
     ensures { IfOk result (λ o. view_name o ≡ fork.view_name name.now) }
 {
@@ -24,7 +24,7 @@ fn own_name(alloc: Global, name: &Option<RefName<'_>>) -> Result<Option<StoredNa
     }
 }
 
-/// The name and the bytes of a resource, which has no handle yet.
+/// Returns the name and the stored data of a resource, which has no handle yet.
 fn rest_of(alloc: Global, r: &Ref<'_>) -> Result<Rest, AllocError>
     ensures name { IfOk result (λ x. view_name x.name ≡ fork.view_name r.now.name) }
     ensures datum { IfOk result (λ x. x.datum.items ≡ r.now.datum.now) }
@@ -39,7 +39,7 @@ fn rest_of(alloc: Global, r: &Ref<'_>) -> Result<Rest, AllocError>
     })
 }
 
-/// A reference that is read.
+/// Returns the reference of a resource that is read.
 fn read_one(alloc: Global, kind: u32, r: &Ref<'_>) -> Result<StoredReference, AllocError>
     ensures { IfOk result (λ x. view_reference x ≡ read_reference kind (view_ref r.now)) }
 {
@@ -54,7 +54,7 @@ fn read_one(alloc: Global, kind: u32, r: &Ref<'_>) -> Result<StoredReference, Al
     })
 }
 
-/// Puts the references of a group behind those that are there.
+/// Appends the references of a group to `refs`.
 fn read_group(
     alloc: Global,
     group: &Group<'_>,
@@ -72,7 +72,7 @@ fn read_group(
     Ok(())
 }
 
-/// The references of groups, in order.
+/// Returns the references of groups, in order.
 pub fn read_groups(alloc: Global, groups: &[Group<'_>]) -> Result<Vec<StoredReference>, AllocError>
     ensures { IfOk result (λ v. map view_reference v.items ≡ of_groups (map view_group groups.now)) }
 {
@@ -83,7 +83,7 @@ pub fn read_groups(alloc: Global, groups: &[Group<'_>]) -> Result<Vec<StoredRefe
     Ok(refs)
 }
 
-/// The types of groups, as numbers.
+/// Returns the types of groups, as numbers.
 pub fn read_types(alloc: Global, groups: &[Group<'_>]) -> Result<Vec<u32>, AllocError>
     ensures { IfOk result (λ v. v.items ≡ map (λ (g : GroupValue). g.kind) (map view_group groups.now)) }
 {

@@ -1,4 +1,4 @@
-//! The map of one open file.
+//! The resource map of one open file.
 
 ghost use Rattle.std.specs.Prelude.{◌≡◌, ◌<◌, ◌≤◌, ◌^◌, ℕ, IsTrue, Some, length, map, slice_get, slice_set, option_map};
 ghost use Rattle.std.specs.Prelude.{IfOk, IfSome, OnOk, OnErr, filter_map};
@@ -24,10 +24,10 @@ use mac_words::{Attrs, Name, OsType};
 use std::alloc::{AllocError, Global};
 use std::marker::Model;
 
-/// The map of an open file: its references in order, each with the handle that it has, if any. A reference is named
+/// The resource map of an open file: its references in order, each with its handle, if it has one. A reference is named
 /// by its place in that order, from 0.
 ///
-/// The bytes of the resources are held here: the file's fork may be let go.
+/// The map holds the stored data of the resources, so the bytes of the file's fork may be released.
 ///
 /// *More Macintosh Toolbox*, chapter 1, "The Resource Map".
 #[derive(Drop)]
@@ -43,12 +43,12 @@ impl Model for ResFile {
 
     ghost view = { λ f. record { area = f.area; attrs = f.attrs; references = map view_reference f.refs.items } };
 
-    // Each type once, in the order of the first references; the references of one type stand together.
+    // Each type stands once, in the order of the first references; the references of one type stand together.
     ghost invariant = { λ f. IsOrdered f.kinds.items (map view_reference f.refs.items) };
 }
 
 impl ResFile {
-    /// Opens a file of this content. No reference has a handle.
+    /// Returns the map of a content, as its file is opened. No reference has a handle.
     pub fn open(alloc: Global, content: &Content<'_>) -> Result<ResFile, AllocError>
         requires types { IsTrue (are_distinct (map (λ (g : GroupValue). g.kind) (view content.now).groups)) }
         requires references { IsTrue (list_all has_refs (view content.now).groups) }
@@ -65,14 +65,14 @@ impl ResFile {
         })
     }
 
-    /// How many references there are.
+    /// Returns the number of references.
     pub fn len(&self) -> usize
         ensures { result ≡ length self.now.references }
     {
         self.refs.len()
     }
 
-    /// The reference at a place.
+    /// Returns the reference at a place.
     pub fn reference(&self, index: usize) -> Entry<'_>
         requires { index < length self.now.references }
         ensures { slice_get self.now.references index ≡ Some (view_entry result) }
@@ -80,36 +80,37 @@ impl ResFile {
         entry_of(&self.refs[index])
     }
 
-    /// The first reference of a type and ID.
+    /// Returns the place of the first reference of a type and ID.
     pub fn find(&self, ty: OsType, id: i16) -> Option<usize>
         ensures { result ≡ option_map place (split (is_resource (big_number 4 ty.0) id) self.now.references) }
     {
         place_of(self.refs.as_slice(), kind_of(ty), id)
     }
 
-    /// The first reference of a type and name. ASCII letters match in either case, other bytes are compared as they
-    /// stand. A reference without a name matches no text; one with a name of no bytes matches the empty one.
+    /// Returns the place of the first reference of a type and name. ASCII letters match in either case, and other bytes
+    /// are compared as they stand. A reference without a name matches no text; a reference with a name of no bytes
+    /// matches the empty text.
     pub fn find_named(&self, ty: OsType, name: &[u8]) -> Option<usize>
         ensures { result ≡ option_map place (split (is_named (big_number 4 ty.0) name.now) self.now.references) }
     {
         place_named(self.refs.as_slice(), kind_of(ty), name)
     }
 
-    /// The first reference that has a handle.
+    /// Returns the place of the first reference that has a handle.
     pub fn find_handle(&self, handle: usize) -> Option<usize>
         ensures { result ≡ option_map place (split (has_handle handle) self.now.references) }
     {
         place_holding(self.refs.as_slice(), handle)
     }
 
-    /// The n-th reference of a type, from 1.
+    /// Returns the place of the n-th reference of a type, from 1.
     pub fn find_nth(&self, ty: OsType, n: u32) -> Option<usize>
         ensures { result ≡ option_map place (split_nth n (is_of (big_number 4 ty.0)) self.now.references) }
     {
         nth_place(self.refs.as_slice(), kind_of(ty), n)
     }
 
-    /// How many references a type has.
+    /// Returns the number of references of a type.
     #[tactic(auto, using(crate::proofs::Short::count_fits))]
     pub fn count(&self, ty: OsType) -> usize
         ensures count { result ≡ length (of_type (big_number 4 ty.0) self.now.references) }
@@ -119,7 +120,7 @@ impl ResFile {
         count_of(self.refs.as_slice(), kind_of(ty))
     }
 
-    /// How many types there are.
+    /// Returns the number of types.
     pub fn count_types(&self) -> usize
         ensures count { result ≡ length (types self.now.references) }
         ensures fits { result < 2 ^ 63 }
@@ -127,21 +128,21 @@ impl ResFile {
         self.kinds.len()
     }
 
-    /// The n-th type, from 1.
+    /// Returns the n-th type, from 1.
     pub fn nth_type(&self, n: u32) -> Option<OsType>
         ensures { option_map (λ (t : OsType). big_number 4 t.0) result ≡ nth n (types self.now.references) }
     {
         nth_kind(self.kinds.as_slice(), n)
     }
 
-    /// The handles that references have, in order.
+    /// Returns the handles of the references, in order.
     pub fn handles(&self, alloc: Global) -> Result<Vec<usize>, AllocError>
         ensures { IfOk result (λ v. v.items ≡ filter_map (λ (r : Reference). r.handle) self.now.references) }
     {
         handles_of(alloc, self.refs.as_slice())
     }
 
-    /// Gives a reference a handle, or takes it away.
+    /// Sets the handle of a reference, or takes it away.
     pub fn set_handle(&mut self, index: usize, handle: Option<usize>)
         requires { index < length self.old.references }
         ensures { IfSome (slice_get self.old.references index) (λ r. self.new ≡ record self.old {
@@ -151,7 +152,7 @@ impl ResFile {
         put_handle(&mut self.refs, index, handle);
     }
 
-    /// Gives a reference other attributes.
+    /// Sets the attributes of a reference.
     pub fn set_attrs(&mut self, index: usize, attrs: Attrs)
         requires { index < length self.old.references }
         ensures { IfSome (slice_get self.old.references index) (λ r. self.new ≡ record self.old {
@@ -161,7 +162,7 @@ impl ResFile {
         put_attrs(&mut self.refs, index, attrs);
     }
 
-    /// Stores other bytes of a resource, which is changed no more.
+    /// Replaces the stored data of a reference, and clears its resChanged.
     pub fn store(&mut self, index: usize, datum: Vec<u8>)
         requires { index < length self.old.references }
         ensures { IfSome (slice_get self.old.references index) (λ r. self.new ≡ record self.old {
@@ -171,7 +172,7 @@ impl ResFile {
         put_datum(&mut self.refs, index, datum);
     }
 
-    /// Gives a reference another ID, and another name where that isn't empty.
+    /// Sets the ID of a reference, and its name where the text isn't empty.
     pub fn rename(
         &mut self,
         alloc: Global,
@@ -190,7 +191,7 @@ impl ResFile {
         Ok(())
     }
 
-    /// Takes a reference away. A type whose last reference it was is a type of the file no more.
+    /// Removes a reference. The file no longer has its type where the reference was the last of the type.
     pub fn remove(&mut self, index: usize)
         requires { index < length self.old.references }
         ensures { self.new ≡ record self.old { references = remove self.old.references index } }
@@ -198,9 +199,9 @@ impl ResFile {
         take_out(&mut self.kinds, &mut self.refs, index);
     }
 
-    /// Adds a reference behind the last one of its type; the first of a type is the last of all. It has a handle, is
-    /// to be written, and nothing is stored of it yet. An empty text gives it no name. Where memory is refused the file
-    /// is as it was.
+    /// Adds a reference after the last one of its type; the first of a type is added as the last of all. The new
+    /// reference has a handle, is marked as changed, and has no stored data yet. An empty text gives the reference no
+    /// name. Where the host is out of memory, the file is as it was.
     pub fn add(
         &mut self,
         alloc: Global,
@@ -219,7 +220,7 @@ impl ResFile {
     }
 }
 
-/// The n-th of types, from 1.
+/// Returns the n-th of the types, from 1.
 fn nth_kind(kinds: &[u32], n: u32) -> Option<OsType>
     ensures { option_map (λ (t : OsType). big_number 4 t.0) result ≡ nth n kinds.now }
 {

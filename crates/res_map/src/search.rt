@@ -1,4 +1,4 @@
-//! Searches in the references of a file.
+//! Searches among the references of a file.
 
 ghost use Rattle.std.specs.Prelude.{◌≡◌, ◌≤◌, map, length, option_map, filter_map, OnOk, IfOk, IfSome, ℕ};
 ghost use Rattle.res_map.specs.Split.{split, place};
@@ -10,14 +10,14 @@ ghost use Rattle.res_map.specs.View.{view_name, view_reference};
 use crate::stored::{StoredName, StoredReference};
 use std::alloc::{AllocError, Global};
 
-/// Whether a reference has a type and ID.
+/// Reports whether a reference has a type and ID.
 fn is_at(r: &StoredReference, kind: u32, id: i16) -> bool
     ensures { result ≡ is_resource kind id (view_reference r.now) }
 {
     r.kind == kind && r.id == id
 }
 
-/// The place of the first reference of a type and ID.
+/// Returns the place of the first reference of a type and ID.
 #[tactic(auto, using(crate::proofs::Steps::found_here, crate::proofs::Steps::found_on))]
 pub fn place_of(refs: &[StoredReference], kind: u32, id: i16) -> Option<usize>
     ensures { result ≡ option_map place (split (is_resource kind id) (map view_reference refs.now)) }
@@ -30,7 +30,7 @@ pub fn place_of(refs: &[StoredReference], kind: u32, id: i16) -> Option<usize>
     None
 }
 
-/// Whether a text is a name.
+/// Reports whether a text matches a name.
 fn is_name(text: &[u8], name: &Option<StoredName>) -> bool
     ensures { result ≡ same_name text.now (view_name name.now) }
 {
@@ -40,14 +40,14 @@ fn is_name(text: &[u8], name: &Option<StoredName>) -> bool
     name.bytes.as_slice().eq_ignore_ascii_case(text)
 }
 
-/// Whether a reference has a type and name.
+/// Reports whether a reference has a type and name.
 fn is_called(r: &StoredReference, kind: u32, text: &[u8]) -> bool
     ensures { result ≡ is_named kind text.now (view_reference r.now) }
 {
     r.kind == kind && is_name(text, &r.rest.name)
 }
 
-/// The place of the first reference of a type and name.
+/// Returns the place of the first reference of a type and name.
 #[tactic(auto, using(crate::proofs::Steps::found_here, crate::proofs::Steps::found_on))]
 pub fn place_named(refs: &[StoredReference], kind: u32, text: &[u8]) -> Option<usize>
     ensures { result ≡ option_map place (split (is_named kind text.now) (map view_reference refs.now)) }
@@ -60,7 +60,7 @@ pub fn place_named(refs: &[StoredReference], kind: u32, text: &[u8]) -> Option<u
     None
 }
 
-/// Whether a reference has a handle.
+/// Reports whether a reference has a handle.
 fn holds(r: &StoredReference, handle: usize) -> bool
     ensures { result ≡ has_handle handle (view_reference r.now) }
 {
@@ -70,7 +70,7 @@ fn holds(r: &StoredReference, handle: usize) -> bool
     }
 }
 
-/// The place of the first reference that has a handle.
+/// Returns the place of the first reference that has a handle.
 #[tactic(auto, using(crate::proofs::Steps::found_here, crate::proofs::Steps::found_on))]
 pub fn place_holding(refs: &[StoredReference], handle: usize) -> Option<usize>
     ensures { result ≡ option_map place (split (has_handle handle) (map view_reference refs.now)) }
@@ -83,14 +83,14 @@ pub fn place_holding(refs: &[StoredReference], handle: usize) -> Option<usize>
     None
 }
 
-/// Whether a reference has a type.
+/// Reports whether a reference has a type.
 fn has_type(r: &StoredReference, kind: u32) -> bool
     ensures { result ≡ is_of kind (view_reference r.now) }
 {
     r.kind == kind
 }
 
-/// The place of the n-th reference of a type.
+/// Returns the place of the n-th reference of a type, from 1.
 #[tactic(auto, using(crate::proofs::Steps::nth_here, crate::proofs::Steps::nth_counted, crate::proofs::Steps::nth_on))]
 pub fn nth_place(refs: &[StoredReference], kind: u32, n: u32) -> Option<usize>
     ensures { result ≡ option_map place (split_nth n (is_of kind) (map view_reference refs.now)) }
@@ -107,7 +107,7 @@ pub fn nth_place(refs: &[StoredReference], kind: u32, n: u32) -> Option<usize>
     None
 }
 
-/// How many references have a type.
+/// Returns the number of references of a type.
 #[tactic(auto, using(crate::proofs::Steps::count_here, crate::proofs::Steps::count_on))]
 pub fn count_of(refs: &[StoredReference], kind: u32) -> usize
     ensures { result ≡ length (of_type kind (map view_reference refs.now)) }
@@ -121,7 +121,7 @@ pub fn count_of(refs: &[StoredReference], kind: u32) -> usize
     count
 }
 
-/// The place behind the last reference of a type.
+/// Returns the place after the last reference of a type, if there is a reference of the type.
 #[tactic(auto, using(crate::proofs::Ends::end_here, crate::proofs::Ends::end_before))]
 pub fn end_of(refs: &[StoredReference], kind: u32) -> Option<usize>
     ensures place { result ≡ end_of kind (map view_reference refs.now) }
@@ -137,7 +137,7 @@ pub fn end_of(refs: &[StoredReference], kind: u32) -> Option<usize>
     None
 }
 
-/// The handles that references have, in order.
+/// Returns the handles of the references, in order.
 #[tactic(auto, using(crate::proofs::Steps::gathered_some, crate::proofs::Steps::gathered_none))]
 pub fn handles_of(alloc: Global, refs: &[StoredReference]) -> Result<Vec<usize>, AllocError>
     ensures { IfOk result (λ v. v.items ≡ filter_map (λ (r : Reference). r.handle) (map view_reference refs.now)) }

@@ -1,4 +1,4 @@
-//! What is kept of a reference.
+//! What a map keeps of a reference.
 
 ghost use Rattle.std.specs.Prelude.{◌≤◌, length};
 
@@ -11,7 +11,7 @@ pub struct StoredName {
     ghost short: { length bytes.items ≤ 255 },
 }
 
-/// What no search by type and ID reads.
+/// The part of a reference that no search by type and ID reads.
 #[derive(Drop)]
 pub struct Rest {
     pub name: Option<StoredName>,
@@ -19,7 +19,8 @@ pub struct Rest {
     pub handle: Option<usize>,
 }
 
-/// A reference. What a search by type and ID reads lies close to that of the next one: the rest lies elsewhere.
+/// A reference. The part that a search by type and ID reads lies close to that of the next reference; the other part
+/// lies elsewhere in memory.
 #[derive(Drop)]
 pub struct StoredReference {
     /// The type, as a number.

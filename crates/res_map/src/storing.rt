@@ -1,4 +1,4 @@
-//! What is stored of references, as a fork is to hold it.
+//! The content that a file's fork is to hold after an update.
 
 ghost use Rattle.std.specs.Prelude.{◌≡◌, ◌≤◌, ℕ, length, map, unwrap_or, IfOk};
 ghost use Rattle.fork_format.specs.View.{view_ref, view_group, view};
@@ -13,8 +13,9 @@ use fork_format::{Content, Group, Ref};
 use std::alloc::{AllocError, Global};
 
 impl ResFile {
-    /// What the file's fork is to hold: for each reference the bytes that are given for it, or else those that are
-    /// stored, and no reference is changed. Names and bytes are lent. An error: the host has no memory.
+    /// Returns the content that the file's fork is to hold: for each reference the bytes that are given for it, or else
+    /// its stored data. No reference is changed. Names and bytes are lent. Returns an error where the host is out of
+    /// memory.
     ///
     /// *More Macintosh Toolbox*, chapter 1, "UpdateResFile".
     pub fn content<'a>(
@@ -35,7 +36,8 @@ impl ResFile {
         })
     }
 
-    /// Stores the bytes that are given for references, all of which are changed no more. It takes no memory.
+    /// Stores the bytes that are given for references, and clears the resChanged of all references. No host memory is
+    /// taken.
     ///
     /// *More Macintosh Toolbox*, chapter 1, "UpdateResFile".
     pub fn store_all(&mut self, fresh: Vec<Option<Vec<u8>>>)
@@ -46,7 +48,7 @@ impl ResFile {
     }
 }
 
-/// The bytes that are given, or else those that are stored.
+/// Returns the bytes that are given, or else the stored data.
 fn bytes_of<'a>(given: &'a Option<Vec<u8>>, stored: &'a [u8]) -> &'a [u8]
     ensures { result.now ≡ unwrap_or (view_bytes given.now) stored.now }
 {
@@ -56,7 +58,7 @@ fn bytes_of<'a>(given: &'a Option<Vec<u8>>, stored: &'a [u8]) -> &'a [u8]
     }
 }
 
-/// What is to be stored of a reference for which bytes are given, or none.
+/// Returns what is to be stored of a reference, with the bytes that are given for it, if there are any.
 fn ref_of<'a>(r: &'a StoredReference, given: &'a Option<Vec<u8>>) -> Ref<'a>
     ensures { view_ref result ≡ (stored_anew (view_bytes given.now) (view_reference r.now)).stored }
 {
@@ -68,7 +70,7 @@ fn ref_of<'a>(r: &'a StoredReference, given: &'a Option<Vec<u8>>) -> Ref<'a>
     }
 }
 
-/// The group of references of a type.
+/// Returns the group of the references of a type.
 #[tactic(auto, using(crate::proofs::Anew::stored_on))]
 fn group_of<'a>(
     alloc: Global,
@@ -90,7 +92,7 @@ fn group_of<'a>(
     })
 }
 
-/// How many references there are before one of another type.
+/// Returns the number of references before the first one of another type.
 #[tactic(auto, using(crate::proofs::Runs::run_ends, crate::proofs::Runs::run_on))]
 fn run_of(refs: &[StoredReference], kind: u32) -> usize
     ensures run { result ≡ run kind (map view_reference refs.now) }
@@ -104,7 +106,7 @@ fn run_of(refs: &[StoredReference], kind: u32) -> usize
     refs.len()
 }
 
-/// The groups of references, of which those of one type stand together.
+/// Returns the groups of references, of which those of one type stand together.
 fn groups_of<'a>(
     alloc: Global,
     kinds: &[u32],
@@ -129,7 +131,7 @@ fn groups_of<'a>(
     Ok(groups)
 }
 
-/// Stores the bytes that are given for a reference, if any, which is changed no more.
+/// Stores the bytes that are given for a reference, if there are any, and clears its resChanged.
 fn put_given(r: &mut StoredReference, given: Option<Vec<u8>>)
     ensures { view_reference r.new ≡ stored_anew (view_bytes given) (view_reference r.old) }
 {
@@ -139,7 +141,7 @@ fn put_given(r: &mut StoredReference, given: Option<Vec<u8>>)
     }
 }
 
-/// Stores the bytes that are given for references, which are changed no more.
+/// Stores the bytes that are given for references, and clears the resChanged of all references.
 #[tactic(auto, using(crate::proofs::Anew::put_all))]
 fn put_all(refs: &mut Vec<StoredReference>, mut fresh: Vec<Option<Vec<u8>>>)
     requires { length fresh.items ≡ length refs.old.items }

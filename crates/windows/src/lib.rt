@@ -1,16 +1,16 @@
-//! Windows of a memory: stretches of it that are lent out one by one, as each zone is given one. The words on
-//! windows, and the list of those that are open, stand here, so that every maker of zones cites the same ones.
+//! Windows of a memory: each zone is opened in a window of its own. The definitions of windows, and the list of the
+//! open windows, stand here, so that every maker of zones shares them.
 #![tactic(auto)]
 
 mod list;
 
 pub use list::{MOST_WINDOWS, put_window, take_window};
 
-/// A stretch of a memory: `len` bytes from the place `at` on.
+/// A window of a memory: the `len` bytes from the place `at` on.
 #[derive(Clone, Copy, Debug, PartialEq, Eq, Drop)]
 pub struct Window {
-    /// How many bytes of the memory stand before it.
+    /// The place of the window: the number of bytes of the memory below the window.
     pub at: u32,
-    /// How many bytes it has.
+    /// The length of the window in bytes.
     pub len: u32,
 }

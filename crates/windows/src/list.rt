@@ -1,4 +1,4 @@
-//! The windows that are open, in a list in the order of their places.
+//! The open windows, in a list in the order of their places.
 
 ghost use Rattle.std.specs.Prelude.{◌≡◌, ◌+◌, ◌<◌, ◌≤◌, length, vec_len, vec_capacity};
 ghost use Rattle.std.specs.List.{prefix_len, position_or_len, Contains};
@@ -6,17 +6,17 @@ ghost use Rattle.windows.specs.Windows.{ends_by, is_window, with_window, without
 
 use super::Window;
 
-/// No more windows of a memory are open at a time.
+/// The greatest number of windows of a memory that are open at a time.
 pub const MOST_WINDOWS: usize = 64;
 
-// The place behind a window's last byte.
+// Returns the place above a window's last byte.
 fn end_of(window: Window) -> u64
     ensures { result ≡ window.at + window.len }
 {
     u64::from(window.at) + u64::from(window.len)
 }
 
-// The index of the first window that does not end by a place.
+// Returns the index of the first window that does not end by the place `at`.
 fn index_after(windows: &[Window], at: u32) -> usize
     ensures index { result ≡ prefix_len (ends_by at) windows.now }
     ensures bound { result ≤ length windows.now }
@@ -28,7 +28,7 @@ fn index_after(windows: &[Window], at: u32) -> usize
     i
 }
 
-// The index of a window that is there.
+// Returns the index of a window that is in the list.
 #[tactic(auto, using(crate::proofs::Ordered::place_below))]
 fn index_of(windows: &[Window], window: Window) -> usize
     requires { Contains windows.now window }
@@ -42,7 +42,8 @@ fn index_of(windows: &[Window], window: Window) -> usize
     i
 }
 
-/// Puts a window behind those that end by its place. The list has room for it, so no memory is taken.
+/// Puts a window into the list, after the windows that end by its place. The list has room for the window, so no host
+/// memory is taken.
 pub fn put_window(windows: &mut Vec<Window>, window: Window)
     requires room { vec_len windows.old < vec_capacity windows.old }
     ensures items { windows.new.items ≡ with_window window.at window.len windows.old.items }
@@ -55,7 +56,7 @@ pub fn put_window(windows: &mut Vec<Window>, window: Window)
     }
 }
 
-/// Takes a window out of those that are open. Its room in the list stays.
+/// Takes a window out of the list of the open windows. The list keeps the room that the window had in it.
 pub fn take_window(windows: &mut Vec<Window>, window: Window)
     requires there { Contains windows.old.items window }
     ensures items { windows.new.items ≡ without_window window.at window.len windows.old.items }

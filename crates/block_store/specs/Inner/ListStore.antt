@@ -9,9 +9,9 @@ use Rattle.block_store.specs.declared.entries.StoredBlock.TheVariants as entry
 use Rattle.block_store.specs.declared.slots.SlotEntry.{SlotEntry}
 use Rattle.block_store.specs.declared.slots.SlotEntry.TheVariants as slot_entry
 
--- The lists in which a list store keeps its blocks and its slots.
+-- The lists in which a `ListStore` keeps its blocks and its master pointers.
 
--- the block that an entry stands for
+-- The block that an entry stands for.
 abbrev pub block_of : StoredBlock → Block
 block_of (entry.Free n) = Free n
 block_of (entry.Fixed place content) = Fixed place content.items
@@ -21,18 +21,18 @@ block_of (entry.Relocatable slot flags content) = Relocatable slot flags content
 abbrev pub blocks_of : List StoredBlock → List Block
 blocks_of entries = map block_of entries
 
--- the spot of an index
+-- The block of an index, in its place.
 abbrev pub nth_spot : ℕ → List Block → Option Spot
 nth_spot i [] = None
 nth_spot zero (b ∷ above) = Some (record { below = []; here = b; above = above })
 nth_spot (suc i) (b ∷ above) = option_map (raised b) (nth_spot i above)
 
--- the lowest block is Free where it passes
+-- The blocks, of which the lowest, where it passes the test, is now a free block.
 abbrev pub freed_first : (Block → Bool) → List Block → List Block
 freed_first test [] = []
 freed_first test (b ∷ above) = (if test b then Free (size b) else b) ∷ above
 
--- the state that an entry of the slots' list stands for
+-- The state that an entry of the list of master pointers stands for.
 abbrev pub slot_of : SlotEntry → Slot
 slot_of slot_entry.Unused = Unused
 slot_of (slot_entry.Used resource) = Used resource
@@ -41,7 +41,7 @@ abbrev pub slot_or_none : Option SlotEntry → Slot
 slot_or_none None = NoSlot
 slot_or_none (Some e) = slot_of e
 
--- what a number is as a slot: its index in the list
+-- The state of a number as a master pointer: the number is an index of the list.
 abbrev pub slots_of : List SlotEntry → ℕ → Slot
 slots_of slots number = slot_or_none (slice_get slots number)
 

@@ -8,7 +8,7 @@ use Rattle.block_store.specs.Inner.ListStore.{blocks_of, slots_of}
 use Rattle.block_store.specs.declared.measures.TheConstants.{GREATEST_ZONE, SLOTS_A_BLOCK}
 use Rattle.block_store.specs.declared.list_store.ListStore.{ListStore}
 
--- The laws of a store, of a list store.
+-- The laws of a store, as they hold of a `ListStore`.
 
 pub store-small : (s : ListStore) → sizes (blocks_of s.blocks.items) ≤ GREATEST_ZONE
 store-small s = let P : ℕ → Type 0 = λ n. n ≤ GREATEST_ZONE in subst P (sym s.covered) s.small

@@ -4,14 +4,14 @@ use Rattle.block_store.specs.Block.{Block, size}
 use Rattle.block_store.specs.Room.{may_go}
 use Rattle.block_store.specs.Inner.Stretch.{is_free}
 
--- How a look at blocks counts the purges that are left.
+-- How a search counts the purges that are left.
 
--- the purges left after a block that is Free, or is emptied; none where the block stays
+-- The purges left after a block that is free or is purged; none where the block stays.
 abbrev pub left_past : (Block → Bool) → ℕ → Block → Option ℕ
 left_past spared zero b = if is_free b then Some 0 else None
 left_past spared (suc k) b = if may_go spared b then Some k else (if is_free b then Some (suc k) else None)
 
--- the bytes of the Free blocks that come first, after k purges
+-- The size in bytes of the free blocks with which the list begins, after k purges.
 abbrev pub leading_free : (Block → Bool) → ℕ → List Block → ℕ
 leading_free spared k [] = 0
 leading_free spared k (b ∷ above) = unwrap_or

@@ -5,42 +5,42 @@ use Rattle.block_store.specs.Run.{in_run, has, has_free}
 use Rattle.block_store.specs.Room.{may_go}
 use Rattle.block_store.specs.declared.run_search.RunScan.{RunScan}
 
--- How a search for a run goes over the blocks: a run ends at a barrier, and blocks that would be emptied count as Free.
+-- How a search for a run goes over the blocks: a run ends at a barrier, and blocks that would be purged count as free.
 
--- a slot is the one
+-- The master pointer is the given one.
 abbrev pub is_number : Option ℕ → ℕ → Bool
 is_number None id = false
 is_number (Some number) id = id == number
 
--- the block of the slot that a run must have
+-- The block is that of the given master pointer, which the run must have.
 abbrev pub is_wanted : Option ℕ → Block → Bool
 is_wanted number (Free n) = false
 is_wanted number (Fixed id content) = false
 is_wanted number Masters = false
 is_wanted number (Relocatable id flags content) = is_number number id
 
--- whether a run need have no block
+-- No master pointer is given, so that the run need have no block.
 abbrev pub any_run : Option ℕ → Bool
 any_run None = true
 any_run (Some number) = false
 
--- a run has the block that it must have
+-- The run has the block that it must have.
 abbrev pub meets : Option ℕ → List Block → Bool
 meets number run = any_run number || has (is_wanted number) run
 
--- and so many Free bytes
+-- The run has the block that it must have, and at least p free bytes.
 abbrev pub suits : Option ℕ → ℕ → List Block → Bool
 suits number p run = meets number run && has_free p run
 
--- whether a run so far has its block, with one block more
+-- The run has the block that it must have, where `met` says this of the blocks before this one.
 abbrev pub met_after : Option ℕ → Bool → Block → Bool
 met_after number met (Free n) = met
 met_after number met (Fixed id content) = met
 met_after number met Masters = met
 met_after number met (Relocatable id flags content) = met || is_number number id
 
--- the place of the lowest run that suits, where the one that began at start has so many Free bytes so far, and the k
--- lowest blocks that may go count as Free
+-- The place of the lowest run that suits, where the current run began at start and has `free` free bytes so far, and
+-- the k lowest blocks that may be purged count as free.
 abbrev pub scan_runs : Option ℕ → ℕ → (Block → Bool) → ℕ → ℕ → ℕ → Bool → ℕ → List Block → Option ℕ
 scan_runs number p spared k start free met place [] = if met && nat_le p free then Some start else None
 scan_runs number p spared zero start free met place (b ∷ above) =
@@ -55,6 +55,6 @@ scan_runs number p spared (suc k) start free met place (b ∷ above) =
     else (if met && nat_le p free then Some start
     else scan_runs number p spared (suc k) (place + size b) 0 (any_run number) (place + size b) above))
 
--- what a search gives from where it is
+-- The answer of a search from its present state on.
 abbrev pub scan_from : Option ℕ → ℕ → (Block → Bool) → RunScan → List Block → Option ℕ
 scan_from number p spared s above = scan_runs number p spared s.left s.start s.free s.met s.place above
