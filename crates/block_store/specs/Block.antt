@@ -90,6 +90,7 @@ tidy_top [] = []
 tidy_top (b ∷ above) = add b above
 
 -- The same blocks, with neighbouring free blocks joined and free blocks of no bytes left out.
+-- See decision 8 (a zone is always tidy).
 abbrev pub tidy : List Block → List Block
 tidy [] = []
 tidy (b ∷ above) = add b (tidy above)
@@ -113,6 +114,7 @@ rename_block f g Masters = Masters
 rename_block f g (Relocatable id flags content) = Relocatable (f id) flags content
 
 -- The blocks with their names changed.
+-- See decision 6 (operations take tests on blocks, not names).
 abbrev pub rename : (ℕ → ℕ) → (ℕ → ℕ) → List Block → List Block
 rename f g blocks = map (rename_block f g) blocks
 

@@ -71,6 +71,7 @@ abbrev pub runs_settled : Option ℕ → List Block → ℕ
 runs_settled p zone = least_or_last (λ k. has_room p (settled k zone)) (length (runs zone))
 
 -- The zone compacted until there is a free block of at least p bytes.
+-- See decision 27 (`CompactMem` takes every run in turn).
 abbrev pub compacted : Option ℕ → List Block → List Block
 compacted p zone = settled (runs_settled p zone) zone
 

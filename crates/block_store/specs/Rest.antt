@@ -5,6 +5,7 @@ use Rattle.block_store.specs.Block.{Block, Free, Fixed, Masters, Relocatable, is
 use Rattle.block_store.specs.Slot.{Slot, set_slot, AreSlots}
 
 -- Where a store lies: in a window of the memory that begins at the address `home`.
+-- See decision 16 (each call of a store keeps the place where the store lies).
 pub record Site : Type 0 where
   pub home : Ptr
   pub window : Window

@@ -20,6 +20,7 @@ opened (sparing.Two slot other) zone = zone
 opened (sparing.Freed slot) zone = freed (is_relocatable slot) zone
 
 -- The zone after k purges.
+-- See decision 9 (a search counts purges, and purges nothing).
 abbrev pub purged : ℕ → Sparing → List Block → List Block
 purged k sparing zone = purge k (spared sparing) (opened sparing zone)
 

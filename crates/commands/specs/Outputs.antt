@@ -10,6 +10,7 @@ use Rattle.commands.specs.declared.outputs.Output.{Output}
 
 -- The paths of the files: the folder's path as it was given, a slash, and a name. The name of an application has only
 -- letters, digits and `_`, which are written as they are.
+-- See decision 163 (the path of a file is its folder's path, one `/`, and its name).
 abbrev pub app_within : List ℕ → List ℕ → List ℕ
 app_within folder name = folder ++ codes "/app-" ++ encode_utf8_all name
 
@@ -51,6 +52,7 @@ forks_left folder t = of_launched t.launched
     of_launched (Some l) = forks_within folder t.name 0 l.files
 
 -- The files that a run leaves, in order: the desk's log, the logs of the applications, and their forks.
+-- See decision 162 (the files of a run are written in a fixed order).
 abbrev pub logs_left : List ℕ → List Told → List Written
 logs_left folder apps = flat_map (log_left folder) apps
 

@@ -12,5 +12,6 @@ abbrev pub within_limits : ℕ → Option ℕ
 within_limits n = if nat_le 512 n && nat_le n 134217728 then Some (rounded_down n) else None
 
 -- The size in a text: the text has only decimal digits, and leading zeros are allowed.
+-- See decision 158 (SIZE is one or more decimal digits).
 abbrev pub partition_size : List ℕ → Option ℕ
 partition_size text = if list_all is_ascii_digit text then within_limits (number_from 0 text) else None

@@ -19,6 +19,7 @@ abbrev pub IsListingOf : List ℕ → List ℕ → Type 0
 IsListingOf bytes out = IsTrue (is_fork bytes) × (out ≡ listing (content_of bytes))
 
 -- What bytes are to a content that they spell: its canonical fork, or another fork.
+-- See decision 130 (`check` accepts a fork that cannot be written back).
 abbrev pub TellsForm : Form → Content → List ℕ → Type 0
 TellsForm Canonical c bytes = IsTrue (fits c) × (bytes ≡ canon c)
 TellsForm Accepted c bytes = ¬ (IsTrue (fits c) × (bytes ≡ canon c))

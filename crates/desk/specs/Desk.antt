@@ -97,6 +97,7 @@ ready (Lost w) start = Err PROFILE
 
 -- The window in which an application is launched, or the result code for which it is not: it runs or has ended
 -- already, its fork can't be opened, or there is no room.
+-- See decision 106 (a launch is refused in a fixed order).
 abbrev pub launch_answer : Place → State → Result Window OsErr
 launch_answer p s = granted_start (ready p.progress p.start) s
 
@@ -148,6 +149,7 @@ longest places = longest_or 0 places
 
 -- A rest. No more rounds are needed: each round takes a step of each application that runs, and the step after an
 -- application's last call is its quit.
+-- See decision 110 (`rest` has a bound on its rounds).
 abbrev pub rested : State → State
 rested s = rounds (suc (longest s.places)) s
 

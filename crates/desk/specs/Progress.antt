@@ -17,6 +17,7 @@ use Rattle.desk.specs.declared.act.Act.TheVariants.{Step, Turn, Quit}
 -- An application waits for its launch; or it runs in a window, and has taken a number of steps; or it has ended after
 -- a number of steps in a partition of a size, asked to or not; or the host was out of memory for it, so that its zone
 -- can only be closed.
+-- See decision 103 (the desk keeps how far each application has come).
 pub data Progress : Type 0 where
   Waiting : Progress
   Running : (window : Window) → (steps : ℕ) → Progress
@@ -49,6 +50,7 @@ abbrev pub come_to : Resources → Parts → Window → ℕ → Bool → Coming
 come_to resources script w n asked = come_by (ending resources w.len script n asked) w n asked
 
 -- A step: the next call, or a quit if there is none.
+-- See decision 80 (a step with no call left is a quit, and counts as a step).
 abbrev pub stepped : Resources → Parts → Window → ℕ → Coming
 stepped resources script w n = come_to resources script w (n + 1) false
 

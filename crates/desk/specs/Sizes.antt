@@ -24,6 +24,7 @@ capped preferred minimum = if nat_lt preferred minimum then preferred else minim
 
 -- The sizes in the stored data of a 'SIZE' resource: flags (2 bytes), the preferred size (4) and the minimum (4). If
 -- there is no such resource, or it is shorter, both sizes are 512 kilobytes.
+-- See decision 107 (the sizes of 'SIZE' -1 are mended, not refused).
 abbrev pub sizes_read : List ℕ → Sizes
 sizes_read datum = record {
   preferred = rounded (number 4 2 datum);

@@ -81,6 +81,7 @@ abbrev pub canon : Content → List ℕ
 canon c = header c.groups ++ c.area ++ data_of c.groups ++ map_of c.attrs c.groups
 
 -- A resource as it is read again: without resChanged.
+-- See decision 58 (what a reader clears, a writer keeps).
 abbrev pub clear_ref : Ref → Ref
 clear_ref r = record r { attrs = kept r.attrs }
 

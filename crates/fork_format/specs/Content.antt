@@ -14,6 +14,7 @@ pub record Ref : Type 0 where
   pub datum : List ℕ
 
 -- The resources of one type, in order. The type is the number whose four bytes are the type.
+-- See decision 127 (in the definitions a type is the big-endian number of its four bytes).
 pub record Group : Type 0 where
   pub kind : ℕ
   pub refs : List Ref

@@ -167,12 +167,14 @@ abbrev pub all_data : List ℕ → ℕ
 all_data bytes = sum_by (type_size bytes) (type_places bytes)
 
 -- The bytes spell a content: their parts lie where they must, and keep the limits.
+-- See decision 126 (the limits of a fork that is read stand in its grammar).
 abbrev pub is_fork : List ℕ → Bool
 is_fork bytes =
     parts_fit bytes && types_fit bytes && nat_le (all_refs bytes) 65536
     && list_all (refs_fit bytes) (type_places bytes) && nat_le (all_data bytes) 134217728
 
 -- The bytes spell the content c: the bytes spell a content, and their parts say c.
+-- See decision 125 (what bytes spell is a test and a content).
 pub record Spells (bytes : List ℕ) (c : Content) : Type 0 where
   pub fork : IsTrue (is_fork bytes)
   pub content : content_of bytes ≡ c

@@ -84,6 +84,7 @@ abbrev pub without : ℕ → State → State
 without h s = record { zone = tidy (freed (is_relocatable h) s.zone); names = slice_set s.names h Disposed }
 
 -- The disposal of a handle by its role: -30001 (profileErr) for a resource's handle.
+-- See decision 39 (`DisposeHandle` of a resource's handle is -30001).
 abbrev pub disposed_of : Role → ℕ → State → Answer (Unit {0})
 disposed_of Plain h s = (Ok tt, without h s)
 disposed_of Resource h s = refused PROFILE s
@@ -106,6 +107,7 @@ abbrev pub show : Option ℕ → State → Answer (List ℕ)
 show handle s = on_block handle s (λ held. (Ok (content_of held.at.here), s))
 
 -- Bytes written into a block from offset i on; -30001 (profileErr) where they would end past the block's content.
+-- See decision 21 (`Put` past the end is -30001).
 abbrev pub written_at : ℕ → List ℕ → Spot → State → Answer (Unit {0})
 written_at i x at s =
     if nat_le (i + length x) (length (content_of at.here))
@@ -154,6 +156,7 @@ abbrev pub hoisted : ℕ → List Block → List Block
 hoisted h zone = unwrap_or (option_map tidy (change_run (has (is_relocatable h)) (high (is_relocatable h)) zone)) zone
 
 -- MoveHHi: moves a handle's block to the top of its run; -117 (memLockedErr) where the block is locked.
+-- See decision 33 (`MoveHHi` and `HLockHi` of a locked block are -117).
 abbrev pub move_hhi : Option ℕ → State → Answer (Unit {0})
 move_hhi handle s = on_block handle s (λ held. if is_mover held.at.here
     then (Ok tt, record s { zone = hoisted held.number s.zone }) else refused LOCKED s)

@@ -28,6 +28,7 @@ use Rattle.heap_calls.specs.Moves.{hand_and_hand_moves, pointer_and_hand_moves}
 
 -- Places for three numbers: a call names at most two handles or pointers, and reads a resource's stored data into the
 -- block of at most one.
+-- See decision 35 (three numbers can be busy).
 abbrev pub Places : Type 0
 Places = List (Option ℕ)
 
@@ -93,6 +94,7 @@ barred handle m = known_bars m.log.busy (handle_at handle m.heap)
 
 -- The code of a handle by its role: -30001 (profileErr) for a System resource's, whose bytes and size cannot be
 -- changed.
+-- See decision 38 (a System resource's handle bars the calls that change it).
 abbrev pub guard : Role → Option OsErr
 guard Plain = None
 guard Resource = None
@@ -160,6 +162,7 @@ gate (Where name) m = either_barred name m
 gate asked m = None
 
 -- Whether a call sets the code that MemError returns.
+-- See decision 24 (`MemError` returns the code of the last call of its table).
 abbrev pub notes : Asked → Bool
 notes MemError = false
 notes (Put handle from bytes) = false
@@ -191,6 +194,7 @@ unless_silent (Some code) call m = (Err code, m)
 
 -- One try of a call: its reply, and the heap after it. It is the same as `gated (gate asked m) asked m`, written out
 -- call by call.
+-- See decision 36 (busy names are tested before a call's row).
 abbrev pub served : Asked → Memory → Told × Memory
 served (DisposeHandle handle) m = telling (λ _. Done) (unless (barred handle m) (noting (dispose_handle handle)) m)
 served (GetHandleSize handle) m = telling Number (unless (barred handle m) (noting (get_handle_size handle)) m)

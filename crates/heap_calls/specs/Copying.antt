@@ -44,6 +44,7 @@ append spared h len x s =
 
 -- HandAndHand: the bytes of one handle's block appended to another's, which may be the same; neither block is purged
 -- for it.
+-- See decision 31 (`HandAndHand a b` refuses for `a` first, then for `b`).
 abbrev pub hand_and_hand : Option ℕ → Option ℕ → State → Answer (Unit {0})
 hand_and_hand from to s =
     on_block from s (λ a. on_block to s (λ b.

@@ -75,6 +75,7 @@ has_block h s = has (is_relocatable h) s.zone
 
 -- A new handle with a block, in a memory: with the searches for room that it takes, and the blocks that packing moves
 -- down.
+-- See decision 40 (the Resource Manager's own steps set no code).
 abbrev pub new_inside : Role → Flags → List ℕ → Memory → Result ℕ OsErr × Memory
 new_inside role flags x m = moving (new_handle_moves (length x) m.heap)
     (searching (new_handle_searches (length x) m.heap) (silent (new_filled role flags x) m))

@@ -17,6 +17,7 @@ use Rattle.heap_calls.specs.Searches.{room_searches, ready_searches, resized_at,
 -- stand at the top of one, is not counted. Inside Macintosh: Memory, chapter 1, "Heap Compaction".
 
 -- The moves where a run is packed, after `before` has rearranged it; none where there is no run.
+-- See decision 19 (moves by compaction are counted).
 abbrev pub run_moves : (List Block → List Block) → Option RunSpot → ℕ
 run_moves before None = 0
 run_moves before (Some r) = falling (before r.run)

@@ -51,6 +51,7 @@ h_set_state handle byte s = change_flags (λ f. record { locked = byte / 128 % 2
 
 -- The heap after the block of a handle is freed; -112 (memPurErr) where the block is locked. A handle that is empty
 -- stays as it is.
+-- See decision 29 (`EmptyHandle` of an empty handle is 0).
 abbrev pub emptied_at : ℕ → Option Spot → State → Answer (Unit {0})
 emptied_at h None s = (Ok tt, s)
 emptied_at h (Some at) s = if is_mover at.here then (Ok tt, record s { zone = tidy (freed (is_relocatable h) s.zone) })
@@ -90,6 +91,7 @@ blocks_purged p zone = least_or_last (λ k. has_room p (purge k nothing zone)) (
 
 -- PurgeMem: purges blocks, lowest first, until a block of n bytes has room, and moves nothing; -108 (memFullErr)
 -- where there is still no room. What was purged stays purged.
+-- See decision 32 (a refused `PurgeMem` leaves purged what it purged).
 abbrev pub purge_mem : ℕ → State → Answer (Unit {0})
 purge_mem n s = (if has_room (phys n) zone then Ok tt else Err MEM_FULL, record s { zone = zone })
   where

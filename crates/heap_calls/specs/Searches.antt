@@ -19,6 +19,7 @@ use Rattle.heap_calls.specs.Inner.Search.{tries}
 -- to all that there can be.
 
 -- The number of searches until `try` finds room.
+-- See decision 28 (one number of purges is one search).
 abbrev pub room_searches : (List Block → Option (List Block)) → (Block → Bool) → List Block → ℕ
 room_searches try spared zone = tries (λ k. try (purge k spared zone)) (count_of spared zone)
 

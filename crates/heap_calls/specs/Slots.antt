@@ -16,6 +16,7 @@ abbrev pub more_masters : (Block → Bool) → State → Option State
 more_masters spared s = option_map (λ zone. record s { zone = zone }) (room (put_at_base Masters) spared s.zone)
 
 -- The heap with an unused master pointer: as it is where there is one, else with a new master pointer block.
+-- See decision 23 (master pointers are added before the block is sought).
 abbrev pub slotted : (Block → Bool) → State → Option State
 slotted spared s = if nat_lt (used_slots s) (all_slots s) then Some s else more_masters spared s
 

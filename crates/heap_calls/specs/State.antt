@@ -9,6 +9,7 @@ use Rattle.block_store.specs.declared.measures.TheConstants.{SLOTS_A_BLOCK}
 
 -- The role of a handle: an application's own, a resource's, or a System resource's, whose bytes and size cannot be
 -- changed.
+-- See decision 37 (a handle has one of three roles).
 pub data Role : Type 0 where
   Plain : Role
   Resource : Role

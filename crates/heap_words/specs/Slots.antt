@@ -7,6 +7,7 @@ use Rattle.heap_words.specs.declared.slot.SlotWord.TheVariants.{Block, Emptied, 
 
 -- The number that stands in a slot: the place of its block; or 2 for an empty handle (18 for a resource's); or, of an
 -- unused slot, 16 times the place of the next unused slot plus 1 (1 alone where none follows).
+-- See decision 136 (a slot word is an enum).
 abbrev pub slot_number : SlotWord → ℕ
 slot_number (Block at) = at
 slot_number (Emptied true) = EMPTIED_RESOURCE

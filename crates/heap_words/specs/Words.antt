@@ -12,5 +12,6 @@ unfoldable pub word : ℕ → List ℕ
 word n = big_bytes 4 n
 
 -- The sixteen bytes of the four words of a header.
+-- See decision 140 (a header is four big-endian words, and a slot one).
 abbrev pub header : ℕ → ℕ → ℕ → ℕ → List ℕ
 header a b c d = word a ++ (word b ++ (word c ++ word d))

@@ -10,6 +10,7 @@ abbrev pub changed : ℕ → ℕ
 changed attributes = bit_or attributes 2
 
 -- The new attributes, with resChanged as it was in the old ones.
+-- See decision 65 (`SetResAttrs` sets every bit but resChanged).
 abbrev pub set : ℕ → ℕ → ℕ
 set new attributes = bit_or (unchanged new) (bit_and attributes 2)
 

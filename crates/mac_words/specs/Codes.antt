@@ -12,8 +12,8 @@ abbrev pub noErr : ℤ
 noErr = pos 0
 
 -- A segment can't be loaded: the System Error Handler's number.
-abbrev pub segmentErr : ℤ
-segmentErr = pos 15
+abbrev pub dsLoadErr : ℤ
+dsLoadErr = pos 15
 
 abbrev pub dskFulErr : ℤ
 dskFulErr = minus 34

@@ -7,5 +7,6 @@ abbrev pub padded : ℕ → ℕ
 padded s = 16 + 16 * ((s + 15) / 16)
 
 -- The physical size of a block of s bytes; none where a block can't have s bytes.
+-- See decision 22 (a block of more than 2147483616 bytes has no physical size).
 abbrev pub phys : ℕ → Option ℕ
 phys s = if nat_le s 2147483616 then Some (padded s) else None

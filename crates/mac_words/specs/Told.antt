@@ -6,6 +6,7 @@ use Rattle.mac_words.specs.declared.code.OsErr.{OsErr}
 -- type (`Kind`), or the ID, type and name of a resource (`Info`); it returned the segment of a jump table's entry and a
 -- flag, 1 or 0, which says whether the segment was read for the call, or whether the entry is loaded (`Entry`); or it
 -- was refused, with a result code.
+-- See decision 4 (all calls report in one type).
 pub data Told : Type 0 where
   Done : Told
   Given : (number : ℕ) → Told

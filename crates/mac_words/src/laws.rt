@@ -1,7 +1,7 @@
 //! The numbers of the result codes, and the values of the attributes' bits.
 
 ghost use Rattle.std.specs.Prelude.{◌≡◌};
-ghost use Rattle.mac_words.specs.Codes.{noErr, segmentErr, dskFulErr, eofErr, fnfErr, dupFNErr, wrPermErr, memFullErr, nilHandleErr, memWZErr, memPurErr, memLockedErr, resourceInMemory, writingPastEnd, inputOutOfBounds, resNotFound, resFNotFound, addResFailed, rmvResFailed, resAttrErr, mapReadErr, profileErr, resSysHeap, resPurgeable, resLocked, resProtected, resPreload, resChanged};
+ghost use Rattle.mac_words.specs.Codes.{noErr, dsLoadErr, dskFulErr, eofErr, fnfErr, dupFNErr, wrPermErr, memFullErr, nilHandleErr, memWZErr, memPurErr, memLockedErr, resourceInMemory, writingPastEnd, inputOutOfBounds, resNotFound, resFNotFound, addResFailed, rmvResFailed, resAttrErr, mapReadErr, profileErr, resSysHeap, resPurgeable, resLocked, resProtected, resPreload, resChanged};
 ghost use Rattle.mac_words.specs.declared.code.TheConstants.OsErr as TheCodes;
 ghost use Rattle.mac_words.specs.declared.attributes.TheConstants.Attrs as TheBits;
 
@@ -11,7 +11,7 @@ ghost use Rattle.mac_words.specs.declared.attributes.TheConstants.Attrs as TheBi
 /// *Inside Macintosh: Memory*, "Result Codes"; *More Macintosh Toolbox*, chapter 1, "Result Codes".
 pub fn codes_are_the_manuals()
     ensures no_err { TheCodes.NO_ERR.0 ≡ noErr }
-    ensures segment_err { TheCodes.SYSTEM_ERROR.0 ≡ segmentErr }
+    ensures ds_load_err { TheCodes.SYSTEM_ERROR.0 ≡ dsLoadErr }
     ensures dsk_ful_err { TheCodes.DISK_FULL.0 ≡ dskFulErr }
     ensures eof_err { TheCodes.END_OF_FILE.0 ≡ eofErr }
     ensures fnf_err { TheCodes.FILE_NOT_FOUND.0 ≡ fnfErr }

@@ -13,6 +13,7 @@ abbrev pub HoldsZone : Window → Type 0
 HoldsZone w = (w.at % 16 ≡ 0) × (w.len % 16 ≡ 0) × (512 ≤ w.len)
 
 -- The windows lie one after another in the memory, and each can hold a zone.
+-- See decision 98 (`Grants` carries the facts of its windows).
 pub record ArePartitions (memory : ℕ) (windows : List Window) : Type 0 where
   pub order : InOrder 0 windows memory
   pub zones : All HoldsZone windows

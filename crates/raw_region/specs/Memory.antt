@@ -16,6 +16,7 @@ with_bytes p ws = record { home = p.home; at = p.at; bytes = take (length p.byte
 
 -- A region: its address; its bytes, in which each byte of a window in use is 0; and the windows in use, in order of
 -- place.
+-- See decision 137 (bytes of a window that is out read 0 in the region's meaning).
 pub record Whole : Type 0 where
   pub home : Ptr
   pub bytes : List ℕ

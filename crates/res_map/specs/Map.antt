@@ -19,6 +19,7 @@ pub record Reference : Type 0 where
   pub handle : Option ℕ
 
 -- A resource map: the 240 bytes after the fork's header, the attributes of the map, and the references in order.
+-- See decision 41 (a resource map keeps its references in one flat list).
 pub record Map : Type 0 where
   pub area : List ℕ
   pub attrs : ℕ
@@ -45,6 +46,7 @@ abbrev pub is_resource : ℕ → ℤ → Reference → Bool
 is_resource kind id r = r.kind == kind && int_eq r.stored.id id
 
 -- The text matches the name, where ASCII letters match in either case; no text matches where there is no name.
+-- See decision 49 (a name of 0 bytes is a name).
 abbrev pub same_name : List ℕ → Option (List ℕ) → Bool
 same_name text None = false
 same_name text (Some name) = bytes_eq (str_to_ascii_lowercase name) (str_to_ascii_lowercase text)
@@ -110,6 +112,7 @@ added new (r ∷ references) =
     then r ∷ new ∷ references else r ∷ added new references
 
 -- The types of the references, in the order of the first reference of each.
+-- See decision 64 (a type whose last reference is removed is gone).
 abbrev pub types : List Reference → List ℕ
 types references = distinct (map (λ r. r.kind) references)
 

@@ -120,6 +120,7 @@ of_utf8 None = None
 of_utf8 (Some bytes) = if is_utf8 bytes then Some bytes else None
 
 -- A path: UTF-8 in quotes.
+-- See decision 120 (a path in a job stands in quotes alone).
 abbrev pub path : List ℕ → Option (List ℕ)
 path [] = None
 path (c ∷ rest) = if c == 34 then of_utf8 (unquoted rest) else None

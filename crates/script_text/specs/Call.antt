@@ -200,6 +200,7 @@ abbrev pub word_of : Call → Word
 word_of c = (spoken c).0
 
 -- Whether a grow-zone script may hold the call of this word.
+-- See decision 95 (a line that would end the application cannot stand in a grow-zone script).
 abbrev pub may_stand : Word → Bool
 may_stand word.EmptyHandle = true
 may_stand word.DisposeHandle = true

@@ -5,6 +5,7 @@ use Rattle.script_text.specs.Transcript.{hex}
 -- The lines of desk.log.
 
 -- The line of a launch: the application's name, and the size of its partition in bytes.
+-- See decision 108 (`launch NAME 0 SIZE` stands in the desk's log).
 abbrev pub launch_of : List ℕ → ℕ → List ℕ
 launch_of name size = codes "launch " ++ name ++ codes " 0 " ++ decimal size ++ codes "\n"
 

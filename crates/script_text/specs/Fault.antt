@@ -11,6 +11,7 @@ number_of kinds.LongLine = 4
 number_of kinds.HostMemory = 5
 
 -- The number of the line that an error line names with a fault of line n: 0 where the host is out of memory.
+-- See decision 118 (one enum holds every kind of fault).
 abbrev pub line_of : ℕ → FaultKind → ℕ
 line_of n kinds.HostMemory = 0
 line_of n kinds.UnknownCall = n

@@ -23,6 +23,7 @@ use Rattle.script_text.specs.Script.{at_line}
 
 -- What a job takes from outside: the System file's fork, an application by name with its fork and its script, or a
 -- file of the n-th application by name, each at a path.
+-- See decision 121 (the inputs of a job are one list, in the order of their lines).
 pub data Input : Type 0 where
   System : (path : List ℕ) → Input
   App : (name : List ℕ) → (fork : List ℕ) → (script : List ℕ) → Input
@@ -66,6 +67,7 @@ given_names n inputs = filter_map (file_name n) inputs
 
 -- The names of all files of the n-th application: its fork, which has the application's name, and those that lines
 -- give to it.
+-- See decision 122 (the files of an application are told apart byte by byte).
 abbrev pub file_names : ℕ → List Input → List (List ℕ)
 file_names n inputs = take 1 (drop n (app_names inputs)) ++ given_names n inputs
 
@@ -125,6 +127,7 @@ with_event above e =
     else Err BadArgument
 
 -- The memory, which is stated once.
+-- See decision 119 (the first line of a job that is not skipped is `memory`).
 abbrev pub memory_said : Above → List Value → Result Above FaultKind
 memory_said above (Number n ∷ []) =
     if is_none above.memory && is_memory n

@@ -42,6 +42,7 @@ abbrev pub AllAllowed : List (List ℕ × List Line) → Type 0
 AllAllowed blocks = IsTrue (list_all (λ block. are_allowed block.1) blocks)
 
 -- No grow-zone script is named `none`.
+-- See decision 116 (no block is named `none`).
 abbrev pub NoneIsUnused : List (List ℕ × List Line) → Type 0
 NoneIsUnused blocks = has_block (codes "none") blocks ≡ false
 
@@ -83,6 +84,7 @@ with_statement s above (Some b) = record {
 }
 
 -- A call of a known word at the n-th line, by the text after the word: a grow-zone script may hold only some calls.
+-- See decision 115 (in a block a call that is not allowed is fault 3).
 abbrev pub call_at : ℕ → Above → Word → List ℕ → Result Above FaultKind
 call_at n above word rest =
     if is_some above.begun && not (may_stand word) then Err NotAllowed
@@ -157,6 +159,7 @@ is_begun name (Some b) = bytes_eq name b.name
 
 -- Whether there is a grow-zone script of this name: there is from its `grow` line on, and `none` always stands for
 -- one.
+-- See decision 114 (a block of a grow-zone script is there once its `grow` line is there).
 abbrev pub is_there : Above → List ℕ → Bool
 is_there above name = bytes_eq name (codes "none") || has_block name above.blocks || is_begun name above.begun
 

@@ -5,6 +5,7 @@ use Rattle.script_text.specs.declared.fault.FaultKind.{FaultKind}
 use Rattle.script_text.specs.declared.fault.FaultKind.TheVariants.{BadArgument}
 
 -- Whether a byte is a blank: a space or a tab.
+-- See decision 117 (blanks and ends of lines are taken strictly).
 abbrev pub is_blank : ℕ → Bool
 is_blank c = c == 32 || c == 9
 

@@ -49,6 +49,7 @@ name_shown None = []
 name_shown (Some name) = Bytes name.value.0.items ∷ []
 
 -- The values of a reply: its numbers, its type, its name, and the bytes that its call shows.
+-- See decision 123 (the bytes that a call shows are lent to the writer).
 abbrev pub values_of : Reply → Option (List ℕ) → List Shown
 values_of reply bytes = map Number reply.numbers.items ++ type_shown reply.ty ++ name_shown reply.name
     ++ bytes_shown bytes

@@ -328,7 +328,7 @@ macro_rules! listed {
             "   ", $(" ", stringify!($held),)* "\n",
             "Result codes:\n",
             "  0 noErr: the call was done\n",
-            "  15 system error: a segment cannot be loaded; the application ends\n",
+            "  15 dsLoadErr: a segment cannot be loaded, a system error; the application ends\n",
             "  -34 dskFulErr: the content does not fit a resource fork, or the application has 256 files\n",
             "  -39 eofErr: the file's resource fork has no bytes\n",
             "  -43 fnfErr: the application has no file of this name\n",

@@ -66,6 +66,7 @@ load_fetched n code f a table = if can_load n code table
     }
 
 -- A segment whose resource could not be fetched: system error 15, because there is no room or for another reason.
+-- See decision 76 (a segment that finds no room runs the grow-zone script first).
 abbrev pub load_refused : OsErr → fetching.Answer Fetched → List Entry → Answer Fetched
 load_refused code a table = record {
   reply = Err SYSTEM_ERROR;
@@ -129,6 +130,7 @@ is_there None s = false
 is_there (Some h) s = is_some (bytes_of h s.memory.heap)
 
 -- A call through a loaded entry; -30001 (profileErr) where its segment has no block all the same.
+-- See decision 74 (`CallEntry` of a loaded entry whose block is gone is -30001).
 abbrev pub call_loaded : ℤ → Program → Answer Called
 call_loaded n p = if is_there (own_handle code_type n p.managers.resources) p.managers
     then done (record { segment = n; read = 0 }) p else refused PROFILE p

@@ -31,6 +31,7 @@ abbrev pub entries_of : List ℕ → ℕ
 entries_of code = min (number 4 8 code / 8) ((length code - 16) / 8)
 
 -- The jump table of 'CODE' 0; fewer than 16 bytes hold no entry.
+-- See decision 68 (the jump table is read once, at the launch).
 abbrev pub table_of : List ℕ → List Entry
 table_of code = if nat_le 16 (length code) then map (entry_at code) (offsets 16 8 (entries_of code)) else []
 
@@ -49,6 +50,7 @@ is_of n e = is_segment n e.segment
 
 -- The place in the table of a segment's first entry, and the number of its entries, as the segment's resource states
 -- them in its first 4 bytes.
+-- See decision 70 (a segment's first two words are those that are stored).
 abbrev pub first_entry : List ℕ → ℕ
 first_entry code = number 2 0 code / 8
 
@@ -62,6 +64,7 @@ named code table = take (entry_count code) (drop (first_entry code) table)
 -- Whether a segment can be loaded: its resource has 4 bytes and is not of the far model, the offset of its first
 -- entry is a multiple of 8, and all entries that it names are in the table and its own. Where it names no entries,
 -- their place does not matter.
+-- See decision 71 (a segment that names no entries can be loaded).
 abbrev pub can_load : ℤ → List ℕ → List Entry → Bool
 can_load n code table =
     nat_le 4 (length code) && not (number 2 0 code == 0xFFFF) && number 2 0 code % 8 == 0

@@ -40,6 +40,7 @@ ends_run b = not (in_run b)
 
 -- What a tally says of blocks: that none of them ends a run and exactly `free` of their bytes are free, that one of
 -- them ends a run and at most `free` of their bytes are free, or nothing.
+-- See decision 149 (a tally says one of three things of the blocks up to the next landmark).
 abbrev pub IsTally : Tally → List Block → Type 0
 IsTally (tally.Open free) blocks = (has ends_run blocks ≡ false) × (free_sum blocks ≡ free)
 IsTally (tally.Barred free) blocks = (has ends_run blocks ≡ true) × (free_sum blocks ≤ free)
@@ -63,6 +64,7 @@ next_of end (m ∷ marks) = m.at
 
 -- A block begins at each landmark, no free block from a landmark up to the next is larger than the landmark notes, the
 -- landmark's tally is of the blocks there, and the landmarks are in order of place.
+-- See decision 147 (landmarks rise; that they stand in their pages is no invariant).
 abbrev pub AreMarks : ℕ → List Block → List Landmark → Type 0
 AreMarks end zone [] = Unit {0}
 AreMarks end zone (m ∷ marks) = Begins m.at 0 zone × AtEach (AtMost m.most m.at (next_of end marks)) 0 zone

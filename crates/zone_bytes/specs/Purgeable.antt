@@ -9,6 +9,7 @@ abbrev pub purgeable_of : Block → ℕ
 purgeable_of b = if is_purgeable b then size b else 0
 
 -- The bytes that blocks would free if all of them that may be purged were purged.
+-- See decision 153 (a search ends where the whole zone has too few bytes).
 abbrev pub purgeable_sum : List Block → ℕ
 purgeable_sum blocks = total purgeable_of blocks
 

@@ -42,6 +42,7 @@ IsUsed Unused = ⊥
 IsUsed (Used resource) = Unit {0}
 
 -- The bytes are those of a zone with these blocks, these slots and this list of unused slots.
+-- See decision 141 (the value of a `RawZone` is its part and the numbers beside it).
 pub record Lays (xs : List ℕ) (blocks : List Block) (slots : ℕ → Slot) (unused : List ℕ) : Type 0 where
   pub lies : Lies (λ s. is_resource (slots s)) blocks xs
   pub has_slots : HasSlots blocks
