@@ -11,8 +11,8 @@ use Rattle.applications.specs.Step.{Shown}
 
 -- The lines of a transcript.
 
--- The numbers of a reply that its transcript line prints. The number of a handle or pointer is not printed; the number is
--- bound to a name.
+-- The numbers of a reply that its transcript line prints. The number of a handle or pointer is not printed; a name is
+-- bound to the number.
 abbrev pub numbers_told : Told → List ℤ
 numbers_told (Fetched handle read) = pos read ∷ []
 numbers_told (Number n) = pos n ∷ []
