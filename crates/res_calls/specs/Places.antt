@@ -89,7 +89,8 @@ abbrev pub made_for : Bool → Bool → Reference → Memory → Result ℕ OsEr
 made_for loading guarded x m = if loading then new_inside (resource_role guarded) (flags_of x) x.stored.datum m
     else new_emptied_inside (resource_role guarded) m
 
--- The fetch of a found reference; -192 (resNotFound) where no reference was found.
+-- The fetch of a found reference, and of the reference that a search finds; -192 (resNotFound) where no reference was
+-- found.
 abbrev pub fetched_as : Bool → Option Found → Managers → Answer fetch.Fetched
 fetched_as loading found s = on_found found s (λ at. fetch.fetch loading at s)
 

@@ -32,7 +32,7 @@ keeps_handle x = not (is_changed x) || is_some x.handle
 abbrev pub is_kept : OpenFile → Bool
 is_kept f = is_system f || (list_all keeps_handle f.map.references && map_kept f.map.attrs == f.map.attrs)
 
--- Holds of any file but a System file that is touched: the System file is never touched.
+-- Holds of each file other than the System file, and of the System file where it is not touched.
 abbrev pub is_untouched : OpenFile → Bool
 is_untouched f = not (is_system f) || not f.touched
 

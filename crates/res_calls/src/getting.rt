@@ -62,8 +62,9 @@ impl Resources {
     }
 
     /// `GetResource`: finds the first resource of the given type and ID on the search path, fetches the resource, and
-    /// returns its handle; where loading is off, an unread resource gets an empty handle. Returns -192 (resNotFound)
-    /// where no file on the search path has the resource, and -108 (memFullErr) where the zone has no room.
+    /// returns its handle; where loading is off, nothing is read, and a resource without a handle gets an empty handle.
+    /// Returns -192 (resNotFound) where no file on the search path has the resource, and -108 (memFullErr) where the
+    /// zone has no room.
     pub fn get_resource<S: BlockStore>(
         &mut self,
         heap: &mut Heap<S>,

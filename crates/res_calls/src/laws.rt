@@ -35,9 +35,9 @@ pub fn the_first_reference_is_found()
 {}
 
 /// States that each resource has its own handle: no two references have one handle, and a handle is a resource's
-/// exactly where a reference has the handle, in the role that the reference's file gives (`Owns`). The law holds at the
-/// launch of an application over a heap that has no resource's handle, before the resources are preloaded and after;
-/// each try of a call of either manager keeps the law, and so does a fetch from the application's own fork.
+/// exactly where a reference has the handle, in the role that the reference's file determines (`Owns`). The law holds
+/// at the launch of an application over a heap that has no resource's handle, before the resources are preloaded and
+/// after; each try of a call of either manager keeps the law, and so does a fetch from the application's own fork.
 pub fn each_resource_has_its_own_handle()
     ensures launched { (files : List File) (system : Content) (r : Resources) (m : Memory)
         → launched_resources files system ≡ Ok r → ((h : ℕ) → resource_role_at h m.heap ≡ None)

@@ -87,8 +87,8 @@ fn load_first<S: BlockStore>(
 }
 
 impl Resources {
-    /// Preloads the resources of the file opened last, which at the launch is the application's own file. Where the
-    /// host is out of memory, the resources stay as they were.
+    /// Preloads the resources of the file opened last, where loading is on. At the launch that file is the
+    /// application's own, and loading is on. Where the host is out of memory, the resources stay as they were.
     ///
     /// *More Macintosh Toolbox*, chapter 1, "Resource Attributes".
     pub fn preload<S: BlockStore>(
