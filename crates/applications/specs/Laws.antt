@@ -147,7 +147,7 @@ abbrev pub RefusedLeaves : (ℕ → List ℕ) → Event → Type 0
 RefusedLeaves bytes e =
     (code : OsErr) → e.told ≡ Refused code → Kept e.deed code e.before e.after × (e.after.names ≡ e.before.names)
 
--- Holds of a call of the heap's table, which changes nothing of the resources, whatever it empties.
+-- Holds of a call of the heap's table, which changes nothing of the resources, whatever blocks the call purges.
 abbrev pub keeps_resources : Deed → Bool
 keeps_resources (Ask asked) = true
 keeps_resources (Find asked) = false

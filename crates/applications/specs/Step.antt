@@ -220,8 +220,8 @@ abbrev pub step_in : ℕ → Blocks → Line → Running → Course
 step_in zero blocks l r = nothing_yet r
 step_in (suc more) blocks l r = continued (round blocks l r) (step_in more blocks l)
 
--- The greatest number of rounds of a step. Each further round takes some of the zone's bytes that could not be had
--- before, so no step has more rounds.
+-- The greatest number of rounds of a step, and the step. Each further round takes some of the zone's bytes that could
+-- not be had before, so no step has more rounds.
 abbrev pub most_rounds : Running → ℕ
 most_rounds r = sizes r.memory.heap.zone + 1
 
