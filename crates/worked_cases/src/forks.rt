@@ -21,7 +21,7 @@ pub fn bytes_of(alloc: Global, word: &str) -> Result<Vec<u8>> {
     Ok(Vec::from_slice(alloc, &word.parse::<u16>()?.to_be_bytes())?)
 }
 
-/// Returns the resource that a line gives as `'TYPE' ID ATTRIBUTES BYTES`, with or without a name after the bytes.
+/// Returns the resource that a line spells as `'TYPE' ID ATTRIBUTES BYTES`, with or without a name after the bytes.
 pub fn resource_of(alloc: Global, text: &str) -> Result<Resource> {
     let text = text.strip_prefix('\'').context("no type")?;
     let (ty, rest) = text.split_once("' ").context("no type")?;
