@@ -12,74 +12,76 @@ use Rattle.applications.specs.Trying.{managers_of}
 use Rattle.applications.specs.Step.{Course, run}
 use Rattle.applications.specs.Application.{lines_told}
 
--- What an application gives alone: by its resources, its script, and the size of its partition. No other application is
--- in it, and no place in a memory. Inside Macintosh: Processes, chapter 2, "Launching Applications" and "Terminating a
--- Process".
+-- What an application leaves when it runs alone, given its resources, its script, and the size of its partition. No
+-- other application and no place in a memory has a part in it. Inside Macintosh: Processes, chapter 2, "Launching
+-- Applications" and "Terminating a Process".
 
--- the course of a whole script, by an application that is that script alone
+-- The course of a whole script, run by an application that is only that script.
 abbrev pub run_alone : ℕ → Parts → Course
 run_alone size script = run script.blocks script.steps (launched size nowhere)
 
--- how an application ended: its code, and its files as they are left
+-- The end of an application: its code, and its files as they are left.
 pub record Ending : Type 0 where
   pub code : OsErr
   pub files : List File
 
--- it quits: its files are updated and closed
+-- The end of an application that quits: its files are updated and closed.
 abbrev pub quits : Running → Ending
 quits r = record { code = (leave (managers_of r)).code; files = (leave (managers_of r)).after.resources.files }
 
--- and this is the application then
+-- The application after it has quit.
 abbrev pub has_quit : Running → Running
 has_quit r = record r {
   memory = (leave (managers_of r)).after.memory;
   resources = (leave (managers_of r)).after.resources;
 }
 
--- a system error stops it: nothing is updated
+-- The end of an application that a system error stops: no file is updated.
 abbrev pub stops : Running → Ending
 stops r = record { code = SYSTEM_ERROR; files = r.resources.files }
 
--- the end of an application whose last call ended it: by a system error, or by its own wish
+-- The end of an application whose last call ended it, by a system error or by quitting.
 abbrev pub ended_by : Course → Ending
 ended_by c = if is_fatal (code_told c.told) then stops c.after else quits c.after
 
--- the end after some steps, if it came: by a call of its own, or where a quit was asked for
+-- The end of an application after a course, where the application ended: by a call of its own, or because a quit was
+-- asked for.
 abbrev pub ending_of : Bool → Course → Option Ending
 ending_of asked c = if c.over then Some (ended_by c) else if asked then Some (quits c.after) else None
 
--- the application then, or as it stands where it goes on
+-- The application after that end, or as it stands where it goes on.
 abbrev pub left_after : Bool → Course → Running
 left_after asked c =
     if c.over then (if is_fatal (code_told c.told) then c.after else has_quit c.after)
     else (if asked then has_quit c.after else c.after)
 
--- the first n steps of a script, in a fresh partition of so many bytes
+-- The first `n` steps of a script, in a fresh partition of `size` bytes.
 abbrev pub first_steps : Resources → ℕ → Parts → ℕ → Course
 first_steps resources size script n = run script.blocks (take n script.steps) (launched_with resources size nowhere)
 
--- how an application ended after n steps, if it did: a step with no call left is a quit, and another may be asked for
+-- The end of an application after `n` steps, where it ended. A step past the last line is a quit, and a quit may be
+-- asked for as well.
 abbrev pub ending : Resources → ℕ → Parts → ℕ → Bool → Option Ending
 ending resources size script n quit =
     ending_of (nat_lt (length script.steps) n || quit) (first_steps resources size script n)
 
--- the line of the end, if it came
+-- The line of the end, where the application ended.
 abbrev pub end_told : Option Ending → List ℕ
 end_told None = []
 end_told (Some e) = end_line e.code.0
 
--- the files as an application's end left them, or as they stand
+-- The files as the end of the application left them, or as they stand where it goes on.
 abbrev pub files_after : Option Ending → Running → List File
 files_after None r = r.resources.files
 files_after (Some e) r = e.files
 
--- what an application gives alone: its transcript, and its files with what was written
+-- What an application leaves when it runs alone: its transcript, and its files as they were left.
 pub record Alone : Type 0 where
   pub transcript : List ℕ
   pub files : List File
 
--- what an application with these resources gives alone after n steps of its script in a partition of so many bytes, and
--- a quit, if one is asked for
+-- What an application with these resources leaves when it runs alone, after `n` steps of its script in a partition of
+-- `size` bytes, and after a quit where `quit` asks for one.
 abbrev pub alone : Resources → ℕ → Parts → ℕ → Bool → Alone
 alone resources size script n quit = record {
   transcript = launch_line size ++ lines_told (first_steps resources size script n).lines
@@ -88,19 +90,20 @@ alone resources size script n quit = record {
       files_after (ending resources size script n quit) (first_steps resources size script n).after;
 }
 
--- its zone after so many steps, as its end left it if it came
+-- The zone of that application, as its end left the zone where it ended.
 abbrev pub zone_alone : Resources → ℕ → Parts → ℕ → Bool → List Block
 zone_alone resources size script n quit =
     (left_after (nat_lt (length script.steps) n || quit) (first_steps resources size script n)).memory.heap.zone
 
--- an application that takes all its steps, and the one behind the last, which is a quit
+-- What an application leaves that takes all its steps, and the step past the last line, which is a quit.
 abbrev pub to_its_end : Resources → ℕ → Parts → Alone
 to_its_end resources size script = alone resources size script (length script.steps + 1) false
 
--- one that is a script alone: its fork has no resources, nor has the System's, and it has no other files
+-- What an application leaves that is only a script: its fork and the System file have no resources, and it has no other
+-- files.
 abbrev pub script_alone : ℕ → Parts → Alone
 script_alone size script = to_its_end own_resources size script
 
--- and its zone as its end left it
+-- The zone of that application, as its end left the zone.
 abbrev pub script_zone : ℕ → Parts → List Block
 script_zone size script = zone_alone own_resources size script (length script.steps + 1) false

@@ -3,13 +3,13 @@ use Rattle.block_store.specs.Rest.{Site}
 use Rattle.applications.specs.Trying.{Running}
 use Rattle.applications.specs.Step.{Event, Course}
 
--- An application that lies elsewhere: where its partition is says nothing of what it does.
+-- An application whose partition lies elsewhere: the place of the partition has no part in what the application does.
 
--- the same application with its partition at another place
+-- The application with its partition at another place.
 abbrev pub moved : Site → Running → Running
 moved site r = record r { memory = record r.memory { window = site } }
 
--- the same try, and the same course, of an application there
+-- The try, and the course, of the application with its partition at that place.
 abbrev pub event_elsewhere : Site → Event → Event
 event_elsewhere site e = record e { before = moved site e.before; after = moved site e.after }
 

@@ -22,22 +22,22 @@ use Rattle.applications.specs.declared.quitting.Exit.TheVariants as exit
 use Rattle.applications.specs.declared.stepping.Next.{Next}
 use Rattle.applications.specs.declared.stepping.Next.TheVariants as next
 
--- How replies and tries say what the definitions tell.
+-- How replies and tries of the code correspond to those of the definitions.
 
--- a reply says what is told, but for bytes that are shown
+-- The reply is that of the definition, without the bytes that the call shows.
 pub record Says (reply : Reply) (told : Told) : Type 0 where
   pub code : reply.code ≡ code_told told
   pub numbers : reply.numbers.items ≡ numbers_told told
   pub ty : option_map (λ (t : OsType). t.0) reply.ty ≡ type_told told
   pub name : option_map (λ (n : Box Name Global). n.value.0.items) reply.name ≡ name_told told
 
--- what was given, as it is told
+-- The returned value, as the reply of a definition.
 abbrev pub GivenAs : {T : Type 0} → (T → Told) → Result T Refusal → Told → Type 0
 GivenAs tell (Ok value) told = told ≡ tell value
 GivenAs tell (Err (Code code)) told = told ≡ Refused code
 GivenAs tell (Err HostMemory) told = Unit {0}
 
--- a try of a call of the heap's table says what is told
+-- The try of a call of the heap's table is that of the definition.
 pub record TellsTold (tried : Tried) (told : Told) : Type 0 where
   pub reply : Says tried.reply told
   pub given : tried.given ≡ number_given told
@@ -45,7 +45,7 @@ pub record TellsTold (tried : Tried) (told : Told) : Type 0 where
   pub wants : tried.wants ≡ is_full (code_told told)
   pub over : tried.over ≡ false
 
--- the calls that read resources
+-- Holds of the calls that fetch resources.
 abbrev pub fetches : ResourceAsked → Bool
 fetches (asks.GetResource kind id) = true
 fetches (asks.GetOneResource kind id) = true
@@ -55,8 +55,8 @@ fetches (asks.GetOneIndResource kind index) = true
 fetches (asks.LoadResource handle) = true
 fetches asked = false
 
--- a try of a call of the Resource Manager's table says what is told, and what would have been read again where there
--- was no room for it
+-- The try of a call of the Resource Manager's table is that of the definition, and names the empty handle that would
+-- have been read again where the call found no room.
 pub record TellsServed (tried : Tried) (served : Served) (fetches : Bool) : Type 0 where
   pub reply : Says tried.reply served.told
   pub given : tried.given ≡ number_given served.told
@@ -64,7 +64,8 @@ pub record TellsServed (tried : Tried) (served : Served) (fetches : Bool) : Type
   pub wants : tried.wants ≡ is_full (code_told served.told)
   pub over : tried.over ≡ false
 
--- a try is that of the definitions; what it would have read again is asked for only where there was no room
+-- The try is that of the definitions. The empty handle that would have been read again is compared only where the call
+-- found no room.
 pub record IsTried (tried : Tried) (t : specs.Tried) : Type 0 where
   pub reply : Says tried.reply t.told
   pub given : tried.given ≡ number_given t.told
@@ -72,34 +73,36 @@ pub record IsTried (tried : Tried) (t : specs.Tried) : Type 0 where
   pub wants : tried.wants ≡ t.wants
   pub over : tried.over ≡ t.over
 
--- a call on a segment that was answered isn't for want of room
+-- Where a call on a segment succeeds, it is not one that found no room.
 abbrev pub Settled : {T : Type 0} → Answer T → Type 0
 Settled {T} a = (value : T) → a.reply ≡ Ok value → a.wants ≡ false
 
--- a transcript with the lines of a course, and the application after it
+-- The text grows by the lines of a course, and the application is that after the course.
 abbrev pub Came : Course → List ℕ → List ℕ → Running → Type 0
 Came c old new after = (new ≡ old ++ lines_told c.lines) × (after ≡ c.after)
 
--- how an application ends, if it does, with a call of this code
+-- How an application ends with a call of this code, where the call ends the application.
 abbrev pub exit_as : Bool → OsErr → Option Exit
 exit_as over code = if over then Some (if is_fatal code then exit.Stops else exit.Quits) else None
 
--- and with a course
+-- How an application ends with a course.
 abbrev pub exit_of : Course → Option Exit
 exit_of c = exit_as c.over (code_told c.told)
 
--- the end of an application that ends so; one that has no call left, or that is asked to, quits
+-- The end of an application that ends in the given way. An application that has no call left, or is asked to quit,
+-- quits.
 abbrev pub end_by : Option Exit → Running → Ending
 end_by None r = quits r
 end_by (Some exit.Quits) r = quits r
 end_by (Some exit.Stops) r = stops r
 
--- and of one that goes on, unless it ended so or is asked to quit
+-- The end of an application that may go on, where it ended in the given way or is asked to quit.
 abbrev pub end_if : Option Exit → Bool → Running → Option Ending
 end_if None asked r = if asked then Some (quits r) else None
 end_if (Some e) asked r = Some (end_by (Some e) r)
 
--- an application that ended so, and one that ended so or was asked to quit, or goes on
+-- The application after the given end; and the application after the given end or a quit that was asked for, or as it
+-- stands where it goes on.
 abbrev pub has_ended : Option Exit → Running → Running
 has_ended None r = has_quit r
 has_ended (Some exit.Quits) r = has_quit r
@@ -109,7 +112,7 @@ abbrev pub left_if : Option Exit → Bool → Running → Running
 left_if None asked r = if asked then has_quit r else r
 left_if (Some e) asked r = has_ended (Some e) r
 
--- a round came, and what is done next
+-- The text, the application and what is done next are those of a round.
 abbrev pub CameRound : Round → Next → List ℕ → List ℕ → Running → Type 0
 CameRound (Ends c) (next.Ended ends) old new after = (ends ≡ exit_of c) × Came c old new after
 CameRound (Ends c) next.Again old new after = ⊥

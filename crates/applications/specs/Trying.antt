@@ -36,10 +36,11 @@ use Rattle.script_text.specs.Script.{block_of}
 use Rattle.script_text.specs.declared.script.Line.{Line}
 use Rattle.applications.specs.Names.{Bindings, bound_to}
 
--- One try of one call, by the application that makes it. Nothing is bound or written yet, and nothing is tried again.
+-- One try of one call, by the application that makes the call. A try binds no name, writes no line, and is not
+-- repeated.
 
--- a running application: its memory, its resources, its jump table, what the names of its script are bound to, and the
--- lines of its grow-zone script, none where none is set
+-- A running application: its memory, its resources, its jump table, the numbers to which the names of its script are
+-- bound, and the lines of its grow-zone script, or no lines where no grow-zone script is set.
 pub record Running : Type 0 where
   pub memory : Memory
   pub resources : Resources
@@ -47,28 +48,28 @@ pub record Running : Type 0 where
   pub names : Bindings
   pub grow : List Line
 
--- no place: a transcript doesn't hang on where its partition lies
+-- No place. A transcript does not depend on the place of the partition.
 abbrev pub nowhere : Site
 nowhere = record { home = null_ptr; window = record { at = 0; len = 0 } }
 
--- a fork with no resources
+-- The content of a resource fork that has no resources.
 abbrev pub no_content : Content
 no_content = record { area = replicate 240 0; attrs = 0; groups = [] }
 
--- the files of an application that is a script alone: its fork, which has no resources
+-- The files of an application that is only a script: one file, whose fork has no resources.
 abbrev pub own_files : List File
 own_files = record { name = codes "script"; fork = canon no_content; written = false } ∷ []
 
--- its resources as it is launched: none, and none of the System's
+-- The resources of that application at its launch: none of its own, and none of the System file.
 abbrev pub own_resources : Resources
 own_resources = fresh_resources own_files (map_of no_content) (map_of no_content)
 
--- the managers of an application in a fresh partition of n bytes, and what is read of its fork as it is launched
+-- The managers of an application in a fresh partition of `n` bytes, and what is read from its fork at the launch.
 abbrev pub opened_in : Resources → ℕ → Site → Managers × Reads
 opened_in resources n site = preloaded (record { memory = fresh_memory n site; resources = resources })
 
--- an application with such resources in a fresh partition of n bytes, before its first step: the resources of its fork
--- that are to be preloaded are read, and so is its jump table
+-- An application with these resources in a fresh partition of `n` bytes, before its first step: the resources that have
+-- resPreload are preloaded, and the jump table is read from 'CODE' 0.
 abbrev pub launched_with : Resources → ℕ → Site → Running
 launched_with resources n site = record {
   memory = (opened_in resources n site).0.memory;
@@ -78,26 +79,26 @@ launched_with resources n site = record {
   grow = [];
 }
 
--- the bytes put into each handle as it is launched
+-- The bytes that are read into each handle at the launch.
 abbrev pub read_at_launch : Resources → ℕ → Site → Reads
 read_at_launch resources n site = (opened_in resources n site).1
 
--- one that is a script alone
+-- An application that is only a script, before its first step.
 abbrev pub launched : ℕ → Site → Running
 launched n site = launched_with own_resources n site
 
--- its heap, and the resources that have handles in it; the same with its jump table
+-- The heap of an application with the resources that have handles in the heap, and both with the jump table.
 abbrev pub managers_of : Running → Managers
 managers_of r = record { memory = r.memory; resources = r.resources }
 
 abbrev pub program_of : Running → Program
 program_of r = record { managers = managers_of r; table = r.table }
 
--- the grow-zone scripts of a text, each with its name
+-- The grow-zone scripts of a text, each with its name.
 abbrev pub Blocks : Type 0
 Blocks = List (List ℕ × List Line)
 
--- a call of the heap's table, with the numbers that its names are bound to
+-- A call of the heap's table, with the numbers that its names are bound to.
 abbrev pub asked : HeapCall → Bindings → Asked
 asked (heap.NewHandle name size) names = asks.NewHandle size
 asked (heap.NewEmptyHandle name) names = asks.NewEmptyHandle
@@ -136,7 +137,7 @@ asked (heap.PutPtr name from bytes) names = asks.PutPtr (bound_to name.0.items n
 asked (heap.ShowPtr name) names = asks.ShowPtr (bound_to name.0.items names)
 asked (heap.Where name) names = asks.Where (bound_to name.0.items names)
 
--- a call of the Resource Manager's table, with the number that its name is bound to
+-- The number of a resource type, and a call of the Resource Manager's table, with the number that its name is bound to.
 abbrev pub type_number : OsType → ℕ
 type_number ty = big_number 4 ty.0
 
@@ -175,8 +176,9 @@ resource_asked (resource.GetResourceSizeOnDisk name) names =
 resource_asked (resource.SetResLoad on) names = finds.SetResLoad on
 resource_asked resource.ResError names = finds.ResError
 
--- what one try of a call came to: what it tells; what it read; the emptied handle that it reads again, if there is room
--- for that or not; whether it is for want of room; whether the application ends with it; and the application after it
+-- The outcome of one try of a call: its reply; what it read; the empty handle that it reads again, whether the zone had
+-- room or not; whether the call found no room; whether the application ends with the call; and the application after
+-- the try.
 pub record Tried : Type 0 where
   pub told : Told
   pub reads : Reads
@@ -185,7 +187,7 @@ pub record Tried : Type 0 where
   pub over : Bool
   pub after : Running
 
--- the code that is told
+-- The code of a reply.
 abbrev pub code_told : Told → OsErr
 code_told Done = NO_ERR
 code_told (Given n) = NO_ERR
@@ -199,14 +201,15 @@ code_told (Info id kind name) = NO_ERR
 code_told (Entry segment flag) = NO_ERR
 code_told (Refused code) = code
 
--- the code of a want of room; that of a segment that can't be loaded, which ends the application
+-- Holds of the code of a call that found no room; and of the code of a segment that cannot be loaded, which ends the
+-- application.
 abbrev pub is_full : OsErr → Bool
 is_full code = int_eq code.0 MEM_FULL.0
 
 abbrev pub is_fatal : OsErr → Bool
 is_fatal code = int_eq code.0 SYSTEM_ERROR.0
 
--- a try of a call of the heap's table
+-- The try of a call of the heap's table.
 abbrev pub heap_tried : Told × Memory → Running → Tried
 heap_tried answer r = record {
   told = answer.0;
@@ -217,7 +220,7 @@ heap_tried answer r = record {
   after = record r { memory = answer.1 };
 }
 
--- a try of a call of the Resource Manager's table
+-- The try of a call of the Resource Manager's table.
 abbrev pub resource_tried : Served → Running → Tried
 resource_tried s r = record {
   told = s.told;
@@ -228,7 +231,7 @@ resource_tried s r = record {
   after = record r { memory = s.after.memory; resources = s.after.resources };
 }
 
--- a try of a call of the Segment Manager's table
+-- The try of a call of the Segment Manager's table.
 abbrev pub segment_tried : segments.Served → Running → Tried
 segment_tried s r = record {
   told = s.told;
@@ -243,17 +246,17 @@ segment_tried s r = record {
   };
 }
 
--- a call that is done without the heap
+-- The try of a call that is done without the heap.
 abbrev pub steered : Bool → Running → Tried
 steered over r = record { told = Done; reads = []; reading = None; wants = false; over = over; after = r }
 
--- a try of a call that says how the application is run
+-- The try of a call by which the application says how it is run.
 abbrev pub control_tried : Blocks → ControlCall → Running → Tried
 control_tried blocks (control.SetGrowZone name) r = steered false (record r { grow = block_of name.0.items blocks })
 control_tried blocks control.WaitNextEvent r = steered false r
 control_tried blocks control.ExitToShell r = steered true r
 
--- one try of a call
+-- One try of a call.
 abbrev pub once : Blocks → Call → Running → Tried
 once blocks (call.Heap c) r = heap_tried (served (asked c r.names) r.memory) r
 once blocks (call.Resource c) r = resource_tried (finds.served (resource_asked c r.names) (managers_of r)) r

@@ -1,4 +1,4 @@
-//! A running application.
+//! A running application, its launch, and the parts that are returned after its end.
 
 ghost use Rattle.std.specs.Prelude.{◌≡◌, map, IfOk, IfErr};
 ghost use Rattle.block_store.specs.Block.{fresh, sizes};
@@ -17,11 +17,11 @@ use segments::JumpTable;
 use std::alloc::{AllocError, Global};
 use std::marker::Model;
 
-/// The type of segments.
+/// The resource type of segments.
 const CODE: OsType = OsType(*b"CODE");
 
-/// A running application: its heap, its resources, its jump table, what the names of its script are bound to, and the
-/// lines of its grow-zone script, none where none is set.
+/// A running application: its heap, its resources, its jump table, the numbers to which the names of its script are
+/// bound, and the lines of its grow-zone script, or no lines where no grow-zone script is set.
 #[derive(Drop)]
 pub struct Application<'s, S: BlockStore> {
     pub(crate) alloc: Global,
@@ -45,14 +45,14 @@ impl<'s, S: BlockStore> Model for Application<'s, S> {
 }
 
 impl<'s, S: BlockStore> Application<'s, S> {
-    /// An application with such resources in the store of a fresh zone, its partition: its jump table is read, and the
-    /// resources of its fork that are to be preloaded.
+    /// Launches an application with these resources in the store of a fresh zone, which is its partition: the jump
+    /// table is read from 'CODE' 0, and the resources of the application's fork that have resPreload are preloaded.
     ///
     /// *Inside Macintosh: Processes*, chapter 2, "Launching Applications".
     ///
     /// # Errors
     ///
-    /// The host has no memory for that: the store is given back, where it lay, and the resources are let go.
+    /// Returns the store, in its place, where the host is out of memory; the resources are released.
     pub fn launch_with(alloc: Global, store: S, resources: Resources) -> Result<Self, S>
         requires zone { S.zone store ≡ fresh (sizes (S.zone store)) }
         requires unused { (S.rest store).unused ≡ 64 }
@@ -79,7 +79,7 @@ impl<'s, S: BlockStore> Application<'s, S> {
         })
     }
 
-    /// Lets the application go, and gives its store back as it is, and its files, in order.
+    /// Releases the application, and returns its store as it is, and its files, in order.
     pub fn into_parts(self) -> (S, Vec<File>)
         ensures files { map view_file result.1.items ≡ self.entry.resources.files }
         ensures zone { IsNamed (S.zone result.0) self.entry.memory.heap.zone }
@@ -100,11 +100,12 @@ impl<'s, S: BlockStore> Application<'s, S> {
 }
 
 impl<'s, S: BlockStore + Drop> Application<'s, S> {
-    /// An application that is a script alone, with no resources, in the store of a fresh zone, its partition.
+    /// Launches an application that is only a script, with no resources, in the store of a fresh zone, which is its
+    /// partition.
     ///
     /// # Errors
     ///
-    /// The host has no memory for its resource fork; the store is let go.
+    /// Returns an error where the host is out of memory for the application's resource fork; the store is released.
     pub fn launch(alloc: Global, store: S) -> Result<Self, AllocError>
         requires zone { S.zone store ≡ fresh (sizes (S.zone store)) }
         requires unused { (S.rest store).unused ≡ 64 }

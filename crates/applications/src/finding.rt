@@ -1,4 +1,4 @@
-//! One try of one call of the Resource Manager.
+//! One try of a call of the Resource Manager.
 
 ghost use Rattle.std.specs.Prelude.{◌≡◌, false, IfOk, OnOk};
 ghost use Rattle.res_calls.specs.Asked as finds;
@@ -12,7 +12,7 @@ use mac_words::{Attrs, Reply, ResourceCall};
 use std::alloc::AllocError;
 
 impl<'s, S: BlockStore> Application<'s, S> {
-    /// Answers a call of the Resource Manager.
+    /// Tries a call of the Resource Manager.
     pub(crate) fn find(&mut self, call: &ResourceCall) -> Result<Tried, AllocError>
         ensures tried { IfOk result (λ tried. IsTried tried (resource_tried (finds.served (resource_asked call.now
             self.old.names) (managers_of self.old)) self.old)) }
@@ -23,7 +23,7 @@ impl<'s, S: BlockStore> Application<'s, S> {
         self.answer_resource(call)
     }
 
-    /// `SetResLoad`.
+    /// Tries `SetResLoad`.
     fn set_loading(&mut self, on: bool) -> Result<Tried, AllocError>
         ensures told { IfOk result (λ tried. TellsServed tried (finds.served (finds.SetResLoad on)
             (managers_of self.old)) false) }
@@ -35,7 +35,7 @@ impl<'s, S: BlockStore> Application<'s, S> {
         done_on_resource(Ok(()))
     }
 
-    /// The same, told by the table itself.
+    /// Tries a call of the Resource Manager, by the method of `Resources` that has the call's name.
     fn answer_resource(&mut self, call: &ResourceCall) -> Result<Tried, AllocError>
         ensures told { IfOk result (λ tried. TellsServed tried (finds.served (resource_asked call.now self.old.names)
             (managers_of self.old)) (fetches (resource_asked call.now self.old.names))) }

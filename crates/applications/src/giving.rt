@@ -1,4 +1,4 @@
-//! What an application gives alone.
+//! The transcript and the files of an application that runs alone.
 
 ghost use Rattle.std.specs.Prelude.{◌≡◌, ◌%◌, ◌≤◌, ◌++◌, ◌||◌, map, take, length, nat_lt, IfOk, OnOk};
 ghost use Rattle.block_store.specs.Block.{fresh, sizes};
@@ -18,7 +18,7 @@ use script_text::{Line, Script, write_end, write_launch};
 use std::alloc::{AllocError, Global};
 use std::marker::Model;
 
-/// What an application gave alone: its transcript, and its files with what was written of them.
+/// The results of an application that ran alone: its transcript, and its files as they were left.
 #[derive(Drop)]
 pub struct Given {
     transcript: Vec<u8>,
@@ -36,14 +36,14 @@ impl Model for Given {
 }
 
 impl Given {
-    /// Its transcript.
+    /// Returns the transcript.
     pub fn into_transcript(self) -> Vec<u8>
         ensures { result.items ≡ self.transcript }
     {
         self.transcript
     }
 
-    /// Its files, in order.
+    /// Returns the files of the application, in order.
     pub fn files(&self) -> &[File]
         ensures { map view_file result.now ≡ self.now.files }
     {
@@ -51,7 +51,7 @@ impl Given {
     }
 }
 
-/// The first lines of some.
+/// Returns the first `n` lines, or all lines where there are fewer.
 fn first(lines: &[Line], n: usize) -> &[Line]
     ensures { result.now ≡ take n lines.now }
 {
@@ -61,7 +61,8 @@ fn first(lines: &[Line], n: usize) -> &[Line]
     }
 }
 
-/// Whether a quit is asked for: by itself, or since it comes to the step behind the last.
+/// Reports whether the application is to quit: because `quit` says so, or because the number of steps passes the last
+/// line.
 fn is_asked(lines: &[Line], steps: usize, quit: bool) -> bool
     ensures { result ≡ (nat_lt (length lines.now) steps || quit) }
 {
@@ -69,7 +70,7 @@ fn is_asked(lines: &[Line], steps: usize, quit: bool) -> bool
 }
 
 impl<'s, S: BlockStore> Application<'s, S> {
-    /// Ends where a call ended it, or where it is asked to, and appends the line of the end to a text.
+    /// Ends the application where a call ended it or a quit is asked for, and appends the line of the end to `text`.
     fn end_if(
         &mut self,
         exit: Option<Exit>,
@@ -87,8 +88,9 @@ impl<'s, S: BlockStore> Application<'s, S> {
         write_end(text, code)
     }
 
-    /// Takes lines of a script, and ends where one ends it or where it is asked to: their lines, and that of the end, are
-    /// appended to a text. The watch is told of the steps.
+    /// Takes the lines of a script in order, and ends the application where a call ends it or a quit is asked for.
+    /// Appends the lines of the transcript, and the line of the end, to `text`, and reports the number of steps done to
+    /// the watch.
     #[tactic(auto, using(crate::proofs::Quits::gives_so))]
     fn give<W: Watch>(
         &mut self,
@@ -110,14 +112,15 @@ impl<'s, S: BlockStore> Application<'s, S> {
     }
 }
 
-/// What an application with these resources gives alone, where it takes so many steps of its script in the store of a
-/// fresh zone, its partition: the line of the launch, the lines of each call, and the line of the end where it ends. It
-/// ends where a call ends it; it quits behind its last step, if it comes to that, and where a quit is asked for. The
-/// store comes back, where it lay, with the zone as it then is. The watch is told of the steps.
+/// Returns what an application with these resources leaves when it runs alone, and takes `steps` steps of its script in
+/// the store of a fresh zone, which is its partition. The transcript has the line of the launch, the lines of each
+/// call, and the line of the end where the application ends. The application ends where a call ends it; the application
+/// quits after its last step, where `steps` passes that step, and where `quit` asks for a quit. The store is returned
+/// in its place, with the zone as the application left it. The number of steps done is reported to the watch.
 ///
 /// # Errors
 ///
-/// The host has no memory for it.
+/// Returns an error where the host is out of memory; the store is returned all the same.
 pub fn give_in<S: BlockStore, W: Watch>(
     alloc: Global,
     store: S,
@@ -155,12 +158,12 @@ pub fn give_in<S: BlockStore, W: Watch>(
     }
 }
 
-/// What an application gives alone, as `give_in` says, in a partition of `size` bytes that is kept in lists. Nobody
-/// watches.
+/// Returns what an application leaves when it runs alone, as `give_in` does, in a partition of `size` bytes that is
+/// kept in lists and without a watch.
 ///
 /// # Errors
 ///
-/// The host has no memory for it.
+/// Returns an error where the host is out of memory.
 pub fn give_alone(
     alloc: Global,
     size: u32,

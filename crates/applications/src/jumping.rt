@@ -1,4 +1,4 @@
-//! One try of one call on a segment.
+//! One try of a call on a segment.
 
 ghost use Rattle.std.specs.Prelude.{◌≡◌, None, false, IfOk, OnOk};
 ghost use Rattle.mac_words.specs.Told.{Done};
@@ -18,7 +18,7 @@ use mac_words::{OsErr, Reply, SegmentCall};
 use segments::{Called, Shown, Unloaded};
 use std::alloc::AllocError;
 
-/// A try of a call on a segment. The application ends with it where its code is system error 15.
+/// Returns a try of a call on a segment. The application ends with the try where the code is system error 15.
 fn tried_as(reply: Reply, reading: Option<usize>, wants: bool) -> Tried
     ensures reply { result.reply ≡ reply }
     ensures given { result.given ≡ None }
@@ -36,7 +36,7 @@ fn tried_as(reply: Reply, reading: Option<usize>, wants: bool) -> Tried
     }
 }
 
-/// `LoadSeg`, which tells whether the segment was read.
+/// Returns the try of `LoadSeg`, whose reply says whether the segment was read.
 fn loaded(answer: Result<bool, Unloaded>) -> Result<Tried, AllocError>
     ensures tried { IfOk result (λ tried. (a : Answer fetch.Fetched) (after : Program) (r : Running)
         → IsLoaded a answer after → Settled a → IsTried tried (segment_tried (telling tell_loaded a) r)) }
@@ -61,7 +61,7 @@ fn loaded(answer: Result<bool, Unloaded>) -> Result<Tried, AllocError>
     }
 }
 
-/// `CallEntry`, which tells the segment and whether it was read.
+/// Returns the try of `CallEntry`, whose reply is the segment and whether the segment was read.
 fn called(answer: Result<Called, Unloaded>) -> Result<Tried, AllocError>
     ensures tried { IfOk result (λ tried. (a : Answer calls.Called) (after : Program) (r : Running)
         → IsCalled a answer after → Settled a → IsTried tried (segment_tried (telling tell_called a) r)) }
@@ -86,7 +86,7 @@ fn called(answer: Result<Called, Unloaded>) -> Result<Tried, AllocError>
     }
 }
 
-/// `UnloadSeg`, which gives no value.
+/// Returns the try of `UnloadSeg`, whose reply has no value.
 fn unloaded(answer: Result<(), OsErr>) -> Tried
     ensures { (a : Answer (Unit {0})) (r : Running) → a.reply ≡ answer → a.wants ≡ false
         → IsTried result (segment_tried (telling (λ (u : Unit {0}). Done) a) r) }
@@ -97,7 +97,7 @@ fn unloaded(answer: Result<(), OsErr>) -> Tried
     }
 }
 
-/// `ShowEntry`, which tells the segment and whether the entry is loaded.
+/// Returns the try of `ShowEntry`, whose reply is the segment and whether the entry is loaded.
 fn shown(answer: Result<Shown, OsErr>) -> Tried
     ensures { (a : Answer calls.Shown) (r : Running) → a.reply ≡ shown_as answer → a.wants ≡ false
         → IsTried result (segment_tried (telling tell_shown a) r) }
@@ -109,7 +109,7 @@ fn shown(answer: Result<Shown, OsErr>) -> Tried
 }
 
 impl<'s, S: BlockStore> Application<'s, S> {
-    /// Answers a call of the Segment Manager, or one through the jump table.
+    /// Tries a call of the Segment Manager, or a call through the jump table.
     pub(crate) fn jump(&mut self, call: &SegmentCall) -> Result<Tried, AllocError>
         ensures tried { IfOk result (λ tried. IsTried tried (segment_tried (served call.now (program_of self.old))
             self.old)) }

@@ -16,10 +16,11 @@ ghost use Rattle.applications.specs.Laws.{put_at_launch, EachTry, Linked, ShowsP
 ghost use Rattle.applications.specs.Laws.{EmptiesPurgeable, LooksFew, RefusedLeaves, RefusedBinds, GoesByRule, NothingBusy};
 ghost use Rattle.applications.specs.Laws.{KeepsResources, KeepsFiles, KeepsTable};
 
-/// The laws of `run_script` hold of an application with any resources: what its files and the System's hold, and
-/// which of them are open, is free. They hold of any lines, so of the first steps of a script and of each turn that
-/// begins with its launch. What is read into a handle, as the application is launched or by a call, is then the bytes
-/// last put there, until other bytes are put; and a block that a resource's attributes lock stays where it is.
+/// States that the laws of `run_script` hold of an application with any resources, whatever its files and the System
+/// file hold and whichever files are open. The laws hold of any lines, and therefore of the first steps of a script and
+/// of each turn that begins with the launch. The stored data that is read into a handle, at the launch or by a call, is
+/// then the bytes last put there, until other bytes are put; and a block that a resource's attributes lock stays where
+/// it stands.
 pub fn an_application_with_any_resources_keeps_the_laws()
     ensures launched { (resources : Resources) (n : ℕ)
         → Holds (launched_with resources n nowhere).memory.heap (put_at_launch resources n) }
@@ -64,24 +65,25 @@ pub fn an_application_with_any_resources_keeps_the_laws()
         → RefusedBinds blocks lines (launched_with resources n nowhere) }
 {}
 
-/// Steps follow one another: what the next line of a script adds to its first steps. Where an application lies is no part
-/// of what a step of it comes to, nor of how it ends: a step at any place is the step at any other, with the place put
-/// back.
+/// States what the next line of a script adds to the script's first steps, and that the place of an application's
+/// partition has no part in what a step or an end of the application comes to: a step at any place is the step at any
+/// other place, with the place put back.
 pub fn steps_follow_one_another()
     ensures begins { (resources : Resources) (size : ℕ) (script : Parts)
         → first_steps resources size script 0 ≡ nothing_yet (launched_with resources size nowhere) }
-    // One step more, where there is a line for it and the application isn't over.
+    // The first `n + 1` steps are the first `n` and one step more, where a line is left and the application has not
+    // ended.
     ensures more { (resources : Resources) (size : ℕ) (script : Parts) (n : ℕ) (l : Line)
         → slice_get script.steps n ≡ Some l
         → Alike (first_steps resources size script (n + 1))
         (unless_over (first_steps resources size script n) (step script.blocks l)) }
-    // None where there is no line any more, or the application is over.
+    // The first `n + 1` steps are the first `n`, where no line is left or the application has ended.
     ensures past { (resources : Resources) (size : ℕ) (script : Parts) (n : ℕ) → length script.steps ≤ n
         → first_steps resources size script (n + 1) ≡ first_steps resources size script n }
     ensures over { (resources : Resources) (size : ℕ) (script : Parts) (n : ℕ)
         → (first_steps resources size script n).over ≡ true
         → first_steps resources size script (n + 1) ≡ first_steps resources size script n }
-    // Alike courses end alike.
+    // Courses that are alike end alike.
     ensures alike_end { (asked : Bool) (c d : Course) → Alike c d → ending_of asked c ≡ ending_of asked d }
     ensures elsewhere { (site : Site) (blocks : Blocks) (l : Line) (r : Running)
         → step blocks l (moved site r) ≡ course_elsewhere site (step blocks l r) }

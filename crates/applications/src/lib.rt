@@ -1,4 +1,5 @@
-//! Applications: a script's calls answered by a heap of its own, and the transcript that they leave.
+//! Applications: the calls of a script, tried on a heap and resources of the application's own, and the transcript that
+//! the calls leave.
 #![tactic(auto)]
 
 mod application;

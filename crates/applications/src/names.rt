@@ -21,7 +21,7 @@ impl Model for Names {
 }
 
 impl Names {
-    /// No name is bound.
+    /// Returns names of which no name is bound.
     pub fn new(alloc: Global) -> Names
         ensures { result ≡ [] }
     {
@@ -30,14 +30,14 @@ impl Names {
         }
     }
 
-    /// The number that a name is bound to.
+    /// Returns the number that a name is bound to, or `None` for an unbound name.
     pub fn number(&self, name: &Label) -> Option<usize>
         ensures { result ≡ bound_to name.now.0.items self.now }
     {
         self.bound.get(name).copied()
     }
 
-    /// Binds a name to a number; what it was bound to is let go.
+    /// Binds a name to a number, in place of the number that the name was bound to before.
     pub fn bind(&mut self, name: &Label, number: usize) -> Result<(), AllocError>
         ensures { OnOk result (self.new ≡ bind name.now.0.items number self.old) }
     {

@@ -1,4 +1,4 @@
-//! What a call names.
+//! The handles and pointers that a call names.
 
 ghost use Rattle.std.specs.Prelude.{◌≡◌};
 ghost use Rattle.heap_calls.specs.Naming.{first_named, second_named};
@@ -8,7 +8,8 @@ ghost use Rattle.applications.specs.Trying.{asked, resource_asked};
 use crate::names::Names;
 use mac_words::{HeapCall, ResourceCall};
 
-/// The handles and pointers that a call names, two at most; a name that it binds is none of them.
+/// Returns the numbers of the handles and pointers that a call names as arguments, two at most. A name that the call
+/// binds is not an argument.
 pub fn named(call: &HeapCall, names: &Names) -> (Option<usize>, Option<usize>)
     ensures first { result.0 ≡ first_named (asked call.now names.now) }
     ensures second { result.1 ≡ second_named (asked call.now names.now) }
@@ -53,7 +54,8 @@ pub fn named(call: &HeapCall, names: &Names) -> (Option<usize>, Option<usize>)
     }
 }
 
-/// The resource's handle that a call names; a name that it binds is none.
+/// Returns the number of the resource's handle that a call names as an argument. A name that the call binds is not an
+/// argument.
 pub fn named_resource(call: &ResourceCall, names: &Names) -> Option<usize>
     ensures { result ≡ finds.named (resource_asked call.now names.now) }
 {

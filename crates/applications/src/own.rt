@@ -1,4 +1,4 @@
-//! The resources of an application that is a script alone.
+//! The resources of an application that is only a script.
 
 ghost use Rattle.std.specs.Prelude.{◌≡◌, IfOk, [], ◌∷◌, codes};
 ghost use Rattle.fork_format.specs.View.{view};
@@ -12,7 +12,7 @@ use mac_words::FileName;
 use res_calls::{File, Resources};
 use std::alloc::{AllocError, Global};
 
-/// A fork with no resources.
+/// Returns the content of a resource fork that has no resources.
 pub fn empty_content(alloc: Global) -> Content<'static>
     ensures { view result ≡ no_content }
 {
@@ -23,7 +23,7 @@ pub fn empty_content(alloc: Global) -> Content<'static>
     }
 }
 
-/// The name of the application's own file.
+/// Returns the name of the application's own file.
 fn own_name() -> FileName
     ensures { result.0.items ≡ codes "script" }
 {
@@ -34,7 +34,7 @@ fn own_name() -> FileName
     }
 }
 
-/// The bytes of the application's own fork.
+/// Returns the bytes of the application's own fork.
 fn own_fork(alloc: Global) -> Result<Vec<u8>, AllocError>
     ensures { IfOk result (λ fork. fork.items ≡ canon no_content) }
 {
@@ -46,8 +46,8 @@ fn own_fork(alloc: Global) -> Result<Vec<u8>, AllocError>
     }
 }
 
-/// The resources of an application that is a script alone: a fork of its own with no resources, and none of the
-/// System's.
+/// Returns the resources of an application that is only a script: a fork of its own that has no resources, and a System
+/// file that has no resources.
 pub fn own_resources(alloc: Global) -> Result<Resources, AllocError>
     ensures { IfOk result (λ r. r ≡ own) }
 {

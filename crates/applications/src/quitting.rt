@@ -1,4 +1,4 @@
-//! How an application ends.
+//! The end of an application.
 
 ghost use Rattle.std.specs.Prelude.{◌≡◌, map, IfOk, OnOk};
 ghost use Rattle.res_calls.specs.Leaving.{leave};
@@ -13,18 +13,19 @@ use mac_words::OsErr;
 use res_calls::File;
 use std::alloc::AllocError;
 
-/// How an application ends by itself.
+/// The way in which a call ends its application.
 #[derive(Clone, Copy, Debug, PartialEq, Eq)]
 pub enum Exit {
-    /// It quits: its files are updated and closed.
+    /// The application quits: its files are updated and closed.
     Quits,
-    /// A system error stops it: nothing is updated.
+    /// A system error stops the application: no file is updated.
     Stops,
 }
 
 impl<'s, S: BlockStore> Application<'s, S> {
-    /// Quits: its open files are updated and closed, the last opened first. Gives the first code that isn't 0: -34
-    /// where the content of a file doesn't fit the format, whose fork then stays as it is.
+    /// Quits the application: updates and closes its open files, the file opened last first. Returns the first code
+    /// that is not 0: -34 (dskFulErr) where the content of a file does not fit the format of a resource fork; the fork
+    /// of that file stays as it is.
     ///
     /// *Inside Macintosh: Processes*, chapter 2, "Terminating a Process".
     pub fn quit(&mut self) -> Result<OsErr, AllocError>
@@ -35,8 +36,9 @@ impl<'s, S: BlockStore> Application<'s, S> {
         self.resources.leave(self.alloc, &mut self.heap)
     }
 
-    /// Ends as it says: where a system error stops it, it leaves its files as they are, with that code; else, or where
-    /// it has no call left, it quits.
+    /// Ends the application as `exit` says, and returns the code of the end. Where a system error stops the
+    /// application, its files stay as they are, and the code is system error 15. Otherwise, and where `exit` is `None`
+    /// because no call is left or a quit was asked for, the application quits.
     pub fn end(&mut self, exit: Option<Exit>) -> Result<OsErr, AllocError>
         ensures code { IfOk result (λ code. code ≡ (end_by exit self.old).code) }
         ensures after { OnOk result (self.new ≡ has_ended exit self.old) }
@@ -49,7 +51,7 @@ impl<'s, S: BlockStore> Application<'s, S> {
         }
     }
 
-    /// Its files, in order.
+    /// Returns the files of the application, in order.
     pub fn files(&self) -> &[File]
         ensures { map view_file result.now ≡ self.now.resources.files }
     {

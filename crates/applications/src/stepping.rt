@@ -1,4 +1,4 @@
-//! A step: a call is tried, and tried again as long as the grow-zone script makes room.
+//! A step of an application: a call is tried, and tried again as long as the grow-zone script makes room.
 
 ghost use Rattle.std.specs.Prelude.{◌≡◌, ◌++◌, [], IfOk, OnOk, nat_lt};
 ghost use Rattle.heap_calls.specs.Staying.{ease};
@@ -25,12 +25,12 @@ use std::alloc::AllocError;
 pub(crate) enum Next {
     /// The call is tried again.
     Again,
-    /// The call has ended, and the application with it where so.
+    /// The call has ended, and the application ends with the call as the `Exit` says, if there is one.
     Ended(Option<Exit>),
 }
 
 impl<'s, S: BlockStore> Application<'s, S> {
-    /// Makes the handle or the pointer of a number busy, or idle again.
+    /// Marks the handle or the pointer of a number as busy, or as idle again.
     fn mark_number(&mut self, busy: bool, number: Option<usize>)
         ensures { self.new ≡ record self.old { memory = marked busy number self.old.memory } }
     {
@@ -39,7 +39,8 @@ impl<'s, S: BlockStore> Application<'s, S> {
         }
     }
 
-    /// Makes what a call names busy, or idle again, and the emptied handle that it would have read again.
+    /// Marks the handles and pointers that a call names, and the empty handle that the call would have read again, as
+    /// busy, or as idle again.
     fn mark(&mut self, busy: bool, call: &Call, reading: Option<usize>)
         ensures { self.new ≡ marked_for busy call.now reading self.old }
     {
@@ -60,7 +61,7 @@ impl<'s, S: BlockStore> Application<'s, S> {
         }
     }
 
-    /// Takes the lines of a grow-zone script in order, and appends their lines to a text.
+    /// Runs the lines of a grow-zone script in order, and appends the lines of their transcript to `text`.
     fn take_lines(
         &mut self,
         script: &'s Script,
@@ -79,7 +80,8 @@ impl<'s, S: BlockStore> Application<'s, S> {
         Ok(())
     }
 
-    /// Runs the grow-zone script for a call that found no room, while what the call names is busy.
+    /// Runs the grow-zone script for a call that found no room, while the handles and pointers that the call names are
+    /// busy.
     fn ask_script(
         &mut self,
         script: &'s Script,
@@ -98,8 +100,8 @@ impl<'s, S: BlockStore> Application<'s, S> {
         Ok(())
     }
 
-    /// Runs the grow-zone script for a call that found no room; whether more can be had then. Without a script nothing
-    /// can have changed, and no block is looked at.
+    /// Runs the grow-zone script for a call that found no room, and reports whether more bytes can be had after the
+    /// script than before it. Without a grow-zone script nothing can have changed, and no block is examined.
     fn ask_for_room(
         &mut self,
         script: &'s Script,
@@ -122,7 +124,8 @@ impl<'s, S: BlockStore> Application<'s, S> {
         Ok(before < self.heap.to_be_had())
     }
 
-    /// Keeps the code of a call whose answer stands, behind those of the grow-zone script's calls.
+    /// Sets the code of the call's manager to the code of a call whose answer stands, since the calls of the grow-zone
+    /// script have set it since.
     fn keep_anew(&mut self, call: &Call, tried: &Tried)
         ensures { self.new ≡ kept_anew call.now tried.now.reply.code self.old }
     {
@@ -134,7 +137,7 @@ impl<'s, S: BlockStore> Application<'s, S> {
         }
     }
 
-    /// Binds the name of a call that binds one to the number that it gave.
+    /// Binds the name of a call that binds a name to the number that the call returned.
     fn bind(&mut self, call: &Call, given: Option<usize>) -> Result<(), AllocError>
         ensures bound { OnOk result (self.new ≡ record self.old { names = names_given call.now given self.old.names }) }
         ensures lies { self.new.memory.window ≡ self.old.memory.window }
@@ -160,7 +163,7 @@ impl<'s, S: BlockStore> Application<'s, S> {
         }
     }
 
-    /// Ends a call with a try: its line is appended to a text, and its name is bound.
+    /// Ends a call with its try: appends the line of the call to `text`, and binds the call's name.
     fn end_call(&mut self, line: &Line, tried: &Tried, text: &mut Vec<u8>) -> Result<(), AllocError>
         ensures text { OnOk result (text.new.items ≡ text.old.items ++ reply_line line.now.number
             (word_of line.now.call) tried.now.reply.code.0
@@ -176,7 +179,7 @@ impl<'s, S: BlockStore> Application<'s, S> {
         self.bind(&line.call, tried.given)
     }
 
-    /// Tries a call, and runs the grow-zone script where there was no room for it.
+    /// Tries a call, and runs the grow-zone script where the call found no room.
     fn round(
         &mut self,
         script: &'s Script,
@@ -202,9 +205,10 @@ impl<'s, S: BlockStore> Application<'s, S> {
         Ok(Next::Ended(exit))
     }
 
-    /// Takes a step, the call of a line: it is tried, and where there is no room for it the grow-zone script is
-    /// run; where that makes room the call is tried again, else its answer stands. The transcript's lines are
-    /// appended to a text. Tells how the application ends with it, if it does.
+    /// Takes a step, which is the call of a line. The call is tried; where the call finds no room, the grow-zone script
+    /// is run, and where the script makes room the call is tried again, and otherwise the answer of the call stands.
+    /// Appends the lines of the transcript to `text`. Returns how the application ends with the step, or `None` where
+    /// it goes on.
     ///
     /// *Inside Macintosh: Memory*, chapter 1, "Grow-Zone Functions".
     pub fn step(
@@ -228,8 +232,8 @@ impl<'s, S: BlockStore> Application<'s, S> {
         Ok(None)
     }
 
-    /// Takes steps in order, to the last line or to the end of the application, and tells a watch how many are done.
-    /// Tells how it ends, if it does.
+    /// Takes steps in order, to the last line or to the end of the application, and reports the number of steps done to
+    /// the watch. Returns how the application ends, or `None` where it goes on.
     pub fn run_watched<W: Watch>(
         &mut self,
         script: &'s Script,
@@ -255,7 +259,7 @@ impl<'s, S: BlockStore> Application<'s, S> {
         Ok(None)
     }
 
-    /// Takes steps in order, as `run_watched` does, and nobody watches.
+    /// Takes steps in order, as `run_watched` does, without a watch.
     pub fn run(
         &mut self,
         script: &'s Script,
@@ -270,8 +274,8 @@ impl<'s, S: BlockStore> Application<'s, S> {
         self.run_watched(script, lines, text, &mut Unwatched)
     }
 
-    /// Takes a turn: steps up to and including the next `WaitNextEvent`, or to the last line, as `up_to_wait` gives
-    /// them. Tells how the application ends with it, if it does.
+    /// Takes a turn: the steps up to and including the next `WaitNextEvent`, or to the last line, as `up_to_wait`
+    /// selects them. Returns how the application ends with the turn, or `None` where it goes on.
     ///
     /// *Inside Macintosh: Processes*, chapter 1, "Scheduling of Processes".
     pub fn turn(

@@ -1,4 +1,4 @@
-//! What one try of a call came to.
+//! The outcome of one try of a call.
 
 ghost use Rattle.std.specs.Prelude.{◌≡◌, ◌≢◌, ◌<◌, ◌^◌, ℕ, true, false, None, Err, IfOk, OnOk};
 ghost use Rattle.mac_words.specs.Told.{Told, Done, Given, Number, Numbers, Bytes, Kind};
@@ -20,23 +20,23 @@ use mac_words::{Attrs, OsErr, OsType, Reply};
 use res_calls::{Fetched, Info, Unread};
 use std::alloc::{AllocError, Global};
 
-/// What one try of a call came to. Nothing is bound, written or tried again by it.
+/// The outcome of one try of a call. A try binds no name, writes no line, and is not repeated.
 #[derive(Drop)]
 pub struct Tried {
-    /// The reply, but for bytes that are shown.
+    /// The reply, without the bytes that the call shows.
     pub reply: Reply,
-    /// The number of the handle or pointer that was given.
+    /// The number of the handle or pointer that the call returned.
     pub given: Option<usize>,
-    /// The number of the emptied handle that would have been read again.
+    /// The number of the empty handle that would have been read again.
     pub reading: Option<usize>,
-    /// There was no room for what the call asked for.
+    /// Whether the call found no room.
     pub wants: bool,
-    /// The application ends with the call.
+    /// Whether the application ends with the call.
     pub over: bool,
 }
 
 impl Tried {
-    /// A call that gave this reply and nothing else.
+    /// Returns the try of a call that has this reply and returned no handle or pointer.
     pub fn told(reply: Reply) -> Tried
         ensures reply { result.reply ≡ reply }
         ensures given { result.given ≡ None }
@@ -54,7 +54,7 @@ impl Tried {
         }
     }
 
-    /// How the application ends with the call, if it does.
+    /// Returns how the application ends with the call, or `None` where it goes on.
     pub fn exit(&self) -> Option<Exit>
         ensures { result ≡ exit_as self.now.over self.now.reply.code }
     {
@@ -69,7 +69,7 @@ impl Tried {
     }
 }
 
-/// A call that gives a new number.
+/// Returns the try of a call that returns a new handle or pointer.
 pub fn given(answer: Result<usize, Refusal>) -> Result<Tried, AllocError>
     ensures tried { IfOk result (λ tried. (told : Told) → GivenAs Given answer told → TellsTold tried told) }
     ensures host { OnOk result (answer ≢ Err Refusal.HostMemory) }
@@ -87,7 +87,7 @@ pub fn given(answer: Result<usize, Refusal>) -> Result<Tried, AllocError>
     }
 }
 
-/// A call that shows bytes, without them.
+/// Returns the try of a call that shows bytes, without the bytes.
 pub fn shown(answer: Result<&[u8], Refusal>) -> Result<Tried, AllocError>
     ensures tried { IfOk result (λ tried. (told : Told) → GivenAs (λ bytes. Bytes bytes.now) answer.entry told
         → TellsTold tried told) }
@@ -99,7 +99,7 @@ pub fn shown(answer: Result<&[u8], Refusal>) -> Result<Tried, AllocError>
     }
 }
 
-/// A call that gives no value.
+/// Returns the try of a call that returns no value.
 pub fn done(answer: Result<(), Refusal>) -> Result<Tried, AllocError>
     ensures tried { IfOk result (λ tried. (told : Told) → GivenAs (λ _. Done) answer told → TellsTold tried told) }
     ensures host { OnOk result (answer ≢ Err Refusal.HostMemory) }
@@ -111,7 +111,7 @@ pub fn done(answer: Result<(), Refusal>) -> Result<Tried, AllocError>
     }
 }
 
-/// A call that gives a number.
+/// Returns the try of a call that returns a number.
 pub fn number(answer: Result<u32, Refusal>) -> Result<Tried, AllocError>
     ensures tried { IfOk result (λ tried. (told : Told) → GivenAs Number answer told → TellsTold tried told) }
 {
@@ -122,7 +122,7 @@ pub fn number(answer: Result<u32, Refusal>) -> Result<Tried, AllocError>
     }
 }
 
-/// A call that gives a handle's flags.
+/// Returns the try of a call that returns the flags of a handle.
 pub fn state(answer: Result<u8, Refusal>) -> Result<Tried, AllocError>
     ensures tried { IfOk result (λ tried. (told : Told) → GivenAs Number answer told → TellsTold tried told) }
 {
@@ -133,14 +133,14 @@ pub fn state(answer: Result<u8, Refusal>) -> Result<Tried, AllocError>
     }
 }
 
-/// `PurgeSpace`.
+/// Returns the try of `PurgeSpace`.
 pub fn space(space: Space) -> Tried
     ensures { TellsTold result (Numbers space.total space.contiguous) }
 {
     Tried::told(Reply::pair(space.total, space.contiguous))
 }
 
-/// A call that gives a resource's handle, and tells whether its bytes were read for it.
+/// Returns the try of a call that returns a resource's handle and whether the stored data was read for the handle.
 pub fn fetched(answer: Result<Fetched, Unread>) -> Result<Tried, AllocError>
     ensures tried { IfOk result (λ tried. (a : Answer fetch.Fetched) (after : Managers) → IsFetched a answer after
         → TellsServed tried (telling tell_fetched a) true) }
@@ -176,7 +176,7 @@ pub fn fetched(answer: Result<Fetched, Unread>) -> Result<Tried, AllocError>
     }
 }
 
-/// A call of the Resource Manager that gives no value.
+/// Returns the try of a call of the Resource Manager that returns no value.
 pub fn done_on_resource(answer: Result<(), Refusal>) -> Result<Tried, AllocError>
     ensures tried { IfOk result (λ tried. (a : Answer (Unit {0})) (after : Managers) →
         IsAnswered (λ (u : Unit {0}). u) a answer after
@@ -192,7 +192,7 @@ pub fn done_on_resource(answer: Result<(), Refusal>) -> Result<Tried, AllocError
     }
 }
 
-/// A call of the Resource Manager that gives a number.
+/// Returns the try of a call of the Resource Manager that returns a number.
 pub fn counted(answer: Result<u32, Refusal>) -> Result<Tried, AllocError>
     ensures tried { IfOk result (λ tried. (a : Answer ℕ) (after : Managers) → IsAnswered (λ (n : ℕ). n) a answer after
         → TellsServed tried (telling Number a) false) }
@@ -206,7 +206,7 @@ pub fn counted(answer: Result<u32, Refusal>) -> Result<Tried, AllocError>
     }
 }
 
-/// A call that tells how many there are of something.
+/// Returns the try of a call of the Resource Manager that returns a count.
 pub fn sized(answer: Result<usize, Refusal>) -> Result<Tried, AllocError>
     requires { IfOk answer (λ n. n < 2 ^ 63) }
     ensures tried { IfOk result (λ tried. (a : Answer ℕ) (after : Managers) → IsAnswered (λ (n : ℕ). n) a answer after
@@ -221,7 +221,7 @@ pub fn sized(answer: Result<usize, Refusal>) -> Result<Tried, AllocError>
     }
 }
 
-/// A call that gives a resource's attributes.
+/// Returns the try of a call that returns the attributes of a resource.
 pub fn attributes(answer: Result<Attrs, Refusal>) -> Result<Tried, AllocError>
     ensures tried { IfOk result (λ tried. (a : Answer ℕ) (after : Managers) → IsAnswered (λ (a : StoredAttrs). a.0) a
         answer after
@@ -237,7 +237,7 @@ pub fn attributes(answer: Result<Attrs, Refusal>) -> Result<Tried, AllocError>
     }
 }
 
-/// A call that gives a type.
+/// Returns the try of a call that returns a resource type.
 pub fn kind(answer: Result<OsType, Refusal>) -> Result<Tried, AllocError>
     ensures tried { IfOk result (λ tried. (a : Answer ℕ) (after : Managers) →
         IsAnswered (λ (t : Type4). big_number 4 t.0) a answer after
@@ -253,7 +253,7 @@ pub fn kind(answer: Result<OsType, Refusal>) -> Result<Tried, AllocError>
     }
 }
 
-/// A call that gives a resource's ID, type and name.
+/// Returns the try of a call that returns the ID, the type and the name of a resource.
 pub fn info(alloc: Global, answer: Result<Info, Refusal>) -> Result<Tried, AllocError>
     ensures tried { IfOk result (λ tried. (a : Answer rows.Info) (after : Managers) → IsAnswered seen_info a
         answer after

@@ -1,4 +1,4 @@
-//! One try of one call.
+//! One try of a call.
 
 ghost use Rattle.std.specs.Prelude.{◌≡◌, [], IfOk, OnOk};
 ghost use Rattle.std.specs.Option.{option_map};
@@ -15,7 +15,7 @@ use script_text::Script;
 use std::alloc::AllocError;
 
 impl<'s, S: BlockStore> Application<'s, S> {
-    /// Tries a call once; bytes that it shows are no part of the reply.
+    /// Tries a call once, and returns the outcome without the bytes that the call shows.
     pub(crate) fn once(&mut self, script: &'s Script, call: &Call) -> Result<Tried, AllocError>
         ensures tried { IfOk result (λ tried. IsTried tried (once script.now.blocks call.now self.old)) }
         ensures after { OnOk result (self.new ≡ (once script.now.blocks call.now self.old).after) }
@@ -29,7 +29,7 @@ impl<'s, S: BlockStore> Application<'s, S> {
         }
     }
 
-    /// Answers a call by which the application says how it is run.
+    /// Tries a call by which the application says how it is run: `SetGrowZone`, `WaitNextEvent` or `ExitToShell`.
     fn steer(&mut self, script: &'s Script, call: &ControlCall) -> Tried
         ensures tried { IsTried result (control_tried script.now.blocks call.now self.old) }
         ensures after { self.new ≡ (control_tried script.now.blocks call.now self.old).after }
@@ -43,7 +43,7 @@ impl<'s, S: BlockStore> Application<'s, S> {
         tried
     }
 
-    /// The bytes that a call shows in the state that it leaves.
+    /// Returns the bytes that a call shows, in the state that the call leaves.
     #[tactic(auto, using(crate::proofs::FoundCalls::shows_nothing, crate::proofs::JumpCalls::jump_shows_nothing))]
     pub(crate) fn shown(&self, call: &Call) -> Option<&[u8]>
         ensures { option_map (λ bytes. bytes.now) result ≡ bytes_told (once [] call.now self.now).told }
@@ -59,7 +59,7 @@ impl<'s, S: BlockStore> Application<'s, S> {
         }
     }
 
-    /// Answers a call of the Memory Manager.
+    /// Tries a call of the Memory Manager.
     fn answer(&mut self, call: &HeapCall) -> Result<Tried, AllocError>
         ensures told { IfOk result (λ tried. TellsTold tried (served (asked call.now self.old.names)
             self.old.memory).0) }

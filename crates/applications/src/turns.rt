@@ -1,4 +1,4 @@
-//! Where a turn ends.
+//! The end of a turn.
 
 ghost use Rattle.std.specs.Prelude.{◌≡◌};
 ghost use Rattle.applications.specs.Step as turns;
@@ -7,7 +7,7 @@ ghost use Rattle.applications.specs.Step.{is_wait};
 use mac_words::{Call, ControlCall};
 use script_text::Line;
 
-/// Whether a call ends a turn.
+/// Reports whether a call ends a turn.
 pub fn ends_turn(call: &Call) -> bool
     ensures { result ≡ is_wait call.now }
 {
@@ -17,7 +17,8 @@ pub fn ends_turn(call: &Call) -> bool
     }
 }
 
-/// The lines of the next turn: those up to and including the first `WaitNextEvent`, all where there is none.
+/// Returns the lines of the next turn: the lines up to and including the first `WaitNextEvent`, or all lines where no
+/// line is a `WaitNextEvent`.
 pub fn up_to_wait(lines: &[Line]) -> &[Line]
     ensures { result.now ≡ turns.up_to_wait lines.now }
 {

@@ -1,19 +1,19 @@
-//! Who watches a run.
+//! The watch of a run.
 
 ghost use Rattle.std.specs.Prelude.{◌≡◌, ℕ, Option, None, List};
 
-/// Is told how far a run has come.
+/// A watch, to which the progress of a run is reported.
 pub trait Watch {
     /// The bytes that have been printed so far, where they are known.
     ghost printed: { Self → Option (List ℕ) };
 
-    /// So many steps or events, of so many in all, are done.
+    /// Receives a report of the progress: `done` steps or events, of `of` in all, are done.
     fn done(&mut self, done: usize, of: usize)
-        // Nothing is printed.
+        // The report prints nothing.
         ensures silent { printed self.new ≡ printed self.old };
 }
 
-/// Nobody watches.
+/// A watch that does nothing.
 #[derive(Clone, Copy, Debug)]
 pub struct Unwatched;
 
@@ -23,10 +23,11 @@ impl Watch for Unwatched {
     fn done(&mut self, _done: usize, _of: usize) {}
 }
 
-/// The most often that a watch is told of a run.
+/// The greatest number of reports of one run.
 const MOST: usize = 100;
 
-/// Tells a watch that so many, of so many in all, are done: behind each hundredth of them, and behind the last.
+/// Reports to a watch that `done` steps or events, of `of` in all, are done: after each hundredth of them, and after
+/// the last.
 pub fn tell<W: Watch>(watch: &mut W, done: usize, of: usize)
     ensures silent { W.printed watch.new ≡ W.printed watch.old }
 {

@@ -4,12 +4,12 @@ use std::alloc::Global;
 use std::fmt::Write;
 use std::test::Fail;
 
-/// A generator of numbers: each is made of the one before it by shifts.
+/// A generator of numbers, which makes each number from the number before it by shifts.
 #[derive(Clone, Copy)]
 pub struct Chance(pub u32);
 
 impl Chance {
-    /// The next number.
+    /// Returns the next number.
     pub fn next(&mut self) -> u32 {
         self.0 ^= self.0 << 13;
         self.0 ^= self.0 >> 17;
@@ -17,7 +17,7 @@ impl Chance {
         self.0
     }
 
-    /// One of four things.
+    /// Returns one of four things.
     pub fn one_of<T: Copy>(&mut self, things: [T; 4]) -> T {
         let [a, b, c, d] = things;
         match self.next() % 4 {
@@ -32,7 +32,7 @@ impl Chance {
 /// The names that generated calls use.
 const NAMES: &[&str] = &["a", "b", "c", "d", "e", "f", "g", "h"];
 
-/// What follows the word of a call.
+/// The arguments that follow the word of a call.
 #[derive(Clone, Copy)]
 enum Arguments {
     Nothing,
@@ -43,7 +43,7 @@ enum Arguments {
     Bytes,
 }
 
-/// The calls that are made; those that stand here more than once come more often.
+/// The calls that are made. A call that stands here more than once is made more often.
 const CALLS: &[(&str, Arguments)] = &[
     ("NewHandle", Arguments::NameAndSize),
     ("NewHandle", Arguments::NameAndSize),
@@ -79,7 +79,7 @@ const CALLS: &[(&str, Arguments)] = &[
     ("WaitNextEvent", Arguments::Nothing),
 ];
 
-/// One of the names.
+/// Returns one of the names.
 fn a_name(chance: &mut Chance) -> &'static str {
     match NAMES.get((chance.next() % 8) as usize) {
         Some(name) => *name,
@@ -87,13 +87,13 @@ fn a_name(chance: &mut Chance) -> &'static str {
     }
 }
 
-/// A number of bytes, most often a small one.
+/// Returns a number of bytes, most often a small number.
 fn a_size(chance: &mut Chance) -> u32 {
     let most = if chance.next() % 8 == 0 { 900 } else { 120 };
     chance.next() % most
 }
 
-/// A line with one call.
+/// Appends a line that has one call.
 fn a_line(chance: &mut Chance, text: &mut String) -> Result<(), Fail> {
     let Some((word, arguments)) = CALLS.get((chance.next() % 32) as usize) else {
         return Err(Fail::new("one of 32 calls"));
@@ -114,7 +114,7 @@ fn a_line(chance: &mut Chance, text: &mut String) -> Result<(), Fail> {
     Ok(())
 }
 
-/// A text of so many calls.
+/// Returns a text of `calls` calls.
 pub fn some_calls(alloc: Global, chance: &mut Chance, calls: u32) -> Result<String, Fail> {
     let mut text = String::new(alloc);
     for _call in 0..calls {

@@ -1,4 +1,4 @@
-//! Scripts and jobs that a generator makes, over lists and in the bytes of a region.
+//! Scripts and jobs that a generator makes, run over lists and in the bytes of a region.
 
 ghost use Rattle.std.specs.Prelude.{◌≡◌, ◌≤◌, ◌%◌};
 
@@ -12,7 +12,7 @@ use std::alloc::{AllocError, Global};
 use std::process::Abort;
 use std::test::Fail;
 
-/// Runs a script to its end in a partition of so many bytes that is kept in lists: its transcript.
+/// Runs a script to its end in a partition of `size` bytes that is kept in lists, and returns the transcript.
 fn run_in_lists(alloc: Global, size: u32, script: &Script) -> Result<Vec<u8>, AllocError>
     requires even { size % 16 ≡ 0 }
     requires low { 512 ≤ size }
@@ -23,8 +23,8 @@ fn run_in_lists(alloc: Global, size: u32, script: &Script) -> Result<Vec<u8>, Al
     Ok(given.into_transcript())
 }
 
-/// Runs a script to its end over lists and in bytes: both leave the same transcript. The bytes then are a zone, with so
-/// many Free bytes as the last line tells.
+/// Runs a script to its end over lists and in bytes, and asserts that both leave the same transcript, and that the
+/// bytes then are a zone whose number of free bytes is the number that the last call of the script returns.
 fn leaves_alike(rt: &impl Abort, alloc: Global, size: u32, script: &Script) -> Result<(), Fail>
     requires even { size % 16 ≡ 0 }
     requires low { 512 ≤ size }
@@ -40,7 +40,7 @@ fn leaves_alike(rt: &impl Abort, alloc: Global, size: u32, script: &Script) -> R
     Ok(())
 }
 
-/// A script of so many calls, which asks at last how many bytes are Free.
+/// Returns a script of `calls` calls, the last of which returns the number of free bytes.
 fn a_script(alloc: Global, seed: u32, calls: u32) -> Result<Script, Fail> {
     let mut text = some_calls(alloc, &mut Chance(seed), calls)?;
     text.push_str("FreeMem\n")?;
@@ -52,7 +52,7 @@ fn a_script(alloc: Global, seed: u32, calls: u32) -> Result<Script, Fail> {
 
 #[test]
 fn scripts_leave_the_same_over_lists_and_in_bytes(rt: HostRuntime) -> Result<(), Fail> {
-    // The script is cut behind each of the first 50 calls, and then behind each tenth.
+    // The script is cut after each of the first 50 calls, and then after each tenth call.
     for calls in (0..50).chain((50..400).step_by(10)) {
         leaves_alike(&rt, rt.alloc(), 1024, &a_script(rt.alloc(), 1, calls)?)?;
         leaves_alike(&rt, rt.alloc(), 4096, &a_script(rt.alloc(), 2, calls)?)?;
@@ -60,7 +60,7 @@ fn scripts_leave_the_same_over_lists_and_in_bytes(rt: HostRuntime) -> Result<(),
     Ok(())
 }
 
-/// The sizes of partitions: 512; 1024, but at least 512; 1024; 2048, but at least 1024.
+/// The preferred and the minimum size of partitions, in bytes: 512 and 512; 1024 and 512; 1024 and 1024; 2048 and 1024.
 const SIZES: [&[u8]; 4] = [
     b"\0\0\0\0\x02\0\0\0\x02\0",
     b"\0\0\0\0\x04\0\0\0\x02\0",
@@ -68,13 +68,13 @@ const SIZES: [&[u8]; 4] = [
     b"\0\0\0\0\x08\0\0\0\x04\0",
 ];
 
-/// The bytes of memories, none of which has room for all applications.
+/// The sizes of memories, in bytes. No memory has room for all applications.
 const MEMORIES: [u32; 4] = [1024, 2048, 2560, 3072];
 
 /// The names of applications.
 const APPS: &[&[u8]] = &[b"one", b"two", b"three", b"four"];
 
-/// Something that happens to one of four applications, or to all.
+/// Returns an event of one of four applications, or an event of all of them.
 fn an_event(chance: &mut Chance) -> Event {
     let app = (chance.next() % 4) as usize;
     match chance.next() % 16 {
@@ -86,7 +86,7 @@ fn an_event(chance: &mut Chance) -> Event {
     }
 }
 
-/// Adds an application of some calls to a job.
+/// Adds an application with some calls to a job.
 fn add_one(alloc: Global, chance: &mut Chance, job: &mut Job, name: &[u8]) -> Result<(), Fail> {
     let sizes = chance.one_of(SIZES);
     let calls = 20 + chance.next() % 20;
@@ -94,7 +94,7 @@ fn add_one(alloc: Global, chance: &mut Chance, job: &mut Job, name: &[u8]) -> Re
     add(alloc, job, name, sizes, script.as_bytes())
 }
 
-/// A job of two to four applications in a memory that has not room for all of them.
+/// Returns a job of two to four applications, in a memory that does not have room for all of them.
 fn a_job(alloc: Global, chance: &mut Chance) -> Result<Job, Fail> {
     let mut job = empty_job(alloc, chance.one_of(MEMORIES), &[])?;
     for _event in 0..24 {

@@ -1,4 +1,4 @@
-//! A host that refuses memory, and one that refuses prints.
+//! A host that refuses memory, and a host that refuses to print.
 
 ghost use Rattle.std.specs.Prelude.{None};
 
@@ -8,11 +8,11 @@ use std::alloc::{AllocError, Global};
 use std::fmt::Write;
 use std::test::Fail;
 
-/// A host with one file, named `file`, and one that is too large for its memory, named `large`.
+/// A host with a file named `file`, and a file named `large`, which is too large for the host's memory.
 #[derive(Drop)]
 struct Memory<'a> {
     file: &'a [u8],
-    /// So many prints succeed.
+    /// The number of prints that still succeed.
     prints: usize,
     printed: Vec<u8>,
 }
@@ -50,7 +50,8 @@ impl<'a> Host for Memory<'a> {
     }
 }
 
-/// What a command prints where so many prints succeed, and its fault as a person is told it; empty where there is none.
+/// Returns what a command prints where `prints` prints succeed, and the text of its fault; the text is empty where
+/// there is no fault.
 fn done(
     alloc: Global,
     words: &[&str],
@@ -84,7 +85,7 @@ fn a_host_that_refuses_memory_is_told(rt: HostRuntime) -> Result<(), Fail> {
     Ok(())
 }
 
-/// A fork with references that share a datum of no bytes and a name of 255 bytes `n`.
+/// Returns a fork whose references share stored data of no bytes and a name of 255 bytes `n`.
 fn named_fork(alloc: Global, references: u8) -> Result<Vec<u8>, AllocError> {
     let header = b"\0\0\x01\0\0\0\x01\x04\0\0\0\x04\0\0\x0a\x4a";
     let mut fork = Vec::from_slice(alloc, header)?;
@@ -103,7 +104,7 @@ fn named_fork(alloc: Global, references: u8) -> Result<Vec<u8>, AllocError> {
     Ok(fork)
 }
 
-/// The listing of such a fork.
+/// Returns the listing of the fork of `named_fork`.
 fn named_listing(alloc: Global, references: u8) -> Result<String, Fail> {
     let name = "6e".repeat(alloc, 255)?;
     let mut text = format!(in alloc; "map 0 1 {references}\n")?;

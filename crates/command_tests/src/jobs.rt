@@ -1,4 +1,4 @@
-//! Jobs of tests, and what they leave.
+//! The jobs of the tests, and comparisons of what jobs leave.
 
 ghost use Rattle.std.specs.Prelude.{◌≡◌, IfOk};
 
@@ -13,7 +13,7 @@ use script_text::{Event, read_script};
 use std::alloc::{AllocError, Global};
 use std::test::Fail;
 
-/// A fork that holds the sizes of a partition, as 'SIZE' -1.
+/// Returns a fork that holds the sizes of a partition, as the resource 'SIZE' -1.
 fn sized_fork(alloc: Global, sizes: &'static [u8]) -> Result<Vec<u8>, Fail> {
     let reference = Ref {
         id: -1,
@@ -33,7 +33,7 @@ fn sized_fork(alloc: Global, sizes: &'static [u8]) -> Result<Vec<u8>, Fail> {
     Ok(write_fork(alloc, &content)?)
 }
 
-/// A name.
+/// Returns a label that holds `bytes`.
 fn name_of(bytes: &[u8]) -> Label {
     let mut name = ArrayVec::new();
     for byte in bytes {
@@ -42,7 +42,7 @@ fn name_of(bytes: &[u8]) -> Label {
     Label(name)
 }
 
-/// A job of so many bytes, without applications, and without a System file.
+/// Returns a job in a memory of `memory` bytes, without applications and without a System file.
 pub fn empty_job(alloc: Global, memory: u32, events: &[Event]) -> Result<Job, AllocError>
     ensures { IfOk result (λ job. job.memory ≡ memory) }
 {
@@ -74,7 +74,7 @@ pub fn add(
     Ok(())
 }
 
-/// Whether two applications leave the same files.
+/// Reports whether two applications leave the same files.
 fn are_same_files(some: &[File], others: &[File]) -> bool {
     for (one, other) in some.iter().zip(others) {
         if one.name != other.name || one.fork != other.fork || one.written != other.written {
@@ -84,14 +84,15 @@ fn are_same_files(some: &[File], others: &[File]) -> bool {
     some.len() == others.len()
 }
 
-/// Whether two applications that were launched leave the same.
+/// Reports whether two applications that were launched have the same size, number of steps, request for a quit,
+/// transcript and files.
 fn is_same_launched(one: &Launched, other: &Launched) -> bool {
     (one.size, one.steps, one.asked) == (other.size, other.steps, other.asked)
         && one.transcript == other.transcript
         && are_same_files(&one.files, &other.files)
 }
 
-/// Whether two applications leave the same.
+/// Reports whether two applications leave the same outcome.
 fn is_same_app(one: &AppOutcome, other: &AppOutcome) -> bool {
     match (&one.launched, &other.launched) {
         (Some(launched), Some(again)) => {
@@ -102,7 +103,7 @@ fn is_same_app(one: &AppOutcome, other: &AppOutcome) -> bool {
     }
 }
 
-/// Whether two runs leave the same.
+/// Reports whether two runs leave the same outcome.
 fn is_same_outcome(one: &Outcome, other: &Outcome) -> bool {
     for (app, again) in one.apps.iter().zip(&other.apps) {
         if !is_same_app(app, again) {
@@ -112,7 +113,7 @@ fn is_same_outcome(one: &Outcome, other: &Outcome) -> bool {
     one.apps.len() == other.apps.len() && one.desk == other.desk
 }
 
-/// Whether two runs have an outcome, and leave the same.
+/// Reports whether two runs both have an outcome, and leave the same outcome.
 fn is_same_end(one: &Result<Outcome, RunFault>, other: &Result<Outcome, RunFault>) -> bool {
     match (one, other) {
         (Ok(outcome), Ok(again)) => is_same_outcome(outcome, again),
@@ -120,7 +121,7 @@ fn is_same_end(one: &Result<Outcome, RunFault>, other: &Result<Outcome, RunFault
     }
 }
 
-/// Whether a job leaves the same over lists and in the bytes of a region.
+/// Reports whether a job leaves the same outcome over lists and in the bytes of a region.
 pub fn is_run_alike(alloc: Global, job: &Job) -> Result<bool, Fail> {
     let memory = job.memory;
     if memory % 16 != 0 || memory < 512 || 134_217_728 < memory || 64 < job.apps.len() {

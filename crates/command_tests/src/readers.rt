@@ -1,10 +1,10 @@
-//! Inputs that fail, and one that never ends.
+//! Inputs that fail, and an input that never ends.
 
 use commands::{ReadError, read_all};
 use std::io::{self, Error, ErrorKind, Read};
 use std::test::Fail;
 
-/// A reader that gives some bytes, and then fails.
+/// A reader that returns some bytes, and then fails.
 #[derive(Drop)]
 struct Failing<'a> {
     bytes: &'a [u8],
@@ -26,7 +26,7 @@ fn an_input_that_fails_is_told(rt: HostRuntime) -> Result<(), Fail> {
         (ErrorKind::Other, 100, ReadError::CannotRead),
         (ErrorKind::UnexpectedEof, 100, ReadError::CannotRead),
         (ErrorKind::OutOfMemory, 100, ReadError::HostMemory),
-        // There is no such room.
+        // No host has that much memory.
         (ErrorKind::Other, usize::MAX, ReadError::HostMemory),
     ];
     for (kind, room, want) in CASES {

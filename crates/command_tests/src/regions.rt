@@ -1,4 +1,4 @@
-//! What a script and a job leave in the region in which they run.
+//! The bytes that a script and a job leave in the region in which they run.
 
 use crate::jobs::{add, empty_job};
 use crate::zones::{image_of, read_zone, used_region};
@@ -8,7 +8,7 @@ use std::alloc::Global;
 use std::process::Abort;
 use std::test::Fail;
 
-/// These bytes lie at these places.
+/// Asserts that these bytes stand at these places.
 fn lies_there(rt: &impl Abort, image: &[u8], laid: &[(usize, &[u8])]) -> Result<(), Fail> {
     for (place, wanted) in laid {
         let end = place.wrapping_add(wanted.len());
@@ -44,13 +44,14 @@ fn a_script_leaves_its_zone_in_the_region(rt: HostRuntime) -> Result<(), Fail> {
     Ok(())
 }
 
-/// 512 and 512 bytes.
+/// The sizes of the smallest partition: 512 and 512 bytes.
 const LEAST: &[u8] = b"\0\0\0\0\x02\0\0\0\x02\0";
 
-/// An application with one block.
+/// The script of an application with one block.
 const ONE: &[u8] = b"NewHandle a 3\nPut a 0 \"abc\"\nWaitNextEvent\n";
 
-/// One with a pointer's block and a locked one, an emptied handle and an emptied resource.
+/// The script of an application with a nonrelocatable block, a locked block, an empty handle, and an empty handle of a
+/// resource.
 const TWO: &[u8] = b"NewPtr p 4
 PutPtr p 0 \"Hi\"
 NewHandle b 16
@@ -63,7 +64,7 @@ EmptyHandle d
 WaitNextEvent
 ";
 
-/// A job of both, which run still behind its last event.
+/// Returns a job of both applications, which still run after its last event.
 fn two_apps(alloc: Global) -> Result<Job, Fail> {
     const EVENTS: &[Event] = &[
         Event::Launch(0),
@@ -79,7 +80,7 @@ fn two_apps(alloc: Global) -> Result<Job, Fail> {
 
 #[test]
 fn applications_that_run_have_their_zones_in_the_region(rt: HostRuntime) -> Result<(), Fail> {
-    // In the first partition, in the second, and behind both.
+    // The pieces stand in the first partition, in the second partition, and past both.
     const LAID: &[(usize, &[u8])] = &[
         (0, b"\0\0\x01\x12\0\0\x01\0\0\0\0\0\0\0\0\0"),
         (16, b"\0\0\x01\x10\0\0\x01\x81\0\0\x01\xc1"),

@@ -1,5 +1,5 @@
-//! Regions that were used before, and a reader of a zone's bytes, which knows headers and master pointers, and nothing of
-//! any store.
+//! Regions that were used before, and a reader of a zone's bytes, which depends on headers and master pointers alone
+//! and on no store.
 
 ghost use Rattle.std.specs.Prelude.{◌≡◌, ◌%◌, ◌≤◌, [], IfOk, length};
 
@@ -8,7 +8,7 @@ use std::alloc::{AllocError, Global};
 use std::process::Abort;
 use std::test::Fail;
 
-/// A region of so many bytes, none of which is 0.
+/// Returns a region of `len` bytes, none of which is 0.
 pub fn used_region(alloc: Global, len: u32) -> Result<Region, AllocError>
     requires even { len % 16 ≡ 0 }
     requires low { 16 ≤ len }
@@ -23,7 +23,7 @@ pub fn used_region(alloc: Global, len: u32) -> Result<Region, AllocError>
     Ok(region)
 }
 
-/// The bytes of a region, which is closed.
+/// Returns the bytes of a region, and closes the region.
 pub fn image_of(alloc: Global, mut region: Region) -> Result<Vec<u8>, AllocError>
     requires home { region.out ≡ [] }
     requires even { length region.bytes % 16 ≡ 0 }
@@ -37,7 +37,8 @@ pub fn image_of(alloc: Global, mut region: Region) -> Result<Vec<u8>, AllocError
     image
 }
 
-/// What stands in a header: the bytes of its block and its kind, and the place of its master pointer.
+/// The content of a header: the size of its block in bytes, the kind of the block, and the place of the block's master
+/// pointer.
 #[derive(Clone, Copy)]
 struct BlockHeader {
     size: u32,
@@ -45,7 +46,7 @@ struct BlockHeader {
     slot: u32,
 }
 
-/// The word at a place, highest byte first.
+/// Returns the word at a place, most significant byte first.
 fn word(image: &[u8], at: u32) -> Result<u32, Fail> {
     match image.get(at as usize..at.wrapping_add(4) as usize) {
         Some([a, b, c, d]) => Ok(u32::from_be_bytes([*a, *b, *c, *d])),
@@ -53,7 +54,7 @@ fn word(image: &[u8], at: u32) -> Result<u32, Fail> {
     }
 }
 
-/// The header at a place.
+/// Returns the header at a place.
 fn header_at(image: &[u8], at: u32) -> Result<BlockHeader, Fail> {
     let first = word(image, at)?;
     Ok(BlockHeader {
@@ -63,7 +64,8 @@ fn header_at(image: &[u8], at: u32) -> Result<BlockHeader, Fail> {
     })
 }
 
-/// Reads the master pointers of the block at a place: each leads to a block that names it, or is emptied, or unused.
+/// Reads the master pointers of the block at a place, and asserts that each leads to a block whose header names the
+/// master pointer, or belongs to an empty handle, or is unused.
 fn read_masters(rt: &impl Abort, image: &[u8], at: u32) -> Result<(), Fail> {
     for i in 0..64 {
         let slot = at.wrapping_add(16).wrapping_add(4_u32.wrapping_mul(i));
@@ -78,7 +80,7 @@ fn read_masters(rt: &impl Abort, image: &[u8], at: u32) -> Result<(), Fail> {
     Ok(())
 }
 
-/// Reads a block that was reached: one that is Free stands behind none that is.
+/// Reads the block at a place, and asserts that a free block does not follow a free block.
 fn read_block(rt: &impl Abort, image: &[u8], at: u32, behind_free: bool) -> Result<(), Fail> {
     let here = header_at(image, at)?;
     match here.kind {
@@ -91,8 +93,8 @@ fn read_block(rt: &impl Abort, image: &[u8], at: u32, behind_free: bool) -> Resu
     Ok(())
 }
 
-/// Reads a zone's bytes from the bottom to the top: headers tile them, and master pointers and blocks name each other.
-/// Gives the Free bytes.
+/// Reads the bytes of a zone from the bottom to the top, asserts that the headers tile the zone and that master
+/// pointers and blocks name each other, and returns the number of free bytes.
 pub fn read_zone(rt: &impl Abort, image: &[u8]) -> Result<u32, Fail> {
     let mut free: u32 = 0;
     let mut at: u32 = 0;

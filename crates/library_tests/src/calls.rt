@@ -1,4 +1,4 @@
-//! A heap over a list of blocks, driven by rows of a call and what it is to tell.
+//! A heap over a list of blocks, on which rows of a call and its expected result are run.
 
 use block_store::ListStore;
 use heap_calls::{Heap, Refusal};
@@ -6,10 +6,10 @@ use mac_words::OsErr;
 use std::alloc::{AllocError, Global};
 use std::process::Abort;
 
-/// What a name is bound to: the number of a handle or a pointer, if any.
+/// The number of the handle or pointer to which a name is bound, or `None` for an unbound name.
 pub type Name = Option<usize>;
 
-/// A call of the Memory Manager, or of those that use its handles.
+/// A call of the Memory Manager, or a method of the heap that the layers above use.
 #[derive(Clone, Copy)]
 pub enum Call {
     NewHandle(u32),
@@ -27,22 +27,22 @@ pub enum Call {
     MaxMem,
     SetBusy(usize, bool),
     IsBusy(usize),
-    /// A handle becomes that of a System resource.
+    /// Makes a handle the handle of a System resource.
     Guard(usize),
     Ask(Question),
 }
 
-/// What is asked of a heap.
+/// A question about a heap.
 #[derive(Clone, Copy)]
 pub enum Question {
-    /// How often room was looked for.
+    /// The number of searches for room.
     Searches,
-    /// How many blocks were moved.
+    /// The number of blocks that were moved.
     Moves,
     ToBeHad,
 }
 
-/// What it came to.
+/// The result of a call.
 #[derive(Clone, Copy, Debug, PartialEq, Eq)]
 pub enum Told {
     Done,
@@ -53,22 +53,22 @@ pub enum Told {
     HostMemory,
 }
 
-/// What a call on a name that nothing is bound to answers, and one on an emptied handle.
+/// The result of a call on an unbound name, or on an empty handle: -109 (nilHandleErr).
 pub const NIL: Told = Told::Refused(OsErr::NIL_HANDLE);
 
-/// What a call on a name that isn't there, or of the other kind, answers.
+/// The result of a call on a name that is not found, or is of the other kind: -111 (memWZErr).
 pub const WRONG: Told = Told::Refused(OsErr::WRONG_ZONE);
 
-/// What a call answers that finds no room.
+/// The result of a call that finds no room: -108 (memFullErr).
 pub const FULL: Told = Told::Refused(OsErr::MEM_FULL);
 
-/// What a call answers that a role bars.
+/// The result of a call that a handle's role bars: -30001 (profileErr).
 pub const BARRED: Told = Told::Refused(OsErr::PROFILE);
 
-/// What a call on a busy name answers.
+/// The result of a call on a busy name: -117 (memLockedErr).
 pub const BUSY: Told = Told::Refused(OsErr::LOCKED);
 
-/// The first three numbers.
+/// The names that are bound to the first three numbers.
 pub const A: Name = Some(0);
 
 pub const B: Name = Some(1);
@@ -116,7 +116,7 @@ fn guard(heap: &mut Heap<ListStore>, number: usize) {
     heap.set_guard(number, true);
 }
 
-/// Makes a call.
+/// Makes a call, and returns its result.
 fn tell(heap: &mut Heap<ListStore>, call: Call) -> Told {
     match call {
         Call::NewHandle(size) => made(heap.new_handle(size)),
@@ -145,13 +145,13 @@ fn tell(heap: &mut Heap<ListStore>, call: Call) -> Told {
     }
 }
 
-/// A heap over a zone of 1024 bytes.
+/// Returns a heap over a zone of 1024 bytes.
 fn heap_of(alloc: Global) -> Result<Heap<ListStore>, AllocError> {
     Ok(Heap::new(alloc, ListStore::new(alloc, 1024)?))
 }
 
-/// Makes calls one after another in a zone of 1024 bytes, each of which is to tell this. A call that the host refused
-/// memory may be made once more.
+/// Makes calls one after another in a zone of 1024 bytes, and asserts that each has its expected result. Where `again`
+/// is set, a call for which the host was out of memory is made once more.
 pub fn tells(
     rt: &impl Abort,
     alloc: Global,

@@ -1,4 +1,4 @@
-//! Forks that are cut short or damaged, and forks of many types.
+//! Forks that are truncated or damaged, and forks of many types.
 
 ghost use Rattle.std.specs.Prelude.{◌<◌};
 
@@ -8,10 +8,11 @@ use std::alloc::{AllocError, Global};
 use std::process::Abort;
 use std::test::Fail;
 
-/// The bytes between a header and the data.
+/// The bytes between a header and the data of a fork.
 const AREA: &[u8] = &[0; 240];
 
-/// A fork without resources: its header, its data, which are none, the header once more, and the rest of its map.
+/// A fork without resources: its header, its data area, which has no bytes, the copy of the header, and the rest of the
+/// resource map.
 const EMPTY: &[&[u8]] = &[
     b"\0\0\x01\0\0\0\x01\0\0\0\0\0\0\0\0\x1e",
     AREA,
@@ -19,7 +20,7 @@ const EMPTY: &[&[u8]] = &[
     b"\0\0\0\0\0\0\0\0\0\x1c\0\x1e\xff\xff",
 ];
 
-/// A fork with 'TEXT' 128, `Hi`.
+/// A fork with the resource 'TEXT' 128, whose data is `Hi`.
 const HI: &[&[u8]] = &[
     b"\0\0\x01\0\0\0\x01\x06\0\0\0\x06\0\0\0\x32",
     AREA,
@@ -28,7 +29,7 @@ const HI: &[&[u8]] = &[
     b"\0\0\0\0\0\0\0\0\0\x1c\0\x32\0\0TEXT\0\0\0\x0a\0\x80\xff\xff\0\0\0\0\0\0\0\0",
 ];
 
-/// A fork with 'TEXT' 129, `Hi!`, named Note.
+/// A fork with the resource 'TEXT' 129, whose data is `Hi!` and whose name is `Note`.
 pub const NOTE: &[&[u8]] = &[
     b"\0\0\x01\0\0\0\x01\x07\0\0\0\x07\0\0\0\x37",
     AREA,
@@ -39,7 +40,7 @@ pub const NOTE: &[&[u8]] = &[
 
 const FORKS: &[&[&[u8]]] = &[EMPTY, HI, NOTE];
 
-/// The bytes of these pieces.
+/// Returns the bytes of these pieces, one after another.
 pub fn joined(alloc: Global, pieces: &[&[u8]]) -> Result<Vec<u8>, AllocError> {
     let mut bytes = Vec::new(alloc);
     for piece in pieces {
@@ -48,7 +49,7 @@ pub fn joined(alloc: Global, pieces: &[&[u8]]) -> Result<Vec<u8>, AllocError> {
     Ok(bytes)
 }
 
-/// Each prefix of a fork is refused.
+/// Asserts that each prefix of a fork is refused.
 fn refuses_prefixes(rt: &impl Abort, alloc: Global, fork: &[u8]) {
     for len in 0..fork.len() {
         let fault = if len == 0 {
@@ -71,13 +72,13 @@ fn each_prefix_is_refused(rt: HostRuntime) -> Result<(), Fail> {
     Ok(())
 }
 
-/// A fork that is read, as it is written again.
+/// Reads a fork, and returns the fork that is written of its content.
 fn rewritten(alloc: Global, fork: &[u8]) -> Result<Vec<u8>, Fail> {
     let content = read_fork(alloc, fork)?;
     Ok(write_fork(alloc, &content)?)
 }
 
-/// Bytes are refused, or written again as a fork that is read to the same.
+/// Asserts that bytes are refused, or are written again as a fork that is read as the same content.
 fn is_refused_or_rewritten(rt: &impl Abort, alloc: Global, bytes: &[u8]) -> Result<(), Fail> {
     match read_fork(alloc, bytes) {
         Ok(content) => {
@@ -89,7 +90,7 @@ fn is_refused_or_rewritten(rt: &impl Abort, alloc: Global, bytes: &[u8]) -> Resu
     Ok(())
 }
 
-/// Bytes with another one in the place of one of them.
+/// Returns the bytes with `byte` in the place `at`.
 fn changed(alloc: Global, bytes: &[u8], at: usize, byte: u8) -> Result<Vec<u8>, AllocError> {
     let mut all = Vec::from_slice(alloc, bytes)?;
     if let Some(place) = all.get_mut(at) {
@@ -98,7 +99,7 @@ fn changed(alloc: Global, bytes: &[u8], at: usize, byte: u8) -> Result<Vec<u8>, 
     Ok(all)
 }
 
-/// A fork is refused or written again, whichever of its bytes is changed.
+/// Asserts that a fork is refused or written again, whichever of its bytes is changed.
 fn is_changed_anywhere(rt: &impl Abort, alloc: Global, fork: &[u8]) -> Result<(), Fail> {
     for at in 0..fork.len() {
         for byte in [0, 1, 127, 128, 255] {
@@ -116,7 +117,8 @@ fn each_changed_byte_is_refused_or_rewritten(rt: HostRuntime) -> Result<(), Fail
     Ok(())
 }
 
-/// A fork with 65,535 entries of types, which share one reference. The number of an entry, modulo `kinds`, is its type.
+/// Returns a fork whose type list has 65,535 entries, which share one reference. The type of an entry is its number
+/// modulo `kinds`.
 fn fork_of_types(alloc: Global, kinds: u32) -> Result<Vec<u8>, AllocError>
     requires { 0 < kinds }
 {
@@ -131,7 +133,7 @@ fn fork_of_types(alloc: Global, kinds: u32) -> Result<Vec<u8>, AllocError>
     Ok(fork)
 }
 
-/// Whether the types are 0, 1, 2 and so on.
+/// Reports whether the types are 0, 1, 2 and so on.
 fn are_in_order(groups: &[Group<'_>]) -> bool {
     for (number, group) in (0..u32::MAX).zip(groups) {
         if group.ty != OsType(number.to_be_bytes()) {
@@ -141,7 +143,7 @@ fn are_in_order(groups: &[Group<'_>]) -> bool {
     true
 }
 
-/// How many types such a fork is read to, and whether they are in order.
+/// Returns the number of types that are read from a fork of `fork_of_types`, and whether the types are in order.
 fn types_read(alloc: Global, kinds: u32) -> Result<(usize, bool), Fail>
     requires { 0 < kinds }
 {

@@ -19,20 +19,20 @@ fn looks_for_room_are_counted(rt: HostRuntime) -> Result<(), Fail> {
         (SEARCHES, Told::Number(2)),
         (Call::HPurge(A), Told::Done),
         (SEARCHES, Told::Number(2)),
-        // No room, and then with a emptied.
+        // The zone has no room, and then has room with A purged.
         (Call::NewHandle(200), Told::Made(2)),
         (SEARCHES, Told::Number(4)),
-        // No room, and nothing left to empty.
+        // The zone has no room, and no block to purge.
         (Call::NewHandle(737), FULL),
         (SEARCHES, Told::Number(5)),
-        // A size that no block can have, and a block that is cut, take no look.
+        // A size that no block can have, and a block that becomes shorter, need no search.
         (Call::NewHandle(2147483647), FULL),
         (Call::SetHandleSize(B, 100), Told::Done),
         (SEARCHES, Told::Number(5)),
-        // A Free block stands already.
+        // A free block is large enough already.
         (Call::CompactMem(16), Told::Number(288)),
         (SEARCHES, Told::Number(6)),
-        // All runs are settled: there is one with blocks.
+        // All runs are compacted; the largest is one that has blocks.
         (Call::CompactMem(5000), Told::Number(384)),
         (SEARCHES, Told::Number(8)),
     ];
@@ -86,10 +86,10 @@ fn what_is_not_there_goes_before_what_is_busy(rt: HostRuntime) -> Result<(), Fai
         (Call::SetBusy(0, true), Told::Done),
         (Call::SetBusy(1, true), Told::Done),
         (Call::SetBusy(2, true), Told::Done),
-        // Unbound, and a pointer where a handle is wanted.
+        // The name is unbound, and the name is bound to a pointer where a handle is wanted.
         (Call::GetHandleSize(None), NIL),
         (Call::GetHandleSize(C), WRONG),
-        // Emptied, and locked: busy goes first.
+        // B is an empty handle and A is locked, but the error of a busy handle comes first.
         (Call::GetHandleSize(B), BUSY),
         (Call::EmptyHandle(A), BUSY),
         (Call::DisposeHandle(A), BUSY),
@@ -97,7 +97,7 @@ fn what_is_not_there_goes_before_what_is_busy(rt: HostRuntime) -> Result<(), Fai
         (Call::SetBusy(1, false), Told::Done),
         (Call::GetHandleSize(B), NIL),
         (Call::EmptyHandle(A), Told::Refused(OsErr::PURGED)),
-        // Disposed of.
+        // A handle that was disposed of is not found, whether its number is busy or not.
         (Call::DisposeHandle(A), Told::Done),
         (Call::SetBusy(0, true), Told::Done),
         (Call::GetHandleSize(A), WRONG),
@@ -118,7 +118,7 @@ fn the_second_handle_is_asked_for_where_the_first_has_a_block(rt: HostRuntime) -
         (Call::SetBusy(1, false), Told::Done),
         (Call::HandAndHand(A, B), Told::Done),
         (Call::GetHandleSize(B), Told::Number(20)),
-        // The first is emptied: the second may be what it likes.
+        // The first handle is empty, and the second is not examined.
         (Call::EmptyHandle(A), Told::Done),
         (Call::SetBusy(1, true), Told::Done),
         (Call::HandAndHand(A, B), NIL),
@@ -138,7 +138,7 @@ fn a_guard_goes_after_busy_and_before_emptied(rt: HostRuntime) -> Result<(), Fai
         (Call::SetHandleSize(A, 4), BARRED),
         (Call::EmptyHandle(A), Told::Done),
         (Call::SetHandleSize(A, 4), BARRED),
-        // The second handle is asked for where the first has a block.
+        // The second handle is examined only where the first has a block.
         (Call::HandAndHand(B, A), NIL),
     ];
     Ok(tells(&rt, rt.alloc(), ROWS, false)?)
@@ -159,7 +159,7 @@ fn three_numbers_are_busy_at_most(rt: HostRuntime) -> Result<(), Fail> {
         (Call::IsBusy(2), Told::Is(true)),
         (Call::IsBusy(3), Told::Is(true)),
         (Call::IsBusy(4), Told::Is(false)),
-        // The place of one that is idle again is taken.
+        // A number that is idle again makes room for another.
         (Call::SetBusy(2, false), Told::Done),
         (Call::SetBusy(4, true), Told::Done),
         (Call::IsBusy(1), Told::Is(true)),
@@ -169,12 +169,12 @@ fn three_numbers_are_busy_at_most(rt: HostRuntime) -> Result<(), Fail> {
     Ok(tells(&rt, rt.alloc(), ROWS, false)?)
 }
 
-/// Run with each allocation refused in turn.
+/// This test is run with each allocation refused in turn.
 #[test]
 fn a_call_that_was_refused_memory_is_made_again(rt: HostRuntime) {
     const ROWS: &[(Call, Told)] = &[
         (Call::NewHandle(4), Told::Made(0)),
-        // It grows where it stands, is cut, moves behind the next block, and is cut again.
+        // The block grows in place, becomes shorter, moves past the next block, and becomes shorter again.
         (Call::SetHandleSize(A, 40), Told::Done),
         (Call::SetHandleSize(A, 4), Told::Done),
         (Call::NewHandle(20), Told::Made(1)),
@@ -183,7 +183,7 @@ fn a_call_that_was_refused_memory_is_made_again(rt: HostRuntime) {
         (TO_BE_HAD, Told::Number(672)),
         (Call::HandAndHand(B, A), Told::Done),
         (Call::GetHandleSize(A), Told::Number(24)),
-        // The run is packed upward for a pointer.
+        // The run is packed upward to make room for a pointer.
         (Call::NewPointer(100), Told::Made(2)),
         (Call::NewEmptyHandle, Told::Made(3)),
         (Call::GetHandleSize(B), Told::Number(20)),

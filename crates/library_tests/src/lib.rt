@@ -1,4 +1,4 @@
-//! Tests of heaps, of resource forks, and of the maps of open files.
+//! Tests of heaps, of resource forks, and of the resource maps of open files.
 #![tactic(auto)]
 
 #[cfg(test)]

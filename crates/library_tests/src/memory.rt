@@ -1,4 +1,4 @@
-//! Want of memory is told, by a fork and by the map of an open file.
+//! A fork, and the resource map of an open file, report that the host is out of memory.
 
 ghost use Rattle.std.specs.Prelude.{◌≡◌, ◌≤◌, length};
 
@@ -10,7 +10,7 @@ use res_map::ResFile;
 use std::alloc::{AllocError, Global};
 use std::process::Abort;
 
-/// Run with each allocation refused in turn.
+/// This test is run with each allocation refused in turn.
 #[test]
 fn a_fork_tells_a_want_of_memory(rt: HostRuntime) {
     let alloc = rt.alloc();
@@ -26,7 +26,7 @@ fn a_fork_tells_a_want_of_memory(rt: HostRuntime) {
     }
 }
 
-/// The map of a file with one text.
+/// Returns the resource map of a file that has one 'TEXT' resource.
 fn opened(rt: &impl Abort, alloc: Global) -> Result<ResFile, AllocError> {
     let bytes = joined(alloc, NOTE)?;
     let Ok(content) = read_fork(alloc, &bytes) else {
@@ -36,7 +36,7 @@ fn opened(rt: &impl Abort, alloc: Global) -> Result<ResFile, AllocError> {
     ResFile::open(alloc, &content)
 }
 
-/// How many types its fork would have.
+/// Returns the number of types in the fork that an update of the resource map would write.
 fn stored(rt: &impl Abort, alloc: Global, file: &ResFile) -> Result<usize, AllocError> {
     let mut fresh = Vec::new(alloc);
     for _ in 0..file.len() {
@@ -46,7 +46,7 @@ fn stored(rt: &impl Abort, alloc: Global, file: &ResFile) -> Result<usize, Alloc
     Ok(file.content(alloc, &fresh)?.groups.len())
 }
 
-/// Run with each allocation refused in turn.
+/// This test is run with each allocation refused in turn.
 #[test]
 fn a_map_tells_a_want_of_memory(rt: HostRuntime) {
     let alloc = rt.alloc();

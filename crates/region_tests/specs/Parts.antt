@@ -1,4 +1,4 @@
--- Three parts that fill a region.
+-- Three parts fill a region of 48 bytes.
 use Rattle.std.specs.Prelude.{◌≡◌, [], ◌∷◌, length}
 use Rattle.windows.specs.Windows.{window}
 use Rattle.raw_region.specs.Memory.{Bytes, Whole}

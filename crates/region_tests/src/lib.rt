@@ -1,4 +1,4 @@
-//! Tests of the raw region, through what is public.
+//! Tests of the raw region, through its public functions.
 #![tactic(auto)]
 
 #[cfg(test)]

@@ -9,7 +9,7 @@ use raw_region::{Part, Region};
 use std::alloc::{AllocError, Global};
 use std::test::Fail;
 
-/// Three parts, each filled with its own byte.
+/// Returns a region of 48 bytes and three parts cut from the region, each filled with a byte of its own.
 fn three(alloc: Global) -> Result<(Region, Part, Part, Part), AllocError>
     ensures { IfOk result (λ t. AreThree t.0 t.1 t.2 t.3) }
 {
@@ -23,7 +23,7 @@ fn three(alloc: Global) -> Result<(Region, Part, Part, Part), AllocError>
     Ok((region, a, b, c))
 }
 
-/// The three bytes, at the end of each part.
+/// Returns the last byte of each third of the region, and closes the region.
 fn ends(mut region: Region) -> [u8; 3]
     requires none_out { region.out ≡ [] }
     requires size { length region.bytes ≡ 48 }
@@ -36,7 +36,7 @@ fn ends(mut region: Region) -> [u8; 3]
     ends
 }
 
-/// The three bytes, once the parts are joined in this order.
+/// Returns the last byte of each third of the region, after the parts are joined in this order.
 fn joined(mut region: Region, first: Part, second: Part, third: Part) -> [u8; 3]
     requires size { length region.bytes ≡ 48 }
     requires homes { (first.home ≡ region.home) × (second.home ≡ region.home) × (third.home ≡ region.home) }
@@ -54,7 +54,8 @@ fn joined(mut region: Region, first: Part, second: Part, third: Part) -> [u8; 3]
     ends(region)
 }
 
-/// The three bytes, once the parts are joined in the order of these letters.
+/// Returns the last byte of each third of the region, after the parts are joined in the order of the letters in
+/// `order`.
 fn joined_in(alloc: Global, order: &str) -> Result<[u8; 3], AllocError> {
     let (region, a, b, c) = three(alloc)?;
     Ok(match order {
@@ -76,8 +77,8 @@ fn parts_come_home_in_any_order(rt: HostRuntime) -> Result<(), Fail> {
     Ok(())
 }
 
-/// The words at 0, 16 and 32 of a region of 48 bytes, which are first of bytes 1, 2 and 3; the 32 bytes from one place on
-/// then slide to another.
+/// Returns the words at 0, 16 and 32 of a region of 48 bytes. The words are first written with the bytes 1, 2 and 3;
+/// then the 32 bytes at `from` slide to `to`.
 fn slid(alloc: Global, from: usize, to: usize) -> Result<[[u8; 4]; 3], AllocError>
     requires from { from ≤ 16 }
     requires to { to ≤ 16 }

@@ -9,7 +9,7 @@ use raw_region::Region;
 use std::alloc::{AllocError, Global};
 use std::test::Fail;
 
-/// What is read where a header was just written, and the words that stand there.
+/// Returns the header that is read after `header` is written, and the four words that the header takes.
 fn header_in(alloc: Global, header: Header) -> Result<(Header, [[u8; 4]; 4]), AllocError>
     requires size { header.size % UNIT ≡ 0 }
     requires small_size { header.size + 4 ≤ 2 ^ 32 }
@@ -53,7 +53,7 @@ fn headers_are_read_again(rt: HostRuntime) -> Result<(), Fail> {
     Ok(())
 }
 
-/// What is read where a slot was just written, and the word that stands there.
+/// Returns the slot that is read after `slot` is written, and the word that stands there.
 fn slot_in(alloc: Global, slot: SlotWord) -> Result<(SlotWord, [u8; 4]), AllocError>
     requires slot { IsSlot slot }
     requires small { slot_number slot < 2 ^ 32 }

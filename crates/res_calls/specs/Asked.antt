@@ -7,7 +7,8 @@ use Rattle.res_calls.specs.Rows as rows
 use Rattle.res_calls.specs.Rows.{noting}
 use Rattle.res_calls.specs.Changing as changing
 
--- a call of the Resource Manager's table, with the number that each of its names is bound to, if it is bound
+-- A call of the table of the Resource Manager, with the number that each name of the call is bound to, or None for an
+-- unbound name.
 pub data ResourceAsked : Type 0 where
   OpenResFile : (name : List ℕ) → ResourceAsked
   CreateResFile : (name : List ℕ) → ResourceAsked
@@ -39,25 +40,26 @@ pub data ResourceAsked : Type 0 where
   SetResLoad : (on : Bool) → ResourceAsked
   ResError : ResourceAsked
 
--- what a call came to: what it tells, what it read, the emptied handle that it reads again, and the managers after it
+-- The outcome of a call: what the call returns, what it read, the empty handle that it reads again, and the managers
+-- after it.
 pub record Served : Type 0 where
   pub told : Told
   pub reads : Reads
   pub reading : Option ℕ
   pub after : Managers
 
--- an answer as it is told
+-- The outcome of a call that answers `a`, where `tell` makes the reply of the value.
 abbrev pub telling : {T : Type 0} → (T → Told) → Answer T → Served
 telling tell a = record { told = told_as tell a.reply; reads = a.reads; reading = a.reading; after = a.after }
 
--- how a fetched handle, and a resource's ID, type and name, are told
+-- The replies of a fetched handle, and of a resource's ID, type and name.
 abbrev pub tell_fetched : Fetched → Told
 tell_fetched f = tells.Fetched f.handle f.read
 
 abbrev pub tell_info : rows.Info → Told
 tell_info i = tells.Info i.id i.kind i.name
 
--- one try of a call
+-- The outcome of one try of a call.
 abbrev pub served : ResourceAsked → Managers → Served
 served (OpenResFile name) s = telling Number (noting (rows.open_res_file name) s)
 served (CreateResFile name) s = telling (λ _. Done) (noting (changing.create_res_file name) s)
@@ -89,7 +91,7 @@ served (GetResourceSizeOnDisk handle) s = telling Number (noting (rows.get_resou
 served (SetResLoad on) s = telling (λ _. Done) (noting (rows.set_res_load on) s)
 served ResError s = record { told = Code s.resources.error; reads = []; reading = None; after = s }
 
--- the handle that a call names; a name that it binds is none of them
+-- The number of the handle that a call names as an argument. A name that the call binds is not an argument.
 abbrev pub named : ResourceAsked → Option ℕ
 named (HomeResFile handle) = handle
 named (LoadResource handle) = handle

@@ -16,29 +16,31 @@ use Rattle.res_calls.specs.Fetch.{Managers, Answer, done, refused, is_system}
 use Rattle.res_calls.specs.Update.{bytes_held, written}
 use Rattle.res_calls.specs.Rows.{on_resource, on_file, resource_of, with_resources}
 
--- The calls of the Resource Manager that change resources. More Macintosh Toolbox, chapter 1,
--- "Creating and Opening Resource Files", "Manipulating Resources" and "Writing Resources".
+-- The calls of the Resource Manager that change resources. More Macintosh Toolbox, chapter 1, "Creating and Opening
+-- Resource Files", "Manipulating Resources" and "Writing Resources".
 
--- the most files that an application has
+-- The greatest number of files that an application may have.
 abbrev pub most_files : ℕ
 most_files = 256
 
--- the content of a new fork, and the fork
+-- The content of a new fork, which has no resources, and the bytes of the new fork.
 abbrev pub no_content : Content
 no_content = record { area = replicate 240 0; attrs = 0; groups = [] }
 
 abbrev pub new_fork : List ℕ
 new_fork = canon no_content
 
--- a file that is made
+-- A file that CreateResFile makes.
 abbrev pub new_file : List ℕ → File
 new_file name = record { name = name; fork = new_fork; written = true }
 
--- the managers with other files
+-- The managers with the given files.
 abbrev pub with_files : List File → Managers → Managers
 with_files files s = with_resources (record s.resources { files = files }) s
 
--- CreateResFile: a file with a fork of no bytes gets a new one in its place
+-- CreateResFile: makes a file after the others, where no file has the name; -34 (dskFulErr) where there are 256 files.
+-- A file of the name whose fork has no bytes gets a new fork in place; -48 (dupFNErr) where the fork has a byte or
+-- more.
 abbrev pub create_named : List ℕ → Option (Split File) → Managers → Answer (Unit {0})
 create_named name None s =
     if nat_le most_files (length s.resources.files) then refused DISK_FULL s
@@ -50,13 +52,14 @@ create_named name (Some at) s =
 abbrev pub create_res_file : List ℕ → Managers → Answer (Unit {0})
 create_res_file name s = create_named name (file_named name s.resources) s
 
--- the resources where an open file is touched and has these references
+-- The resources where the given open file is touched and has the given references.
 abbrev pub touched : Split OpenFile → List Reference → Resources → Resources
 touched at references r = record r {
   chain = replaced (record at.here { map = record at.here.map { references = references }; touched = true }) at;
 }
 
--- what a call answers on a handle, of whatever role and emptied or not
+-- The answer of a call whose argument must be a handle, of any role, empty or not; -192 (resNotFound) where the
+-- argument is not a handle.
 abbrev pub on_known : {T : Type 0} → Result Known OsErr → Managers → (Known → Answer T) → Answer T
 on_known (Err code) s answer = refused RES_NOT_FOUND s
 on_known (Ok k) s answer = answer k
@@ -64,14 +67,16 @@ on_known (Ok k) s answer = answer k
 abbrev pub on_handle : {T : Type 0} → Option ℕ → Managers → (Known → Answer T) → Answer T
 on_handle handle s answer = on_known (handle_at handle s.memory.heap) s answer
 
--- a handle is a resource's of an open file from now on
+-- The managers after the reference `new` is added to an open file, and the handle `h` has become a resource's.
 abbrev pub added_to : Split OpenFile → Reference → ℕ → Managers → Managers
 added_to at new h s = record {
   memory = inside (cast (owned_as true) h) s.memory;
   resources = touched at (added new at.here.map.references) s.resources;
 }
 
--- AddResource: to the current file
+-- AddResource: adds a reference to the current file. -192 (resNotFound) where the argument is not a handle; -194
+-- (addResFailed) where the handle is a resource's already or is empty; -61 (wrPermErr) where the current file is the
+-- System file.
 abbrev pub add_resource : Option ℕ → ℕ → ℤ → List ℕ → Managers → Answer (Unit {0})
 add_resource handle kind id text s = on_handle handle s (λ k.
     if is_resource k.role || not (has_block k.number s.memory.heap) then refused ADD_RES_FAILED s
@@ -79,19 +84,20 @@ add_resource handle kind id text s = on_handle handle s (λ k.
     else on_file s.resources.current s (λ at.
     done tt (added_to at (new_reference kind id text k.number) k.number s)))
 
--- what a call answers on a resource's handle, and how it refuses other handles
+-- The answer of a call on the resource of a handle; -196 (rmvResFailed) where the handle is not a resource's.
 abbrev pub on_removable : {T : Type 0} → Option Found → Managers → (Found → Answer T) → Answer T
 on_removable None s answer = refused REMOVE_RES_FAILED s
 on_removable (Some at) s answer = answer at
 
--- a resource is removed, and its handle is the application's own
+-- The managers after a reference is removed, and the handle `h` has become the application's own.
 abbrev pub removed_from : Found → ℕ → Managers → Managers
 removed_from at h s = record {
   memory = inside (cast (owned_as false) h) s.memory;
   resources = touched at.file (removed at.reference) s.resources;
 }
 
--- RemoveResource: from the current file
+-- RemoveResource: removes a reference from the current file. -61 (wrPermErr) where the resource is the System file's;
+-- -196 (rmvResFailed) where its file is not current, or the resource is protected.
 abbrev pub remove_resource : Option ℕ → Managers → Answer (Unit {0})
 remove_resource handle s = on_handle handle s (λ k. on_removable (resource_of handle s.resources) s (λ at.
     if is_system at.file.here then refused WRITE_PERMISSION s
@@ -99,14 +105,15 @@ remove_resource handle s = on_handle handle s (λ k. on_removable (resource_of h
     then refused REMOVE_RES_FAILED s
     else done tt (removed_from at k.number s)))
 
--- what a call answers on a resource that may be changed: neither the System's nor a protected one
+-- The answer of a call that changes a resource. -61 (wrPermErr) where the resource is the System file's; -198
+-- (resAttrErr) where the resource is protected.
 abbrev pub on_changeable : {T : Type 0} → Option ℕ → Managers → (Found → Answer T) → Answer T
 on_changeable handle s answer = on_resource handle s (λ at.
     if is_system at.file.here then refused WRITE_PERMISSION s
     else if is_protected at.reference.here then refused RES_ATTR s
     else answer at)
 
--- ChangedResource
+-- ChangedResource: sets resChanged of the reference, and touches its file.
 abbrev pub marked : Reference → Reference
 marked x = with_attrs (changed x.stored.attrs) x
 
@@ -114,28 +121,30 @@ abbrev pub changed_resource : Option ℕ → Managers → Answer (Unit {0})
 changed_resource handle s = on_changeable handle s (λ at.
     done tt (with_resources (touched at.file (replaced (marked at.reference.here) at.reference) s.resources) s))
 
--- the resources with another reference in that place
+-- The managers where the found reference is replaced by `x`.
 abbrev pub with_changed : Reference → Found → Managers → Managers
 with_changed x at s = with_resources (record s.resources { chain = with_reference x at }) s
 
--- the bytes of a handle are stored, if it has some
+-- The managers where the given bytes are the stored data of the found reference; without bytes the managers stay as
+-- they were.
 abbrev pub stored_if : Option (List ℕ) → Found → Managers → Managers
 stored_if None at s = s
 stored_if (Some bytes) at s = with_changed (stored_anew (Some bytes) at.reference.here) at s
 
--- WriteResource: the fork follows at the next update
+-- WriteResource: stores the bytes of a changed resource's handle, unless the resource is protected or the handle is
+-- empty. The next update of the file writes them into the fork.
 abbrev pub write_resource : Option ℕ → Managers → Answer (Unit {0})
 write_resource handle s = on_resource handle s (λ at.
     if is_changed at.reference.here && not (is_protected at.reference.here)
     then done tt (stored_if (bytes_held handle s.memory.heap) at s)
     else done tt s)
 
--- SetResInfo: an empty text leaves the name
+-- SetResInfo: sets the ID and the name of a resource; an empty name leaves the resource's name as it was.
 abbrev pub set_res_info : Option ℕ → ℤ → List ℕ → Managers → Answer (Unit {0})
 set_res_info handle id text s = on_changeable handle s (λ at.
     done tt (with_changed (renamed id text at.reference.here) at s))
 
--- SetResAttrs: of the System's resources too
+-- SetResAttrs: sets the attributes of a resource, of the System file too; resChanged stays as it was.
 abbrev pub set_res_attrs : Option ℕ → ℕ → Managers → Answer (Unit {0})
 set_res_attrs handle attrs s = on_resource handle s (λ at.
     done tt (with_changed (with_attrs (set attrs at.reference.here.stored.attrs) at.reference.here) at s))

@@ -9,52 +9,52 @@ use Rattle.heap_calls.specs.Inside.{new_inside, new_emptied_inside, refill_insid
 use Rattle.res_map.specs.Map.{Reference, is_preload}
 use Rattle.res_calls.specs.Files.{Resources, OpenFile, Found, holding}
 
--- A resource is fetched: its reference gets a handle, and its datum is read into that.
--- More Macintosh Toolbox, chapter 1, "Reading Resources into Memory".
+-- Fetching a resource: its reference gets a handle, and its stored data is read into the handle's block. More Macintosh
+-- Toolbox, chapter 1, "Reading Resources into Memory".
 
--- a heap, and the resources that have handles in it
+-- A heap, and the resources that have handles in the heap.
 pub record Managers : Type 0 where
   pub memory : Memory
   pub resources : Resources
 
--- what was read: handles, each with the datum that was read into it
+-- The reads of a call: each handle, with the stored data that was read into its block.
 abbrev pub Reads : Type 0
 Reads = List (ℕ × List ℕ)
 
--- what a call answers: its reply, what it read, the emptied handle that it reads again, if there was room for that or
--- not, and the managers after it
+-- The answer of a call: its reply, what the call read, the empty handle into whose block the call reads again (whether
+-- the zone had room or not), and the managers after the call.
 pub record Answer (T : Type 0) : Type 0 where
   pub reply : Result T OsErr
   pub reads : Reads
   pub reading : Option ℕ
   pub after : Managers
 
--- a call that read nothing
+-- The answer of a call that succeeds and reads nothing.
 abbrev pub done : {T : Type 0} → T → Managers → Answer T
 done value s = record { reply = Ok value; reads = []; reading = None; after = s }
 
--- a refusal, which changes nothing
+-- The answer of a call that is refused and changes nothing.
 abbrev pub refused : {T : Type 0} → OsErr → Managers → Answer T
 refused code s = record { reply = Err code; reads = []; reading = None; after = s }
 
--- the handle of a resource, and how often its datum was read for it: once or not at all
+-- The handle of a fetched resource, and how often its stored data was read: once, or not at all.
 pub record Fetched : Type 0 where
   pub handle : ℕ
   pub read : ℕ
 
--- the flags of a block that a datum is read into
+-- The flags of the block into which a resource is read: locked for resLocked, purgeable for resPurgeable.
 abbrev pub flags_of : Reference → Flags
 flags_of r = record { locked = has_bit LOCKED r.stored.attrs; purgeable = has_bit PURGEABLE r.stored.attrs }
 
--- the System's file, whose resources' handles are guarded
+-- Holds of the System file, whose resources have guarded handles.
 abbrev pub is_system : OpenFile → Bool
 is_system f = f.number == 0
 
--- the managers where the reference has this handle
+-- The managers where the found reference has the handle `h`.
 abbrev pub held : Found → ℕ → Managers → Managers
 held at h s = record s { resources = holding (Some h) at s.resources }
 
--- what a new handle comes to, with its datum or emptied
+-- The answer of a fetch that made a new handle, with the stored data in its block, or empty.
 abbrev pub now_filled : Found → Result ℕ OsErr × Memory → Managers → Answer Fetched
 now_filled at (Err code, m) s = refused code (record s { memory = m })
 now_filled at (Ok h, m) s = record {
@@ -68,7 +68,8 @@ abbrev pub now_emptied : Found → Result ℕ OsErr × Memory → Managers → A
 now_emptied at (Err code, m) s = refused code (record s { memory = m })
 now_emptied at (Ok h, m) s = done (record { handle = h; read = 0 }) (held at h (record s { memory = m }))
 
--- a reference without a handle gets a new one, with its datum where loading is on, else emptied
+-- The fetch of a reference that has no handle: a new handle is made, to a block that holds the stored data where
+-- loading is on, and an empty handle otherwise.
 abbrev pub fetch_new : Bool → Found → Managers → Answer Fetched
 fetch_new loading at s =
     if loading
@@ -76,7 +77,7 @@ fetch_new loading at s =
     at.reference.here.stored.datum s.memory) s
     else now_emptied at (new_emptied_inside (resource_role (is_system at.file.here)) s.memory) s
 
--- what reading an emptied handle again comes to
+-- The answer of a fetch that read the stored data into the block of an empty handle again.
 abbrev pub now_refilled : Found → ℕ → Result (Unit {0}) OsErr × Memory → Managers → Answer Fetched
 now_refilled at h (Err code, m) s =
     record { reply = Err code; reads = []; reading = Some h; after = record s { memory = m } }
@@ -87,14 +88,15 @@ now_refilled at h (Ok done, m) s = record {
   after = record s { memory = m };
 }
 
--- an emptied handle is read again where loading is on; one that has a block stays as it is
+-- The fetch of a reference that has a handle: the stored data is read again where loading is on and the handle is
+-- empty; a handle that has a block stays as it is.
 abbrev pub fetch_again : Bool → Found → ℕ → Managers → Answer Fetched
 fetch_again loading at h s =
     if loading && not (has_block h s.memory.heap)
     then now_refilled at h (refill_inside h (flags_of at.reference.here) at.reference.here.stored.datum s.memory) s
     else done (record { handle = h; read = 0 }) s
 
--- the reference's handle, made and read where need be
+-- The fetch of a reference: its handle is made where it has none, and its stored data is read where need be.
 abbrev pub fetch_as : Bool → Found → Option ℕ → Managers → Answer Fetched
 fetch_as loading at None s = fetch_new loading at s
 fetch_as loading at (Some h) s = fetch_again loading at h s
@@ -102,13 +104,13 @@ fetch_as loading at (Some h) s = fetch_again loading at h s
 abbrev pub fetch : Bool → Found → Managers → Answer Fetched
 fetch loading at s = fetch_as loading at at.reference.here.handle s
 
--- what an opening leaves: the references, the heap, and what was read
+-- The result of opening a file: the references, the heap, and what was read.
 pub record Loaded : Type 0 where
   pub references : List Reference
   pub memory : Memory
   pub reads : Reads
 
--- a reference with the handle that it was given; without one where there was no room
+-- A reference with the handle that was made for it, or without a handle where the zone had no room.
 abbrev pub given : Reference → Result ℕ OsErr × Memory → Loaded
 given x (Err code, m) = record { references = x ∷ []; memory = m; reads = [] }
 given x (Ok h, m) = record { references = record x { handle = Some h } ∷ []; memory = m; reads = (h, x.stored.datum) ∷ [] }
@@ -117,7 +119,7 @@ abbrev pub preload_one : Reference → Memory → Loaded
 preload_one x m = if is_preload x then given x (new_inside Resource (flags_of x) x.stored.datum m)
     else record { references = x ∷ []; memory = m; reads = [] }
 
--- what was loaded first, and what was loaded behind it
+-- The result of loading some references and then others.
 abbrev pub loaded_both : Loaded → Loaded → Loaded
 loaded_both first rest = record {
   references = first.references ++ rest.references;
@@ -125,7 +127,7 @@ loaded_both first rest = record {
   reads = first.reads ++ rest.reads;
 }
 
--- the references that are to be read as their file is opened are read in order
+-- Preloading: the stored data of each reference that has resPreload is read into a new handle's block, in order.
 abbrev pub preload : List Reference → Memory → Loaded
 preload [] m = record { references = []; memory = m; reads = [] }
 preload (x ∷ references) m = loaded_both (preload_one x m) (preload references (preload_one x m).memory)

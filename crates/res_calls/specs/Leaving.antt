@@ -8,11 +8,12 @@ use Rattle.res_calls.specs.Fetch.{Managers, is_system}
 use Rattle.res_calls.specs.Rows.{closed_file}
 use Rattle.res_calls.specs.Update.{update}
 
--- An application leaves: its open files are updated and closed, the last opened first; the System's stays open.
--- More Macintosh Toolbox, chapter 1, "Closing Resource Forks"; Inside Macintosh: Processes, chapter 2, "Terminating a
--- Process".
+-- The quit of an application: its open files are updated and closed, the file opened last first; the System file stays
+-- open. More Macintosh Toolbox, chapter 1, "Closing Resource Forks"; Inside Macintosh: Processes, chapter 2,
+-- "Terminating a Process".
 
--- the code of an update, and the resources after it: where the content doesn't fit the format nothing is changed
+-- The code of an update, and the resources after the update. Where the content does not fit the format, the code is -34
+-- (dskFulErr) and the resources stay as they were.
 abbrev pub update_code : Option Resources → OsErr
 update_code None = DISK_FULL
 update_code (Some r) = NO_ERR
@@ -21,19 +22,21 @@ abbrev pub updated_or : Option Resources → Resources → Resources
 updated_or None r = r
 updated_or (Some r') r = r'
 
--- an open file is updated and closed; where its content doesn't fit, its fork stays as it is, and it is closed all the same
+-- The managers after an open file is updated and closed. Where the content does not fit the format, the fork stays as
+-- it is, and the file is closed all the same.
 abbrev pub left_file : Split OpenFile → Managers → Managers
 left_file at s = closed_file at (updated_or (update s.memory.heap at s.resources) s.resources) s
 
--- the first code that isn't 0
+-- The first of two codes that is not 0, or 0.
 abbrev pub first_code : OsErr → OsErr → OsErr
 first_code first later = if int_eq first.0 (pos 0) then later else first
 
--- the last opened of these files, and those opened before it
+-- The file opened last, followed by the files opened before it.
 abbrev pub last_opened : OpenFile → List OpenFile → Split OpenFile
 last_opened f older = record { before = []; here = f; after = older }
 
--- open files are left in order, up to the System's: the first code that isn't 0, and the managers after it
+-- The result of updating and closing open files in order, up to the System file: the first code that is not 0, and the
+-- managers after.
 pub record Left : Type 0 where
   pub code : OsErr
   pub after : Managers

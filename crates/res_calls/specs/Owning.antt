@@ -8,23 +8,23 @@ use Rattle.res_map.specs.Map.{Reference, has_handle}
 use Rattle.res_calls.specs.Files.{OpenFile, Found, find_open}
 use Rattle.res_calls.specs.Fetch.{Managers, is_system}
 
--- Whose each resource's handle is. More Macintosh Toolbox, chapter 1, "Using the Resource Manager".
+-- The owner of each resource's handle. More Macintosh Toolbox, chapter 1, "Using the Resource Manager".
 
--- the references of open files, in order
+-- The references of the open files, in order.
 abbrev pub references : List OpenFile → List Reference
 references chain = flat_map (λ f. f.map.references) chain
 
--- the role that the handles of a file's resources have
+-- The role of the handles of a file's resources.
 abbrev pub role_in : OpenFile → Role
 role_in f = resource_role (is_system f)
 
--- the role that a reference's handle has, if one was found
+-- The role of the found reference's handle, where a reference was found.
 abbrev pub role_for : Option Found → Option Role
 role_for found = option_map (λ (at : Found). role_in at.file.here) found
 
--- each resource has its own handle: no two references have the same; a number that a reference has is a resource's
--- handle, in the role that its file gives it, and one that no reference has isn't; and no file that is opened gets the
--- number of the System's
+-- Each resource has its own handle: no two references have one handle; a handle that a reference has is a resource's
+-- handle, in the role that the reference's file determines; a handle that no reference has is not a resource's. No file
+-- that is opened gets the number of the System file.
 pub record Owns (s : Managers) : Type 0 where
   pub apart : (h : ℕ) → count_by (has_handle h) (references s.resources.chain) ≤ 1
   pub owned : (h : ℕ) → role_for (find_open (has_handle h) s.resources) ≡ resource_role_at h s.memory.heap

@@ -37,20 +37,20 @@ use Rattle.res_calls.specs.declared.find.Wanted.TheVariants as wanted
 use Rattle.res_calls.specs.declared.fetched.Fetched.{Fetched}
 use Rattle.res_calls.specs.declared.fetched.Unread.{Unread}
 
--- Where a reference stands, by numbers.
+-- The place of a reference, given by numbers, and the calls as the methods compute them.
 
--- the item of an index
+-- The item at index `n` of a list, split from the items before and after the item.
 abbrev pub at_index : {A : Type 0} → ℕ → List A → Option (Split A)
 at_index n [] = None
 at_index zero (x ∷ xs) = Some (record { before = []; here = x; after = xs })
 at_index (suc n) (x ∷ xs) = option_map (behind x) (at_index n xs)
 
--- the reference of an index in a file
+-- The reference at index `n` of an open file.
 abbrev pub in_file : ℕ → Option (Split OpenFile) → Option Found
 in_file n None = None
 in_file n (Some f) = option_map (reference_in f) (at_index n f.here.map.references)
 
--- the reference in a place
+-- The reference at a place.
 abbrev pub found_at : Spot → List OpenFile → Option Found
 found_at at chain = in_file at.reference (at_index at.file chain)
 
@@ -58,11 +58,11 @@ abbrev pub found_from : Option Spot → List OpenFile → Option Found
 found_from None chain = None
 found_from (Some at) chain = found_at at chain
 
--- the place of what was found
+-- The place of a found reference.
 abbrev pub spot_of : Found → Spot
 spot_of at = record { file = place at.file; reference = place at.reference }
 
--- a file that is searched, and a reference that is wanted
+-- Holds of a file that a search passes through, and of a reference that the search looks for.
 abbrev pub is_searched : Within → OpenFile → Bool
 is_searched (within.UpTo n) = λ f. nat_le f.number n
 is_searched (within.Only n) = λ f. f.number == n
@@ -74,28 +74,30 @@ is_wanted (wanted.Id ty id) = is_resource (big_number 4 ty.0) id
 is_wanted (wanted.Named ty name) = is_named (big_number 4 ty.0) name.now
 is_wanted (wanted.Handle h) = has_handle h
 
--- the host had no memory for a fetch
+-- The host was out of memory during a fetch.
 abbrev pub WantsHost : Result Fetched Unread → Type 0
 WantsHost (Ok f) = ⊥
 WantsHost (Err u) = u.refusal ≡ HostMemory
 
--- resources with these open files
+-- The resources with the given open files.
 abbrev pub chained : List StoredOpenFile → Resources → Resources
 chained files r = record r { chain = map view_open files }
 
--- a new handle of a resource: with its datum where loading is on, else emptied
+-- A new handle for a resource: to a block that holds the stored data where loading is on, and an empty handle
+-- otherwise.
 abbrev pub made_for : Bool → Bool → Reference → Memory → Result ℕ OsErr × Memory
 made_for loading guarded x m = if loading then new_inside (resource_role guarded) (flags_of x) x.stored.datum m
     else new_emptied_inside (resource_role guarded) m
 
--- what is wanted is fetched
+-- The fetch of a found reference, and of the reference that a search finds; -192 (resNotFound) where no reference was
+-- found.
 abbrev pub fetched_as : Bool → Option Found → Managers → Answer fetch.Fetched
 fetched_as loading found s = on_found found s (λ at. fetch.fetch loading at s)
 
 abbrev pub fetch_wanted : Within → Wanted → Bool → Managers → Answer fetch.Fetched
 fetch_wanted files x loading s = fetched_as loading (find (is_searched files) (is_wanted x) s.resources.chain) s
 
--- the code that ResError tells after a fetch
+-- The code that ResError returns after a fetch. Where the host is out of memory, the code stays as it was.
 abbrev pub last_fetched : Result Fetched Unread → OsErr → OsErr
 last_fetched (Ok f) last = NO_ERR
 last_fetched (Err u) last = last_refused u.refusal last
@@ -104,16 +106,16 @@ last_fetched (Err u) last = last_refused u.refusal last
     last_refused (Code code) last = code
     last_refused HostMemory last = last
 
--- the bytes of a name, none where there is none
+-- The bytes of a name, or no bytes where there is no name.
 abbrev pub name_bytes : Option RefName → List ℕ
 name_bytes None = []
 name_bytes (Some name) = name.bytes.now
 
--- what is told of a resource, as it is given back
+-- The ID, the type and the name of a resource, as a value of the definitions.
 abbrev pub seen_info : Info → rows.Info
 seen_info i = record { id = i.id; kind = big_number 4 i.ty.0; name = i.name.0.items }
 
--- a resource that was found is released; it is detached
+-- ReleaseResource and DetachResource of a found reference.
 abbrev pub release_found : Option ℕ → Managers → Found → Answer (Unit {0})
 release_found handle s at = if bars handle s.memory then refused LOCKED s
     else if is_changed at.reference.here then done tt s else done tt (released_at at handle s)
@@ -122,17 +124,18 @@ abbrev pub detach_found : Option ℕ → Managers → Found → Answer (Unit {0}
 detach_found handle s at = if is_changed at.reference.here then refused RES_ATTR s
     else done tt (detached_at at handle s)
 
--- the open files where one of them is touched and has these references
+-- The open files where one of them is touched and has the given references.
 abbrev pub touched_files : Split OpenFile → List Reference → List OpenFile
 touched_files at references =
     replaced (record at.here { map = record at.here.map { references = references }; touched = true }) at
 
--- what a call answers on a resource that was found, where it may be changed
+-- The answer of a call that changes a found reference; -61 (wrPermErr) for the System file, -198 (resAttrErr) for a
+-- protected resource.
 abbrev pub if_changeable : {T : Type 0} → (Found → Answer T) → Managers → Found → Answer T
 if_changeable answer s at = if is_system at.file.here then refused WRITE_PERMISSION s
     else if is_protected at.reference.here then refused RES_ATTR s else answer at
 
--- a resource that was found is changed; it is written; it gets another ID and name, other attributes; it is removed
+-- ChangedResource, WriteResource, SetResInfo, SetResAttrs and RemoveResource of a found reference.
 abbrev pub change_found : Managers → Found → Answer (Unit {0})
 change_found s at = if_changeable (λ at.
     done tt (with_resources (touched at.file (replaced (marked at.reference.here) at.reference) s.resources) s)) s at
@@ -154,7 +157,8 @@ remove_found h s at = if is_system at.file.here then refused WRITE_PERMISSION s
     then refused REMOVE_RES_FAILED s
     else done tt (removed_from at h s)
 
--- a reference that is to be added, as it is seen; it is added with its handle, which has this role
+-- The reference to be added, as a value of the definitions, and AddResource of that reference with a handle of the
+-- given role.
 abbrev pub view_new : NewReference → Reference
 view_new new = new_reference (big_number 4 new.ty.0) new.id new.name.now.0.items new.handle
 
@@ -163,17 +167,17 @@ add_found role new h s = if is_owner role || not (has_block h s.memory.heap) the
     else if s.resources.current == 0 then refused WRITE_PERMISSION s
     else on_file s.resources.current s (λ at. done tt (added_to at new h s))
 
--- a file is open besides the System's: the last opened isn't the System's
+-- Holds where a file other than the System file is open: the file opened last is not the System file.
 abbrev pub has_own : List OpenFile → Bool
 has_own [] = false
 has_own (f ∷ older) = not (is_system f)
 
--- resources with these files and open files, and this number of the current file
+-- The resources with the given files, open files and number of the current file.
 abbrev pub standing : List StoredFile → List StoredOpenFile → ℕ → Resources → Resources
 standing files chain current r =
     record r { files = map view_file files; chain = map view_open chain; current = current }
 
--- the last opened file is updated and closed: the code of its update, and the managers after it
+-- The result of updating and closing the file opened last: the code of the update, and the managers after.
 abbrev pub left_last_of : List OpenFile → Managers → Left
 left_last_of [] s = record { code = NO_ERR; after = s }
 left_last_of (f ∷ older) s = record {
@@ -184,14 +188,14 @@ left_last_of (f ∷ older) s = record {
 abbrev pub left_last : Managers → Left
 left_last s = left_last_of s.resources.chain s
 
--- what an update of the last opened file leaves: its code, and the resources
+-- The result of updating the file opened last: the code of the update, and the resources after.
 abbrev pub IsLastUpdated : Memory → List OpenFile → OsErr → Resources → Resources → Type 0
 IsLastUpdated m [] code before after = Unit {0}
 IsLastUpdated m (f ∷ older) code before after =
     (code ≡ update_code (update m.heap (last_opened f older) before))
     × (after ≡ updated_or (update m.heap (last_opened f older) before) before)
 
--- the last opened file is closed as it is
+-- The managers after the file opened last is closed as it is.
 abbrev pub IsLastClosed : List OpenFile → Managers → Managers → Type 0
 IsLastClosed [] s after = Unit {0}
 IsLastClosed (f ∷ older) s after = closed_file (last_opened f older) s.resources s ≡ after

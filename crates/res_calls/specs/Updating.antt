@@ -16,28 +16,29 @@ use Rattle.res_calls.specs.Files.{Resources}
 use Rattle.res_calls.specs.Update.{fresh, updated_map}
 use Rattle.res_calls.specs.View.{view_file, view_open}
 
--- How an update is given.
+-- How the results of an update's functions correspond to the definitions.
 
--- resources with these files and open files, and with these files alone
+-- The resources with the given files and open files, and the resources with the given files.
 abbrev pub stored_in : List StoredFile → List StoredOpenFile → Resources → Resources
 stored_in files chain r = record r { files = map view_file files; chain = map view_open chain }
 
 abbrev pub filed_in : List StoredFile → Resources → Resources
 filed_in files r = record r { files = map view_file files }
 
--- the fork of a content that fits, which is read again
+-- The bytes are the canonical fork of a content that fits the format, and are read again as that content.
 pub record IsWritten (c : Content) (bytes : List ℕ) : Type 0 where
   pub fork : bytes ≡ canon c
   pub read_again : Spells bytes (clear c)
   pub fits : fits c ≡ true
 
--- the fork of a content, or -34 for one that doesn't fit
+-- The result is the fork of a content, or -34 (dskFulErr) where the content does not fit the format.
 abbrev pub IsFork : Content → Result (Vec ℕ Global) Refusal → Type 0
 IsFork c (Ok fork) = IsWritten c fork.items
 IsFork c (Err (Code code)) = (code ≡ DISK_FULL) × (fits c ≡ false)
 IsFork c (Err HostMemory) = Unit {0}
 
--- what an update is to store of a map and to write of it, or -34
+-- The result is the stored data and the fork that an update of a resource map makes, or -34 (dskFulErr) where the
+-- content does not fit the format.
 abbrev pub IsAnew : State → Map → Result Anew Refusal → Type 0
 IsAnew heap m (Ok anew) =
     (view_all anew.stored.items ≡ map (fresh heap) m.references)
@@ -45,7 +46,7 @@ IsAnew heap m (Ok anew) =
 IsAnew heap m (Err (Code code)) = (code ≡ DISK_FULL) × (fits (content (updated_map heap m)) ≡ false)
 IsAnew heap m (Err HostMemory) = Unit {0}
 
--- the resources after an update, or -34 where there are none
+-- The resources after an update are the given ones, or the code is -34 (dskFulErr) where the update has no result.
 abbrev pub IsUpdated : Option Resources → Result (Unit {0}) Refusal → Resources → Type 0
 IsUpdated r (Ok done) after = r ≡ Some after
 IsUpdated r (Err (Code code)) after = (code ≡ DISK_FULL) × (r ≡ None)

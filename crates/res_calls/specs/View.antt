@@ -4,14 +4,14 @@ use Rattle.res_calls.specs.Files.{File, OpenFile, Resources}
 use Rattle.res_calls.specs.declared.files.File.{File as StoredFile}
 use Rattle.res_calls.specs.declared.files.OpenFile.{OpenFile as StoredOpenFile}
 
--- a file and an open file as values, without where they lie in memory
+-- A file and an open file as values of the definitions, without the addresses of their bytes.
 abbrev pub view_file : StoredFile → File
 view_file f = record { name = f.name.0.items; fork = f.fork.items; written = f.written }
 
 abbrev pub view_open : StoredOpenFile → OpenFile
 view_open f = record { number = f.number; file = f.file; map = f.map; touched = f.touched }
 
--- the resources of these files and open files, the last opened first
+-- The resources made of these files and open files; the file opened last comes first.
 abbrev pub resources_of : List StoredFile → List StoredOpenFile → ℕ → ℕ → Bool → OsErr → Resources
 resources_of files chain current next loading error = record {
   files = map view_file files;

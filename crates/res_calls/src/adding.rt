@@ -1,4 +1,4 @@
-//! The calls by which a handle becomes a resource's, and by which a resource is removed.
+//! The calls that make a handle the handle of a resource, and that remove a resource.
 //!
 //! *More Macintosh Toolbox*, chapter 1, "Modifying Resources" and "Disposing of Resources".
 
@@ -24,20 +24,21 @@ use heap_calls::{Heap, Refusal};
 use mac_words::{Attrs, Name, OsErr, OsType};
 use std::alloc::{AllocError, Global};
 
-/// A reference that is to be added.
+/// A reference to be added to a resource map.
 #[derive(Clone, Copy)]
 pub(crate) struct NewReference<'a> {
-    /// Its type.
+    /// The type of the resource.
     ty: OsType,
-    /// Its ID.
+    /// The ID of the resource.
     id: i16,
-    /// Its name; an empty one for none.
+    /// The name of the resource; an empty name stands for no name.
     name: &'a Name,
-    /// The number of its handle.
+    /// The number of the resource's handle.
     handle: usize,
 }
 
-/// Adds a reference to an open file, and touches that. Where the host has no memory nothing is changed.
+/// Adds the reference `new` to an open file, and marks the file as touched. Where the host is out of memory, the file
+/// stays as it was.
 fn add_in(file: &mut OpenFile, alloc: Global, new: NewReference<'_>) -> Result<(), AllocError>
     ensures map { OnOk result (file.new.map ≡ record file.old.map {
       references = added (view_new new.entry) file.old.map.references;
@@ -50,8 +51,9 @@ fn add_in(file: &mut OpenFile, alloc: Global, new: NewReference<'_>) -> Result<(
     Ok(())
 }
 
-/// Adds a reference with this handle to the open file of a number; the handle is a resource's from now on. Where the
-/// host has no memory nothing is changed.
+/// Adds the reference `new` to the open file whose number is `current`, and makes the handle of `new` a resource's
+/// handle. Returns -193 (resFNotFound) where no file of that number is open. Where the host is out of memory, the files
+/// and the heap stay as they were.
 fn add_to<S: BlockStore>(
     files: &mut Vec<OpenFile>,
     alloc: Global,
@@ -75,8 +77,9 @@ fn add_to<S: BlockStore>(
     Ok(())
 }
 
-/// Adds a reference with the handle of a number to the current file, unless that is the System's, or the handle is
-/// emptied or a resource's already.
+/// Adds the reference `new` to the current file. Returns -194 (addResFailed) where the handle is empty or already a
+/// resource's, and -61 (wrPermErr) where the current file is the System file. Where the host is out of memory, the
+/// files and the heap stay as they were.
 fn add_with<S: BlockStore>(
     files: &mut Vec<OpenFile>,
     alloc: Global,
@@ -102,8 +105,9 @@ fn add_with<S: BlockStore>(
     add_to(files, alloc, heap, current, new)
 }
 
-/// Takes the reference in a place out of its file, unless that isn't current or the resource is protected. Its handle
-/// becomes the application's own.
+/// Removes the reference at `at` from its file, and makes the handle `number` the application's own. Returns -61
+/// (wrPermErr) where the file is the System file, and -196 (rmvResFailed) where the file is not the current file or the
+/// resource is protected.
 fn remove_at<S: BlockStore>(
     files: &mut Vec<OpenFile>,
     heap: &mut Heap<S>,
@@ -133,9 +137,10 @@ fn remove_at<S: BlockStore>(
 }
 
 impl Resources {
-    /// `AddResource`: a handle with a block becomes a resource's, of the current file. -192 where the handle is none,
-    /// -194 where it is emptied or a resource's already, -61 where the current file is the System's. Where the host has no
-    /// memory nothing is changed.
+    /// `AddResource`: adds a reference to the current file for a handle that has a block, and makes the handle a
+    /// resource's. Returns -192 (resNotFound) where `handle` is not a handle, -194 (addResFailed) where the handle is
+    /// empty or already a resource's, and -61 (wrPermErr) where the current file is the System file. Where the host is
+    /// out of memory, the resources and the heap stay as they were.
     pub fn add_resource<S: BlockStore>(
         &mut self,
         alloc: Global,
@@ -155,7 +160,7 @@ impl Resources {
         self.note(answer)
     }
 
-    /// The same, without keeping the code.
+    /// Does the work of `AddResource` without setting the code that `ResError` returns.
     fn add<S: BlockStore>(
         &mut self,
         alloc: Global,
@@ -187,9 +192,10 @@ impl Resources {
         add_with(&mut self.chain, alloc, heap, current, new)
     }
 
-    /// `RemoveResource`: takes a resource out of the current file; its handle becomes the application's own. -192 where
-    /// the handle is none, -196 where it is none of a resource, -61 for the System's, -196 where the resource is of
-    /// another file than the current one, or protected.
+    /// `RemoveResource`: removes the reference of a resource from the current file, and makes the handle the
+    /// application's own. Returns -192 (resNotFound) where `handle` is not a handle, -196 (rmvResFailed) where the
+    /// handle is not a resource's, -61 (wrPermErr) where the resource is the System file's, and -196 (rmvResFailed)
+    /// where the resource is in a file other than the current file or is protected.
     pub fn remove_resource<S: BlockStore>(
         &mut self,
         heap: &mut Heap<S>,
@@ -204,7 +210,7 @@ impl Resources {
         self.note(answer)
     }
 
-    /// The same, without keeping the code.
+    /// Does the work of `RemoveResource` without setting the code that `ResError` returns.
     fn remove<S: BlockStore>(
         &mut self,
         heap: &mut Heap<S>,

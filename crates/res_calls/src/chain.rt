@@ -1,4 +1,4 @@
-//! Searches among the files of an application, and among those that are open.
+//! Searches among the files of an application, and among the open files.
 
 ghost use Rattle.std.specs.Prelude.{◌≡◌, ◌<◌, ◌==◌, ◌+◌, map, length, drop, option_map, slice_get, bytes_eq, Some};
 ghost use Rattle.std.specs.Prelude.{IfSome};
@@ -9,7 +9,7 @@ ghost use Rattle.res_calls.specs.View.{view_file, view_open};
 use crate::files::{File, OpenFile};
 use mac_words::FileName;
 
-/// The place of the open file of a number.
+/// Returns the place, among the open files, of the file whose number is `number`.
 #[tactic(auto, using(res_map::proofs::Steps::found_here, res_map::proofs::Steps::found_on))]
 pub fn place_numbered(chain: &[OpenFile], number: u32) -> Option<usize>
     ensures found { result ≡ option_map place (split (λ (f : OpenFileValue). f.number == number) (map view_open chain.now)) }
@@ -23,7 +23,7 @@ pub fn place_numbered(chain: &[OpenFile], number: u32) -> Option<usize>
     None
 }
 
-/// Whether a file is open as the one at a place among the application's files.
+/// Reports whether an open file is the file that stands at `index` among the application's files.
 pub fn is_open_at(file: &OpenFile, index: usize) -> bool
     ensures { result ≡ is_at index (view_open file.now).file }
 {
@@ -33,7 +33,7 @@ pub fn is_open_at(file: &OpenFile, index: usize) -> bool
     }
 }
 
-/// The place of the open file that is the one at a place among the application's files.
+/// Returns the place, among the open files, of the file that stands at `index` among the application's files.
 #[tactic(auto, using(res_map::proofs::Steps::found_here, res_map::proofs::Steps::found_on))]
 pub fn place_of_file(chain: &[OpenFile], index: usize) -> Option<usize>
     ensures found { result ≡ option_map place (split (λ (f : OpenFileValue). is_at index f.file) (map view_open chain.now)) }
@@ -47,14 +47,14 @@ pub fn place_of_file(chain: &[OpenFile], index: usize) -> Option<usize>
     None
 }
 
-/// Whether a file has a name.
+/// Reports whether the name of a file is `name`.
 fn is_called(file: &File, name: &FileName) -> bool
     ensures { result ≡ bytes_eq (view_file file.now).name name.now.0.items }
 {
     file.name.0.as_slice() == name.0.as_slice()
 }
 
-/// The place of the file of a name.
+/// Returns the place of the file whose name is `name`.
 #[tactic(auto, using(res_map::proofs::Steps::found_here, res_map::proofs::Steps::found_on))]
 pub fn place_called(files: &[File], name: &FileName) -> Option<usize>
     ensures found { result ≡ option_map place (split (λ (f : FileValue). bytes_eq f.name name.now.0.items)

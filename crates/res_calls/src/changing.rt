@@ -1,4 +1,4 @@
-//! The calls by which a resource is changed and written.
+//! The calls that mark a resource as changed and that store the bytes of a changed resource.
 //!
 //! *More Macintosh Toolbox*, chapter 1, "Modifying Resources" and "Writing to Resource Forks".
 
@@ -18,7 +18,8 @@ use heap_calls::{Heap, Refusal};
 use mac_words::{Attrs, OsErr};
 use std::alloc::Global;
 
-/// Marks the reference in a place as changed, and touches its file.
+/// Marks the reference at `at` as changed, and its file as touched. Returns -61 (wrPermErr) where the file is the
+/// System file, and -198 (resAttrErr) where the resource is protected.
 fn change_at(files: &mut Vec<OpenFile>, at: Spot) -> Result<(), Refusal>
     requires { is_some (found_at at (map view_open files.old.items)) ≡ true }
     ensures answer { (r : ResourcesValue) (m : Memory) (f : Found)
@@ -37,7 +38,8 @@ fn change_at(files: &mut Vec<OpenFile>, at: Spot) -> Result<(), Refusal>
     Ok(())
 }
 
-/// Stores the bytes of a handle, which the reference in a place has, if that was changed and isn't protected.
+/// Stores the bytes of the handle `number` as the stored data of the reference at `at`. Does nothing where the resource
+/// was not changed, is protected, or has an empty handle.
 fn write_at<S: BlockStore>(
     files: &mut Vec<OpenFile>,
     alloc: Global,
@@ -64,8 +66,9 @@ fn write_at<S: BlockStore>(
 }
 
 impl Resources {
-    /// `ChangedResource`: a resource is to be written at the next update of its file. -192 where the handle is none of
-    /// a resource, -61 for the System's, -198 for a protected one.
+    /// `ChangedResource`: marks a resource as changed, so that the next update of its file writes the resource. Returns
+    /// -192 (resNotFound) where the handle is not a resource's, -61 (wrPermErr) where the resource is the System
+    /// file's, and -198 (resAttrErr) where the resource is protected.
     pub fn changed_resource(&mut self, handle: Option<usize>) -> Result<(), Refusal>
         ensures answer { (m : Memory) → IsAnswered (λ (u : Unit {0}). u) (noting (changing.changed_resource handle)
             (managers self.old m)) result (managers self.new m) }
@@ -75,7 +78,7 @@ impl Resources {
         self.note(answer)
     }
 
-    /// The same, without keeping the code.
+    /// Does the work of `ChangedResource` without setting the code that `ResError` returns.
     fn change(&mut self, handle: Option<usize>) -> Result<(), Refusal>
         ensures answer { (m : Memory) → IsAnswered (λ (u : Unit {0}). u)
             (changing.changed_resource handle (managers self.old m)) result (managers self.new m) }
@@ -87,9 +90,10 @@ impl Resources {
         }
     }
 
-    /// `WriteResource`: the bytes of a changed resource are stored, as the next update of its file is to write them;
-    /// nothing is done where it wasn't changed, is protected or has no block. -192 where the handle is none of a
-    /// resource. Where the host has no memory nothing is changed.
+    /// `WriteResource`: stores the bytes of a changed resource's handle as the resource's stored data; the next update
+    /// of the file writes the stored data into the fork. Does nothing where the resource was not changed, is protected,
+    /// or has an empty handle. Returns -192 (resNotFound) where the handle is not a resource's. Where the host is out
+    /// of memory, the resources stay as they were.
     pub fn write_resource<S: BlockStore>(
         &mut self,
         alloc: Global,
@@ -104,7 +108,7 @@ impl Resources {
         self.note(answer)
     }
 
-    /// The same, without keeping the code.
+    /// Does the work of `WriteResource` without setting the code that `ResError` returns.
     fn write<S: BlockStore>(
         &mut self,
         alloc: Global,

@@ -1,4 +1,4 @@
-//! Open files are closed.
+//! The call that closes an open file.
 
 ghost use Rattle.std.specs.Prelude.{◌≡◌, ◌==◌, if◌then◌else◌, ◌≢◌, ◌<◌, ◌+◌, map, length, drop, slice_get, remove, option_to_list, Some, Err, OnOk, true};
 ghost use Rattle.fork_format.specs.Canonical.{clear};
@@ -21,15 +21,15 @@ use mac_words::OsErr;
 use res_map::ResFile;
 use std::alloc::Global;
 
-/// A file that is open no more.
+/// A file that was taken from the open files.
 #[derive(Drop)]
 pub(crate) struct Removed {
     pub(crate) file: OpenFile,
-    /// The number of the file that was opened before it; 0 where none was.
+    /// The number of the file that was opened before the closed file; 0 where no file was.
     pub(crate) older: u32,
 }
 
-/// Lets the handle of a reference go, where it has one.
+/// Disposes of the handle of a reference, where the reference has a handle.
 fn release_held<S: BlockStore>(heap: &mut Heap<S>, handle: Option<usize>)
     ensures { heap.new ≡ all_released (option_to_list handle) heap.old }
 {
@@ -38,7 +38,7 @@ fn release_held<S: BlockStore>(heap: &mut Heap<S>, handle: Option<usize>)
     }
 }
 
-/// Lets the handles of all references of a file go, in order.
+/// Disposes of the handles of all references of a resource map, in order.
 #[tactic(auto, using(crate::proofs::LettingGo::released_next, crate::proofs::LettingGo::released_none, crate::proofs::LettingGo::released_lies))]
 pub(crate) fn release_all<S: BlockStore>(heap: &mut Heap<S>, map: &ResFile)
     ensures released { heap.new ≡ all_released (handles_of map.now.references) heap.old }
@@ -50,7 +50,7 @@ pub(crate) fn release_all<S: BlockStore>(heap: &mut Heap<S>, map: &ResFile)
     }
 }
 
-/// The number of the open file at a place; 0 where there is none.
+/// Returns the number of the open file at the place `at`, or 0 where no file stands there.
 #[tactic(auto, using(crate::proofs::LettingGo::number_seen))]
 fn number_at(chain: &[OpenFile], at: usize) -> u32
     ensures { result ≡ first_number (map view_open (drop at chain.now)) }
@@ -62,7 +62,7 @@ fn number_at(chain: &[OpenFile], at: usize) -> u32
     }
 }
 
-/// Takes an open file out of the chain.
+/// Takes the open file at the place `at` out of the open files.
 pub(crate) fn take_out(chain: &mut Vec<OpenFile>, at: usize) -> Removed
     requires { at < length chain.old.items }
     ensures file { slice_get (map view_open chain.old.items) at ≡ Some (view_open result.file) }
@@ -74,7 +74,8 @@ pub(crate) fn take_out(chain: &mut Vec<OpenFile>, at: usize) -> Removed
     Removed { file, older }
 }
 
-/// The number of the current file after one is closed, by the number of that opened before it.
+/// Returns the number of the current file after the file `closed` is closed: `older`, the number of the file opened
+/// before `closed`, where `closed` was current, and `current` otherwise.
 pub(crate) fn current_after(current: u32, closed: u32, older: u32) -> u32
     ensures { result ≡ (if current == closed then older else current) }
 {
@@ -82,9 +83,10 @@ pub(crate) fn current_after(current: u32, closed: u32, older: u32) -> u32
 }
 
 impl Resources {
-    /// `CloseResFile`: closes an open file, which is updated first; all handles of its resources are disposed of, locked
-    /// ones too. Where it was the current file, the one opened before it is. -193 where no such file is open, -30001 for
-    /// the System's, -34 where its content doesn't fit the format: then it stays open.
+    /// `CloseResFile`: updates an open file, closes the file, and disposes of the handles of all its resources, the
+    /// locked ones too. Where the file was the current file, the file opened before it becomes current. Returns -193
+    /// (resFNotFound) where no file of that number is open, -30001 (profileErr) for the System file, and -34
+    /// (dskFulErr) where the content of the file does not fit the format of a resource fork; the file then stays open.
     ///
     /// *More Macintosh Toolbox*, chapter 1, "Closing Resource Forks".
     pub fn close_res_file<S: BlockStore>(
@@ -106,7 +108,7 @@ impl Resources {
         self.note(answer)
     }
 
-    /// Closes an open file.
+    /// Does the work of `CloseResFile` without setting the code that `ResError` returns.
     fn close<S: BlockStore>(
         &mut self,
         alloc: Global,

@@ -1,4 +1,4 @@
-//! Files of the application: they are made and told.
+//! The files of an application: the call that creates a file, and access to the files.
 //!
 //! *More Macintosh Toolbox*, chapter 1, "Creating and Opening Resource Files".
 
@@ -22,10 +22,10 @@ use heap_calls::Refusal;
 use mac_words::{FileName, OsErr};
 use std::alloc::{AllocError, Global};
 
-/// The most files that an application has.
+/// The greatest number of files that an application may have.
 const MOST_FILES: usize = 256;
 
-/// A fork of no resources.
+/// Returns the bytes of a resource fork that has no resources.
 fn empty_fork(alloc: Global) -> Result<Vec<u8>, AllocError>
     ensures { IfOk result (λ v. v.items ≡ new_fork) }
 {
@@ -41,14 +41,14 @@ fn empty_fork(alloc: Global) -> Result<Vec<u8>, AllocError>
     }
 }
 
-/// A name of its own.
+/// Returns a copy of a name.
 fn own_name(name: &FileName) -> Result<FileName, AllocError>
     ensures { IfOk result (λ n. n.0.items ≡ name.now.0.items) }
 {
     name.clone()
 }
 
-/// Puts a file behind the others.
+/// Puts a file after the other files. Where the host is out of memory, the files stay as they were.
 fn push_file(files: &mut Vec<File>, file: File) -> Result<(), AllocError>
     ensures done { OnOk result (map view_file files.new.items ≡ map view_file files.old.items ++ view_file file ∷ []) }
     ensures kept { OnErr result (files.new.items ≡ files.old.items) }
@@ -59,7 +59,8 @@ fn push_file(files: &mut Vec<File>, file: File) -> Result<(), AllocError>
     }
 }
 
-/// Makes a file of a name that no file has. -34 where the application has 256 files.
+/// Makes a file whose name no other file has. Returns -34 (dskFulErr) where the application already has 256 files.
+/// Where the call fails, the files stay as they were.
 fn add_file(alloc: Global, files: &mut Vec<File>, name: &FileName) -> Result<(), Refusal>
     ensures answer { (r : ResourcesValue) (m : Memory) → IsAnswered (λ (u : Unit {0}). u)
         (changing.create_named name.now.0.items None (managers (filed_in files.old.items r) m)) result
@@ -78,14 +79,15 @@ fn add_file(alloc: Global, files: &mut Vec<File>, name: &FileName) -> Result<(),
     Ok(())
 }
 
-/// Whether the fork of a file has no bytes.
+/// Reports whether the fork of a file has no bytes.
 fn is_bare(file: &File) -> bool
     ensures { result ≡ (length (view_file file.now).fork == 0) }
 {
     file.fork.is_empty()
 }
 
-/// Gives the file at a place a fork of no resources, where it has one of no bytes. -48 where it has a byte or more.
+/// Gives the file at the place `at`, whose fork has no bytes, a fork that has no resources. Returns -48 (dupFNErr)
+/// where the fork has one byte or more. Where the call fails, the files stay as they were.
 fn renew_file(alloc: Global, files: &mut Vec<File>, at: usize) -> Result<(), Refusal>
     requires { at < length files.old.items }
     ensures answer { (name : List ℕ) (f : Split FileValue) (r : ResourcesValue) (m : Memory)
@@ -102,7 +104,8 @@ fn renew_file(alloc: Global, files: &mut Vec<File>, at: usize) -> Result<(), Ref
     Ok(())
 }
 
-/// Makes the file of a name.
+/// Creates the file whose name is `name`, with the codes of `CreateResFile`. Where the call fails, the files stay as
+/// they were.
 fn create_in(alloc: Global, files: &mut Vec<File>, name: &FileName) -> Result<(), Refusal>
     ensures answer { (r : ResourcesValue) (m : Memory) → IsAnswered (λ (u : Unit {0}). u)
         (changing.create_res_file name.now.0.items (managers (filed_in files.old.items r) m)) result
@@ -116,30 +119,31 @@ fn create_in(alloc: Global, files: &mut Vec<File>, name: &FileName) -> Result<()
 }
 
 impl Resources {
-    /// The files of the application, in order.
+    /// Returns the files of the application, in order.
     pub fn files(&self) -> &[File]
         ensures { map view_file result.now ≡ self.now.files }
     {
         &self.files
     }
 
-    /// The open files, the last opened first and the System's last.
+    /// Returns the open files, the file opened last first and the System file last.
     pub fn open_files(&self) -> &[OpenFile]
         ensures { map view_open result.now ≡ self.now.chain }
     {
         &self.chain
     }
 
-    /// Lets the resources go, and gives the files as they are, in order.
+    /// Releases the resources, and returns the files as they are, in order.
     pub fn into_files(self) -> Vec<File>
         ensures { map view_file result.items ≡ self.files }
     {
         self.files
     }
 
-    /// `CreateResFile`: makes a file with a fork of no resources; one of that name whose fork has no bytes gets it. -48
-    /// where there is a file of that name whose fork has a byte or more, -34 for a new name where the application has
-    /// 256 files.
+    /// `CreateResFile`: makes a file whose fork has no resources; a file of that name whose fork has no bytes is given
+    /// such a fork. Returns -48 (dupFNErr) where a file of that name has a fork of one byte or more, and -34
+    /// (dskFulErr) where the name is new and the application has 256 files. Where the host is out of memory, the
+    /// resources stay as they were.
     ///
     /// *More Macintosh Toolbox*, chapter 1, "Creating and Opening Resource Files".
     pub fn create_res_file(&mut self, alloc: Global, name: &FileName) -> Result<(), Refusal>
@@ -151,7 +155,7 @@ impl Resources {
         self.note(answer)
     }
 
-    /// Makes the file of a name.
+    /// Does the work of `CreateResFile` without setting the code that `ResError` returns.
     fn create(&mut self, alloc: Global, name: &FileName) -> Result<(), Refusal>
         ensures answer { (m : Memory) → IsAnswered (λ (u : Unit {0}). u)
             (changing.create_res_file name.now.0.items (managers self.old m)) result (managers self.new m) }

@@ -1,4 +1,5 @@
-//! The current file: the calls that tell it, change it, and count what it has.
+//! The calls that return and set the current file, that count and index the types and resources of the current file,
+//! that turn loading on and off, and that return the last result code.
 
 ghost use Rattle.std.specs.Prelude.{◌≡◌, ◌≢◌, ◌<◌, ◌^◌, ◌==◌, map, length, option_map, Err, Ok, ℕ};
 ghost use Rattle.byteorder.specs.Endian.{big_number};
@@ -17,7 +18,7 @@ use crate::files::{OpenFile, Resources};
 use heap_calls::Refusal;
 use mac_words::{OsErr, OsType};
 
-/// How many types the open file of a number has.
+/// Returns the number of types in the open file whose number is `number`, or 0 where no such file is open.
 #[tactic(auto, using(crate::proofs::Lookups::references_seen))]
 fn count_types(chain: &[OpenFile], number: u32) -> usize
     ensures count { result ≡ length (types (references_in (split (λ (f : OpenFileValue). f.number == number)
@@ -30,7 +31,7 @@ fn count_types(chain: &[OpenFile], number: u32) -> usize
     }
 }
 
-/// The n-th type of the open file of a number, from 1.
+/// Returns the `n`-th type, counted from 1, of the open file whose number is `number`.
 #[tactic(auto, using(crate::proofs::Lookups::references_seen))]
 fn nth_type(chain: &[OpenFile], number: u32, n: u32) -> Option<OsType>
     ensures { option_map (λ (t : OsTypeValue). big_number 4 t.0) result ≡ nth n (types (references_in
@@ -42,7 +43,8 @@ fn nth_type(chain: &[OpenFile], number: u32, n: u32) -> Option<OsType>
     }
 }
 
-/// How many resources of a type the open file of a number has.
+/// Returns the number of resources of a type in the open file whose number is `number`, or 0 where no such file is
+/// open.
 #[tactic(auto, using(crate::proofs::Lookups::references_seen))]
 fn count_resources(chain: &[OpenFile], number: u32, ty: OsType) -> usize
     ensures fits { result < 2 ^ 63 }
@@ -56,7 +58,8 @@ fn count_resources(chain: &[OpenFile], number: u32, ty: OsType) -> usize
 }
 
 impl Resources {
-    /// `UseResFile`: the open file of a number is current. -193 where there is none.
+    /// `UseResFile`: makes the open file whose number is `number` the current file. Returns -193 (resFNotFound) where
+    /// no such file is open.
     pub fn use_res_file(&mut self, number: u32) -> Result<(), Refusal>
         ensures answer { (m : Memory) → IsAnswered (λ (u : Unit {0}). u) (noting (rows.use_res_file number)
             (managers self.old m)) result (managers self.new m) }
@@ -66,7 +69,7 @@ impl Resources {
         self.note(answer)
     }
 
-    /// The open file of a number is current.
+    /// Does the work of `UseResFile` without setting the code that `ResError` returns.
     fn use_file(&mut self, number: u32) -> Result<(), Refusal>
         ensures answer { (m : Memory) → IsAnswered (λ (u : Unit {0}). u) (rows.use_res_file number
             (managers self.old m)) result (managers self.new m) }
@@ -81,7 +84,7 @@ impl Resources {
         }
     }
 
-    /// `CurResFile`: the number of the current file.
+    /// `CurResFile`: returns the number of the current file.
     pub fn cur_res_file(&mut self) -> u32
         ensures { (m : Memory) → IsAnswered (λ (n : ℕ). n) (noting rows.cur_res_file (managers self.old m))
             (Ok result) (managers self.new m) }
@@ -90,7 +93,7 @@ impl Resources {
         self.current
     }
 
-    /// `Count1Types`: how many types the current file has.
+    /// `Count1Types`: returns the number of resource types in the current file.
     pub fn count1_types(&mut self) -> usize
         ensures answer { (m : Memory) → IsAnswered (λ (n : ℕ). n) (noting rows.count_one_types (managers self.old m))
             (Ok result) (managers self.new m) }
@@ -100,7 +103,8 @@ impl Resources {
         count_types(&self.chain, self.current)
     }
 
-    /// `Get1IndType`: the n-th type of the current file, from 1. -192 where there is none.
+    /// `Get1IndType`: returns the `n`-th resource type of the current file, counted from 1. Returns -192 (resNotFound)
+    /// where the current file has no `n`-th type.
     pub fn get1_ind_type(&mut self, n: u32) -> Result<OsType, Refusal>
         ensures answer { (m : Memory) → IsAnswered (λ (t : OsTypeValue). big_number 4 t.0)
             (noting (rows.get_one_ind_type n) (managers self.old m)) result (managers self.new m) }
@@ -110,7 +114,7 @@ impl Resources {
         self.note(answer)
     }
 
-    /// The n-th type of the current file, from 1.
+    /// Does the work of `Get1IndType` without setting the code that `ResError` returns.
     fn ind_type(&self, n: u32) -> Result<OsType, Refusal>
         ensures answer { (m : Memory) → IsAnswered (λ (t : OsTypeValue). big_number 4 t.0)
             (rows.get_one_ind_type n (managers self.now m)) result (managers self.now m) }
@@ -122,7 +126,7 @@ impl Resources {
         }
     }
 
-    /// `Count1Resources`: how many resources of a type the current file has.
+    /// `Count1Resources`: returns the number of resources of a type in the current file.
     pub fn count1_resources(&mut self, ty: OsType) -> usize
         ensures answer { (m : Memory) → IsAnswered (λ (n : ℕ). n) (noting (rows.count_one_resources
             (big_number 4 ty.0)) (managers self.old m)) (Ok result) (managers self.new m) }
@@ -132,7 +136,8 @@ impl Resources {
         count_resources(&self.chain, self.current, ty)
     }
 
-    /// `SetResLoad`: whether a resource that is looked up is read.
+    /// `SetResLoad`: turns on or off the reading of stored data by the calls that return a resource's handle and by
+    /// `OpenResFile`.
     pub fn set_res_load(&mut self, on: bool)
         ensures { (m : Memory) → IsAnswered (λ (u : Unit {0}). u) (noting (rows.set_res_load on)
             (managers self.old m)) (Ok tt) (managers self.new m) }
@@ -141,21 +146,22 @@ impl Resources {
         self.error = OsErr::NO_ERR;
     }
 
-    /// `ResError`: the code of the last call.
+    /// `ResError`: returns the result code of the last call.
     pub fn res_error(&self) -> OsErr
         ensures { result ≡ self.now.error }
     {
         self.error
     }
 
-    /// Keeps the code that `ResError` tells.
+    /// Sets the code that `ResError` returns.
     pub fn keep_error(&mut self, code: OsErr)
         ensures { (m : Memory) → managers self.new m ≡ rows.keep_error code (managers self.old m) }
     {
         self.error = code;
     }
 
-    /// Keeps the code of a call, and passes its answer on.
+    /// Sets the code that `ResError` returns to the code of `answer`, and returns `answer`. Where the host was out of
+    /// memory, the code that `ResError` returns stays as it was.
     pub(crate) fn note<T>(&mut self, answer: Result<T, Refusal>) -> Result<T, Refusal>
         ensures answer { result ≡ answer }
         ensures noted { self.new ≡ noted answer self.old }

@@ -1,21 +1,22 @@
-//! What fetching a resource gives.
+//! The results of fetching a resource.
 
 use heap_calls::Refusal;
 
-/// The handle of a resource.
+/// A resource that was fetched.
 #[derive(Clone, Copy, Debug, PartialEq, Eq)]
 pub struct Fetched {
-    /// Its number in the heap.
+    /// The number of the resource's handle in the heap.
     pub handle: usize,
-    /// Whether the resource's datum was read into it.
+    /// Whether the stored data was read into the handle's block.
     pub read: bool,
 }
 
-/// A resource that wasn't fetched.
+/// A resource that was not fetched.
 #[derive(Clone, Copy, Debug, PartialEq, Eq)]
 pub struct Unread {
-    /// Why not.
+    /// The reason why the resource was not fetched.
     pub refusal: Refusal,
-    /// The number of the emptied handle that it would have been read into again.
+    /// The number of the empty handle into whose block the stored data would have been read again, if the resource had
+    /// an empty handle.
     pub reading: Option<usize>,
 }

@@ -1,4 +1,4 @@
-//! Resources are fetched: a reference gets a handle, and its datum is read into that.
+//! Fetching a resource: its reference gets a handle, and its stored data is read into the handle's block.
 //!
 //! *More Macintosh Toolbox*, chapter 1, "Reading Resources into Memory".
 
@@ -23,7 +23,7 @@ use heap_calls::{Heap, Refusal};
 use mac_words::{Attrs, OsErr};
 use res_map::Entry;
 
-/// The flags of a block that a resource is read into.
+/// Returns the flags of the block into which a resource is read: locked for resLocked, purgeable for resPurgeable.
 pub(crate) fn flags_of(entry: &Entry<'_>) -> Flags
     ensures { result ≡ fetch.flags_of (view_entry entry.now) }
 {
@@ -34,7 +34,8 @@ pub(crate) fn flags_of(entry: &Entry<'_>) -> Flags
     }
 }
 
-/// A new handle of a resource: with its datum where loading is on, else emptied.
+/// Makes a new handle for a resource: a handle to a block that holds the stored data where `loading` is on, and an
+/// empty handle otherwise. `guarded` says that the resource is the System file's.
 fn make_handle<S: BlockStore>(
     heap: &mut Heap<S>,
     entry: &Entry<'_>,
@@ -53,7 +54,7 @@ fn make_handle<S: BlockStore>(
     }
 }
 
-/// Fetches the reference in a place that has no handle.
+/// Fetches the reference at `at`, which has no handle.
 fn fetch_new<S: BlockStore>(
     files: &mut Vec<OpenFile>,
     heap: &mut Heap<S>,
@@ -86,7 +87,8 @@ fn fetch_new<S: BlockStore>(
     }
 }
 
-/// Fetches a reference that has a handle.
+/// Fetches a reference whose handle is `handle`: where `loading` is on and the handle is empty, reads the stored data
+/// into a new block of the handle.
 fn fetch_again<S: BlockStore>(
     heap: &mut Heap<S>,
     entry: &Entry<'_>,
@@ -114,7 +116,7 @@ fn fetch_again<S: BlockStore>(
     }
 }
 
-/// Fetches the reference in a place.
+/// Fetches the reference at `at`.
 fn fetch_in<S: BlockStore>(
     files: &mut Vec<OpenFile>,
     heap: &mut Heap<S>,
@@ -138,8 +140,9 @@ fn fetch_in<S: BlockStore>(
 }
 
 impl Resources {
-    /// Fetches what was found; -192 where nothing was. A want of host memory leaves the resources as they were, and the
-    /// heap too over a store that takes none.
+    /// Fetches the reference at `found`. Returns -192 (resNotFound) where `found` is `None`, and -108 (memFullErr)
+    /// where the zone has no room. Where the host is out of memory, the resources stay as they were, and so does the
+    /// heap over a store that uses no host memory.
     pub(crate) fn fetch_found<S: BlockStore>(
         &mut self,
         heap: &mut Heap<S>,
@@ -163,7 +166,8 @@ impl Resources {
         }
     }
 
-    /// Keeps the code of a fetch, and passes its answer on.
+    /// Sets the code that `ResError` returns to the code of a fetch, and returns the answer of the fetch. Where the
+    /// host was out of memory, the code that `ResError` returns stays as it was.
     pub(crate) fn note_fetch(&mut self, answer: Result<Fetched, Unread>) -> Result<Fetched, Unread>
         ensures answer { result ≡ answer }
         ensures noted { self.new ≡ record self.old { error = last_fetched answer self.old.error } }

@@ -1,51 +1,52 @@
-//! The files of an application, and those of them that are open.
+//! The files of an application, and those of the files that are open.
 
 use mac_words::{FileName, OsErr};
 use res_map::ResFile;
 use std::marker::Model;
 
-/// A file of an application, as it lies on the disk.
+/// A file of an application, as it stands on the disk.
 #[derive(Debug, Drop)]
 pub struct File {
-    /// Its name.
+    /// The name of the file.
     pub name: FileName,
-    /// The bytes of its resource fork.
+    /// The bytes of the file's resource fork.
     pub fork: Vec<u8>,
     /// Whether the fork was written.
     pub written: bool,
 }
 
-/// The place of the application's own file among its files.
+/// The place of the application's own file among the application's files.
 pub(crate) const OWN_PLACE: usize = 0;
 
 /// An open file.
 #[derive(Drop)]
 pub struct OpenFile {
-    /// The number that it was opened under; 0 is the System's.
+    /// The number under which the file was opened; the System file has the number 0.
     pub(crate) number: u32,
-    /// Its place among the application's files; none for the System's.
+    /// The place of the file among the application's files; `None` for the System file.
     pub(crate) file: Option<usize>,
-    /// Its map.
+    /// The resource map of the file.
     pub map: ResFile,
-    /// Whether its references were changed since its fork was written.
+    /// Whether references of the file were added, removed or marked as changed since the fork was last written.
     pub(crate) touched: bool,
 }
 
-/// The resources of one application: its files, those of them that are open, and its own copy of the System's map.
+/// The resources of one application: its files, the open ones among the files, and the application's own copy of the
+/// System file's resource map.
 ///
 /// *More Macintosh Toolbox*, chapter 1, "The Resource File Search Path".
 #[derive(Drop)]
 pub struct Resources {
     pub(crate) files: Vec<File>,
-    /// The open files, the last opened first and the System's last.
+    /// The open files, the file opened last first and the System file last.
     pub(crate) chain: Vec<OpenFile>,
     /// The number of the current file.
     pub(crate) current: u32,
     /// The number that the next opened file gets.
     pub(crate) next: u32,
-    /// Whether a resource that is looked up is read.
+    /// Whether a fetch reads the stored data of a resource (`SetResLoad`).
     pub(crate) loading: bool,
-    /// What `ResError` tells.
+    /// The code that `ResError` returns.
     pub(crate) error: OsErr,
 }
 

@@ -1,4 +1,4 @@
-//! References are found along the open files, and changed in their places.
+//! Finding references in the open files, and changing references in their places.
 //!
 //! *More Macintosh Toolbox*, chapter 1, "The Resource File Search Path".
 
@@ -20,40 +20,40 @@ use mac_words::{Attrs, Name, OsType};
 use res_map::{Entry, ResFile};
 use std::alloc::{AllocError, Global};
 
-/// Where a reference stands.
+/// The place of a reference.
 #[derive(Clone, Copy)]
 pub(crate) struct Spot {
-    /// The index of its file among the open ones, from the one that was opened last.
+    /// The index of the reference's file among the open files, counted from the file opened last.
     pub(crate) file: usize,
-    /// Its index in that file.
+    /// The index of the reference in its file's resource map.
     pub(crate) reference: usize,
 }
 
-/// The open files that are searched.
+/// The open files that a search passes through.
 #[derive(Clone, Copy)]
 pub(crate) enum Within {
-    /// Those with this number or a lower one: the file of the number, and those opened before it.
+    /// The files with this number or a lower number: the file with this number, and the files opened before it.
     UpTo(u32),
-    /// The one with this number.
+    /// The file with this number.
     Only(u32),
-    /// All.
+    /// All open files.
     Each,
     /// The application's own file.
     Own,
 }
 
-/// What is looked for.
+/// The resource that a search looks for.
 #[derive(Clone, Copy)]
 pub(crate) enum Wanted<'a> {
-    /// A resource of a type and ID.
+    /// The resource of this type and ID.
     Id(OsType, i16),
-    /// A resource of a type and name.
+    /// The resource of this type and name.
     Named(OsType, &'a [u8]),
-    /// The resource that has this handle.
+    /// The resource whose handle has this number.
     Handle(usize),
 }
 
-/// Whether a file is searched.
+/// Reports whether a search passes through a file.
 fn is_searched_file(within: Within, file: &OpenFile) -> bool
     ensures { is_searched within (view_open file.now) ≡ result }
 {
@@ -65,7 +65,7 @@ fn is_searched_file(within: Within, file: &OpenFile) -> bool
     }
 }
 
-/// The index of the first reference of a file that is wanted.
+/// Returns the index of the first reference of a resource map that is `wanted`.
 fn find_in_map(map: &ResFile, wanted: Wanted<'_>) -> Option<usize>
     ensures { result ≡ option_map place (split (is_wanted wanted.entry) map.now.references) }
 {
@@ -76,7 +76,7 @@ fn find_in_map(map: &ResFile, wanted: Wanted<'_>) -> Option<usize>
     }
 }
 
-/// The same where the file is searched.
+/// Returns the index of the first reference of a file that is `wanted`, where the search passes through the file.
 fn find_in_file(file: &OpenFile, within: Within, wanted: Wanted<'_>) -> Option<usize>
     ensures { result ≡ option_map place (if is_searched within (view_open file.now)
         then split (is_wanted wanted.entry) file.now.map.references else None) }
@@ -88,7 +88,8 @@ fn find_in_file(file: &OpenFile, within: Within, wanted: Wanted<'_>) -> Option<u
     }
 }
 
-/// The place of the first reference that is wanted, in the first of the searched files that has one.
+/// Returns the place of the first reference that is `wanted`, in the first file within `within` that has such a
+/// reference.
 #[tactic(auto, using(crate::proofs::Finding::spot_start, crate::proofs::Finding::found_here, crate::proofs::Finding::found_on))]
 fn find_spot(files: &[OpenFile], within: Within, wanted: Wanted<'_>) -> Option<Spot>
     ensures { result ≡ option_map spot_of
@@ -102,7 +103,7 @@ fn find_spot(files: &[OpenFile], within: Within, wanted: Wanted<'_>) -> Option<S
     None
 }
 
-/// The reference in a place.
+/// Returns the reference at `at`.
 #[tactic(auto, using(crate::proofs::Standing::inside_files, crate::proofs::Standing::inside_map, crate::proofs::Standing::entry_here))]
 pub(crate) fn entry_at<'a>(files: &'a [OpenFile], at: Spot) -> Entry<'a>
     requires { is_some (found_at at (map view_open files.now)) ≡ true }
@@ -112,7 +113,7 @@ pub(crate) fn entry_at<'a>(files: &'a [OpenFile], at: Spot) -> Entry<'a>
     files[at.file].map.reference(at.reference)
 }
 
-/// The number of the file of a place.
+/// Returns the number of the file of the reference at `at`.
 #[tactic(auto, using(crate::proofs::Standing::inside_files, crate::proofs::Standing::number_here))]
 pub(crate) fn number_at(files: &[OpenFile], at: Spot) -> u32
     requires { is_some (found_at at (map view_open files.now)) ≡ true }
@@ -121,7 +122,7 @@ pub(crate) fn number_at(files: &[OpenFile], at: Spot) -> u32
     files[at.file].number
 }
 
-/// Whether the attributes of the reference in a place have a bit, given by its value.
+/// Reports whether the attributes of the reference at `at` have the bit whose value is `bit`.
 pub(crate) fn has_bit_at(files: &[OpenFile], at: Spot, bit: u8) -> bool
     requires { is_some (found_at at (map view_open files.now)) ≡ true }
     ensures { option_map (λ (f : Found). has_bit bit f.reference.here.stored.attrs)
@@ -130,7 +131,7 @@ pub(crate) fn has_bit_at(files: &[OpenFile], at: Spot, bit: u8) -> bool
     entry_at(files, at).stored.attrs.has(bit)
 }
 
-/// Gives the reference in a place a handle, or takes it away.
+/// Sets or removes the handle of the reference at `at`.
 #[tactic(auto, using(crate::proofs::Standing::inside_files, crate::proofs::Standing::inside_map))]
 pub(crate) fn set_handle(files: &mut Vec<OpenFile>, at: Spot, handle: Option<usize>)
     requires { is_some (found_at at (map view_open files.old.items)) ≡ true }
@@ -140,7 +141,7 @@ pub(crate) fn set_handle(files: &mut Vec<OpenFile>, at: Spot, handle: Option<usi
     files[at.file].map.set_handle(at.reference, handle);
 }
 
-/// Gives the reference in a place other attributes.
+/// Sets the attributes of the reference at `at`.
 #[tactic(auto, using(crate::proofs::Standing::inside_files, crate::proofs::Standing::inside_map))]
 pub(crate) fn set_attrs(files: &mut Vec<OpenFile>, at: Spot, attrs: Attrs)
     requires { is_some (found_at at (map view_open files.old.items)) ≡ true }
@@ -150,7 +151,7 @@ pub(crate) fn set_attrs(files: &mut Vec<OpenFile>, at: Spot, attrs: Attrs)
     files[at.file].map.set_attrs(at.reference, attrs);
 }
 
-/// Stores other bytes of the reference in a place, which is changed no more.
+/// Sets the stored data of the reference at `at` to `datum`, and clears resChanged.
 #[tactic(auto, using(crate::proofs::Standing::inside_files, crate::proofs::Standing::inside_map))]
 pub(crate) fn store(files: &mut Vec<OpenFile>, at: Spot, datum: Vec<u8>)
     requires { is_some (found_at at (map view_open files.old.items)) ≡ true }
@@ -160,7 +161,8 @@ pub(crate) fn store(files: &mut Vec<OpenFile>, at: Spot, datum: Vec<u8>)
     files[at.file].map.store(at.reference, datum);
 }
 
-/// Gives the reference in a place another ID, and another name where the text isn't empty.
+/// Sets the ID of the reference at `at`, and the name too where `name` is not empty. Where the host is out of memory,
+/// the files stay as they were.
 #[tactic(auto, using(crate::proofs::Standing::inside_files, crate::proofs::Standing::inside_map))]
 pub(crate) fn rename(
     files: &mut Vec<OpenFile>,
@@ -179,7 +181,7 @@ pub(crate) fn rename(
     Ok(())
 }
 
-/// Gives a reference of an open file other attributes, and touches the file.
+/// Sets the attributes of a reference of an open file, and marks the file as touched.
 fn mark_in(file: &mut OpenFile, index: usize, attrs: Attrs)
     requires { index < length file.old.map.references }
     ensures map { IfSome (slice_get file.old.map.references index) (λ r. file.new.map ≡ record file.old.map {
@@ -191,7 +193,7 @@ fn mark_in(file: &mut OpenFile, index: usize, attrs: Attrs)
     file.touched = true;
 }
 
-/// Gives the reference in a place other attributes, and touches its file.
+/// Sets the attributes of the reference at `at`, and marks the reference's file as touched.
 #[tactic(auto, using(crate::proofs::Standing::inside_files, crate::proofs::Standing::inside_map))]
 pub(crate) fn mark(files: &mut Vec<OpenFile>, at: Spot, attrs: Attrs)
     requires { is_some (found_at at (map view_open files.old.items)) ≡ true }
@@ -202,7 +204,7 @@ pub(crate) fn mark(files: &mut Vec<OpenFile>, at: Spot, attrs: Attrs)
     mark_in(&mut files[at.file], at.reference, attrs);
 }
 
-/// Takes a reference out of an open file, and touches the file.
+/// Removes a reference from an open file, and marks the file as touched.
 fn remove_in(file: &mut OpenFile, index: usize)
     requires { index < length file.old.map.references }
     ensures map { file.new.map ≡ record file.old.map { references = remove file.old.map.references index } }
@@ -212,7 +214,7 @@ fn remove_in(file: &mut OpenFile, index: usize)
     file.touched = true;
 }
 
-/// Takes the reference in a place out of its file, and touches that.
+/// Removes the reference at `at` from its file, and marks the file as touched.
 #[tactic(auto, using(crate::proofs::Standing::inside_files, crate::proofs::Standing::inside_map))]
 pub(crate) fn take_out(files: &mut Vec<OpenFile>, at: Spot)
     requires { is_some (found_at at (map view_open files.old.items)) ≡ true }
@@ -223,7 +225,8 @@ pub(crate) fn take_out(files: &mut Vec<OpenFile>, at: Spot)
 }
 
 impl Resources {
-    /// The first reference that is wanted, in the first of the searched files that has one.
+    /// Returns the place of the first reference that is `wanted`, in the first file within `within` that has such a
+    /// reference.
     pub(crate) fn find(&self, within: Within, wanted: Wanted<'_>) -> Option<Spot>
         ensures found { found_from result self.now.chain
             ≡ find (is_searched within) (is_wanted wanted.entry) self.now.chain }
@@ -232,7 +235,7 @@ impl Resources {
         find_spot(&self.chain, within, wanted)
     }
 
-    /// The reference that has a handle.
+    /// Returns the place of the reference whose handle is `handle`, in any open file.
     pub(crate) fn find_handle(&self, handle: Option<usize>) -> Option<Spot>
         ensures found { found_from result self.now.chain ≡ resource_of handle self.now }
         ensures placed { is_some (found_from result self.now.chain) ≡ is_some result }

@@ -1,4 +1,4 @@
-//! The calls that look a resource up and fetch it.
+//! The calls that find a resource and fetch the resource.
 
 ghost use Rattle.std.specs.Prelude.{◌≡◌, ◌⊎◌, ◌==◌, IsTrue, is_some, map};
 ghost use Rattle.byteorder.specs.Endian.{big_number};
@@ -19,7 +19,7 @@ use block_store::BlockStore;
 use heap_calls::Heap;
 use mac_words::OsType;
 
-/// The place of the n-th reference of a type, from 1, in the open file of a number.
+/// Returns the place of the `n`-th reference of a type, counted from 1, in the open file whose number is `number`.
 #[tactic(auto, using(crate::proofs::Standing::nth_found, crate::proofs::Standing::nth_none, crate::proofs::Standing::nth_closed, crate::proofs::Standing::nth_placed))]
 fn nth_spot(files: &[OpenFile], number: u32, ty: OsType, n: u32) -> Option<Spot>
     ensures found { found_from result (map view_open files.now) ≡ rows.nth_in (big_number 4 ty.0) n
@@ -32,7 +32,7 @@ fn nth_spot(files: &[OpenFile], number: u32, ty: OsType, n: u32) -> Option<Spot>
 }
 
 impl Resources {
-    /// The n-th reference of a type in the current file, from 1.
+    /// Returns the place of the `n`-th reference of a type, counted from 1, in the current file.
     fn find_nth(&self, ty: OsType, n: u32) -> Option<Spot>
         ensures found { found_from result self.now.chain ≡ rows.nth_in (big_number 4 ty.0) n
             (file_of self.now.current self.now) }
@@ -41,7 +41,7 @@ impl Resources {
         nth_spot(&self.chain, self.current, ty, n)
     }
 
-    /// Looks a reference up, fetches it, and keeps the code.
+    /// Finds a reference, fetches the reference, and sets the code that `ResError` returns.
     fn fetch_wanted<S: BlockStore>(
         &mut self,
         heap: &mut Heap<S>,
@@ -61,8 +61,10 @@ impl Resources {
         self.note_fetch(answer)
     }
 
-    /// `GetResource`: the first resource of a type and ID in the current file and those opened before it. -192 where
-    /// there is none, -108 where there is no room for it.
+    /// `GetResource`: finds the first resource of the given type and ID on the search path, fetches the resource, and
+    /// returns its handle; where loading is off, nothing is read, and a resource without a handle gets an empty handle.
+    /// Returns -192 (resNotFound) where no file on the search path has the resource, and -108 (memFullErr) where the
+    /// zone has no room.
     pub fn get_resource<S: BlockStore>(
         &mut self,
         heap: &mut Heap<S>,
@@ -80,7 +82,9 @@ impl Resources {
         self.fetch_wanted(heap, Within::UpTo(current), Wanted::Id(ty, id), loading)
     }
 
-    /// `Get1Resource`: the first resource of a type and ID in the current file.
+    /// `Get1Resource`: finds the first resource of the given type and ID in the current file, fetches the resource, and
+    /// returns its handle. Returns -192 (resNotFound) where the current file has no such resource, and -108
+    /// (memFullErr) where the zone has no room.
     pub fn get1_resource<S: BlockStore>(
         &mut self,
         heap: &mut Heap<S>,
@@ -98,8 +102,10 @@ impl Resources {
         self.fetch_wanted(heap, Within::Only(current), Wanted::Id(ty, id), loading)
     }
 
-    /// `GetNamedResource`: the first resource of a type and name in the current file and those opened before it. ASCII
-    /// letters match in either case.
+    /// `GetNamedResource`: finds the first resource of the given type and name on the search path, fetches the
+    /// resource, and returns its handle. Uppercase and lowercase ASCII letters match each other. Returns -192
+    /// (resNotFound) where no file on the search path has the resource, and -108 (memFullErr) where the zone has no
+    /// room.
     pub fn get_named_resource<S: BlockStore>(
         &mut self,
         heap: &mut Heap<S>,
@@ -122,7 +128,9 @@ impl Resources {
         )
     }
 
-    /// `Get1NamedResource`: the first resource of a type and name in the current file.
+    /// `Get1NamedResource`: finds the first resource of the given type and name in the current file, fetches the
+    /// resource, and returns its handle. Names are compared as by `GetNamedResource`. Returns -192 (resNotFound) where
+    /// the current file has no such resource, and -108 (memFullErr) where the zone has no room.
     pub fn get1_named_resource<S: BlockStore>(
         &mut self,
         heap: &mut Heap<S>,
@@ -145,7 +153,9 @@ impl Resources {
         )
     }
 
-    /// `Get1IndResource`: the n-th resource of a type in the current file, from 1.
+    /// `Get1IndResource`: finds the `n`-th resource of a type in the current file, counted from 1, fetches the
+    /// resource, and returns its handle. Returns -192 (resNotFound) where the current file has no `n`-th resource of
+    /// the type, and -108 (memFullErr) where the zone has no room.
     #[tactic(auto, using(crate::proofs::Fetches::ind_noted))]
     pub fn get1_ind_resource<S: BlockStore>(
         &mut self,
@@ -166,8 +176,9 @@ impl Resources {
         self.note_fetch(answer)
     }
 
-    /// `LoadResource`: the resource of a handle is read if that is emptied, whether loading is on or not. -192 where
-    /// the handle is none of a resource.
+    /// `LoadResource`: reads the stored data of a resource into a new block of its handle where the handle is empty,
+    /// whether loading is on or off. Returns -192 (resNotFound) where the handle is not a resource's, and -108
+    /// (memFullErr) where the zone has no room.
     pub fn load_resource<S: BlockStore>(
         &mut self,
         heap: &mut Heap<S>,

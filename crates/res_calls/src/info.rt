@@ -1,4 +1,4 @@
-//! The calls that tell what is stored of a resource.
+//! The calls that return what is recorded of a resource: its file, ID, type, name, attributes and size on disk.
 
 ghost use Rattle.std.specs.Prelude.{◌≡◌, ◌≢◌, ◌<◌, ◌^◌, Err, ℕ, IfOk, option_map};
 ghost use Rattle.mac_words.specs.declared.attributes.Attrs.{Attrs as AttrsValue};
@@ -23,15 +23,15 @@ use res_map::Entry;
 /// *More Macintosh Toolbox*, chapter 1, "Getting Resource Information".
 #[derive(Clone, Debug, PartialEq, Eq, Drop)]
 pub struct Info {
-    /// The ID.
+    /// The ID of the resource.
     pub id: i16,
-    /// The type.
+    /// The type of the resource.
     pub ty: OsType,
-    /// The name; no bytes where there is none.
+    /// The name of the resource; the name has no bytes where the resource has no name.
     pub name: Name,
 }
 
-/// The bytes of a name; none where there is none.
+/// Returns the bytes of a name, or no bytes where there is no name.
 fn name_of(name: Option<RefName<'_>>) -> Name
     ensures { result.0.items ≡ name_bytes name.entry }
 {
@@ -45,7 +45,7 @@ fn name_of(name: Option<RefName<'_>>) -> Name
     Name(bytes)
 }
 
-/// What is told of a resource.
+/// Returns the ID, the type and the name of a reference.
 fn info_of(entry: &Entry<'_>) -> Info
     ensures { seen_info result ≡ rows.info_of (view_entry entry.now) }
 {
@@ -57,7 +57,7 @@ fn info_of(entry: &Entry<'_>) -> Info
 }
 
 impl Resources {
-    /// The resource of a handle.
+    /// Returns the reference of the resource whose handle is `handle`.
     fn entry(&self, handle: Option<usize>) -> Option<Entry<'_>>
         ensures { option_map view_entry result ≡ option_map (λ (f : Found). f.reference.here)
             (rows.resource_of handle self.now) }
@@ -68,7 +68,7 @@ impl Resources {
         }
     }
 
-    /// The number of the file of a handle's resource.
+    /// Returns the number of the file that holds the resource whose handle is `handle`.
     fn home(&self, handle: Option<usize>) -> Option<u32>
         ensures { result ≡ option_map (λ (f : Found). f.file.here.number) (rows.resource_of handle self.now) }
     {
@@ -78,8 +78,8 @@ impl Resources {
         }
     }
 
-    /// `HomeResFile`: the number of the file that a handle's resource is of. -192 where the handle is none of a
-    /// resource.
+    /// `HomeResFile`: returns the number of the open file that holds a resource. Returns -192 (resNotFound) where the
+    /// handle is not a resource's.
     pub fn home_res_file(&mut self, handle: Option<usize>) -> Result<u32, Refusal>
         ensures answer { (m : Memory) → IsAnswered (λ (n : ℕ). n)
             (noting (rows.home_res_file handle) (managers self.old m))
@@ -90,7 +90,7 @@ impl Resources {
         self.note(answer)
     }
 
-    /// The same, without keeping the code.
+    /// Does the work of `HomeResFile` without setting the code that `ResError` returns.
     fn home_of(&self, handle: Option<usize>) -> Result<u32, Refusal>
         ensures answer { (m : Memory) → IsAnswered (λ (n : ℕ). n) (rows.home_res_file handle (managers self.now m))
             result (managers self.now m) }
@@ -102,7 +102,8 @@ impl Resources {
         }
     }
 
-    /// `GetResInfo`: the ID, the type and the name of a handle's resource. -192 where the handle is none of a resource.
+    /// `GetResInfo`: returns the ID, the type and the name of a resource. Returns -192 (resNotFound) where the handle
+    /// is not a resource's.
     pub fn get_res_info(&mut self, handle: Option<usize>) -> Result<Info, Refusal>
         ensures answer { (m : Memory) → IsAnswered seen_info (noting (rows.get_res_info handle) (managers self.old m))
             result (managers self.new m) }
@@ -112,7 +113,7 @@ impl Resources {
         self.note(answer)
     }
 
-    /// The same, without keeping the code.
+    /// Does the work of `GetResInfo` without setting the code that `ResError` returns.
     fn info_at(&self, handle: Option<usize>) -> Result<Info, Refusal>
         ensures answer { (m : Memory) → IsAnswered seen_info (rows.get_res_info handle (managers self.now m))
             result (managers self.now m) }
@@ -124,7 +125,8 @@ impl Resources {
         }
     }
 
-    /// `GetResAttrs`: the attributes of a handle's resource. -192 where the handle is none of a resource.
+    /// `GetResAttrs`: returns the attributes of a resource. Returns -192 (resNotFound) where the handle is not a
+    /// resource's.
     pub fn get_res_attrs(&mut self, handle: Option<usize>) -> Result<Attrs, Refusal>
         ensures answer { (m : Memory) → IsAnswered (λ (a : AttrsValue). a.0)
             (noting (rows.get_res_attrs handle) (managers self.old m))
@@ -135,7 +137,7 @@ impl Resources {
         self.note(answer)
     }
 
-    /// The same, without keeping the code.
+    /// Does the work of `GetResAttrs` without setting the code that `ResError` returns.
     fn attrs_at(&self, handle: Option<usize>) -> Result<Attrs, Refusal>
         ensures answer { (m : Memory) → IsAnswered (λ (a : AttrsValue). a.0)
             (rows.get_res_attrs handle (managers self.now m))
@@ -148,8 +150,8 @@ impl Resources {
         }
     }
 
-    /// `GetResourceSizeOnDisk`: how many bytes are stored of a handle's resource. -192 where the handle is none of a
-    /// resource.
+    /// `GetResourceSizeOnDisk`: returns the number of bytes in the stored data of a resource. Returns -192
+    /// (resNotFound) where the handle is not a resource's.
     pub fn get_resource_size_on_disk(&mut self, handle: Option<usize>) -> Result<usize, Refusal>
         ensures answer { (m : Memory) → IsAnswered (λ (n : ℕ). n)
             (noting (rows.get_resource_size_on_disk handle) (managers self.old m))
@@ -161,7 +163,7 @@ impl Resources {
         self.note(answer)
     }
 
-    /// The same, without keeping the code.
+    /// Does the work of `GetResourceSizeOnDisk` without setting the code that `ResError` returns.
     fn size_at(&self, handle: Option<usize>) -> Result<usize, Refusal>
         ensures answer { (m : Memory) → IsAnswered (λ (n : ℕ). n)
             (rows.get_resource_size_on_disk handle (managers self.now m))

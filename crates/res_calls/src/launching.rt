@@ -1,4 +1,4 @@
-//! The resources of an application as it is launched.
+//! The resources of an application at its launch.
 
 ghost use Rattle.std.specs.Prelude.{◌≡◌, ◌<◌, ◌∷◌, [], IsTrue, IfOk, map, length, Some, None};
 ghost use Rattle.std.specs.List.{list_all};
@@ -17,7 +17,8 @@ use mac_words::OsErr;
 use res_map::ResFile;
 use std::alloc::{AllocError, Global};
 
-/// The map of a fork.
+/// Reads the resource map of a fork. Returns -39 (eofErr) where the fork has no bytes, and -199 (mapReadErr) where the
+/// bytes are not a resource fork.
 pub fn open_map(alloc: Global, bytes: &[u8]) -> Result<ResFile, Refusal>
     ensures { IsReply (map_in bytes.now) result }
 {
@@ -29,10 +30,10 @@ pub fn open_map(alloc: Global, bytes: &[u8]) -> Result<ResFile, Refusal>
     }
 }
 
-/// The number of the application's own file as it is launched.
+/// The number of the application's own file at the launch.
 const OWN_FILE: u32 = 2;
 
-/// The open files of an application as it is launched.
+/// Returns the open files of an application at its launch: the application's own file and then the System file.
 fn launched_chain(alloc: Global, own: ResFile, system: ResFile) -> Result<Vec<OpenFile>, AllocError>
     ensures { IfOk result (λ v. map view_open v.items ≡ opened 2 (Some 0) own ∷ opened 0 None system ∷ []) }
 {
@@ -53,8 +54,9 @@ fn launched_chain(alloc: Global, own: ResFile, system: ResFile) -> Result<Vec<Op
 }
 
 impl Resources {
-    /// The resources of an application as it is launched: the fork of its first file, and its own copy of the System's
-    /// map, are open. -39 where that fork has no bytes, -199 where its bytes spell no content.
+    /// Returns the resources of an application at its launch, with the fork of the first of `files` open as number 2
+    /// and current, and the application's own copy of the System file's resource map open as number 0. Returns -39
+    /// (eofErr) where the fork has no bytes, and -199 (mapReadErr) where the bytes are not a resource fork.
     pub fn new(alloc: Global, files: Vec<File>, system: &Content<'_>) -> Result<Resources, Refusal>
         requires own { 0 < length files.items }
         requires types { IsTrue (are_distinct (map (λ (g : GroupValue). g.kind) (view system.now).groups)) }

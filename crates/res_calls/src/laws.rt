@@ -25,8 +25,8 @@ ghost use Rattle.res_calls.specs.Sound.{Sound};
 ghost use Rattle.res_calls.specs.Update.{bytes_held, updated_reference, updated_map, fork_of, rewritten, update};
 ghost use Rattle.res_calls.specs.Writing.{writes};
 
-/// A search begins in the current file: it finds the first reference that passes among those of the current file, of
-/// the one opened before it, and so on; the System's come last.
+/// States that a search begins in the current file: the search finds the first reference that passes a test, among the
+/// references of the current file, then of the file opened before it, and so on, and of the System file last.
 #[tactic(auto, using(crate::proofs::Finding::find_first))]
 pub fn the_first_reference_is_found()
     ensures { (test : Reference → Bool) (r : Resources) → option_map (λ (f : Found). f.reference.here)
@@ -34,10 +34,10 @@ pub fn the_first_reference_is_found()
         (filter (λ (f : OpenFile). nat_le f.number r.current) r.chain)) }
 {}
 
-/// Each resource has its own handle: one handle for one reference, and one reference for one handle, in the role that
-/// its file gives it (`Owns`). It is so where an application is launched over a heap that has no resource's handle,
-/// before its resources are read and after, and each try of a call of either manager keeps it, and a fetch from the
-/// application's own fork.
+/// States that each resource has its own handle: no two references have one handle, and a handle is a resource's
+/// exactly where a reference has the handle, in the role that the reference's file determines (`Owns`). The law holds
+/// at the launch of an application over a heap that has no resource's handle, before the resources are preloaded and
+/// after; each try of a call of either manager keeps the law, and so does a fetch from the application's own fork.
 pub fn each_resource_has_its_own_handle()
     ensures launched { (files : List File) (system : Content) (r : Resources) (m : Memory)
         → launched_resources files system ≡ Ok r → ((h : ℕ) → resource_role_at h m.heap ≡ None)
@@ -48,15 +48,16 @@ pub fn each_resource_has_its_own_handle()
     ensures own { (kind : ℕ) (id : ℤ) (s : Managers) → Owns s → Owns (fetch_own kind id s).after }
 {}
 
-/// A search begins in the current file, and goes on in those that were opened before it, in their order.
+/// States that a search begins in the current file and goes on in the files opened before the current file, in their
+/// order.
 pub fn a_search_goes_back_in_time()
     ensures { (r : Resources) (at : Split OpenFile) → Sound r → file_of r.current r ≡ Some at
         → filter (λ (f : OpenFile). nat_le f.number r.current) r.chain ≡ at.here ∷ at.after }
 {}
 
-/// What holds of the open files at all times (`Sound`) holds where an application is launched, before its resources are
-/// read and after, and each try of a call keeps it, and so do a fetch from the application's own fork and the
-/// application's leaving.
+/// States that what holds of the open files at all times (`Sound`) holds at the launch of an application, before the
+/// resources are preloaded and after, and that each try of a call keeps it, as do a fetch from the application's own
+/// fork and the quit of the application.
 pub fn the_open_files_stay_sound()
     ensures launched { (files : List File) (system : Content) (r : Resources)
         → launched_resources files system ≡ Ok r → Sound r }
@@ -68,18 +69,18 @@ pub fn the_open_files_stay_sound()
     ensures left { (s : Managers) → Sound s.resources → Sound (leave s).after.resources }
 {}
 
-/// What a call does to the files: nothing, but that `CreateResFile` makes one or gives one without bytes an empty fork,
-/// and that `UpdateResFile` and `CloseResFile` write the fork of a touched file, by its own map. So nothing of the
-/// System's file ever comes into a fork.
+/// States what a call does to the files: only `CreateResFile` makes a file, or gives a file without bytes an empty
+/// fork, and only `UpdateResFile` and `CloseResFile` write the fork of a touched file, from that file's own resource
+/// map. Nothing of the System file therefore ever comes into a fork.
 pub fn only_an_update_or_a_creation_writes_a_fork()
     ensures written { (asked : ResourceAsked) (s : Managers) → Written asked s (served asked s).after.resources.files }
     ensures other_calls { (asked : ResourceAsked) (s : Managers) → writes asked ≡ false
         → (served asked s).after.resources.files ≡ s.resources.files }
 {}
 
-/// What an update stores: of a changed resource, which always has a handle, the handle's bytes, and where that is emptied
-/// what was stored; of another one what was stored. Of a file that wasn't touched it changes nothing, and the System's
-/// never is.
+/// States what an update stores. Of a changed resource, which always has a handle, the update stores the bytes of the
+/// handle's block, or keeps the stored data where the handle is empty; of another resource the update keeps the stored
+/// data. An update changes nothing of a file that was not touched, and the System file is never touched.
 pub fn an_update_stores_what_was_changed()
     ensures changed { (n : ℕ) (heap : State) (r : Resources) (at : Split OpenFile) (i : ℕ) (x : Reference) → Sound r
         → n ≢ 0 → file_of n r ≡ Some at → slice_get at.here.map.references i ≡ Some x → is_changed x ≡ true
@@ -94,8 +95,8 @@ pub fn an_update_stores_what_was_changed()
         → update heap at r ≡ Some r }
 {}
 
-/// A fork that an update writes stands in the place of its file. A reader clears nothing of it, so it is read again as the
-/// content in memory.
+/// States that the fork that an update writes stands in the place of its file. A reader clears no attribute of the
+/// fork, so the fork is read again as the content in memory.
 pub fn an_updated_fork_is_read_again()
     ensures placed { (n : ℕ) (heap : State) (r : Resources) (at : Split OpenFile) → Sound r → n ≢ 0
         → file_of n r ≡ Some at → HasFork (fork_of heap at.here) at.here.file (rewritten heap at r).files }
@@ -108,16 +109,16 @@ pub fn an_updated_fork_is_read_again()
         → map_in (fork_of heap at.here) ≡ Ok (map_of (content (updated_map heap at.here.map))) }
 {}
 
-/// The current file is always open: `AddResource` never answers -193.
+/// States that the current file is always open, so that `AddResource` never returns -193 (resFNotFound).
 #[tactic(auto, using(crate::proofs::Following::current_file_is_open))]
 pub fn the_current_file_is_open()
     ensures { (handle : Option ℕ) (kind : ℕ) (id : ℤ) (name : List ℕ) (s : Managers) → Sound s.resources
         → (add_resource handle kind id name s).reply ≢ Err RES_FILE_NOT_FOUND }
 {}
 
-/// An application that leaves closes all its files: the System's alone stays open. There are as many files as before,
-/// each as it was or with another fork, which was written then. One that wasn't open, or not touched, is as it was; and
-/// where no open file was touched, so are all, and the code is 0.
+/// States that an application that quits closes all its files, and only the System file stays open. The number of files
+/// stays as it was, and each file is as it was or has another fork, which was written by the quit. A file that was not
+/// open or not touched is as it was. Where no open file was touched, all files are as they were, and the code is 0.
 pub fn an_application_that_leaves_closes_its_files()
     ensures closed { (s : Managers) → Sound s.resources
         → (f : OpenFile) × ((leave s).after.resources.chain ≡ f ∷ []) × (f.number ≡ 0) }

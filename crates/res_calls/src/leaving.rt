@@ -1,4 +1,4 @@
-//! An application leaves: its open files are updated and closed.
+//! The quit of an application: its open files are updated and closed.
 //!
 //! *More Macintosh Toolbox*, chapter 1, "Closing Resource Forks"; *Processes*, chapter 2, "Terminating a Process".
 
@@ -19,7 +19,7 @@ use heap_calls::{Heap, Refusal};
 use mac_words::OsErr;
 use std::alloc::{AllocError, Global};
 
-/// Whether a file is open besides the System's.
+/// Reports whether a file other than the System file is open.
 fn is_own_open(chain: &[OpenFile]) -> bool
     ensures { result ≡ has_own (map view_open chain.now) }
 {
@@ -29,14 +29,15 @@ fn is_own_open(chain: &[OpenFile]) -> bool
     }
 }
 
-/// The first of two codes that isn't 0.
+/// Returns the first of two codes that is not 0, or 0.
 fn first_code(first: OsErr, later: OsErr) -> OsErr
     ensures { result ≡ leaving.first_code first later }
 {
     if first.0 == 0 { later } else { first }
 }
 
-/// Updates the last opened file: the code of that. Where its content doesn't fit the format it stays as it is.
+/// Updates the file opened last, and returns the code of the update. Where the content of the file does not fit the
+/// format of a resource fork, the file stays as it is and the code is -34 (dskFulErr).
 fn update_last<S: BlockStore>(
     alloc: Global,
     heap: &Heap<S>,
@@ -58,7 +59,7 @@ fn update_last<S: BlockStore>(
     }
 }
 
-/// Closes the last opened file as it is: the number of the current file then.
+/// Closes the file opened last as it is, and returns the number of the file that is then current.
 fn close_last<S: BlockStore>(heap: &mut Heap<S>, chain: &mut Vec<OpenFile>, current: u32) -> u32
     requires { 0 < length chain.old.items }
     ensures closed { (files : List StoredFile) (r : ResourcesValue) → IsLastClosed (map view_open chain.old.items)
@@ -72,9 +73,10 @@ fn close_last<S: BlockStore>(heap: &mut Heap<S>, chain: &mut Vec<OpenFile>, curr
 }
 
 impl Resources {
-    /// The application leaves: its open files are updated and closed, the last opened first; the System's stays open.
-    /// The first code that isn't 0, or 0. A file whose content doesn't fit the format (-34) keeps its fork, and is
-    /// closed all the same. Where the host has no memory the application can only be let go.
+    /// Updates and closes the open files of an application that quits, the file opened last first; the System file
+    /// stays open. Returns the first code that is not 0, or 0. A file whose content does not fit the format of a
+    /// resource fork (-34, dskFulErr) keeps its fork, and is closed all the same. Where the host is out of memory,
+    /// nothing is promised of the files, and the resources are of no further use.
     pub fn leave<S: BlockStore>(
         &mut self,
         alloc: Global,
@@ -92,14 +94,14 @@ impl Resources {
         Ok(code)
     }
 
-    /// Whether a file is open besides the System's.
+    /// Reports whether a file other than the System file is open.
     fn has_own(&self) -> bool
         ensures { result ≡ has_own self.now.chain }
     {
         is_own_open(&self.chain)
     }
 
-    /// Updates the last opened file and closes it: the code of the update.
+    /// Updates and closes the file opened last, and returns the code of the update.
     fn leave_last<S: BlockStore>(
         &mut self,
         alloc: Global,

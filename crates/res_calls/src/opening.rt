@@ -1,4 +1,4 @@
-//! Files are opened.
+//! The call that opens a file, and the preloading of an application's resources.
 
 ghost use Rattle.std.specs.Prelude.{◌≡◌, ◌<◌, ◌≤◌, ◌⊎◌, ◌∷◌, IsTrue, IsErr, IfOk, OnOk, OnErr, IfSome, map, length};
 ghost use Rattle.std.specs.Prelude.{slice_get, Some, Ok, Err, ℕ};
@@ -18,10 +18,10 @@ use mac_words::{FileName, OsErr};
 use res_map::ResFile;
 use std::alloc::{AllocError, Global};
 
-/// The greatest number of an open file.
+/// The greatest number that an open file may have.
 const GREATEST_NUMBER: u32 = 2_147_483_647;
 
-/// Reads the references of a file that are to be read as it is opened, where loading is on.
+/// Preloads the resources of a file that have resPreload, where `loading` is on.
 fn load_into<S: BlockStore>(
     alloc: Global,
     heap: &mut Heap<S>,
@@ -42,7 +42,8 @@ fn load_into<S: BlockStore>(
     preload(alloc, heap, file)
 }
 
-/// Puts a file before the open ones, with its references that are to be read as it is opened.
+/// Puts `file` before the other open files, and preloads its resources where `loading` is on. Where the host is out of
+/// memory, the open files stay as they were.
 fn put_first<S: BlockStore>(
     alloc: Global,
     heap: &mut Heap<S>,
@@ -66,7 +67,7 @@ fn put_first<S: BlockStore>(
     }
 }
 
-/// Reads the references of the file that was opened last that are to be read as it is opened.
+/// Preloads the resources of the file opened last, where `loading` is on.
 fn load_first<S: BlockStore>(
     alloc: Global,
     heap: &mut Heap<S>,
@@ -86,7 +87,8 @@ fn load_first<S: BlockStore>(
 }
 
 impl Resources {
-    /// Reads what of the application's fork is to be read as it is launched.
+    /// Preloads the resources of the file opened last, where loading is on. At the launch that file is the
+    /// application's own, and loading is on. Where the host is out of memory, the resources stay as they were.
     ///
     /// *More Macintosh Toolbox*, chapter 1, "Resource Attributes".
     pub fn preload<S: BlockStore>(
@@ -102,9 +104,12 @@ impl Resources {
         load_first(alloc, heap, &mut self.chain, self.loading)
     }
 
-    /// `OpenResFile`: opens the fork of a file, and answers the number of the open file, which is current then. A file
-    /// that is open already stays as it is, and current what was. -43 where there is no such file, -39 for a fork of no
-    /// bytes, -199 for one whose bytes spell no content.
+    /// `OpenResFile`: opens the resource fork of a file, makes the file the current file, preloads its resources where
+    /// loading is on, and returns the number of the open file. Where the file is already open, the call returns the
+    /// file's number and changes neither the file nor the current file. Returns -43 (fnfErr) where the application has
+    /// no such file, -30001 (profileErr) where the number 2,147,483,647 was already given to a file, -39 (eofErr) where
+    /// the fork has no bytes, and -199 (mapReadErr) where the bytes are not a resource fork. Where the host is out of
+    /// memory, the resources stay as they were.
     ///
     /// *More Macintosh Toolbox*, chapter 1, "Opening Resource Forks".
     pub fn open_res_file<S: BlockStore>(
@@ -123,7 +128,7 @@ impl Resources {
         self.note(answer)
     }
 
-    /// Opens the file of a name.
+    /// Does the work of `OpenResFile` without setting the code that `ResError` returns.
     fn open_named<S: BlockStore>(
         &mut self,
         alloc: Global,
@@ -145,7 +150,7 @@ impl Resources {
         }
     }
 
-    /// Opens the file at a place, which isn't open.
+    /// Opens the file at the place `at`, which is not open, with the codes of `OpenResFile`.
     fn open_at<S: BlockStore>(
         &mut self,
         alloc: Global,
@@ -169,7 +174,7 @@ impl Resources {
         Ok(self.open_read(alloc, heap, at, read)?)
     }
 
-    /// Opens the file at a place by its map, which is that of its fork.
+    /// Opens the file at the place `at`, whose fork has the resource map `read`, and makes the file current.
     fn open_read<S: BlockStore>(
         &mut self,
         alloc: Global,

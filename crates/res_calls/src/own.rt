@@ -20,7 +20,7 @@ use mac_words::OsType;
 use res_map::Entry;
 
 impl Resources {
-    /// The first reference of a type and ID in the application's own file.
+    /// Returns the place of the first reference of a type and ID in the application's own file.
     fn find_own(&self, ty: OsType, id: i16) -> Option<Spot>
         ensures found { found_from result self.now.chain ≡ own.find_own (big_number 4 ty.0) id self.now }
         ensures placed { is_some (found_from result self.now.chain) ≡ is_some result }
@@ -28,7 +28,7 @@ impl Resources {
         self.find(Within::Own, Wanted::Id(ty, id))
     }
 
-    /// The same, as it is lent.
+    /// Returns the first reference of a type and ID in the application's own file.
     fn own_entry(&self, ty: OsType, id: i16) -> Option<Entry<'_>>
         ensures { option_map view_entry result ≡ option_map (λ (f : Found). f.reference.here)
             (own.find_own (big_number 4 ty.0) id self.now) }
@@ -39,8 +39,8 @@ impl Resources {
         }
     }
 
-    /// The bytes that are stored of a resource of the application's own fork, by its type and ID: the first there is.
-    /// None where that fork isn't open, or has no such resource.
+    /// Returns the stored data of the first resource of a type and ID in the application's own fork. Returns `None`
+    /// where the fork is not open or has no such resource.
     #[tactic(auto, using(crate::proofs::OwnFork::no_datum, crate::proofs::OwnFork::datum_lent))]
     pub fn own_datum(&self, ty: OsType, id: i16) -> Option<&[u8]>
         ensures { option_map (λ b. b.now) result ≡ own.own_datum (big_number 4 ty.0) id self.now }
@@ -51,7 +51,8 @@ impl Resources {
         }
     }
 
-    /// The handle of such a resource, if it has one.
+    /// Returns the handle of the first resource of a type and ID in the application's own fork. Returns `None` where
+    /// the fork is not open or has no such resource, or where the resource has no handle.
     #[tactic(auto, using(crate::proofs::OwnFork::no_handle, crate::proofs::OwnFork::handle_lent))]
     pub fn own_handle(&self, ty: OsType, id: i16) -> Option<usize>
         ensures { result ≡ own.own_handle (big_number 4 ty.0) id self.now }
@@ -62,9 +63,10 @@ impl Resources {
         }
     }
 
-    /// Fetches a resource of the application's own fork, under whatever number that is open and whatever the current
-    /// file is: the first of its type and ID. It is read whether loading is on or not. -192 where there is none, -108
-    /// where there is no room for it; what `ResError` tells stays.
+    /// Fetches the first resource of a type and ID in the application's own fork, under whatever number the fork is
+    /// open and whichever file is current. The stored data is read whether loading is on or off, and the code that
+    /// `ResError` returns stays as it was. Returns -192 (resNotFound) where the fork is not open or has no such
+    /// resource, and -108 (memFullErr) where the zone has no room.
     pub fn fetch_own<S: BlockStore>(
         &mut self,
         heap: &mut Heap<S>,

@@ -1,4 +1,4 @@
-//! Resources that are read as their file is opened.
+//! Preloading: the resources that are read when their file is opened.
 //!
 //! *More Macintosh Toolbox*, chapter 1, "Resource Attributes".
 
@@ -17,7 +17,7 @@ use mac_words::Attrs;
 use res_map::{Entry, ResFile};
 use std::alloc::{AllocError, Global};
 
-/// Whether a resource is read as its file is opened.
+/// Reports whether a reference has resPreload.
 fn is_read_first(entry: &Entry<'_>) -> bool
     ensures { result ≡ is_preload (view_entry entry.now) }
 {
@@ -25,7 +25,7 @@ fn is_read_first(entry: &Entry<'_>) -> bool
     attrs & Attrs::PRELOAD != 0
 }
 
-/// What the block of a resource is to hold.
+/// Returns the flags and the bytes of the block that a resource is read into.
 fn fill_of<'a>(entry: &Entry<'a>) -> Filling<'a>
     ensures { wanted_as result ≡ filling_of (view_entry entry.now) }
 {
@@ -35,7 +35,7 @@ fn fill_of<'a>(entry: &Entry<'a>) -> Filling<'a>
     }
 }
 
-/// What the blocks of the references that are read are to hold, in order.
+/// Returns the flags and the bytes of the blocks of all references that have resPreload, in order.
 fn gather<'a>(alloc: Global, file: &'a ResFile) -> Result<Vec<Filling<'a>>, AllocError>
     ensures { IfOk result (λ v. map wanted_as v.items ≡ wanted_of file.now.references) }
 {
@@ -49,7 +49,8 @@ fn gather<'a>(alloc: Global, file: &'a ResFile) -> Result<Vec<Filling<'a>>, Allo
     Ok(wanted)
 }
 
-/// New handles for the references that are read, in order: the number of each.
+/// Makes a new handle for each reference that has resPreload, in order, and returns the number of each handle; the
+/// number is `None` where the zone had no room.
 fn make_all<S: BlockStore>(
     alloc: Global,
     heap: &mut Heap<S>,
@@ -63,7 +64,7 @@ fn make_all<S: BlockStore>(
     heap.new_resources(alloc, &wanted)
 }
 
-/// The number at a place; none behind the last.
+/// Returns the number at the place `at`, or `None` past the last number.
 fn number_at(numbers: &[Option<usize>], at: usize) -> Option<usize>
     ensures { result ≡ next_number (drop at numbers.now) }
 {
@@ -74,7 +75,7 @@ fn number_at(numbers: &[Option<usize>], at: usize) -> Option<usize>
     }
 }
 
-/// Gives the references that are read their numbers, in order.
+/// Gives the references that have resPreload the handles in `numbers`, in order.
 fn give_all(file: &mut ResFile, numbers: &[Option<usize>])
     ensures { file.new ≡ record file.old { references = given_to file.old.references numbers.now } }
 {
@@ -89,7 +90,8 @@ fn give_all(file: &mut ResFile, numbers: &[Option<usize>])
     }
 }
 
-/// Reads the references of a file that are to be read as it is opened, in order. One that finds no room has no handle.
+/// Preloads the resources of a file that have resPreload, in order. A resource for which the zone has no room gets no
+/// handle. Where the host is out of memory, the file stays as it was.
 pub fn preload<S: BlockStore>(
     alloc: Global,
     heap: &mut Heap<S>,
@@ -103,7 +105,7 @@ pub fn preload<S: BlockStore>(
     ensures host { IsErr result → IsTrue S.TAKES_HOST ⊎ (heap.new ≡ heap.old) }
     ensures lies { heap.new.window ≡ heap.old.window }
 {
-    // All host memory is had before the first handle is made.
+    // All host memory is allocated before the first handle is made.
     let numbers = make_all(alloc, heap, file)?;
     give_all(file, &numbers);
     Ok(())

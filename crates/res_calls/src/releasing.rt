@@ -1,4 +1,4 @@
-//! The calls by which a handle ceases to be a resource's.
+//! The calls after which a handle is no longer a resource's.
 
 ghost use Rattle.std.specs.Prelude.{◌≡◌, ◌≢◌, Err, is_some, true, Some, map};
 ghost use Rattle.res_calls.specs.Files.{Found, Resources as ResourcesValue};
@@ -14,7 +14,8 @@ use block_store::BlockStore;
 use heap_calls::{Heap, Refusal};
 use mac_words::{Attrs, OsErr};
 
-/// Lets the handle of the reference in a place go, unless it is busy; where the resource was changed nothing is done.
+/// Disposes of the handle `number` of the reference at `at`. Returns -117 (memLockedErr) where the handle is busy; does
+/// nothing where the resource was changed.
 fn release_at<S: BlockStore>(
     files: &mut Vec<OpenFile>,
     heap: &mut Heap<S>,
@@ -40,7 +41,8 @@ fn release_at<S: BlockStore>(
     Ok(())
 }
 
-/// Takes the handle of the reference in a place away, as an application's own; a changed resource keeps its handle.
+/// Makes the handle `number` of the reference at `at` the application's own, and removes the handle from the reference.
+/// Returns -198 (resAttrErr) where the resource was changed.
 fn detach_at<S: BlockStore>(
     files: &mut Vec<OpenFile>,
     heap: &mut Heap<S>,
@@ -64,8 +66,9 @@ fn detach_at<S: BlockStore>(
 }
 
 impl Resources {
-    /// `ReleaseResource`: disposes of a resource's handle, locked or not; where the resource was changed nothing is
-    /// done. -192 where the handle is none of a resource, -117 where it is busy.
+    /// `ReleaseResource`: disposes of the handle of a resource, locked or not; the reference then has no handle. Does
+    /// nothing where the resource was changed. Returns -192 (resNotFound) where the handle is not a resource's, and
+    /// -117 (memLockedErr) where the handle is busy.
     pub fn release_resource<S: BlockStore>(
         &mut self,
         heap: &mut Heap<S>,
@@ -80,7 +83,7 @@ impl Resources {
         self.note(answer)
     }
 
-    /// The same, without keeping the code.
+    /// Does the work of `ReleaseResource` without setting the code that `ResError` returns.
     fn release<S: BlockStore>(
         &mut self,
         heap: &mut Heap<S>,
@@ -101,8 +104,9 @@ impl Resources {
         release_at(&mut self.chain, heap, at, number)
     }
 
-    /// `DetachResource`: a resource's handle becomes the application's own. -192 where the handle is none of a
-    /// resource, -198 where the resource was changed.
+    /// `DetachResource`: makes the handle of a resource the application's own; the reference then has no handle.
+    /// Returns -192 (resNotFound) where the handle is not a resource's, and -198 (resAttrErr) where the resource was
+    /// changed.
     pub fn detach_resource<S: BlockStore>(
         &mut self,
         heap: &mut Heap<S>,
@@ -117,7 +121,7 @@ impl Resources {
         self.note(answer)
     }
 
-    /// The same, without keeping the code.
+    /// Does the work of `DetachResource` without setting the code that `ResError` returns.
     fn detach<S: BlockStore>(
         &mut self,
         heap: &mut Heap<S>,

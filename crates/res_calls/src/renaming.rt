@@ -1,4 +1,4 @@
-//! The calls that give a resource another ID, another name or other attributes.
+//! The calls that set the ID, the name and the attributes of a resource.
 //!
 //! *More Macintosh Toolbox*, chapter 1, "Getting and Setting Resource Information".
 
@@ -17,7 +17,8 @@ use heap_calls::Refusal;
 use mac_words::{Attrs, Name, OsErr};
 use std::alloc::Global;
 
-/// Gives the reference in a place another ID, and another name where the text isn't empty.
+/// Sets the ID of the reference at `at`, and the name too where `name` is not empty. Returns -61 (wrPermErr) where the
+/// file is the System file, and -198 (resAttrErr) where the resource is protected.
 fn rename_at(
     files: &mut Vec<OpenFile>,
     alloc: Global,
@@ -42,7 +43,7 @@ fn rename_at(
     Ok(())
 }
 
-/// Gives the reference in a place other attributes, with `resChanged` as it was.
+/// Sets the attributes of the reference at `at`, except resChanged, which stays as it was.
 fn set_attrs_at(files: &mut Vec<OpenFile>, at: Spot, attrs: Attrs) -> Result<(), Refusal>
     requires { is_some (found_at at (map view_open files.old.items)) ≡ true }
     ensures answer { (r : ResourcesValue) (m : Memory) (f : Found)
@@ -56,8 +57,10 @@ fn set_attrs_at(files: &mut Vec<OpenFile>, at: Spot, attrs: Attrs) -> Result<(),
 }
 
 impl Resources {
-    /// `SetResInfo`: gives a resource another ID and name; an empty text leaves the name. -192 where the handle is none
-    /// of a resource, -61 for the System's, -198 for a protected one. Where the host has no memory nothing is changed.
+    /// `SetResInfo`: sets the ID and the name of a resource; an empty name leaves the resource's name as it was.
+    /// Returns -192 (resNotFound) where the handle is not a resource's, -61 (wrPermErr) where the resource is the
+    /// System file's, and -198 (resAttrErr) where the resource is protected. Where the host is out of memory, the
+    /// resources stay as they were.
     pub fn set_res_info(
         &mut self,
         alloc: Global,
@@ -73,7 +76,7 @@ impl Resources {
         self.note(answer)
     }
 
-    /// The same, without keeping the code.
+    /// Does the work of `SetResInfo` without setting the code that `ResError` returns.
     fn set_info(
         &mut self,
         alloc: Global,
@@ -91,8 +94,8 @@ impl Resources {
         }
     }
 
-    /// `SetResAttrs`: gives a resource, also the System's, other attributes; `resChanged` stays as it is. -192 where
-    /// the handle is none of a resource.
+    /// `SetResAttrs`: sets the attributes of a resource, of the System file too, except resChanged, which stays as it
+    /// was. Returns -192 (resNotFound) where the handle is not a resource's.
     pub fn set_res_attrs(&mut self, handle: Option<usize>, attrs: Attrs) -> Result<(), Refusal>
         ensures answer { (m : Memory) → IsAnswered (λ (u : Unit {0}). u) (noting (changing.set_res_attrs handle attrs.0)
             (managers self.old m)) result (managers self.new m) }
@@ -102,7 +105,7 @@ impl Resources {
         self.note(answer)
     }
 
-    /// The same, without keeping the code.
+    /// Does the work of `SetResAttrs` without setting the code that `ResError` returns.
     fn set_all_attrs(&mut self, handle: Option<usize>, attrs: Attrs) -> Result<(), Refusal>
         ensures answer { (m : Memory) → IsAnswered (λ (u : Unit {0}). u)
             (changing.set_res_attrs handle attrs.0 (managers self.old m)) result (managers self.new m) }

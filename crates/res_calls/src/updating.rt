@@ -1,4 +1,4 @@
-//! Open files are updated: their forks are written anew.
+//! The call that updates an open file: the resource fork of the file is written anew.
 //!
 //! *More Macintosh Toolbox*, chapter 1, "Writing Resources".
 
@@ -26,16 +26,16 @@ use mac_words::{Attrs, OsErr};
 use res_map::{Entry, ResFile};
 use std::alloc::{AllocError, Global};
 
-/// What an update of an open file is to store and to write. It is made before anything is changed.
+/// The stored data and the fork that an update of an open file makes. They are made before anything is changed.
 #[derive(Drop)]
 pub(crate) struct Anew {
-    /// For each reference the bytes that are stored of it from then on; none where those that are stored stay.
+    /// The new stored data of each reference; `None` where the stored data stays as it is.
     stored: Vec<Option<Vec<u8>>>,
-    /// The bytes of the fork.
+    /// The bytes of the new fork.
     fork: Vec<u8>,
 }
 
-/// The bytes of a handle, if there is one and it has a block.
+/// Returns the bytes of a handle's block, where the handle is present and not empty.
 fn held_bytes<S: BlockStore>(heap: &Heap<S>, handle: Option<usize>) -> Option<&[u8]>
     ensures { option_map (λ b. b.now) result ≡ bytes_held handle heap.now.heap }
 {
@@ -45,7 +45,7 @@ fn held_bytes<S: BlockStore>(heap: &Heap<S>, handle: Option<usize>) -> Option<&[
     }
 }
 
-/// Bytes of their own, where there are some.
+/// Returns a copy of `bytes`, where there are bytes.
 fn own_bytes(alloc: Global, bytes: Option<&[u8]>) -> Result<Option<Vec<u8>>, AllocError>
     ensures { IfOk result (λ o. view_bytes o ≡ option_map (λ b. b.now) bytes.entry) }
 {
@@ -55,7 +55,8 @@ fn own_bytes(alloc: Global, bytes: Option<&[u8]>) -> Result<Option<Vec<u8>>, All
     }
 }
 
-/// What an update stores of a reference: its handle's bytes where it was changed and the handle has a block.
+/// Returns the new stored data of a reference: the bytes of its handle's block, where the resource was changed and the
+/// handle is not empty.
 fn fresh_of<S: BlockStore>(
     alloc: Global,
     heap: &Heap<S>,
@@ -70,7 +71,7 @@ fn fresh_of<S: BlockStore>(
     }
 }
 
-/// What an update stores of the references of a map, in order.
+/// Returns the new stored data of the references of a resource map, in order.
 fn fresh_all<S: BlockStore>(
     alloc: Global,
     heap: &Heap<S>,
@@ -86,7 +87,8 @@ fn fresh_all<S: BlockStore>(
     Ok(all)
 }
 
-/// The fork of a map whose references store these bytes. -34 where that doesn't fit the format.
+/// Returns the fork of a resource map whose references have the stored data `stored`. Returns -34 (dskFulErr) where the
+/// content does not fit the format of a resource fork.
 fn write_with(alloc: Global, file: &ResFile, stored: &[Option<Vec<u8>>]) -> Result<Vec<u8>, Refusal>
     requires { length stored.now ≡ length file.now.references }
     ensures { IsFork (content (record file.now {
@@ -101,7 +103,8 @@ fn write_with(alloc: Global, file: &ResFile, stored: &[Option<Vec<u8>>]) -> Resu
     }
 }
 
-/// What an update of a map is to store and to write.
+/// Returns the stored data and the fork that an update of a resource map makes. Returns -34 (dskFulErr) where the
+/// content does not fit the format of a resource fork.
 fn make_anew<S: BlockStore>(alloc: Global, heap: &Heap<S>, file: &ResFile) -> Result<Anew, Refusal>
     ensures { IsAnew heap.now.heap file.now result }
 {
@@ -112,7 +115,7 @@ fn make_anew<S: BlockStore>(alloc: Global, heap: &Heap<S>, file: &ResFile) -> Re
     }
 }
 
-/// Gives a file another fork.
+/// Sets the fork of a file, and marks the file as written.
 fn give_fork(file: &mut File, fork: Vec<u8>)
     ensures { view_file file.new ≡ record (view_file file.old) { fork = fork.items; written = true } }
 {
@@ -120,7 +123,7 @@ fn give_fork(file: &mut File, fork: Vec<u8>)
     file.written = true;
 }
 
-/// Puts a fork in the place of a file's, which was written then. Where the file has no place nothing is done.
+/// Sets the fork of the file at `place`, and marks the file as written. Does nothing where `place` is `None`.
 pub(crate) fn put_fork(files: &mut Vec<File>, place: Option<usize>, fork: Vec<u8>)
     ensures { map view_file files.new.items ≡ written_at place fork.items (map view_file files.old.items) }
 {
@@ -131,7 +134,7 @@ pub(crate) fn put_fork(files: &mut Vec<File>, place: Option<usize>, fork: Vec<u8
     }
 }
 
-/// Stores the bytes of an update in an open file, which is touched no more.
+/// Sets the stored data of an open file's references, and marks the file as untouched.
 fn store_in(file: &mut OpenFile, stored: Vec<Option<Vec<u8>>>)
     requires { length stored.items ≡ length file.old.map.references }
     ensures { view_open file.new ≡ record (view_open file.old) {
@@ -143,7 +146,8 @@ fn store_in(file: &mut OpenFile, stored: Vec<Option<Vec<u8>>>)
     file.touched = false;
 }
 
-/// Writes and stores what an update of an open file is to.
+/// Carries out an update of an open file: sets the fork of its file and the stored data of its references, and marks
+/// the file as untouched.
 fn carry_out(files: &mut Vec<File>, file: &mut OpenFile, anew: Anew)
     requires { length anew.stored.items ≡ length file.old.map.references }
     ensures files { map view_file files.new.items
@@ -157,8 +161,8 @@ fn carry_out(files: &mut Vec<File>, file: &mut OpenFile, anew: Anew)
     store_in(file, anew.stored);
 }
 
-/// Updates the open file at a place, if it is touched: all of it, or nothing. -34 where its content doesn't fit the
-/// format.
+/// Updates the open file at the place `at`, where the file is touched; the update is done wholly or not at all. Returns
+/// -34 (dskFulErr) where the content of the file does not fit the format of a resource fork.
 pub(crate) fn update_at<S: BlockStore>(
     alloc: Global,
     heap: &Heap<S>,
@@ -180,7 +184,7 @@ pub(crate) fn update_at<S: BlockStore>(
     if !chain[at].touched {
         return Ok(());
     }
-    // All host memory is had before anything is changed.
+    // All host memory is allocated before anything is changed.
     let anew = match make_anew(alloc, heap, &chain[at].map) {
         Ok(anew) => anew,
         Err(refusal) => return Err(refusal),
@@ -190,10 +194,11 @@ pub(crate) fn update_at<S: BlockStore>(
 }
 
 impl Resources {
-    /// `UpdateResFile`: writes the fork of an open file anew, if it was touched: all of it, or nothing. The changed
-    /// resources are stored as their handles hold them then; one whose handle is emptied keeps what is stored of it.
-    /// Nothing is done for the System's file. -193 where no such file is open, -34 where its content doesn't fit the
-    /// format.
+    /// `UpdateResFile`: writes the fork of a touched file anew; the update is done wholly or not at all. The stored
+    /// data of each changed resource becomes the bytes of the resource's handle; a resource whose handle is empty keeps
+    /// its stored data. Does nothing for the System file. Returns -193 (resFNotFound) where no file of that number is
+    /// open, and -34 (dskFulErr) where the content of the file does not fit the format of a resource fork. Where the
+    /// host is out of memory, the resources stay as they were.
     ///
     /// *More Macintosh Toolbox*, chapter 1, "Writing Resources".
     pub fn update_res_file<S: BlockStore>(
@@ -213,7 +218,7 @@ impl Resources {
         self.note(answer)
     }
 
-    /// Updates an open file.
+    /// Does the work of `UpdateResFile` without setting the code that `ResError` returns.
     fn update<S: BlockStore>(
         &mut self,
         alloc: Global,

@@ -2,15 +2,15 @@
 
 use std::alloc::{AllocError, Global};
 
-/// A line that a case is to tell, as `CALL | ANSWER`.
+/// A row that a case expects: a line of the form `CALL | ANSWER`.
 #[derive(Drop)]
 pub struct Row {
-    /// Its line in the file of cases.
+    /// The number of the row's line in the file of cases.
     pub line: usize,
     pub text: String,
 }
 
-/// A resource.
+/// A resource of a file.
 #[derive(Drop)]
 pub struct Resource {
     pub ty: [u8; 4],
@@ -20,17 +20,17 @@ pub struct Resource {
     pub name: Option<Vec<u8>>,
 }
 
-/// A file: one of resources, or of any bytes.
+/// A file, given by its resources or by the bytes of its fork.
 #[derive(Drop)]
 pub struct Fork {
     pub name: String,
     pub resources: Vec<Resource>,
-    /// The bytes of its fork, where they are told.
+    /// The bytes of the fork, where the case gives bytes.
     pub bytes: Option<Vec<u8>>,
 }
 
 impl Fork {
-    /// A file without resources.
+    /// Returns a file that has no resources.
     pub fn new(alloc: Global, name: &str) -> Result<Fork, AllocError> {
         Ok(Fork {
             name: String::from_str(alloc, name)?,
@@ -40,45 +40,46 @@ impl Fork {
     }
 }
 
-/// Bytes at a place of the zone.
+/// Bytes that are expected at a place of the zone.
 #[derive(Drop)]
 pub struct Piece {
-    /// Its line in the file of cases.
+    /// The number of the piece's line in the file of cases.
     pub line: usize,
     pub at: usize,
     pub bytes: Vec<u8>,
 }
 
-/// A script, what its application finds, and what it is to tell; or texts of scripts that are only read.
+/// A worked case: a script, the files of its application, and the expected rows; or texts of scripts that are only
+/// read.
 #[derive(Drop)]
 pub struct Case {
     pub title: String,
-    /// The line of its title in the file of cases.
+    /// The number of the title's line in the file of cases.
     pub line: usize,
     /// The size of the partition, in bytes.
     pub size: u32,
-    /// The application's own file, those beside it, and the System's.
+    /// The application's own file, the other files of the application, and the System file.
     pub own: Fork,
     pub others: Vec<Fork>,
     pub system: Fork,
-    /// The script's text.
+    /// The text of the script.
     pub script: String,
-    /// The rows that its calls are to tell.
+    /// The expected rows of the calls.
     pub rows: Vec<Row>,
-    /// What is told of the end.
+    /// The expected row of the end.
     pub end: Row,
-    /// The resources of the files that are to be written.
+    /// The expected rows of the files that are written.
     pub written: Vec<Row>,
-    /// What lies in the bytes of the zone at the end.
+    /// The bytes that are expected in the zone at the end.
     pub zone: Vec<Piece>,
     /// Whether each row is a script of its own, which is only read.
     pub is_read: bool,
-    /// These scripts, ` / ` between two lines.
+    /// The scripts that are only read, with ` / ` between two lines of a script.
     pub texts: Vec<String>,
 }
 
 impl Case {
-    /// A case without a line of a script.
+    /// Returns a case whose script has no lines.
     pub fn new(alloc: Global, title: &str, line: usize) -> Result<Case, AllocError> {
         Ok(Case {
             title: String::from_str(alloc, title)?,
@@ -105,13 +106,13 @@ impl Case {
         writeln!(self.script, "{line}")
     }
 
-    /// Appends a row to what is told.
+    /// Appends an expected row.
     pub fn tell(&mut self, row: Row) -> Result<(), AllocError> {
         self.rows.push(row)?;
         Ok(())
     }
 
-    /// The file that was named last, else the application's own.
+    /// Returns the file that was named last, or the application's own file.
     pub fn last_file(&mut self) -> &mut Fork {
         match self.others.last_mut() {
             Some(fork) => fork,

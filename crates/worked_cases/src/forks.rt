@@ -1,4 +1,4 @@
-//! Forks by their resources.
+//! Resource forks, given by their resources.
 
 ghost use Rattle.std.specs.Prelude.{◌<◌, length};
 
@@ -10,7 +10,7 @@ use mac_words::{Attrs, FileName, OsType};
 use res_calls::{File, Resources};
 use std::alloc::{AllocError, Global};
 
-/// The bytes of a word: hexadecimal digits behind `$`, a text in quotes, or a number, which has two bytes.
+/// Returns the bytes of a word: hexadecimal digits after a `$`, a text in quotes, or a number, which has two bytes.
 pub fn bytes_of(alloc: Global, word: &str) -> Result<Vec<u8>> {
     if let Some(digits) = word.strip_prefix('$') {
         return Ok(hex::decode(alloc, digits)?);
@@ -21,7 +21,7 @@ pub fn bytes_of(alloc: Global, word: &str) -> Result<Vec<u8>> {
     Ok(Vec::from_slice(alloc, &word.parse::<u16>()?.to_be_bytes())?)
 }
 
-/// The resource that a line tells of: `'TYPE' ID ATTRIBUTES BYTES`, and perhaps a name.
+/// Returns the resource that a line spells as `'TYPE' ID ATTRIBUTES BYTES`, with or without a name after the bytes.
 pub fn resource_of(alloc: Global, text: &str) -> Result<Resource> {
     let text = text.strip_prefix('\'').context("no type")?;
     let (ty, rest) = text.split_once("' ").context("no type")?;
@@ -42,7 +42,7 @@ pub fn resource_of(alloc: Global, text: &str) -> Result<Resource> {
     })
 }
 
-/// A resource as a fork's content has it.
+/// Returns a resource in the form of a fork's content.
 fn reference(resource: &Resource) -> Result<Ref<'_>> {
     let name = match &resource.name {
         Some(name) => {
@@ -59,7 +59,7 @@ fn reference(resource: &Resource) -> Result<Ref<'_>> {
     })
 }
 
-/// Resources by type; those of one type stand together.
+/// Returns the resources by type; the resources of one type stand together.
 fn groups_of(alloc: Global, resources: &[Resource]) -> Result<Vec<Group<'_>>> {
     let mut groups: Vec<Group<'_>> = Vec::new(alloc);
     for resource in resources {
@@ -76,7 +76,7 @@ fn groups_of(alloc: Global, resources: &[Resource]) -> Result<Vec<Group<'_>>> {
     Ok(groups)
 }
 
-/// The fork of these resources.
+/// Returns the bytes of a fork that has these resources.
 fn fork_holding(alloc: Global, resources: &[Resource]) -> Result<Vec<u8>> {
     let content = Content {
         area: [0; 240],
@@ -89,7 +89,7 @@ fn fork_holding(alloc: Global, resources: &[Resource]) -> Result<Vec<u8>> {
     }
 }
 
-/// The bytes of a file's fork.
+/// Returns the bytes of a file's fork.
 fn fork_bytes(alloc: Global, fork: &Fork) -> Result<Vec<u8>> {
     match &fork.bytes {
         Some(bytes) => Ok(Vec::from_slice(alloc, bytes)?),
@@ -97,7 +97,7 @@ fn fork_bytes(alloc: Global, fork: &Fork) -> Result<Vec<u8>> {
     }
 }
 
-/// The name of a file.
+/// Returns a file name.
 fn file_name(name: &str) -> Result<FileName> {
     let mut bytes = ArrayVec::new();
     match bytes.try_extend_from_slice(name.as_bytes()) {
@@ -106,7 +106,7 @@ fn file_name(name: &str) -> Result<FileName> {
     }
 }
 
-/// A file with this fork.
+/// Returns a file that has this fork.
 fn file_of(alloc: Global, fork: &Fork) -> Result<File> {
     Ok(File {
         name: file_name(&fork.name)?,
@@ -115,7 +115,7 @@ fn file_of(alloc: Global, fork: &Fork) -> Result<File> {
     })
 }
 
-/// The resources of an application with these files, and those of a System's fork.
+/// Returns the resources of an application that is launched with these files and with the fork of a System file.
 fn launched(alloc: Global, files: Vec<File>, system: &[u8]) -> Result<Resources>
     requires { 0 < length files.items }
 {
@@ -128,7 +128,7 @@ fn launched(alloc: Global, files: Vec<File>, system: &[u8]) -> Result<Resources>
     }
 }
 
-/// Files with these forks, in order.
+/// Returns the files that have these forks, in order.
 fn files_of(alloc: Global, own: &Fork, others: &[Fork]) -> Result<Vec<File>> {
     let mut files = Vec::new(alloc);
     files.push(file_of(alloc, own)?)?;
@@ -138,7 +138,7 @@ fn files_of(alloc: Global, own: &Fork, others: &[Fork]) -> Result<Vec<File>> {
     Ok(files)
 }
 
-/// The resources of an application: its own file, others beside it, and the System's.
+/// Returns the resources of an application, given its own file, its other files and the System file.
 pub fn resources_of(
     alloc: Global,
     own: &Fork,
@@ -151,7 +151,7 @@ pub fn resources_of(
     launched(alloc, files, &system)
 }
 
-/// A resource as a row tells it.
+/// Returns the row of a resource that was written.
 fn row_of(
     alloc: Global,
     file: &str,
@@ -172,7 +172,7 @@ fn row_of(
     Ok(row)
 }
 
-/// Appends the rows of a file that was written: one of its fork's length, and one for each resource of it.
+/// Appends the rows of a file that was written: one row with the length of the fork, and one row for each resource.
 fn push_rows(alloc: Global, rows: &mut Vec<String>, file: &File) -> Result<()> {
     let name = String::from_utf8_lossy(alloc, file.name.0.as_slice())?;
     let Ok(content) = read_fork(alloc, &file.fork) else {
@@ -187,7 +187,7 @@ fn push_rows(alloc: Global, rows: &mut Vec<String>, file: &File) -> Result<()> {
     Ok(())
 }
 
-/// The rows of the files that were written, in order.
+/// Returns the rows of the files that were written, in order.
 pub fn written_rows(alloc: Global, files: &[File]) -> Result<Vec<String>> {
     let mut rows = Vec::new(alloc);
     for file in files {

@@ -1,5 +1,5 @@
-//! Worked cases, kept as data: each script is run over lists and in the bytes of a region, and what it tells is
-//! compared, row by row, with what it is to tell.
+//! Worked cases, kept as data: each script is run over lists and in the bytes of a region, and its transcript is
+//! compared, row by row, with the expected rows.
 #![tactic(auto)]
 
 mod case;
@@ -17,7 +17,7 @@ use reading::read_cases;
 use std::rt::{Env, Files};
 use trial::{Count, try_cases};
 
-/// Tries the cases of a file, and prints what differs and a line for the file.
+/// Tries the cases of a file, and prints the differences and a line for the file.
 fn try_file<R: Files + Print + AllocGlobal>(rt: &R, folder: &str, name: &str) -> Result<Count> {
     let alloc = rt.alloc();
     let text = file_text(rt, folder, name)?;
@@ -34,7 +34,7 @@ fn try_file<R: Files + Print + AllocGlobal>(rt: &R, folder: &str, name: &str) ->
     Ok(count)
 }
 
-/// Tries the cases of each file of the folder that the command line names.
+/// Tries the cases of each file in the folder that the command line names.
 fn run<R: Env + Files + Print + AllocGlobal + Clone + Drop>(rt: &R) -> Result<()> {
     let folder = folder_of(rt)?;
     let mut all = Count::none();

@@ -1,24 +1,25 @@
-//! A file of cases is read. Lines that begin with `--` are passed over.
+//! Reading a file of cases. Lines that begin with `--` are comments.
 //!
-//! | Line | Says |
+//! | Line | Meaning |
 //! |---|---|
-//! | `case TITLE` | a case begins |
-//! | `script SIZE` | the size of its partition in bytes; 1024 where it isn't said |
-//! | `CALL \| ANSWER` | a line of the script, and what it tells |
-//! | `+ CALL \| ANSWER` | what a call of the grow-zone script tells, above the call that asked |
-//! | `ends CODE` | the code of the end, where it isn't 0 |
-//! | `file NAME` | a file of the application, beside its own, which is named `script` |
-//! | `resource 'TYPE' ID ATTRIBUTES BYTES NAME` | a resource of that file, or of its own; the name may be missing |
-//! | `bytes BYTES ..` | that file's fork has these bytes in place of resources |
-//! | `system 'TYPE' ..` | a resource of the System's |
-//! | `writes NAME N bytes` | a file that was written, in order, with the length of its fork |
-//! | `writes NAME 'TYPE' ..` | a resource of it, in order |
-//! | `zone AT BYTES ..` | bytes that lie in the zone at the end, from an offset on |
-//! | `reads` | each row below is a script, ` / ` between two lines, that is only read: `read`, or the line and kind of its fault |
+//! | `case TITLE` | begins a case |
+//! | `script SIZE` | the size of the partition in bytes; 1024 where the case has no such line |
+//! | `CALL \| ANSWER` | a line of the script, and the expected answer |
+//! | `+ CALL \| ANSWER` | a call of the grow-zone script and its expected answer, above the call that found no room |
+//! | `ends CODE` | the expected code of the end, where the code is not 0 |
+//! | `file NAME` | a file of the application, besides its own file, which is named `script` |
+//! | `resource 'TYPE' ID ATTRIBUTES BYTES NAME` | a resource of the file named last, or of the application's own file; the name may be missing |
+//! | `bytes BYTES ..` | the bytes of that file's fork, in place of resources |
+//! | `system 'TYPE' ..` | a resource of the System file |
+//! | `writes NAME N bytes` | a file that is to be written, in order, with the length of its fork |
+//! | `writes NAME 'TYPE' ..` | a resource of that file, in order |
+//! | `zone AT BYTES ..` | bytes that are expected in the zone at the end, from the offset AT on |
+//! | `reads` | each row below is a script, with ` / ` between two lines, that is only read: the answer is `read`, or the line and kind of the fault |
 //!
-//! Other lines are lines of the script that tell nothing, as those of a grow-zone script. BYTES are `$` and hexadecimal digits, a text in
-//! quotes without blanks, or a number, which has two bytes. `N times LINE` stands for N lines, in which `#` is the number of the line
-//! from 0 on; `{N*TEXT}` stands for N times the text, `{TAB}` and `{CR}` for what they say.
+//! Other lines are lines of the script without an expected answer, such as those of a grow-zone script. BYTES are `$`
+//! and hexadecimal digits, a text in quotes without blanks, or a number, which has two bytes. `N times LINE` stands for
+//! N lines, in which `#` is the number of the line, counted from 0; `{N*TEXT}` stands for N repetitions of the text,
+//! `{TAB}` for a tab, and `{CR}` for a carriage return.
 
 use crate::case::{Case, Fork, Piece, Row};
 use crate::forks::{bytes_of, resource_of};
@@ -26,7 +27,7 @@ use crate::writing_out::{numbered, times, written_out};
 use anyhow::{Context, Result, bail};
 use std::alloc::{AllocError, Global};
 
-/// The row of a call.
+/// Returns the row of a call.
 fn row_of(alloc: Global, line: usize, call: &str, answer: &str) -> Result<Row, AllocError> {
     Ok(Row {
         line,
@@ -34,7 +35,7 @@ fn row_of(alloc: Global, line: usize, call: &str, answer: &str) -> Result<Row, A
     })
 }
 
-/// A call of the script and its answer, or one of the grow-zone script, or a script that is only read.
+/// Takes a row with its answer: a call of the script, a call of the grow-zone script, or a script that is only read.
 fn take_row(
     alloc: Global,
     case: &mut Case,
@@ -58,7 +59,7 @@ fn push_bytes(alloc: Global, bytes: &mut Vec<u8>, words: &str) -> Result<()> {
     Ok(())
 }
 
-/// More bytes of the fork of a file.
+/// Adds bytes to the fork of a file.
 fn take_bytes(alloc: Global, fork: &mut Fork, words: &str) -> Result<()> {
     let mut bytes = match fork.bytes.take() {
         Some(bytes) => bytes,
@@ -69,7 +70,7 @@ fn take_bytes(alloc: Global, fork: &mut Fork, words: &str) -> Result<()> {
     Ok(())
 }
 
-/// Bytes of the zone.
+/// Returns the bytes that are expected at a place of the zone.
 fn piece_of(alloc: Global, line: usize, text: &str) -> Result<Piece> {
     let (at, words) = text.split_once(' ').context("no bytes")?;
     let at = at.parse::<usize>()?;
@@ -78,7 +79,8 @@ fn piece_of(alloc: Global, line: usize, text: &str) -> Result<Piece> {
     Ok(Piece { line, at, bytes })
 }
 
-/// A line of a case that begins with such a word and goes on so; gives whether there is such a word.
+/// Takes a line of a case whose first word is one of the words of a case, and reports whether the first word is one of
+/// them.
 fn take_word(alloc: Global, case: &mut Case, line: usize, word: &str, rest: &str) -> Result<bool> {
     match word {
         "script" => case.size = rest.parse::<u32>()?,
@@ -106,7 +108,8 @@ fn take_word(alloc: Global, case: &mut Case, line: usize, word: &str, rest: &str
     Ok(true)
 }
 
-/// A line of a case: a call with its answer, what its first word says, or a line of the script alone.
+/// Takes a line of a case: a call with its answer, a line whose first word is one of the words of a case, or a line of
+/// the script.
 fn take_one(alloc: Global, case: &mut Case, line: usize, text: &str) -> Result<()> {
     if let Some((call, answer)) = text.rsplit_once('|') {
         let call = call.trim_end_matches(' ');
@@ -121,7 +124,7 @@ fn take_one(alloc: Global, case: &mut Case, line: usize, text: &str) -> Result<(
     Ok(())
 }
 
-/// A line of a case, or the lines that it stands for.
+/// Takes a line of a case, or each of the lines that a line with `times` stands for.
 fn take_line(alloc: Global, case: &mut Case, line: usize, text: &str) -> Result<()> {
     let Some((count, text)) = times(text) else {
         return take_one(alloc, case, line, &written_out(alloc, text)?);
@@ -133,7 +136,7 @@ fn take_line(alloc: Global, case: &mut Case, line: usize, text: &str) -> Result<
     Ok(())
 }
 
-/// A line of a file of cases: it begins a case, or belongs to the last one.
+/// Takes a line of a file of cases: the line begins a case, or belongs to the last case.
 fn take(alloc: Global, cases: &mut Vec<Case>, line: usize, text: &str) -> Result<()> {
     if text.is_empty() || text.starts_with("--") {
         return Ok(());
@@ -148,7 +151,7 @@ fn take(alloc: Global, cases: &mut Vec<Case>, line: usize, text: &str) -> Result
     }
 }
 
-/// The cases of a file's text, in order.
+/// Returns the cases of a file's text, in order.
 pub fn read_cases(alloc: Global, text: &str) -> Result<Vec<Case>> {
     let mut cases = Vec::new(alloc);
     for (index, line) in text.lines().enumerate() {

@@ -1,4 +1,4 @@
-//! Cases over both stores of blocks: one that keeps lists, and one in the bytes of a region.
+//! Cases over both stores of blocks: the store that keeps lists, and the store in the bytes of a region.
 
 ghost use Rattle.std.specs.Prelude.{◌≡◌, ◌%◌, ◌≤◌, [], IfOk, length};
 
@@ -12,7 +12,7 @@ use res_calls::Resources;
 use script_text::Script;
 use std::alloc::{AllocError, Global};
 
-/// What an application gives, over either store, and the bytes of its zone.
+/// The transcripts and files of an application over each store, and the bytes of its zone in the region.
 #[derive(Drop)]
 pub struct Runs {
     pub in_lists: Given,
@@ -20,7 +20,7 @@ pub struct Runs {
     pub zone: Vec<u8>,
 }
 
-/// A region of so many bytes, none of which is 0.
+/// Returns a region of `len` bytes, none of which is 0.
 fn used_region(alloc: Global, len: u32) -> Result<Region, AllocError>
     requires even { len % 16 ≡ 0 }
     requires low { 512 ≤ len }
@@ -35,7 +35,7 @@ fn used_region(alloc: Global, len: u32) -> Result<Region, AllocError>
     Ok(region)
 }
 
-/// The bytes of a region.
+/// Returns the bytes of a region, and closes the region.
 fn zone_of(alloc: Global, region: Region) -> Result<Vec<u8>, AllocError>
     requires home { region.out ≡ [] }
     requires even { length region.bytes % 16 ≡ 0 }
@@ -94,7 +94,7 @@ fn resources(alloc: Global, case: &Case) -> Result<Resources> {
     resources_of(alloc, &case.own, &case.others, &case.system)
 }
 
-/// What the application of a case gives, over either store.
+/// Runs the application of a case over each store.
 pub fn run_case(alloc: Global, case: &Case, script: &Script) -> Result<Runs> {
     let size = case.size;
     ensure!(

@@ -1,8 +1,8 @@
-//! A transcript in the form of rows: each call as it stands in the script, with its answer.
+//! A transcript in the form of rows: each call as the script spells the call, with its answer.
 
 use std::alloc::{AllocError, Global};
 
-/// The line of a script by its number, if it begins with this word.
+/// Returns the line of a script that has the given number, where the line begins with `word`.
 fn call_at<'s>(script: &'s [&'s str], number: &str, word: &str) -> Option<&'s str> {
     let index = number.parse::<usize>().ok()?.checked_sub(1)?;
     let call = script.get(index)?;
@@ -12,7 +12,7 @@ fn call_at<'s>(script: &'s [&'s str], number: &str, word: &str) -> Option<&'s st
     }
 }
 
-/// A transcript's line as a row; one that tells of no line of the script stays as it is.
+/// Returns a line of a transcript as a row. A line that belongs to no line of the script stays as it is.
 fn row_of(alloc: Global, script: &[&str], told: &str) -> Result<String, AllocError> {
     let (mark, rest) = match told.strip_prefix('+') {
         Some(rest) => ("+ ", rest),
@@ -28,7 +28,7 @@ fn row_of(alloc: Global, script: &[&str], told: &str) -> Result<String, AllocErr
     String::from_str(alloc, told)
 }
 
-/// The rows of a script's transcript.
+/// Returns the rows of a script's transcript.
 pub fn rows_of(alloc: Global, script: &str, transcript: &str) -> Result<Vec<String>, AllocError> {
     let script: Vec<&str> = script.lines().collect(alloc)?;
     transcript

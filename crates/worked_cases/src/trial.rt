@@ -1,4 +1,4 @@
-//! Cases are tried, and what differs is told.
+//! Trying cases, and printing what differs.
 
 use crate::case::{Case, Piece, Row};
 use crate::forks::written_rows;
@@ -9,7 +9,7 @@ use applications::Given;
 use script_text::{Script, ScriptFault, read_script};
 use std::alloc::{AllocError, Global};
 
-/// How many cases were tried, and how many of them are told as they are to be.
+/// The number of cases that were tried, and the number of cases whose rows are all as expected.
 #[derive(Clone, Copy)]
 pub struct Count {
     pub tried: usize,
@@ -21,7 +21,7 @@ impl Count {
         Count { tried: 0, well: 0 }
     }
 
-    /// The count of a file that can't be read.
+    /// Returns the count of a file that cannot be read.
     pub fn unread() -> Count {
         Count { tried: 1, well: 0 }
     }
@@ -36,7 +36,7 @@ impl Count {
     }
 }
 
-/// Appends rows, each with its line.
+/// Appends rows, each with the number of its line.
 fn push_rows(alloc: Global, to: &mut Vec<(usize, String)>, rows: &[Row]) -> Result<(), AllocError> {
     for Row { line, text } in rows {
         to.push((*line, String::from_str(alloc, text)?))?;
@@ -44,7 +44,7 @@ fn push_rows(alloc: Global, to: &mut Vec<(usize, String)>, rows: &[Row]) -> Resu
     Ok(())
 }
 
-/// The rows that a case is to tell. Those of a script that is run have the launch and the end with them.
+/// Returns the rows that a case expects. Those of a script that is run include the launch and the end.
 fn expected(alloc: Global, case: &Case) -> Result<Vec<(usize, String)>, AllocError> {
     let mut rows = Vec::new(alloc);
     if case.is_read {
@@ -58,7 +58,8 @@ fn expected(alloc: Global, case: &Case) -> Result<Vec<(usize, String)>, AllocErr
     Ok(rows)
 }
 
-/// The first row that differs: its line in the file of cases, the row that was expected, and that which is told.
+/// Returns the first row that differs: the number of its line in the file of cases, the expected row, and the row that
+/// came.
 fn first_difference<'r>(
     expected: &'r [(usize, String)],
     told: &'r [String],
@@ -74,7 +75,8 @@ fn first_difference<'r>(
     Some((*line, "nothing more", more.as_str()))
 }
 
-/// The rows that an application tells: of its launch, its calls and its end, and of the files that it wrote.
+/// Returns the rows of an application: those of its launch, its calls and its end, and those of the files that it
+/// wrote.
 fn told_by(alloc: Global, case: &Case, given: Given) -> Result<Vec<String>> {
     let written = written_rows(alloc, given.files())?;
     let transcript = String::from_utf8_lossy(alloc, &given.into_transcript())?;
@@ -85,7 +87,7 @@ fn told_by(alloc: Global, case: &Case, given: Given) -> Result<Vec<String>> {
     Ok(rows)
 }
 
-/// Tells of the first row that differs, if any; gives whether there is none.
+/// Appends the first row that differs to `text`, and reports whether no row differs.
 fn is_told(
     alloc: Global,
     name: &str,
@@ -106,13 +108,13 @@ fn is_told(
     }
 }
 
-/// Whether bytes lie at a place of a zone.
+/// Reports whether the bytes of a piece stand at their place in a zone.
 fn lies(zone: &[u8], piece: &Piece) -> bool {
     let end = piece.at.saturating_add(piece.bytes.len());
     zone.get(piece.at..end) == Some(piece.bytes.as_slice())
 }
 
-/// Tells of the first bytes that lie not in the zone, if any; gives whether there are none.
+/// Appends the first bytes that do not stand in the zone to `text`, and reports whether all bytes stand there.
 fn is_laid(
     alloc: Global,
     name: &str,
@@ -131,7 +133,7 @@ fn is_laid(
     }
 }
 
-/// Runs a script over either store; gives whether its case is told as it is to be.
+/// Runs a script over each store, and reports whether all rows of its case are as expected.
 fn try_script(
     alloc: Global,
     name: &str,
@@ -151,7 +153,7 @@ fn try_script(
     Ok(is_laid(alloc, name, case, &zone, text)? && lists && bytes)
 }
 
-/// The row of a script that is read, or has this fault.
+/// Returns the row of a script that is read, or that has this fault.
 fn read_row(alloc: Global, text: &str, fault: Option<ScriptFault>) -> Result<String, AllocError> {
     match fault {
         None => format!(in alloc; "{text} | read"),
@@ -159,7 +161,7 @@ fn read_row(alloc: Global, text: &str, fault: Option<ScriptFault>) -> Result<Str
     }
 }
 
-/// Tells whether the scripts of a case are read, and what faults they have.
+/// Reads the scripts of a case, and reports whether each is read, or has its fault, as expected.
 fn try_texts(alloc: Global, name: &str, case: &Case, text: &mut String) -> Result<bool> {
     let mut told = Vec::new(alloc);
     for lines in &case.texts {
@@ -170,7 +172,7 @@ fn try_texts(alloc: Global, name: &str, case: &Case, text: &mut String) -> Resul
     Ok(is_told(alloc, name, case, "as it is read", &told, text)?)
 }
 
-/// Tries a case; gives whether it is told as it is to be.
+/// Tries a case, and reports whether all its rows are as expected.
 fn try_case(alloc: Global, name: &str, case: &Case, text: &mut String) -> Result<bool> {
     if case.is_read {
         return try_texts(alloc, name, case, text);
@@ -181,7 +183,7 @@ fn try_case(alloc: Global, name: &str, case: &Case, text: &mut String) -> Result
     }
 }
 
-/// Tries the cases of a file, and appends what differs to a text.
+/// Tries the cases of a file, and appends the differences to `text`.
 pub fn try_cases(alloc: Global, name: &str, cases: &[Case], text: &mut String) -> Result<Count> {
     let mut count = Count::none();
     for case in cases {

@@ -1,21 +1,21 @@
-//! Lines of a file of cases are written out: one that stands for many, and what stands in braces.
+//! Writing out the lines of a file of cases: a line that stands for several lines, and a text in braces.
 
 use anyhow::{Context, Result};
 use std::alloc::Global;
 
-/// How many lines a line `N times LINE` stands for, and the line.
+/// Returns how many lines a line `N times LINE` stands for, and the line.
 pub fn times(text: &str) -> Option<(u16, &str)> {
     let (count, line) = text.split_once(" times ")?;
     Some((count.parse::<u16>().ok()?, line))
 }
 
-/// A line with its number, from 0, in place of each `#`.
+/// Returns a line with `number`, counted from 0, in place of each `#`.
 pub fn numbered(alloc: Global, line: &str, number: u16) -> Result<String> {
     let number = format!(in alloc; "{number}")?;
     Ok(line.replace(alloc, '#', &number)?)
 }
 
-/// What stands in braces: `N*TEXT`, a `TAB`, or a carriage return, `CR`.
+/// Returns the text that a text in braces stands for: `N*TEXT`, a `TAB`, or a carriage return, `CR`.
 fn piece(alloc: Global, braced: &str) -> Result<String> {
     match braced {
         "TAB" => Ok(String::from_str(alloc, "\t")?),
@@ -27,7 +27,7 @@ fn piece(alloc: Global, braced: &str) -> Result<String> {
     }
 }
 
-/// A line with what stands in braces written out.
+/// Returns a line with its texts in braces written out.
 pub fn written_out(alloc: Global, line: &str) -> Result<String> {
     let mut parts = line.split('{');
     let mut text = String::from_str(alloc, parts.next().unwrap_or(""))?;

@@ -1,12 +1,13 @@
-//! An archive is read. A line `$ WORDS` begins a command, and a line `-- NAME --` a part; what stands below a part's line is
-//! its text, and what stands below no part is for who reads the archive. A part tells what the command above it is to give
-//! where its name is one of `WANTED` or `> PATH`; any other is a file of that name, which each command of the archive can read.
+//! Reading an archive. A line `$ WORDS` begins a command, and a line `-- NAME --` begins a part. The lines below a
+//! part's line are the text of the part; the lines below no part are for the reader of the archive. A part whose name
+//! is one of `WANTED`, or `> PATH`, says what the command above it is to print or write. A part of any other name is a
+//! file of that name, which each command of the archive can read.
 
 use crate::parts::{Part, part_of, spelled};
 use anyhow::Result;
 use std::alloc::{AllocError, Global};
 
-/// What a part may be called that tells what a command is to give, beside `> PATH` for a file that is written.
+/// The names of the parts that say what a command is to print or do, besides `> PATH` for a file that is written.
 const WANTED: &[&str] = &[
     "stdout",
     "stdout has",
@@ -18,7 +19,7 @@ const WANTED: &[&str] = &[
     "each may fail",
 ];
 
-/// A command, and what it is to give.
+/// A command, and what the command is to print, ask for and write.
 #[derive(Drop)]
 pub struct Command {
     pub line: String,
@@ -26,18 +27,18 @@ pub struct Command {
 }
 
 impl Command {
-    /// What a part tells, if it is there.
+    /// Returns the bytes of the part of this name, where the command has the part.
     pub fn wants(&self, name: &str) -> Option<&[u8]> {
         part_of(&self.wanted, name)
     }
 
-    /// The parts, in order.
+    /// Returns the parts of the command, in order.
     pub fn parts(&self) -> &[Part] {
         self.wanted.as_slice()
     }
 }
 
-/// Files, and commands on them.
+/// Files, and commands that read the files.
 #[derive(Drop)]
 pub struct Archive {
     files: Vec<Part>,
@@ -45,12 +46,12 @@ pub struct Archive {
 }
 
 impl Archive {
-    /// The bytes of a file, if it is there.
+    /// Returns the bytes of a file, where the archive has the file.
     pub fn file(&self, path: &str) -> Option<&[u8]> {
         part_of(&self.files, path)
     }
 
-    /// Whether there is a file in a folder of this path.
+    /// Reports whether the archive has a file in the folder of this path.
     pub fn has_folder(&self, path: &str) -> bool {
         for file in &self.files {
             if let Some(rest) = file.name.as_str().strip_prefix(path) {
@@ -63,14 +64,14 @@ impl Archive {
     }
 }
 
-/// A part or a command, as it stands in the archive.
+/// A part or a command, as the archive spells it.
 #[derive(Drop)]
 struct Section {
     head: String,
     text: String,
 }
 
-/// The head of the part, or of the command, that a line begins, if it begins one.
+/// Returns the head of the part or command that a line begins, where the line begins one.
 fn head_of(line: &str) -> Option<&str> {
     if line.starts_with("$ ") {
         Some(line)
@@ -79,7 +80,7 @@ fn head_of(line: &str) -> Option<&str> {
     }
 }
 
-/// The sections of an archive.
+/// Returns the sections of an archive.
 fn sections_of(alloc: Global, text: &str) -> Result<Vec<Section>, AllocError> {
     let mut sections: Vec<Section> = Vec::new(alloc);
     for line in text.lines() {
@@ -98,12 +99,12 @@ fn sections_of(alloc: Global, text: &str) -> Result<Vec<Section>, AllocError> {
     Ok(sections)
 }
 
-/// Whether a part of this name tells what a command is to give.
+/// Reports whether a part of this name says what a command is to print or write.
 fn is_wanted(name: &str) -> bool {
     name.starts_with("> ") || WANTED.iter().any(|wanted| *wanted == name)
 }
 
-/// Puts a part where it belongs: to the last command, or to the files.
+/// Adds a part to the last command, or to the files.
 fn put(archive: &mut Archive, part: Part) -> Result<(), AllocError> {
     match archive.commands.last_mut() {
         Some(command) if is_wanted(&part.name) => command.wanted.push(part)?,
@@ -124,7 +125,7 @@ fn add(alloc: Global, archive: &mut Archive, section: &Section) -> Result<()> {
     Ok(())
 }
 
-/// The archive of a text.
+/// Returns the archive that a text spells.
 pub fn read_archive(alloc: Global, text: &str) -> Result<Archive> {
     let mut archive = Archive {
         files: Vec::new(alloc),

@@ -1,10 +1,10 @@
-//! What came is compared with what was to come. Each difference is told in a line, or in three.
+//! Comparing what a command did with what it is to do. Each difference is written in one line, or in three.
 
 use crate::archive::Command;
 use crate::parts::Part;
 use std::alloc::AllocError;
 
-/// Tells of the first line in which a text differs from what it is to be.
+/// Appends the first line in which a text differs from the wanted text.
 fn compare_lines(
     text: &mut String,
     name: &str,
@@ -28,12 +28,12 @@ fn compare_lines(
     Ok(())
 }
 
-/// How many bytes at their beginnings are the same.
+/// Returns the number of bytes that are equal at the beginnings of both.
 fn alike(one: &[u8], other: &[u8]) -> usize {
     one.iter().zip(other).take_while(|(a, b)| a == b).count()
 }
 
-/// Tells of the first byte that differs.
+/// Appends the first byte that differs from the wanted bytes.
 fn compare_bytes(
     text: &mut String,
     name: &str,
@@ -47,7 +47,7 @@ fn compare_bytes(
     writeln!(text, "      came:     {:?}", found.get(at))
 }
 
-/// Tells where bytes differ from what they are to be.
+/// Appends the first difference between bytes and the wanted bytes, where there is one.
 pub fn compare(
     text: &mut String,
     name: &str,
@@ -63,7 +63,8 @@ pub fn compare(
     }
 }
 
-/// Tells which lines don't stand in a text, each behind the one before it. A line may be a part of one.
+/// Appends the first wanted line that does not stand in a text after the wanted line before it. A wanted line may be a
+/// part of a line.
 pub fn compare_some(
     text: &mut String,
     name: &str,
@@ -82,7 +83,7 @@ pub fn compare_some(
     Ok(())
 }
 
-/// Compares the files that were written with those that are to be, in order.
+/// Compares the files that were written with the files that are to be written, in order.
 pub fn compare_files(
     text: &mut String,
     command: &Command,

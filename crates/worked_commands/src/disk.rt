@@ -8,15 +8,15 @@ use applications::Watch;
 use commands::{Host, ReadError, WriteError};
 use std::alloc::{AllocError, Global};
 
-/// A host with the files of an archive. It notes what is asked of it and how far it is told that a run has come, a line for
-/// each, and keeps what is printed and written.
+/// A host with the files of an archive. The host notes each request and each report of a run's progress in a line, and
+/// keeps the bytes that are printed and the files that are written.
 #[derive(Drop)]
 pub struct Disk<'a> {
     alloc: Global,
     archive: &'a Archive,
-    /// Which thing that is asked of it fails, from 1; none at 0.
+    /// The number of the request that fails, counted from 1; 0 where no request fails.
     fails: usize,
-    /// How many things were asked of it.
+    /// The number of requests so far.
     count: usize,
     pub asked: String,
     pub progress: String,
@@ -25,7 +25,7 @@ pub struct Disk<'a> {
 }
 
 impl<'a> Disk<'a> {
-    /// A host of which nothing was asked yet, and of which this thing fails.
+    /// Returns a host without a request so far, whose request number `fails` will fail.
     pub fn new(alloc: Global, archive: &'a Archive, fails: usize) -> Disk<'a> {
         Disk {
             alloc,
@@ -39,7 +39,7 @@ impl<'a> Disk<'a> {
         }
     }
 
-    /// Notes what is asked of it; gives whether it works.
+    /// Notes a request, and reports whether the request succeeds.
     fn works(&mut self, what: &str, path: &str) -> Result<bool, AllocError> {
         writeln!(self.asked, "{what} {path}")?;
         self.count = self.count.saturating_add(1);
@@ -55,7 +55,7 @@ impl<'a> Disk<'a> {
 }
 
 impl Watch for Disk<'_> {
-    // What is printed is compared, and nothing is claimed of it.
+    // The printed bytes are compared, and nothing is claimed of them.
     ghost printed = { λ _. None };
 
     fn done(&mut self, done: usize, of: usize) {
@@ -82,7 +82,7 @@ impl Host for Disk<'_> {
         Ok(())
     }
 
-    /// A folder that has files is there already.
+    /// Fails for a folder that has files, since that folder exists already.
     fn make_folder(&mut self, path: &str) -> Result<(), WriteError> {
         if self.works("folder", path)? && !self.archive.has_folder(path) {
             Ok(())

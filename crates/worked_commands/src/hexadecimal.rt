@@ -1,12 +1,13 @@
-//! Bytes that are written out, in lines of words, but for those that begin with `#`. A word is hexadecimal digits, a text in
-//! quotes without blanks, or `N*` and one of these, which is N of them. `N times LINE` is N lines, in each of which a word `%` is
-//! the two bytes of its number, from 0 on; with `N times by K LINE` the numbers are 0, K, 2 K and so on.
+//! Bytes that are spelled in lines of words; a line that begins with `#` is a comment. A word is hexadecimal digits, a
+//! text in quotes without blanks, or `N*` and one of these two, which stands for N repetitions. `N times LINE` stands
+//! for N lines, in each of which a word `%` is the two bytes of the line's number, counted from 0; with `N times by K
+//! LINE` the numbers are 0, K, 2 K and so on.
 
 use crate::lines::step_of;
 use anyhow::{Context, Result};
 use std::alloc::Global;
 
-/// The bytes of a text in quotes, or of hexadecimal digits.
+/// Returns the bytes of a text in quotes, or of hexadecimal digits.
 fn once(alloc: Global, word: &str) -> Result<Vec<u8>> {
     match word.strip_prefix("\"") {
         Some(text) => Ok(Vec::from_slice(alloc, text.trim_end_matches('"').as_bytes())?),
@@ -28,7 +29,7 @@ fn push_word(alloc: Global, bytes: &mut Vec<u8>, word: &str) -> Result<()> {
     Ok(())
 }
 
-/// Appends the bytes of a line with its number.
+/// Appends the bytes of a line that has this number.
 fn push_line(alloc: Global, bytes: &mut Vec<u8>, line: &str, number: u32) -> Result<()> {
     for word in line.split_whitespace() {
         if word == "%" {
@@ -40,7 +41,7 @@ fn push_line(alloc: Global, bytes: &mut Vec<u8>, line: &str, number: u32) -> Res
     Ok(())
 }
 
-/// Appends the bytes of a line so many times.
+/// Appends the bytes of a line `count` times.
 fn push_times(alloc: Global, bytes: &mut Vec<u8>, count: u16, line: &str) -> Result<()> {
     let (step, line) = step_of(line)?;
     for number in 0..count {
@@ -49,7 +50,7 @@ fn push_times(alloc: Global, bytes: &mut Vec<u8>, count: u16, line: &str) -> Res
     Ok(())
 }
 
-/// Appends the bytes of a line, or of as many as it says.
+/// Appends the bytes of a line, or of each line that the line stands for.
 fn push_lines(alloc: Global, bytes: &mut Vec<u8>, line: &str) -> Result<()> {
     match line.split_once(" times ") {
         Some((count, line)) => push_times(alloc, bytes, count.parse::<u16>()?, line),
@@ -57,7 +58,7 @@ fn push_lines(alloc: Global, bytes: &mut Vec<u8>, line: &str) -> Result<()> {
     }
 }
 
-/// The bytes of a text.
+/// Returns the bytes that a text spells.
 pub fn bytes_of(alloc: Global, text: &str) -> Result<Vec<u8>> {
     let mut bytes = Vec::new(alloc);
     for line in text.lines() {

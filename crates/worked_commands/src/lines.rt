@@ -1,10 +1,11 @@
-//! Lines that are written short: `N times LINE` is N lines, in each of which `%` is its number, from 1 on; `N times by K LINE`
-//! is the same with the numbers K, 2 K and so on; and `LINE and N zeros` is a line with N digits 0 at its end.
+//! Lines that are abbreviated. `N times LINE` stands for N lines, in each of which `%` is the line's number, counted
+//! from 1; with `N times by K LINE` the numbers are K, 2 K and so on; and `LINE and N zeros` stands for a line with N
+//! digits 0 at its end.
 
 use anyhow::Result;
 use std::alloc::{AllocError, Global};
 
-/// Appends a text in which `%` is a number.
+/// Appends a text with `number` in place of each `%`.
 fn push_numbered(lines: &mut String, text: &str, number: u32) -> Result<(), AllocError> {
     let mut first = true;
     for piece in text.split('%') {
@@ -17,13 +18,13 @@ fn push_numbered(lines: &mut String, text: &str, number: u32) -> Result<(), Allo
     Ok(())
 }
 
-/// What stands in a line above its zeros, and how many there are.
+/// Returns the text of a line before its zeros, and the number of the zeros.
 fn zeros_of(line: &str) -> Option<(&str, u32)> {
     let (front, count) = line.strip_suffix(" zeros")?.rsplit_once(" and ")?;
     Some((front, count.parse::<u32>().ok()?))
 }
 
-/// Appends a line with its number.
+/// Appends a line that has this number.
 fn push_line(lines: &mut String, line: &str, number: u32) -> Result<(), AllocError> {
     let (front, zeros) = zeros_of(line).unwrap_or((line, 0));
     push_numbered(lines, front, number)?;
@@ -33,7 +34,7 @@ fn push_line(lines: &mut String, line: &str, number: u32) -> Result<(), AllocErr
     lines.push('\n')
 }
 
-/// By how much the numbers of a line rise, and what stands behind that.
+/// Returns by how much the numbers of a line rise, and the text after that amount.
 pub fn step_of(line: &str) -> Result<(u16, &str)> {
     match line.strip_prefix("by ") {
         Some(rest) => {
@@ -44,7 +45,7 @@ pub fn step_of(line: &str) -> Result<(u16, &str)> {
     }
 }
 
-/// Appends a line so many times.
+/// Appends a line `count` times.
 fn push_times(lines: &mut String, count: u16, line: &str) -> Result<()> {
     let (step, line) = step_of(line)?;
     for number in 0..count {
@@ -53,7 +54,7 @@ fn push_times(lines: &mut String, count: u16, line: &str) -> Result<()> {
     Ok(())
 }
 
-/// Appends a line, or as many as it says.
+/// Appends a line, or each line that the line stands for.
 fn push_lines(lines: &mut String, line: &str) -> Result<()> {
     match line.split_once(" times ") {
         Some((count, line)) => push_times(lines, count.parse::<u16>()?, line),
@@ -61,7 +62,7 @@ fn push_lines(lines: &mut String, line: &str) -> Result<()> {
     }
 }
 
-/// The bytes of the lines of a text.
+/// Returns the bytes of the lines of a text.
 pub fn lines_of(alloc: Global, text: &str) -> Result<Vec<u8>> {
     let mut lines = String::new(alloc);
     for line in text.lines() {

@@ -1,5 +1,5 @@
-//! Worked commands, kept as data: each archive holds command lines, the files that they read, and what each is to print, to
-//! tell and to write. The program is run on them with a host in memory.
+//! Worked commands, kept as data: each archive holds command lines, the files that the commands read, and what each
+//! command is to print and write. The commands are run with a host in memory.
 #![tactic(auto)]
 
 mod archive;
@@ -19,13 +19,14 @@ use std::alloc::Global;
 use std::rt::{Env, Files};
 use trial::differences;
 
-/// The archive of a file.
+/// Returns the archive of a file.
 fn archive_at<R: Files + AllocGlobal>(rt: &R, folder: &str, name: &str) -> Result<Archive> {
     let text = file_text(rt, folder, name)?;
     Ok(read_archive(rt.alloc(), &text).context(format_args!("{name}"))?)
 }
 
-/// Tries the commands of an archive; gives how many of them give what they are to, and what differs in the others.
+/// Tries the commands of an archive, and returns the number of commands that do what they are to do, and the
+/// differences of the others.
 fn try_all(alloc: Global, archive: &Archive) -> Result<(usize, String)> {
     let mut well: usize = 0;
     let mut text = String::new(alloc);
@@ -40,7 +41,7 @@ fn try_all(alloc: Global, archive: &Archive) -> Result<(usize, String)> {
     Ok((well, text))
 }
 
-/// Tries an archive, and prints a line for it, and what differs; gives whether nothing does.
+/// Tries an archive, prints a line for the archive and the differences, and reports whether there is no difference.
 fn try_file<R: Files + Print + AllocGlobal>(rt: &R, folder: &str, name: &str) -> Result<bool> {
     let archive = archive_at(rt, folder, name)?;
     let (well, text) = try_all(rt.alloc(), &archive)?;

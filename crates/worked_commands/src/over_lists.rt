@@ -1,4 +1,4 @@
-//! A job is run once more, its zones kept in lists, and leaves the same files.
+//! A job is run once more, with its zones kept in lists, and is to leave the same files.
 
 use crate::archive::{Archive, Command};
 use crate::comparing::compare_files;
@@ -10,7 +10,7 @@ use desk::{Job, Outcome, run_with};
 use script_text::read_job;
 use std::alloc::{AllocError, Global};
 
-/// The job of this path, with all that its lines name; none where something can't be read, or is faulty.
+/// Returns the job of this path with all files that its lines name, or `None` where a file cannot be read or is faulty.
 fn job_at(alloc: Global, archive: &Archive, path: &str) -> Option<Job> {
     let bytes = archive.file(path)?;
     let mut disk = Disk::new(alloc, archive, 0);
@@ -20,7 +20,7 @@ fn job_at(alloc: Global, archive: &Archive, path: &str) -> Option<Job> {
     }
 }
 
-/// What a job leaves whose zones are kept in lists, if it runs.
+/// Returns what a job leaves whose zones are kept in lists, where the job runs.
 fn outcome_in_lists(alloc: Global, job: &Job) -> Option<Outcome> {
     let memory = job.memory;
     if memory % 16 != 0 || memory < 512 || 134_217_728 < memory || 64 < job.apps.len() {
@@ -34,7 +34,7 @@ fn outcome_in_lists(alloc: Global, job: &Job) -> Option<Outcome> {
     outcome.ok()
 }
 
-/// Files that are left, as a host keeps them.
+/// Returns the files that a job leaves, in the form in which a host keeps files.
 fn parts_of(alloc: Global, outputs: &[Output<'_>]) -> Result<Vec<Part>, AllocError> {
     let mut parts = Vec::new(alloc);
     for output in outputs {
@@ -44,7 +44,7 @@ fn parts_of(alloc: Global, outputs: &[Output<'_>]) -> Result<Vec<Part>, AllocErr
     Ok(parts)
 }
 
-/// Tells what a job leaves in lists otherwise than its command is to.
+/// Appends the differences between the files that a job leaves in lists and the files that its command is to write.
 fn compare_job(
     alloc: Global,
     text: &mut String,
@@ -61,8 +61,9 @@ fn compare_job(
     }
 }
 
-/// Runs the job of a command line once more, its zones kept in lists, and tells what it leaves otherwise than it is to. The job
-/// and the folder are the last two words that are no options.
+/// Runs the job of a command line once more, with its zones kept in lists, and appends the differences between the
+/// files that the job leaves and the files that the command is to write. The paths of the job and of the folder are the
+/// last two words that are no options.
 pub fn compare_in_lists(
     alloc: Global,
     text: &mut String,

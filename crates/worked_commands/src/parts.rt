@@ -1,5 +1,5 @@
-//! The parts of an archive. The text of one whose name ends in `.hex` or `.lines` spells its bytes as the modules of these
-//! names say; the text of any other is its bytes.
+//! The parts of an archive. The text of a part whose name ends in `.hex` or `.lines` spells its bytes as the modules of
+//! these names say; the text of any other part is its bytes.
 
 use crate::hexadecimal::bytes_of;
 use crate::lines::lines_of;
@@ -14,7 +14,7 @@ pub struct Part {
 }
 
 impl Part {
-    /// A part of this name and these bytes.
+    /// Returns a part that has this name and these bytes.
     pub fn new(alloc: Global, name: &str, bytes: Vec<u8>) -> Result<Part, AllocError> {
         Ok(Part {
             name: String::from_str(alloc, name)?,
@@ -23,7 +23,7 @@ impl Part {
     }
 }
 
-/// The bytes of the part of this name, if it is there.
+/// Returns the bytes of the part of this name, where there is such a part.
 pub fn part_of<'a>(parts: &'a [Part], name: &str) -> Option<&'a [u8]> {
     for part in parts {
         if part.name.as_str() == name {
@@ -33,7 +33,7 @@ pub fn part_of<'a>(parts: &'a [Part], name: &str) -> Option<&'a [u8]> {
     None
 }
 
-/// The part that a text spells.
+/// Returns the part that a text spells.
 pub fn spelled(alloc: Global, name: &str, text: &str) -> Result<Part> {
     if let Some(name) = name.strip_suffix(".hex") {
         let bytes = bytes_of(alloc, text).context(format_args!("{name}"))?;

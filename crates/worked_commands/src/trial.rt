@@ -1,4 +1,4 @@
-//! A command is tried, and what differs is told.
+//! Trying a command, and writing down what differs.
 
 use crate::archive::{Archive, Command};
 use crate::comparing::{compare, compare_files, compare_some};
@@ -7,17 +7,17 @@ use crate::over_lists::compare_in_lists;
 use commands::{ToolFault, tool};
 use std::alloc::{AllocError, Global};
 
-/// What came of a command.
+/// The outcome of a command.
 #[derive(Drop)]
 struct Outcome<'a> {
     disk: Disk<'a>,
-    /// What a person is told on the standard error.
+    /// The text of the standard error.
     told: String,
-    /// The status that the program ends with, in a line.
+    /// The status with which the program ends, in a line.
     status: String,
 }
 
-/// What a person is told of a fault, on the standard error.
+/// Returns the text of a fault on the standard error.
 fn told_of(alloc: Global, fault: &ToolFault) -> Result<String, AllocError> {
     match fault {
         ToolFault::Usage { text } => text.clone(),
@@ -25,7 +25,7 @@ fn told_of(alloc: Global, fault: &ToolFault) -> Result<String, AllocError> {
     }
 }
 
-/// Runs a command. This thing that it asks of the host fails.
+/// Runs a command with a host whose request number `fails` fails.
 fn outcome_of<'a>(
     alloc: Global,
     archive: &'a Archive,
@@ -41,7 +41,8 @@ fn outcome_of<'a>(
     Ok(Outcome { disk, told, status })
 }
 
-/// Compares what came with a part, or with the lines of a part that is to stand in it; not there means nothing.
+/// Compares bytes with a part, or with the lines of a part that are to stand in the bytes. Where the command has
+/// neither part, no bytes are wanted.
 fn compare_part(
     text: &mut String,
     command: &Command,
@@ -54,7 +55,8 @@ fn compare_part(
     }
 }
 
-/// The status that is to come: where no part tells it, 1 where something is told on the standard error.
+/// Returns the wanted status: that of the part `status`, or else 1 where the command has a part `stderr`, and 0
+/// otherwise.
 fn wanted_status(command: &Command) -> &[u8] {
     match (command.wants("status"), command.wants("stderr")) {
         (Some(status), _) => status,
@@ -63,7 +65,7 @@ fn wanted_status(command: &Command) -> &[u8] {
     }
 }
 
-/// Tells what differs in what came of a command.
+/// Appends the differences between the outcome of a command and its parts.
 fn compare_outcome(
     text: &mut String,
     command: &Command,
@@ -87,8 +89,8 @@ fn compare_outcome(
     compare_files(text, command, &disk.written)
 }
 
-/// Tells what a command does otherwise than it is to, where the last of these things that it asks of the host fails: it tells
-/// just that, asks for nothing more, and has written nothing where it could not read.
+/// Appends the differences of a command whose last request to the host fails. The command is to print exactly that
+/// fault, to make no further request, and to have written nothing where it could not read.
 fn compare_failed(
     alloc: Global,
     text: &mut String,
@@ -109,7 +111,7 @@ fn compare_failed(
     Ok(())
 }
 
-/// Runs a command again for each thing that it asks of the host, which fails, and tells what it does otherwise than it is to.
+/// Runs a command again for each of its requests to the host, of which that request fails, and appends the differences.
 fn compare_failures(
     alloc: Global,
     text: &mut String,
@@ -128,7 +130,7 @@ fn compare_failures(
     Ok(())
 }
 
-/// The words of a command line. What stands in quotes is one word.
+/// Returns the words of a command line. A text in quotes is one word.
 fn words_of(alloc: Global, line: &str) -> Result<Vec<&str>, AllocError> {
     let mut words = Vec::new(alloc);
     let mut quoted = false;
@@ -143,7 +145,7 @@ fn words_of(alloc: Global, line: &str) -> Result<Vec<&str>, AllocError> {
     Ok(words)
 }
 
-/// Runs a command of an archive: what differs from what is to come of it.
+/// Runs a command of an archive, and returns the differences from what the command is to do.
 pub fn differences(
     alloc: Global,
     archive: &Archive,
