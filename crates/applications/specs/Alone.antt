@@ -37,6 +37,7 @@ has_quit r = record r {
 }
 
 -- The end of an application that a system error stops: no file is updated.
+-- See decision 77 (system error 15 ends the application with its own line).
 abbrev pub stops : Running → Ending
 stops r = record { code = SYSTEM_ERROR; files = r.resources.files }
 
@@ -76,6 +77,7 @@ files_after None r = r.resources.files
 files_after (Some e) r = e.files
 
 -- What an application leaves when it runs alone: its transcript, and its files as they were left.
+-- See decision 79 (an application alone is its first n steps and its end).
 pub record Alone : Type 0 where
   pub transcript : List ℕ
   pub files : List File
@@ -105,5 +107,6 @@ abbrev pub script_alone : ℕ → Parts → Alone
 script_alone size script = to_its_end own_resources size script
 
 -- The zone of that application, as its end left the zone.
+-- See decision 101 (a script ends with its quit).
 abbrev pub script_zone : ℕ → Parts → List Block
 script_zone size script = zone_alone own_resources size script (length script.steps + 1) false

@@ -34,6 +34,7 @@ put_found told reads bytes = put_reads reads bytes
 
 -- The bytes last put into each handle and pointer, after one more try. What a call on a segment reads counts even where
 -- the call is refused, since the application then ends with the segment in memory.
+-- See decision 78 (what a call on a segment read counts as put, also where the call is refused).
 abbrev pub put_deed : Deed → Told → Reads → (ℕ → List ℕ) → ℕ → List ℕ
 put_deed (Ask asked) told reads bytes = put_by asked told bytes
 put_deed (Find asked) told reads bytes = put_found told reads bytes
@@ -115,6 +116,7 @@ EmptiesPurgeable bytes e =
     → has (is_relocatable h) e.after.memory.heap.zone ≡ false → may_be_emptied h e.before.memory.heap.zone ≡ true
 
 -- Holds of a call that opens a file. The call may make as many blocks as the file has resources to preload.
+-- See decision 94 (an opening may search for room once for each resource that it reads).
 abbrev pub opens : Deed → Bool
 opens (Ask asked) = false
 opens (Find asked) = opens_file asked

@@ -41,6 +41,7 @@ deed_of (call.Segment c) names = Jump c
 deed_of (call.Control c) names = Steer c
 
 -- A try in the history of a run: the call, its reply, what it read, and the application before and after the try.
+-- See decision 90 (a history has an entry for each try).
 pub record Event : Type 0 where
   pub deed : Deed
   pub told : Told
@@ -78,6 +79,7 @@ joined c d = record {
 }
 
 -- A try as the history keeps it.
+-- See decision 92 (what a try read stands in its entry of the history).
 abbrev pub event_of : Line → Running → Tried → Event
 event_of l r t = record {
   deed = deed_of l.call r.names;
@@ -148,6 +150,7 @@ bound_anew name None names = names
 bound_anew name (Some n) names = bind name n names
 
 -- The names after a call whose reply has the given number, or no number.
+-- See decision 88 (names are bound after the last round).
 abbrev pub names_given : Call → Option ℕ → Bindings → Bindings
 names_given (call.Heap (heap.NewHandle name size)) given names = bound_anew name.0.items given names
 names_given (call.Heap (heap.NewEmptyHandle name)) given names = bound_anew name.0.items given names
@@ -165,6 +168,7 @@ names_given c given names = names
 
 -- The application where the manager of a call has the code of the call again, after the codes of the grow-zone script's
 -- calls.
+-- See decision 89 (the code of a call whose answer stands is set again).
 abbrev pub kept_anew : Call → OsErr → Running → Running
 kept_anew (call.Heap c) code r = record r { memory = keep_code code r.memory }
 kept_anew (call.Resource c) code r = record r { resources = record r.resources { error = code } }
@@ -197,6 +201,7 @@ pub data Round : Type 0 where
   Again : (course : Course) → Round
 
 -- Holds where more bytes are free or purgeable after the grow-zone script than before it.
+-- See decision 86 (more room is measured from the refused try on).
 abbrev pub made_room : Tried → Course → Bool
 made_room t came = nat_lt (ease t.after.memory.heap.zone) (ease came.after.memory.heap.zone)
 
@@ -216,6 +221,7 @@ continued (Ends c) next = c
 continued (Again c) next = joined c (next c.after)
 
 -- The course of a step of at most the given number of rounds.
+-- See decision 84 (a step has a bound, which is never met).
 abbrev pub step_in : ℕ → Blocks → Line → Running → Course
 step_in zero blocks l r = nothing_yet r
 step_in (suc more) blocks l r = continued (round blocks l r) (step_in more blocks l)
@@ -255,6 +261,7 @@ is_wait (call.Control control.WaitNextEvent) = true
 is_wait c = false
 
 -- The lines up to and including the first that ends a turn.
+-- See decision 83 (a turn is the steps up to and including the next `WaitNextEvent`).
 abbrev pub up_to_wait : List Line → List Line
 up_to_wait [] = []
 up_to_wait (l ∷ lines) = if is_wait l.call then l ∷ [] else l ∷ up_to_wait lines

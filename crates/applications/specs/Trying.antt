@@ -57,6 +57,7 @@ abbrev pub no_content : Content
 no_content = record { area = replicate 240 0; attrs = 0; groups = [] }
 
 -- The files of an application that is only a script: one file, whose fork has no resources.
+-- See decision 52 (`macmem script` runs an application whose fork has no resources).
 abbrev pub own_files : List File
 own_files = record { name = codes "script"; fork = canon no_content; written = false } ∷ []
 
@@ -70,6 +71,7 @@ opened_in resources n site = preloaded (record { memory = fresh_memory n site; r
 
 -- An application with these resources in a fresh partition of `n` bytes, before its first step: the resources that have
 -- resPreload are preloaded, and the jump table is read from 'CODE' 0.
+-- See decision 82 (preloaded resources of the own fork are read before the first step).
 abbrev pub launched_with : Resources → ℕ → Site → Running
 launched_with resources n site = record {
   memory = (opened_in resources n site).0.memory;
@@ -179,6 +181,7 @@ resource_asked resource.ResError names = finds.ResError
 -- The outcome of one try of a call: its reply; what it read; the empty handle that it reads again, whether the zone had
 -- room or not; whether the call found no room; whether the application ends with the call; and the application after
 -- the try.
+-- See decision 91 (what a try was reading again has a place in the try).
 pub record Tried : Type 0 where
   pub told : Told
   pub reads : Reads
@@ -203,6 +206,7 @@ code_told (Refused code) = code
 
 -- Holds of the code of a call that found no room; and of the code of a segment that cannot be loaded, which ends the
 -- application.
+-- See decision 85 (a grow-zone script runs at any -108).
 abbrev pub is_full : OsErr → Bool
 is_full code = int_eq code.0 MEM_FULL.0
 

@@ -41,6 +41,7 @@ with_files files s = with_resources (record s.resources { files = files }) s
 -- CreateResFile: makes a file after the others, where no file has the name; -34 (dskFulErr) where there are 256 files.
 -- A file of the name whose fork has no bytes gets a new fork in place; -48 (dupFNErr) where the fork has a byte or
 -- more.
+-- See decision 60 (`CreateResFile` fills a fork of 0 bytes in place).
 abbrev pub create_named : List ℕ → Option (Split File) → Managers → Answer (Unit {0})
 create_named name None s =
     if nat_le most_files (length s.resources.files) then refused DISK_FULL s
@@ -53,6 +54,7 @@ abbrev pub create_res_file : List ℕ → Managers → Answer (Unit {0})
 create_res_file name s = create_named name (file_named name s.resources) s
 
 -- The resources where the given open file is touched and has the given references.
+-- See decision 53 (three calls touch a file).
 abbrev pub touched : Split OpenFile → List Reference → Resources → Resources
 touched at references r = record r {
   chain = replaced (record at.here { map = record at.here.map { references = references }; touched = true }) at;
@@ -77,6 +79,7 @@ added_to at new h s = record {
 -- AddResource: adds a reference to the current file. -192 (resNotFound) where the argument is not a handle; -194
 -- (addResFailed) where the handle is a resource's already or is empty; -61 (wrPermErr) where the current file is the
 -- System file.
+-- See decision 61 (`AddResource` refuses in a fixed order).
 abbrev pub add_resource : Option ℕ → ℕ → ℤ → List ℕ → Managers → Answer (Unit {0})
 add_resource handle kind id text s = on_handle handle s (λ k.
     if is_resource k.role || not (has_block k.number s.memory.heap) then refused ADD_RES_FAILED s
@@ -98,6 +101,7 @@ removed_from at h s = record {
 
 -- RemoveResource: removes a reference from the current file. -61 (wrPermErr) where the resource is the System file's;
 -- -196 (rmvResFailed) where its file is not current, or the resource is protected.
+-- See decision 62 (`RemoveResource` of a handle that is no resource's is -196).
 abbrev pub remove_resource : Option ℕ → Managers → Answer (Unit {0})
 remove_resource handle s = on_handle handle s (λ k. on_removable (resource_of handle s.resources) s (λ at.
     if is_system at.file.here then refused WRITE_PERMISSION s

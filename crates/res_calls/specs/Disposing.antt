@@ -15,6 +15,7 @@ holds h (Some at) = list_any (has_handle h) at.here.map.references
 
 -- Holds of a handle that the call may dispose of: the call closes the file of the handle's resource, or releases the
 -- handle.
+-- See decision 93 (the handles that a call disposes of may depend on the open files).
 abbrev pub disposes_of : ℕ → ResourceAsked → Managers → Bool
 disposes_of h (CloseResFile number) s = holds h (file_of number s.resources)
 disposes_of h (ReleaseResource (Some k)) s = k == h

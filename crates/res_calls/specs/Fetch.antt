@@ -70,6 +70,7 @@ now_emptied at (Ok h, m) s = done (record { handle = h; read = 0 }) (held at h (
 
 -- The fetch of a reference that has no handle: a new handle is made, to a block that holds the stored data where
 -- loading is on, and an empty handle otherwise.
+-- See decision 47 (with loading off, a reference without a handle still needs a slot).
 abbrev pub fetch_new : Bool → Found → Managers → Answer Fetched
 fetch_new loading at s =
     if loading
@@ -78,6 +79,7 @@ fetch_new loading at s =
     else now_emptied at (new_emptied_inside (resource_role (is_system at.file.here)) s.memory) s
 
 -- The answer of a fetch that read the stored data into the block of an empty handle again.
+-- See decision 51 (a fetch reports what it was reading where it finds no room).
 abbrev pub now_refilled : Found → ℕ → Result (Unit {0}) OsErr × Memory → Managers → Answer Fetched
 now_refilled at h (Err code, m) s =
     record { reply = Err code; reads = []; reading = Some h; after = record s { memory = m } }
@@ -128,6 +130,7 @@ loaded_both first rest = record {
 }
 
 -- Preloading: the stored data of each reference that has resPreload is read into a new handle's block, in order.
+-- See decision 46 (preloading reads in order, and runs no grow-zone script).
 abbrev pub preload : List Reference → Memory → Loaded
 preload [] m = record { references = []; memory = m; reads = [] }
 preload (x ∷ references) m = loaded_both (preload_one x m) (preload references (preload_one x m).memory)

@@ -37,6 +37,7 @@ last_opened f older = record { before = []; here = f; after = older }
 
 -- The result of updating and closing open files in order, up to the System file: the first code that is not 0, and the
 -- managers after.
+-- See decision 81 (a quit closes the files in the reverse order of their opening).
 pub record Left : Type 0 where
   pub code : OsErr
   pub after : Managers

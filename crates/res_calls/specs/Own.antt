@@ -9,6 +9,7 @@ use Rattle.res_calls.specs.Rows.{on_found}
 
 -- The first reference of a type and ID in the application's own fork; None where the fork is not open or has no such
 -- reference.
+-- See decision 69 (the own fork keeps its role under any number).
 abbrev pub find_own : ℕ → ℤ → Resources → Option Found
 find_own kind id r = find (λ f. is_at 0 f.file) (is_resource kind id) r.chain
 

@@ -25,6 +25,7 @@ role_for found = option_map (λ (at : Found). role_in at.file.here) found
 -- Each resource has its own handle: no two references have one handle; a handle that a reference has is a resource's
 -- handle, in the role that the reference's file determines; a handle that no reference has is not a resource's. No file
 -- that is opened gets the number of the System file.
+-- See decision 66 (an invariant stands where all that it names is at hand).
 pub record Owns (s : Managers) : Type 0 where
   pub apart : (h : ℕ) → count_by (has_handle h) (references s.resources.chain) ≤ 1
   pub owned : (h : ℕ) → role_for (find_open (has_handle h) s.resources) ≡ resource_role_at h s.memory.heap

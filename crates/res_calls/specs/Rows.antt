@@ -22,6 +22,7 @@ use Rattle.res_calls.specs.Update.{update}
 -- "Resource Manager Routines". A handle is given as the number that a name is bound to, or None for an unbound name.
 
 -- The answer of a call on a found reference; -192 (resNotFound) where no reference was found.
+-- See decision 43 (a search that finds no resource is -192).
 abbrev pub on_found : {T : Type 0} → Option Found → Managers → (Found → Answer T) → Answer T
 on_found None s answer = refused RES_NOT_FOUND s
 on_found (Some at) s answer = answer at
@@ -113,6 +114,7 @@ open_named (Some at) s = open_unless at (open_at (place at) s.resources) s
 
 -- OpenResFile: opens the file whose name is `name`; -43 (fnfErr) where the application has no such file. Where the file
 -- is already open, its number is returned, and the file and the current file stay as they are.
+-- See decision 44 (a file that is opened again gets the next number).
 abbrev pub open_res_file : List ℕ → Managers → Answer ℕ
 open_res_file name s = open_named (file_named name s.resources) s
 
@@ -139,6 +141,7 @@ closed at r = record r {
 
 -- The answer of a call that updates an open file first; -34 (dskFulErr) where the content does not fit the format, and
 -- nothing is changed.
+-- See decision 57 (-34 leaves everything as it was).
 abbrev pub if_updated : {T : Type 0} → Option Resources → Managers → (Resources → Answer T) → Answer T
 if_updated None s answer = refused DISK_FULL s
 if_updated (Some r) s answer = answer r
@@ -154,6 +157,7 @@ closed_file at r s = record {
 }
 
 -- CloseResFile: updates and closes an open file; -30001 (profileErr) for the System file, which stays open.
+-- See decision 45 (the System file cannot be closed).
 abbrev pub close_res_file : ℕ → Managers → Answer (Unit {0})
 close_res_file n s = on_file n s (λ at.
     if n == 0 then refused PROFILE s else on_updated at s (λ r. done tt (closed_file at r s)))
@@ -239,6 +243,7 @@ released_at at None s = s
 released_at at (Some h) s = record { memory = inside (released h) s.memory; resources = holding None at s.resources }
 
 -- The managers after a resource's handle has become the application's own.
+-- See decision 63 (a removed or detached handle is the application's own).
 abbrev pub detached_at : Found → Option ℕ → Managers → Managers
 detached_at at None s = s
 detached_at at (Some h) s =
@@ -246,6 +251,7 @@ detached_at at (Some h) s =
 
 -- ReleaseResource: disposes of a resource's handle; -117 (memLockedErr) where the handle is busy. Nothing is done where
 -- the resource was changed.
+-- See decision 48 (`ReleaseResource` of a busy handle depends on its role).
 abbrev pub release_resource : Option ℕ → Managers → Answer (Unit {0})
 release_resource handle s = on_resource handle s (λ at.
     if bars handle s.memory then refused LOCKED s
@@ -287,6 +293,7 @@ abbrev pub keep_error : OsErr → Managers → Managers
 keep_error code s = record s { resources = record s.resources { error = code } }
 
 -- The answer of a call after which ResError returns the call's code.
+-- See decision 50 (`ResError` returns the code of the last call of its table).
 abbrev pub noting : {T : Type 0} → (Managers → Answer T) → Managers → Answer T
 noting call s = record (call s) { after = keep_error (code_of (call s).reply) (call s).after }
 

@@ -15,6 +15,7 @@ bytes_held (Some h) heap = bytes_of h heap
 
 -- The new stored data of a reference: the bytes of the handle's block, where the resource was changed. Where the handle
 -- is empty, the stored data stays as it is.
+-- See decision 55 (an update writes each changed reference).
 abbrev pub fresh : State → Reference → Option (List ℕ)
 fresh heap r = if is_changed r then bytes_held r.handle heap else None
 
@@ -52,6 +53,7 @@ rewritten heap at r = record r {
 
 -- The resources after an update. A file that is not touched stays as it is; the result is None where the content of the
 -- file does not fit the format.
+-- See decision 54 (an update of an untouched file writes nothing).
 abbrev pub update : State → Split OpenFile → Resources → Option Resources
 update heap at r =
     if at.here.touched
