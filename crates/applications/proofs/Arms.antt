@@ -5,7 +5,8 @@ use Rattle.mac_words.specs.Told.{Told}
 use Rattle.mac_words.specs.declared.resource_call.ResourceCall.{ResourceCall}
 use Rattle.res_calls.specs.Fetch.{Managers, Answer}
 use Rattle.res_calls.specs.Asked.{Served, served, telling}
-use Rattle.applications.specs.Trying.{Running, resource_asked, resource_tried, managers_of}
+use Rattle.applications.specs.Trying.{resource_asked}
+use Rattle.applications.specs.Names.{Bindings}
 use Rattle.applications.specs.Replies.{TellsServed, fetches}
 use Rattle.applications.specs.declared.tried.Tried.{Tried}
 
@@ -29,36 +30,29 @@ told-so tell again (Ok tried) P a after says is = says a after is
 told-so tell again (Err e) P a after says is = tt
 
 pub arm_told : {T : Type 0} (tell : T → Told) (again : Bool) (result : Result Tried AllocError)
-    (P : Answer T → Managers → Type 0) (a : Answer T) (after : Managers) (call x : ResourceCall) (r q : Running)
+    (P : Answer T → Managers → Type 0) (a : Answer T) (after : Managers) (call x : ResourceCall) (names : Bindings)
+    (s : Managers)
     → IfOk result (λ tried. (a : Answer T) (after : Managers) → P a after → TellsServed tried (telling tell a) again)
-    → P a after → telling tell a ≡ served (resource_asked x q.names) (managers_of q)
-    → again ≡ fetches (resource_asked x q.names) → call ≡ x → q ≡ r
-    → IfOk result (λ tried. TellsServed tried (served (resource_asked call r.names) (managers_of r))
-    (fetches (resource_asked call r.names)))
-arm_told tell again result P a after call x r q says is table fetching called same =
-    subst (λ (p : Running). IfOk result (λ tried.
-    TellsServed tried (served (resource_asked call p.names) (managers_of p))
-    (fetches (resource_asked call p.names)))) same
-    (subst (λ (c : ResourceCall). IfOk result (λ tried.
-    TellsServed tried (served (resource_asked c q.names) (managers_of q))
-    (fetches (resource_asked c q.names)))) (sym called)
-    (subst (λ (f : Bool). IfOk result (λ tried.
-    TellsServed tried (served (resource_asked x q.names) (managers_of q)) f))
+    → P a after → telling tell a ≡ served (resource_asked x names) s → again ≡ fetches (resource_asked x names) → call ≡ x
+    → IfOk result (λ tried. TellsServed tried (served (resource_asked call names) s)
+    (fetches (resource_asked call names)))
+arm_told tell again result P a after call x names s says is table fetching called =
+    subst (λ (c : ResourceCall). IfOk result (λ tried.
+    TellsServed tried (served (resource_asked c names) s)
+    (fetches (resource_asked c names)))) (sym called)
+    (subst (λ (f : Bool). IfOk result (λ tried. TellsServed tried (served (resource_asked x names) s) f))
     fetching
     (subst (λ (s : Served). IfOk result (λ tried. TellsServed tried s again)) table
-    (told-so tell again result P a after says is))))
+    (told-so tell again result P a after says is)))
 
--- and the application after it
+-- and the managers after it
 pub arm_after : {T : Type 0} (tell : T → Told) (result : Result Tried AllocError)
-    (P : Answer T → Managers → Type 0) (a : Answer T) (after : Managers) (call x : ResourceCall) (r q n : Running)
+    (P : Answer T → Managers → Type 0) (a : Answer T) (after : Managers) (call x : ResourceCall) (names : Bindings)
+    (s : Managers)
     → OnOk result ((a : Answer T) (after : Managers) → P a after → a.after ≡ after)
-    → P a after → telling tell a ≡ served (resource_asked x q.names) (managers_of q)
-    → n ≡ record q { memory = after.memory; resources = after.resources } → call ≡ x → q ≡ r
-    → OnOk result (n ≡ (resource_tried (served (resource_asked call r.names) (managers_of r)) r).after)
-arm_after tell (Err e) P a after call x r q n says is table next called same = tt
-arm_after tell (Ok tried) P a after call x r q n says is table next called same =
-    next ∙ ap (λ (s : Managers). let p : Running = record q { memory = s.memory; resources = s.resources } in p)
-    (sym (says a after is) ∙ ap (λ (s : Served). s.after) table)
-    ∙ ap (λ (c : ResourceCall). (resource_tried (served (resource_asked c q.names) (managers_of q)) q).after)
-    (sym called)
-    ∙ ap (λ (p : Running). (resource_tried (served (resource_asked call p.names) (managers_of p)) p).after) same
+    → P a after → telling tell a ≡ served (resource_asked x names) s → call ≡ x
+    → OnOk result (after ≡ (served (resource_asked call names) s).after)
+arm_after tell (Err e) P a after call x names s says is table called = tt
+arm_after tell (Ok tried) P a after call x names s says is table called =
+    sym (says a after is) ∙ ap (λ (s : Served). s.after) table
+    ∙ ap (λ (c : ResourceCall). (served (resource_asked c names) s).after) (sym called)

@@ -8,8 +8,11 @@ ghost use Rattle.applications.specs.Application.{bytes_told};
 ghost use Rattle.applications.specs.Replies.{TellsTold, IsTried};
 
 use crate::application::Application;
+use crate::names::Names;
+use crate::naming::named;
 use crate::tried::{Tried, done, given, number, shown, space, state};
 use block_store::BlockStore;
+use heap_calls::Heap;
 use mac_words::{Call, ControlCall, HeapCall, OsErr, Reply};
 use script_text::Script;
 use std::alloc::AllocError;
@@ -69,68 +72,57 @@ impl<'s, S: BlockStore> Application<'s, S> {
         }) }
         ensures lies { self.new.memory.window ≡ self.old.memory.window }
     {
-        match call {
-            HeapCall::NewHandle(_, size) => given(self.heap.new_handle(*size)),
-            HeapCall::NewEmptyHandle(_) => given(self.heap.new_empty_handle()),
-            HeapCall::DisposeHandle(name) => done(
-                self.heap.dispose_handle(self.names.number(name)),
-            ),
-            HeapCall::GetHandleSize(name) => number(
-                self.heap.get_handle_size(self.names.number(name)),
-            ),
-            HeapCall::SetHandleSize(name, size) => done(
-                self.heap.set_handle_size(self.names.number(name), *size),
-            ),
-            HeapCall::ReallocateHandle(name, size) => done(
-                self.heap.reallocate_handle(self.names.number(name), *size),
-            ),
-            HeapCall::EmptyHandle(name) => done(self.heap.empty_handle(self.names.number(name))),
-            HeapCall::HLock(name) => done(self.heap.h_lock(self.names.number(name))),
-            HeapCall::HUnlock(name) => done(self.heap.h_unlock(self.names.number(name))),
-            HeapCall::HPurge(name) => done(self.heap.h_purge(self.names.number(name))),
-            HeapCall::HNoPurge(name) => done(self.heap.h_no_purge(self.names.number(name))),
-            HeapCall::HGetState(name) => state(self.heap.h_get_state(self.names.number(name))),
-            HeapCall::HSetState(name, state) => done(
-                self.heap.h_set_state(self.names.number(name), *state),
-            ),
-            HeapCall::MoveHHi(name) => done(self.heap.move_hhi(self.names.number(name))),
-            HeapCall::HLockHi(name) => done(self.heap.hlock_hi(self.names.number(name))),
-            HeapCall::HandToHand(_, from) => given(self.heap.hand_to_hand(self.names.number(from))),
-            HeapCall::HandAndHand(from, to) => done(
-                self.heap
-                    .hand_and_hand(self.names.number(from), self.names.number(to)),
-            ),
-            HeapCall::PtrAndHand(name, bytes) => done(
-                self.heap.pointer_and_hand(self.names.number(name), bytes),
-            ),
-            HeapCall::NewPtr(_, size) => given(self.heap.new_pointer(*size)),
-            HeapCall::DisposePtr(name) => done(self.heap.dispose_pointer(self.names.number(name))),
-            HeapCall::GetPtrSize(name) => number(
-                self.heap.get_pointer_size(self.names.number(name)),
-            ),
-            HeapCall::SetPtrSize(name, size) => done(
-                self.heap.set_pointer_size(self.names.number(name), *size),
-            ),
-            HeapCall::FreeMem => Ok(Tried::told(Reply::number(self.heap.free_mem()))),
-            HeapCall::MaxBlock => Ok(Tried::told(Reply::number(self.heap.max_block()))),
-            HeapCall::PurgeSpace => Ok(space(self.heap.purge_space())),
-            HeapCall::CompactMem(size) => Ok(Tried::told(Reply::number(
-                self.heap.compact_mem(*size),
-            ))),
-            HeapCall::PurgeMem(size) => done(self.heap.purge_mem(*size)),
-            HeapCall::MaxMem => Ok(Tried::told(Reply::number(self.heap.max_mem()))),
-            HeapCall::ReserveMem(size) => done(self.heap.reserve_mem(*size)),
-            HeapCall::MoreMasters => done(self.heap.more_masters()),
-            HeapCall::MemError => Ok(Tried::told(Reply::telling(self.heap.mem_error()))),
-            HeapCall::Put(name, from, bytes) => done(
-                self.heap.put(self.names.number(name), *from, bytes),
-            ),
-            HeapCall::Show(name) => shown(self.heap.show(self.names.number(name))),
-            HeapCall::PutPtr(name, from, bytes) => done(
-                self.heap.put_pointer(self.names.number(name), *from, bytes),
-            ),
-            HeapCall::ShowPtr(name) => shown(self.heap.show_pointer(self.names.number(name))),
-            HeapCall::Where(name) => number(self.heap.place_of(self.names.number(name))),
-        }
+        answered(&mut self.heap, &self.names, call)
+    }
+}
+
+/// Answers a call of the Memory Manager in `heap`; the names of the call are bound as `names` says.
+fn answered<S: BlockStore>(
+    heap: &mut Heap<S>,
+    names: &Names,
+    call: &HeapCall,
+) -> Result<Tried, AllocError>
+    ensures told { IfOk result (λ tried. TellsTold tried (served (asked call.now names.now) heap.old).0) }
+    ensures after { OnOk result (heap.new ≡ (served (asked call.now names.now) heap.old).1) }
+    ensures lies { heap.new.window ≡ heap.old.window }
+{
+    let (first, second) = named(call, names);
+    match call {
+        HeapCall::NewHandle(_, size) => given(heap.new_handle(*size)),
+        HeapCall::NewEmptyHandle(_) => given(heap.new_empty_handle()),
+        HeapCall::DisposeHandle(_) => done(heap.dispose_handle(first)),
+        HeapCall::GetHandleSize(_) => number(heap.get_handle_size(first)),
+        HeapCall::SetHandleSize(_, size) => done(heap.set_handle_size(first, *size)),
+        HeapCall::ReallocateHandle(_, size) => done(heap.reallocate_handle(first, *size)),
+        HeapCall::EmptyHandle(_) => done(heap.empty_handle(first)),
+        HeapCall::HLock(_) => done(heap.h_lock(first)),
+        HeapCall::HUnlock(_) => done(heap.h_unlock(first)),
+        HeapCall::HPurge(_) => done(heap.h_purge(first)),
+        HeapCall::HNoPurge(_) => done(heap.h_no_purge(first)),
+        HeapCall::HGetState(_) => state(heap.h_get_state(first)),
+        HeapCall::HSetState(_, state) => done(heap.h_set_state(first, *state)),
+        HeapCall::MoveHHi(_) => done(heap.move_hhi(first)),
+        HeapCall::HLockHi(_) => done(heap.hlock_hi(first)),
+        HeapCall::HandToHand(..) => given(heap.hand_to_hand(first)),
+        HeapCall::HandAndHand(..) => done(heap.hand_and_hand(first, second)),
+        HeapCall::PtrAndHand(_, bytes) => done(heap.pointer_and_hand(first, bytes)),
+        HeapCall::NewPtr(_, size) => given(heap.new_pointer(*size)),
+        HeapCall::DisposePtr(_) => done(heap.dispose_pointer(first)),
+        HeapCall::GetPtrSize(_) => number(heap.get_pointer_size(first)),
+        HeapCall::SetPtrSize(_, size) => done(heap.set_pointer_size(first, *size)),
+        HeapCall::FreeMem => Ok(Tried::told(Reply::number(heap.free_mem()))),
+        HeapCall::MaxBlock => Ok(Tried::told(Reply::number(heap.max_block()))),
+        HeapCall::PurgeSpace => Ok(space(heap.purge_space())),
+        HeapCall::CompactMem(size) => Ok(Tried::told(Reply::number(heap.compact_mem(*size)))),
+        HeapCall::PurgeMem(size) => done(heap.purge_mem(*size)),
+        HeapCall::MaxMem => Ok(Tried::told(Reply::number(heap.max_mem()))),
+        HeapCall::ReserveMem(size) => done(heap.reserve_mem(*size)),
+        HeapCall::MoreMasters => done(heap.more_masters()),
+        HeapCall::MemError => Ok(Tried::told(Reply::telling(heap.mem_error()))),
+        HeapCall::Put(_, from, bytes) => done(heap.put(first, *from, bytes)),
+        HeapCall::Show(_) => shown(heap.show(first)),
+        HeapCall::PutPtr(_, from, bytes) => done(heap.put_pointer(first, *from, bytes)),
+        HeapCall::ShowPtr(_) => shown(heap.show_pointer(first)),
+        HeapCall::Where(_) => number(heap.place_of(first)),
     }
 }
