@@ -10,11 +10,11 @@ use std::test::Fail;
 
 /// A host with a file named `file`, and a file named `large`, which is too large for the host's memory.
 #[derive(Drop)]
-struct Memory<'a> {
-    file: &'a [u8],
+pub struct Memory<'a> {
+    pub file: &'a [u8],
     /// The number of prints that still succeed.
-    prints: usize,
-    printed: Vec<u8>,
+    pub prints: usize,
+    pub printed: Vec<u8>,
 }
 
 impl<'a> Watch for Memory<'a> {
