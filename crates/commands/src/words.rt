@@ -98,8 +98,7 @@ Nothing is written before all input is read. A faulty line of the job or of a sc
 const JOB_HELP: &str =
     "File with one line for each application, file and event. /dev/stdin is the standard input";
 
-const OUT_HELP: &str =
-    "Folder that is made for what the applications leave. It must not exist yet";
+const OUT_HELP: &str = "Folder that is made for what the applications leave. It must not exist yet";
 
 /// The name of the flag, without its two hyphens.
 const PROGRESS: &str = "progress";
