@@ -121,6 +121,29 @@ pub fn run_script_watched<W: Watch>(
     // Watching the run prints nothing.
     ensures silent { W.printed watch.new ≡ W.printed watch.old }
 {
+    run_as_application(alloc, region, script, watch)
+}
+
+/// Runs a script to its end in a region, as an application without resources. Returns the transcript, and the region with
+/// the zone that the application leaves.
+fn run_as_application<W: Watch>(
+    alloc: Global,
+    region: Region,
+    script: &Script,
+    watch: &mut W,
+) -> (Result<Vec<u8>, AllocError>, Region)
+    requires home { region.out ≡ [] }
+    requires even { length region.bytes % 16 ≡ 0 }
+    requires low { 512 ≤ length region.bytes }
+    requires high { length region.bytes ≤ 134217728 }
+    ensures transcript { IfOk result.0 (λ text. text.items
+        ≡ (script_alone (length region.bytes) script.now).transcript) }
+    ensures lies { IfOk result.0 (λ _. LieAs (script_zone (length region.bytes) script.now) result.1.bytes) }
+    ensures home { result.1.out ≡ [] }
+    ensures same { result.1.home ≡ region.home }
+    ensures length { length result.1.bytes ≡ length region.bytes }
+    ensures silent { W.printed watch.new ≡ W.printed watch.old }
+{
     let resources = match own_resources(alloc) {
         Ok(resources) => resources,
         Err(fault) => return (Err(fault), region),
