@@ -1,37 +1,34 @@
 //! What a caller writes of each library from the Resource Manager up: the README of the library shows the same lines.
 
 use crate::hosts::Memory;
+use crate::jobs::sized_fork;
 use applications::{Application, empty_content};
 use arrayvec::ArrayVec;
 use block_store::ListStore;
 use commands::tool;
 use desk::run_script;
-use fork_format::write_fork;
 use heap_calls::Heap;
-use mac_words::{FileName, Name, OsType};
+use mac_words::{FileName, OsType};
 use raw_region::Region;
 use res_calls::{File, Resources};
 use script_text::read_script;
 use segments::{JumpTable, Shown};
 use std::test::Fail;
 
-/// Shows `res_calls`: a handle becomes a resource of the application's own file, and is found.
+/// Shows `res_calls`: a resource of the application's own file is read into its heap.
 #[test]
-fn a_resource_is_added_and_found(rt: HostRuntime) -> Result<(), Fail> {
+fn a_resource_is_read_into_a_heap(rt: HostRuntime) -> Result<(), Fail> {
     let alloc = rt.alloc();
+    let sizes = b"\0\0\0\0\x02\0\0\0\x02\0";
     let own = File {
         name: FileName(ArrayVec::new()),
-        fork: write_fork(alloc, &empty_content(alloc))?,
+        fork: sized_fork(alloc, sizes)?,
         written: false,
     };
     let mut resources = Resources::new(alloc, vec![in alloc; own]?, &empty_content(alloc))?;
     let mut heap = Heap::new(alloc, ListStore::new(alloc, 1024)?);
-    let (handle, text, name) = (heap.new_handle(5)?, OsType(*b"TEXT"), Name(ArrayVec::new()));
-    resources.add_resource(alloc, &mut heap, Some(handle), text, 128, &name)?;
-    assert_eq!(rt;
-        resources.get_resource(&mut heap, text, 128)?.handle,
-        handle
-    );
+    let found = resources.get_resource(&mut heap, OsType(*b"SIZE"), -1)?;
+    assert_eq!(rt; heap.show(Some(found.handle))?, sizes.as_slice());
     Ok(())
 }
 

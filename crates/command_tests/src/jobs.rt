@@ -14,7 +14,7 @@ use std::alloc::{AllocError, Global};
 use std::test::Fail;
 
 /// Returns a fork that holds the sizes of a partition, as the resource 'SIZE' -1.
-fn sized_fork(alloc: Global, sizes: &'static [u8]) -> Result<Vec<u8>, Fail> {
+pub fn sized_fork(alloc: Global, sizes: &'static [u8]) -> Result<Vec<u8>, Fail> {
     let reference = Ref {
         id: -1,
         name: None,
