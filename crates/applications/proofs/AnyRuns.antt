@@ -1,19 +1,23 @@
-use Rattle.std.proofs.Common.{ℕ, List}
+use Rattle.std.proofs.Common.{◌≡◌, ℕ, Bool, false, ◌&&◌, List, refl}
 use Rattle.script_text.specs.declared.script.Line.{Line}
 use Rattle.res_calls.specs.Files.{Resources}
 use Rattle.res_calls.specs.Fetch.{Managers}
 use Rattle.res_calls.proofs.Walks.Launching.{preloaded-busy}
 use Rattle.heap_calls.specs.State.{fresh_memory}
 use Rattle.heap_calls.specs.LastPut.{Holds}
+use Rattle.heap_calls.specs.Locked.{locked_place}
+use Rattle.heap_calls.specs.Standing.{pointer_place}
 use Rattle.heap_calls.proofs.Promises.Knowing.{holds-known}
 use Rattle.applications.specs.Trying.{Blocks, launched_with, nowhere}
 use Rattle.applications.specs.Step.{Event, run}
 use Rattle.applications.specs.Laws.{put_at_launch, EachTry, Linked, ShowsPut, HoldsPut, KeepsLocked, KeepsFixed}
 use Rattle.applications.specs.Laws.{EmptiesPurgeable, LooksFew, RefusedLeaves, RefusedBinds, NothingBusy, GoesByRule}
-use Rattle.applications.specs.Laws.{KeepsResources, KeepsFiles, KeepsTable}
+use Rattle.applications.specs.Laws.{KeepsResources, KeepsFiles, KeepsTable, is_answered, frees, drops, freed_by}
+use Rattle.applications.specs.Laws.{dropped_by, LockedStay, FixedStay}
 use Rattle.applications.proofs.TryLaws.{sound-launched, once-shows, once-holds, once-locked, once-fixed, once-purgeable}
 use Rattle.applications.proofs.TryLaws.{once-looks, once-refused, once-keeps-resources, once-keeps-files, once-keeps-table}
 use Rattle.applications.proofs.Carrying.{run-goes}
+use Rattle.applications.proofs.Lines.{run-lines}
 use Rattle.applications.proofs.StepLaws.{binds-no-name}
 use Rattle.applications.proofs.Marking.{nothing-busy}
 use Rattle.applications.proofs.Ending.{goes-by-rule}
@@ -92,6 +96,27 @@ pub any_table_stays : (resources : Resources) (n : ℕ) (blocks : Blocks) (lines
     → Keeps KeepsTable resources n blocks lines
 any_table_stays resources n blocks lines = (run-goes KeepsTable once-keeps-table blocks lines
     (launched_with resources n nowhere) (put_at_launch resources n) (sound-launched resources n)).each
+
+-- where a call was not answered nothing was taken away
+unanswered : (told by : Bool) → told ≡ false → (told && by) ≡ false
+unanswered told by e = rw e refl
+
+-- from line to line locked blocks and pointers' blocks stay where they are
+pub any_locked_lines : (resources : Resources) (n : ℕ) (blocks : Blocks) (lines : List Line)
+    → LockedStay (launched_with resources n nowhere).memory.heap
+    (run blocks lines (launched_with resources n nowhere)).lines
+    (run blocks lines (launched_with resources n nowhere)).line_ends
+any_locked_lines resources n blocks lines = run-lines locked_place freed_by once-locked
+    (λ h e refused. unanswered (is_answered e.told) (frees h e.deed e.before) refused) blocks lines
+    (launched_with resources n nowhere) (put_at_launch resources n) (sound-launched resources n)
+
+pub any_fixed_lines : (resources : Resources) (n : ℕ) (blocks : Blocks) (lines : List Line)
+    → FixedStay (launched_with resources n nowhere).memory.heap
+    (run blocks lines (launched_with resources n nowhere)).lines
+    (run blocks lines (launched_with resources n nowhere)).line_ends
+any_fixed_lines resources n blocks lines = run-lines pointer_place dropped_by once-fixed
+    (λ p e refused. unanswered (is_answered e.told) (drops p e.deed) refused) blocks lines
+    (launched_with resources n nowhere) (put_at_launch resources n) (sound-launched resources n)
 
 pub any_goes_by_rule : (resources : Resources) (n : ℕ) (blocks : Blocks) (lines : List Line)
     → GoesByRule blocks lines (launched_with resources n nowhere)

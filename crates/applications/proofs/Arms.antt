@@ -5,9 +5,10 @@ use Rattle.mac_words.specs.Told.{Told}
 use Rattle.mac_words.specs.declared.resource_call.ResourceCall.{ResourceCall}
 use Rattle.res_calls.specs.Fetch.{Managers, Answer}
 use Rattle.res_calls.specs.Asked.{Served, served, telling}
+use Rattle.res_calls.specs.Fetching.{fetches}
 use Rattle.applications.specs.Trying.{resource_asked}
 use Rattle.applications.specs.Names.{Bindings}
-use Rattle.applications.specs.Replies.{TellsServed, fetches}
+use Rattle.applications.specs.Replies.{TellsServed}
 use Rattle.applications.specs.declared.tried.Tried.{Tried}
 
 -- How one call of the Resource Manager's table is tried: what its method answers is what the table tells.

@@ -78,7 +78,7 @@ marked_for-sound busy (call.Heap c) reading r bytes sound =
     (marked-sound busy (first_named (asked c r.names)) r.memory bytes sound))
 
 -- nor is a code that is kept anew
-kept-heap : (c : Call) (code : OsErr) (r : Running) → (kept_anew c code r).memory.heap ≡ r.memory.heap
+pub kept-heap : (c : Call) (code : OsErr) (r : Running) → (kept_anew c code r).memory.heap ≡ r.memory.heap
 kept-heap (call.Heap c) code r = refl
 kept-heap (call.Resource c) code r = refl
 kept-heap (call.Segment c) code r = refl
@@ -175,7 +175,14 @@ module _ (P : (ℕ → List ℕ) → Event → Type 0)
         let t : Tried = once blocks l.call r in
         let goes = try-goes blocks l r bytes sound in
         joined-goes r.memory.heap bytes
-        (record { events = event_of l r t ∷ []; lines = []; told = t.told; over = t.over; after = t.after })
+        (record {
+          events = event_of l r t ∷ [];
+          lines = [];
+          line_ends = [];
+          told = Some t.told;
+          over = t.over;
+          after = t.after;
+        })
         (grown_for blocks l t.reading t.after)
         (record { each = goes.each; linked = goes.linked; ends = goes.ends; sound = goes.sound })
         (for-goes blocks l t.reading t.after (put_event (event_of l r t) bytes) goes.sound)

@@ -8,8 +8,8 @@ use Rattle.mac_words.specs.Told.{Told}
 use Rattle.script_text.specs.Script.{Parts}
 use Rattle.script_text.specs.declared.script.Line.{Line}
 use Rattle.res_calls.specs.Files.{Resources}
-use Rattle.applications.specs.Trying.{Running, Blocks, launched_with, nowhere, code_told, is_fatal}
-use Rattle.applications.specs.Step.{Event, Shown, Course, Alike, nothing_yet, joined, step, unless_over, run}
+use Rattle.applications.specs.Trying.{Running, Blocks, launched_with, nowhere, last_code, is_fatal}
+use Rattle.applications.specs.Step.{Event, Shown, LineEnd, Course, Alike, nothing_yet, joined, step, unless_over, run}
 use Rattle.applications.specs.Alone.{Ending, first_steps, ending, ending_of, quits, stops}
 
 -- A run counted step by step: what the next line adds to the first steps, and to how the application ended.
@@ -20,6 +20,7 @@ joined-three a b c =
     ap (λ (events : List Event). let all : Course = record {
       events = events;
       lines = a.lines ++ (b.lines ++ c.lines);
+      line_ends = a.line_ends ++ (b.line_ends ++ c.line_ends);
       told = c.told;
       over = c.over;
       after = c.after;
@@ -27,10 +28,19 @@ joined-three a b c =
     ∙ ap (λ (lines : List Shown). let all : Course = record {
       events = (a.events ++ b.events) ++ c.events;
       lines = lines;
+      line_ends = a.line_ends ++ (b.line_ends ++ c.line_ends);
       told = c.told;
       over = c.over;
       after = c.after;
     } in all) (sym (append_assoc a.lines b.lines c.lines))
+    ∙ ap (λ (ends : List LineEnd). let all : Course = record {
+      events = (a.events ++ b.events) ++ c.events;
+      lines = (a.lines ++ b.lines) ++ c.lines;
+      line_ends = ends;
+      told = c.told;
+      over = c.over;
+      after = c.after;
+    } in all) (sym (append_assoc a.line_ends b.line_ends c.line_ends))
 
 -- what follows a course that is over, and one that isn't
 pub over-stays : (c : Course) (next : Running → Course) → c.over ≡ true → unless_over c next ≡ c
@@ -80,12 +90,14 @@ run-next blocks lines r n l is =
     ap (λ (ys : List Line). run blocks ys r) (take-next lines n l is) ∙ run-then blocks (take n lines) (l ∷ []) r
 
 alike-same : (c : Course) → Alike c c
-alike-same c = record { events = refl; lines = refl; over = refl; told = λ over. refl; after = refl }
+alike-same c =
+    record { events = refl; lines = refl; line_ends = refl; over = refl; told = λ over. refl; after = refl }
 
 alike-joined : (a c d : Course) → Alike c d → Alike (joined a c) (joined a d)
 alike-joined a c d like = record {
   events = ap (λ (x : List Event). a.events ++ x) like.events;
   lines = ap (λ (x : List Shown). a.lines ++ x) like.lines;
+  line_ends = ap (λ (x : List LineEnd). a.line_ends ++ x) like.line_ends;
   over = like.over;
   told = like.told;
   after = like.after;
@@ -114,6 +126,7 @@ one-line blocks l r = by_over s.over refl
     by_over false is = subst (λ (t : Bool). Alike (cond t s behind) s) (sym is) (record {
       events = append-nil s.events;
       lines = append-nil s.lines;
+      line_ends = append-nil s.line_ends;
       over = sym is;
       told = λ over. let no : true ≡ false = sym over ∙ is in cc;
       after = refl;
@@ -159,12 +172,12 @@ pub ending-alike : (asked : Bool) (c d : Course) → Alike c d → ending_of ask
 ending-alike asked c d like =
     ap (λ (t : Bool). ends t c.told c.after) like.over ∙ ap (ends d.over c.told) like.after ∙ by_over d.over like.told
   where
-    ends : Bool → Told → Running → Option Ending
-    ends over told after = if over then Some (if is_fatal (code_told told) then stops after else quits after)
+    ends : Bool → Option Told → Running → Option Ending
+    ends over told after = if over then Some (if is_fatal (last_code told) then stops after else quits after)
         else if asked then Some (quits after) else None
 
     by_over : (t : Bool) → (t ≡ true → c.told ≡ d.told) → ends t c.told d.after ≡ ends t d.told d.after
-    by_over true same = ap (λ (told : Told). ends true told d.after) (same refl)
+    by_over true same = ap (λ (told : Option Told). ends true told d.after) (same refl)
     by_over false same = refl
 
 -- how an application ended after one step more

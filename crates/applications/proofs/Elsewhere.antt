@@ -1,6 +1,6 @@
 use Rattle.std.proofs.Common.{◌≡◌, ◌∙◌, ◌≤◌, ◌-◌, ◌++◌, arith, ℕ, Bool, true, false, zero, suc, List, [], ◌∷◌, refl}
 use Rattle.std.proofs.Common.{sym, ap}
-use Rattle.std.proofs.Common.{cond, Option, Some, None, pos}
+use Rattle.std.proofs.Common.{cond, Option, Some, None, pos, map}
 use Rattle.std.proofs.lemmas.List.{map-append}
 use Rattle.mac_words.specs.declared.code.OsErr.{OsErr}
 use Rattle.mac_words.specs.declared.call.Call.{Call}
@@ -27,10 +27,10 @@ use Rattle.applications.specs.Trying.{code_told}
 use Rattle.res_calls.proofs.Walks.Place.{served-elsewhere as found-elsewhere}
 use Rattle.res_calls.proofs.Walks.Launching.{preloaded-elsewhere}
 use Rattle.segments.proofs.Laws.{served-elsewhere as jumped-elsewhere}
-use Rattle.applications.specs.Step.{Event, Course, joined, event_of, marked, marked_for, grown_line, grown}
+use Rattle.applications.specs.Step.{Event, LineEnd, Course, joined, event_of, marked, marked_for, grown_line, grown}
 use Rattle.applications.specs.Step.{grown_for, asked_for, kept_anew, ended, stands, Round, Ends, Again, made_room, after_asking}
 use Rattle.applications.specs.Step.{after_try, round, continued, step_in, step, most_rounds, unless_over, run}
-use Rattle.applications.specs.Elsewhere.{moved, event_elsewhere, course_elsewhere}
+use Rattle.applications.specs.Elsewhere.{moved, event_elsewhere, line_end_elsewhere, course_elsewhere}
 
 -- What a run comes to doesn't hang on where its partition lies.
 
@@ -63,10 +63,19 @@ joined-elsewhere site c d =
     ap (λ (events : List Event). let joint : Course = record {
       events = events;
       lines = c.lines ++ d.lines;
+      line_ends = map (line_end_elsewhere site) c.line_ends ++ map (line_end_elsewhere site) d.line_ends;
       told = d.told;
       over = d.over;
       after = moved site d.after;
     } in joint) (sym (map-append (event_elsewhere site) c.events d.events))
+    ∙ ap (λ (ends : List LineEnd). let joint : Course = record {
+      events = map (event_elsewhere site) (c.events ++ d.events);
+      lines = c.lines ++ d.lines;
+      line_ends = ends;
+      told = d.told;
+      over = d.over;
+      after = moved site d.after;
+    } in joint) (sym (map-append (line_end_elsewhere site) c.line_ends d.line_ends))
 
 -- what is busy is no matter of the place
 marked-elsewhere : (site : Site) (busy : Bool) (n : Option ℕ) (m : Memory)
@@ -123,7 +132,8 @@ asked-elsewhere site blocks l r t =
     let tried : Course = record {
       events = event_of l r t ∷ [];
       lines = [];
-      told = t.told;
+      line_ends = [];
+      told = Some t.told;
       over = t.over;
       after = t.after;
     } in

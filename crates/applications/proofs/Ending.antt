@@ -31,7 +31,7 @@ abbrev stays : Running → ℕ
 stays r = staying r.memory.heap.zone
 
 -- an answer that tells of no room is a refusal
-full-refused : (t : Told) → is_full (code_told t) ≡ true → (code : OsErr) × (t ≡ Refused code)
+pub full-refused : (t : Told) → is_full (code_told t) ≡ true → (code : OsErr) × (t ≡ Refused code)
 full-refused (Refused code) e = (code, refl)
 full-refused Done e = cc
 full-refused (Given n) e = cc

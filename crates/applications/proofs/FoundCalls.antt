@@ -10,9 +10,9 @@ use Rattle.res_map.specs.Split.{Split, place}
 use Rattle.res_map.specs.Map.{Map, is_changed, is_protected, nth, types}
 use Rattle.res_calls.specs.Files.{File, OpenFile, Resources, Found, file_named, file_of, open_at, current_references}
 use Rattle.res_calls.specs.Fetch.{Managers, Answer, Fetched, refused, is_system}
-use Rattle.res_calls.specs.Rows.{on_found, on_open, resource_of, bars, told_type, open_fork, open_unless, open_named}
-use Rattle.res_calls.specs.Rows.{greatest_number, map_in, open_map, if_updated, Info}
-use Rattle.res_calls.specs.Changing.{most_files, create_named, on_known, on_removable, on_changeable}
+use Rattle.res_calls.specs.Rows.{on_found, on_open, on_resource, resource_of, bars, told_type, open_fork, open_unless}
+use Rattle.res_calls.specs.Rows.{open_named, greatest_number, map_in, open_map, if_updated, Info}
+use Rattle.res_calls.specs.Changing.{most_files, create_named, on_known, on_removable, if_changeable}
 use Rattle.res_calls.specs.Update.{update}
 use Rattle.heap_calls.specs.Answer.{Known, handle_at}
 use Rattle.heap_calls.specs.Purging.{is_resource}
@@ -20,9 +20,10 @@ use Rattle.heap_calls.specs.Inside.{has_block}
 use Rattle.heap_calls.specs.Asked.{told_as}
 use Rattle.res_calls.specs.Asked.{ResourceAsked, Served, served, tell_fetched, tell_info}
 use Rattle.res_calls.specs.Asked as asks
+use Rattle.res_calls.specs.Fetching.{fetches}
 use Rattle.applications.specs.Trying.{Running, resource_tried}
 use Rattle.applications.specs.Application.{bytes_told}
-use Rattle.applications.specs.Replies.{TellsServed, IsTried, fetches}
+use Rattle.applications.specs.Replies.{TellsServed, IsTried}
 use Rattle.applications.specs.declared.tried.Tried.{Tried}
 
 -- What a call of the Resource Manager shows and reads again.
@@ -117,7 +118,7 @@ removable-none None s answer none = refl
 removable-none (Some at) s answer none = none at
 
 changeable-none : {T : Type 0} (handle : Option ℕ) (s : Managers) (answer : Found → Answer T)
-    → ((at : Found) → (answer at).reading ≡ None) → (on_changeable handle s answer).reading ≡ None
+    → ((at : Found) → (answer at).reading ≡ None) → (on_resource handle s (if_changeable answer s)).reading ≡ None
 changeable-none handle s answer none = on_found-none (resource_of handle s.resources) s _
     (λ at. either-none (is_system at.file.here) _ _ refl
     (either-none (is_protected at.reference.here) _ _ refl (none at)))

@@ -12,6 +12,7 @@ pub mod Counting
 mod StepLaws
 mod Marking
 mod Ending
+mod Lines
 pub mod Elsewhere
 mod Rows
 pub mod AnyRuns

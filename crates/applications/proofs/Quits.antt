@@ -18,7 +18,7 @@ use Rattle.res_calls.specs.Rows.{all_released, handles_of, closed}
 use Rattle.res_calls.specs.Update.{update}
 use Rattle.res_calls.specs.Leaving.{Left, updated_or, update_code, left_file, first_code, last_opened, leave_files}
 use Rattle.res_calls.proofs.Walks.Place.{moved as managers_moved}
-use Rattle.applications.specs.Trying.{Running, launched_with, launched, own_resources, nowhere, managers_of, code_told}
+use Rattle.applications.specs.Trying.{Running, launched_with, launched, own_resources, nowhere, managers_of, last_code}
 use Rattle.applications.specs.Trying.{is_fatal}
 use Rattle.applications.specs.Step.{Course, run}
 use Rattle.applications.specs.Application.{lines_told}
@@ -112,7 +112,7 @@ files-elsewhere site (Some e) r = refl
 
 -- the end that a course comes to is the one that it tells
 pub ending-told : (asked : Bool) (c : Course) → end_if (exit_of c) asked c.after ≡ ending_of asked c
-ending-told asked c = by_over c.over (is_fatal (code_told c.told))
+ending-told asked c = by_over c.over (is_fatal (last_code c.told))
   where
     by_over : (over fatal : Bool)
         → end_if (cond over (Some (cond fatal Stops Quits)) None) asked c.after
@@ -124,7 +124,7 @@ ending-told asked c = by_over c.over (is_fatal (code_told c.told))
 
 -- the application that a course comes to is the one that it leaves
 left-told : (asked : Bool) (c : Course) → left_if (exit_of c) asked c.after ≡ left_after asked c
-left-told asked c = by_over c.over (is_fatal (code_told c.told))
+left-told asked c = by_over c.over (is_fatal (last_code c.told))
   where
     by_over : (over fatal : Bool)
         → left_if (cond over (Some (cond fatal Stops Quits)) None) asked c.after
@@ -156,7 +156,7 @@ ending-elsewhere site asked c =
 
 left-elsewhere_after : (site : Site) (asked : Bool) (c : Course)
     → left_after asked (course_elsewhere site c) ≡ moved site (left_after asked c)
-left-elsewhere_after site asked c = by_over c.over (is_fatal (code_told c.told)) asked
+left-elsewhere_after site asked c = by_over c.over (is_fatal (last_code c.told)) asked
   where
     by_over : (over fatal asks : Bool)
         → cond over (cond fatal (moved site c.after) (has_quit (moved site c.after)))
@@ -169,7 +169,7 @@ left-elsewhere_after site asked c = by_over c.over (is_fatal (code_told c.told))
 
 -- the files that it has then are those of its end
 left-files : (asked : Bool) (c : Course) → (left_after asked c).resources.files ≡ files_after (ending_of asked c) c.after
-left-files asked c = by_over c.over (is_fatal (code_told c.told)) asked
+left-files asked c = by_over c.over (is_fatal (last_code c.told)) asked
   where
     by_over : (over fatal asks : Bool)
         → (cond over (cond fatal c.after (has_quit c.after)) (cond asks (has_quit c.after) c.after)).resources.files

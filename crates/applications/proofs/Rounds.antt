@@ -4,7 +4,7 @@ use Rattle.std.proofs.lemmas.Grind.{flat_map-append}
 use Rattle.std.proofs.lemmas.List.{append_assoc, append-nil}
 use Rattle.std.proofs.lemmas.List.Concat.{flat_map-cons}
 use Rattle.script_text.specs.declared.script.Line.{Line}
-use Rattle.applications.specs.Trying.{Running, Blocks, Tried, once, code_told}
+use Rattle.applications.specs.Trying.{Running, Blocks, Tried, once, code_told, last_code}
 use Rattle.std.specs.Prelude.{nat_lt}
 use Rattle.heap_calls.specs.Staying.{ease}
 use Rattle.applications.specs.Step.{Shown, Course, Round, Ends, Again, grown, grown_for, asked_for, after_asking, ended}
@@ -160,7 +160,7 @@ step_goes_on blocks l n k r after text new goal all more came lines went ends =
 over-of : (c : Course) → is_some (exit_of c) ≡ c.over
 over-of c = by_over c.over
   where
-    by_over : (over : Bool) → is_some (exit_as over (code_told c.told)) ≡ over
+    by_over : (over : Bool) → is_some (exit_as over (last_code c.told)) ≡ over
     by_over true = refl
     by_over false = refl
 

@@ -1,4 +1,5 @@
-use Rattle.std.proofs.Common.{◌≡◌, ℕ, Bool, true, false, refl, map, List, [], ◌∷◌}
+use Rattle.std.proofs.Common.{◌≡◌, ℕ, Bool, true, false, Option, Some, None, refl, map, List, [], ◌∷◌}
+use Rattle.std.specs.Prelude.{is_some}
 use Rattle.mac_words.specs.declared.name.Label.{Label}
 use Rattle.mac_words.specs.declared.code.TheConstants.OsErr.{MEM_FULL, WRONG_ZONE, LOCKED}
 use Rattle.mac_words.specs.declared.call.Call.TheVariants as call
@@ -7,9 +8,10 @@ use Rattle.mac_words.specs.declared.call.ControlCall.TheVariants as control
 use Rattle.mac_words.specs.declared.call.HeapCall.{HeapCall}
 use Rattle.mac_words.specs.declared.call.HeapCall.TheVariants as heap
 use Rattle.mac_words.specs.Told.{Told, Done, Given, Number, Code, Refused}
+use Rattle.heap_calls.specs.Locked.{locked_place}
 use Rattle.script_text.specs.declared.script.Line.{Line}
 use Rattle.script_text.specs.Script.{Parts}
-use Rattle.applications.specs.Step.{Shown}
+use Rattle.applications.specs.Step.{Shown, LineEnd}
 use Rattle.applications.specs.Alone.{run_alone}
 
 -- Worked examples of grow-zone scripts, in a partition of 1,024 bytes.
@@ -77,3 +79,19 @@ nothing_follows_the_end : lines_seen (with_grown [] (control_at 1 control.WaitNe
     ∷ control_at 2 control.ExitToShell ∷ at 3 heap.FreeMem ∷ []))
     ≡ (false, 1, Done) ∷ (false, 2, Done) ∷ []
 nothing_follows_the_end = refl
+
+-- the end of a line: where the locked block of the first handle stands, and whether the line has a try of its own
+abbrev end_seen : LineEnd → Option ℕ × Bool
+end_seen e = (locked_place 0 e.heap.zone, is_some e.try)
+
+abbrev ends_seen : Parts → List (Option ℕ × Bool)
+ends_seen script = map end_seen (run_alone 1024 script).line_ends
+
+-- a locked block stands while a call finds no room, and until its handle is unlocked; the call whose answer stands has
+-- a line without a try of its own
+a_locked_block_stands : ends_seen (with_grown (at 2 (heap.DisposeHandle r) ∷ [])
+    (set_grow_zone 4 ∷ at 5 (heap.NewHandle a 100) ∷ at 6 (heap.HLock a) ∷ at 7 (heap.NewHandle r 100)
+    ∷ at 8 (heap.NewHandle b 900) ∷ at 9 (heap.HUnlock a) ∷ []))
+    ≡ (None, true) ∷ (None, true) ∷ (Some 272, true) ∷ (Some 272, true) ∷ (Some 272, true) ∷ (Some 272, true)
+    ∷ (Some 272, false) ∷ (None, true) ∷ []
+a_locked_block_stands = refl

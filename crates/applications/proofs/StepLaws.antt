@@ -1,5 +1,6 @@
 use Rattle.std.proofs.Common.{◌≡◌, ℕ, Bool, true, false, zero, suc, List, [], ◌∷◌, refl, ap, ◌∙◌, cond}
-use Rattle.std.proofs.Common.{Option, None}
+use Rattle.std.proofs.Common.{Option, Some, None}
+use Rattle.std.proofs.lemmas.Option.{same_Some}
 use Rattle.mac_words.specs.declared.code.OsErr.{OsErr}
 use Rattle.mac_words.specs.declared.call.Call.{Call}
 use Rattle.mac_words.specs.declared.call.Call.TheVariants as call
@@ -76,7 +77,7 @@ kept-names (call.Control c) code r = refl
 
 -- a call that is refused binds nothing
 abbrev Binds : Bindings → Course → Type 0
-Binds names c = (code : OsErr) → c.told ≡ Refused code → c.after.names ≡ names
+Binds names c = (code : OsErr) → c.told ≡ Some (Refused code) → c.after.names ≡ names
 
 abbrev RoundBinds : Bindings → Round → Type 0
 RoundBinds names (Ends c) = Binds names c
@@ -99,7 +100,8 @@ round-binds blocks l r = by_want t.wants
     by_want : (wants : Bool) → RoundBinds r.names (cond wants (after_asking l t came) (Ends (ended l r t)))
     by_want true = by_room (made_room t came)
     by_want false = λ code tells.
-        ap (λ (told : Told). names_given l.call (number_given told) t.after.names) tells
+        ap (λ (told : Told). names_given l.call (number_given told) t.after.names)
+        (same_Some t.told (Refused code) tells)
         ∙ names-kept l.call t.after.names
         ∙ once-names blocks l.call r
 
@@ -123,5 +125,5 @@ step_in-binds (suc more) blocks l r names same =
 -- and so of each step of a run
 pub binds-no-name : (blocks : Blocks) (lines : List Line) (r : Running) → RefusedBinds blocks lines r
 binds-no-name blocks lines r = each-step
-    (λ l r. (code : OsErr) → (step blocks l r).told ≡ Refused code → (step blocks l r).after.names ≡ r.names)
+    (λ l r. (code : OsErr) → (step blocks l r).told ≡ Some (Refused code) → (step blocks l r).after.names ≡ r.names)
     (λ r. Unit {0}) blocks (λ l r u. (step_in-binds (most_rounds r) blocks l r r.names refl, tt)) lines r tt

@@ -1,19 +1,20 @@
 use Rattle.std.proofs.Common.{◌≡◌, ◌≤◌, ◌<◌, ◌^◌, ◌+◌, ◌⊎◌, ℕ, length, Bool, true, false, List, [], Some, inl, inr}
-use Rattle.std.proofs.Common.{refl, sym, ap, subst}
+use Rattle.std.proofs.Common.{Option, None, refl, sym, ap, subst, ◌&&◌, true≢false}
 use Rattle.std.proofs.Common.{◌∙◌, arith}
+use Rattle.std.proofs.lemmas.Option.{same_Some, none-some}
 use Rattle.mac_words.specs.declared.call.Call.{Call}
 use Rattle.mac_words.specs.declared.call.Call.TheVariants as call
 use Rattle.mac_words.specs.declared.code.OsErr.{OsErr}
 use Rattle.mac_words.specs.declared.call.ControlCall.{ControlCall}
 use Rattle.mac_words.specs.declared.call.ControlCall.TheVariants as control
 use Rattle.mac_words.specs.declared.segment_call.SegmentCall.{SegmentCall}
-use Rattle.block_store.specs.Block.{count, is_masters, is_relocatable}
+use Rattle.block_store.specs.Block.{Block, count, is_masters, is_relocatable}
 use Rattle.block_store.specs.Run.{has}
 use Rattle.block_store.specs.Rest.{counted}
 use Rattle.heap_calls.specs.Locked.{locked_place}
 use Rattle.heap_calls.specs.Standing.{pointer_place}
 use Rattle.heap_calls.specs.Emptying.{may_be_emptied}
-use Rattle.heap_calls.specs.State.{Memory, fresh_memory}
+use Rattle.heap_calls.specs.State.{State, Memory, fresh_memory}
 use Rattle.mac_words.specs.Told.{Told, Done, Given, Fetched, Number, Numbers, Code, Bytes, Kind, Info, Entry, Refused}
 use Rattle.heap_calls.specs.Asked.{Asked}
 use Rattle.heap_calls.specs.Asked as asks
@@ -21,9 +22,11 @@ use Rattle.heap_calls.specs.Busy.{served}
 use Rattle.heap_calls.proofs.Promises.Knowing.{Known, holds-known, known-fresh}
 use Rattle.heap_calls.proofs.Promises.StandingLaws.{next-new}
 use Rattle.heap_calls.proofs.Promises.FewSearches.{unlooked}
-use Rattle.heap_calls.proofs.Tries.Gating.{served-known, served-shows, served-locked, served-fixed, served-purgeable}
+use Rattle.heap_calls.proofs.Promises.Taking.{StaysOr}
+use Rattle.heap_calls.proofs.Tries.Gating.{served-known, served-shows}
 use Rattle.heap_calls.proofs.Tries.Gating.{served_looks, served-refused, served-busy}
 use Rattle.heap_calls.proofs.Tries.Keeping.{served_masters_no_fewer}
+use Rattle.heap_calls.proofs.Tries.Taking.{served-stays, served-stands, served-empties}
 use Rattle.res_calls.specs.Files.{Resources}
 use Rattle.res_calls.specs.Fetch.{Managers, Reads}
 use Rattle.res_calls.specs.Asked.{ResourceAsked}
@@ -38,11 +41,13 @@ use Rattle.applications.specs.Trying.{launched_with}
 use Rattle.applications.specs.Step.{Deed, Ask, Find, Jump, Steer, deed_of, event_of}
 use Rattle.applications.specs.Laws.{put_found, put_deed, put_event, ShowsPut, HoldsPut, frees, drops, lets, opens, Kept}
 use Rattle.applications.specs.Laws.{KeepsLocked, KeepsFixed, EmptiesPurgeable, LooksFew, RefusedLeaves, keeps_resources}
-use Rattle.applications.specs.Laws.{KeepsResources, writes_files, KeepsFiles, KeepsTable}
+use Rattle.applications.specs.Laws.{KeepsResources, writes_files, KeepsFiles, KeepsTable, is_answered, StayPut}
 use Rattle.applications.specs.Laws.{put_at_launch, jumps as is_jump}
 use Rattle.res_calls.proofs.Walks.Laws as laws
 use Rattle.res_calls.proofs.Walks.Launching.{preloaded-known, preloaded-masters, preloaded-fits}
+use Rattle.res_calls.proofs.Walks.Taking.{served-stays as found-stays, served-empties as found-empties}
 use Rattle.segments.proofs.Laws as jumping
+use Rattle.segments.proofs.Taking.{served-stays as jumped-stays}
 
 -- The laws of one try, by any application that a run reaches.
 
@@ -215,40 +220,81 @@ pub once-holds : (blocks : Blocks) (l : Line) (r : Running) (bytes : ℕ → Lis
 once-holds blocks l r bytes sound = holds-known (once blocks l.call r).after.memory.heap
     (put_event (event_of l r (once blocks l.call r)) bytes) (once-sound blocks l.call r bytes sound).known
 
+-- a block that stays where it was, or is gone after a call that took it away and is done, stays put
+stays-put : (place_of : ℕ → List Block → Option ℕ) (taken : ℕ → Bool) (told : Told) (before after : State)
+    → ((n place : ℕ) → place_of n before.zone ≡ Some place → StaysOr (taken n) place told (place_of n after.zone))
+    → StayPut place_of (λ n. is_answered told && taken n) before after
+stays-put place_of taken told before after each = record { stays = stays; goes = goes }
+  where
+    stays : (n here there : ℕ) → place_of n before.zone ≡ Some here → place_of n after.zone ≡ Some there
+        → there ≡ here
+    stays n here there was is = by_way (each n here was)
+      where
+        by_way : StaysOr (taken n) here told (place_of n after.zone) → there ≡ here
+        by_way (inl same) = same_Some there here (sym is ∙ same)
+        by_way (inr gone) = absurd (none-some there (sym gone.0 ∙ is))
+
+    goes : (n here : ℕ) → place_of n before.zone ≡ Some here → place_of n after.zone ≡ None
+        → (is_answered told && taken n) ≡ true
+    goes n here was is = by_way (each n here was)
+      where
+        by_way : StaysOr (taken n) here told (place_of n after.zone) → (is_answered told && taken n) ≡ true
+        by_way (inl same) = absurd (none-some here (sym is ∙ same))
+        by_way (inr gone) = rw (gone.1, gone.2) refl
+
 -- a try leaves locked blocks where they are
 pub once-locked : (blocks : Blocks) (l : Line) (r : Running) (bytes : ℕ → List ℕ) → Sound r.memory bytes
     → KeepsLocked bytes (event_of l r (once blocks l.call r))
-once-locked blocks l r bytes sound h place = of-try
-    (λ d told reads after. frees h d r ≡ false → locked_place h r.memory.heap.zone ≡ Some place
-    → locked_place h after.memory.heap.zone ≡ Some place) blocks l.call r
-    (λ a. served-locked a r.memory sound.known.once h place)
-    (λ a. laws.served-locked a (managers_of r) bytes sound.known h place)
-    (λ c. jumping.served-locked c (program_of r) bytes sound.known h place) (λ k grow keeps is. is)
+once-locked blocks l r bytes sound = of-try
+    (λ d told reads after. StayPut locked_place (λ h. is_answered told && frees h d r) r.memory.heap after.memory.heap)
+    blocks l.call r
+    (λ a. stays-put locked_place (λ h. frees h (Ask a) r) (served a r.memory).0 r.memory.heap
+    (served a r.memory).1.heap (served-stays a r.memory sound.known.once))
+    (λ a. stays-put locked_place (λ h. frees h (Find a) r) (finds.served a (managers_of r)).told r.memory.heap
+    (finds.served a (managers_of r)).after.memory.heap
+    (found-stays a (managers_of r) bytes sound.known))
+    (λ c. stays-put locked_place (λ h. frees h (Jump c) r) (jumps.served c (program_of r)).told r.memory.heap
+    (jumps.served c (program_of r)).after.managers.memory.heap
+    (jumped-stays c (program_of r) bytes sound.known))
+    (λ k grow. stays-put locked_place (λ h. frees h (Steer k) r) Done r.memory.heap r.memory.heap (λ h place is. inl is))
 
 -- and pointers' blocks
 pub once-fixed : (blocks : Blocks) (l : Line) (r : Running) (bytes : ℕ → List ℕ) → Sound r.memory bytes
     → KeepsFixed bytes (event_of l r (once blocks l.call r))
-once-fixed blocks l r bytes sound p place = of-try
-    (λ d told reads after. drops p d ≡ false → pointer_place p r.memory.heap.zone ≡ Some place
-    → pointer_place p after.memory.heap.zone ≡ Some place) blocks l.call r
-    (λ a. served-fixed a r.memory sound.known.once (next-new r.memory.heap bytes sound.known) p place)
-    (λ a keeps. laws.served-fixed a (managers_of r) bytes sound.known p place)
-    (λ c keeps. jumping.served-fixed c (program_of r) bytes sound.known p place) (λ k grow keeps is. is)
+once-fixed blocks l r bytes sound = of-try
+    (λ d told reads after. StayPut pointer_place (λ p. is_answered told && drops p d) r.memory.heap after.memory.heap)
+    blocks l.call r
+    (λ a. stays-put pointer_place (λ p. drops p (Ask a)) (served a r.memory).0 r.memory.heap
+    (served a r.memory).1.heap
+    (served-stands a r.memory sound.known.once (next-new r.memory.heap bytes sound.known)))
+    (λ a. stays-put pointer_place (λ p. drops p (Find a)) (finds.served a (managers_of r)).told r.memory.heap
+    (finds.served a (managers_of r)).after.memory.heap
+    (λ p place is. inl (laws.served-fixed a (managers_of r) bytes sound.known p place is)))
+    (λ c. stays-put pointer_place (λ p. drops p (Jump c)) (jumps.served c (program_of r)).told r.memory.heap
+    (jumps.served c (program_of r)).after.managers.memory.heap
+    (λ p place is. inl (jumping.served-fixed c (program_of r) bytes sound.known p place is)))
+    (λ k grow. stays-put pointer_place (λ p. drops p (Steer k)) Done r.memory.heap r.memory.heap
+    (λ p place is. inl is))
 
--- and empties only blocks that may be emptied
+-- and empties only blocks that may be emptied, or that its call lets go
 pub once-purgeable : (blocks : Blocks) (l : Line) (r : Running) (bytes : ℕ → List ℕ) → Sound r.memory bytes
     → EmptiesPurgeable bytes (event_of l r (once blocks l.call r))
 once-purgeable blocks l r bytes sound h = of-try
-    (λ d told reads after. lets h d r ≡ false → has (is_relocatable h) r.memory.heap.zone ≡ true
+    (λ d told reads after. has (is_relocatable h) r.memory.heap.zone ≡ true
     → has (is_relocatable h) after.memory.heap.zone ≡ false
-    → may_be_emptied h r.memory.heap.zone ≡ true) blocks l.call r
-    (λ a. served-purgeable a r.memory sound.known.once h)
-    (λ a. laws.served-purgeable a (managers_of r) bytes sound.known h)
-    (λ c keeps. jumping.served-purgeable c (program_of r) bytes sound.known h)
-    (λ k grow keeps before after. absurd-same before after)
+    → (may_be_emptied h r.memory.heap.zone ≡ true) ⊎ ((is_answered told && lets h d r) ≡ true)) blocks l.call r
+    (λ a before after. done_lets (lets h (Ask a) r) (served a r.memory).0
+    (served-empties a r.memory sound.known.once h before after))
+    (λ a before after. done_lets (lets h (Find a) r) (finds.served a (managers_of r)).told
+    (found-empties a (managers_of r) h before after))
+    (λ c before after. inl (jumping.served-purgeable c (program_of r) bytes sound.known h before after))
+    (λ k grow before after. absurd (true≢false (sym before ∙ after)))
   where
-    absurd-same : {t : Bool} → t ≡ true → t ≡ false → may_be_emptied h r.memory.heap.zone ≡ true
-    absurd-same before after = let f : true ≡ false = sym before ∙ after in cc
+    done_lets : (lets : Bool) (told : Told)
+        → (may_be_emptied h r.memory.heap.zone ≡ true) ⊎ ((told ≡ Done) × (lets ≡ true))
+        → (may_be_emptied h r.memory.heap.zone ≡ true) ⊎ ((is_answered told && lets) ≡ true)
+    done_lets lets told (inl may) = inl may
+    done_lets lets told (inr both) = inr (rw (both.0, both.1) refl)
 
 -- it looks for room few times
 pub once-looks : (blocks : Blocks) (l : Line) (r : Running) (bytes : ℕ → List ℕ) → Sound r.memory bytes

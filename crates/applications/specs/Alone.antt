@@ -7,7 +7,7 @@ use Rattle.script_text.specs.Script.{Parts}
 use Rattle.script_text.specs.Transcript.{launch_line, end_line}
 use Rattle.res_calls.specs.Files.{File, Resources}
 use Rattle.res_calls.specs.Leaving.{leave}
-use Rattle.applications.specs.Trying.{Running, launched, launched_with, own_resources, nowhere, code_told, is_fatal}
+use Rattle.applications.specs.Trying.{Running, launched, launched_with, own_resources, nowhere, last_code, is_fatal}
 use Rattle.applications.specs.Trying.{managers_of}
 use Rattle.applications.specs.Step.{Course, run}
 use Rattle.applications.specs.Application.{lines_told}
@@ -43,7 +43,7 @@ stops r = record { code = SYSTEM_ERROR; files = r.resources.files }
 
 -- The end of an application whose last call ended it, by a system error or by quitting.
 abbrev pub ended_by : Course → Ending
-ended_by c = if is_fatal (code_told c.told) then stops c.after else quits c.after
+ended_by c = if is_fatal (last_code c.told) then stops c.after else quits c.after
 
 -- The end of an application after a course, where the application ended: by a call of its own, or because a quit was
 -- asked for.
@@ -53,7 +53,7 @@ ending_of asked c = if c.over then Some (ended_by c) else if asked then Some (qu
 -- The application after that end, or as it stands where it goes on.
 abbrev pub left_after : Bool → Course → Running
 left_after asked c =
-    if c.over then (if is_fatal (code_told c.told) then c.after else has_quit c.after)
+    if c.over then (if is_fatal (last_code c.told) then c.after else has_quit c.after)
     else (if asked then has_quit c.after else c.after)
 
 -- The first `n` steps of a script, in a fresh partition of `size` bytes.

@@ -1,7 +1,8 @@
-use Rattle.std.specs.Prelude.{◌≡◌, ◌≢◌, ◌≤◌, ◌⊎◌, ℕ, Bool, true, false, Some, List, [], ◌∷◌, length, ◌+◌}
+use Rattle.std.specs.Prelude.{◌≡◌, ◌≢◌, ◌≤◌, ◌⊎◌, ℕ, Bool, true, false, ◌&&◌, Option, Some, None, List, [], ◌∷◌, length}
+use Rattle.std.specs.Prelude.{◌+◌}
 use Rattle.mac_words.specs.declared.code.OsErr.{OsErr}
 use Rattle.mac_words.specs.declared.code.TheConstants.OsErr.{SYSTEM_ERROR}
-use Rattle.block_store.specs.Block.{is_relocatable}
+use Rattle.block_store.specs.Block.{Block, is_relocatable}
 use Rattle.block_store.specs.Run.{has}
 use Rattle.block_store.specs.Rest.{counted}
 use Rattle.heap_calls.specs.State.{State}
@@ -23,7 +24,7 @@ use Rattle.res_calls.specs.Writing.{writes}
 use Rattle.res_calls.specs.Files.{Resources}
 use Rattle.segments.specs.Asked.{unlocks}
 use Rattle.applications.specs.Trying.{Running, Blocks, managers_of, read_at_launch, nowhere}
-use Rattle.applications.specs.Step.{Deed, Ask, Find, Jump, Steer, Event, step, step_by_rule}
+use Rattle.applications.specs.Step.{Deed, Ask, Find, Jump, Steer, deed_of, Event, Shown, LineEnd, step, step_by_rule}
 
 -- What holds of each try of a run, the refused tries and the tries of a grow-zone script's lines too.
 
@@ -74,46 +75,101 @@ ShowsPut bytes e =
 abbrev pub HoldsPut : (ℕ → List ℕ) → Event → Type 0
 HoldsPut bytes e = Holds e.after.memory.heap (put_event e bytes)
 
--- Holds of a call that disposes of the handle `h` or unlocks it.
+-- Holds of a reply that is not a refusal: the call was answered.
+abbrev pub is_answered : Told → Bool
+is_answered (Refused code) = false
+is_answered told = true
+
+-- Holds of a call that disposes of the handle `h` or unlocks it, where the call is answered.
 abbrev pub frees : ℕ → Deed → Running → Bool
 frees h (Ask asked) r = releases h asked
 frees h (Find asked) r = disposes_of h asked (managers_of r)
 frees h (Jump call) r = unlocks h call (managers_of r)
 frees h (Steer control) r = false
 
--- Holds of a call that disposes of the pointer `p`.
+-- Holds of a call that disposes of the pointer `p`, where the call is answered.
 abbrev pub drops : ℕ → Deed → Bool
 drops p (Ask asked) = disposes p asked
 drops p (Find asked) = false
 drops p (Jump call) = false
 drops p (Steer control) = false
 
--- Holds of a call that empties the handle `h` or disposes of it.
+-- Holds of a call that empties the handle `h` or disposes of it, where the call is answered.
 abbrev pub lets : ℕ → Deed → Running → Bool
 lets h (Ask asked) r = lets_go h asked
 lets h (Find asked) r = disposes_of h asked (managers_of r)
 lets h (Jump call) r = false
 lets h (Steer control) r = false
 
--- A block that is locked before a try is locked after the try, at the same distance from the zone's bottom, unless the
--- call disposes of the block's handle or unlocks it.
+-- Holds of a try that was answered and whose call disposes of the handle `h` or unlocks it.
+abbrev pub freed_by : ℕ → Event → Bool
+freed_by h e = is_answered e.told && frees h e.deed e.before
+
+-- Holds of a try that was answered and whose call disposes of the pointer `p`.
+abbrev pub dropped_by : ℕ → Event → Bool
+dropped_by p e = is_answered e.told && drops p e.deed
+
+-- Holds of a try that was answered and whose call empties the handle `h` or disposes of it.
+abbrev pub let_go_by : ℕ → Event → Bool
+let_go_by h e = is_answered e.told && lets h e.deed e.before
+
+-- From one heap to a later one, each block that has a place keeps the place, unless the block was taken away.
+pub record StayPut (place_of : ℕ → List Block → Option ℕ) (taken : ℕ → Bool) (before after : State) : Type 0 where
+  -- A block that has a place in both heaps has the same place in both.
+  pub stays : (n here there : ℕ) → place_of n before.zone ≡ Some here → place_of n after.zone ≡ Some there
+      → there ≡ here
+  -- A block that has a place in the first heap and none in the second was taken away.
+  pub goes : (n here : ℕ) → place_of n before.zone ≡ Some here → place_of n after.zone ≡ None → taken n ≡ true
+
+-- A block that is locked before a try and after it stands at the same distance. A block that is locked before the try
+-- and not after it was taken away: the call was answered, and disposes of the block's handle or unlocks it.
 abbrev pub KeepsLocked : (ℕ → List ℕ) → Event → Type 0
-KeepsLocked bytes e =
-    (h place : ℕ) → frees h e.deed e.before ≡ false → locked_place h e.before.memory.heap.zone ≡ Some place
-    → locked_place h e.after.memory.heap.zone ≡ Some place
+KeepsLocked bytes e = StayPut locked_place (λ h. freed_by h e) e.before.memory.heap e.after.memory.heap
 
--- The block of a pointer stands after a try where it stood before, unless the call disposes of the pointer.
+-- The block of a pointer stands after a try where it stood before, unless it was taken away: the call was answered, and
+-- disposes of the pointer.
 abbrev pub KeepsFixed : (ℕ → List ℕ) → Event → Type 0
-KeepsFixed bytes e =
-    (p place : ℕ) → drops p e.deed ≡ false → pointer_place p e.before.memory.heap.zone ≡ Some place
-    → pointer_place p e.after.memory.heap.zone ≡ Some place
+KeepsFixed bytes e = StayPut pointer_place (λ p. dropped_by p e) e.before.memory.heap e.after.memory.heap
 
--- A handle that has a block before a try and no block after the try had a block that may be purged, unless the call
--- emptied the handle or disposed of it.
+-- A handle that has a block before a try and no block after the try had a block that may be purged, or the call was
+-- answered and empties the handle or disposes of it.
 abbrev pub EmptiesPurgeable : (ℕ → List ℕ) → Event → Type 0
 EmptiesPurgeable bytes e =
-    (h : ℕ) → lets h e.deed e.before ≡ false → has (is_relocatable h) e.before.memory.heap.zone ≡ true
-    → has (is_relocatable h) e.after.memory.heap.zone ≡ false → may_be_emptied h e.before.memory.heap.zone ≡ true
+    (h : ℕ) → has (is_relocatable h) e.before.memory.heap.zone ≡ true
+    → has (is_relocatable h) e.after.memory.heap.zone ≡ false
+    → (may_be_emptied h e.before.memory.heap.zone ≡ true) ⊎ (let_go_by h e ≡ true)
+
+-- The try is one of the line's call, and the line tells the reply of the try. A line without a try of its own tells a
+-- refusal.
+abbrev pub IsTryOf : Shown → Option Event → Type 0
+IsTryOf x None = is_answered x.told ≡ false
+IsTryOf x (Some e) = (e.deed ≡ deed_of x.line.call e.before.names) × (e.told ≡ x.told)
+
+-- Whether the try of a line took a block away; a line without a try of its own took no block away.
+abbrev pub taken_in : (ℕ → Event → Bool) → Option Event → ℕ → Bool
+taken_in taken None n = false
+taken_in taken (Some e) n = taken n e
+
+-- From the heap before the lines to the heap after the first, and from each line to the next, each block that has a
+-- place keeps the place, unless the line's own try took the block away. Each line has its end.
+abbrev pub LinesStayPut : (ℕ → List Block → Option ℕ) → (ℕ → Event → Bool) → State → List Shown → List LineEnd
+    → Type 0
+LinesStayPut place_of taken before [] [] = Unit {0}
+LinesStayPut place_of taken before (x ∷ lines) (e ∷ ends) =
+    IsTryOf x e.try × StayPut place_of (taken_in taken e.try) before e.heap
+    × LinesStayPut place_of taken e.heap lines ends
+LinesStayPut place_of taken before lines ends = ⊥
+
+-- A block that is locked after one line of the transcript and after the next, lines of grow-zone scripts included,
+-- stands at the same distance. A block that is locked after the one and not after the next was taken away by the call
+-- of the next line, which was answered and disposes of the block's handle or unlocks it.
+abbrev pub LockedStay : State → List Shown → List LineEnd → Type 0
+LockedStay before lines ends = LinesStayPut locked_place freed_by before lines ends
+
+-- The block of a pointer stands after one line of the transcript where it stood after the line before, unless the
+-- line's call was answered and disposes of the pointer.
+abbrev pub FixedStay : State → List Shown → List LineEnd → Type 0
+FixedStay before lines ends = LinesStayPut pointer_place dropped_by before lines ends
 
 -- Holds of a call that opens a file. The call may make as many blocks as the file has resources to preload.
 -- See decision 94 (an opening may search for room once for each resource that it reads).
@@ -189,7 +245,7 @@ EachStep P blocks (l ∷ lines) r =
 -- Where the call of a step is refused, each name is bound as before the step, whatever the grow-zone script did.
 abbrev pub RefusedBinds : Blocks → List Line → Running → Type 0
 RefusedBinds blocks lines r = EachStep
-    (λ l r. (code : OsErr) → (step blocks l r).told ≡ Refused code → (step blocks l r).after.names ≡ r.names)
+    (λ l r. (code : OsErr) → (step blocks l r).told ≡ Some (Refused code) → (step blocks l r).after.names ≡ r.names)
     blocks lines r
 
 -- No handle or pointer is busy after a step.

@@ -6,3 +6,4 @@ pub mod Alone
 pub mod Elsewhere
 pub mod Replies
 pub mod Laws
+pub mod Promises

@@ -3,15 +3,14 @@ use Rattle.std.specs.Prelude.{Box, if◌then◌else◌}
 use Rattle.std.specs.Global.{Global}
 use Rattle.mac_words.specs.declared.name.Name.{Name}
 use Rattle.mac_words.specs.declared.name.OsType.{OsType}
-use Rattle.res_calls.specs.Asked.{ResourceAsked, Served}
-use Rattle.res_calls.specs.Asked as asks
+use Rattle.res_calls.specs.Asked.{Served}
 use Rattle.mac_words.specs.declared.reply.Reply.{Reply}
 use Rattle.mac_words.specs.declared.code.OsErr.{OsErr}
 use Rattle.mac_words.specs.Told.{Told, Refused}
 use Rattle.heap_calls.specs.declared.refusal.Refusal.{Refusal}
 use Rattle.heap_calls.specs.declared.refusal.Refusal.TheVariants.{Code, HostMemory}
 use Rattle.segments.specs.Calls.{Answer}
-use Rattle.applications.specs.Trying.{Running, code_told, is_full, is_fatal}
+use Rattle.applications.specs.Trying.{Running, code_told, last_code, is_full, is_fatal}
 use Rattle.applications.specs.Trying as specs
 use Rattle.applications.specs.Application.{numbers_told, type_told, name_told, lines_told}
 use Rattle.applications.specs.Step.{Course, Round, Ends, Again, number_given}
@@ -45,16 +44,6 @@ pub record TellsTold (tried : Tried) (told : Told) : Type 0 where
   pub wants : tried.wants ≡ is_full (code_told told)
   pub over : tried.over ≡ false
 
--- Holds of the calls that fetch resources.
-abbrev pub fetches : ResourceAsked → Bool
-fetches (asks.GetResource kind id) = true
-fetches (asks.GetOneResource kind id) = true
-fetches (asks.GetNamedResource kind name) = true
-fetches (asks.GetOneNamedResource kind name) = true
-fetches (asks.GetOneIndResource kind index) = true
-fetches (asks.LoadResource handle) = true
-fetches asked = false
-
 -- The try of a call of the Resource Manager's table is that of the definition, and names the empty handle that would
 -- have been read again where the call found no room.
 pub record TellsServed (tried : Tried) (served : Served) (fetches : Bool) : Type 0 where
@@ -87,7 +76,7 @@ exit_as over code = if over then Some (if is_fatal code then exit.Stops else exi
 
 -- How an application ends with a course.
 abbrev pub exit_of : Course → Option Exit
-exit_of c = exit_as c.over (code_told c.told)
+exit_of c = exit_as c.over (last_code c.told)
 
 -- The end of an application that ends in the given way. An application that has no call left, or is asked to quit,
 -- quits.

@@ -1,7 +1,6 @@
 use Rattle.std.specs.Prelude.{◌≡◌, ℕ, ◌+◌, Bool, true, false, Option, Some, None, List, [], ◌∷◌, ◌++◌, nat_lt, zero, suc}
 use Rattle.std.specs.Prelude.{if◌then◌else◌}
 use Rattle.mac_words.specs.declared.code.OsErr.{OsErr}
-use Rattle.mac_words.specs.declared.code.TheConstants.OsErr.{MEM_FULL}
 use Rattle.mac_words.specs.declared.call.Call.{Call}
 use Rattle.mac_words.specs.declared.call.Call.TheVariants as call
 use Rattle.mac_words.specs.declared.call.ControlCall.{ControlCall}
@@ -10,8 +9,8 @@ use Rattle.mac_words.specs.declared.segment_call.SegmentCall.{SegmentCall}
 use Rattle.mac_words.specs.declared.call.HeapCall.TheVariants as heap
 use Rattle.mac_words.specs.declared.resource_call.ResourceCall.TheVariants as resource
 use Rattle.block_store.specs.Block.{sizes}
-use Rattle.heap_calls.specs.State.{Memory}
-use Rattle.mac_words.specs.Told.{Told, Given, Fetched, Refused}
+use Rattle.heap_calls.specs.State.{State, Memory}
+use Rattle.mac_words.specs.Told.{Told, Given, Fetched}
 use Rattle.heap_calls.specs.Asked.{Asked}
 use Rattle.heap_calls.specs.Busy.{busied, eased, with_busy, keep_code}
 use Rattle.heap_calls.specs.Naming.{first_named, second_named}
@@ -55,24 +54,33 @@ pub record Shown : Type 0 where
   pub line : Line
   pub told : Told
 
--- The course of some calls: their tries in order, the lines of the transcript, the reply of the last call, whether the
--- application ends there, and the application after the calls.
+-- The end of a line of a transcript: the try whose reply the line tells, and the heap after the line. A call whose
+-- answer stands after its grow-zone script has a line without a try of its own.
+pub record LineEnd : Type 0 where
+  pub try : Option Event
+  pub heap : State
+
+-- The course of some calls: their tries in order, the lines of the transcript and the end of each line, the reply of
+-- the last call, or None where there is no call, whether the application ends there, and the application after the
+-- calls.
 pub record Course : Type 0 where
   pub events : List Event
   pub lines : List Shown
-  pub told : Told
+  pub line_ends : List LineEnd
+  pub told : Option Told
   pub over : Bool
   pub after : Running
 
 -- The course of no calls.
 abbrev pub nothing_yet : Running → Course
-nothing_yet r = record { events = []; lines = []; told = Refused MEM_FULL; over = false; after = r }
+nothing_yet r = record { events = []; lines = []; line_ends = []; told = None; over = false; after = r }
 
 -- A course followed by a course that begins where the first ended.
 abbrev pub joined : Course → Course → Course
 joined c d = record {
   events = c.events ++ d.events;
   lines = c.lines ++ d.lines;
+  line_ends = c.line_ends ++ d.line_ends;
   told = d.told;
   over = d.over;
   after = d.after;
@@ -113,7 +121,8 @@ abbrev pub grown_line : Line → Running → Tried → Course
 grown_line l r t = record {
   events = event_of l r t ∷ [];
   lines = record { grown = true; line = l; told = t.told } ∷ [];
-  told = t.told;
+  line_ends = record { try = Some (event_of l r t); heap = t.after.memory.heap } ∷ [];
+  told = Some t.told;
   over = t.over;
   after = t.after;
 }
@@ -136,7 +145,14 @@ abbrev pub asked_for : Blocks → Line → Running → Tried → Course
 asked_for blocks l r t = joined tried (grown_for blocks l t.reading t.after)
   where
     tried : Course
-    tried = record { events = event_of l r t ∷ []; lines = []; told = t.told; over = t.over; after = t.after }
+    tried = record {
+      events = event_of l r t ∷ [];
+      lines = [];
+      line_ends = [];
+      told = Some t.told;
+      over = t.over;
+      after = t.after;
+    }
 
 -- The number in a reply to which a name is bound.
 abbrev pub number_given : Told → Option ℕ
@@ -180,7 +196,8 @@ abbrev pub ended : Line → Running → Tried → Course
 ended l r t = record {
   events = event_of l r t ∷ [];
   lines = record { grown = false; line = l; told = t.told } ∷ [];
-  told = t.told;
+  line_ends = record { try = Some (event_of l r t); heap = t.after.memory.heap } ∷ [];
+  told = Some t.told;
   over = t.over;
   after = record t.after { names = names_given l.call (number_given t.told) t.after.names };
 }
@@ -190,7 +207,8 @@ abbrev pub stands : Line → Tried → Running → Course
 stands l t r = record {
   events = [];
   lines = record { grown = false; line = l; told = t.told } ∷ [];
-  told = t.told;
+  line_ends = record { try = None; heap = r.memory.heap } ∷ [];
+  told = Some t.told;
   over = t.over;
   after = kept_anew l.call (code_told t.told) r;
 }
@@ -251,6 +269,7 @@ run blocks (l ∷ lines) r = unless_over (step blocks l r) (run blocks lines)
 pub record Alike (c d : Course) : Type 0 where
   pub events : c.events ≡ d.events
   pub lines : c.lines ≡ d.lines
+  pub line_ends : c.line_ends ≡ d.line_ends
   pub over : c.over ≡ d.over
   pub told : d.over ≡ true → c.told ≡ d.told
   pub after : c.after ≡ d.after

@@ -1,4 +1,4 @@
-use Rattle.std.specs.Prelude.{ℕ, pos, Bool, true, false, Option, None, List, [], ◌∷◌, codes, replicate}
+use Rattle.std.specs.Prelude.{ℕ, pos, Bool, true, false, Option, Some, None, List, [], ◌∷◌, codes, replicate}
 use Rattle.std.specs.Ordering.{int_eq}
 use Rattle.mac_words.specs.declared.code.OsErr.{OsErr}
 use Rattle.mac_words.specs.declared.code.TheConstants.OsErr.{NO_ERR, MEM_FULL, SYSTEM_ERROR}
@@ -203,6 +203,11 @@ code_told (Kind kind) = NO_ERR
 code_told (Info id kind name) = NO_ERR
 code_told (Entry segment flag) = NO_ERR
 code_told (Refused code) = code
+
+-- The code of the last reply; no error where there was no reply.
+abbrev pub last_code : Option Told → OsErr
+last_code None = NO_ERR
+last_code (Some told) = code_told told
 
 -- Holds of the code of a call that found no room; and of the code of a segment that cannot be loaded, which ends the
 -- application.

@@ -2,9 +2,10 @@
 
 ghost use Rattle.std.specs.Prelude.{◌≡◌, IfOk, OnOk};
 ghost use Rattle.res_calls.specs.Asked as finds;
+ghost use Rattle.res_calls.specs.Fetching.{fetches};
 ghost use Rattle.res_calls.specs.Given.{managers};
 ghost use Rattle.applications.specs.Trying.{resource_asked, resource_tried, managers_of};
-ghost use Rattle.applications.specs.Replies.{TellsServed, IsTried, fetches};
+ghost use Rattle.applications.specs.Replies.{TellsServed, IsTried};
 
 use crate::application::Application;
 use crate::names::Names;

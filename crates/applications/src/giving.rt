@@ -105,9 +105,8 @@ impl<'s, S: BlockStore> Application<'s, S> {
             ++ end_told (ending_of asked (run script.now.blocks lines.now self.old))) }
         ensures after { OnOk result (self.new ≡ left_after asked (run script.now.blocks lines.now self.old)) }
         ensures lies { self.new.memory.window ≡ self.old.memory.window }
-        ensures silent { W.printed watch.new ≡ W.printed watch.old }
     {
-        let exit = self.run_watched(script, lines, text, watch)?;
+        let exit = self.run(script, lines, text, watch)?;
         self.end_if(exit, asked, text)
     }
 }
@@ -138,7 +137,6 @@ pub fn give_in<S: BlockStore, W: Watch>(
     ensures zone { IfOk result.0 (λ _. IsNamed (S.zone result.1)
         (zone_alone resources (sizes (S.zone store)) script.now steps quit)) }
     ensures window { (S.rest result.1).window ≡ (S.rest store).window }
-    ensures silent { W.printed watch.new ≡ W.printed watch.old }
 {
     let mut transcript = Vec::new(alloc);
     let Ok(()) = write_launch(&mut transcript, store.len()) else {

@@ -1,68 +1,24 @@
 //! Laws of the definitions.
 
-ghost use Rattle.std.specs.Prelude.{◌≡◌, ◌+◌, ◌≤◌, ℕ, Bool, true, Option, Some, List, length, slice_get};
+ghost use Rattle.std.specs.Prelude.{◌≡◌, ◌+◌, ◌≤◌, ℕ, Bool, true, Option, Some, length, slice_get};
 ghost use Rattle.block_store.specs.Rest.{Site};
 ghost use Rattle.script_text.specs.Script.{Parts};
 ghost use Rattle.script_text.specs.declared.script.Line.{Line};
-ghost use Rattle.heap_calls.specs.LastPut.{Holds};
 ghost use Rattle.res_calls.specs.Files.{Resources};
 ghost use Rattle.applications.specs.Trying.{Running, Blocks, launched_with, nowhere};
-ghost use Rattle.applications.specs.Step.{Course, Alike, run, step, unless_over, nothing_yet};
+ghost use Rattle.applications.specs.Step.{Course, Alike, step, unless_over, nothing_yet};
 ghost use Rattle.applications.specs.Alone.{first_steps, ending_of};
 ghost use Rattle.applications.specs.Elsewhere.{moved, course_elsewhere};
 ghost use Rattle.applications.specs.Replies.{end_by, has_ended};
 ghost use Rattle.applications.specs.declared.quitting.Exit.{Exit};
-ghost use Rattle.applications.specs.Laws.{put_at_launch, EachTry, Linked, ShowsPut, HoldsPut, KeepsLocked, KeepsFixed};
-ghost use Rattle.applications.specs.Laws.{EmptiesPurgeable, LooksFew, RefusedLeaves, RefusedBinds, GoesByRule, NothingBusy};
-ghost use Rattle.applications.specs.Laws.{KeepsResources, KeepsFiles, KeepsTable};
+ghost use Rattle.applications.specs.Promises.{KeepsPromises};
 
-/// States that the laws of `run_script` hold of an application with any resources, whatever its files and the System
-/// file hold and whichever files are open. The laws hold of any lines, and therefore of the first steps of a script and
-/// of each turn that begins with the launch. The stored data that is read into a handle, at the launch or by a call, is
-/// then the bytes last put there, until other bytes are put; and a block that a resource's attributes lock stays where
-/// it stands.
+/// States the laws of an application with any resources, whatever its files and the System file hold and whichever
+/// files are open. They hold of its launch and of any number of first steps of any script. The stored data that is read
+/// into a handle, at the launch or by a call, is then the bytes last put there, until other bytes are put; and a block
+/// that a resource's attributes lock stays where it stands.
 pub fn an_application_with_any_resources_keeps_the_laws()
-    ensures launched { (resources : Resources) (n : ℕ)
-        → Holds (launched_with resources n nowhere).memory.heap (put_at_launch resources n) }
-    ensures rule { (resources : Resources) (n : ℕ) (blocks : Blocks) (lines : List Line)
-        → GoesByRule blocks lines (launched_with resources n nowhere) }
-    ensures linked { (resources : Resources) (n : ℕ) (blocks : Blocks) (lines : List Line)
-        → Linked (launched_with resources n nowhere).memory.heap
-        (run blocks lines (launched_with resources n nowhere)).events }
-    ensures shown { (resources : Resources) (n : ℕ) (blocks : Blocks) (lines : List Line)
-        → EachTry ShowsPut (put_at_launch resources n)
-        (run blocks lines (launched_with resources n nowhere)).events }
-    ensures held { (resources : Resources) (n : ℕ) (blocks : Blocks) (lines : List Line)
-        → EachTry HoldsPut (put_at_launch resources n)
-        (run blocks lines (launched_with resources n nowhere)).events }
-    ensures locked { (resources : Resources) (n : ℕ) (blocks : Blocks) (lines : List Line)
-        → EachTry KeepsLocked (put_at_launch resources n)
-        (run blocks lines (launched_with resources n nowhere)).events }
-    ensures fixed { (resources : Resources) (n : ℕ) (blocks : Blocks) (lines : List Line)
-        → EachTry KeepsFixed (put_at_launch resources n)
-        (run blocks lines (launched_with resources n nowhere)).events }
-    ensures purged { (resources : Resources) (n : ℕ) (blocks : Blocks) (lines : List Line)
-        → EachTry EmptiesPurgeable (put_at_launch resources n)
-        (run blocks lines (launched_with resources n nowhere)).events }
-    ensures looks { (resources : Resources) (n : ℕ) (blocks : Blocks) (lines : List Line)
-        → EachTry LooksFew (put_at_launch resources n)
-        (run blocks lines (launched_with resources n nowhere)).events }
-    ensures refused { (resources : Resources) (n : ℕ) (blocks : Blocks) (lines : List Line)
-        → EachTry RefusedLeaves (put_at_launch resources n)
-        (run blocks lines (launched_with resources n nowhere)).events }
-    ensures resources { (resources : Resources) (n : ℕ) (blocks : Blocks) (lines : List Line)
-        → EachTry KeepsResources (put_at_launch resources n)
-        (run blocks lines (launched_with resources n nowhere)).events }
-    ensures files { (resources : Resources) (n : ℕ) (blocks : Blocks) (lines : List Line)
-        → EachTry KeepsFiles (put_at_launch resources n)
-        (run blocks lines (launched_with resources n nowhere)).events }
-    ensures table { (resources : Resources) (n : ℕ) (blocks : Blocks) (lines : List Line)
-        → EachTry KeepsTable (put_at_launch resources n)
-        (run blocks lines (launched_with resources n nowhere)).events }
-    ensures idle { (resources : Resources) (n : ℕ) (blocks : Blocks) (lines : List Line)
-        → NothingBusy blocks lines (launched_with resources n nowhere) }
-    ensures bound { (resources : Resources) (n : ℕ) (blocks : Blocks) (lines : List Line)
-        → RefusedBinds blocks lines (launched_with resources n nowhere) }
+    ensures laws { (resources : Resources) (size : ℕ) (script : Parts) (n : ℕ) → KeepsPromises resources size script n }
 {}
 
 /// States what the next line of a script adds to the script's first steps, and that the place of an application's

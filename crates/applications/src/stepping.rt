@@ -234,7 +234,7 @@ impl<'s, S: BlockStore> Application<'s, S> {
 
     /// Takes steps in order, to the last line or to the end of the application, and reports the number of steps done to
     /// the watch. Returns how the application ends, or `None` where it goes on.
-    pub fn run_watched<W: Watch>(
+    pub fn run<W: Watch>(
         &mut self,
         script: &'s Script,
         lines: &[Line],
@@ -245,7 +245,6 @@ impl<'s, S: BlockStore> Application<'s, S> {
         ensures came { OnOk result (Came (run script.now.blocks lines.now self.old) text.old.items text.new.items
             self.new) }
         ensures lies { self.new.memory.window ≡ self.old.memory.window }
-        ensures silent { W.printed watch.new ≡ W.printed watch.old }
     {
         let mut done: usize = 0;
         for line in lines {
@@ -257,21 +256,6 @@ impl<'s, S: BlockStore> Application<'s, S> {
             }
         }
         Ok(None)
-    }
-
-    /// Takes steps in order, as `run_watched` does, without a watch.
-    pub fn run(
-        &mut self,
-        script: &'s Script,
-        lines: &[Line],
-        text: &mut Vec<u8>,
-    ) -> Result<Option<Exit>, AllocError>
-        ensures ends { IfOk result (λ exit. exit ≡ exit_of (run script.now.blocks lines.now self.old)) }
-        ensures came { OnOk result (Came (run script.now.blocks lines.now self.old) text.old.items text.new.items
-            self.new) }
-        ensures lies { self.new.memory.window ≡ self.old.memory.window }
-    {
-        self.run_watched(script, lines, text, &mut Unwatched)
     }
 
     /// Takes a turn: the steps up to and including the next `WaitNextEvent`, or to the last line, as `up_to_wait`
@@ -289,6 +273,6 @@ impl<'s, S: BlockStore> Application<'s, S> {
             self.new) }
         ensures lies { self.new.memory.window ≡ self.old.memory.window }
     {
-        self.run(script, up_to_wait(lines), text)
+        self.run(script, up_to_wait(lines), text, &mut Unwatched)
     }
 }

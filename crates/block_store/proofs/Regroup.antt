@@ -9,6 +9,7 @@ pub mod RunLists
 pub mod Packed
 pub mod Repacked
 pub mod Lowered
+pub mod AllLowered
 mod LoweredExamples
 pub mod Settling
 pub mod NextRuns

@@ -1,4 +1,4 @@
-use Rattle.std.specs.Prelude.{◌≡◌, ℕ, ◌+◌, List, [], ◌∷◌, min}
+use Rattle.std.specs.Prelude.{◌≡◌, ℕ, ◌+◌, ◌-◌, List, [], ◌∷◌, min}
 use denote.RawPtr.{Ptr}
 use Rattle.windows.specs.declared.Window.{Window}
 use Rattle.block_store.specs.Block.{Block, Free, Fixed, Masters, Relocatable, is_mover, count}
@@ -31,9 +31,9 @@ pub record IsRest (expected : Rest) (found : Rest) : Type 0 where
 abbrev pub with_slot : ℕ → Slot → ℕ → Rest → Rest
 with_slot number state unused r = record r { slots = set_slot r.slots number state; unused = unused }
 
--- A counter that stays at its greatest value.
+-- A counter after `more` more, of which it counts as many as are left to its greatest value.
 abbrev pub counted : ℕ → ℕ → ℕ
-counted n more = min (n + more) 18446744073709551615
+counted n more = n + min more (18446744073709551615 - n)
 
 -- The state with n moves more.
 abbrev pub with_moves : ℕ → Rest → Rest

@@ -2,7 +2,7 @@
 
 use crate::hosts::Memory;
 use crate::jobs::sized_fork;
-use applications::{Application, empty_content};
+use applications::{Application, Unwatched, empty_content};
 use arrayvec::ArrayVec;
 use block_store::ListStore;
 use commands::tool;
@@ -53,7 +53,7 @@ fn an_application_is_launched(rt: HostRuntime) -> Result<(), Fail> {
     let script = read_script(alloc, b"NewHandle a 3\nPut a 0 \"abc\"\nShow a\n")?;
     let mut application = Application::launch(alloc, ListStore::new(alloc, 1024)?)?;
     let mut lines = Vec::new(alloc);
-    let exit = application.run(&script, script.steps(), &mut lines)?;
+    let exit = application.run(&script, script.steps(), &mut lines, &mut Unwatched)?;
     assert!(rt; exit.is_none());
     let wanted = b"1 NewHandle 0\n2 Put 0\n3 Show 0 $616263\n";
     assert_eq!(rt; lines.as_slice(), wanted.as_slice());
@@ -65,7 +65,8 @@ fn an_application_is_launched(rt: HostRuntime) -> Result<(), Fail> {
 fn a_script_runs_in_a_region(rt: HostRuntime) -> Result<(), Fail> {
     let alloc = rt.alloc();
     let script = read_script(alloc, b"NewHandle a 3\n")?;
-    let (transcript, region) = run_script(alloc, Region::new(alloc, 512)?, &script);
+    let region = Region::new(alloc, 512)?;
+    let (transcript, region) = run_script(alloc, region, &script, &mut Unwatched);
     region.close();
     let wanted = b"launch 0 512\n1 NewHandle 0\nend 0\n";
     assert_eq!(rt; transcript?.as_slice(), wanted.as_slice());
@@ -81,7 +82,8 @@ fn a_command_is_done(rt: HostRuntime) -> Result<(), Fail> {
         prints: 1,
         printed: Vec::new(alloc),
     };
-    tool(alloc, &["macmem", "script", "512", "file"], &mut host)?;
+    let words = &["macmem", "script", "512", "file"];
+    tool(alloc, words, &mut host, &mut Unwatched)?;
     let wanted = b"launch 0 512\n1 NewHandle 0\nend 0\n";
     assert_eq!(rt; host.printed.as_slice(), wanted.as_slice());
     Ok(())

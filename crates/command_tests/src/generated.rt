@@ -5,7 +5,7 @@ ghost use Rattle.std.specs.Prelude.{◌≡◌, ◌≤◌, ◌%◌};
 use crate::chances::{Chance, some_calls};
 use crate::jobs::{add, empty_job, is_run_alike};
 use crate::zones::{image_of, read_zone, used_region};
-use applications::{give_alone, own_resources};
+use applications::{Unwatched, give_alone, own_resources};
 use desk::{Job, run_script};
 use script_text::{Event, Script, read_script};
 use std::alloc::{AllocError, Global};
@@ -31,7 +31,8 @@ fn leaves_alike(rt: &impl Abort, alloc: Global, size: u32, script: &Script) -> R
     requires high { size ≤ 134217728 }
 {
     let told = run_in_lists(alloc, size, script)?;
-    let (transcript, region) = run_script(alloc, used_region(alloc, size)?, script);
+    let region = used_region(alloc, size)?;
+    let (transcript, region) = run_script(alloc, region, script, &mut Unwatched);
     let image = image_of(alloc, region)?;
     assert!(rt; transcript? == told);
     let free = read_zone(rt, &image)?;

@@ -2,7 +2,7 @@
 
 ghost use Rattle.std.specs.Prelude.{None};
 
-use applications::Watch;
+use applications::Unwatched;
 use commands::{Host, ReadError, WriteError, tool};
 use std::alloc::{AllocError, Global};
 use std::fmt::Write;
@@ -17,13 +17,10 @@ pub struct Memory<'a> {
     pub printed: Vec<u8>,
 }
 
-impl<'a> Watch for Memory<'a> {
-    ghost printed = { λ host. None };
-
-    fn done(&mut self, _done: usize, _of: usize) {}
-}
-
 impl<'a> Host for Memory<'a> {
+    ghost printed = { λ _. None };
+    ghost accesses = { λ _. None };
+
     fn read(&mut self, alloc: Global, path: &str) -> Result<Vec<u8>, ReadError> {
         match path {
             "file" => Ok(Vec::from_slice(alloc, self.file)?),
@@ -63,7 +60,7 @@ fn done(
         prints,
         printed: Vec::new(alloc),
     };
-    let told = match tool(alloc, words, &mut host) {
+    let told = match tool(alloc, words, &mut host, &mut Unwatched) {
         Ok(()) => String::new(alloc),
         Err(fault) => fault.to_string(alloc)?,
     };

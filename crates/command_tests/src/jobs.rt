@@ -3,6 +3,7 @@
 ghost use Rattle.std.specs.Prelude.{◌≡◌, IfOk};
 
 use crate::zones::used_region;
+use applications::Unwatched;
 use arrayvec::ArrayVec;
 use block_store::ListZones;
 use desk::{App, AppOutcome, Job, Launched, Outcome, RunFault, run, run_with};
@@ -127,9 +128,11 @@ pub fn is_run_alike(alloc: Global, job: &Job) -> Result<bool, Fail> {
     if memory % 16 != 0 || memory < 512 || 134_217_728 < memory || 64 < job.apps.len() {
         return Err(Fail::new("no job"));
     }
-    let (listed, zones) = run_with(alloc, job, ListZones::new(alloc, memory)?);
+    let zones = ListZones::new(alloc, memory)?;
+    let (listed, zones) = run_with(alloc, job, zones, &mut Unwatched);
     drop(zones);
-    let (outcome, region) = run(alloc, used_region(alloc, memory)?, job);
+    let region = used_region(alloc, memory)?;
+    let (outcome, region) = run(alloc, region, job, &mut Unwatched);
     region.close();
     Ok(is_same_end(&listed, &outcome))
 }

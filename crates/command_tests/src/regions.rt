@@ -2,6 +2,7 @@
 
 use crate::jobs::{add, empty_job};
 use crate::zones::{image_of, read_zone, used_region};
+use applications::Unwatched;
 use desk::{Job, run, run_script};
 use script_text::{Event, read_script};
 use std::alloc::Global;
@@ -33,7 +34,8 @@ fn a_script_leaves_its_zone_in_the_region(rt: HostRuntime) -> Result<(), Fail> {
     let Ok(script) = read_script(alloc, b"NewHandle a 3\nPut a 0 \"abc\"\n") else {
         return Err(Fail::new("a faulty script"));
     };
-    let (transcript, region) = run_script(alloc, used_region(alloc, 512)?, &script);
+    let region = used_region(alloc, 512)?;
+    let (transcript, region) = run_script(alloc, region, &script, &mut Unwatched);
     let image = image_of(alloc, region)?;
     lies_there(&rt, &image, LAID)?;
     assert_eq!(rt; read_zone(&rt, &image)?, 208);
@@ -101,7 +103,8 @@ fn applications_that_run_have_their_zones_in_the_region(rt: HostRuntime) -> Resu
     if job.memory != 1040 || 64 < job.apps.len() {
         return Err(Fail::new("no job"));
     }
-    let (outcome, region) = run(alloc, used_region(alloc, 1040)?, &job);
+    let region = used_region(alloc, 1040)?;
+    let (outcome, region) = run(alloc, region, &job, &mut Unwatched);
     lies_there(&rt, &image_of(alloc, region)?, LAID)?;
     assert!(rt; outcome.is_ok());
     Ok(())

@@ -1,5 +1,8 @@
+mod Accesses
 mod Digits
 mod Faults
+mod Inputs
+mod Jobs
 mod Numerals
 mod Printing
 mod Wholes

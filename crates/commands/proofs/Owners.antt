@@ -5,7 +5,8 @@ use Rattle.std.proofs.lemmas.Bool.{and_parts}
 use Rattle.std.proofs.lemmas.List.Elements.{filter_map-append}
 use Rattle.script_text.specs.Job.{Input, System, App, File, app_name, app_names, given_names, file_names, has_name, may_follow}
 use Rattle.script_text.specs.JobFacts.{all_follow}
-use Rattle.commands.specs.Gathering.{owner_is_in}
+use Rattle.desk.specs.declared.job.App as desk
+use Rattle.commands.specs.Gathering.{GivenFile, GivenApp, owner_is_in, with_file}
 
 -- a file that may follow has its application among those above
 owner_of : (above : List Input) (i : Input) → may_follow above i ≡ true
@@ -37,3 +38,12 @@ pub map_kept : {X Y : Type 0} (f : X → Y) (xs : List X) (i : ℕ) (x y : X) �
 map_kept f [] i x y is same = refl
 map_kept f (z ∷ xs) zero x y is same = ap (λ n. n ∷ map f xs) (same ∙ ap f is)
 map_kept f (z ∷ xs) (suc i) x y is same = ap (λ l. f z ∷ l) (map_kept f xs i x y is same)
+
+-- a file that is put to one of them is a file more
+pub put_file : (f : desk.App → GivenApp) (xs : List desk.App) (i : ℕ) (x y : desk.App) (file : GivenFile) → x ≡ get_or xs i x
+    → f y ≡ record (f x) { files = (f x).files ++ file ∷ [] }
+    → map f (slice_set xs i y) ≡ with_file i file (map f xs)
+put_file f [] i x y file is more = refl
+put_file f (z ∷ xs) zero x y file is more =
+    ap (λ n. n ∷ map f xs) (more ∙ ap (λ a. record (f a) { files = (f a).files ++ file ∷ [] }) is)
+put_file f (z ∷ xs) (suc i) x y file is more = ap (λ l. f z ∷ l) (put_file f xs i x y file is more)

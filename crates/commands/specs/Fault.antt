@@ -24,6 +24,15 @@ message_of (fault.Fork path code) = Fork (string_bytes path) code
 message_of (fault.CannotWrite path) = CannotWrite (string_bytes path)
 message_of fault.HostMemory = HostMemory
 
+-- The fault of words that ask for nothing.
+abbrev pub IsUsage : Message → Type 0
+IsUsage (Usage text) = Unit {0}
+IsUsage (CannotRead path) = ⊥
+IsUsage (Script path line kind) = ⊥
+IsUsage (Fork path code) = ⊥
+IsUsage (CannotWrite path) = ⊥
+IsUsage HostMemory = Unit {0}
+
 -- The number of the line that is printed: 0 for usage and help, 1 to 5 for the lines.
 abbrev pub kind_of : ToolFault → ℕ
 kind_of (fault.Usage text) = 0

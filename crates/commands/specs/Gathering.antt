@@ -1,6 +1,15 @@
-use Rattle.std.specs.Prelude.{ℕ, nat_lt, Bool, true, List, [], ◌∷◌}
+use Rattle.std.specs.Prelude.{◌≡◌, ℕ, zero, suc, nat_lt, Bool, true, Option, Some, None, option_map, Result, Ok, Err}
+use Rattle.std.specs.Prelude.{List, [], ◌∷◌, ◌++◌, map, drop}
+use Rattle.script_text.specs.declared.fault.FaultKind.{FaultKind}
 use Rattle.script_text.specs.Job.{Input, System, App as AppLine, File}
+use Rattle.script_text.specs.Script.{Spelled, script_of, spelled}
 use Rattle.desk.specs.declared.job.App.{App}
+use Rattle.desk.specs.declared.job.AppFile.{AppFile}
+use Rattle.desk.specs.declared.job.Job.{Job}
+use Rattle.commands.specs.declared.fault.ToolFault.{ToolFault}
+use Rattle.commands.specs.declared.gathering.Gathered.{Gathered}
+use Rattle.commands.specs.Fault.{Message, CannotRead, Script, HostMemory, message_of}
+use Rattle.commands.specs.Accesses.{Access, and_then, reads_at}
 
 -- What the lines of a job name.
 
@@ -20,3 +29,128 @@ system_path [] = []
 system_path (System path ∷ inputs) = path
 system_path (AppLine name fork script ∷ inputs) = system_path inputs
 system_path (File app name path ∷ inputs) = system_path inputs
+
+-- What the lines of a job give, with the bytes that were read at their paths.
+
+-- A file of an application: its name and its fork.
+pub record GivenFile : Type 0 where
+  pub name : List ℕ
+  pub fork : List ℕ
+
+-- An application: its name, its fork, its other files in the order of their lines, and its script.
+pub record GivenApp : Type 0 where
+  pub name : List ℕ
+  pub fork : List ℕ
+  pub files : List GivenFile
+  pub script : Spelled
+
+-- The System file's fork, if a line names it, and the applications in the order of their lines.
+pub record Given : Type 0 where
+  pub system : Option (List ℕ)
+  pub apps : List GivenApp
+
+-- What is given before the first line.
+abbrev pub nothing_given : Given
+nothing_given = record { system = None; apps = [] }
+
+-- A further file of the `n`-th application, from 0.
+abbrev pub with_file : ℕ → GivenFile → List GivenApp → List GivenApp
+with_file n file [] = []
+with_file zero file (app ∷ apps) = record app { files = app.files ++ file ∷ [] } ∷ apps
+with_file (suc n) file (app ∷ apps) = app ∷ with_file n file apps
+
+-- What follows something that was given; a fault stays.
+abbrev pub given_then : {A B : Type 0} → Result A Message → (A → Result B Message) → Result B Message
+given_then (Ok given) next = next given
+given_then (Err fault) next = Err fault
+
+-- The first of these texts is a fork. Without a text the path can't be read.
+abbrev pub fork_at : List ℕ → List (List ℕ) → Result (List ℕ) Message
+fork_at path [] = Err (CannotRead path)
+fork_at path (bytes ∷ texts) = Ok bytes
+
+-- A script that was read, or its first faulty line.
+abbrev pub script_told : List ℕ → Result Spelled (ℕ × FaultKind) → Result Spelled Message
+script_told path (Ok script) = Ok script
+script_told path (Err (line, kind)) = Err (Script path line kind)
+
+-- The first of these texts is a script. Without a text the path can't be read.
+abbrev pub script_at : List ℕ → List (List ℕ) → Result Spelled Message
+script_at path [] = Err (CannotRead path)
+script_at path (text ∷ texts) = script_told path (script_of text)
+
+-- An application, from the texts at the paths of its fork and its script.
+abbrev pub app_at : List ℕ → List ℕ → List ℕ → List (List ℕ) → Result GivenApp Message
+app_at name fork script texts =
+    given_then (fork_at fork texts) (λ bytes. given_then (script_at script (drop 1 texts)) (λ spelled.
+    Ok (record { name = name; fork = bytes; files = []; script = spelled })))
+
+-- A file of an application, from the text at its path.
+abbrev pub file_at : List ℕ → List ℕ → List (List ℕ) → Result GivenFile Message
+file_at name path texts = given_then (fork_at path texts) (λ bytes. Ok (record { name = name; fork = bytes }))
+
+-- What a line adds, with the texts at its paths, or its first path that can't be read, or its script's fault.
+abbrev pub with_input : Given → Input → List (List ℕ) → Result Given Message
+with_input given (System path) texts =
+    given_then (fork_at path texts) (λ bytes. Ok (record { system = Some bytes; apps = given.apps }))
+with_input given (AppLine name fork script) texts =
+    given_then (app_at name fork script texts) (λ app.
+    Ok (record { system = given.system; apps = given.apps ++ app ∷ [] }))
+with_input given (File app name path) texts =
+    given_then (file_at name path texts) (λ file.
+    Ok (record { system = given.system; apps = with_file app file given.apps }))
+
+-- What the lines add, each with the texts at its paths, or what stops them.
+abbrev pub with_inputs : Given → List Input → List (List (List ℕ)) → Result Given Message
+with_inputs given [] texts = Ok given
+with_inputs given (i ∷ inputs) [] = with_input given i []
+with_inputs given (i ∷ inputs) (t ∷ texts) = given_then (with_input given i t) (λ next. with_inputs next inputs texts)
+
+-- The paths of a line, in the order in which they are read.
+abbrev pub paths_of : Input → List (List ℕ)
+paths_of (System path) = path ∷ []
+paths_of (AppLine name fork script) = fork ∷ script ∷ []
+paths_of (File app name path) = path ∷ []
+
+-- The files that are read for the lines, each line with the texts at its paths.
+abbrev pub reads_of : List Input → List (List (List ℕ)) → List Access
+reads_of inputs [] = []
+reads_of [] (t ∷ texts) = []
+reads_of (i ∷ inputs) (t ∷ texts) = reads_at (paths_of i) t ++ reads_of inputs texts
+
+-- Files were read at these paths, in order, and no others; `P` holds of their texts.
+abbrev pub Reads : List (List ℕ) → Option (List Access) → Option (List Access) → (List (List ℕ) → Type 0) → Type 0
+Reads paths old new P = (texts : List (List ℕ)) × (new ≡ and_then old (reads_at paths texts)) × P texts
+
+-- Files were read at the paths of these lines, in order, and no others; `P` holds of their texts.
+abbrev pub ReadsOf
+    : List Input → Option (List Access) → Option (List Access) → (List (List (List ℕ)) → Type 0) → Type 0
+ReadsOf inputs old new P = (texts : List (List (List ℕ))) × (new ≡ and_then old (reads_of inputs texts)) × P texts
+
+-- The result of a function, seen by `view`, is what is given, or what stops it, unless the host is out of memory.
+abbrev pub IsStop : {Y : Type 0} → Result Y Message → Message → Type 0
+IsStop given HostMemory = Unit {0}
+IsStop given told = given ≡ Err told
+
+abbrev pub IsGiven : {X Y : Type 0} → (X → Y) → Result Y Message → Result X ToolFault → Type 0
+IsGiven view given (Ok x) = given ≡ Ok (view x)
+IsGiven view given (Err fault) = IsStop given (message_of fault)
+
+-- The values of the code, as the definitions see them.
+
+abbrev pub file_given : AppFile → GivenFile
+file_given file = record { name = file.name.0.items; fork = file.fork.items }
+
+abbrev pub app_given : App → GivenApp
+app_given app = record {
+  name = app.name.0.items;
+  fork = app.fork.items;
+  files = map file_given app.files.items;
+  script = spelled app.script;
+}
+
+abbrev pub gathered : Gathered → Given
+gathered g = record { system = option_map (λ fork. fork.items) g.system; apps = map app_given g.apps.items }
+
+abbrev pub job_given : Job → Given
+job_given job = record { system = option_map (λ fork. fork.items) job.system; apps = map app_given job.apps.items }

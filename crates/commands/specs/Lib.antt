@@ -2,7 +2,10 @@ pub mod Fault
 pub mod Size
 pub mod Listing
 pub mod Printing
+pub mod Accesses
 pub mod Work
 pub mod Tasks
 pub mod Outputs
 pub mod Gathering
+pub mod Running
+pub mod Doing

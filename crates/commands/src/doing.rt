@@ -2,29 +2,79 @@
 //! whose bytes are worked on, or for a job to be run. Between the words and the host stand only `tasks::do_task` and
 //! `running::run_job`.
 
-ghost use Rattle.std.specs.Prelude.{◌≡◌, IfErr};
+ghost use Rattle.std.specs.Prelude.{◌≡◌, IfErr, OnOk};
+ghost use Rattle.commands.specs.declared.words.Request.{Request};
 ghost use Rattle.commands.specs.Fault.{message_of};
 ghost use Rattle.commands.specs.Tasks.{IsQuiet};
+ghost use Rattle.commands.specs.Doing.{Looks, IsUnseen, IsDone, IsUndone, IsNotDone};
 
 use crate::fault::ToolFault;
 use crate::host::Host;
 use crate::input::read_input;
 use crate::running::run_job;
-use crate::tasks::do_task;
+use crate::tasks::{Task, do_task};
 use crate::words::{Request, read_words};
+use applications::Watch;
 use std::alloc::Global;
 
+/// Reads the file of a task, and prints what the task prints of the file's bytes.
+fn look<H: Host, W: Watch>(
+    alloc: Global,
+    host: &mut H,
+    task: Task<'_>,
+    watch: &mut W,
+) -> Result<(), ToolFault>
+    ensures done { OnOk result (Looks task.entry (H.printed host.old) (H.printed host.new)
+        (H.accesses host.old) (H.accesses host.new)) }
+    ensures undone { IfErr result (λ fault. IsUnseen task.entry (H.printed host.old) (H.printed host.new)
+        (H.accesses host.old) (H.accesses host.new) (message_of fault)) }
+    ensures quiet { IfErr result (λ fault. IsQuiet (H.printed host.old) (H.printed host.new) (message_of fault)) }
+{
+    let bytes = read_input(alloc, host, task.path)?;
+    do_task(alloc, host, task, bytes.as_slice(), watch)?;
+    Ok(())
+}
+
+/// Does what is asked for.
+fn perform<H: Host, W: Watch>(
+    alloc: Global,
+    host: &mut H,
+    request: Request<'_>,
+    watch: &mut W,
+) -> Result<(), ToolFault>
+    ensures done { OnOk result (IsDone request.entry (H.printed host.old) (H.printed host.new)
+        (H.accesses host.old) (H.accesses host.new)) }
+    ensures undone { IfErr result (λ fault. IsUndone request.entry (H.printed host.old) (H.printed host.new)
+        (H.accesses host.old) (H.accesses host.new) (message_of fault)) }
+    ensures quiet { IfErr result (λ fault. IsQuiet (H.printed host.old) (H.printed host.new) (message_of fault)) }
+{
+    match request {
+        Request::Look(task) => look(alloc, host, task, watch),
+        Request::Run(errand) => run_job(alloc, host, errand, watch),
+    }
+}
+
 /// Does what the words of the command line ask for; the first word is the program's name. All input is read before
-/// anything is printed or written, and existing files are only read.
-pub fn tool<H: Host>(alloc: Global, words: &[&str], host: &mut H) -> Result<(), ToolFault>
+/// anything is printed or written, and existing files are only read. The progress of a script or of a job is reported to
+/// the watch if the words ask for that.
+pub fn tool<H: Host, W: Watch>(
+    alloc: Global,
+    words: &[&str],
+    host: &mut H,
+    watch: &mut W,
+) -> Result<(), ToolFault>
+    // What a request asks for is done: its file is read and all that it prints of the bytes is printed, or its job is
+    // run and what the job leaves is written.
+    ensures done { OnOk result ((request : Request) × IsDone request (H.printed host.old) (H.printed host.new)
+        (H.accesses host.old) (H.accesses host.new)) }
+
+    // The words ask for nothing, and nothing is done; or a request is done up to the first fault.
+    ensures undone { IfErr result (λ fault. IsNotDone (H.printed host.old) (H.printed host.new)
+        (H.accesses host.old) (H.accesses host.new) (message_of fault)) }
+
     // Nothing is printed if the words ask for nothing, the file can't be read, or its bytes are faulty.
     ensures quiet { IfErr result (λ fault. IsQuiet (H.printed host.old) (H.printed host.new) (message_of fault)) }
 {
-    match read_words(alloc, words)? {
-        Request::Look(task) => {
-            let bytes = read_input(alloc, host, task.path)?;
-            do_task(alloc, host, task, bytes.as_slice())
-        }
-        Request::Run(errand) => run_job(alloc, host, errand),
-    }
+    let request = read_words(alloc, words)?;
+    perform(alloc, host, request, watch)
 }

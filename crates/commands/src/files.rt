@@ -1,4 +1,4 @@
-//! The host's files.
+//! The host's files, and its standard error as the watch of a long run.
 
 ghost use Rattle.std.specs.Prelude.{None};
 
@@ -16,7 +16,7 @@ const MOST: u32 = 268_435_456;
 /// The path of the standard input.
 const STANDARD_INPUT: &str = "/dev/stdin";
 
-/// The host's files, the standard input, the standard output and the standard error.
+/// The host's files, the standard input and the standard output.
 #[derive(Drop)]
 pub struct HostFiles<'r, R> {
     rt: &'r R,
@@ -48,17 +48,32 @@ fn write_file<W: Write>(file: &mut W, bytes: &[u8]) -> Result<(), WriteError> {
     }
 }
 
-impl<'r, R: Eprint> Watch for HostFiles<'r, R> {
-    // The bytes that a terminal, a pipe or a file has taken are not known.
-    ghost printed = { λ _. None };
+/// The watch of a long run that prints how far the run has come on the standard error.
+#[derive(Drop)]
+pub struct Progress<'r, R> {
+    rt: &'r R,
+}
 
+impl<'r, R> Progress<'r, R> {
+    /// Makes a watch of a runtime's standard error.
+    pub fn new(rt: &'r R) -> Progress<'r, R> {
+        Progress { rt }
+    }
+}
+
+impl<'r, R: Eprint> Watch for Progress<'r, R> {
     /// Prints a line on the standard error. If that fails the work goes on.
     fn done(&mut self, done: usize, of: usize) {
         let _ = eprintln!(self.rt; "macmem: {done} of {of} done");
     }
 }
 
-impl<'r, R: Files + Input + Print + Eprint> Host for HostFiles<'r, R> {
+impl<'r, R: Files + Input + Print> Host for HostFiles<'r, R> {
+    // What a terminal, a pipe or a file has taken is not known, nor what lies at a path.
+    ghost printed = { λ _. None };
+
+    ghost accesses = { λ _. None };
+
     /// Reads pipes and devices like files. The standard input is read as it is open, since a host need not let it be
     /// opened by its path.
     fn read(&mut self, alloc: Global, path: &str) -> Result<Vec<u8>, ReadError> {

@@ -1,12 +1,12 @@
 //! The host: the program's access to files and the standard output.
 
-ghost use Rattle.std.specs.Prelude.{◌≡◌, OnOk};
+ghost use Rattle.std.specs.Prelude.{◌≡◌, ℕ, Option, List, ◌∷◌, [], OnOk, OnErr, IfOk};
 ghost use Rattle.std.specs.Io.KnownBytes.{append_known};
+ghost use Rattle.commands.specs.Accesses.{Access, Read, Folder, Write, and_then, WritesFront};
 ghost use Rattle.commands.specs.Printing.{PrintsFront};
 ghost use Rattle.commands.specs.declared.host.ReadError.TheVariants.{HostMemory};
 ghost use Rattle.commands.specs.declared.host.WriteError.TheVariants as write_error;
 
-use applications::Watch;
 use std::alloc::{AllocError, Global};
 
 /// The reason why a file could not be read.
@@ -43,28 +43,48 @@ impl From<AllocError> for WriteError {
     }
 }
 
-/// The world outside of the program. A host is also the watch of a long run.
-pub trait Host: Watch {
+/// The world outside of the program.
+pub trait Host {
+    /// The bytes that have been printed so far, where they are known.
+    ghost printed: { Self → Option (List ℕ) };
+
+    /// The accesses to files so far, in order, where they are known.
+    ghost accesses: { Self → Option (List Access) };
+
     /// Reads all bytes of a file.
     fn read(&mut self, alloc: Global, path: &str) -> Result<Vec<u8>, ReadError>
+        ensures read { IfOk result (λ bytes. accesses self.new
+            ≡ and_then (accesses self.old) (Read path.now bytes.items ∷ [])) }
+        ensures unread { OnErr result (accesses self.new ≡ accesses self.old) }
+
         // Nothing is printed.
-        ensures silent { Self.printed self.new ≡ Self.printed self.old };
+        ensures silent { printed self.new ≡ printed self.old };
 
     /// Writes bytes to the standard output, after those that have been printed.
     fn print(&mut self, bytes: &[u8]) -> Result<(), WriteError>
-        ensures all { OnOk result (Self.printed self.new ≡ append_known (Self.printed self.old) bytes.now) }
+        ensures all { OnOk result (printed self.new ≡ append_known (printed self.old) bytes.now) }
 
         // If the call fails, a front of the bytes may have been written.
-        ensures front { PrintsFront bytes.now (Self.printed self.old) (Self.printed self.new) };
+        ensures front { PrintsFront bytes.now (printed self.old) (printed self.new) }
+
+        // No file is read or written.
+        ensures files { accesses self.new ≡ accesses self.old };
 
     /// Makes a folder. The call fails if a file or a folder of that path exists.
     fn make_folder(&mut self, path: &str) -> Result<(), WriteError>
+        ensures made { OnOk result (accesses self.new ≡ and_then (accesses self.old) (Folder path.now ∷ [])) }
+        ensures unmade { OnErr result (accesses self.new ≡ accesses self.old) }
+
         // Nothing is printed.
-        ensures silent { Self.printed self.new ≡ Self.printed self.old };
+        ensures silent { printed self.new ≡ printed self.old };
 
     /// Makes a file of the given bytes. The call fails if a file or a folder of that path exists; if it fails while
     /// the bytes are written, a file with a front of the bytes may remain.
     fn write(&mut self, path: &str, bytes: &[u8]) -> Result<(), WriteError>
+        ensures written { OnOk result (accesses self.new
+            ≡ and_then (accesses self.old) (Write path.now bytes.now ∷ [])) }
+        ensures front { OnErr result (WritesFront path.now bytes.now (accesses self.old) (accesses self.new)) }
+
         // Nothing is printed.
-        ensures silent { Self.printed self.new ≡ Self.printed self.old };
+        ensures silent { printed self.new ≡ printed self.old };
 }

@@ -1,6 +1,8 @@
 //! An input by its path.
 
-ghost use Rattle.std.specs.Prelude.{◌≡◌};
+ghost use Rattle.std.specs.Prelude.{◌≡◌, ◌∷◌, [], IfOk, IfErr, OnErr};
+ghost use Rattle.commands.specs.Fault.{message_of, CannotRead};
+ghost use Rattle.commands.specs.Accesses.{Read, and_then, IsTold};
 
 use crate::fault::ToolFault;
 use crate::host::{Host, ReadError};
@@ -13,6 +15,10 @@ use std::alloc::Global;
 /// The file can't be read, or the host is out of memory.
 pub fn read_input<H: Host>(alloc: Global, host: &mut H, path: &str) -> Result<Vec<u8>, ToolFault>
     ensures silent { H.printed host.new ≡ H.printed host.old }
+    ensures read { IfOk result (λ bytes. H.accesses host.new
+        ≡ and_then (H.accesses host.old) (Read path.now bytes.items ∷ [])) }
+    ensures unread { OnErr result (H.accesses host.new ≡ H.accesses host.old) }
+    ensures fault { IfErr result (λ fault. IsTold (CannotRead path.now) (message_of fault)) }
 {
     match host.read(alloc, path) {
         Ok(bytes) => Ok(bytes),

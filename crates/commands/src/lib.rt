@@ -16,9 +16,10 @@ mod tasks;
 mod words;
 mod work;
 
+pub use applications::{Unwatched, Watch};
 pub use doing::tool;
 pub use fault::ToolFault;
-pub use files::HostFiles;
+pub use files::{HostFiles, Progress};
 pub use gathering::gather;
 pub use host::{Host, ReadError, WriteError};
 pub use outputs::{Output, outputs_of};

@@ -127,6 +127,7 @@ fn push_head(text: &mut Vec<u8>, content: &Content<'_>) -> Result<(), AllocError
 fn print_many<H: Host>(host: &mut H, lines: &mut Vec<u8>) -> Result<(), WriteError>
     ensures some { OnOk result (PrintsBut lines.old.items lines.new.items (H.printed host.old) (H.printed host.new)) }
     ensures front { PrintsFront lines.old.items (H.printed host.old) (H.printed host.new) }
+    ensures files { H.accesses host.new ≡ H.accesses host.old }
 {
     if lines.len() >= MANY {
         host.print(lines.as_slice())?;
@@ -145,6 +146,7 @@ fn print_group<H: Host>(
         (H.printed host.old) (H.printed host.new)) }
     ensures front { PrintsFront (lines.old.items ++ group_lines (view_group group.now))
         (H.printed host.old) (H.printed host.new) }
+    ensures files { H.accesses host.new ≡ H.accesses host.old }
 {
     let digits = digits_of(kind_of(group.ty));
     for resource in &group.refs {
@@ -164,6 +166,7 @@ fn print_groups<H: Host>(
         lines.new.items (H.printed host.old) (H.printed host.new)) }
     ensures front { PrintsFront (lines.old.items ++ flat_map group_lines (view content.now).groups)
         (H.printed host.old) (H.printed host.new) }
+    ensures files { H.accesses host.new ≡ H.accesses host.old }
 {
     for group in &content.groups {
         print_group(host, lines, group)?;
@@ -184,6 +187,7 @@ pub fn print_listing<H: Host>(
 ) -> Result<(), WriteError>
     ensures all { OnOk result (H.printed host.new ≡ append_known (H.printed host.old) (listing (view content.now))) }
     ensures front { PrintsFront (listing (view content.now)) (H.printed host.old) (H.printed host.new) }
+    ensures files { H.accesses host.new ≡ H.accesses host.old }
 {
     let mut lines = Vec::with_capacity(alloc, MANY + LONGEST)?;
     push_head(&mut lines, content)?;

@@ -1,9 +1,13 @@
 //! A job is run, and what it leaves is written.
 
-ghost use Rattle.std.specs.Prelude.{◌≡◌, ◌≤◌, map, length, Ok, IfOk};
-ghost use Rattle.script_text.specs.Job.{input_seen};
+ghost use Rattle.std.specs.Prelude.{◌≡◌, ◌≤◌, ◌∷◌, [], map, length, Ok, IfOk, IfErr, OnOk, OnErr};
+ghost use Rattle.script_text.specs.Job.{input_seen, job_seen, job_of};
 ghost use Rattle.script_text.specs.JobFacts.{IsMemory, AreInOrder, AreApps};
 ghost use Rattle.desk.specs.Whole.{run_of, IsRun};
+ghost use Rattle.commands.specs.Fault.{message_of, CannotWrite};
+ghost use Rattle.commands.specs.Accesses.{Folder, Write, and_then, IsTold, WritesFront, StopsAmong};
+ghost use Rattle.commands.specs.Outputs.{output_seen};
+ghost use Rattle.commands.specs.Running.{write_of, IsJobFault, IsRunFault, Leaves, IsUnleft, Runs, IsStopped};
 
 use crate::fault::ToolFault;
 use crate::gathering::{gather, system_path};
@@ -11,9 +15,9 @@ use crate::host::Host;
 use crate::input::read_input;
 use crate::outputs::{Output, outputs_of};
 use crate::tasks::{script_fault, write_fault};
-use desk::{Job, Outcome, RunFault, run, run_watched};
+use applications::{Unwatched, Watch};
+use desk::{Job, Outcome, RunFault, run};
 use raw_region::Region;
-use raw_zone::RegionZones;
 use script_text::{JobText, read_job};
 use std::alloc::Global;
 
@@ -28,9 +32,11 @@ pub struct Errand<'a> {
 
 /// Reads the text of a job.
 fn job_text<'t>(alloc: Global, path: &str, text: &'t [u8]) -> Result<JobText<'t>, ToolFault>
+    ensures stated { IfOk result (λ job. job_of text.now ≡ Ok (job_seen job)) }
     ensures memory { IfOk result (λ job. IsMemory job.memory) }
     ensures order { IfOk result (λ job. AreInOrder (map input_seen job.inputs.items)) }
     ensures apps { IfOk result (λ job. AreApps (map input_seen job.inputs.items)) }
+    ensures fault { IfErr result (λ fault. IsJobFault path.now text.now (message_of fault)) }
 {
     match read_job(alloc, text) {
         Ok(job) => Ok(job),
@@ -39,45 +45,46 @@ fn job_text<'t>(alloc: Global, path: &str, text: &'t [u8]) -> Result<JobText<'t>
 }
 
 /// Runs a job and returns what it leaves, or why the job does not run to its end. The job's memory is one region. The
-/// progress is reported to the host if `watched` is set.
-fn ran<H: Host>(alloc: Global, host: &mut H, job: &Job, watched: bool) -> Result<Outcome, RunFault>
+/// progress is reported to the watch if `watched` is set.
+fn ran<W: Watch>(
+    alloc: Global,
+    job: &Job,
+    watched: bool,
+    watch: &mut W,
+) -> Result<Outcome, RunFault>
     requires memory { IsMemory job.now.memory }
     requires few { length job.now.apps.items ≤ 64 }
 
     // The outcome is what the definition of the desk says.
     ensures outcome { IsRun (run_of job.now) result }
-
-    // Nothing is printed.
-    ensures silent { H.printed host.new ≡ H.printed host.old }
 {
     let region = match Region::new(alloc, job.memory as usize) {
         Ok(region) => region,
         Err(_) => return Err(RunFault::HostMemory),
     };
     let (outcome, region) = if watched {
-        let (outcome, zones) = run_watched(alloc, job, RegionZones::new(region), host);
-        (outcome, zones.into_region())
+        run(alloc, region, job, watch)
     } else {
-        run(alloc, region, job)
+        run(alloc, region, job, &mut Unwatched)
     };
     region.close();
     outcome
 }
 
 /// Runs a job whose System file is read at the path `system`, and returns what the job leaves.
-fn outcome_of<H: Host>(
+fn outcome_of<W: Watch>(
     alloc: Global,
-    host: &mut H,
     job: &Job,
     system: &str,
     watched: bool,
+    watch: &mut W,
 ) -> Result<Outcome, ToolFault>
     requires memory { IsMemory job.now.memory }
     requires few { length job.now.apps.items ≤ 64 }
     ensures outcome { IfOk result (λ outcome. IsRun (run_of job.now) (Ok outcome)) }
-    ensures silent { H.printed host.new ≡ H.printed host.old }
+    ensures fault { IfErr result (λ fault. IsRunFault system.now job.now (message_of fault)) }
 {
-    match ran(alloc, host, job, watched) {
+    match ran(alloc, job, watched, watch) {
         Ok(outcome) => Ok(outcome),
         Err(RunFault::System(code)) => Err(ToolFault::Fork {
             path: String::from_str(alloc, system)?,
@@ -90,8 +97,30 @@ fn outcome_of<H: Host>(
 /// Makes a folder.
 fn make_folder<H: Host>(alloc: Global, host: &mut H, path: &str) -> Result<(), ToolFault>
     ensures silent { H.printed host.new ≡ H.printed host.old }
+    ensures made { OnOk result (H.accesses host.new ≡ and_then (H.accesses host.old) (Folder path.now ∷ [])) }
+    ensures unmade { OnErr result (H.accesses host.new ≡ H.accesses host.old) }
+    ensures fault { IfErr result (λ fault. IsTold (CannotWrite path.now) (message_of fault)) }
 {
     match host.make_folder(path) {
+        Ok(()) => Ok(()),
+        Err(error) => Err(write_fault(alloc, path, error)?),
+    }
+}
+
+/// Writes a file.
+fn write_file<H: Host>(
+    alloc: Global,
+    host: &mut H,
+    path: &str,
+    bytes: &[u8],
+) -> Result<(), ToolFault>
+    ensures silent { H.printed host.new ≡ H.printed host.old }
+    ensures written { OnOk result (H.accesses host.new
+        ≡ and_then (H.accesses host.old) (Write path.now bytes.now ∷ [])) }
+    ensures front { OnErr result (WritesFront path.now bytes.now (H.accesses host.old) (H.accesses host.new)) }
+    ensures fault { IfErr result (λ fault. IsTold (CannotWrite path.now) (message_of fault)) }
+{
+    match host.write(path, bytes) {
         Ok(()) => Ok(()),
         Err(error) => Err(write_fault(alloc, path, error)?),
     }
@@ -104,13 +133,54 @@ fn write_files<H: Host>(
     outputs: &[Output<'_>],
 ) -> Result<(), ToolFault>
     ensures silent { H.printed host.new ≡ H.printed host.old }
+    ensures written { OnOk result (H.accesses host.new
+        ≡ and_then (H.accesses host.old) (map write_of (map output_seen outputs.now))) }
+    ensures stopped { IfErr result (λ fault. StopsAmong (map write_of (map output_seen outputs.now))
+        (H.accesses host.old) (H.accesses host.new) (message_of fault)) }
 {
     for output in outputs {
-        match host.write(&output.path, output.bytes) {
-            Ok(()) => {}
-            Err(error) => return Err(write_fault(alloc, &output.path, error)?),
-        }
+        write_file(alloc, host, &output.path, output.bytes)?;
     }
+    Ok(())
+}
+
+/// Makes a folder and writes files, up to the first file that can't be written.
+fn write_all<H: Host>(
+    alloc: Global,
+    host: &mut H,
+    folder: &str,
+    outputs: &[Output<'_>],
+) -> Result<(), ToolFault>
+    ensures silent { H.printed host.new ≡ H.printed host.old }
+    ensures written { OnOk result (H.accesses host.new
+        ≡ and_then (H.accesses host.old) (Folder folder.now ∷ map write_of (map output_seen outputs.now))) }
+    ensures stopped { IfErr result (λ fault. StopsAmong (Folder folder.now ∷ map write_of (map output_seen outputs.now))
+        (H.accesses host.old) (H.accesses host.new) (message_of fault)) }
+{
+    make_folder(alloc, host, folder)?;
+    write_files(alloc, host, outputs)?;
+    Ok(())
+}
+
+/// Runs a job whose System file is read at the path `system`, and writes what the job leaves into a new folder.
+fn leave<H: Host, W: Watch>(
+    alloc: Global,
+    host: &mut H,
+    job: &Job,
+    system: &str,
+    errand: Errand<'_>,
+    watch: &mut W,
+) -> Result<(), ToolFault>
+    requires memory { IsMemory job.now.memory }
+    requires few { length job.now.apps.items ≤ 64 }
+    ensures silent { H.printed host.new ≡ H.printed host.old }
+    ensures left { OnOk result (Leaves errand.entry.out.now job.now (H.accesses host.old) (H.accesses host.new)) }
+    ensures unleft { IfErr result (λ fault. IsUnleft system.now errand.entry.out.now job.now
+        (H.accesses host.old) (H.accesses host.new) (message_of fault)) }
+{
+    let outcome = outcome_of(alloc, job, system, errand.watched, watch)?;
+    let outputs = outputs_of(alloc, errand.out, &outcome)?;
+    write_all(alloc, host, errand.out, &outputs)?;
     Ok(())
 }
 
@@ -122,15 +192,28 @@ fn write_files<H: Host>(
 /// A file that can't be read, the first faulty line of the job or of a script, or a System file that is no resource
 /// fork: then nothing is written. A folder that exists already, or a file that can't be written: then no other file is
 /// written after it.
-pub fn run_job<H: Host>(alloc: Global, host: &mut H, errand: Errand<'_>) -> Result<(), ToolFault>
+pub fn run_job<H: Host, W: Watch>(
+    alloc: Global,
+    host: &mut H,
+    errand: Errand<'_>,
+    watch: &mut W,
+) -> Result<(), ToolFault>
+    // Nothing is printed.
     ensures silent { H.printed host.new ≡ H.printed host.old }
+
+    // The job and all that its lines name are read; then the folder is made, and the files that the run leaves, by the
+    // definition of the desk, are written, in their order. No other file is read or written.
+    ensures runs { OnOk result (Runs errand.entry.job.now errand.entry.out.now
+        (H.accesses host.old) (H.accesses host.new)) }
+
+    // The fault is the first in that order, and nothing is read or written after it.
+    ensures stopped { IfErr result (λ fault. IsStopped errand.entry.job.now errand.entry.out.now
+        (H.accesses host.old) (H.accesses host.new) (message_of fault)) }
 {
     let bytes = read_input(alloc, host, errand.job)?;
     let text = job_text(alloc, errand.job, &bytes)?;
     let system = system_path(&text.inputs);
     let job = gather(alloc, host, text)?;
-    let outcome = outcome_of(alloc, host, &job, system, errand.watched)?;
-    let outputs = outputs_of(alloc, errand.out, &outcome)?;
-    make_folder(alloc, host, errand.out)?;
-    write_files(alloc, host, &outputs)
+    leave(alloc, host, &job, system, errand, watch)?;
+    Ok(())
 }

@@ -102,7 +102,6 @@ fn script_output<'b, W: Watch>(
 ) -> Result<Output<'b>, ToolFault>
     ensures output { IfOk result (λ output. IsTranscriptOf size.bytes text.now (output_text output)) }
     ensures fault { IfErr result (λ fault. IsScriptFault path.now text.now (message_of fault)) }
-    ensures silent { W.printed watch.new ≡ W.printed watch.old }
 {
     match transcript_of(alloc, size, text, watch) {
         Ok(transcript) => Ok(Output::Transcript(transcript)),
@@ -132,29 +131,26 @@ fn check_output<'b>(alloc: Global, path: &str, bytes: &'b [u8]) -> Result<Output
     }
 }
 
-/// Returns what a task prints of the bytes of its file. The progress of a script is reported to the host if the task
+/// Returns what a task prints of the bytes of its file. The progress of a script is reported to the watch if the task
 /// asks for that.
 ///
 /// # Errors
 ///
 /// The fault of the bytes, with the file's path. If the host is out of memory nothing is said of the bytes.
-pub fn output_of<'b, H: Host>(
+pub fn output_of<'b, W: Watch>(
     alloc: Global,
-    host: &mut H,
     task: Task<'_>,
     bytes: &'b [u8],
+    watch: &mut W,
 ) -> Result<Output<'b>, ToolFault>
     // A script's transcript, a fork's listing, or the line with a fork's form.
     ensures output { IfOk result (λ output. IsPrinted task.entry.work bytes.now (output_text output)) }
 
     // The script's first faulty line, or the result code of bytes that are no fork.
     ensures fault { IfErr result (λ fault. IsFault task.entry.work task.entry.path.now bytes.now (message_of fault)) }
-
-    // Nothing is printed yet.
-    ensures silent { H.printed host.new ≡ H.printed host.old }
 {
     match task.work {
-        Work::Script(size) if task.watched => script_output(alloc, size, task.path, bytes, host),
+        Work::Script(size) if task.watched => script_output(alloc, size, task.path, bytes, watch),
         Work::Script(size) => script_output(alloc, size, task.path, bytes, &mut Unwatched),
         Work::Map => map_output(alloc, task.path, bytes),
         Work::Check => check_output(alloc, task.path, bytes),
@@ -165,6 +161,7 @@ pub fn output_of<'b, H: Host>(
 fn print_output<H: Host>(alloc: Global, host: &mut H, output: &Output<'_>) -> Result<(), WriteError>
     ensures all { OnOk result (H.printed host.new ≡ append_known (H.printed host.old) (output_text output.now)) }
     ensures front { PrintsFront (output_text output.now) (H.printed host.old) (H.printed host.new) }
+    ensures files { H.accesses host.new ≡ H.accesses host.old }
 {
     match output {
         Output::Transcript(text) => host.print(text.as_slice()),
@@ -174,17 +171,18 @@ fn print_output<H: Host>(alloc: Global, host: &mut H, output: &Output<'_>) -> Re
 }
 
 /// Does a task: prints what it prints of the bytes of its file. Nothing is printed before the bytes are known to have
-/// no fault.
+/// no fault. The progress of a script is reported to the watch if the task asks for that.
 ///
 /// # Errors
 ///
 /// The fault of the bytes, with the file's path. If the standard output fails, or the host is out of memory, a front
 /// of what is to be printed may have been printed.
-pub fn do_task<H: Host>(
+pub fn do_task<H: Host, W: Watch>(
     alloc: Global,
     host: &mut H,
     task: Task<'_>,
     bytes: &[u8],
+    watch: &mut W,
 ) -> Result<(), ToolFault>
     // A script's transcript, a fork's listing, or the line with a fork's form is printed, and nothing else.
     ensures printed { OnOk result (Prints task.entry.work bytes.now (H.printed host.old) (H.printed host.new)) }
@@ -192,8 +190,11 @@ pub fn do_task<H: Host>(
     // The bytes are faulty and nothing is printed, or printing failed.
     ensures fault { IfErr result (λ fault. IsRefusal task.entry.work task.entry.path.now bytes.now
         (H.printed host.old) (H.printed host.new) (message_of fault)) }
+
+    // No file is read or written.
+    ensures files { H.accesses host.new ≡ H.accesses host.old }
 {
-    let output = output_of(alloc, host, task, bytes)?;
+    let output = output_of(alloc, task, bytes, watch)?;
     match print_output(alloc, host, &output) {
         Ok(()) => Ok(()),
         Err(error) => Err(write_fault(alloc, STANDARD_OUTPUT, error)?),

@@ -1,5 +1,8 @@
 //! The words of the command line. No other module uses the parser.
 
+ghost use Rattle.std.specs.Prelude.{IfOk, IfErr};
+ghost use Rattle.commands.specs.Fault.{message_of, IsUsage};
+
 use crate::fault::ToolFault;
 use crate::running::Errand;
 use crate::size::PartitionSize;
@@ -200,7 +203,9 @@ fn program<'a>(alloc: Global) -> Result<Command<'a>, AllocError> {
 }
 
 /// Returns an error of the parser as a fault.
-fn usage(alloc: Global, error: &Error) -> ToolFault {
+fn usage(alloc: Global, error: &Error) -> ToolFault
+    ensures { IsUsage (message_of result) }
+{
     match error.kind() {
         ErrorKind::OutOfMemory => ToolFault::HostMemory,
         _ => match error.to_string(alloc) {
@@ -211,7 +216,9 @@ fn usage(alloc: Global, error: &Error) -> ToolFault {
 }
 
 /// Returns the fault of a mistake that the parser doesn't find, in the form of the parser's own errors.
-fn mistake(alloc: Global, command: Command<'_>, message: &str) -> ToolFault {
+fn mistake(alloc: Global, command: Command<'_>, message: &str) -> ToolFault
+    ensures { IsUsage (message_of result) }
+{
     let mut command = command;
     match command.error(ErrorKind::ValueValidation, message) {
         Ok(error) => usage(alloc, &error),
@@ -219,7 +226,9 @@ fn mistake(alloc: Global, command: Command<'_>, message: &str) -> ToolFault {
     }
 }
 
-fn bad_size(alloc: Global, text: &str) -> Result<ToolFault, AllocError> {
+fn bad_size(alloc: Global, text: &str) -> Result<ToolFault, AllocError>
+    ensures { IfOk result (λ fault. IsUsage (message_of fault)) }
+{
     let message = format!(in alloc;
         "invalid value '{text}' for '<SIZE>': 512 to 134217728 is asked for, in decimal digits"
     )?;
@@ -237,7 +246,9 @@ pub enum Request<'a> {
 }
 
 /// Returns the fault of a word that isn't UTF-8.
-pub fn not_utf8(alloc: Global) -> ToolFault {
+pub fn not_utf8(alloc: Global) -> ToolFault
+    ensures { IsUsage (message_of result) }
+{
     match program(alloc) {
         Ok(command) => mistake(
             alloc,
@@ -253,7 +264,9 @@ fn value<'a>(matches: &ArgMatches<'a>, name: &str) -> &'a str {
     matches.get_str(name).unwrap_or("")
 }
 
-fn script_task<'a>(alloc: Global, matches: &ArgMatches<'a>) -> Result<Task<'a>, ToolFault> {
+fn script_task<'a>(alloc: Global, matches: &ArgMatches<'a>) -> Result<Task<'a>, ToolFault>
+    ensures { IfErr result (λ fault. IsUsage (message_of fault)) }
+{
     let text = value(matches, "SIZE");
     match PartitionSize::read(text) {
         Some(size) => Ok(Task {
@@ -274,7 +287,9 @@ fn fork_task<'a>(work: Work, matches: &ArgMatches<'a>) -> Task<'a> {
 }
 
 /// Returns what the words after the program's name ask for.
-fn asked<'a>(alloc: Global, matches: &ArgMatches<'a>) -> Result<Request<'a>, ToolFault> {
+fn asked<'a>(alloc: Global, matches: &ArgMatches<'a>) -> Result<Request<'a>, ToolFault>
+    ensures { IfErr result (λ fault. IsUsage (message_of fault)) }
+{
     match matches.subcommand() {
         Some(("script", inner)) => Ok(Request::Look(script_task(alloc, inner)?)),
         Some(("run", inner)) => Ok(Request::Run(Errand {
@@ -289,7 +304,9 @@ fn asked<'a>(alloc: Global, matches: &ArgMatches<'a>) -> Result<Request<'a>, Too
 }
 
 /// Reads the words of the command line, the program's name first.
-pub fn read_words<'a>(alloc: Global, words: &'a [&'a str]) -> Result<Request<'a>, ToolFault> {
+pub fn read_words<'a>(alloc: Global, words: &'a [&'a str]) -> Result<Request<'a>, ToolFault>
+    ensures { IfErr result (λ fault. IsUsage (message_of fault)) }
+{
     match program(alloc)?.try_get_matches_from(words) {
         Ok(matches) => asked(alloc, &matches),
         Err(error) => Err(usage(alloc, &error)),

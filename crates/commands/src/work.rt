@@ -10,7 +10,7 @@ ghost use Rattle.commands.specs.Work.{IsTranscriptOf, IsFormOf, TellsForm, text_
 
 use crate::size::PartitionSize;
 use applications::Watch;
-use desk::run_script_watched;
+use desk::run_script;
 use fork_format::{Content, ForkFault, WriteFault, read_fork, write_fork};
 use raw_region::Region;
 use script_text::{FaultKind, Script, ScriptFault, read_script};
@@ -56,15 +56,12 @@ pub fn transcript_of<W: Watch>(
 
     // The fault is the first faulty line, or that the host is out of memory.
     ensures fault { IfErr result (λ f. FailsAt f.line f.kind (script_of text.now)) }
-
-    // Watching the run prints nothing.
-    ensures silent { W.printed watch.new ≡ W.printed watch.old }
 {
     let script = read_script(alloc, text)?;
     let Ok(region) = Region::new(alloc, size.bytes as usize) else {
         return Err(NO_MEMORY);
     };
-    let (transcript, region) = run_script_watched(alloc, region, &script, watch);
+    let (transcript, region) = run_script(alloc, region, &script, watch);
     region.close();
     match transcript {
         Ok(transcript) => Ok(transcript),

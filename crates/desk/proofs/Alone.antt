@@ -1,167 +1,322 @@
-use Rattle.std.proofs.Common.{◌≡◌, ◌∙◌, ◌≤◌, ◌+◌, ◌++◌, ◌||◌, arith, ℕ, Bool, true, false, refl, sym, ap, cond, List}
-use Rattle.std.proofs.Common.{append_assoc, append-nil, length, Option, Some, None}
+use Rattle.std.proofs.Common.{◌≡◌, ◌∙◌, ◌≤◌, ◌<◌, ◌+◌, ◌++◌, ◌||◌, ◌⊎◌, inl, inr, arith, ℕ, Bool, true, false, refl, sym, ap, cond}
+use Rattle.std.proofs.Common.{subst, append_assoc, append-nil, length, drop, List, [], ◌∷◌, map, Option, Some, None, Result, Ok, Err}
+use Rattle.std.proofs.Common.{get_or}
 use Rattle.std.specs.Prelude.{slice_get}
 use Rattle.std.proofs.lemmas.Bool.{le-ltb}
+use Rattle.std.proofs.lemmas.Option.{slice_get_within, slice_get_cases}
 use Rattle.std.proofs.lemmas.List.Concat.{flat_map-append}
 use Rattle.windows.specs.declared.Window.{Window}
-use Rattle.block_store.specs.Block.{Block, sizes, fresh}
-use Rattle.block_store.specs.Rest.{Site}
+use Rattle.mac_words.specs.declared.code.OsErr.{OsErr}
+use Rattle.fork_format.specs.Content.{Content}
 use Rattle.script_text.specs.Script.{Parts}
-use Rattle.script_text.specs.declared.script.Line.{Line}
 use Rattle.script_text.specs.Transcript.{launch_line}
+use Rattle.script_text.specs.declared.script.Line.{Line}
+use Rattle.script_text.specs.declared.job.Event.{Event}
 use Rattle.res_calls.specs.Files.{Resources}
-use Rattle.applications.specs.Trying.{Running, launched_with, nowhere, code_told}
-use Rattle.applications.specs.Step.{Course, Shown, joined, step, unless_over}
+use Rattle.applications.specs.Trying as application
+use Rattle.applications.specs.Step.{Course, Shown, joined, step, unless_over, is_wait}
 use Rattle.applications.specs.Application.{line_told, lines_told}
-use Rattle.applications.specs.Alone.{Ending, first_steps, ending, ending_of, quits, ended_by}
-use Rattle.applications.specs.Elsewhere.{moved, course_elsewhere}
-use Rattle.applications.specs.Replies.{Came, exit_as, exit_of, end_by, end_if}
-use Rattle.applications.specs.declared.quitting.Exit.{Exit}
+use Rattle.applications.specs.Alone.{Ending, first_steps, ending, ending_of, quits, ended_by, end_told, files_after}
 use Rattle.applications.proofs.Counting.{over-goes_on, steps-next, steps-past, ending-next, ending-past}
-use Rattle.applications.proofs.Elsewhere.{step-elsewhere, launched-elsewhere, sizes-fresh}
-use Rattle.applications.proofs.Quits.{end-elsewhere, end_if-elsewhere, ending-told}
-use Rattle.desk.specs.Progress.{Progress, Coming, Left, Ended, come_by, come_to, stepped, staying, turn_through}
-use Rattle.desk.specs.Progress as progress
-use Rattle.desk.specs.Live.{told_so_far, GoesOn, EndsBy}
+use Rattle.desk.specs.declared.act.Act.{Act}
+use Rattle.desk.specs.declared.act.Act.TheVariants.{Step, Turn, Quit}
+use Rattle.desk.specs.declared.job.App.{App}
+use Rattle.desk.specs.Outcome.{Launched}
+use Rattle.desk.specs.Phase.{Live, Phase, Waiting, Running, Ended, Next, GoesOn, Ends, begun, leaves, ends, after_course}
+use Rattle.desk.specs.Phase.{called, run_out, step_of, stepped, quitted, and_then, turn_through, acted, acted_by, come_by, told_of}
+use Rattle.partitions.specs.Grant.{grant}
+use Rattle.desk.specs.Sizes.{sizes_of}
+use Rattle.desk.specs.Desk.{Place, State, coming, place_come, ready, begun_in, begun_if, launch_answer, after_events, told}
+use Rattle.desk.specs.Job.{place_given, opening, start_of}
+use Rattle.desk.specs.Alone.{launched_alone, RunsAsAlone, LeftAsAlone, IsAsAlone, IsPlaceOf}
+use Rattle.desk.proofs.Events.{Pairs, pairs_kept, pair_at}
 
--- What an application is at the desk, step by step, by what it is alone.
+-- The desk seen from one application is that application alone.
 
--- an application that lies somewhere lies at its own place
-at_home : (site : Site) (x r : Running) → r ≡ moved site x → r ≡ moved r.memory.window x
-at_home site x r is = is ∙ ap (λ (s : Site). moved s x) (sym (ap (λ (q : Running). q.memory.window) is))
+-- What follows an act of an application that runs as it does alone: it runs so, or it left what it leaves alone.
+abbrev pub FollowsAlone : Resources → Parts → Next → Type 0
+FollowsAlone resources script (GoesOn live) = RunsAsAlone resources script live
+FollowsAlone resources script (Ends l left) = LeftAsAlone resources script l
 
--- before the first step it goes on
-pub begins : (resources : Resources) (script : Parts) (size : ℕ) (zone : List Block) (site : Site) (text : List ℕ)
-    (r : Running) → r ≡ launched_with resources (sizes zone) site → zone ≡ fresh size → 512 ≤ size
-    → text ≡ launch_line size → GoesOn resources script size 0 text r
-begins resources script size zone site text r is whole large first = record {
-  within = omega arith;
-  goes = refl;
-  state = at_home site (launched_with resources size nowhere) r
-      (is
-      ∙ ap (λ (z : List Block). launched_with resources (sizes z) site) whole
-      ∙ ap (λ (k : ℕ). launched_with resources k site) (sizes-fresh size (omega (arith, large)))
-      ∙ launched-elsewhere resources size site);
-  text = first ∙ sym (append-nil (launch_line size));
-}
+module _ (resources : Resources) (script : Parts) where
+  -- before its first step
+  begun-alone : (w : Window) → RunsAsAlone resources script (begun resources w)
+  begun-alone w = record {
+    within = omega arith;
+    goes = refl;
+    state = refl;
+    text = sym (append-nil (launch_line w.len));
+  }
 
--- a launched application lies where its store lay
-pub lies_there : (resources : Resources) (zone : List Block) (site : Site) (r : Running)
-    → r ≡ launched_with resources (sizes zone) site → r.memory.window ≡ site
-lies_there resources zone site r is =
-    ap (λ (x : Running). x.memory.window) (is ∙ launched-elsewhere resources (sizes zone) site)
+  -- where it stands after some steps
+  stands-alone : (live : Live) → RunsAsAlone resources script live
+      → LeftAsAlone resources script (leaves false live)
+  stands-alone live so =
+      let c : Course = first_steps resources live.window.len script live.steps in
+      let none : Option Ending = None in
+      let on : ending resources live.window.len script live.steps false ≡ none =
+      ap (λ (t : Bool). ending_of (t || false) c) (le-ltb (length script.steps) live.steps so.within)
+      ∙ ap (λ (t : Bool). cond t (Some (ended_by c)) none) so.goes in
+      let text : live.transcript ≡ launch_line live.window.len ++ lines_told c.lines ++ [] =
+      so.text ∙ sym (append-nil (launch_line live.window.len ++ lines_told c.lines)) in
+      let state : live.state ≡ c.after = so.state in
+      (λ i. record {
+        size = live.window.len;
+        steps = live.steps;
+        asked = false;
+        transcript = text i;
+        files = (state i).resources.files;
+      })
+      ∙ ap (λ (o : Option Ending). let l : Launched = record {
+        size = live.window.len;
+        steps = live.steps;
+        asked = false;
+        transcript = launch_line live.window.len ++ lines_told c.lines ++ end_told o;
+        files = files_after o c.after;
+      } in l) (sym on)
 
--- a course that tells no end isn't over, and one that isn't over tells none
-still : (c : Course) → exit_of c ≡ None → c.over ≡ false
-still c none = by_over c.over refl
-  where
-    by_over : (t : Bool) → c.over ≡ t → c.over ≡ false
-    by_over false is = is
-    by_over true is =
-        let some = sym (ap (λ (t : Bool). exit_as t (code_told c.told)) is) ∙ none in cc
+  -- where it ends after some steps
+  ends-alone : (size n : ℕ) (asked : Bool) (text : List ℕ) (e : Ending)
+      → text ≡ launch_line size ++ lines_told (first_steps resources size script n).lines
+      → ending resources size script n asked ≡ Some e
+      → (let l : Launched = record {
+        size = size;
+        steps = n;
+        asked = asked;
+        transcript = text ++ end_told (Some e);
+        files = e.files;
+      } in l) ≡ launched_alone resources script size n asked
+  ends-alone size n asked text e told is =
+      ap (λ (t : List ℕ). let l : Launched = record {
+        size = size;
+        steps = n;
+        asked = asked;
+        transcript = t ++ end_told (Some e);
+        files = e.files;
+      } in l) told
+      ∙ ap (λ (o : Option Ending). let l : Launched = record {
+        size = size;
+        steps = n;
+        asked = asked;
+        transcript = launch_line size ++ lines_told (first_steps resources size script n).lines ++ end_told o;
+        files = files_after o (first_steps resources size script n).after;
+      } in l) (sym is)
 
--- what one step more comes to: its lines are told, it lies where it lay, and how it ends the definitions say
-pub record Took (resources : Resources) (script : Parts) (size n : ℕ) (told : List ℕ) (r : Running)
-    (exit : Option Exit) : Type 0 where
-  pub text : told ≡ told_so_far resources script size n
-  pub state : r ≡ moved r.memory.window (first_steps resources size script n).after
-  pub end : ending resources size script n false ≡ end_if exit false r
-  pub goes : exit ≡ None → (first_steps resources size script n).over ≡ false
+  -- a step with a call
+  call-alone : (live : Live) (l : Line) → slice_get script.steps live.steps ≡ Some l → RunsAsAlone resources script live
+      → FollowsAlone resources script (called (step script.blocks l live.state) live)
+  call-alone live l is so = by_over s.over refl
+    where
+      size : ℕ
+      size = live.window.len
 
-pub takes : (resources : Resources) (script : Parts) (size n : ℕ) (text new : List ℕ) (r after : Running) (l : Line)
-    (exit : Option Exit) → GoesOn resources script size n text r → slice_get script.steps n ≡ Some l
-    → exit ≡ exit_of (step script.blocks l r) → Came (step script.blocks l r) text new after
-    → Took resources script size (n + 1) new after exit
-takes resources script size n text new r after l exit live is ends came =
-    let site : Site = r.memory.window in
-    let c : Course = first_steps resources size script n in
-    let d : Course = first_steps resources size script (n + 1) in
-    let s : Course = step script.blocks l c.after in
-    let moves : step script.blocks l r ≡ course_elsewhere site s =
-    ap (step script.blocks l) live.state ∙ step-elsewhere site script.blocks l c.after in
-    let on : unless_over c (step script.blocks l) ≡ joined c s = over-goes_on c (step script.blocks l) live.goes in
-    let like = steps-next resources size script n l is in
-    let lines : d.lines ≡ c.lines ++ s.lines = like.lines ∙ ap (λ (x : Course). x.lines) on in
-    let over : d.over ≡ s.over = like.over ∙ ap (λ (x : Course). x.over) on in
-    let left : d.after ≡ s.after = like.after ∙ ap (λ (x : Course). x.after) on in
-    let told : exit ≡ exit_of s = ends ∙ ap exit_of moves in
-    let lies : after ≡ moved site s.after = came.1 ∙ ap (λ (x : Course). x.after) moves in
-    record {
-      text = came.0
-          ∙ ap (λ (x : Course). text ++ lines_told x.lines) moves
-          ∙ ap (λ (x : List ℕ). x ++ lines_told s.lines) live.text
+      n : ℕ
+      n = live.steps
+
+      c : Course
+      c = first_steps resources size script n
+
+      d : Course
+      d = first_steps resources size script (n + 1)
+
+      s : Course
+      s = step script.blocks l live.state
+
+      same : s ≡ step script.blocks l c.after
+      same = ap (step script.blocks l) so.state
+
+      on : unless_over c (step script.blocks l) ≡ joined c s
+      on = over-goes_on c (step script.blocks l) so.goes ∙ ap (joined c) (sym same)
+
+      lines : d.lines ≡ c.lines ++ s.lines
+      lines = (steps-next resources size script n l is).lines ∙ ap (λ (x : Course). x.lines) on
+
+      text : live.transcript ++ lines_told s.lines ≡ launch_line size ++ lines_told d.lines
+      text = ap (λ (x : List ℕ). x ++ lines_told s.lines) so.text
           ∙ append_assoc (launch_line size) (lines_told c.lines) (lines_told s.lines)
           ∙ ap (λ (x : List ℕ). launch_line size ++ x) (sym (flat_map-append line_told c.lines s.lines))
-          ∙ ap (λ (x : List Shown). launch_line size ++ lines_told x) (sym lines);
-      state = at_home site d.after after (lies ∙ ap (moved site) (sym left));
-      end = ending-next resources size script n false l is
+          ∙ ap (λ (x : List Shown). launch_line size ++ lines_told x) (sym lines)
+
+      by_over : (t : Bool) → s.over ≡ t
+          → FollowsAlone resources script
+          (cond t (ends false (ended_by s) (after_course s live)) (GoesOn (after_course s live)))
+      by_over false goes =
+          let more = slice_get_within script.steps n l is in
+          record {
+            within = omega (arith, more);
+            goes = (steps-next resources size script n l is).over ∙ ap (λ (x : Course). x.over) on ∙ goes;
+            state = sym ((steps-next resources size script n l is).after ∙ ap (λ (x : Course). x.after) on);
+            text = text;
+          }
+      by_over true over =
+          ends-alone size (n + 1) false (live.transcript ++ lines_told s.lines) (ended_by s) text
+          (ending-next resources size script n false l is
           ∙ ap (ending_of false) on
-          ∙ sym (ending-told false (joined c s))
-          ∙ sym (end_if-elsewhere site (exit_of s) false s.after)
-          ∙ ap (λ (x : Running). end_if (exit_of s) false x) (sym lies)
-          ∙ ap (λ (x : Option Exit). end_if x false after) (sym told);
-      goes = λ none. over ∙ still s (sym told ∙ none);
-    }
+          ∙ ap (λ (t : Bool). cond t (Some (ended_by s)) (let none : Option Ending = None in none)) over)
 
--- one that took a step and goes on, and one that ends with it
-pub went_on : (resources : Resources) (script : Parts) (size n : ℕ) (text : List ℕ) (r : Running) (exit : Option Exit)
-    → Took resources script size n text r exit → n ≤ length script.steps → exit ≡ None
-    → GoesOn resources script size n text r
-went_on resources script size n text r exit took within none = record {
-  within = within;
-  goes = took.goes none;
-  state = took.state;
-  text = took.text;
+  -- one that goes on quits where a quit is asked for
+  quits-then : (live : Live) → RunsAsAlone resources script live
+      → ending_of true (first_steps resources live.window.len script live.steps) ≡ Some (quits live.state)
+  quits-then live so =
+      let c : Course = first_steps resources live.window.len script live.steps in
+      ap (λ (t : Bool). cond t (Some (ended_by c)) (Some (quits c.after))) so.goes
+      ∙ ap (λ (r : application.Running). Some (quits r)) (sym so.state)
+
+  -- and where it has no call left
+  out-alone : (live : Live) → length script.steps ≤ live.steps → RunsAsAlone resources script live
+      → FollowsAlone resources script (run_out script live)
+  out-alone live past so =
+      let size : ℕ = live.window.len in
+      let n : ℕ = live.steps in
+      let within : n ≤ length script.steps = so.within in
+      let next : length script.steps + 1 ≡ n + 1 = omega (arith, past, within) in
+      ends-alone size (length script.steps + 1) false live.transcript (quits live.state)
+      (so.text
+      ∙ ap (λ (x : Course). launch_line size ++ lines_told x.lines) (sym (steps-past resources size script n past))
+      ∙ ap (λ (k : ℕ). launch_line size ++ lines_told (first_steps resources size script k).lines) (sym next))
+      (ap (λ (k : ℕ). ending resources size script k false) next ∙ ending-past resources size script n false past
+      ∙ quits-then live so)
+
+  step-alone : (live : Live) → RunsAsAlone resources script live → FollowsAlone resources script (stepped script live)
+  step-alone live so = by_line (slice_get script.steps live.steps) refl (slice_get_cases script.steps live.steps).1
+    where
+      by_line : (o : Option Line) → slice_get script.steps live.steps ≡ o
+          → ((l : Line) × (live.steps < length script.steps) × (slice_get script.steps live.steps ≡ Some l)
+          × (get_or script.steps live.steps l ≡ l))
+          ⊎ ((length script.steps ≤ live.steps) × (slice_get script.steps live.steps ≡ None))
+          → FollowsAlone resources script (step_of o script live)
+      by_line (Some l) is cases = call-alone live l is so
+      by_line None is (inl next) = absurd (let no : (let n : Option Line = None in n) ≡ Some next.0 = sym is ∙ next.2 in cc)
+      by_line None is (inr past) = out-alone live past.0 so
+
+  then-alone : (next : Next) (more : Live → Next)
+      → ((live : Live) → RunsAsAlone resources script live → FollowsAlone resources script (more live))
+      → FollowsAlone resources script next → FollowsAlone resources script (and_then next more)
+  then-alone (GoesOn live) more on so = on live so
+  then-alone (Ends l left) more on so = so
+
+  turn-alone : (lines : List Line) (live : Live) → RunsAsAlone resources script live
+      → FollowsAlone resources script (turn_through lines script live)
+  turn-alone [] live so = step-alone live so
+  turn-alone (l ∷ lines) live so =
+      by_wait (step-alone live so)
+      (then-alone (stepped script live) (turn_through lines script) (turn-alone lines) (step-alone live so))
+      (is_wait l.call)
+    where
+      by_wait : FollowsAlone resources script (stepped script live)
+          → FollowsAlone resources script (and_then (stepped script live) (turn_through lines script)) → (t : Bool)
+          → FollowsAlone resources script
+          (cond t (stepped script live) (and_then (stepped script live) (turn_through lines script)))
+      by_wait first rest true = first
+      by_wait first rest false = rest
+
+  quit-alone : (live : Live) → RunsAsAlone resources script live → FollowsAlone resources script (quitted live)
+  quit-alone live so =
+      ends-alone live.window.len live.steps true live.transcript (quits live.state) so.text
+      (ap (λ (t : Bool). ending_of (t || true) (first_steps resources live.window.len script live.steps))
+      (le-ltb (length script.steps) live.steps so.within)
+      ∙ quits-then live so)
+
+  act-alone : (act : Act) (live : Live) → RunsAsAlone resources script live
+      → FollowsAlone resources script (acted act script live)
+  act-alone Step live so = step-alone live so
+  act-alone Turn live so = turn-alone (drop live.steps script.steps) live so
+  act-alone Quit live so = quit-alone live so
+
+-- An application at its place.
+
+came-alone : (start : Result Resources OsErr) (script : Parts) (resources : Resources) (next : Next)
+    → start ≡ Ok resources → FollowsAlone resources script next → IsAsAlone start script (come_by next).phase
+came-alone start script resources (GoesOn live) is so = (resources, is, so)
+came-alone start script resources (Ends l left) is so = (resources, is, so)
+
+acted-alone : (act : Act) (start : Result Resources OsErr) (script : Parts) (phase : Phase)
+    → IsAsAlone start script phase → IsAsAlone start script (acted_by act script phase).phase
+acted-alone act start script (Waiting given) so = so
+acted-alone act start script (Running live) so =
+    came-alone start script so.0 (acted act script live) so.1 (act-alone so.0 script act live so.2)
+acted-alone act start script (Ended l) so = so
+
+acted-place : (system : Content) (act : Act) (app : App) (p : Place) → IsPlaceOf system app p
+    → IsPlaceOf system app (place_come p (coming act p))
+acted-place system act app p so = record {
+  name = so.name;
+  script = so.script;
+  phase = subst (λ (script : Parts). IsAsAlone (start_of system app) app.script (acted_by act script p.phase).phase)
+      (sym so.script)
+      (acted-alone act (start_of system app) app.script p.phase so.phase);
 }
 
-pub none_ended : (resources : Resources) (script : Parts) (w : Window) (n : ℕ) (text : List ℕ) (r : Running)
-    (exit : Option Exit) → Took resources script w.len n text r exit → exit ≡ None
-    → come_to resources script w n false ≡ staying (progress.Running w n)
-none_ended resources script w n text r exit took none =
-    ap (λ (e : Option Ending). come_by e w n false)
-    (took.end ∙ ap (λ (x : Option Exit). end_if x false r) none)
+-- one that is launched waited
+launched-alone : (start : Result Resources OsErr) (script : Parts) (phase : Phase) (s : State) (live : Live)
+    → begun_if (ready phase) s ≡ Ok live → IsAsAlone start script phase → IsAsAlone start script (Running live)
+launched-alone start script (Waiting (Err code)) s live is so = cc
+launched-alone start script (Waiting (Ok resources)) s live is so =
+    by_window (grant s.memory s.windows (sizes_of resources).preferred (sizes_of resources).minimum) is
+  where
+    by_window : (o : Option Window) → begun_in resources o ≡ Ok live → IsAsAlone start script (Running live)
+    by_window None none = cc
+    by_window (Some w) some =
+        let same : begun resources w ≡ live = cc in
+        (resources, sym so, subst (RunsAsAlone resources script) same (begun-alone resources script w))
+launched-alone start script (Running other) s live is so = cc
+launched-alone start script (Ended l) s live is so = cc
 
-pub ends_so : (resources : Resources) (script : Parts) (size n : ℕ) (text : List ℕ) (r : Running) (exit : Option Exit)
-    (e : Exit) → Took resources script size n text r exit → exit ≡ Some e
-    → EndsBy (Some e) resources script size n false text r
-ends_so resources script size n text r exit e took is = record {
-  text = took.text;
-  end = took.end ∙ ap (λ (x : Option Exit). end_if x false r) is;
+launched-place : (system : Content) (app : App) (p : Place) (s : State) (live : Live) → launch_answer p s ≡ Ok live
+    → IsPlaceOf system app p → IsPlaceOf system app (record p { phase = Running live })
+launched-place system app p s live is so = record {
+  name = so.name;
+  script = so.script;
+  phase = launched-alone (start_of system app) app.script p.phase s live is so.phase;
 }
 
--- one that goes on quits where a quit is asked for
-quits_then : (resources : Resources) (script : Parts) (size n : ℕ) (text : List ℕ) (r : Running)
-    → GoesOn resources script size n text r
-    → ending_of true (first_steps resources size script n) ≡ Some (end_by None r)
-quits_then resources script size n text r live =
-    let c : Course = first_steps resources size script n in
-    ap (λ (t : Bool). cond t (Some (ended_by c)) (Some (quits c.after))) live.goes
-    ∙ ap Some (sym (end-elsewhere r.memory.window None c.after))
-    ∙ ap (λ (x : Running). Some (end_by None x)) (sym live.state)
+given-alone : (system : Content) (apps : List App) → Pairs (IsPlaceOf system) apps (map (place_given system) apps)
+given-alone system [] = tt
+given-alone system (app ∷ apps) = (record { name = refl; script = refl; phase = refl }, given-alone system apps)
 
-pub asked_to_quit : (resources : Resources) (script : Parts) (size n : ℕ) (text : List ℕ) (r : Running)
-    → GoesOn resources script size n text r → EndsBy None resources script size n true text r
-asked_to_quit resources script size n text r live = record {
-  text = live.text;
-  end = ap (λ (t : Bool). ending_of (t || true) (first_steps resources size script n))
-      (le-ltb (length script.steps) n live.within)
-      ∙ quits_then resources script size n text r live;
-}
+-- each place of a job's desk, whatever happened there
+pub all_alone : (memory : ℕ) (system : Content) (apps : List App) (events : List Event)
+    → Pairs (IsPlaceOf system) apps (after_events events (opening memory system apps)).places
+all_alone memory system apps events =
+    pairs_kept (IsPlaceOf system) (λ act app p so. acted-place system act app p so)
+    (λ app p s live is so. launched-place system app p s live is so) apps events (opening memory system apps)
+    (given-alone system apps)
 
--- and where it has no call left
-pub runs_out : (resources : Resources) (script : Parts) (size n more : ℕ) (text : List ℕ) (r : Running)
-    → GoesOn resources script size n text r → length script.steps ≤ n → more ≡ length script.steps + 1
-    → (more ≡ n + 1) × EndsBy None resources script size more false text r
-runs_out resources script size n more text r live past is =
-    let within : n ≤ length script.steps = live.within in
-    let next : more ≡ n + 1 = omega arith in (
-      next,
-      record {
-        text = live.text
-            ∙ ap (λ (x : Course). launch_line size ++ lines_told x.lines) (sym (steps-past resources size script n past))
-            ∙ ap (told_so_far resources script size) (sym next);
-        end = ap (λ (x : ℕ). ending resources size script x false) next
-            ∙ ending-past resources size script n false past
-            ∙ quits_then resources script size n text r live;
-      },
-    )
+pub seen_alone : (memory : ℕ) (system : Content) (apps : List App) (events : List Event) (i : ℕ) (app : App) (p : Place)
+    → slice_get apps i ≡ Some app → slice_get (after_events events (opening memory system apps)).places i ≡ Some p
+    → IsPlaceOf system app p
+seen_alone memory system apps events i app p given here =
+    pair_at (IsPlaceOf system) apps (after_events events (opening memory system apps)).places i app p given here
+    (all_alone memory system apps events)
+
+-- what is told of an application that was launched is what it leaves alone
+pub told-alone : (start : Result Resources OsErr) (script : Parts) (phase : Phase) (l : Launched)
+    → IsAsAlone start script phase → told_of phase ≡ Some l
+    → (resources : Resources) × (start ≡ Ok resources) × LeftAsAlone resources script l
+told-alone start script (Waiting given) l so is = cc
+told-alone start script (Running live) l so is =
+    let same : leaves false live ≡ l = cc in
+    (so.0, so.1, subst (LeftAsAlone so.0 script) same (stands-alone so.0 script live so.2))
+told-alone start script (Ended launched) l so is =
+    let same : launched ≡ l = cc in
+    (so.0, so.1, subst (LeftAsAlone so.0 script) same so.2)
+
+same-start : (a b : Resources) (x : Result Resources OsErr) (y : Result Resources OsErr) → x ≡ y → x ≡ Ok a → y ≡ Ok b → a ≡ b
+same-start a b x y same one other = cc
+
+-- two that agree in that leave the same
+pub left_same : (first second : Content) (a b : App) (p q : Place) (l m : Launched) → IsPlaceOf first a p
+    → IsPlaceOf second b q → start_of first a ≡ start_of second b → a.script ≡ b.script
+    → (told p).launched ≡ Some l → (told q).launched ≡ Some m
+    → l.size ≡ m.size → l.steps ≡ m.steps → l.asked ≡ m.asked → l ≡ m
+left_same first second a b p q l m here there starts scripts one other size steps asked =
+    let x = told-alone (start_of first a) a.script p.phase l here.phase one in
+    let y = told-alone (start_of second b) b.script q.phase m there.phase other in
+    let own : x.0 ≡ y.0 = same-start x.0 y.0 (start_of first a) (start_of second b) starts x.1 y.1 in
+    let all : launched_alone x.0 a.script l.size l.steps l.asked ≡ launched_alone y.0 b.script m.size m.steps m.asked =
+    ap (λ (r : Resources). launched_alone r a.script l.size l.steps l.asked) own
+    ∙ ap (λ (s : Parts). launched_alone y.0 s l.size l.steps l.asked) scripts
+    ∙ ap (λ (n : ℕ). launched_alone y.0 b.script n l.steps l.asked) size
+    ∙ ap (λ (n : ℕ). launched_alone y.0 b.script m.size n l.asked) steps
+    ∙ ap (λ (t : Bool). launched_alone y.0 b.script m.size m.steps t) asked in
+    x.2 ∙ all ∙ sym y.2

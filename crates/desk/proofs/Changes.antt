@@ -1,6 +1,7 @@
 -- What a launch makes of the desk.
 use Rattle.std.proofs.Common.{◌≡◌, ℕ, Option, Some, None, option_map, Result, Ok, Err, List, ◌++◌, length, map}
-use Rattle.std.proofs.Common.{slice_get, slice_set, slice_index_or, IfSome, ◌<◌, refl, sym, ◌∙◌, ap, subst}
+use Rattle.std.specs.Prelude.{IsOk, OnOk}
+use Rattle.std.proofs.Common.{true, false, slice_get, slice_set, slice_index_or, IfSome, ◌<◌, refl, sym, ◌∙◌, ap, subst}
 use Rattle.std.specs.Borrow.{Bor}
 use Rattle.std.specs.Slice.{IsItemAt}
 use Rattle.std.proofs.lemmas.Option.{slice_get-map, slice_get_read, slice_get_past}
@@ -12,11 +13,11 @@ use Rattle.heap_calls.specs.declared.refusal.Refusal.{Refusal}
 use Rattle.heap_calls.specs.declared.refusal.Refusal.TheVariants.{Code}
 use Rattle.partitions.specs.Grant.{grant}
 use Rattle.script_text.specs.DeskLog.{launch_of, refusal_of}
-use Rattle.desk.specs.Progress.{Progress, Waiting, Running, Ended, Lost}
+use Rattle.desk.specs.Phase.{Phase, Waiting, Running, Ended, begun, waits}
 use Rattle.desk.specs.Sizes.{Sizes, sizes_of}
 use Rattle.desk.specs.Ready.{IsReady}
 use Rattle.desk.specs.Desk.{Place, State}
-use Rattle.desk.specs.Desk.{granted, granted_sizes, granted_start, ready, launched_by, launched_in, launched_at}
+use Rattle.desk.specs.Desk.{launch_reply, reply_at, size_granted, begun_in, begun_with, begun_if, ready, launched_by, launched_in, launched_at}
 
 -- a state by its parts
 stands : (s : State) (m : ℕ) (ws : List Window) (ps : List Place) (text : List ℕ) → m ≡ s.memory → ws ≡ s.windows
@@ -24,41 +25,33 @@ stands : (s : State) (m : ℕ) (ws : List Window) (ps : List Place) (text : List
 stands s m ws ps text hm hw hp ht = rw (hm, hw, hp, ht) refl
 
 -- what is ready waits
-ready_waits : (progress : Progress) (start : Result Resources OsErr) (r : Resources) → ready progress start ≡ Ok r
-    → (progress ≡ Waiting) × (start ≡ Ok r)
-ready_waits Waiting start r e = (refl, e)
-ready_waits (Running w n) start r e = absurd (cc)
-ready_waits (Ended size n asked) start r e = absurd (cc)
-ready_waits (Lost w) start r e = absurd (cc)
-
-pub waits-ready : (p : Place) (r : Resources) → ready p.progress p.start ≡ Ok r → p.progress ≡ Waiting
-waits-ready p r e = (ready_waits p.progress p.start r e).0
-
-pub start-ready : (p : Place) (r : Resources) → ready p.progress p.start ≡ Ok r → p.start ≡ Ok r
-start-ready p r e = (ready_waits p.progress p.start r e).1
+pub waits_ready : (phase : Phase) (r : Resources) → ready phase ≡ Ok r → waits phase ≡ true
+waits_ready (Waiting start) r e = refl
+waits_ready (Running live) r e = absurd (cc)
+waits_ready (Ended launched) r e = absurd (cc)
 
 module _ (i : ℕ) (s : State) (p : Place) (here : slice_get s.places i ≡ Some p) where
   -- it can't be launched
   pub launched-refused : (code : OsErr) (m : ℕ) (ws : List Window) (ps : List Place) (text : List ℕ)
-      → ready p.progress p.start ≡ Err code → m ≡ s.memory → ws ≡ s.windows → ps ≡ s.places
+      → ready p.phase ≡ Err code → m ≡ s.memory → ws ≡ s.windows → ps ≡ s.places
       → text ≡ s.log ++ refusal_of p.name code.0
       → let t : State = record { memory = m; windows = ws; places = ps; log = text } in t ≡ launched_at i s
   launched-refused code m ws ps text e hm hw hp ht =
-      stands (launched_by (granted_start (Err code) s) i p s) m ws ps text hm hw hp ht
-      ∙ sym (ap (λ o. launched_in i o s) here ∙ ap (λ r. launched_by (granted_start r s) i p s) e)
+      stands (launched_by (begun_if (Err code) s) i p s) m ws ps text hm hw hp ht
+      ∙ sym (ap (λ o. launched_in i o s) here ∙ ap (λ r. launched_by (begun_if r s) i p s) e)
 
-  answered : (r : Resources) (sizes : Sizes) (o : Option Window) → ready p.progress p.start ≡ Ok r → sizes ≡ sizes_of r
-      → o ≡ grant s.memory s.windows sizes.preferred sizes.minimum → launched_at i s ≡ launched_by (granted o) i p s
+  answered : (r : Resources) (sizes : Sizes) (o : Option Window) → ready p.phase ≡ Ok r → sizes ≡ sizes_of r
+      → o ≡ grant s.memory s.windows sizes.preferred sizes.minimum → launched_at i s ≡ launched_by (begun_in r o) i p s
   answered r sizes o e hs ho =
-      ap (λ q. launched_in i q s) here ∙ ap (λ q. launched_by (granted_start q s) i p s) e
-      ∙ ap (λ (z : Sizes). launched_by (granted_sizes z s) i p s) (sym hs)
-      ∙ ap (λ q. launched_by (granted q) i p s) (sym ho)
+      ap (λ q. launched_in i q s) here ∙ ap (λ q. launched_by (begun_if q s) i p s) e
+      ∙ ap (λ (z : Sizes). launched_by (begun_with r z s) i p s) (sym hs)
+      ∙ ap (λ q. launched_by (begun_in r q) i p s) (sym ho)
 
   -- there is no room for it
   pub launched-full : (r : Resources) (sizes : Sizes) (m : ℕ) (ws : List Window) (ps : List Place) (text : List ℕ)
-      → ready p.progress p.start ≡ Ok r → sizes ≡ sizes_of r
+      → ready p.phase ≡ Ok r → sizes ≡ sizes_of r
       → None ≡ grant s.memory s.windows sizes.preferred sizes.minimum → m ≡ s.memory → ws ≡ s.windows → ps ≡ s.places
-      → (code : OsErr) → Err code ≡ granted None → text ≡ s.log ++ refusal_of p.name code.0
+      → (code : OsErr) → Err code ≡ begun_in r None → text ≡ s.log ++ refusal_of p.name code.0
       → let t : State = record { memory = m; windows = ws; places = ps; log = text } in t ≡ launched_at i s
   launched-full r sizes m ws ps text e hs ho hm hw hp code hc ht =
       stands (launched_by (Err code) i p s) m ws ps text hm hw hp ht
@@ -66,12 +59,29 @@ module _ (i : ℕ) (s : State) (p : Place) (here : slice_get s.places i ≡ Some
 
   -- it is launched
   pub launched-begins : (r : Resources) (sizes : Sizes) (w : Window) (m : ℕ) (ws : List Window) (ps : List Place)
-      (text : List ℕ) → ready p.progress p.start ≡ Ok r → sizes ≡ sizes_of r
+      (text : List ℕ) → ready p.phase ≡ Ok r → sizes ≡ sizes_of r
       → Some w ≡ grant s.memory s.windows sizes.preferred sizes.minimum → m ≡ s.memory → ws ≡ put_in w s.windows
-      → ps ≡ slice_set s.places i (record p { progress = Running w 0 }) → text ≡ s.log ++ launch_of p.name w.len
+      → ps ≡ slice_set s.places i (record p { phase = Running (begun r w) }) → text ≡ s.log ++ launch_of p.name w.len
       → let t : State = record { memory = m; windows = ws; places = ps; log = text } in t ≡ launched_at i s
   launched-begins r sizes w m ws ps text e hs ho hm hw hp ht =
-      stands (launched_by (Ok w) i p s) m ws ps text hm hw hp ht ∙ sym (answered r sizes (Some w) e hs ho)
+      stands (launched_by (Ok (begun r w)) i p s) m ws ps text hm hw hp ht ∙ sym (answered r sizes (Some w) e hs ho)
+
+  -- what it is told
+  pub replied-refused : (code : OsErr) → ready p.phase ≡ Err code → Err code ≡ reply_at i s
+  replied-refused code e = sym (ap (λ o. launch_reply o s) here ∙ ap (λ r. size_granted (begun_if r s)) e)
+
+  pub replied-begun : (r : Resources) (sizes : Sizes) (o : Option Window) → ready p.phase ≡ Ok r → sizes ≡ sizes_of r
+      → o ≡ grant s.memory s.windows sizes.preferred sizes.minimum → size_granted (begun_in r o) ≡ reply_at i s
+  replied-begun r sizes o e hs ho =
+      sym (ap (λ q. launch_reply q s) here ∙ ap (λ q. size_granted (begun_if q s)) e
+      ∙ ap (λ (z : Sizes). size_granted (begun_with r z s)) (sym hs)
+      ∙ ap (λ q. size_granted (begun_in r q)) (sym ho))
+
+-- what was written stays, once it is told
+pub through : {A B E : Type 0} (r : Result A E) (w : Result B E) (P : Type 0) → OnOk r (IsOk w) → OnOk w P → OnOk r P
+through (Ok a) (Ok b) P same so = so
+through (Ok a) (Err e) P same so = absurd (let no : false ≡ true = same in cc)
+through (Err e) w P same so = tt
 
 -- there is none of that number
 pub launched-none : (i : ℕ) (s : State) → slice_get s.places i ≡ None → s ≡ launched_at i s

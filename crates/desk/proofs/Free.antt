@@ -16,7 +16,7 @@ use Rattle.raw_zone.specs.Making.{LiesIn}
 use Rattle.desk.specs.declared.act.Act.{Act}
 use Rattle.desk.specs.declared.act.Act.TheVariants.{Turn}
 use Rattle.desk.specs.declared.job.Job.{Job}
-use Rattle.desk.specs.Progress.{Left}
+use Rattle.desk.specs.Phase.{Left}
 use Rattle.desk.specs.Desk.{Place, State, coming, windows_after, acted_in, acted_at, each_turned, round, after_event, after_events}
 use Rattle.desk.specs.Free.{IsFree, StaysFree, FreeThrough, IsNeverGranted}
 use Rattle.desk.specs.Held.{closed, opened}

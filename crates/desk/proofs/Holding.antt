@@ -1,25 +1,23 @@
 -- Who holds which window, as applications are launched and end.
-use Rattle.std.proofs.Common.{◌≡◌, ℕ, ◌+◌, ◌<◌, ◌≤◌, ◌||◌, zero, suc, Bool, true, false, cond, is_some, List, [], ◌∷◌}
-use Rattle.std.proofs.Common.{length, map, drop, Option, Some, None, option_map, Result, Ok, Err}
+use Rattle.std.proofs.Common.{◌≡◌, ℕ, ◌+◌, ◌<◌, ◌≤◌, zero, suc, Bool, true, false, cond, List, [], ◌∷◌}
+use Rattle.std.proofs.Common.{length, map, drop, Option, Some, None, option_map}
 use Rattle.std.proofs.Common.{slice_get, slice_set, IfSome, refl, sym, ◌∙◌, ap, subst, arith}
 use Rattle.std.specs.List.{Contains}
 use Rattle.windows.specs.declared.Window.{Window}
 use Rattle.windows.specs.Windows.{put_in, taken_out}
 use Rattle.windows.proofs.Ordered.{contains-counted, times-put_in, times-taken_out, length-taken_out, one-itself, none-counted}
 use Rattle.windows.proofs.Listed.{length-with_window}
-use Rattle.mac_words.specs.declared.code.OsErr.{OsErr}
 use Rattle.partitions.proofs.Order.{given_back}
 use Rattle.script_text.specs.Script.{Parts}
 use Rattle.script_text.specs.declared.script.Line.{Line}
-use Rattle.res_calls.specs.Files.{Resources}
-use Rattle.applications.specs.Step.{is_wait}
-use Rattle.applications.specs.Alone.{Ending, ending}
+use Rattle.applications.specs.Step.{Course, step, is_wait}
+use Rattle.applications.specs.Alone.{ended_by}
 use Rattle.fork_format.specs.Content.{Content}
 use Rattle.desk.specs.declared.act.Act.{Act}
 use Rattle.desk.specs.declared.act.Act.TheVariants.{Step, Turn, Quit}
 use Rattle.desk.specs.declared.job.App.{App}
-use Rattle.desk.specs.Progress.{Progress, Waiting, Running, Ended, Lost, Left, Coming, come_by, stepped, turn_through}
-use Rattle.desk.specs.Progress.{acted, acted_by, window_of}
+use Rattle.desk.specs.Phase.{Live, Phase, Waiting, Running, Ended, Left, Next, GoesOn, Ends, come_by, called, step_of}
+use Rattle.desk.specs.Phase.{stepped, turn_through, and_then, acted, acted_by, window_of, waits, ends, after_course}
 use Rattle.desk.specs.Desk.{Place, windows_after, places_acted, left_by}
 use Rattle.desk.specs.Job.{place_given}
 use Rattle.desk.specs.Held.{holders, one_of, sum, some_of, IsHeld, left_window, opened, closed}
@@ -33,74 +31,87 @@ acted-cons : (act : Act) (i : ℕ) (o : Option Place) (p : Place) (ps : List Pla
 acted-cons act i None p ps = refl
 acted-cons act i (Some q) p ps = refl
 
+-- an application that goes on does so in its window, and one that ends gives its window back
+abbrev InWindow : Window → Next → Type 0
+InWindow w (GoesOn live) = live.window ≡ w
+InWindow w (Ends launched left) = left.window ≡ w
+
+call-window : (c : Course) (live : Live) → InWindow live.window (called c live)
+call-window c live = by_over c.over
+  where
+    by_over : (t : Bool) → InWindow live.window
+        (cond t (ends false (ended_by c) (after_course c live)) (GoesOn (after_course c live)))
+    by_over true = refl
+    by_over false = refl
+
+step-window : (script : Parts) (live : Live) → InWindow live.window (stepped script live)
+step-window script live = by_line (slice_get script.steps live.steps)
+  where
+    by_line : (o : Option Line) → InWindow live.window (step_of o script live)
+    by_line None = refl
+    by_line (Some l) = call-window (step script.blocks l live.state) live
+
+then-window : (w : Window) (next : Next) (more : Live → Next) → ((live : Live) → InWindow live.window (more live))
+    → InWindow w next → InWindow w (and_then next more)
+then-window w (GoesOn live) more on so = subst (λ (v : Window). InWindow v (more live)) so (on live)
+then-window w (Ends launched left) more on so = so
+
+turn-window : (script : Parts) (lines : List Line) (live : Live) → InWindow live.window (turn_through lines script live)
+turn-window script [] live = step-window script live
+turn-window script (l ∷ lines) live =
+    by_wait (step-window script live)
+    (then-window live.window (stepped script live) (turn_through lines script) (turn-window script lines)
+    (step-window script live)) (is_wait l.call)
+  where
+    by_wait : InWindow live.window (stepped script live)
+        → InWindow live.window (and_then (stepped script live) (turn_through lines script)) → (t : Bool)
+        → InWindow live.window
+        (cond t (stepped script live) (and_then (stepped script live) (turn_through lines script)))
+    by_wait first rest true = first
+    by_wait first rest false = rest
+
+act-window : (act : Act) (script : Parts) (live : Live) → InWindow live.window (acted act script live)
+act-window Step script live = step-window script live
+act-window Turn script live = turn-window script (drop live.steps script.steps) live
+act-window Quit script live = refl
+
 -- sums over the holders
 module _ (f : Option Window → ℕ) (z : f None ≡ 0) where
-  come_sum : (e : Option Ending) (w : Window) (n : ℕ) (asked : Bool)
-      → f (left_window (come_by e w n asked).left) + f (window_of (come_by e w n asked).progress) ≡ f (Some w)
-  come_sum None w n asked = omega (arith, z)
-  come_sum (Some e) w n asked = omega (arith, z)
+  come_sum : (w : Window) (next : Next) → InWindow w next
+      → f (left_window (come_by next).left) + f (window_of (come_by next).phase) ≡ f (Some w)
+  come_sum w (GoesOn live) is = let same = ap (λ (v : Window). f (Some v)) is in omega (arith, z, same)
+  come_sum w (Ends launched left) is = let same = ap (λ (v : Window). f (Some v)) is in omega (arith, z, same)
 
-  either_sum : (w : Window) (b : Bool) (c d : Coming)
-      → f (left_window c.left) + f (window_of c.progress) ≡ f (Some w)
-      → f (left_window d.left) + f (window_of d.progress) ≡ f (Some w)
-      → f (left_window (cond b c d).left) + f (window_of (cond b c d).progress) ≡ f (Some w)
-  either_sum w true c d x y = x
-  either_sum w false c d x y = y
-
-  step_sum : (resources : Resources) (script : Parts) (w : Window) (n : ℕ)
-      → f (left_window (stepped resources script w n).left) + f (window_of (stepped resources script w n).progress)
-      ≡ f (Some w)
-  step_sum resources script w n = come_sum (ending resources w.len script (n + 1) false) w (n + 1) false
-
-  turn_sum : (resources : Resources) (script : Parts) (w : Window) (lines : List Line) (n : ℕ)
-      → f (left_window (turn_through resources script w lines n).left)
-      + f (window_of (turn_through resources script w lines n).progress) ≡ f (Some w)
-  turn_sum resources script w [] n = step_sum resources script w n
-  turn_sum resources script w (l ∷ lines) n =
-      either_sum w (is_some (stepped resources script w n).left || is_wait l.call) (stepped resources script w n)
-      (turn_through resources script w lines (n + 1)) (step_sum resources script w n)
-      (turn_sum resources script w lines (n + 1))
-
-  run_sum : (act : Act) (resources : Resources) (script : Parts) (w : Window) (n : ℕ)
-      → f (left_window (acted act resources script w n).left) + f (window_of (acted act resources script w n).progress)
-      ≡ f (Some w)
-  run_sum Step resources script w n = step_sum resources script w n
-  run_sum Turn resources script w n = turn_sum resources script w (drop n script.steps) n
-  run_sum Quit resources script w n = come_sum (ending resources w.len script n true) w n true
-
-  act_sum : (act : Act) (start : Result Resources OsErr) (script : Parts) (progress : Progress)
-      → f (left_window (acted_by act start script progress).left)
-      + f (window_of (acted_by act start script progress).progress) ≡ f (window_of progress)
-  act_sum act (Ok resources) script (Running w n) = run_sum act resources script w n
-  act_sum act (Err code) script (Running w n) = omega (arith, z)
-  act_sum act (Ok resources) script Waiting = omega (arith, z)
-  act_sum act (Err code) script Waiting = omega (arith, z)
-  act_sum act (Ok resources) script (Ended size n asked) = omega (arith, z)
-  act_sum act (Err code) script (Ended size n asked) = omega (arith, z)
-  act_sum act (Ok resources) script (Lost w) = omega (arith, z)
-  act_sum act (Err code) script (Lost w) = omega (arith, z)
+  act_sum : (act : Act) (script : Parts) (phase : Phase)
+      → f (left_window (acted_by act script phase).left) + f (window_of (acted_by act script phase).phase)
+      ≡ f (window_of phase)
+  act_sum act script (Waiting start) = omega (arith, z)
+  act_sum act script (Running live) = come_sum live.window (acted act script live) (act-window act script live)
+  act_sum act script (Ended launched) = omega (arith, z)
 
   acted_sum : (act : Act) (ps : List Place) (i : ℕ)
       → f (left_window (left_by act (slice_get ps i))) + sum f (holders (places_acted act i (slice_get ps i) ps))
       ≡ sum f (holders ps)
   acted_sum act [] i = omega (arith, z)
-  acted_sum act (p ∷ ps) zero = let e = act_sum act p.start p.script p.progress in omega (arith, e)
+  acted_sum act (p ∷ ps) zero = let e = act_sum act p.script p.phase in omega (arith, e)
   acted_sum act (p ∷ ps) (suc i) =
       let e = acted_sum act ps i in
       let c = ap (λ (qs : List Place). sum f (holders qs)) (acted-cons act i (slice_get ps i) p ps) in
       omega (arith, e, c)
 
-  waits_sum : (progress : Progress) → progress ≡ Waiting → f (window_of progress) ≡ 0
-  waits_sum progress e = ap (λ (q : Progress). f (window_of q)) e ∙ z
+  waits_sum : (phase : Phase) → waits phase ≡ true → f (window_of phase) ≡ 0
+  waits_sum (Waiting start) e = z
+  waits_sum (Running live) e = cc
+  waits_sum (Ended launched) e = cc
 
-  started_sum : (w : Window) (n : ℕ) (ps : List Place) (i : ℕ) (p : Place) → slice_get ps i ≡ Some p
-      → p.progress ≡ Waiting
-      → sum f (holders (slice_set ps i (record p { progress = Running w n }))) ≡ f (Some w) + sum f (holders ps)
-  started_sum w n [] i p here e = absurd (let none : (let n : Option Place = None in n) ≡ Some p = here in cc)
-  started_sum w n (q ∷ ps) zero p here e =
+  started_sum : (live : Live) (ps : List Place) (i : ℕ) (p : Place) → slice_get ps i ≡ Some p → waits p.phase ≡ true
+      → sum f (holders (slice_set ps i (record p { phase = Running live })))
+      ≡ f (Some live.window) + sum f (holders ps)
+  started_sum live [] i p here e = absurd (let none : (let n : Option Place = None in n) ≡ Some p = here in cc)
+  started_sum live (q ∷ ps) zero p here e =
       let s : q ≡ p = cc in
-      let t = waits_sum q.progress (ap (λ (r : Place). r.progress) s ∙ e) in omega (arith, t)
-  started_sum w n (q ∷ ps) (suc i) p here e = let k = started_sum w n ps i p here e in omega (arith, k)
+      let t = waits_sum q.phase (ap (λ (r : Place). waits r.phase) s ∙ e) in omega (arith, t)
+  started_sum live (q ∷ ps) (suc i) p here e = let k = started_sum live ps i p here e in omega (arith, k)
 
 some_below : (o : Option Window) → some_of o ≤ 1
 some_below None = omega arith
@@ -108,18 +119,18 @@ some_below (Some w) = omega arith
 
 all_below : (ps : List Place) → sum some_of (holders ps) ≤ length ps
 all_below [] = omega arith
-all_below (p ∷ ps) = let e = all_below ps in let o = some_below (window_of p.progress) in omega (arith, e, o)
+all_below (p ∷ ps) = let e = all_below ps in let o = some_below (window_of p.phase) in omega (arith, e, o)
 
 -- where someone waits not all hold a window
-waits_few : (ps : List Place) (i : ℕ) (p : Place) → slice_get ps i ≡ Some p → p.progress ≡ Waiting
+waits_few : (ps : List Place) (i : ℕ) (p : Place) → slice_get ps i ≡ Some p → waits p.phase ≡ true
     → sum some_of (holders ps) < length ps
 waits_few [] i p here e = absurd (let none : (let n : Option Place = None in n) ≡ Some p = here in cc)
 waits_few (q ∷ ps) zero p here e =
     let s : q ≡ p = cc in
-    let t = waits_sum some_of refl q.progress (ap (λ (r : Place). r.progress) s ∙ e) in
+    let t = waits_sum some_of refl q.phase (ap (λ (r : Place). waits r.phase) s ∙ e) in
     let k = all_below ps in omega (arith, k, t)
 waits_few (q ∷ ps) (suc i) p here e =
-    let k = waits_few ps i p here e in let o = some_below (window_of q.progress) in omega (arith, k, o)
+    let k = waits_few ps i p here e in let o = some_below (window_of q.phase) in omega (arith, k, o)
 
 -- windows that come and go
 module _ (os qs : List (Option Window)) (ws : List Window) (h : IsHeld os ws) where
@@ -177,12 +188,12 @@ acted_in act ps i ws l h e =
     (in_held (holders ps) (holders (places_acted act i (slice_get ps i) ps)) ws h
     (left_window (left_by act (slice_get ps i))) (λ f z. acted_sum f z act ps i))
 
-pub started_held : (w : Window) (n : ℕ) (ps : List Place) (i : ℕ) (p : Place) (ws : List Window)
-    → slice_get ps i ≡ Some p → p.progress ≡ Waiting → IsHeld (holders ps) ws
-    → IsHeld (holders (slice_set ps i (record p { progress = Running w n }))) (put_in w ws)
-started_held w n ps i p ws here e h =
-    more_held (holders ps) (holders (slice_set ps i (record p { progress = Running w n }))) ws h w
-    (λ f z. started_sum f z w n ps i p here e)
+pub started_held : (live : Live) (ps : List Place) (i : ℕ) (p : Place) (ws : List Window)
+    → slice_get ps i ≡ Some p → waits p.phase ≡ true → IsHeld (holders ps) ws
+    → IsHeld (holders (slice_set ps i (record p { phase = Running live }))) (put_in live.window ws)
+started_held live ps i p ws here e h =
+    more_held (holders ps) (holders (slice_set ps i (record p { phase = Running live }))) ws h live.window
+    (λ f z. started_sum f z live ps i p here e)
 
 -- the first of those who are left
 pub first_held : (o : Option Window) (os : List (Option Window)) (ws : List Window) → IsHeld (o ∷ os) ws
@@ -209,7 +220,7 @@ given_held system apps = record {
 
 -- fewer windows are out than there are applications
 pub few_out : (ps : List Place) (i : ℕ) (p : Place) (m : ℕ) (ws : List Window) → IsHeld (holders ps) ws
-    → slice_get ps i ≡ Some p → p.progress ≡ Waiting → length ps ≡ m → m ≤ 64 → length ws < 64
+    → slice_get ps i ≡ Some p → waits p.phase ≡ true → length ps ≡ m → m ≤ 64 → length ws < 64
 few_out ps i p m ws h here e len le =
     let f = waits_few ps i p here e in let k = h.number in omega (arith, f, k, len, le)
 

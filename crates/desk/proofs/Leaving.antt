@@ -1,7 +1,7 @@
 -- Where zones lie, as applications are launched, end and leave.
 use Rattle.std.proofs.Common.{◌≡◌, ℕ, ◌<◌, ◌⊎◌, inl, inr, zero, suc, List, [], ◌∷◌, ◌++◌, length, map, remove}
 use Rattle.std.proofs.Common.{Option, Some, None, IfSome, slice_get, slice_set, slice_index_or, refl, sym, ◌∙◌, ap}
-use Rattle.std.proofs.Common.{subst, arith}
+use Rattle.std.proofs.Common.{subst, true, arith}
 use Rattle.std.proofs.lemmas.List.{append-nil}
 use Rattle.std.specs.List.{Contains}
 use Rattle.windows.specs.declared.Window.{Window}
@@ -10,7 +10,7 @@ use Rattle.block_store.specs.Rest.{Site}
 use Rattle.fork_format.specs.Content.{Content}
 use Rattle.desk.specs.declared.act.Act.{Act}
 use Rattle.desk.specs.declared.job.App.{App}
-use Rattle.desk.specs.Progress.{Waiting, Running, window_of}
+use Rattle.desk.specs.Phase.{Live, Running, waits, window_of}
 use Rattle.desk.specs.Desk.{Place, windows_after, places_acted, left_by}
 use Rattle.desk.specs.Job.{place_given}
 use Rattle.desk.specs.Live.{Lot}
@@ -104,24 +104,25 @@ housed_acted M N act i zs ws ys vs ps qs ls ns k hy hv hq hn h = record {
 }
 
 -- one was launched
-pub housed_started : (M N : Window → Site → Type 0) (i n : ℕ) (w : Window) (site : Site) (p : Place)
+pub housed_started : (M N : Window → Site → Type 0) (i : ℕ) (live : Live) (site : Site) (p : Place)
     (zs ws ys vs : List Window) (ps qs : List Place) (ls ns : List (Option Lot))
-    → ((v : Window) (s : Site) → M v s → N v s) → N w site → slice_get ps i ≡ Some p → p.progress ≡ Waiting → ys ≡ vs
-    → vs ≡ put_in w ws → qs ≡ slice_set ps i (record p { progress = Running w n }) → ns ≡ slice_set ls i (Some (w, site))
+    → ((v : Window) (s : Site) → M v s → N v s) → N live.window site → slice_get ps i ≡ Some p → waits p.phase ≡ true
+    → ys ≡ vs → vs ≡ put_in live.window ws → qs ≡ slice_set ps i (record p { phase = Running live })
+    → ns ≡ slice_set ls i (Some (live.window, site))
     → AreHoused M zs ws ps ls → AreHoused N ys vs qs ns
-housed_started M N i n w site p zs ws ys vs ps qs ls ns k m here waits hy hv hq hn h = record {
+housed_started M N i live site p zs ws ys vs ps qs ls ns k m here waiting hy hv hq hn h = record {
   same = hy;
   held = subst (λ us. IsHeld (holders qs) us) (sym hv)
-      (subst (λ (rs : List Place). IsHeld (holders rs) (put_in w ws)) (sym hq)
-      (started_held w n ps i p ws here waits h.held));
-  made = subst (AllMade N) (sym hn) (made_set N ls i (Some (w, site)) m (made_kept M N k ls h.made));
+      (subst (λ (rs : List Place). IsHeld (holders rs) (put_in live.window ws)) (sym hq)
+      (started_held live ps i p ws here waiting h.held));
+  made = subst (AllMade N) (sym hn) (made_set N ls i (Some (live.window, site)) m (made_kept M N k ls h.made));
 }
 
 -- the first of those who are left leaves
 pub first_out : (M : Window → Site → Type 0) (zs ws : List Window) (ps rest : List Place) (p : Place)
-    (ls : List (Option Lot)) → ps ≡ p ∷ rest → AreHoused M zs ws ps ls → IfSome (window_of p.progress) (λ w. Contains ws w)
+    (ls : List (Option Lot)) → ps ≡ p ∷ rest → AreHoused M zs ws ps ls → IfSome (window_of p.phase) (λ w. Contains ws w)
 first_out M zs ws ps rest p ls e h =
-    first_in (window_of p.progress) (holders rest) ws (subst (λ (qs : List Place). IsHeld (holders qs) ws) e h.held)
+    first_in (window_of p.phase) (holders rest) ws (subst (λ (qs : List Place). IsHeld (holders qs) ws) e h.held)
 
 pub first_made : (M : Window → Site → Type 0) (zs ws : List Window) (ps : List Place) (l : Option Lot)
     (ls rest : List (Option Lot)) → ls ≡ l ∷ rest → AreHoused M zs ws ps ls → MadeOf M l
@@ -129,12 +130,12 @@ first_made M zs ws ps l ls rest e h = (let all = subst (AllMade M) e h.made in a
 
 pub housed_next : (M N : Window → Site → Type 0) (zs ws ys vs : List Window) (p : Place) (l : Option Lot)
     (ps rest : List Place) (ls lots : List (Option Lot)) → ((w : Window) (site : Site) → M w site → N w site)
-    → ps ≡ p ∷ rest → ls ≡ l ∷ lots → ys ≡ vs → vs ≡ closed (window_of p.progress) ws → AreHoused M zs ws ps ls
+    → ps ≡ p ∷ rest → ls ≡ l ∷ lots → ys ≡ vs → vs ≡ closed (window_of p.phase) ws → AreHoused M zs ws ps ls
     → AreHoused N ys vs rest lots
 housed_next M N zs ws ys vs p l ps rest ls lots k hp hl hy hv h = record {
   same = hy;
   held = subst (λ us. IsHeld (holders rest) us) (sym hv)
-      (first_held (window_of p.progress) (holders rest) ws
+      (first_held (window_of p.phase) (holders rest) ws
       (subst (λ (qs : List Place). IsHeld (holders qs) ws) hp h.held));
   made = made_kept M N k lots (let all = subst (AllMade M) hl h.made in all.1);
 }

@@ -1,6 +1,8 @@
 pub mod Alone
 pub mod Apart
 pub mod Changes
+pub mod Coming
+pub mod Events
 pub mod ForkLines
 pub mod Free
 pub mod Givens

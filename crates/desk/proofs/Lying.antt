@@ -8,50 +8,34 @@ use Rattle.windows.specs.declared.Window.{Window}
 use Rattle.windows.specs.Windows.{IsApart, InOrder, Misses}
 use Rattle.windows.proofs.Listed.{All-without_window}
 use Rattle.windows.proofs.Ordered.{apart-taken_out}
-use Rattle.mac_words.specs.declared.code.OsErr.{OsErr}
 use Rattle.block_store.specs.Block.{Block}
-use Rattle.block_store.specs.Rest.{Site}
 use Rattle.fork_format.specs.Content.{Content}
-use Rattle.script_text.specs.Script.{Parts}
-use Rattle.heap_calls.specs.Stored.{IsNamed}
-use Rattle.res_calls.specs.Files.{Resources}
-use Rattle.applications.specs.Trying as application
-use Rattle.applications.specs.Elsewhere.{moved}
 use Rattle.desk.specs.declared.job.Job.{Job}
-use Rattle.desk.specs.Progress.{Progress, Waiting, Running, Ended, Lost, window_of}
+use Rattle.desk.specs.Phase.{Phase, Waiting, Running, Ended, window_of}
 use Rattle.desk.specs.Desk.{Place, after_events}
 use Rattle.desk.specs.Job.{opening}
 use Rattle.desk.specs.Held.{closed}
 use Rattle.desk.specs.Lying.{Lying, IsZoneOf, LiesOf, LiesAt, AllLie, LieAfter, LieAtEnd}
 use Rattle.desk.specs.Whole.{system_of}
 
--- the zone of an application is what it is alone, wherever it lies
-pub zone-moved : (site : Site) (r alone : application.Running) (blocks : List Block) → r ≡ moved site alone
-    → IsNamed blocks r.memory.heap.zone → IsNamed blocks alone.memory.heap.zone
-zone-moved site r alone blocks same named =
-    subst (λ (q : application.Running). IsNamed blocks q.memory.heap.zone) same named
-
 -- the windows of those who left meet no window that is out
 abbrev pub AllClear : List Window → List Place → Type 0
 AllClear ws [] = Unit {0}
-AllClear ws (p ∷ places) = IfSome (window_of p.progress) (λ w. IsApart w.at w.len ws) × AllClear ws places
+AllClear ws (p ∷ places) = IfSome (window_of p.phase) (λ w. IsApart w.at w.len ws) × AllClear ws places
 
 -- some have left, and the rest are still to leave
 abbrev pub LeftSo : Lying → List Window → List Place → List Place → Type 0
 LeftSo Left ws rest places = (front : List Place) × (places ≡ front ++ rest) × AllLie Left front × AllClear ws front
 
 -- the zone of who leaves lies in its window
-pub lies_of : {S : Type 0} (zone : S → List Block) (Left : Lying) (start : Result Resources OsErr) (script : Parts)
-    (progress : Progress) (freed : Option (Window × S)) → option_map (λ f. f.0) freed ≡ window_of progress
-    → IfSome freed (λ f. IsZoneOf start script progress (zone f.1)) → IfSome freed (λ f. Left f.0 (zone f.1))
-    → LiesOf Left start script progress
-lies_of zone Left (Ok resources) script (Running w n) (Some f) same named lies =
-    let is : f.0 ≡ w = cc in (zone f.1, named, subst (λ v. Left v (zone f.1)) is lies)
-lies_of zone Left (Ok resources) script (Running w n) None same named lies = absurd cc
-lies_of zone Left (Ok resources) script Waiting freed same named lies = tt
-lies_of zone Left (Ok resources) script (Ended size n asked) freed same named lies = tt
-lies_of zone Left (Ok resources) script (Lost w) freed same named lies = tt
-lies_of zone Left (Err code) script progress freed same named lies = tt
+pub lies_of : {S : Type 0} (zone : S → List Block) (Left : Lying) (phase : Phase) (freed : Option (Window × S))
+    → option_map (λ f. f.0) freed ≡ window_of phase → IfSome freed (λ f. IsZoneOf phase (zone f.1))
+    → IfSome freed (λ f. Left f.0 (zone f.1)) → LiesOf Left phase
+lies_of zone Left (Running live) (Some f) same named lies =
+    let is : f.0 ≡ live.window = cc in (zone f.1, named, subst (λ v. Left v (zone f.1)) is lies)
+lies_of zone Left (Running live) None same named lies = absurd cc
+lies_of zone Left (Waiting start) freed same named lies = tt
+lies_of zone Left (Ended launched) freed same named lies = tt
 
 -- what lies in windows that miss the one that is closed stays
 module _ (L N : Lying) (o : Option Window) (ws : List Window) (here : IfSome o (λ v. Contains ws v))
@@ -61,18 +45,14 @@ module _ (L N : Lying) (o : Option Window) (ws : List Window) (here : IfSome o (
   misses w None c a = tt
   misses w (Some v) c a = All-contains (λ u. Misses w u) ws v a c
 
-  lies_kept : (start : Result Resources OsErr) (script : Parts) (progress : Progress)
-      → IfSome (window_of progress) (λ w. IsApart w.at w.len ws) → LiesOf L start script progress
-      → LiesOf N start script progress
-  lies_kept (Ok resources) script (Running w n) c l = (l.0, l.1, k w l.0 (misses w o here c) l.2)
-  lies_kept (Ok resources) script Waiting c l = tt
-  lies_kept (Ok resources) script (Ended size n asked) c l = tt
-  lies_kept (Ok resources) script (Lost w) c l = tt
-  lies_kept (Err code) script progress c l = tt
+  lies_kept : (phase : Phase) → IfSome (window_of phase) (λ w. IsApart w.at w.len ws) → LiesOf L phase → LiesOf N phase
+  lies_kept (Waiting start) c l = tt
+  lies_kept (Running live) c l = (l.0, l.1, k live.window l.0 (misses live.window o here c) l.2)
+  lies_kept (Ended launched) c l = tt
 
   all_kept : (ps : List Place) → AllClear ws ps → AllLie L ps → AllLie N ps
   all_kept [] c l = tt
-  all_kept (p ∷ ps) c l = (lies_kept p.start p.script p.progress c.0 l.0, all_kept ps c.1 l.1)
+  all_kept (p ∷ ps) c l = (lies_kept p.phase c.0 l.0, all_kept ps c.1 l.1)
 
 -- fewer windows are out
 apart_closed : (o : Option Window) (ws : List Window) (w : Window) → IsApart w.at w.len ws
@@ -87,7 +67,7 @@ clear_one o (Some w) ws c = apart_closed o ws w c
 
 clear_all : (o : Option Window) (ws : List Window) (ps : List Place) → AllClear ws ps → AllClear (closed o ws) ps
 clear_all o ws [] c = tt
-clear_all o ws (p ∷ ps) c = (clear_one o (window_of p.progress) ws c.0, clear_all o ws ps c.1)
+clear_all o ws (p ∷ ps) c = (clear_one o (window_of p.phase) ws c.0, clear_all o ws ps c.1)
 
 -- the window that is closed meets none of the others
 clear_first : (n : ℕ) (ws : List Window) (o : Option Window) → InOrder 0 ws n → IfSome o (λ w. Contains ws w)
@@ -100,7 +80,7 @@ all_lie_end L [] p l m = (m, tt)
 all_lie_end L (q ∷ ps) p l m = (l.0, all_lie_end L ps p l.1 m)
 
 all_clear_end : (ws : List Window) (ps : List Place) (p : Place) → AllClear ws ps
-    → IfSome (window_of p.progress) (λ w. IsApart w.at w.len ws) → AllClear ws (ps ++ p ∷ [])
+    → IfSome (window_of p.phase) (λ w. IsApart w.at w.len ws) → AllClear ws (ps ++ p ∷ [])
 all_clear_end ws [] p c d = (d, tt)
 all_clear_end ws (q ∷ ps) p c d = (c.0, all_clear_end ws ps p c.1 d)
 
@@ -109,11 +89,11 @@ pub left_begins : (L : Lying) (ws : List Window) (places : List Place) → LeftS
 left_begins L ws places = ([], refl, tt, tt)
 
 one_left : (L N : Lying) (n : ℕ) (ws : List Window) (p : Place) (rest places : List Place) → InOrder 0 ws n
-    → IfSome (window_of p.progress) (λ w. Contains ws w)
-    → ((w : Window) (blocks : List Block) → IfSome (window_of p.progress) (λ v. Misses w v) → L w blocks → N w blocks)
-    → LiesAt N p → LeftSo L ws (p ∷ rest) places → LeftSo N (closed (window_of p.progress) ws) rest places
+    → IfSome (window_of p.phase) (λ w. Contains ws w)
+    → ((w : Window) (blocks : List Block) → IfSome (window_of p.phase) (λ v. Misses w v) → L w blocks → N w blocks)
+    → LiesAt N p → LeftSo L ws (p ∷ rest) places → LeftSo N (closed (window_of p.phase) ws) rest places
 one_left L N n ws p rest places order here k lies so =
-    let o = window_of p.progress in
+    let o = window_of p.phase in
     let front = so.0 in (
       front ++ p ∷ [],
       so.1 ∙ sym (append_assoc front (p ∷ []) rest),
@@ -123,8 +103,8 @@ one_left L N n ws p rest places order here k lies so =
 
 -- one more has left
 pub left_next : (L N : Lying) (n : ℕ) (ws vs : List Window) (p : Place) (ps rest places : List Place) → ps ≡ p ∷ rest
-    → vs ≡ closed (window_of p.progress) ws → InOrder 0 ws n → IfSome (window_of p.progress) (λ w. Contains ws w)
-    → ((w : Window) (blocks : List Block) → IfSome (window_of p.progress) (λ v. Misses w v) → L w blocks → N w blocks)
+    → vs ≡ closed (window_of p.phase) ws → InOrder 0 ws n → IfSome (window_of p.phase) (λ w. Contains ws w)
+    → ((w : Window) (blocks : List Block) → IfSome (window_of p.phase) (λ v. Misses w v) → L w blocks → N w blocks)
     → LiesAt N p → LeftSo L ws ps places → LeftSo N vs rest places
 left_next L N n ws vs p ps rest places is after order here k lies so =
     subst (λ us. LeftSo N us rest places) (sym after)

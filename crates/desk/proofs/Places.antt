@@ -1,12 +1,17 @@
 use Rattle.std.proofs.Common.{inl, inr, [], ◌∷◌, ◌≡◌, ℕ, ◌<◌, ◌≤◌, List, length, map, ◌⊎◌, Option, IfSome}
-use Rattle.std.proofs.Common.{zero, suc, subst, Some, None, option_map, slice_get, slice_set, slice_index_or, refl, sym}
+use Rattle.std.proofs.Common.{true, zero, suc, subst, Some, None, option_map, slice_get, slice_set, slice_index_or, refl, sym}
 use Rattle.std.proofs.Common.{◌∙◌, ap, IfOk, Result, ◌++◌, ◌+◌, take, get_or}
 use Rattle.std.proofs.lemmas.List.{map-set, map-append, map_more}
 use Rattle.std.proofs.Math.Seq.{map-set_same}
 use Rattle.std.proofs.lemmas.Option.{slice_get-map, slice_get_read, slice_get_past, get_or_from_slice_get}
 use Rattle.std.proofs.lemmas.Result.{IfOk-weaker}
 use Rattle.desk.specs.declared.act.Act.{Act}
-use Rattle.desk.specs.Progress.{Progress, Left, Coming, window_of}
+use Rattle.desk.specs.declared.phase.Phase as declared
+use Rattle.desk.specs.declared.phase.Phase.TheVariants as seen
+use Rattle.desk.specs.Phase.{Phase, Left, Coming, window_of, waits}
+use Rattle.desk.specs.View.{phase_seen, is_waiting}
+use Rattle.mac_words.specs.declared.code.OsErr.{OsErr}
+use Rattle.res_calls.specs.Files.{Resources}
 use Rattle.desk.specs.Desk.{Place, coming, place_come, places_acted, left_by}
 use Rattle.desk.specs.Held.{Fewer, holders}
 use Rattle.desk.specs.Live.{Lot}
@@ -50,13 +55,13 @@ module _ {X : Type 0} (v : X → Place) (xs : List X) (n i : ℕ) (x : X) (e : n
       (λ d l. rw seen_at (ap Some (sym l))) k)
       h
 
-  pub held_there : (y : X) → window_of (v y).progress ≡ window_of (v x).progress
+  pub held_there : (y : X) → window_of (v y).phase ≡ window_of (v x).phase
       → holders (map v (slice_set xs i y)) ≡ holders (map v xs)
   held_there y h =
       let got = get_or_from_slice_get (map v xs) i (v x) (v x) seen_at in
       ap holders (map-set v xs i y)
-      ∙ map-set_same (λ (p : Place). window_of p.progress) (map v xs) i (v y) (v x)
-      (h ∙ ap (λ (p : Place). window_of p.progress) (sym got))
+      ∙ map-set_same (λ (p : Place). window_of p.phase) (map v xs) i (v y) (v x)
+      (h ∙ ap (λ (p : Place). window_of p.phase) (sym got))
 
   -- what is known of the place is known of the element
   pub known_there : (P : Place → Type 0) → IfSome (slice_get (map v xs) i) P → P (v x)
@@ -67,8 +72,15 @@ module _ {X : Type 0} (v : X → Place) (xs : List X) (n i : ℕ) (x : X) (e : n
   begun_there y change h = rw seen_at (map-set v xs i y ∙ ap (slice_set (map v xs) i) h)
 
 -- an application has come so far
-pub come_there : (p : Place) (q : Progress) (c : Coming) → q ≡ c.progress → record p { progress = q } ≡ place_come p c
-come_there p q c h = ap (λ (q : Progress). record p { progress = q }) h
+pub come_there : (p : Place) (q : Phase) (c : Coming) → q ≡ c.phase → record p { phase = q } ≡ place_come p c
+come_there p q c h = ap (λ (q : Phase). record p { phase = q }) h
+
+-- one that waits waits
+pub waiting_seen : {S : Type 0} (start : Result Resources OsErr) (phase : declared.Phase S)
+    → waits (phase_seen start phase) ≡ true → is_waiting phase ≡ true
+waiting_seen start seen.Waiting e = refl
+waiting_seen start (seen.Running live) e = cc
+waiting_seen start (seen.Ended l) e = cc
 
 -- there is no such place
 pub none_left : {X : Type 0} (v : X → Place) (act : Act) (xs : List X) (i : ℕ) → length xs ≤ i

@@ -1,4 +1,4 @@
-use Rattle.std.specs.Prelude.{ℕ, ◌+◌, Bool, Option, Some, None, Result, Ok, Err, List, [], ◌∷◌, ◌++◌}
+use Rattle.std.specs.Prelude.{ℕ, ◌+◌, Bool, Option, Some, None, Result, Ok, Err, List, [], ◌∷◌, ◌++◌, map}
 use Rattle.std.specs.Prelude.{length, nat_lt, slice_get, slice_set, if◌then◌else◌, zero, suc}
 use Rattle.std.specs.List.{list_any}
 use Rattle.windows.specs.declared.Window.{Window}
@@ -14,18 +14,17 @@ use Rattle.res_calls.specs.Files.{Resources}
 use Rattle.desk.specs.declared.act.Act.{Act}
 use Rattle.desk.specs.declared.act.Act.TheVariants.{Step, Turn, Quit}
 use Rattle.desk.specs.Sizes.{Sizes, sizes_of}
-use Rattle.desk.specs.Progress.{Progress, Waiting, Running, Ended, Lost, Left, Coming, acted_by, runs}
+use Rattle.desk.specs.Phase.{Phase, Waiting, Running, Ended, Live, Left, Coming, begun, acted_by, runs, told_of}
+use Rattle.desk.specs.Outcome.{Told, Outcome, outcome_told}
 
 -- The desk: several applications in one memory, each in a window of its own. Inside Macintosh: Processes, chapter 1,
 -- "Partitions" and "Scheduling of Processes".
 
--- An application's place at the desk: its name; its script; the resources with which it is launched, or the result
--- code for which its fork can't be opened; and how far it has come.
+-- An application's place at the desk: its name; its script; and the application as it waits, runs or has ended.
 pub record Place : Type 0 where
   pub name : List ℕ
   pub script : Parts
-  pub start : Result Resources OsErr
-  pub progress : Progress
+  pub phase : Phase
 
 -- The memory's size, the windows in use, the applications in order, and the desk's log so far.
 pub record State : Type 0 where
@@ -38,7 +37,7 @@ pub record State : Type 0 where
 
 -- How far an application comes by an act.
 abbrev pub coming : Act → Place → Coming
-coming act p = acted_by act p.start p.script p.progress
+coming act p = acted_by act p.script p.phase
 
 -- The windows in use, without the one that an application leaves.
 abbrev pub windows_after : Option Left → List Window → List Window
@@ -51,7 +50,7 @@ end_told name None = []
 end_told name (Some left) = end_of name left.code.0
 
 abbrev pub place_come : Place → Coming → Place
-place_come p c = record p { progress = c.progress }
+place_come p c = record p { phase = c.phase }
 
 abbrev pub acted_in : Act → ℕ → Option Place → State → State
 acted_in act i None s = s
@@ -76,37 +75,36 @@ left_by act (Some p) = (coming act p).left
 
 -- A launch.
 
--- The window that is granted, or -108 (memFullErr).
-abbrev pub granted : Option Window → Result Window OsErr
-granted None = Err MEM_FULL
-granted (Some w) = Ok w
+-- The application in the window that is granted, or -108 (memFullErr).
+abbrev pub begun_in : Resources → Option Window → Result Live OsErr
+begun_in resources None = Err MEM_FULL
+begun_in resources (Some w) = Ok (begun resources w)
 
-abbrev pub granted_sizes : Sizes → State → Result Window OsErr
-granted_sizes sizes s = granted (grant s.memory s.windows sizes.preferred sizes.minimum)
+abbrev pub begun_with : Resources → Sizes → State → Result Live OsErr
+begun_with resources sizes s = begun_in resources (grant s.memory s.windows sizes.preferred sizes.minimum)
 
-abbrev pub granted_start : Result Resources OsErr → State → Result Window OsErr
-granted_start (Err code) s = Err code
-granted_start (Ok resources) s = granted_sizes (sizes_of resources) s
+abbrev pub begun_if : Result Resources OsErr → State → Result Live OsErr
+begun_if (Err code) s = Err code
+begun_if (Ok resources) s = begun_with resources (sizes_of resources) s
 
 -- The resources with which a waiting application is launched; -30001 (profileErr) for one that runs or has ended.
-abbrev pub ready : Progress → Result Resources OsErr → Result Resources OsErr
-ready Waiting start = start
-ready (Running w n) start = Err PROFILE
-ready (Ended size n asked) start = Err PROFILE
-ready (Lost w) start = Err PROFILE
+abbrev pub ready : Phase → Result Resources OsErr
+ready (Waiting start) = start
+ready (Running live) = Err PROFILE
+ready (Ended launched) = Err PROFILE
 
--- The window in which an application is launched, or the result code for which it is not: it runs or has ended
--- already, its fork can't be opened, or there is no room.
+-- The application as it is launched, or the result code for which it is not: it runs or has ended already, its fork
+-- can't be opened, or there is no room.
 -- See decision 106 (a launch is refused in a fixed order).
-abbrev pub launch_answer : Place → State → Result Window OsErr
-launch_answer p s = granted_start (ready p.progress p.start) s
+abbrev pub launch_answer : Place → State → Result Live OsErr
+launch_answer p s = begun_if (ready p.phase) s
 
-abbrev pub launched_by : Result Window OsErr → ℕ → Place → State → State
+abbrev pub launched_by : Result Live OsErr → ℕ → Place → State → State
 launched_by (Err code) i p s = record s { log = s.log ++ refusal_of p.name code.0 }
-launched_by (Ok w) i p s = record s {
-  windows = put_in w s.windows;
-  places = slice_set s.places i (record p { progress = Running w 0 });
-  log = s.log ++ launch_of p.name w.len;
+launched_by (Ok live) i p s = record s {
+  windows = put_in live.window s.windows;
+  places = slice_set s.places i (record p { phase = Running live });
+  log = s.log ++ launch_of p.name live.window.len;
 }
 
 abbrev pub launched_in : ℕ → Option Place → State → State
@@ -116,6 +114,19 @@ launched_in i (Some p) s = launched_by (launch_answer p s) i p s
 -- The desk after a launch of application `i`; a refused launch changes only the log.
 abbrev pub launched_at : ℕ → State → State
 launched_at i s = launched_in i (slice_get s.places i) s
+
+-- The size of the partition that a launch is granted, or the result code for which it is refused.
+abbrev pub size_granted : Result Live OsErr → Result ℕ OsErr
+size_granted (Err code) = Err code
+size_granted (Ok live) = Ok live.window.len
+
+-- The reply to a launch of application `i`; -30001 (profileErr) if there is no application of that number.
+abbrev pub launch_reply : Option Place → State → Result ℕ OsErr
+launch_reply None s = Err PROFILE
+launch_reply (Some p) s = size_granted (launch_answer p s)
+
+abbrev pub reply_at : ℕ → State → Result ℕ OsErr
+reply_at i s = launch_reply (slice_get s.places i) s
 
 -- Turns of all applications.
 
@@ -129,7 +140,7 @@ abbrev pub round : State → State
 round s = each_turned (length s.places) 0 s
 
 abbrev pub any_runs : State → Bool
-any_runs s = list_any (λ (p : Place). runs p.progress) s.places
+any_runs s = list_any (λ (p : Place). runs p.phase) s.places
 
 -- Rounds until no application runs, at most the given number of them.
 abbrev pub rounds : ℕ → State → State
@@ -165,3 +176,11 @@ after_event event.Rest s = rested s
 abbrev pub after_events : List Event → State → State
 after_events [] s = s
 after_events (e ∷ events) s = after_events events (after_event e s)
+
+-- What a run leaves.
+
+abbrev pub told : Place → Told
+told p = record { name = p.name; launched = told_of p.phase }
+
+abbrev pub outcome_of : State → Outcome
+outcome_of s = outcome_told s.log (map told s.places)

@@ -3,14 +3,14 @@ use Rattle.windows.specs.declared.Window.{Window}
 use Rattle.windows.specs.Windows.{put_in, taken_out}
 use Rattle.windows.specs.Counted.{one, times}
 use Rattle.block_store.specs.Rest.{Site}
-use Rattle.desk.specs.Progress.{Left, window_of}
+use Rattle.desk.specs.Phase.{Left, window_of}
 use Rattle.desk.specs.Desk.{Place}
 use Rattle.desk.specs.Live.{Lot}
 
 -- The windows that applications hold, and where zones lie.
 
 abbrev pub holders : List Place → List (Option Window)
-holders places = map (λ (p : Place). window_of p.progress) places
+holders places = map (λ (p : Place). window_of p.phase) places
 
 -- The number of times that a window is held: 1 or 0.
 abbrev pub one_of : ℕ → ℕ → Option Window → ℕ

@@ -5,7 +5,7 @@ use Rattle.res_calls.specs.Files.{File, Resources}
 use Rattle.res_calls.specs.Rows.{launched_resources}
 use Rattle.desk.specs.declared.job.App.{App}
 use Rattle.desk.specs.declared.job.AppFile.{AppFile}
-use Rattle.desk.specs.Progress.{Waiting}
+use Rattle.desk.specs.Phase.{Waiting}
 use Rattle.desk.specs.Desk.{Place, State}
 
 -- What is given for a run, as the desk begins with it.
@@ -28,8 +28,7 @@ abbrev pub place_given : Content → App → Place
 place_given system app = record {
   name = app.name.0.items;
   script = app.script;
-  start = start_of system app;
-  progress = Waiting;
+  phase = Waiting (start_of system app);
 }
 
 -- The desk before the first event: every application waits, no window is in use, and the log is empty.

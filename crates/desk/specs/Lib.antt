@@ -1,8 +1,9 @@
-pub mod Progress
+pub mod Outcome
+pub mod Phase
 pub mod Sizes
 pub mod Desk
 pub mod Job
-pub mod Outcome
+pub mod Alone
 pub mod Held
 pub mod Live
 pub mod Seated

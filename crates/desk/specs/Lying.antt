@@ -3,50 +3,41 @@ use Rattle.windows.specs.declared.Window.{Window}
 use Rattle.mac_words.specs.declared.code.OsErr.{OsErr}
 use Rattle.fork_format.specs.Content.{Content}
 use Rattle.block_store.specs.Block.{Block}
-use Rattle.script_text.specs.Script.{Parts}
 use Rattle.script_text.specs.declared.job.Event.{Event}
 use Rattle.heap_calls.specs.Stored.{IsNamed}
 use Rattle.zone_bytes.specs.Laid.{IsLaid}
-use Rattle.res_calls.specs.Files.{Resources}
-use Rattle.applications.specs.Alone.{first_steps}
 use Rattle.desk.specs.declared.job.App.{App}
 use Rattle.desk.specs.declared.job.Job.{Job}
-use Rattle.desk.specs.Progress.{Progress, Waiting, Running, Ended, Lost}
+use Rattle.desk.specs.Phase.{Phase, Waiting, Running, Ended, Live}
 use Rattle.desk.specs.Desk.{Place, after_events}
 use Rattle.desk.specs.Job.{opening}
 use Rattle.desk.specs.Whole.{system_of}
 
--- What lies in the memory when a run is over: the zone of each application that still runs, as it would be if the
--- application ran alone.
+-- What lies in the memory when a run is over: the zone of each application that still runs.
 
 -- A relation by which zones lie in windows, as a maker of zones defines it.
 abbrev pub Lying : Type 1
 Lying = Window → List Block → Type 0
 
--- The zone of an application alone, after `n` steps in a partition of `size` bytes.
-abbrev pub zone_alone : Resources → Parts → ℕ → ℕ → List Block
-zone_alone resources script size n = (first_steps resources size script n).after.memory.heap.zone
+-- The zone of an application that runs.
+abbrev pub zone_of : Live → List Block
+zone_of live = live.state.memory.heap.zone
 
--- The blocks are the zone of an application that runs, with other names; nothing is said of an application that waits,
--- has ended or is lost.
-abbrev pub IsZoneOf : Result Resources OsErr → Parts → Progress → List Block → Type 0
-IsZoneOf (Ok resources) script (Running w n) blocks = IsNamed blocks (zone_alone resources script w.len n)
-IsZoneOf (Ok resources) script Waiting blocks = Unit {0}
-IsZoneOf (Ok resources) script (Ended size n asked) blocks = Unit {0}
-IsZoneOf (Ok resources) script (Lost w) blocks = Unit {0}
-IsZoneOf (Err code) script progress blocks = Unit {0}
+-- The blocks are the zone of an application that runs, with other names; nothing is said of an application that waits
+-- or has ended.
+abbrev pub IsZoneOf : Phase → List Block → Type 0
+IsZoneOf (Waiting start) blocks = Unit {0}
+IsZoneOf (Running live) blocks = IsNamed blocks (zone_of live)
+IsZoneOf (Ended launched) blocks = Unit {0}
 
 -- In the window of an application that runs lies its zone, with other names for the blocks.
-abbrev pub LiesOf : Lying → Result Resources OsErr → Parts → Progress → Type 0
-LiesOf Left (Ok resources) script (Running w n) =
-    (blocks : List Block) × IsNamed blocks (zone_alone resources script w.len n) × Left w blocks
-LiesOf Left (Ok resources) script Waiting = Unit {0}
-LiesOf Left (Ok resources) script (Ended size n asked) = Unit {0}
-LiesOf Left (Ok resources) script (Lost w) = Unit {0}
-LiesOf Left (Err code) script progress = Unit {0}
+abbrev pub LiesOf : Lying → Phase → Type 0
+LiesOf Left (Waiting start) = Unit {0}
+LiesOf Left (Running live) = (blocks : List Block) × IsNamed blocks (zone_of live) × Left live.window blocks
+LiesOf Left (Ended launched) = Unit {0}
 
 abbrev pub LiesAt : Lying → Place → Type 0
-LiesAt Left p = LiesOf Left p.start p.script p.progress
+LiesAt Left p = LiesOf Left p.phase
 
 -- In the window of each application at a desk that runs lies its zone.
 abbrev pub AllLie : Lying → List Place → Type 0

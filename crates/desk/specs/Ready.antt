@@ -13,5 +13,11 @@ IsReady start (Ok ready) = start ≡ Ok ready.resources
 IsReady start (Err (Code code)) = start ≡ Err code
 IsReady start (Err HostMemory) = Unit {0}
 
+-- This holds, unless the host was out of memory.
+abbrev pub UnlessHostMemory : {T : Type 0} → Result T Refusal → Type 0 → Type 0
+UnlessHostMemory (Ok value) P = P
+UnlessHostMemory (Err (Code code)) P = P
+UnlessHostMemory (Err HostMemory) P = Unit {0}
+
 abbrev pub sizes_seen : PartitionSizes → Sizes
 sizes_seen sizes = record { preferred = sizes.preferred; minimum = sizes.minimum }

@@ -1,42 +1,47 @@
-use Rattle.std.specs.Prelude.{Option, Some, None, option_map, List, map}
+use Rattle.std.specs.Prelude.{Bool, true, false, Option, Some, None, option_map, Result, List, map}
+use Rattle.mac_words.specs.declared.code.OsErr.{OsErr}
 use Rattle.fork_format.specs.View.{view}
+use Rattle.res_calls.specs.Files.{Resources}
 use Rattle.desk.specs.declared.departure.Departure.{Departure}
-use Rattle.desk.specs.declared.phase.Phase.{Phase}
+use Rattle.desk.specs.declared.phase.Phase as declared_phase
 use Rattle.desk.specs.declared.phase.Phase.TheVariants as phase
 use Rattle.desk.specs.declared.outcome.AppOutcome.{AppOutcome}
 use Rattle.desk.specs.declared.outcome.Outcome as declared
-use Rattle.desk.specs.Progress.{Progress, Waiting, Running, Ended, Lost, Left}
+use Rattle.desk.specs.Phase.{Phase, Waiting, Running, Ended, Left}
 use Rattle.desk.specs.Desk.{Place, State}
 use Rattle.desk.specs.Job.{start_of}
 use Rattle.desk.specs.Outcome.{Told, Outcome}
-use Rattle.desk.specs.Live.{Lot, lot_of_live, leaves_seen}
+use Rattle.desk.specs.Live.{Lot, lot_of_live, live_seen, leaves_seen}
 use Rattle.desk.specs.Seated.{Placed}
 
 -- What the desk's fields stand for.
 
-abbrev pub progress_seen : {S : Type 0} → Phase S → Progress
-progress_seen phase.Waiting = Waiting
-progress_seen (phase.Running live) = Running live.window live.steps
-progress_seen (phase.Ended l) = Ended l.size l.steps l.asked
-progress_seen (phase.Lost live) = Lost live.window
+-- What a phase stands for, by what the application is launched with.
+abbrev pub phase_seen : {S : Type 0} → Result Resources OsErr → declared_phase.Phase S → Phase
+phase_seen start phase.Waiting = Waiting start
+phase_seen start (phase.Running live) = Running (live_seen live)
+phase_seen start (phase.Ended l) = Ended (leaves_seen l)
+
+abbrev pub is_waiting : {S : Type 0} → declared_phase.Phase S → Bool
+is_waiting phase.Waiting = true
+is_waiting (phase.Running live) = false
+is_waiting (phase.Ended l) = false
 
 abbrev pub place_seen : {S : Type 0} → Placed S → Place
 place_seen seat = record {
   name = seat.app.now.name.0.items;
   script = seat.app.now.script;
-  start = start_of (view seat.system.now) seat.app.now;
-  progress = progress_seen seat.phase;
+  phase = phase_seen (start_of (view seat.system.now) seat.app.now) seat.phase;
 }
 
 abbrev pub seen : {S : Type 0} → List (Placed S) → List Place
 seen seats = map place_seen seats
 
 -- The windows of applications, and where the stores of their zones lie.
-abbrev pub lot_of : {S : Type 0} → Phase S → Option Lot
+abbrev pub lot_of : {S : Type 0} → declared_phase.Phase S → Option Lot
 lot_of phase.Waiting = None
 lot_of (phase.Running live) = Some (lot_of_live live)
 lot_of (phase.Ended l) = None
-lot_of (phase.Lost live) = Some (lot_of_live live)
 
 abbrev pub lots : {S : Type 0} → List (Placed S) → List (Option Lot)
 lots seats = map (λ seat. lot_of seat.phase) seats

@@ -1,4 +1,4 @@
-use Rattle.std.specs.Prelude.{◌≡◌, ℕ, ◌==◌, Option, Some, None, option_map, Result, Ok, Err, List, [], ◌∷◌, map, length}
+use Rattle.std.specs.Prelude.{◌≡◌, ℕ, ◌==◌, Option, Some, None, option_map, Result, Ok, Err, List, [], ◌∷◌, length}
 use Rattle.std.specs.Prelude.{IfSome, if◌then◌else◌}
 use Rattle.mac_words.specs.declared.code.OsErr.{OsErr}
 use Rattle.mac_words.specs.declared.code.TheConstants.OsErr.{END_OF_FILE, MAP_READ}
@@ -10,17 +10,15 @@ use Rattle.script_text.specs.Script.{Parts}
 use Rattle.script_text.specs.declared.job.Event.{Event}
 use Rattle.res_calls.specs.Files.{Resources}
 use Rattle.applications.specs.Trying.{no_content}
-use Rattle.applications.specs.Step as history
-use Rattle.applications.specs.Alone.{alone, first_steps}
-use Rattle.applications.specs.Laws.{put_at_launch, EachTry}
+use Rattle.applications.specs.Alone.{alone}
 use Rattle.desk.specs.declared.job.App.{App}
 use Rattle.desk.specs.declared.job.Job.{Job}
 use Rattle.desk.specs.declared.outcome.Outcome as declared
 use Rattle.desk.specs.declared.outcome.RunFault.{RunFault}
 use Rattle.desk.specs.declared.outcome.RunFault.TheVariants.{System, HostMemory}
-use Rattle.desk.specs.Desk.{Place, after_events}
-use Rattle.desk.specs.Job.{place_given, opening}
-use Rattle.desk.specs.Outcome.{Launched, Told, Outcome, outcome_of}
+use Rattle.desk.specs.Outcome.{Launched, Told, Outcome}
+use Rattle.desk.specs.Desk.{after_events, outcome_of}
+use Rattle.desk.specs.Job.{start_of, opening}
 use Rattle.desk.specs.View.{outcome_seen}
 
 -- Whole runs.
@@ -60,19 +58,20 @@ IsRun run (Err HostMemory) = Unit {0}
 abbrev pub Law : Type 1
 Law = Resources → Parts → Launched → Type 0
 
-abbrev pub OfLaunched : Law → Place → Told → Type 0
-OfLaunched P p t = IfSome t.launched (λ l. (resources : Resources) × (p.start ≡ Ok resources) × P resources p.script l)
+abbrev pub OfLaunched : Law → Result Resources OsErr → Parts → Told → Type 0
+OfLaunched P start script t =
+    IfSome t.launched (λ l. (resources : Resources) × (start ≡ Ok resources) × P resources script l)
 
-abbrev pub OfEach : Law → List Place → List Told → Type 0
-OfEach P [] [] = Unit {0}
-OfEach P (p ∷ places) (t ∷ told) = OfLaunched P p t × OfEach P places told
-OfEach P [] (t ∷ told) = ⊥
-OfEach P (p ∷ places) [] = ⊥
+abbrev pub OfEach : Law → Content → List App → List Told → Type 0
+OfEach P system [] [] = Unit {0}
+OfEach P system (app ∷ apps) (t ∷ told) = OfLaunched P (start_of system app) app.script t × OfEach P system apps told
+OfEach P system [] (t ∷ told) = ⊥
+OfEach P system (app ∷ apps) [] = ⊥
 
 -- A law holds of each launched application of a job.
 abbrev pub OfEachApp : Law → Result Content OsErr → List App → List Told → Type 0
 OfEachApp P (Err code) apps told = ⊥
-OfEachApp P (Ok system) apps told = OfEach P (map (place_given system) apps) told
+OfEachApp P (Ok system) apps told = OfEach P system apps told
 
 abbrev pub EachLaunched : Law → Job → declared.Outcome → Type 0
 EachLaunched P job outcome = OfEachApp P (system_of job) job.apps.items (outcome_seen outcome).apps
@@ -84,10 +83,9 @@ IsAlone resources script l =
     (l.transcript ≡ (alone resources l.size script l.steps l.asked).transcript)
     × (l.files ≡ (alone resources l.size script l.steps l.asked).files)
 
--- Each try of an application's steps keeps a law.
-abbrev pub InEachTry : ((ℕ → List ℕ) → history.Event → Type 0) → Law
-InEachTry P resources script l = EachTry P (put_at_launch resources l.size)
-    (first_steps resources l.size script l.steps).events
+-- A law of the first steps of an application in a partition of some size holds of those that the application took.
+abbrev pub InItsSteps : (Resources → ℕ → Parts → ℕ → Type 0) → Law
+InItsSteps P resources script l = P resources l.size script l.steps
 
 -- The System file's content, as the code holds it; nothing is said if the host was out of memory.
 abbrev pub IsSystem : Result Content OsErr → Result Stored RunFault → Type 0

@@ -1,7 +1,7 @@
 //! The desk: several applications in one memory.
 
 ghost use Rattle.std.specs.Prelude.{◌≡◌, ℕ, ◌≤◌, ◌<◌, ◌%◌, List, [], length, map, Option, None, option_map, IsTrue};
-ghost use Rattle.std.specs.Prelude.{IfOk, OnOk, OnErr, IfErr, IfSome, vec_len, vec_capacity};
+ghost use Rattle.std.specs.Prelude.{IfOk, IsOk, OnOk, OnErr, IfErr, IfSome, vec_len, vec_capacity};
 ghost use Rattle.std.specs.List.{list_all, Contains};
 ghost use Rattle.windows.specs.declared.Window.{Window as Stretch};
 ghost use Rattle.windows.specs.declared.list.TheConstants.{MOST_WINDOWS};
@@ -14,12 +14,14 @@ ghost use Rattle.fork_format.specs.Canonical.{has_refs, are_distinct};
 ghost use Rattle.fork_format.specs.View.{view};
 ghost use Rattle.partitions.specs.Grant.{grant};
 ghost use Rattle.desk.specs.declared.act.Act.TheVariants.{Step, Turn, Quit};
-ghost use Rattle.desk.specs.Desk.{launched_at, acted_at, any_runs, longest};
+ghost use Rattle.res_calls.specs.Given.{IsReply};
+ghost use Rattle.desk.specs.Desk.{launched_at, reply_at, acted_at, any_runs, longest, told};
+ghost use Rattle.desk.specs.Ready.{UnlessHostMemory};
 ghost use Rattle.desk.specs.Free.{IsFree};
 ghost use Rattle.desk.specs.Job.{opening};
-ghost use Rattle.desk.specs.Outcome.{told};
 ghost use Rattle.desk.specs.Held.{MadeOf, opened, closed};
-ghost use Rattle.desk.specs.Live.{IsLive};
+ghost use Rattle.desk.specs.Phase.{begun};
+ghost use Rattle.desk.specs.Live.{live_seen};
 ghost use Rattle.desk.specs.Lying.{AllLie};
 ghost use Rattle.desk.specs.View.{told_seen};
 
@@ -38,7 +40,7 @@ use fork_format::Content;
 use heap_calls::Refusal;
 use mac_words::OsErr;
 use partitions::Grants;
-use script_text::{Script, write_app_end, write_app_launch, write_app_refusal};
+use script_text::{write_app_end, write_app_launch, write_app_refusal};
 use std::alloc::{AllocError, Global};
 use std::marker::Model;
 use windows::Window;
@@ -118,15 +120,34 @@ impl<'j, Z: ZoneMaker> Desk<'j, Z> {
         }
     }
 
-    /// Launches application `i`, if there is an application of that number; the log says that the application was
-    /// launched, or why it was not.
+    /// Launches application `i`, and returns the size of the partition that it was granted; the log says that the
+    /// application was launched, or why it was not.
     ///
     /// *Inside Macintosh: Processes*, chapter 2, "Launching Applications".
     ///
     /// # Errors
     ///
-    /// The host is out of memory: after this the desk can only be finished.
-    pub fn launch(&mut self, i: usize) -> Result<(), AllocError>
+    /// The launch is refused: -30001 (profileErr) if the application runs or has ended already, or if there is no
+    /// application of that number; -39 (eofErr) or -199 (mapReadErr) if its fork can't be opened; -108 (memFullErr) if
+    /// there is no room. Or the host is out of memory: after this the desk can only be finished.
+    pub fn launch(&mut self, i: usize) -> Result<u32, Refusal>
+        ensures answer { IsReply (reply_at i self.old.state) result }
+        ensures state { UnlessHostMemory result (self.new.state ≡ launched_at i self.old.state) }
+        ensures memory { self.new.state.memory ≡ self.old.state.memory }
+        ensures kept { (w : Stretch) (site : Site) → Z.made self.old.zones w site → Z.made self.new.zones w site }
+        ensures outside { UnlessHostMemory result ((place : ℕ) → IsFree place self.new.state
+            → Z.byte self.new.zones place ≡ Z.byte self.old.zones place) }
+    {
+        match self.try_launch(i) {
+            Ok(Ok(size)) => Ok(size),
+            Ok(Err(code)) => Err(Refusal::Code(code)),
+            Err(_) => Err(Refusal::HostMemory),
+        }
+    }
+
+    /// Launches application `i`. Returns the size of its partition, or the result code for which the launch is refused.
+    pub(crate) fn try_launch(&mut self, i: usize) -> Result<Result<u32, OsErr>, AllocError>
+        ensures answer { IfOk result (λ reply. reply ≡ reply_at i self.old.state) }
         ensures ok { OnOk result (self.new.state ≡ launched_at i self.old.state) }
         ensures memory { self.new.state.memory ≡ self.old.state.memory }
         ensures kept { (w : Stretch) (site : Site) → Z.made self.old.zones w site → Z.made self.new.zones w site }
@@ -134,29 +155,26 @@ impl<'j, Z: ZoneMaker> Desk<'j, Z> {
             → Z.byte self.new.zones place ≡ Z.byte self.old.zones place) }
     {
         let Some(seat) = self.seats.get(i) else {
-            return Ok(());
+            return Ok(Err(OsErr::PROFILE));
         };
         let app = seat.app;
         let ready = match prepared(self.alloc, seat) {
             Ok(ready) => ready,
             Err(Refusal::Code(code)) => {
-                return write_app_refusal(&mut self.log, &app.name, code);
+                return once_written(write_app_refusal(&mut self.log, &app.name, code), Err(code));
             }
             Err(Refusal::HostMemory) => return Err(AllocError),
         };
-        let begun = begin(
-            self.alloc,
-            &mut self.zones,
-            &mut self.grants,
-            ready,
-            &app.script,
-        )?;
+        let begun = begin(self.alloc, &mut self.zones, &mut self.grants, ready)?;
         let Some(live) = begun else {
-            return write_app_refusal(&mut self.log, &app.name, OsErr::MEM_FULL);
+            return once_written(
+                write_app_refusal(&mut self.log, &app.name, OsErr::MEM_FULL),
+                Err(OsErr::MEM_FULL),
+            );
         };
         let size = live.window.len;
         seats::start_at(&mut self.seats, i, live);
-        write_app_launch(&mut self.log, &app.name, size)
+        once_written(write_app_launch(&mut self.log, &app.name, size), Ok(size))
     }
 
     /// Takes the next step of application `i`, if there is an application of that number and it runs: its next call,
@@ -255,8 +273,7 @@ impl<'j, Z: ZoneMaker> Desk<'j, Z> {
     }
 
     /// Returns what the applications leave, in order; the desk's log; and the maker of zones, with no zone open. In
-    /// the window of each application that still ran lies its zone, as it would be if the application ran alone. Takes
-    /// no host memory.
+    /// the window of each application that still ran lies its zone. Takes no host memory.
     pub fn finish(self) -> (Vec<AppOutcome>, Vec<u8>, Z)
         ensures apps { map told_seen result.0.items ≡ map told self.entry.state.places }
         ensures log { result.1.items ≡ self.entry.state.log }
@@ -283,6 +300,20 @@ impl<'j, Z: ZoneMaker> Desk<'j, Z> {
         }
         seats.destroy_empty();
         (outcome, log, zones)
+    }
+}
+
+/// Returns the reply to a launch, once its line is written.
+fn once_written(
+    written: Result<(), AllocError>,
+    reply: Result<u32, OsErr>,
+) -> Result<Result<u32, OsErr>, AllocError>
+    ensures reply { IfOk result (λ told. told ≡ reply) }
+    ensures written { OnOk result (IsOk written) }
+{
+    match written {
+        Ok(()) => Ok(reply),
+        Err(fault) => Err(fault),
     }
 }
 
@@ -378,7 +409,6 @@ fn begin<'j, Z: ZoneMaker>(
     zones: &mut Z,
     grants: &mut Grants,
     ready: Ready,
-    script: &'j Script,
 ) -> Result<Option<Live<'j, Z::Store>>, AllocError>
     requires same { Z.windows zones.old ≡ grants.old.windows }
     requires memory { Z.memory zones.old ≡ grants.old.memory }
@@ -386,9 +416,7 @@ fn begin<'j, Z: ZoneMaker>(
     ensures answer { IfOk result (λ o. option_map (λ l. l.window) o
         ≡ grant grants.old.memory grants.old.windows ready.sizes.preferred ready.sizes.minimum) }
     ensures windows { IfOk result (λ o. grants.new.windows ≡ opened (option_map (λ l. l.window) o) grants.old.windows) }
-    ensures live { IfOk result (λ o. IfSome o (λ l. IsLive ready.resources l)) }
-    ensures steps { IfOk result (λ o. IfSome o (λ l. l.steps ≡ 0)) }
-    ensures script { IfOk result (λ o. IfSome o (λ l. l.script.now ≡ script.now)) }
+    ensures live { IfOk result (λ o. IfSome o (λ l. live_seen l ≡ begun ready.resources l.window)) }
     ensures made { IfOk result (λ o. IfSome o (λ l. Z.made zones.new l.window l.application.memory.window)) }
     ensures err { OnErr result (grants.new.windows ≡ grants.old.windows) }
     ensures size { grants.new.memory ≡ grants.old.memory }
@@ -402,7 +430,7 @@ fn begin<'j, Z: ZoneMaker>(
     let Some((window, store)) = open_zone(zones, grants, sizes)? else {
         return Ok(None);
     };
-    match Live::begin(alloc, window, store, resources, script) {
+    match Live::begin(alloc, window, store, resources) {
         Ok(live) => Ok(Some(live)),
         Err(store) => {
             give_back(zones, grants, window, store);

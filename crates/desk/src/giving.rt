@@ -37,7 +37,6 @@ pub fn give_in_region<W: Watch>(
     ensures home { result.1.out ≡ [] }
     ensures same { result.1.home ≡ region.home }
     ensures length { length result.1.bytes ≡ length region.bytes }
-    ensures silent { W.printed watch.new ≡ W.printed watch.old }
 {
     let mut region = region;
     let len = region.len();

@@ -3,14 +3,15 @@
 ghost use Rattle.std.specs.Prelude.{◌≡◌, ◌≤◌, ◌%◌, ℕ, [], length, slice_get, IfOk};
 ghost use Rattle.block_store.specs.declared.measures.TheConstants.{GREATEST_ZONE};
 ghost use Rattle.zone_bytes.specs.Laid.{LiesThere};
-ghost use Rattle.applications.specs.Laws.{ShowsPut, HoldsPut, KeepsLocked, KeepsFixed, EmptiesPurgeable};
+ghost use Rattle.applications.specs.Promises.{KeepsPromises};
 ghost use Rattle.desk.specs.Free.{IsNeverGranted};
 ghost use Rattle.desk.specs.Lying.{LieAtEnd};
-ghost use Rattle.desk.specs.Whole.{run_of, IsRun, EachLaunched, IsAlone, InEachTry};
+ghost use Rattle.desk.specs.Whole.{run_of, IsRun, EachLaunched, IsAlone, InItsSteps};
 
 use crate::job::Job;
 use crate::outcome::{Outcome, RunFault};
 use crate::whole::run_with;
+use applications::Watch;
 use raw_region::Region;
 use raw_zone::RegionZones;
 use std::alloc::Global;
@@ -23,7 +24,12 @@ use std::alloc::Global;
 /// The System file's fork can't be read, or the host is out of memory.
 ///
 /// *Inside Macintosh: Processes*, chapter 1.
-pub fn run(alloc: Global, region: Region, job: &Job) -> (Result<Outcome, RunFault>, Region)
+pub fn run<W: Watch>(
+    alloc: Global,
+    region: Region,
+    job: &Job,
+    watch: &mut W,
+) -> (Result<Outcome, RunFault>, Region)
     requires home { region.out ≡ [] }
     requires memory { length region.bytes ≡ job.now.memory }
     requires multiple { job.now.memory % 16 ≡ 0 }
@@ -40,13 +46,9 @@ pub fn run(alloc: Global, region: Region, job: &Job) -> (Result<Outcome, RunFaul
     // was neither emptied nor disposed of shows the bytes last put there, wherever its block has moved; and no locked
     // block moves or is purged.
     ensures alone { IfOk result.0 (λ o. EachLaunched IsAlone job.now o) }
-    ensures shown { IfOk result.0 (λ o. EachLaunched (InEachTry ShowsPut) job.now o) }
-    ensures held { IfOk result.0 (λ o. EachLaunched (InEachTry HoldsPut) job.now o) }
-    ensures locked { IfOk result.0 (λ o. EachLaunched (InEachTry KeepsLocked) job.now o) }
-    ensures fixed { IfOk result.0 (λ o. EachLaunched (InEachTry KeepsFixed) job.now o) }
-    ensures purged { IfOk result.0 (λ o. EachLaunched (InEachTry EmptiesPurgeable) job.now o) }
+    ensures laws { IfOk result.0 (λ o. EachLaunched (InItsSteps KeepsPromises) job.now o) }
 
-    // In the window of each application that still runs lies its zone, as it would be if the application ran alone.
+    // In the window of each application that still runs lies its zone.
     ensures lies { IfOk result.0 (λ o. LieAtEnd (λ w blocks. LiesThere result.1.bytes w blocks) job.now) }
 
     // Each byte that was in no partition at any time keeps its value.
@@ -58,6 +60,6 @@ pub fn run(alloc: Global, region: Region, job: &Job) -> (Result<Outcome, RunFaul
     ensures home { result.1.out ≡ [] }
     ensures length { length result.1.bytes ≡ length region.bytes }
 {
-    let (outcome, zones) = run_with(alloc, job, RegionZones::new(region));
+    let (outcome, zones) = run_with(alloc, job, RegionZones::new(region), watch);
     (outcome, zones.into_region())
 }

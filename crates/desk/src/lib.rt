@@ -23,14 +23,16 @@ mod system;
 mod turns;
 mod whole;
 
+pub use applications::{Application, Unwatched, Watch};
 pub use desk::Desk;
 pub use giving::give_in_region;
 pub use in_region::run;
 pub use job::{App, AppFile, Job};
 pub use laws::{
-    a_step_at_the_desk_is_the_applications_own, no_application_runs_after_a_rest,
-    other_applications_stay_as_they_are, what_an_application_leaves_is_its_own,
+    no_application_runs_after_a_rest, other_applications_stay_as_they_are,
+    the_desk_seen_from_one_application_is_that_application_alone,
+    what_an_application_leaves_is_its_own,
 };
 pub use outcome::{AppOutcome, Launched, Outcome, RunFault};
-pub use script::{run_script, run_script_watched};
-pub use whole::{run_watched, run_with};
+pub use script::run_script;
+pub use whole::run_with;

@@ -1,17 +1,15 @@
-//! How far an application has come.
+//! An application as it waits, runs or has ended.
 
 use crate::live::Live;
 use crate::outcome::Launched;
 use block_store::BlockStore;
 
-/// How far an application has come.
+/// An application waits, runs or has ended.
 pub enum Phase<'j, S: BlockStore> {
     /// The application waits for its launch.
     Waiting,
     /// The application runs.
     Running(Live<'j, S>),
-    /// The application has ended.
+    /// The application has ended, and this is what it left.
     Ended(Launched),
-    /// The host was out of memory for an act of the application: its zone can only be closed.
-    Lost(Live<'j, S>),
 }

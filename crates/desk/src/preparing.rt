@@ -11,7 +11,7 @@ ghost use Rattle.desk.specs.Desk.{ready};
 ghost use Rattle.desk.specs.Job.{file_given, files_given, start_of};
 ghost use Rattle.desk.specs.Sizes.{sizes_of};
 ghost use Rattle.desk.specs.Ready.{IsReady, sizes_seen};
-ghost use Rattle.desk.specs.View.{progress_seen};
+ghost use Rattle.desk.specs.View.{place_seen};
 
 use crate::job::{App, AppFile};
 use crate::phase::Phase;
@@ -94,13 +94,12 @@ fn launched_with(alloc: Global, app: &App, system: &Content<'_>) -> Result<Ready
 /// Returns what a waiting application is launched with. Refuses with -30001 (profileErr) if the application runs or
 /// has ended, and with the result code of its fork if the fork can't be opened.
 pub(crate) fn prepared<S: BlockStore>(alloc: Global, seat: &Seat<'_, S>) -> Result<Ready, Refusal>
-    ensures answer { IsReady (ready (progress_seen seat.now.phase) (start_of (view seat.now.system.now) seat.now.app.now)) result }
+    ensures answer { IsReady (ready (place_seen seat.now).phase) result }
     ensures sizes { IfOk result (λ r. sizes_seen r.sizes ≡ sizes_of r.resources) }
 {
     match seat.phase {
         Phase::Waiting => launched_with(alloc, seat.app, seat.system),
         Phase::Running(_) => Err(Refusal::Code(OsErr::PROFILE)),
         Phase::Ended(_) => Err(Refusal::Code(OsErr::PROFILE)),
-        Phase::Lost(_) => Err(Refusal::Code(OsErr::PROFILE)),
     }
 }

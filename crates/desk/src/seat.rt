@@ -6,8 +6,8 @@ use block_store::BlockStore;
 use fork_format::Content;
 use std::marker::Model;
 
-/// An application's place at the desk: what was given for the application, the System file's content, and how far the
-/// application has come.
+/// An application's place at the desk: what was given for the application, the System file's content, and the
+/// application as it waits, runs or has ended.
 pub struct Seat<'j, S: BlockStore> {
     pub(crate) system: &'j Content<'j>,
     pub(crate) app: &'j App,
@@ -15,11 +15,11 @@ pub struct Seat<'j, S: BlockStore> {
 }
 
 impl<'j, S: BlockStore> Model for Seat<'j, S> {
-    ghost use Rattle.desk.specs.Seated.{Placed, IsSeatedAt, IsSound};
+    ghost use Rattle.desk.specs.Seated.{Placed, IsSound};
 
     ghost Value = { Placed S };
 
     ghost view = { λ s. record { system = s.system; app = s.app; phase = s.phase } };
 
-    ghost invariant = { λ s. IsSeatedAt s.system s.app s.phase × IsSound s.system };
+    ghost invariant = { λ s. IsSound s.system };
 }

@@ -1,19 +1,17 @@
 //! What happens at one place of the desk.
 
-ghost use Rattle.std.specs.Prelude.{◌≡◌, ◌⊎◌, Some, None, option_map, Result, IfOk, OnOk, OnErr, IfSome};
+ghost use Rattle.std.specs.Prelude.{◌≡◌, ◌⊎◌, true, Some, None, option_map, Result, IfOk, OnOk, OnErr, IfSome};
 ghost use Rattle.mac_words.specs.declared.code.OsErr.{OsErr as Code};
-ghost use Rattle.script_text.specs.Script.{Parts};
 ghost use Rattle.res_calls.specs.Files.{Resources as Opened};
-ghost use Rattle.desk.specs.Progress.{Waiting, Running, acted_by, window_of, is_quit, runs};
+ghost use Rattle.desk.specs.Phase.{Running, acted, come_by, acted_by, window_of, is_quit, runs, told_of};
 ghost use Rattle.desk.specs.Desk.{coming, place_come};
-ghost use Rattle.desk.specs.Outcome.{told_of};
-ghost use Rattle.desk.specs.Live.{lot_of_live, leaves_seen};
+ghost use Rattle.desk.specs.Live.{live_seen, lot_of_live, leaves_seen};
 ghost use Rattle.desk.specs.Lying.{IsZoneOf};
-ghost use Rattle.desk.specs.Seated.{IsSeated, RunsWith};
-ghost use Rattle.desk.specs.View.{place_seen, progress_seen, lot_of, left_of};
+ghost use Rattle.desk.specs.View.{place_seen, phase_seen, is_waiting, lot_of, left_of};
 
 use crate::act::Act;
 use crate::departure::Departure;
+use crate::job::App;
 use crate::live::Live;
 use crate::outcome::Launched;
 use crate::phase::Phase;
@@ -39,67 +37,64 @@ pub(crate) fn act<'j, S: BlockStore>(
     ensures name { IfOk result (λ d. IfSome d (λ d. d.name.now.0.items ≡ (place_seen seat.old).name)) }
     ensures lot { IfOk result (λ d. IfSome d (λ d. lot_of seat.old.phase ≡ Some (d.window, (S.rest d.store).window))) }
     ensures fewer { (lot_of seat.new.phase ≡ None) ⊎ (lot_of seat.new.phase ≡ lot_of seat.old.phase) }
-    ensures held { OnErr result (window_of (place_seen seat.new).progress ≡ window_of (place_seen seat.old).progress) }
+    ensures held { OnErr result (window_of (place_seen seat.new).phase ≡ window_of (place_seen seat.old).phase) }
 {
     let app = seat.app;
-    replace_with(&mut seat.phase, (&app.name, act), advance)
+    replace_with(&mut seat.phase, (app, act), advance)
 }
 
-/// Returns how far an application has come after an act, and what it gives back if it ends.
+/// Returns the phase of an application after an act, and what the application gives back if it ends.
 fn advance<'j, S: BlockStore>(
     phase: Phase<'j, S>,
-    told: (&'j Label, Act),
+    what: (&'j App, Act),
 ) -> (Phase<'j, S>, Result<Option<Departure<'j, S>>, AllocError>)
-    ensures progress { (start : Result Opened Code) (script : Parts) → IsSeated start script phase.entry → OnOk result.1
-        (progress_seen result.0 ≡ (acted_by told.entry.1 start script (progress_seen phase.entry)).progress) }
-    ensures left { (start : Result Opened Code) (script : Parts) → IsSeated start script phase.entry → IfOk result.1
-        (λ d. option_map left_of d ≡ (acted_by told.entry.1 start script (progress_seen phase.entry)).left) }
-    ensures seated { (start : Result Opened Code) (script : Parts) → IsSeated start script phase.entry
-        → IsSeated start script result.0 }
-    ensures name { IfOk result.1 (λ d. IfSome d (λ d. d.name.now ≡ told.entry.0.now)) }
+    ensures after { (start : Result Opened Code) → OnOk result.1 (phase_seen start result.0
+        ≡ (acted_by what.entry.1 what.entry.0.now.script (phase_seen start phase.entry)).phase) }
+    ensures left { (start : Result Opened Code) → IfOk result.1 (λ d. option_map left_of d
+        ≡ (acted_by what.entry.1 what.entry.0.now.script (phase_seen start phase.entry)).left) }
+    ensures name { IfOk result.1 (λ d. IfSome d (λ d. d.name.now ≡ what.entry.0.now.name)) }
     ensures lot { IfOk result.1 (λ d. IfSome d (λ d. lot_of phase.entry ≡ Some (d.window, (S.rest d.store).window))) }
     ensures fewer { (lot_of result.0 ≡ None) ⊎ (lot_of result.0 ≡ lot_of phase.entry) }
-    ensures held { OnErr result.1 (window_of (progress_seen result.0) ≡ window_of (progress_seen phase.entry)) }
+    ensures held { (start : Result Opened Code) → OnErr result.1
+        (window_of (phase_seen start result.0) ≡ window_of (phase_seen start phase.entry)) }
 {
     match phase {
-        Phase::Running(live) => go_on(live, told.0, told.1),
+        Phase::Running(live) => go_on(live, what.0, what.1),
         Phase::Waiting => (Phase::Waiting, Ok(None)),
         Phase::Ended(launched) => (Phase::Ended(launched), Ok(None)),
-        Phase::Lost(live) => (Phase::Lost(live), Ok(None)),
     }
 }
 
-/// Performs an act of an application that runs. Returns how far it has come, and what it gives back if it ends.
+/// Performs an act of an application that runs. Returns its phase, and what it gives back if it ends.
 fn go_on<'j, S: BlockStore>(
     live: Live<'j, S>,
-    name: &'j Label,
+    app: &'j App,
     act: Act,
 ) -> (Phase<'j, S>, Result<Option<Departure<'j, S>>, AllocError>)
-    ensures progress { (start : Result Opened Code) (script : Parts) → RunsWith start script live.entry → OnOk result.1
-        (progress_seen result.0 ≡ (acted_by act start script (Running live.entry.window live.entry.steps)).progress) }
-    ensures left { (start : Result Opened Code) (script : Parts) → RunsWith start script live.entry → IfOk result.1
-        (λ d. option_map left_of d ≡ (acted_by act start script (Running live.entry.window live.entry.steps)).left) }
-    ensures seated { (start : Result Opened Code) (script : Parts) → RunsWith start script live.entry
-        → IsSeated start script result.0 }
-    ensures name { IfOk result.1 (λ d. IfSome d (λ d. d.name.now ≡ name.now)) }
+    ensures after { (start : Result Opened Code) → OnOk result.1
+        (phase_seen start result.0 ≡ (come_by (acted act app.now.script (live_seen live.entry))).phase) }
+    ensures left { IfOk result.1
+        (λ d. option_map left_of d ≡ (come_by (acted act app.now.script (live_seen live.entry))).left) }
+    ensures name { IfOk result.1 (λ d. IfSome d (λ d. d.name.now ≡ app.now.name)) }
     ensures lot { IfOk result.1 (λ d. IfSome d (λ d. lot_of_live live.entry ≡ (d.window, (S.rest d.store).window))) }
     ensures fewer { (lot_of result.0 ≡ None) ⊎ (lot_of result.0 ≡ Some (lot_of_live live.entry)) }
-    ensures held { OnErr result.1 (window_of (progress_seen result.0) ≡ Some live.entry.window) }
+    ensures held { (start : Result Opened Code) → OnErr result.1
+        (window_of (phase_seen start result.0) ≡ Some live.entry.window) }
 {
     let mut live = live;
-    match live.act(act) {
+    match live.act(&app.script, act) {
         Ok(None) => (Phase::Running(live), Ok(None)),
         Ok(Some(code)) => {
             let (launched, window, store) = live.leave(is_asked(act));
             let departure = Departure {
-                name,
+                name: &app.name,
                 window,
                 code,
                 store,
             };
             (Phase::Ended(launched), Ok(Some(departure)))
         }
-        Err(e) => (Phase::Lost(live), Err(e)),
+        Err(e) => (Phase::Running(live), Err(e)),
     }
 }
 
@@ -115,21 +110,17 @@ fn is_asked(act: Act) -> bool
 
 /// Makes the waiting application of a place run.
 pub(crate) fn start<'j, S: BlockStore>(seat: &mut Seat<'j, S>, live: Live<'j, S>)
-    requires waits { (place_seen seat.old).progress ≡ Waiting }
-    requires live { RunsWith (place_seen seat.old).start (place_seen seat.old).script live }
-    ensures place { place_seen seat.new
-        ≡ record (place_seen seat.old) { progress = Running live.entry.window live.entry.steps } }
+    requires waits { is_waiting seat.old.phase ≡ true }
+    ensures place { place_seen seat.new ≡ record (place_seen seat.old) { phase = Running (live_seen live.entry) } }
     ensures lot { lot_of seat.new.phase ≡ Some (lot_of_live live.entry) }
 {
     replace_with(&mut seat.phase, live, occupy);
 }
 
 fn occupy<'j, S: BlockStore>(phase: Phase<'j, S>, live: Live<'j, S>) -> (Phase<'j, S>, ())
-    requires waits { progress_seen phase ≡ Waiting }
-    ensures progress { progress_seen result.0 ≡ Running live.entry.window live.entry.steps }
+    requires waits { is_waiting phase ≡ true }
+    ensures after { (start : Result Opened Code) → phase_seen start result.0 ≡ Running (live_seen live.entry) }
     ensures lot { lot_of result.0 ≡ Some (lot_of_live live.entry) }
-    ensures seated { (start : Result Opened Code) (script : Parts) → RunsWith start script live.entry
-        → IsSeated start script result.0 }
 {
     match phase {
         Phase::Waiting => (Phase::Running(live), ()),
@@ -139,7 +130,7 @@ fn occupy<'j, S: BlockStore>(phase: Phase<'j, S>, live: Live<'j, S>) -> (Phase<'
 
 /// Reports whether the application of a place runs.
 pub(crate) fn is_running<S: BlockStore>(seat: &Seat<'_, S>) -> bool
-    ensures { result ≡ runs (progress_seen seat.now.phase) }
+    ensures { result ≡ runs (place_seen seat.now).phase }
 {
     matches!(seat.phase, Phase::Running(_))
 }
@@ -149,12 +140,12 @@ pub(crate) fn is_running<S: BlockStore>(seat: &Seat<'_, S>) -> bool
 pub(crate) fn part<'j, S: BlockStore>(
     phase: Phase<'j, S>,
 ) -> (Option<Launched>, Option<(Window, S)>)
-    ensures told { (start : Result Opened Code) (script : Parts) → IsSeated start script phase.entry
-        → option_map leaves_seen result.0 ≡ told_of start script (progress_seen phase.entry) }
-    ensures window { option_map (λ f. f.0) result.1 ≡ window_of (progress_seen phase.entry) }
+    ensures told { (start : Result Opened Code) → option_map leaves_seen result.0 ≡ told_of (phase_seen start phase.entry) }
+    ensures window { (start : Result Opened Code)
+        → option_map (λ f. f.0) result.1 ≡ window_of (phase_seen start phase.entry) }
     ensures lot { option_map (λ f. (f.0, (S.rest f.1).window)) result.1 ≡ lot_of phase.entry }
-    ensures zone { (start : Result Opened Code) (script : Parts) → IsSeated start script phase.entry
-        → IfSome result.1 (λ f. IsZoneOf start script (progress_seen phase.entry) (S.zone f.1)) }
+    ensures zone { (start : Result Opened Code)
+        → IfSome result.1 (λ f. IsZoneOf (phase_seen start phase.entry) (S.zone f.1)) }
 {
     match phase {
         Phase::Waiting => (None, None),
@@ -163,10 +154,6 @@ pub(crate) fn part<'j, S: BlockStore>(
             (Some(launched), Some((window, store)))
         }
         Phase::Ended(launched) => (Some(launched), None),
-        Phase::Lost(live) => {
-            let (_, window, store) = live.leave(false);
-            (None, Some((window, store)))
-        }
     }
 }
 

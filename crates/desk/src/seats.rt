@@ -1,20 +1,18 @@
 //! The places of the desk.
 
 ghost use Rattle.std.specs.Prelude.{◌≡◌, ◌<◌, length, map, Some, None, option_map, IfOk, OnOk, OnErr, IfSome};
-ghost use Rattle.std.specs.Prelude.{slice_get, slice_set, vec_len, IsTrue};
+ghost use Rattle.std.specs.Prelude.{slice_get, slice_set, vec_len, true, IsTrue};
 ghost use Rattle.std.specs.List.{list_all, list_any};
 ghost use Rattle.fork_format.specs.Content.{Group as GroupValue};
 ghost use Rattle.fork_format.specs.Canonical.{has_refs, are_distinct};
 ghost use Rattle.fork_format.specs.View.{view};
-ghost use Rattle.desk.specs.Progress.{Waiting, Running, window_of, runs};
-ghost use Rattle.desk.specs.Desk.{Place, places_acted, left_by};
+ghost use Rattle.desk.specs.Phase.{Running, window_of, runs, waits};
+ghost use Rattle.desk.specs.Desk.{Place, places_acted, left_by, told};
 ghost use Rattle.desk.specs.Job.{place_given};
-ghost use Rattle.desk.specs.Outcome.{told};
 ghost use Rattle.desk.specs.Held.{Fewer, holders};
-ghost use Rattle.desk.specs.Live.{lot_of_live};
+ghost use Rattle.desk.specs.Live.{lot_of_live, live_seen};
 ghost use Rattle.desk.specs.Lying.{IsZoneOf};
-ghost use Rattle.desk.specs.Seated.{RunsWith};
-ghost use Rattle.desk.specs.View.{place_seen, progress_seen, seen, lot_of, lots, left_of, told_seen};
+ghost use Rattle.desk.specs.View.{place_seen, seen, lot_of, lots, left_of, told_seen};
 
 use crate::act::Act;
 use crate::departure::Departure;
@@ -87,11 +85,10 @@ pub(crate) fn act_at<'j, S: BlockStore>(
 
 /// Makes the waiting application `i` run.
 pub(crate) fn start_at<'j, S: BlockStore>(seats: &mut Vec<Seat<'j, S>>, i: usize, live: Live<'j, S>)
-    requires waits { IfSome (slice_get (seen seats.old.items) i) (λ p. p.progress ≡ Waiting) }
-    requires live { IfSome (slice_get (seen seats.old.items) i) (λ p. RunsWith p.start p.script live) }
+    requires waits { IfSome (slice_get (seen seats.old.items) i) (λ p. waits p.phase ≡ true) }
     requires there { i < vec_len seats.old }
     ensures places { IfSome (slice_get (seen seats.old.items) i) (λ p. seen seats.new.items
-        ≡ slice_set (seen seats.old.items) i (record p { progress = Running live.entry.window live.entry.steps })) }
+        ≡ slice_set (seen seats.old.items) i (record p { phase = Running (live_seen live.entry) })) }
     ensures lots { lots seats.new.items ≡ slice_set (lots seats.old.items) i (Some (lot_of_live live.entry)) }
     ensures len { vec_len seats.new ≡ vec_len seats.old }
 {
@@ -101,10 +98,9 @@ pub(crate) fn start_at<'j, S: BlockStore>(seats: &mut Vec<Seat<'j, S>>, i: usize
 /// Returns what an application leaves, and its window and the store of its zone, if the zone is open.
 pub(crate) fn leave<'j, S: BlockStore>(seat: Seat<'j, S>) -> (AppOutcome, Option<(Window, S)>)
     ensures told { told_seen result.0 ≡ told (place_seen seat.entry) }
-    ensures window { option_map (λ f. f.0) result.1 ≡ window_of (progress_seen seat.entry.phase) }
+    ensures window { option_map (λ f. f.0) result.1 ≡ window_of (place_seen seat.entry).phase }
     ensures lot { option_map (λ f. (f.0, (S.rest f.1).window)) result.1 ≡ lot_of seat.entry.phase }
-    ensures zone { IfSome result.1 (λ f. IsZoneOf (place_seen seat.entry).start (place_seen seat.entry).script
-        (place_seen seat.entry).progress (S.zone f.1)) }
+    ensures zone { IfSome result.1 (λ f. IsZoneOf (place_seen seat.entry).phase (S.zone f.1)) }
 {
     let Seat {
         system: _,
@@ -118,7 +114,7 @@ pub(crate) fn leave<'j, S: BlockStore>(seat: Seat<'j, S>) -> (AppOutcome, Option
 
 /// Reports whether any application runs.
 pub(crate) fn any_runs<S: BlockStore>(seats: &[Seat<'_, S>]) -> bool
-    ensures { result ≡ list_any (λ (p : Place). runs p.progress) (seen seats.now) }
+    ensures { result ≡ list_any (λ (p : Place). runs p.phase) (seen seats.now) }
 {
     for seat in seats {
         if seating::is_running(seat) {

@@ -91,7 +91,10 @@ impl<'j, Z: ZoneMaker> Desk<'j, Z> {
             → Z.byte self.new.zones place ≡ Z.byte self.old.zones place) }
     {
         match event {
-            Event::Launch(i) => self.launch(i),
+            Event::Launch(i) => {
+                let _reply = self.try_launch(i)?;
+                Ok(())
+            }
             Event::Step(i) => self.step(i),
             Event::Turn(i) => self.turn(i),
             Event::Quit(i) => self.quit(i),
@@ -113,7 +116,6 @@ pub(crate) fn serve_all<Z: ZoneMaker, W: Watch>(
     ensures kept { (w : Stretch) (site : Site) → Z.made desk.old.zones w site → Z.made desk.new.zones w site }
     ensures outside { OnOk result ((place : ℕ) → StaysFree place events.now desk.old.state
         → Z.byte desk.new.zones place ≡ Z.byte desk.old.zones place) }
-    ensures silent { W.printed watch.new ≡ W.printed watch.old }
 {
     for (index, event) in events.iter().enumerate() {
         desk.serve(*event)?;

@@ -7,14 +7,13 @@ ghost use Rattle.block_store.specs.Rest.{Site};
 ghost use Rattle.fork_format.specs.Content.{Group as GroupValue};
 ghost use Rattle.fork_format.specs.Canonical.{has_refs, are_distinct};
 ghost use Rattle.fork_format.specs.View.{view};
-ghost use Rattle.applications.specs.Laws.{ShowsPut, HoldsPut, KeepsLocked, KeepsFixed, EmptiesPurgeable};
-ghost use Rattle.desk.specs.Desk.{after_events};
+ghost use Rattle.applications.specs.Promises.{KeepsPromises};
+ghost use Rattle.desk.specs.Desk.{after_events, outcome_of};
 ghost use Rattle.desk.specs.Job.{opening};
-ghost use Rattle.desk.specs.Outcome.{outcome_of};
 ghost use Rattle.desk.specs.Free.{StaysFree, IsNeverGranted};
 ghost use Rattle.desk.specs.Lying.{AllLie, LieAtEnd};
 ghost use Rattle.desk.specs.View.{outcome_seen};
-ghost use Rattle.desk.specs.Whole.{run_of, IsRun, EachLaunched, IsAlone, InEachTry};
+ghost use Rattle.desk.specs.Whole.{run_of, IsRun, EachLaunched, IsAlone, InItsSteps};
 
 use crate::desk::Desk;
 use crate::forks::write_forks;
@@ -22,7 +21,7 @@ use crate::job::Job;
 use crate::outcome::{Outcome, RunFault};
 use crate::system::read_system;
 use crate::turns::serve_all;
-use applications::{Unwatched, Watch};
+use applications::Watch;
 use block_store::ZoneMaker;
 use fork_format::Content;
 use std::alloc::{AllocError, Global};
@@ -42,7 +41,6 @@ fn run_events<Z: ZoneMaker, W: Watch>(
     ensures kept { (w : Window) (site : Site) → Z.made desk.entry.zones w site → Z.made result.1 w site }
     ensures outside { IfOk result.0 (λ o. (place : ℕ) → StaysFree place job.now.events.items desk.entry.state
         → Z.byte result.1 place ≡ Z.byte desk.entry.zones place) }
-    ensures silent { W.printed watch.new ≡ W.printed watch.old }
 {
     let served = serve_all(&mut desk, &job.events, watch);
     let (apps, mut log, zones) = desk.finish();
@@ -78,7 +76,6 @@ fn run_by<Z: ZoneMaker, W: Watch>(
     ensures kept { (w : Window) (site : Site) → Z.made zones w site → Z.made result.1 w site }
     ensures outside { IfOk result.0 (λ o. (place : ℕ) → StaysFree place job.now.events.items
         (opening job.now.memory (view system.now) job.now.apps.items) → Z.byte result.1 place ≡ Z.byte zones place) }
-    ensures silent { W.printed watch.new ≡ W.printed watch.old }
 {
     match Desk::new(alloc, job.memory, system, &job.apps, zones) {
         Err(zones) => (Err(AllocError), zones),
@@ -87,14 +84,15 @@ fn run_by<Z: ZoneMaker, W: Watch>(
 }
 
 /// Runs a job: its applications wait at a desk of the job's memory, and its events happen there in order. The maker of
-/// zones is returned with no zone open. `watch` is informed of the number of events that have happened.
+/// zones is returned with no zone open. `watch` is informed of the number of events that have happened; `Unwatched` is
+/// no watch.
 ///
 /// # Errors
 ///
 /// The System file's fork can't be read, or the host is out of memory.
 ///
 /// *Inside Macintosh: Processes*, chapter 1.
-pub fn run_watched<Z: ZoneMaker, W: Watch>(
+pub fn run_with<Z: ZoneMaker, W: Watch>(
     alloc: Global,
     job: &Job,
     zones: Z,
@@ -115,26 +113,19 @@ pub fn run_watched<Z: ZoneMaker, W: Watch>(
     // was neither emptied nor disposed of shows the bytes last put there, wherever its block has moved; and no locked
     // block moves or is purged.
     ensures alone { IfOk result.0 (λ o. EachLaunched IsAlone job.now o) }
-    ensures shown { IfOk result.0 (λ o. EachLaunched (InEachTry ShowsPut) job.now o) }
-    ensures held { IfOk result.0 (λ o. EachLaunched (InEachTry HoldsPut) job.now o) }
-    ensures locked { IfOk result.0 (λ o. EachLaunched (InEachTry KeepsLocked) job.now o) }
-    ensures fixed { IfOk result.0 (λ o. EachLaunched (InEachTry KeepsFixed) job.now o) }
-    ensures purged { IfOk result.0 (λ o. EachLaunched (InEachTry EmptiesPurgeable) job.now o) }
+    ensures laws { IfOk result.0 (λ o. EachLaunched (InItsSteps KeepsPromises) job.now o) }
 
     // The maker of zones is returned with no zone open.
     ensures windows { Z.windows result.1 ≡ [] }
     ensures memory { Z.memory result.1 ≡ job.now.memory }
 
-    // In the window of each application that still runs lies its zone, as it would be if the application ran alone.
+    // In the window of each application that still runs lies its zone.
     ensures lies { IfOk result.0 (λ o. LieAtEnd (Z.left result.1) job.now) }
 
     // The maker of zones works in the same memory, and each byte that was in no partition at any time keeps its value.
     ensures kept { (w : Window) (site : Site) → Z.made zones w site → Z.made result.1 w site }
     ensures outside { IfOk result.0 (λ o. (place : ℕ) → IsNeverGranted place job.now
         → Z.byte result.1 place ≡ Z.byte zones place) }
-
-    // Watching the run prints nothing.
-    ensures silent { W.printed watch.new ≡ W.printed watch.old }
 {
     let system = match read_system(alloc, &job.system) {
         Ok(system) => system,
@@ -145,46 +136,4 @@ pub fn run_watched<Z: ZoneMaker, W: Watch>(
         Ok(outcome) => (Ok(outcome), zones),
         Err(_) => (Err(RunFault::HostMemory), zones),
     }
-}
-
-/// Runs a job as `run_watched` does, without a watch.
-///
-/// # Errors
-///
-/// The System file's fork can't be read, or the host is out of memory.
-pub fn run_with<Z: ZoneMaker>(alloc: Global, job: &Job, zones: Z) -> (Result<Outcome, RunFault>, Z)
-    requires none { Z.windows zones ≡ [] }
-    requires memory { Z.memory zones ≡ job.now.memory }
-    requires multiple { job.now.memory % 16 ≡ 0 }
-    requires few { length job.now.apps.items ≤ 64 }
-
-    // What the run leaves is what the definition of the desk says for the events, one after another: the log, and of
-    // each application the transcript and the files. The run is refused for the System file exactly if that file's
-    // fork can't be read.
-    ensures outcome { IsRun (run_of job.now) result.0 }
-
-    // For every interleaving of launches, calls and quits, each launched application's transcript and forks are those
-    // that it would give alone with the same partition size, its own files and the same System file; each handle that
-    // was neither emptied nor disposed of shows the bytes last put there, wherever its block has moved; and no locked
-    // block moves or is purged.
-    ensures alone { IfOk result.0 (λ o. EachLaunched IsAlone job.now o) }
-    ensures shown { IfOk result.0 (λ o. EachLaunched (InEachTry ShowsPut) job.now o) }
-    ensures held { IfOk result.0 (λ o. EachLaunched (InEachTry HoldsPut) job.now o) }
-    ensures locked { IfOk result.0 (λ o. EachLaunched (InEachTry KeepsLocked) job.now o) }
-    ensures fixed { IfOk result.0 (λ o. EachLaunched (InEachTry KeepsFixed) job.now o) }
-    ensures purged { IfOk result.0 (λ o. EachLaunched (InEachTry EmptiesPurgeable) job.now o) }
-
-    // The maker of zones is returned with no zone open.
-    ensures windows { Z.windows result.1 ≡ [] }
-    ensures memory { Z.memory result.1 ≡ job.now.memory }
-
-    // In the window of each application that still runs lies its zone, as it would be if the application ran alone.
-    ensures lies { IfOk result.0 (λ o. LieAtEnd (Z.left result.1) job.now) }
-
-    // The maker of zones works in the same memory, and each byte that was in no partition at any time keeps its value.
-    ensures kept { (w : Window) (site : Site) → Z.made zones w site → Z.made result.1 w site }
-    ensures outside { IfOk result.0 (λ o. (place : ℕ) → IsNeverGranted place job.now
-        → Z.byte result.1 place ≡ Z.byte zones place) }
-{
-    run_watched(alloc, job, zones, &mut Unwatched)
 }

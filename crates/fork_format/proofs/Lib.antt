@@ -15,3 +15,4 @@ pub mod Rest
 pub mod Putting
 pub mod Apart
 pub mod Sized
+pub mod Spelled

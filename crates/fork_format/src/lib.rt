@@ -4,6 +4,7 @@
 mod content;
 mod fault;
 mod fit;
+mod laws;
 mod layout;
 mod read;
 mod write;
@@ -11,5 +12,6 @@ mod write;
 pub use content::{Content, Group, Ref, RefName};
 pub use fault::{ForkFault, WriteFault};
 pub use fit::{fits, kind_of};
+pub use laws::{a_canonical_fork_is_read_again, bytes_spell_one_content};
 pub use read::read_fork;
 pub use write::write_fork;

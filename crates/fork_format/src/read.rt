@@ -6,8 +6,8 @@ ghost use Rattle.std.specs.List.{list_all};
 ghost use Rattle.std.specs.Int.{cast_signed, w16};
 ghost use Rattle.byteorder.specs.Endian.{big_number};
 ghost use Rattle.std.specs.List.Sorted.{IsStrictlyIncreasing};
-ghost use Rattle.fork_format.specs.Canonical.{are_distinct};
-ghost use Rattle.fork_format.specs.Content.{Content as ContentValue, joined};
+ghost use Rattle.fork_format.specs.Canonical.{are_distinct, has_refs};
+ghost use Rattle.fork_format.specs.Content.{Content as ContentValue, Group as GroupValue, joined};
 ghost use Rattle.fork_format.specs.Fork.{number, kind_in, name_place, name_at, name_fits, ref_at, ref_fits};
 ghost use Rattle.fork_format.specs.Fork.{ref_count, ref_places, refs_fit, group_at, datum_at, offsets, kept};
 ghost use Rattle.fork_format.specs.Fork.{map_kept, map_start, types_fit, type_places, is_fork, content_of, Spells};
@@ -358,6 +358,10 @@ pub fn read_fork<'b>(alloc: Global, bytes: &'b [u8]) -> Result<Content<'b>, Fork
     // The bytes spell the content, and no other content.
     ensures content { IfOk result (λ c. Spells bytes.now (view c)) }
     ensures only { IfOk result (λ c. (d : ContentValue) → Spells bytes.now d → d ≡ view c) }
+
+    // Each type of the content stands once, and has references.
+    ensures distinct { IfOk result (λ c. IsTrue (are_distinct (map (λ (g : GroupValue). g.kind) (view c).groups))) }
+    ensures references { IfOk result (λ c. IsTrue (list_all has_refs (view c).groups)) }
 
     // A fork is refused where there are no bytes, or where the bytes spell no content.
     ensures empty { (result ≡ Err ForkFault.Empty) ↔ (bytes.now ≡ []) }

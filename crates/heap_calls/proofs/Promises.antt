@@ -5,8 +5,10 @@ pub mod Fullness
 pub mod AlikeCalls
 pub mod LockedLaws
 pub mod StandingLaws
+pub mod Taking
 pub mod FewSearches
 pub mod EmptyingLaws
 pub mod RefusedCalls
 pub mod AtMostOnce
+pub mod AllLowered
 pub mod ShowingLaws

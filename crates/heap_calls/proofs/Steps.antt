@@ -10,3 +10,4 @@ pub mod FewLooks
 pub mod Place
 pub mod Roles
 pub mod Segments
+pub mod Letting

@@ -1,7 +1,10 @@
 pub mod Gating
+pub mod Counting
 pub mod Barring
 pub mod Parting
 pub mod Keeping
+pub mod Histories
 pub mod Elsewhere
 pub mod Roles
+pub mod Taking
 mod Rows

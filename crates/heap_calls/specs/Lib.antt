@@ -11,7 +11,10 @@ pub mod Copying
 pub mod Searches
 pub mod Moves
 pub mod Standing
+pub mod History
+pub mod Counts
 pub mod Looks
+pub mod Lowering
 pub mod Emptying
 pub mod Refused
 pub mod Busy

@@ -11,6 +11,7 @@ use Rattle.heap_calls.specs.Purging.{blocks_purged}
 use Rattle.mac_words.specs.Told.{Refused}
 use Rattle.heap_calls.specs.Asked.{Asked, NewHandle, HandToHand, PurgeMem}
 use Rattle.heap_calls.specs.Busy.{gate, notes, keep_code, served}
+use Rattle.heap_calls.specs.Counts.{CountsSearches, CountsMoves}
 
 -- What a refused call leaves, whether its row or a busy name refuses the call.
 
@@ -46,13 +47,17 @@ refused_zone asked m = zone_behind (gate asked m) asked m.heap
 abbrev pub code_left : Asked → OsErr → OsErr → OsErr
 code_left asked code before = if notes asked then code else before
 
--- A try that is refused leaves this zone, all names as they were, this code, and the heap where it lay.
+-- A try that is refused leaves this zone, all names as they were, this code, the heap where it lay, and the same
+-- names busy; its searches and moves are counted.
 abbrev pub RefusedLeaves : Asked → Memory → Type 0
 RefusedLeaves asked m =
     (code : OsErr) → (served asked m).0 ≡ Refused code
     → ((served asked m).1.heap ≡ record m.heap { zone = refused_zone asked m })
     × ((served asked m).1.log.code ≡ code_left asked code m.log.code)
     × ((served asked m).1.window ≡ m.window)
+    × ((served asked m).1.log.busy ≡ m.log.busy)
+    × (CountsSearches asked m)
+    × (CountsMoves asked m)
 
 -- A call that is barred is refused with that code, and changes nothing but the code that MemError returns.
 abbrev pub BarredLeaves : Asked → Memory → Type 0

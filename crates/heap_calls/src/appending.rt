@@ -79,9 +79,6 @@ impl<S: BlockStore> Heap<S> {
         ensures kept { result ≡ Err Refusal.HostMemory → KeepsNames self.old self.new }
         ensures lies { self.new.window ≡ self.old.window }
     {
-        // The counts of searches and of moves are known to fit their types once they are read.
-        let _searches = self.log.searches;
-        let _moves = self.store.moves();
         let source = reach(&self.store, &self.names, from)?;
         let held = reach(&self.store, &self.names, to)?;
         let more = length_at(&self.store, source.slot, source.place);
@@ -98,9 +95,6 @@ impl<S: BlockStore> Heap<S> {
         ensures kept { result ≡ Err Refusal.HostMemory → KeepsNames self.old self.new }
         ensures lies { self.new.window ≡ self.old.window }
     {
-        // The counts of searches and of moves are known to fit their types once they are read.
-        let _searches = self.log.searches;
-        let _moves = self.store.moves();
         let held = reach(&self.store, &self.names, handle)?;
         let grown = append_bytes(&mut self.store, held.slot, held.place, bytes)?;
         self.account(grown)
@@ -154,8 +148,6 @@ fn lengthen<S: BlockStore>(
         (length_of slot (S.zone store.old) + more) (S.zone store.old)) (S.rest store.old) (S.rest store.new) }
     ensures host { IsErr result → IsTrue S.TAKES_HOST }
 {
-    // The count of moves is known to fit its type once it is read.
-    let _moves = store.moves();
     let Some(size) = joined_size(len, more) else {
         return Ok(Grown {
             done: false,

@@ -57,8 +57,6 @@ pub fn compact<S: BlockStore>(store: &mut S, bytes: Option<u32>) -> u32
     ensures rest { KeepsSlots (S.rest store.old) (S.rest store.new) }
     ensures runs { result ≡ stretches (runs_settled bytes (S.zone store.old)) (runs (S.zone store.old)) }
 {
-    // The count of moves is known to fit its type once it is read.
-    let _moves = store.moves();
     let mut run = 0;
     let mut stretches = 0;
     while !has_room(store, bytes, 0) {

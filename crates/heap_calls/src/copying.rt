@@ -56,9 +56,6 @@ impl<S: BlockStore> Heap<S> {
         ensures kept { result ≡ Err Refusal.HostMemory → KeepsNames self.old self.new }
         ensures lies { self.new.window ≡ self.old.window }
     {
-        // The counts of searches and of moves are known to fit their types once they are read.
-        let _searches = self.log.searches;
-        let _moves = self.store.moves();
         let found = slot_of(&self.names, handle)?;
         let Some(place) = self.store.place_of(found.slot) else {
             return Err(Refusal::Code(OsErr::NIL_HANDLE));

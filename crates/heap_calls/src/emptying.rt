@@ -78,8 +78,6 @@ impl<S: BlockStore> Heap<S> {
         ensures kept { result ≡ Err Refusal.HostMemory → KeepsNames self.old self.new }
         ensures lies { self.new.window ≡ self.old.window }
     {
-        // The count of moves is known to fit its type once it is read.
-        let _moves = self.store.moves();
         let slot = loose_slot(&self.store, &self.names, handle)?;
         let room = renew_block(&mut self.store, slot, size)?;
         self.account(Grown {
@@ -118,8 +116,6 @@ pub fn renew_block<S: BlockStore>(store: &mut S, slot: u32, size: u32) -> Result
     ensures moves { Packs (renewed_moves slot size (S.zone store.old)) (S.rest store.old) (S.rest store.new) }
     ensures host { IsErr result → IsTrue S.TAKES_HOST }
 {
-    // The count of moves is known to fit its type once it is read.
-    let _moves = store.moves();
     let Some(bytes) = phys(size) else {
         return Ok(Room {
             place: None,

@@ -108,9 +108,6 @@ impl<S: BlockStore> Heap<S> {
         ensures kept { result ≡ Err Refusal.HostMemory → KeepsNames self.old self.new }
         ensures lies { self.new.window ≡ self.old.window }
     {
-        // The counts of searches and of moves are known to fit their types once they are read.
-        let _searches = self.log.searches;
-        let _moves = self.store.moves();
         let found = slot_of(&self.names, Some(number))?;
         let room = refill_block(&mut self.store, found.slot, bytes, flags)?;
         self.account(Grown {

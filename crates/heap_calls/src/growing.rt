@@ -189,8 +189,6 @@ fn pack_seat<S: BlockStore>(store: &mut S, bytes: u32, seat: Seat) -> u32
     ensures rest { KeepsSlots (S.rest store.old) (S.rest store.new) }
     ensures moves { Packs (place_moves bytes (S.zone store.old)) (S.rest store.old) (S.rest store.new) }
 {
-    // The count of moves is known to fit its type once it is read.
-    let _moves = store.moves();
     let run = match seat {
         Seat::Free(place) => return place,
         Seat::Run(run) => run,
@@ -271,8 +269,6 @@ fn carry_out<S: BlockStore>(
         (spot (is_relocatable number) (S.zone store.old))) (S.zone store.old)) (S.rest store.old) (S.rest store.new) }
     ensures host { IsErr result → IsTrue S.TAKES_HOST }
 {
-    // The count of moves is known to fit its type once it is read.
-    let _moves = store.moves();
     match growth {
         Growth::Up => grow_up(store, number, size),
         Growth::Away(seat) => grow_away(store, number, size, bytes, seat),
@@ -319,8 +315,6 @@ pub fn grow_movable<S: BlockStore>(
         (S.rest store.old) (S.rest store.new)) }
     ensures host { IsErr result → IsTrue S.TAKES_HOST }
 {
-    // The count of moves is known to fit its type once it is read.
-    let _moves = store.moves();
     let Some(takes) = phys(bytes) else {
         unreachable!()
     };

@@ -1,19 +1,26 @@
-//! Laws of the calls' definitions.
+//! Laws of the calls' definitions, and of each heap.
 
 ghost use Rattle.std.specs.Prelude.{◌≡◌, ◌<◌, ◌+◌, ◌%◌, ℕ, true, Some, Err, List, nat_lt, ◌≤◌};
 ghost use Rattle.mac_words.specs.Size.{phys};
-ghost use Rattle.block_store.specs.Block.{Block, count, sizes, is_masters, is_mover};
+ghost use Rattle.block_store.specs.Block.{Block, count, sizes, is_masters, is_mover, tidy};
 ghost use Rattle.block_store.specs.Compact.{largest_run};
-ghost use Rattle.heap_calls.specs.State.{State, Memory, used_slots, all_slots};
+ghost use Rattle.block_store.specs.Rest.{Site};
+ghost use Rattle.heap_calls.specs.State.{State, Memory, used_slots, all_slots, fresh_memory};
 ghost use Rattle.heap_calls.specs.Asked.{Asked, answered};
 ghost use Rattle.heap_calls.specs.Busy.{idle, served, NoneGuarded};
+ghost use Rattle.heap_calls.specs.Counts.{CountsSearches, CountsMoves};
+ghost use Rattle.heap_calls.specs.History.{after_calls};
+ghost use Rattle.heap_calls.specs.Locked.{OneBlockEach};
 ghost use Rattle.heap_calls.specs.Looks.{LooksFew};
+ghost use Rattle.heap_calls.specs.Lowering.{CompactCountsLowered, CompactRaisesNone, MaxCountsLowered, MaxRaisesNone};
 ghost use Rattle.heap_calls.specs.Refused.{RefusedLeaves, BarredLeaves};
 ghost use Rattle.heap_calls.specs.Staying.{ease, Parted, RefusedKeepsNoMore, LessStaysLater, KeepsBytes, KeepsMasters};
 ghost use Rattle.heap_calls.specs.Moves.{compact_mem_moves, max_mem_moves};
 ghost use Rattle.heap_calls.specs.Slots.{new_handle};
 ghost use Rattle.heap_calls.specs.Purging.{purged_all};
 
+use crate::heap::Heap;
+use block_store::BlockStore;
 use mac_words::OsErr;
 
 /// `NewHandle` with an unused master pointer returns -108 (memFullErr) only for a size that no block can have, or
@@ -25,16 +32,36 @@ pub fn new_handle_is_full_only_without_room()
         → largest_run (purged_all heap.zone) < bytes }
 {}
 
-/// Each try of a call makes, by the heap's own count, at most one more search for room than there are blocks at its
-/// start, where one of the blocks is a master pointer block.
-#[tactic(auto, using(crate::proofs::Tries::Gating::served_looks))]
-pub fn a_call_looks_few_times()
-    ensures { (asked : Asked) (m : Memory) → LooksFew asked m }
+/// Each try of a call raises the heap's count of searches for room by the searches of the call's row, and its count of
+/// moves by the blocks that the row moves down by compaction; a call that is barred raises neither.
+pub fn a_call_is_counted()
+    ensures searches { (asked : Asked) (m : Memory) → CountsSearches asked m }
+    ensures moves { (asked : Asked) (m : Memory) → CountsMoves asked m }
 {}
 
+/// Each try of a call makes at most one more search for room than there are blocks at its start, where one of the
+/// blocks is a master pointer block.
+#[tactic(auto, using(crate::proofs::Tries::Counting::try_few))]
+pub fn a_call_looks_few_times()
+    ensures { (asked : Asked) (m : Memory) → 0 < count is_masters m.heap.zone → LooksFew asked m }
+{}
+
+/// The zone of each heap has a master pointer block; none of its free blocks has a size of 0 bytes, and no two of them
+/// are neighbours. So each try of a call on a heap makes at most one more search for room than there are blocks at its
+/// start.
+pub fn a_heap_looks_few_times<S: BlockStore>(heap: &Heap<S>)
+    ensures masters { 0 < count is_masters heap.now.heap.zone }
+    ensures tidied { tidy heap.now.heap.zone ≡ heap.now.heap.zone }
+    ensures looks { (asked : Asked) → LooksFew asked heap.now }
+{
+    // The invariant is known once a field is read.
+    let _ = &heap.store;
+}
+
 /// A refused try leaves the heap as it was, except for the zone where a master pointer block was made for the call,
-/// and where the call is `PurgeMem`. A call that is barred is refused with the code of its gate, -117 (memLockedErr)
-/// for a busy name and -30001 (profileErr) for a System resource's handle, and leaves the zone too.
+/// and where the call is `PurgeMem`; the same names are busy, and the searches and the moves of the try are counted. A
+/// call that is barred is refused with the code of its gate, -117 (memLockedErr) for a busy name and -30001
+/// (profileErr) for a System resource's handle, and leaves the zone too.
 pub fn a_refused_call_leaves_the_heap()
     ensures refused { (asked : Asked) (m : Memory) → RefusedLeaves asked m }
     ensures barred { (asked : Asked) (m : Memory) → BarredLeaves asked m }
@@ -79,9 +106,20 @@ pub fn a_call_is_its_row_where_nothing_bars_it()
         → served asked m ≡ answered asked m }
 {}
 
-/// Compaction moves each block at most once: `CompactMem` and `MaxMem` move no more blocks down than there are
-/// unlocked relocatable blocks.
+/// No handle has two blocks after calls on a fresh heap, whichever they are, one try after another.
+pub fn calls_give_no_handle_two_blocks()
+    ensures { (n : ℕ) (window : Site) (calls : List Asked)
+        → OneBlockEach (after_calls calls (fresh_memory n window)).heap.zone }
+{}
+
+/// Compaction moves each block at most once. The moves that `CompactMem` counts are the relocatable blocks that stand
+/// lower after it than before, and no block stands higher; so it is for `MaxMem`, once every block that may be purged is
+/// purged. So neither call counts more moves than there are unlocked relocatable blocks.
 pub fn compaction_moves_each_block_at_most_once()
+    ensures compact_mem_counts { (size : ℕ) (heap : State) → CompactCountsLowered size heap }
+    ensures compact_mem_raises_none { (size : ℕ) (heap : State) → CompactRaisesNone size heap }
+    ensures max_mem_counts { (heap : State) → MaxCountsLowered heap }
+    ensures max_mem_raises_none { (heap : State) → MaxRaisesNone heap }
     ensures compact_mem { (size : ℕ) (heap : State) → compact_mem_moves size heap ≤ count is_mover heap.zone }
     ensures max_mem { (heap : State) → max_mem_moves heap ≤ count is_mover heap.zone }
 {}

@@ -96,8 +96,6 @@ impl<S: BlockStore> Heap<S> {
         ensures kept { result ≡ Err Refusal.HostMemory → KeepsMoves self.old self.new }
         ensures lies { self.new.window ≡ self.old.window }
     {
-        // The count of searches is known to fit its type once it is read.
-        let _searches = self.log.searches;
         let Some(bytes) = phys(size) else {
             return Err(Refusal::Code(OsErr::MEM_FULL));
         };

@@ -37,8 +37,6 @@ fn add_block<S: BlockStore>(
     ensures moves { Packs (content_moves sparing size (S.zone store.old)) (S.rest store.old) (S.rest store.new) }
     ensures host { IsErr result → IsTrue S.TAKES_HOST }
 {
-    // The count of moves is known to fit its type once it is read.
-    let _moves = store.moves();
     let Some(bytes) = phys(size) else {
         store.give_slot(slot);
         return Ok(Room {
@@ -78,8 +76,6 @@ pub fn new_block<S: BlockStore>(
         (S.rest store.old) (S.rest store.new)) }
     ensures host { IsErr result → IsTrue S.TAKES_HOST }
 {
-    // The count of moves is known to fit its type once it is read.
-    let _moves = store.moves();
     let taken = make_slot(store, sparing)?;
     let Some(slot) = taken.slot else {
         return Ok(taken);

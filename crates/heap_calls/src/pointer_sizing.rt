@@ -51,8 +51,6 @@ impl<S: BlockStore> Heap<S> {
         ensures kept { result ≡ Err Refusal.HostMemory → KeepsMoves self.old self.new }
         ensures lies { self.new.window ≡ self.old.window }
     {
-        // The count of searches is known to fit its type once it is read.
-        let _searches = self.log.searches;
         let target = target_of(&self.names, pointer)?;
         let grown = fit_fixed(&mut self.store, target.place, size)?;
         self.account(grown)

@@ -142,8 +142,6 @@ fn take_seat<S: BlockStore>(
     ensures moves { Packs (place_moves bytes (purged purges sparing (S.zone store.old))) (S.rest store.old)
         (S.rest store.new) }
 {
-    // The count of moves is known to fit its type once it is read.
-    let _moves = store.moves();
     store.purge(purges, sparing);
     match seat {
         Seat::Free(place) => place,
@@ -171,8 +169,6 @@ pub fn make_room<S: BlockStore>(store: &mut S, bytes: u32, sparing: Sparing) -> 
     ensures rest { KeepsSlots (S.rest store.old) (S.rest store.new) }
     ensures moves { Packs (seat_moves bytes sparing (S.zone store.old)) (S.rest store.old) (S.rest store.new) }
 {
-    // The count of moves is known to fit its type once it is read.
-    let _moves = store.moves();
     let found = find_seat(store, bytes, sparing);
     let searches = found.purges + 1;
     let Some(seat) = found.seat else {

@@ -59,9 +59,6 @@ impl<S: BlockStore> Heap<S> {
         ensures kept { result ≡ Err Refusal.HostMemory → KeepsNames self.old self.new }
         ensures lies { self.new.window ≡ self.old.window }
     {
-        // The counts of searches and of moves are known to fit their types once they are read.
-        let _searches = self.log.searches;
-        let _moves = self.store.moves();
         let held = reach(&self.store, &self.names, handle)?;
         let sparing = Sparing::One(held.slot);
         let grown = fit_block(&mut self.store, held.slot, held.place, size, sparing)?;
@@ -109,8 +106,6 @@ pub fn fit_block<S: BlockStore>(
         (S.rest store.new) }
     ensures host { IsErr result → IsTrue S.TAKES_HOST }
 {
-    // The count of moves is known to fit its type once it is read.
-    let _moves = store.moves();
     if phys(size).is_none() {
         return Ok(Grown {
             done: false,
@@ -144,8 +139,6 @@ fn resize_block<S: BlockStore>(
         (S.rest store.new) }
     ensures host { IsErr result → IsTrue S.TAKES_HOST }
 {
-    // The count of moves is known to fit its type once it is read.
-    let _moves = store.moves();
     let Some(bytes) = phys(size) else {
         unreachable!()
     };

@@ -44,7 +44,7 @@ pub enum Question {
 
 /// The result of a call.
 #[derive(Clone, Copy, Debug, PartialEq, Eq)]
-pub enum Told {
+pub enum Answer {
     Done,
     Made(usize),
     Number(u64),
@@ -54,19 +54,19 @@ pub enum Told {
 }
 
 /// The result of a call on an unbound name, or on an empty handle: -109 (nilHandleErr).
-pub const NIL: Told = Told::Refused(OsErr::NIL_HANDLE);
+pub const NIL: Answer = Answer::Refused(OsErr::NIL_HANDLE);
 
 /// The result of a call on a name that is not found, or is of the other kind: -111 (memWZErr).
-pub const WRONG: Told = Told::Refused(OsErr::WRONG_ZONE);
+pub const WRONG: Answer = Answer::Refused(OsErr::WRONG_ZONE);
 
 /// The result of a call that finds no room: -108 (memFullErr).
-pub const FULL: Told = Told::Refused(OsErr::MEM_FULL);
+pub const FULL: Answer = Answer::Refused(OsErr::MEM_FULL);
 
 /// The result of a call that a handle's role bars: -30001 (profileErr).
-pub const BARRED: Told = Told::Refused(OsErr::PROFILE);
+pub const BARRED: Answer = Answer::Refused(OsErr::PROFILE);
 
 /// The result of a call on a busy name: -117 (memLockedErr).
-pub const BUSY: Told = Told::Refused(OsErr::LOCKED);
+pub const BUSY: Answer = Answer::Refused(OsErr::LOCKED);
 
 /// The names that are bound to the first three numbers.
 pub const A: Name = Some(0);
@@ -75,39 +75,39 @@ pub const B: Name = Some(1);
 
 pub const C: Name = Some(2);
 
-fn refused(refusal: Refusal) -> Told {
+fn refused(refusal: Refusal) -> Answer {
     match refusal {
-        Refusal::Code(code) => Told::Refused(code),
-        Refusal::HostMemory => Told::HostMemory,
+        Refusal::Code(code) => Answer::Refused(code),
+        Refusal::HostMemory => Answer::HostMemory,
     }
 }
 
-fn done(answer: Result<(), Refusal>) -> Told {
+fn done(answer: Result<(), Refusal>) -> Answer {
     match answer {
-        Ok(()) => Told::Done,
+        Ok(()) => Answer::Done,
         Err(refusal) => refused(refusal),
     }
 }
 
-fn made(answer: Result<usize, Refusal>) -> Told {
+fn made(answer: Result<usize, Refusal>) -> Answer {
     match answer {
-        Ok(number) => Told::Made(number),
+        Ok(number) => Answer::Made(number),
         Err(refusal) => refused(refusal),
     }
 }
 
-fn number(answer: Result<u32, Refusal>) -> Told {
+fn number(answer: Result<u32, Refusal>) -> Answer {
     match answer {
-        Ok(number) => Told::Number(u64::from(number)),
+        Ok(number) => Answer::Number(u64::from(number)),
         Err(refusal) => refused(refusal),
     }
 }
 
-fn answer(heap: &Heap<ListStore>, question: Question) -> Told {
+fn answer_about(heap: &Heap<ListStore>, question: Question) -> Answer {
     match question {
-        Question::Searches => Told::Number(heap.searches()),
-        Question::Moves => Told::Number(heap.moves()),
-        Question::ToBeHad => Told::Number(u64::from(heap.to_be_had())),
+        Question::Searches => Answer::Number(heap.searches()),
+        Question::Moves => Answer::Number(heap.moves()),
+        Question::ToBeHad => Answer::Number(u64::from(heap.to_be_had())),
     }
 }
 
@@ -117,7 +117,7 @@ fn guard(heap: &mut Heap<ListStore>, number: usize) {
 }
 
 /// Makes a call, and returns its result.
-fn tell(heap: &mut Heap<ListStore>, call: Call) -> Told {
+fn answer_to(heap: &mut Heap<ListStore>, call: Call) -> Answer {
     match call {
         Call::NewHandle(size) => made(heap.new_handle(size)),
         Call::NewEmptyHandle => made(heap.new_empty_handle()),
@@ -130,18 +130,18 @@ fn tell(heap: &mut Heap<ListStore>, call: Call) -> Told {
         Call::MoveHHi(handle) => done(heap.move_hhi(handle)),
         Call::HandAndHand(from, to) => done(heap.hand_and_hand(from, to)),
         Call::NewPointer(size) => made(heap.new_pointer(size)),
-        Call::CompactMem(size) => Told::Number(u64::from(heap.compact_mem(size))),
-        Call::MaxMem => Told::Number(u64::from(heap.max_mem())),
+        Call::CompactMem(size) => Answer::Number(u64::from(heap.compact_mem(size))),
+        Call::MaxMem => Answer::Number(u64::from(heap.max_mem())),
         Call::SetBusy(number, busy) => {
             heap.set_busy(number, busy);
-            Told::Done
+            Answer::Done
         }
-        Call::IsBusy(number) => Told::Is(heap.is_busy(number)),
+        Call::IsBusy(number) => Answer::Is(heap.is_busy(number)),
         Call::Guard(number) => {
             guard(heap, number);
-            Told::Done
+            Answer::Done
         }
-        Call::Ask(question) => answer(heap, question),
+        Call::Ask(question) => answer_about(heap, question),
     }
 }
 
@@ -152,19 +152,19 @@ fn heap_of(alloc: Global) -> Result<Heap<ListStore>, AllocError> {
 
 /// Makes calls one after another in a zone of 1024 bytes, and asserts that each has its expected result. Where `again`
 /// is set, a call for which the host was out of memory is made once more.
-pub fn tells(
+pub fn assert_answers(
     rt: &impl Abort,
     alloc: Global,
-    rows: &[(Call, Told)],
+    rows: &[(Call, Answer)],
     again: bool,
 ) -> Result<(), AllocError> {
     let mut heap = heap_of(alloc)?;
-    for (call, told) in rows {
-        let mut found = tell(&mut heap, *call);
-        if again && found == Told::HostMemory {
-            found = tell(&mut heap, *call);
+    for (call, expected) in rows {
+        let mut found = answer_to(&mut heap, *call);
+        if again && found == Answer::HostMemory {
+            found = answer_to(&mut heap, *call);
         }
-        assert_eq!(rt; found, *told);
+        assert_eq!(rt; found, *expected);
     }
     Ok(())
 }

@@ -10,6 +10,7 @@ use Rattle.std.proofs.lemmas.List.Sums.{prefix_len_stops}
 use Rattle.std.specs.List.{prefix_len, position_or_len, insert, remove, Contains}
 use denote.RawPtr.{Ptr}
 use Rattle.windows.specs.declared.Window.{Window}
+use Rattle.windows.proofs.Ordered.{below_cond}
 use Rattle.windows.specs.Windows.{window, is_window, IsApart, InOrder}
 use Rattle.raw_region.specs.Gaps.{bytes_of, windows_of, window_of, gap_ends_by, gap_is, IsLaid, IsStart, Fits, front}
 use Rattle.raw_region.specs.Gaps.{back, joined, EndsFit}
@@ -109,10 +110,6 @@ pub ends_fit : (h : Ptr) (gs : List Gap) → IsLaid h 0 gs → length (bytes_of 
 ends_fit h gs l small k d p = let e = ends_within h 0 gs l k d p in omega (arith, e, small)
 
 -- ---- a window that is out is found
-below_cond : (b : Bool) (m n : ℕ) → m < n → cond b (1 + m) 0 < suc n
-below_cond true m n h = omega arith
-below_cond false m n h = omega arith
-
 pub position_below : {X : Type 0} (p : X → Bool) (xs : List X) (k : ℕ) (d : X) → k < length xs
     → p (get_or xs k d) ≡ true → position_or_len p xs < length xs
 position_below p [] k d h e = absurd (omega arith)

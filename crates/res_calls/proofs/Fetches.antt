@@ -14,9 +14,10 @@ use Rattle.res_calls.specs.Fetch.{Managers, Answer, is_system, flags_of, fetch_n
 use Rattle.res_calls.specs.Fetch.{now_emptied, now_refilled}
 use Rattle.res_calls.specs.Fetch as fetch
 use Rattle.res_calls.specs.Given.{IsFetched, IsUnread, managers}
-use Rattle.res_calls.specs.Places.{made_for, found_from, fetched_as, last_fetched}
+use Rattle.res_calls.specs.Places.{made_for, found_from, last_fetched}
 use Rattle.res_calls.specs.Rows.{noting}
 use Rattle.res_calls.specs.Rows as rows
+use Rattle.res_calls.specs.Rows.{fetched_as}
 use Rattle.mac_words.specs.declared.code.TheConstants.OsErr.{NO_ERR}
 use Rattle.heap_calls.specs.Answer.{code_of}
 use Rattle.res_calls.specs.declared.find.Spot.{Spot}

@@ -17,7 +17,8 @@ use Rattle.res_calls.specs.Fetch.{Managers, Answer, done, refused}
 use Rattle.res_calls.specs.Rows.{on_open, on_file}
 use Rattle.res_calls.specs.Changing.{on_handle, added_to}
 use Rattle.res_calls.specs.Given.{IsAnswered, managers}
-use Rattle.res_calls.specs.Places.{chained, add_found}
+use Rattle.res_calls.specs.Places.{chained}
+use Rattle.res_calls.specs.Changing.{add_found}
 use Rattle.res_calls.proofs.Lookups.{found_seen}
 use Rattle.res_calls.proofs.Standing.{listed, touched_as, map_set}
 

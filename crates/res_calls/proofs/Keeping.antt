@@ -8,10 +8,9 @@ use Rattle.res_map.specs.Split.{Split}
 use Rattle.res_map.specs.Map.{content, is_protected}
 use Rattle.res_calls.specs.Files.{OpenFile, Resources, Found}
 use Rattle.res_calls.specs.Fetch.{Managers, Answer, refused, is_system}
-use Rattle.res_calls.specs.Rows.{on_found, on_open, resource_of, on_updated, if_updated}
-use Rattle.res_calls.specs.Places.{if_changeable}
+use Rattle.res_calls.specs.Rows.{on_found, on_open, on_resource, resource_of, on_updated, if_updated}
 use Rattle.res_calls.specs.Update.{update, updated_map, rewritten}
-use Rattle.res_calls.specs.Changing.{on_known, on_removable, on_changeable}
+use Rattle.res_calls.specs.Changing.{on_known, on_removable, if_changeable}
 
 -- What holds of the managers after each answer that a call may give holds after the call.
 
@@ -53,7 +52,7 @@ module _ {T : Type 0} (P : Managers → Type 0)
     pub changeable-keeps : (handle : Option ℕ) (s : Managers) (answer : Found → Answer T) → P s
         → ((at : Found) → resource_of handle s.resources ≡ Some at → is_system at.file.here ≡ false
         → P (answer at).after)
-        → P (on_changeable handle s answer).after
+        → P (on_resource handle s (if_changeable answer s)).after
     changeable-keeps handle s answer same each =
         found-keeps (resource_of handle s.resources) s (if_changeable answer s) same
         (λ at e. free-keeps answer s at same (each at e))

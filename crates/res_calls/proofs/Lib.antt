@@ -18,3 +18,4 @@ pub mod Joining
 pub mod OwnFork
 pub mod LastOpened
 pub mod LeftFiles
+pub mod Recorded

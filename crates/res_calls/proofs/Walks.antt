@@ -8,3 +8,4 @@ pub mod Forks
 pub mod Answered
 pub mod Own
 pub mod Launching
+pub mod Taking

@@ -6,6 +6,7 @@ use Rattle.mac_words.specs.declared.code.TheConstants.OsErr.{RES_NOT_FOUND, ADD_
 use Rattle.mac_words.specs.declared.code.TheConstants.OsErr.{WRITE_PERMISSION, DUPLICATE_FILE, DISK_FULL}
 use Rattle.fork_format.specs.Content.{Content}
 use Rattle.fork_format.specs.Canonical.{canon}
+use Rattle.heap_calls.specs.State.{Role}
 use Rattle.heap_calls.specs.Answer.{Known, handle_at}
 use Rattle.heap_calls.specs.Purging.{is_resource}
 use Rattle.heap_calls.specs.Inside.{inside, cast, owned_as, has_block}
@@ -53,12 +54,14 @@ create_named name (Some at) s =
 abbrev pub create_res_file : List ℕ → Managers → Answer (Unit {0})
 create_res_file name s = create_named name (file_named name s.resources) s
 
--- The resources where the given open file is touched and has the given references.
+-- The open files, and the resources, where the given open file is touched and has the given references.
 -- See decision 53 (three calls touch a file).
+abbrev pub touched_files : Split OpenFile → List Reference → List OpenFile
+touched_files at references =
+    replaced (record at.here { map = record at.here.map { references = references }; touched = true }) at
+
 abbrev pub touched : Split OpenFile → List Reference → Resources → Resources
-touched at references r = record r {
-  chain = replaced (record at.here { map = record at.here.map { references = references }; touched = true }) at;
-}
+touched at references r = record r { chain = touched_files at references }
 
 -- The answer of a call whose argument must be a handle, of any role, empty or not; -192 (resNotFound) where the
 -- argument is not a handle.
@@ -80,12 +83,14 @@ added_to at new h s = record {
 -- (addResFailed) where the handle is a resource's already or is empty; -61 (wrPermErr) where the current file is the
 -- System file.
 -- See decision 61 (`AddResource` refuses in a fixed order).
-abbrev pub add_resource : Option ℕ → ℕ → ℤ → List ℕ → Managers → Answer (Unit {0})
-add_resource handle kind id text s = on_handle handle s (λ k.
-    if is_resource k.role || not (has_block k.number s.memory.heap) then refused ADD_RES_FAILED s
+abbrev pub add_found : Role → Reference → ℕ → Managers → Answer (Unit {0})
+add_found role new h s = if is_resource role || not (has_block h s.memory.heap) then refused ADD_RES_FAILED s
     else if s.resources.current == 0 then refused WRITE_PERMISSION s
-    else on_file s.resources.current s (λ at.
-    done tt (added_to at (new_reference kind id text k.number) k.number s)))
+    else on_file s.resources.current s (λ at. done tt (added_to at new h s))
+
+abbrev pub add_resource : Option ℕ → ℕ → ℤ → List ℕ → Managers → Answer (Unit {0})
+add_resource handle kind id text s =
+    on_handle handle s (λ k. add_found k.role (new_reference kind id text k.number) k.number s)
 
 -- The answer of a call on the resource of a handle; -196 (rmvResFailed) where the handle is not a resource's.
 abbrev pub on_removable : {T : Type 0} → Option Found → Managers → (Found → Answer T) → Answer T
@@ -102,28 +107,32 @@ removed_from at h s = record {
 -- RemoveResource: removes a reference from the current file. -61 (wrPermErr) where the resource is the System file's;
 -- -196 (rmvResFailed) where its file is not current, or the resource is protected.
 -- See decision 62 (`RemoveResource` of a handle that is no resource's is -196).
-abbrev pub remove_resource : Option ℕ → Managers → Answer (Unit {0})
-remove_resource handle s = on_handle handle s (λ k. on_removable (resource_of handle s.resources) s (λ at.
-    if is_system at.file.here then refused WRITE_PERMISSION s
+abbrev pub remove_found : ℕ → Managers → Found → Answer (Unit {0})
+remove_found h s at = if is_system at.file.here then refused WRITE_PERMISSION s
     else if not (at.file.here.number == s.resources.current) || is_protected at.reference.here
     then refused REMOVE_RES_FAILED s
-    else done tt (removed_from at k.number s)))
+    else done tt (removed_from at h s)
 
--- The answer of a call that changes a resource. -61 (wrPermErr) where the resource is the System file's; -198
+abbrev pub remove_resource : Option ℕ → Managers → Answer (Unit {0})
+remove_resource handle s =
+    on_handle handle s (λ k. on_removable (resource_of handle s.resources) s (remove_found k.number s))
+
+-- The answer of a call that changes a found reference. -61 (wrPermErr) where the resource is the System file's; -198
 -- (resAttrErr) where the resource is protected.
-abbrev pub on_changeable : {T : Type 0} → Option ℕ → Managers → (Found → Answer T) → Answer T
-on_changeable handle s answer = on_resource handle s (λ at.
-    if is_system at.file.here then refused WRITE_PERMISSION s
-    else if is_protected at.reference.here then refused RES_ATTR s
-    else answer at)
+abbrev pub if_changeable : {T : Type 0} → (Found → Answer T) → Managers → Found → Answer T
+if_changeable answer s at = if is_system at.file.here then refused WRITE_PERMISSION s
+    else if is_protected at.reference.here then refused RES_ATTR s else answer at
 
 -- ChangedResource: sets resChanged of the reference, and touches its file.
 abbrev pub marked : Reference → Reference
 marked x = with_attrs (changed x.stored.attrs) x
 
+abbrev pub change_found : Managers → Found → Answer (Unit {0})
+change_found s at = if_changeable (λ at.
+    done tt (with_resources (touched at.file (replaced (marked at.reference.here) at.reference) s.resources) s)) s at
+
 abbrev pub changed_resource : Option ℕ → Managers → Answer (Unit {0})
-changed_resource handle s = on_changeable handle s (λ at.
-    done tt (with_resources (touched at.file (replaced (marked at.reference.here) at.reference) s.resources) s))
+changed_resource handle s = on_resource handle s (change_found s)
 
 -- The managers where the found reference is replaced by `x`.
 abbrev pub with_changed : Reference → Found → Managers → Managers
@@ -137,18 +146,24 @@ stored_if (Some bytes) at s = with_changed (stored_anew (Some bytes) at.referenc
 
 -- WriteResource: stores the bytes of a changed resource's handle, unless the resource is protected or the handle is
 -- empty. The next update of the file writes them into the fork.
+abbrev pub write_found : Option ℕ → Managers → Found → Answer (Unit {0})
+write_found handle s at = if is_changed at.reference.here && not (is_protected at.reference.here)
+    then done tt (stored_if (bytes_held handle s.memory.heap) at s) else done tt s
+
 abbrev pub write_resource : Option ℕ → Managers → Answer (Unit {0})
-write_resource handle s = on_resource handle s (λ at.
-    if is_changed at.reference.here && not (is_protected at.reference.here)
-    then done tt (stored_if (bytes_held handle s.memory.heap) at s)
-    else done tt s)
+write_resource handle s = on_resource handle s (write_found handle s)
 
 -- SetResInfo: sets the ID and the name of a resource; an empty name leaves the resource's name as it was.
+abbrev pub rename_found : ℤ → List ℕ → Managers → Found → Answer (Unit {0})
+rename_found id text s at = if_changeable (λ at. done tt (with_changed (renamed id text at.reference.here) at s)) s at
+
 abbrev pub set_res_info : Option ℕ → ℤ → List ℕ → Managers → Answer (Unit {0})
-set_res_info handle id text s = on_changeable handle s (λ at.
-    done tt (with_changed (renamed id text at.reference.here) at s))
+set_res_info handle id text s = on_resource handle s (rename_found id text s)
 
 -- SetResAttrs: sets the attributes of a resource, of the System file too; resChanged stays as it was.
+abbrev pub set_found : ℕ → Managers → Found → Answer (Unit {0})
+set_found attrs s at =
+    done tt (with_changed (with_attrs (set attrs at.reference.here.stored.attrs) at.reference.here) at s)
+
 abbrev pub set_res_attrs : Option ℕ → ℕ → Managers → Answer (Unit {0})
-set_res_attrs handle attrs s = on_resource handle s (λ at.
-    done tt (with_changed (with_attrs (set attrs at.reference.here.stored.attrs) at.reference.here) at s))
+set_res_attrs handle attrs s = on_resource handle s (set_found attrs s)

@@ -16,3 +16,4 @@ pub mod Own
 pub mod Owning
 pub mod Preloading
 pub mod Leaving
+pub mod Fetching

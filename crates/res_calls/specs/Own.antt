@@ -1,8 +1,8 @@
 use Rattle.std.specs.Prelude.{ℕ, ℤ, true, Option, List, option_map, option_and_then}
 use Rattle.res_map.specs.Map.{is_resource}
 use Rattle.res_calls.specs.Files.{Resources, Found, find, is_at}
-use Rattle.res_calls.specs.Fetch.{Managers, Answer, Fetched, fetch}
-use Rattle.res_calls.specs.Rows.{on_found}
+use Rattle.res_calls.specs.Fetch.{Managers, Answer, Fetched}
+use Rattle.res_calls.specs.Rows.{fetched_as}
 
 -- The resources of the application's own fork, which is the fork of its first file, under whatever number the file is
 -- open and whichever file is current. Inside Macintosh: Processes, chapter 7, "The Segment Manager".
@@ -23,4 +23,4 @@ own_handle kind id r = option_and_then (λ (at : Found). at.reference.here.handl
 
 -- The fetch of that resource, which is done as with loading on, whatever SetResLoad has set.
 abbrev pub fetch_own : ℕ → ℤ → Managers → Answer Fetched
-fetch_own kind id s = on_found (find_own kind id s.resources) s (λ at. fetch true at s)
+fetch_own kind id s = fetched_as true (find_own kind id s.resources) s

@@ -1,26 +1,19 @@
-use Rattle.std.specs.Prelude.{◌≡◌, ℕ, ℤ, zero, suc, Bool, true, false, Option, Some, None, Result, Ok, Err, List, [], ◌∷◌}
-use Rattle.std.specs.Prelude.{map, option_map, nat_le, not, ◌&&◌, ◌||◌, ◌==◌, if◌then◌else◌}
+use Rattle.std.specs.Prelude.{◌≡◌, ℕ, zero, suc, Bool, true, false, Option, Some, None, Result, Ok, Err, List, [], ◌∷◌}
+use Rattle.std.specs.Prelude.{map, option_map, nat_le, not, ◌==◌, if◌then◌else◌}
 use Rattle.byteorder.specs.Endian.{big_number}
 use Rattle.mac_words.specs.declared.code.OsErr.{OsErr}
-use Rattle.mac_words.specs.declared.code.TheConstants.OsErr.{NO_ERR, LOCKED, RES_ATTR}
-use Rattle.mac_words.specs.declared.code.TheConstants.OsErr.{WRITE_PERMISSION, ADD_RES_FAILED, REMOVE_RES_FAILED}
-use Rattle.mac_words.specs.Attributes.{set}
-use Rattle.heap_calls.specs.State.{Memory, Role}
-use Rattle.heap_calls.specs.Purging.{is_resource as is_owner}
-use Rattle.heap_calls.specs.Inside.{new_inside, new_emptied_inside, resource_role, has_block}
+use Rattle.mac_words.specs.declared.code.TheConstants.OsErr.{NO_ERR}
+use Rattle.heap_calls.specs.State.{Memory}
+use Rattle.heap_calls.specs.Inside.{new_inside, new_emptied_inside, resource_role}
 use Rattle.heap_calls.specs.declared.refusal.Refusal.{Refusal}
 use Rattle.heap_calls.specs.declared.refusal.Refusal.TheVariants.{Code, HostMemory}
-use Rattle.res_map.specs.Split.{Split, behind, replaced, place}
-use Rattle.res_map.specs.Map.{Reference, is_resource, is_named, has_handle, is_changed, is_protected, with_attrs}
-use Rattle.res_map.specs.Map.{renamed, new_reference}
+use Rattle.res_map.specs.Split.{Split, behind, place}
+use Rattle.res_map.specs.Map.{Reference, is_resource, is_named, has_handle, new_reference}
 use Rattle.res_calls.specs.Files.{OpenFile, Resources, Found, find, is_at}
-use Rattle.res_calls.specs.Fetch.{Managers, Answer, done, refused, flags_of, is_system}
+use Rattle.res_calls.specs.Fetch.{Managers, Answer, flags_of, is_system}
 use Rattle.res_calls.specs.Fetch as fetch
-use Rattle.res_calls.specs.Rows.{on_found, reference_in, bars, released_at, detached_at, with_resources, on_file}
-use Rattle.res_calls.specs.Update.{bytes_held}
-use Rattle.res_calls.specs.Changing.{touched, marked, with_changed, stored_if, added_to, removed_from}
+use Rattle.res_calls.specs.Rows.{reference_in, fetched_as, closed_file}
 use Rattle.res_calls.specs.Rows as rows
-use Rattle.res_calls.specs.Rows.{closed_file}
 use Rattle.res_calls.specs.Update.{update}
 use Rattle.res_calls.specs.Leaving.{Left, update_code, updated_or, left_file, last_opened}
 use Rattle.fork_format.specs.declared.content.RefName.{RefName}
@@ -89,11 +82,7 @@ abbrev pub made_for : Bool → Bool → Reference → Memory → Result ℕ OsEr
 made_for loading guarded x m = if loading then new_inside (resource_role guarded) (flags_of x) x.stored.datum m
     else new_emptied_inside (resource_role guarded) m
 
--- The fetch of a found reference, and of the reference that a search finds; -192 (resNotFound) where no reference was
--- found.
-abbrev pub fetched_as : Bool → Option Found → Managers → Answer fetch.Fetched
-fetched_as loading found s = on_found found s (λ at. fetch.fetch loading at s)
-
+-- The fetch of the reference that a search finds; -192 (resNotFound) where no reference was found.
 abbrev pub fetch_wanted : Within → Wanted → Bool → Managers → Answer fetch.Fetched
 fetch_wanted files x loading s = fetched_as loading (find (is_searched files) (is_wanted x) s.resources.chain) s
 
@@ -115,57 +104,9 @@ name_bytes (Some name) = name.bytes.now
 abbrev pub seen_info : Info → rows.Info
 seen_info i = record { id = i.id; kind = big_number 4 i.ty.0; name = i.name.0.items }
 
--- ReleaseResource and DetachResource of a found reference.
-abbrev pub release_found : Option ℕ → Managers → Found → Answer (Unit {0})
-release_found handle s at = if bars handle s.memory then refused LOCKED s
-    else if is_changed at.reference.here then done tt s else done tt (released_at at handle s)
-
-abbrev pub detach_found : Option ℕ → Managers → Found → Answer (Unit {0})
-detach_found handle s at = if is_changed at.reference.here then refused RES_ATTR s
-    else done tt (detached_at at handle s)
-
--- The open files where one of them is touched and has the given references.
-abbrev pub touched_files : Split OpenFile → List Reference → List OpenFile
-touched_files at references =
-    replaced (record at.here { map = record at.here.map { references = references }; touched = true }) at
-
--- The answer of a call that changes a found reference; -61 (wrPermErr) for the System file, -198 (resAttrErr) for a
--- protected resource.
-abbrev pub if_changeable : {T : Type 0} → (Found → Answer T) → Managers → Found → Answer T
-if_changeable answer s at = if is_system at.file.here then refused WRITE_PERMISSION s
-    else if is_protected at.reference.here then refused RES_ATTR s else answer at
-
--- ChangedResource, WriteResource, SetResInfo, SetResAttrs and RemoveResource of a found reference.
-abbrev pub change_found : Managers → Found → Answer (Unit {0})
-change_found s at = if_changeable (λ at.
-    done tt (with_resources (touched at.file (replaced (marked at.reference.here) at.reference) s.resources) s)) s at
-
-abbrev pub write_found : Option ℕ → Managers → Found → Answer (Unit {0})
-write_found handle s at = if is_changed at.reference.here && not (is_protected at.reference.here)
-    then done tt (stored_if (bytes_held handle s.memory.heap) at s) else done tt s
-
-abbrev pub rename_found : ℤ → List ℕ → Managers → Found → Answer (Unit {0})
-rename_found id text s at = if_changeable (λ at. done tt (with_changed (renamed id text at.reference.here) at s)) s at
-
-abbrev pub set_found : ℕ → Managers → Found → Answer (Unit {0})
-set_found attrs s at =
-    done tt (with_changed (with_attrs (set attrs at.reference.here.stored.attrs) at.reference.here) at s)
-
-abbrev pub remove_found : ℕ → Managers → Found → Answer (Unit {0})
-remove_found h s at = if is_system at.file.here then refused WRITE_PERMISSION s
-    else if not (at.file.here.number == s.resources.current) || is_protected at.reference.here
-    then refused REMOVE_RES_FAILED s
-    else done tt (removed_from at h s)
-
--- The reference to be added, as a value of the definitions, and AddResource of that reference with a handle of the
--- given role.
+-- The reference to be added, as a value of the definitions.
 abbrev pub view_new : NewReference → Reference
 view_new new = new_reference (big_number 4 new.ty.0) new.id new.name.now.0.items new.handle
-
-abbrev pub add_found : Role → Reference → ℕ → Managers → Answer (Unit {0})
-add_found role new h s = if is_owner role || not (has_block h s.memory.heap) then refused ADD_RES_FAILED s
-    else if s.resources.current == 0 then refused WRITE_PERMISSION s
-    else on_file s.resources.current s (λ at. done tt (added_to at new h s))
 
 -- Holds where a file other than the System file is open: the file opened last is not the System file.
 abbrev pub has_own : List OpenFile → Bool

@@ -179,9 +179,12 @@ cur_res_file s = done s.resources.current s
 abbrev pub home_res_file : Option ℕ → Managers → Answer ℕ
 home_res_file handle s = on_resource handle s (λ at. done at.file.here.number s)
 
--- The fetch of a found reference, as SetResLoad has set loading.
+-- The fetch of a found reference, with loading on or off, and the fetch as SetResLoad has set loading.
+abbrev pub fetched_as : Bool → Option Found → Managers → Answer Fetched
+fetched_as loading found s = on_found found s (λ at. fetch loading at s)
+
 abbrev pub fetched : Option Found → Managers → Answer Fetched
-fetched found s = on_found found s (λ at. fetch s.resources.loading at s)
+fetched found s = fetched_as s.resources.loading found s
 
 -- GetResource and Get1Resource: fetch the first resource of a type and ID, on the search path and in the current file
 -- alone.
@@ -230,7 +233,7 @@ get_one_ind_resource kind n s = fetched (nth_in kind n (file_of s.resources.curr
 
 -- LoadResource: fetches the resource of a handle as with loading on, whatever SetResLoad has set.
 abbrev pub load_resource : Option ℕ → Managers → Answer Fetched
-load_resource handle s = on_resource handle s (λ at. fetch true at s)
+load_resource handle s = fetched_as true (resource_of handle s.resources) s
 
 -- Holds where the name is bound to a busy handle.
 abbrev pub bars : Option ℕ → Memory → Bool
@@ -252,16 +255,20 @@ detached_at at (Some h) s =
 -- ReleaseResource: disposes of a resource's handle; -117 (memLockedErr) where the handle is busy. Nothing is done where
 -- the resource was changed.
 -- See decision 48 (`ReleaseResource` of a busy handle depends on its role).
+abbrev pub release_found : Option ℕ → Managers → Found → Answer (Unit {0})
+release_found handle s at = if bars handle s.memory then refused LOCKED s
+    else if is_changed at.reference.here then done tt s else done tt (released_at at handle s)
+
 abbrev pub release_resource : Option ℕ → Managers → Answer (Unit {0})
-release_resource handle s = on_resource handle s (λ at.
-    if bars handle s.memory then refused LOCKED s
-    else if is_changed at.reference.here then done tt s
-    else done tt (released_at at handle s))
+release_resource handle s = on_resource handle s (release_found handle s)
 
 -- DetachResource: makes a resource's handle the application's own; -198 (resAttrErr) where the resource was changed.
+abbrev pub detach_found : Option ℕ → Managers → Found → Answer (Unit {0})
+detach_found handle s at = if is_changed at.reference.here then refused RES_ATTR s
+    else done tt (detached_at at handle s)
+
 abbrev pub detach_resource : Option ℕ → Managers → Answer (Unit {0})
-detach_resource handle s = on_resource handle s (λ at.
-    if is_changed at.reference.here then refused RES_ATTR s else done tt (detached_at at handle s))
+detach_resource handle s = on_resource handle s (detach_found handle s)
 
 -- GetResInfo: returns the ID, the type and the name of a resource; the name has no bytes where the resource has no
 -- name.

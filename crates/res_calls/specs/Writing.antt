@@ -1,5 +1,6 @@
 use Rattle.std.specs.Prelude.{Bool, true, false}
-use Rattle.res_calls.specs.Asked.{ResourceAsked, CreateResFile, CloseResFile, UpdateResFile}
+use Rattle.res_calls.specs.Asked.{ResourceAsked, OpenResFile, CreateResFile, CloseResFile, UpdateResFile, AddResource}
+use Rattle.res_calls.specs.Asked.{RemoveResource, ChangedResource, WriteResource, SetResInfo, SetResAttrs}
 
 -- Holds of a call that may write a fork: CreateResFile, and the two calls that update a file.
 -- See decision 59 (two calls write the bytes of a fork).
@@ -8,3 +9,16 @@ writes (CreateResFile name) = true
 writes (CloseResFile number) = true
 writes (UpdateResFile number) = true
 writes asked = false
+
+-- Holds of a call that may change which resources there are, or the type, ID, name, attributes or stored data of one.
+abbrev pub alters : ResourceAsked → Bool
+alters (OpenResFile name) = true
+alters (CloseResFile number) = true
+alters (UpdateResFile number) = true
+alters (AddResource handle kind id name) = true
+alters (RemoveResource handle) = true
+alters (ChangedResource handle) = true
+alters (WriteResource handle) = true
+alters (SetResInfo handle id name) = true
+alters (SetResAttrs handle attrs) = true
+alters asked = false

@@ -13,8 +13,9 @@ ghost use Rattle.res_calls.specs.Changing.{added_to};
 ghost use Rattle.res_calls.specs.Fetch.{done};
 ghost use Rattle.res_calls.specs.Rows.{noting, on_file};
 ghost use Rattle.res_calls.specs.Given.{IsAnswered, managers};
-ghost use Rattle.res_calls.specs.Places.{found_at, chained, view_new, add_found, remove_found};
+ghost use Rattle.res_calls.specs.Places.{found_at, chained, view_new};
 ghost use Rattle.res_calls.specs.View.{view_open};
+ghost use Rattle.res_calls.specs.Changing.{add_found, remove_found};
 
 use crate::chain::place_numbered;
 use crate::files::{OpenFile, Resources};

@@ -8,8 +8,9 @@ ghost use Rattle.res_calls.specs.Files.{Found, Resources as ResourcesValue};
 ghost use Rattle.res_calls.specs.Changing as changing;
 ghost use Rattle.res_calls.specs.Rows.{noting};
 ghost use Rattle.res_calls.specs.Given.{IsAnswered, managers};
-ghost use Rattle.res_calls.specs.Places.{found_at, chained, change_found, write_found};
+ghost use Rattle.res_calls.specs.Places.{found_at, chained};
 ghost use Rattle.res_calls.specs.View.{view_open};
+ghost use Rattle.res_calls.specs.Changing.{change_found, write_found};
 
 use crate::files::{OpenFile, Resources};
 use crate::find::{Spot, entry_at, has_bit_at, mark, number_at, store};

@@ -10,10 +10,11 @@ ghost use Rattle.res_calls.specs.Fetch as fetch;
 ghost use Rattle.res_calls.specs.Fetch.{is_system};
 ghost use Rattle.res_calls.specs.Rows.{noting};
 ghost use Rattle.res_calls.specs.Given.{IsFetched, managers};
-ghost use Rattle.res_calls.specs.Places.{found_at, found_from, chained, made_for, fetched_as, fetch_wanted};
+ghost use Rattle.res_calls.specs.Places.{found_at, found_from, chained, made_for, fetch_wanted};
 ghost use Rattle.res_calls.specs.Places.{last_fetched};
 ghost use Rattle.res_calls.specs.Places.{WantsHost};
 ghost use Rattle.res_calls.specs.View.{view_open};
+ghost use Rattle.res_calls.specs.Rows.{fetched_as};
 
 use crate::fetched::{Fetched, Unread};
 use crate::files::{OpenFile, Resources};

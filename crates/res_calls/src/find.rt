@@ -11,8 +11,8 @@ ghost use Rattle.res_map.specs.View.{view_entry};
 ghost use Rattle.res_calls.specs.Files.{Found, find, with_reference};
 ghost use Rattle.res_calls.specs.Rows.{resource_of};
 ghost use Rattle.res_calls.specs.Places.{found_at, found_from, spot_of, is_searched, is_wanted};
-ghost use Rattle.res_calls.specs.Places.{touched_files};
 ghost use Rattle.res_calls.specs.View.{view_open};
+ghost use Rattle.res_calls.specs.Changing.{touched_files};
 
 use crate::chain::is_open_at;
 use crate::files::{OWN_PLACE, OpenFile, Resources};

@@ -1,9 +1,11 @@
 //! Laws of the definitions.
 
 ghost use Rattle.std.specs.Prelude.{◌≡◌, ◌≢◌, ◌<◌, ◌⊎◌, ◌&&◌, ℕ, ℤ, Bool, true, false, not, Ok, Err, Option, Some, None};
-ghost use Rattle.std.specs.Prelude.{List, [], ◌∷◌, length, option_map, filter, nat_le, slice_get};
+ghost use Rattle.std.specs.Prelude.{List, [], ◌∷◌, length, map, option_map, filter, nat_le, slice_get};
 ghost use Rattle.std.specs.List.{flat_map, list_all, list_any, find as first_of};
 ghost use Rattle.mac_words.specs.declared.code.TheConstants.OsErr.{NO_ERR, RES_FILE_NOT_FOUND};
+ghost use Rattle.block_store.specs.Block.{is_relocatable};
+ghost use Rattle.block_store.specs.Run.{has};
 ghost use Rattle.fork_format.specs.Canonical.{clear, fits};
 ghost use Rattle.fork_format.specs.Content.{Content, IsContent};
 ghost use Rattle.heap_calls.specs.Asked.{Asked};
@@ -12,9 +14,11 @@ ghost use Rattle.heap_calls.specs.Owned.{resource_role_at};
 ghost use Rattle.heap_calls.specs.State.{State, Memory};
 ghost use Rattle.res_map.specs.Split.{Split};
 ghost use Rattle.res_map.specs.Map.{Reference, is_changed, content, map_of};
-ghost use Rattle.res_calls.specs.Asked.{ResourceAsked, UpdateResFile, served};
+ghost use Rattle.res_calls.specs.Asked.{ResourceAsked, OpenResFile, UpdateResFile, served};
 ghost use Rattle.res_calls.specs.Changing.{add_resource};
+ghost use Rattle.res_calls.specs.Disposing.{disposes_of, opens_file};
 ghost use Rattle.res_calls.specs.Fetch.{Managers};
+ghost use Rattle.res_calls.specs.Fetching.{fetches, without_handles, OnlyGivesHandles, OpensAtMost};
 ghost use Rattle.res_calls.specs.Files.{File, Resources, OpenFile, Found, file_of, find_from_current, is_at};
 ghost use Rattle.res_calls.specs.Forks.{Written, HasFork, StoresHandle};
 ghost use Rattle.res_calls.specs.Leaving.{leave};
@@ -23,7 +27,7 @@ ghost use Rattle.res_calls.specs.Owning.{Owns};
 ghost use Rattle.res_calls.specs.Rows.{launched_resources, preloaded, map_in, keep_error};
 ghost use Rattle.res_calls.specs.Sound.{Sound};
 ghost use Rattle.res_calls.specs.Update.{bytes_held, updated_reference, updated_map, fork_of, rewritten, update};
-ghost use Rattle.res_calls.specs.Writing.{writes};
+ghost use Rattle.res_calls.specs.Writing.{writes, alters};
 
 /// States that a search begins in the current file: the search finds the first reference that passes a test, among the
 /// references of the current file, then of the file opened before it, and so on, and of the System file last.
@@ -76,6 +80,39 @@ pub fn only_an_update_or_a_creation_writes_a_fork()
     ensures written { (asked : ResourceAsked) (s : Managers) → Written asked s (served asked s).after.resources.files }
     ensures other_calls { (asked : ResourceAsked) (s : Managers) → writes asked ≡ false
         → (served asked s).after.resources.files ≡ s.resources.files }
+{}
+
+/// States that a fetch stores nothing, whatever blocks it purges to make room: no fork changes, and of no resource the
+/// type, the ID, the name, the attributes, the stored data or the place among the others. A fetch gives handles to
+/// references that have none, and sets the code that `ResError` returns. The law holds of each call that fetches, of the
+/// fetch from the application's own fork, by which a segment is loaded, and of the preloading at the launch; and a file
+/// that is opened is preloaded so, and leaves the other open files as they were.
+pub fn a_fetch_stores_nothing()
+    ensures fetched { (asked : ResourceAsked) (s : Managers) → fetches asked ≡ true
+        → OnlyGivesHandles s.resources (served asked s).after.resources }
+    ensures own { (kind : ℕ) (id : ℤ) (s : Managers)
+        → OnlyGivesHandles s.resources (fetch_own kind id s).after.resources }
+    ensures launched { (files : List File) (system : Content) (r : Resources) (m : Memory)
+        → launched_resources files system ≡ Ok r
+        → OnlyGivesHandles r (preloaded (record { memory = m; resources = r })).0.resources }
+    ensures opened { (name : List ℕ) (s : Managers)
+        → OpensAtMost name s.resources (served (OpenResFile name) s).after.resources }
+{}
+
+/// States that of the calls only those purge that fetch, and the one that opens a file: after any other call each handle
+/// that had a block has one, unless the call disposed of the handle. As a fetch stores nothing, no purge is stored.
+pub fn only_a_fetch_or_an_opening_purges()
+    ensures { (asked : ResourceAsked) (s : Managers) (h : ℕ) → fetches asked ≡ false → opens_file asked ≡ false
+        → disposes_of h asked s ≡ false → has (is_relocatable h) s.memory.heap.zone ≡ true
+        → has (is_relocatable h) (served asked s).after.memory.heap.zone ≡ true }
+{}
+
+/// States that nine calls alone change which resources there are, or the type, the ID, the name, the attributes or the
+/// stored data of one: those that open, close or update a file, `AddResource`, `RemoveResource`, `ChangedResource`,
+/// `WriteResource`, `SetResInfo` and `SetResAttrs`.
+pub fn few_calls_alter_resources()
+    ensures { (asked : ResourceAsked) (s : Managers) → alters asked ≡ false
+        → map without_handles (served asked s).after.resources.chain ≡ map without_handles s.resources.chain }
 {}
 
 /// States what an update stores. Of a changed resource, which always has a handle, the update stores the bytes of the

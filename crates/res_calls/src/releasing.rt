@@ -5,8 +5,9 @@ ghost use Rattle.res_calls.specs.Files.{Found, Resources as ResourcesValue};
 ghost use Rattle.res_calls.specs.Rows as rows;
 ghost use Rattle.res_calls.specs.Rows.{noting};
 ghost use Rattle.res_calls.specs.Given.{IsAnswered, managers};
-ghost use Rattle.res_calls.specs.Places.{found_at, chained, release_found, detach_found};
+ghost use Rattle.res_calls.specs.Places.{found_at, chained};
 ghost use Rattle.res_calls.specs.View.{view_open};
+ghost use Rattle.res_calls.specs.Rows.{release_found, detach_found};
 
 use crate::files::{OpenFile, Resources};
 use crate::find::{Spot, has_bit_at, set_handle};

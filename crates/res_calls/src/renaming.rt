@@ -8,8 +8,9 @@ ghost use Rattle.res_calls.specs.Files.{Found, Resources as ResourcesValue};
 ghost use Rattle.res_calls.specs.Changing as changing;
 ghost use Rattle.res_calls.specs.Rows.{noting};
 ghost use Rattle.res_calls.specs.Given.{IsAnswered, managers};
-ghost use Rattle.res_calls.specs.Places.{found_at, chained, rename_found, set_found};
+ghost use Rattle.res_calls.specs.Places.{found_at, chained};
 ghost use Rattle.res_calls.specs.View.{view_open};
+ghost use Rattle.res_calls.specs.Changing.{rename_found, set_found};
 
 use crate::files::{OpenFile, Resources};
 use crate::find::{Spot, entry_at, has_bit_at, number_at, rename, set_attrs};

@@ -13,6 +13,7 @@ use Rattle.fork_format.specs.declared.content.Group.{Group as StoredGroup}
 use Rattle.fork_format.proofs.Bools.{same_self, not_same}
 use Rattle.fork_format.proofs.Rest.{rest-map}
 use Rattle.fork_format.proofs.Whole.{filter-all}
+use Rattle.fork_format.proofs.Spelled.{distinct-all}
 use Rattle.res_map.specs.Map.{Reference, is_of, of_type, types, stand_together, read_reference}
 use Rattle.res_map.specs.Map.{with_handle, of_group, of_groups, group_of, all_anew}
 use Rattle.res_map.specs.Runs.{run, stored_group, runs}
@@ -21,7 +22,6 @@ use Rattle.res_map.specs.declared.stored.StoredReference.{StoredReference}
 use Rattle.res_map.proofs.Anew.{kinds-anew, take-anew, drop-anew}
 use Rattle.res_map.proofs.Order.{kinds_of}
 use Rattle.res_map.proofs.TypeLists.{is_apart}
-use Rattle.res_map.proofs.Types.{distinct-all}
 
 -- References of one type that stand one after the other.
 

@@ -9,8 +9,8 @@ use Rattle.fork_format.specs.Content.{distinct}
 use Rattle.fork_format.proofs.Bools.{same_self, and_both, not_same}
 use Rattle.fork_format.proofs.Joining.{left_apart}
 use Rattle.fork_format.proofs.Whole.{filter-all}
+use Rattle.fork_format.proofs.Spelled.{distinct-all}
 use Rattle.res_map.specs.Map.{starts_with, stand_together}
-use Rattle.res_map.proofs.Types.{distinct-all}
 
 -- Lists of types: which of them are different, and which stand together.
 

@@ -1,9 +1,9 @@
 use Rattle.std.specs.Prelude.{◌≡◌, ℕ, ◌+◌, ◌==◌, nat_lt, Bool, false, ◌&&◌, ◌||◌, not, IsTrue, bytes_eq, codes, Option}
 use Rattle.std.specs.Prelude.{Some, None, is_some, Result, Ok, Err, List, [], ◌∷◌, ◌++◌, map, length, take, drop, find}
-use Rattle.std.specs.Prelude.{unwrap_or, if◌then◌else◌}
+use Rattle.std.specs.Prelude.{unwrap_or, min, if◌then◌else◌}
 use Rattle.std.specs.List.{list_all}
 use Rattle.std.specs.Map.{lookup}
-use Rattle.std.specs.Option.{ok_or, option_map, option_or}
+use Rattle.std.specs.Option.{ok_or, option_map}
 use Rattle.std.specs.Str.Lines.{lines}
 use Rattle.mac_words.specs.declared.call.Call.{Call}
 use Rattle.script_text.specs.declared.fault.FaultKind.{FaultKind}
@@ -172,10 +172,16 @@ sets_missing above _ = false
 abbrev pub first_missing : Above → List Statement → Option ℕ
 first_missing above steps = option_map (λ s. s.line) (find (λ s. sets_missing above s.said) steps)
 
--- The number of the line whose grow-zone script is missing, or has no `end`. After a `grow` without `end` no line
--- sets a grow-zone script.
+-- The lesser of two line numbers; where there is only one, that one.
+abbrev pub lesser : Option ℕ → Option ℕ → Option ℕ
+lesser None n = n
+lesser (Some m) None = Some m
+lesser (Some m) (Some n) = Some (min m n)
+
+-- The number of the first line that is at fault because of what does not follow: a line that sets a grow-zone script
+-- which is not there, or a `grow` line without `end`.
 abbrev pub unfinished : Above → Option ℕ
-unfinished above = option_or (first_missing above above.steps) (option_map (λ b. b.line) above.begun)
+unfinished above = lesser (first_missing above above.steps) (option_map (λ b. b.line) above.begun)
 
 -- What all lines state, where no grow-zone script is missing.
 abbrev pub unless_unfinished : Option ℕ → Above → Result Spelled (ℕ × FaultKind)

@@ -14,6 +14,9 @@ use arrayvec::ArrayVec;
 use mac_words::{FileName, Label, Name, OsType};
 use std::alloc::{AllocError, Global};
 
+/// The greatest size, offset or index that an argument states.
+const GREATEST_SIZE: u32 = 2_147_483_647;
+
 fn is_label_byte(byte: u8) -> bool
     ensures { result ≡ is_label_byte_of byte }
 {
@@ -180,7 +183,7 @@ impl Argument for u32 {
     ghost seen = { Number };
 
     fn find(_alloc: Global, token: &[u8]) -> Result<Option<Self>, AllocError> {
-        Ok(number_in(token, 10, 2_147_483_647))
+        Ok(number_in(token, 10, GREATEST_SIZE))
     }
 }
 

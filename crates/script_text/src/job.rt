@@ -13,11 +13,16 @@ use crate::arguments::{first, none, one, path};
 use crate::fault::{FaultKind, ScriptFault};
 use crate::inputs::{find_app, fits};
 use crate::job_word::JobWord;
-use crate::lines::next_line;
+use crate::lines::{LONGEST_LINE, next_line};
 use crate::token::{first_blank, trim};
 use mac_words::{FileName, Label};
 use std::alloc::Global;
 use std::marker::Model;
+
+/// The least and the greatest memory of a job, in bytes.
+const LEAST_MEMORY: u32 = 512;
+
+const GREATEST_MEMORY: u32 = 134_217_728;
 
 /// What a job takes from outside. Paths are lent from the job's text, and may be empty.
 #[derive(Debug, Drop)]
@@ -98,7 +103,7 @@ impl<'t> Model for Reader<'t> {
 fn is_memory(size: u32) -> bool
     ensures { result ≡ is_memory_size size }
 {
-    512 <= size && size <= 134_217_728 && size % 16 == 0
+    LEAST_MEMORY <= size && size <= GREATEST_MEMORY && size % 16 == 0
 }
 
 impl<'t> Reader<'t> {
@@ -239,7 +244,7 @@ impl<'t> Reader<'t> {
     fn read(&mut self, line: &'t [u8]) -> Result<(), FaultKind>
         ensures { Gives (λ _. self.new) result (with_line self.old line.now) }
     {
-        if line.len() > 65535 {
+        if line.len() > LONGEST_LINE {
             return Err(FaultKind::LongLine);
         }
         let text = trim(line);

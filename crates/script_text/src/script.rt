@@ -7,7 +7,7 @@ ghost use Rattle.script_text.specs.Call.{is_allowed};
 ghost use Rattle.script_text.specs.Script.{Parts, AllAllowed, NoneIsUnused, are_allowed, block_of, Above, call_at};
 ghost use Rattle.script_text.specs.Script.{grow_at, end_at};
 ghost use Rattle.script_text.specs.Script.{is_new, with_token, read_at, read_from, no_lines, is_begun, is_there};
-ghost use Rattle.script_text.specs.Script.{sets_missing, first_missing, unfinished, script_of};
+ghost use Rattle.script_text.specs.Script.{sets_missing, first_missing, lesser, unfinished, script_of};
 ghost use Rattle.script_text.specs.Script.{said_as, statement, blocks_seen, begun_seen, spelled};
 ghost use Rattle.script_text.specs.Inner.{IsKept};
 ghost use Rattle.script_text.specs.Reading.{Gives, GivesAt};
@@ -15,7 +15,7 @@ ghost use Rattle.script_text.specs.Reading.{Gives, GivesAt};
 use crate::arguments::{none, one};
 use crate::blocks::Blocks;
 use crate::fault::{FaultKind, ScriptFault};
-use crate::lines::next_line;
+use crate::lines::{LONGEST_LINE, next_line};
 use crate::token::{first_blank, trim};
 use crate::word::Word;
 use mac_words::{Call, ControlCall, Label};
@@ -185,7 +185,7 @@ impl Reader {
     fn read(&mut self, number: usize, line: &[u8]) -> Result<(), FaultKind>
         ensures { Gives (λ _. self.new) result (read_at number self.old line.now) }
     {
-        if line.len() > 65535 {
+        if line.len() > LONGEST_LINE {
             return Err(FaultKind::LongLine);
         }
         let text = trim(line);
@@ -216,15 +216,26 @@ impl Reader {
         }
     }
 
-    /// Returns the number of the first line that sets a grow-zone script that is not there, or of a `grow` line
+    /// Returns the number of the first line that sets a grow-zone script that is not there, or that is a `grow` line
     /// without `end`.
     fn unfinished(&self) -> Option<usize>
         ensures { result ≡ unfinished self.now }
     {
-        match first_missing_for(self, &self.steps) {
-            Some(line) => Some(line),
-            None => self.begun.as_ref().map(|begun| begun.line),
-        }
+        lesser_of(
+            first_missing_for(self, &self.steps),
+            self.begun.as_ref().map(|begun| begun.line),
+        )
+    }
+}
+
+/// Returns the lesser of two line numbers; where there is only one, that one.
+fn lesser_of(one: Option<usize>, other: Option<usize>) -> Option<usize>
+    ensures { result ≡ lesser one other }
+{
+    match (one, other) {
+        (Some(one), Some(other)) => Some(one.min(other)),
+        (Some(one), None) => Some(one),
+        (None, other) => other,
     }
 }
 

@@ -2,3 +2,4 @@ mod Worked
 pub mod Marking
 pub mod Loading
 pub mod Laws
+pub mod Taking

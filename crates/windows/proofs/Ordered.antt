@@ -114,7 +114,8 @@ length-taken_out w [] c = absurd (contains-none w c)
 length-taken_out w (v ∷ ws) c = ap (λ (us : List Window). length us + 1) (taken_out-cons w v ws)
     ∙ taken_out_length w v ws (is_window w.at w.len v) refl (contained w v ws c) (length-taken_out w ws)
 
-below_cond : (b : Bool) (m n : ℕ) → m < n → cond b (1 + m) 0 < suc n
+-- a place that counts on only where a test holds
+pub below_cond : (b : Bool) (m n : ℕ) → m < n → cond b (1 + m) 0 < suc n
 below_cond true m n h = omega arith
 below_cond false m n h = omega arith
 

@@ -101,7 +101,7 @@ fn is_told(
         Some((line, row, told)) => {
             writeln!(text, "{name}:{line}: {}, {store}", case.title)?;
             writeln!(text, "  expected: {row}")?;
-            writeln!(text, "  told:     {told}")?;
+            writeln!(text, "  came:     {told}")?;
             Ok(false)
         }
         None => Ok(true),

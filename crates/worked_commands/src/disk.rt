@@ -1,4 +1,4 @@
-//! A host in memory.
+//! A host in memory, and a watch that keeps what is reported to it.
 
 ghost use Rattle.std.specs.Prelude.{None};
 
@@ -8,8 +8,8 @@ use applications::Watch;
 use commands::{Host, ReadError, WriteError};
 use std::alloc::{AllocError, Global};
 
-/// A host with the files of an archive. The host notes each request and each report of a run's progress in a line, and
-/// keeps the bytes that are printed and the files that are written.
+/// A host with the files of an archive. The host notes each request in a line, and keeps the bytes that are printed and
+/// the files that are written.
 #[derive(Drop)]
 pub struct Disk<'a> {
     alloc: Global,
@@ -19,7 +19,6 @@ pub struct Disk<'a> {
     /// The number of requests so far.
     count: usize,
     pub asked: String,
-    pub progress: String,
     pub printed: Vec<u8>,
     pub written: Vec<Part>,
 }
@@ -33,7 +32,6 @@ impl<'a> Disk<'a> {
             fails,
             count: 0,
             asked: String::new(alloc),
-            progress: String::new(alloc),
             printed: Vec::new(alloc),
             written: Vec::new(alloc),
         }
@@ -54,16 +52,11 @@ impl<'a> Disk<'a> {
     }
 }
 
-impl Watch for Disk<'_> {
-    // The printed bytes are compared, and nothing is claimed of them.
-    ghost printed = { λ _. None };
-
-    fn done(&mut self, done: usize, of: usize) {
-        let _ = writeln!(self.progress, "{done} of {of}");
-    }
-}
-
 impl Host for Disk<'_> {
+    // What is printed, read and written is compared, and nothing is claimed of it.
+    ghost printed = { λ _. None };
+    ghost accesses = { λ _. None };
+
     fn read(&mut self, alloc: Global, path: &str) -> Result<Vec<u8>, ReadError> {
         if !self.works("read", path)? {
             return Err(ReadError::CannotRead);
@@ -97,5 +90,17 @@ impl Host for Disk<'_> {
         }
         self.keep(path, bytes)?;
         Ok(())
+    }
+}
+
+/// A watch that notes each report of a run's progress in a line.
+#[derive(Drop)]
+pub struct Reports {
+    pub lines: String,
+}
+
+impl Watch for Reports {
+    fn done(&mut self, done: usize, of: usize) {
+        let _ = writeln!(self.lines, "{done} of {of}");
     }
 }

@@ -4,6 +4,7 @@ use crate::archive::{Archive, Command};
 use crate::comparing::compare_files;
 use crate::disk::Disk;
 use crate::parts::Part;
+use applications::Unwatched;
 use block_store::ListZones;
 use commands::{Output, gather, outputs_of};
 use desk::{Job, Outcome, run_with};
@@ -29,7 +30,7 @@ fn outcome_in_lists(alloc: Global, job: &Job) -> Option<Outcome> {
     let Ok(zones) = ListZones::new(alloc, memory) else {
         return None;
     };
-    let (outcome, zones) = run_with(alloc, job, zones);
+    let (outcome, zones) = run_with(alloc, job, zones, &mut Unwatched);
     drop(zones);
     outcome.ok()
 }

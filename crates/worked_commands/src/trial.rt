@@ -2,7 +2,7 @@
 
 use crate::archive::{Archive, Command};
 use crate::comparing::{compare, compare_files, compare_some};
-use crate::disk::Disk;
+use crate::disk::{Disk, Reports};
 use crate::over_lists::compare_in_lists;
 use commands::{ToolFault, tool};
 use std::alloc::{AllocError, Global};
@@ -11,6 +11,8 @@ use std::alloc::{AllocError, Global};
 #[derive(Drop)]
 struct Outcome<'a> {
     disk: Disk<'a>,
+    /// The reports of the progress.
+    reports: Reports,
     /// The text of the standard error.
     told: String,
     /// The status with which the program ends, in a line.
@@ -33,12 +35,20 @@ fn outcome_of<'a>(
     fails: usize,
 ) -> Result<Outcome<'a>, AllocError> {
     let mut disk = Disk::new(alloc, archive, fails);
-    let (told, status) = match tool(alloc, words, &mut disk) {
+    let mut reports = Reports {
+        lines: String::new(alloc),
+    };
+    let (told, status) = match tool(alloc, words, &mut disk, &mut reports) {
         Ok(()) => (String::new(alloc), 0),
         Err(fault) => (told_of(alloc, &fault)?, fault.status()),
     };
     let status = format!(in alloc; "{status}\n")?;
-    Ok(Outcome { disk, told, status })
+    Ok(Outcome {
+        disk,
+        reports,
+        told,
+        status,
+    })
 }
 
 /// Compares bytes with a part, or with the lines of a part that are to stand in the bytes. Where the command has
@@ -82,7 +92,8 @@ fn compare_outcome(
     let status = outcome.status.as_bytes();
     compare(text, "status", wanted_status(command), status)?;
     let progress = command.wants("progress").unwrap_or(b"");
-    compare(text, "progress", progress, disk.progress.as_bytes())?;
+    let reported = outcome.reports.lines.as_bytes();
+    compare(text, "progress", progress, reported)?;
     if let Some(asked) = command.wants("asked") {
         compare(text, "asked", asked, disk.asked.as_bytes())?;
     }

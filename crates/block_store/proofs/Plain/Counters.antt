@@ -1,6 +1,6 @@
-use Rattle.std.proofs.Common.{◌≡◌, ℕ, ◌≤◌, arith}
+use Rattle.std.proofs.Common.{◌≡◌, ℕ, arith}
 use Rattle.block_store.specs.Rest.{counted}
 
 -- a counter is the same after none more
-pub counted-none : (n : ℕ) → n ≤ 18446744073709551615 → counted n 0 ≡ n
-counted-none n le = omega arith
+pub counted-none : (n : ℕ) → counted n 0 ≡ n
+counted-none n = omega arith

@@ -80,18 +80,18 @@ none-below k below b above is once =
 
 -- an old list and a new one, each as some blocks and those above them; no slot leads to two of the old blocks, and what
 -- is below in the new list is among what is below in the old one
-record Changed (old new below below' above above' : List Block) : Type 0 where
-  once : (k : ℕ) → count (is_relocatable k) old ≤ 1
-  fewer : (k : ℕ) → count (is_relocatable k) below' ≤ count (is_relocatable k) below
-  was : old ≡ below ++ above
-  is : (k : ℕ) → distance k new ≡ distance k (below' ++ above')
+pub record Changed (old new below below' above above' : List Block) : Type 0 where
+  pub once : (k : ℕ) → count (is_relocatable k) old ≤ 1
+  pub fewer : (k : ℕ) → count (is_relocatable k) below' ≤ count (is_relocatable k) below
+  pub was : old ≡ below ++ above
+  pub is : (k : ℕ) → distance k new ≡ distance k (below' ++ above')
 
 -- the blocks below and one more
-total-next : (of : Block → ℕ) (below : List Block) (b : Block) → total of (below ++ b ∷ []) ≡ total of below + of b
+pub total-next : (of : Block → ℕ) (below : List Block) (b : Block) → total of (below ++ b ∷ []) ≡ total of below + of b
 total-next of below b = omega (arith, total-append of below (b ∷ []))
 
 -- the same block comes first in both
-past-block : (old new below below' above above' : List Block) (b : Block)
+pub past-block : (old new below below' above above' : List Block) (b : Block)
     → Changed old new below below' (b ∷ above) (b ∷ above') → Changed old new (below ++ b ∷ []) (below' ++ b ∷ []) above
     above'
 past-block old new below below' above above' b c = record {
@@ -116,7 +116,7 @@ past-free old new below below' above above' n c = record {
 }
 
 -- a relocatable block that comes first in both stands lower if less is below it
-stands-first : (old new below below' above above' : List Block) (id : ℕ) (flags : Flags) (content : List ℕ)
+pub stands-first : (old new below below' above above' : List Block) (id : ℕ) (flags : Flags) (content : List ℕ)
     → Changed old new below below' (Relocatable id flags content ∷ above) (Relocatable id flags content ∷ above')
     → stands_lower old new (Relocatable id flags content) ≡ nat_lt (sizes below') (sizes below)
 stands-first old new below below' above above' id flags content c =
@@ -132,7 +132,7 @@ stands-first old new below below' above above' id flags content c =
     ap (λ o. is_less o (distance id old)) is ∙ ap (λ o. is_less (Some (sizes below')) o) was
 
 -- blocks with as much below them as before don't stand lower
-none-lower : (old new below below' bs above above' : List Block)
+pub none-lower : (old new below below' bs above above' : List Block)
     → Changed old new below below' (bs ++ above) (bs ++ above') → sizes below' ≡ sizes below
     → count (stands_lower old new) bs ≡ 0
 none-lower old new below below' [] above above' c same = refl
@@ -152,21 +152,21 @@ none-lower old new below below' (b ∷ bs) above above' c same =
         content c ∙ grind (arith, nat_tests)
 
 -- blocks that take bytes
-abbrev Filled : List Block → Type 0
+abbrev pub Filled : List Block → Type 0
 Filled [] = Unit {0}
 Filled (b ∷ bs) = (0 < size b) × Filled bs
 
-filled-apart : (bs : List Block) → Apart bs → Filled bs
+pub filled-apart : (bs : List Block) → Apart bs → Filled bs
 filled-apart [] a = tt
 filled-apart (b ∷ bs) a = (apart-size b bs a.0, filled-apart bs a.1)
 
-filled-parts : (xs ys : List Block) → Filled (xs ++ ys) → Filled xs × Filled ys
+pub filled-parts : (xs ys : List Block) → Filled (xs ++ ys) → Filled xs × Filled ys
 filled-parts [] ys f = (tt, f)
 filled-parts (x ∷ xs) ys f = let parts = filled-parts xs ys f.1 in ((f.0, parts.0), parts.1)
 
 -- the relocatable blocks of a run without its Free blocks: all of them stand lower if less is below the first, else
 -- those that had Free bytes below them
-lowered-movers : (old new below below' run above above' : List Block)
+pub lowered-movers : (old new below below' run above above' : List Block)
     → Changed old new below below' (run ++ above) (movers run ++ above') → Loose run → Filled run
     → sizes below' ≤ sizes below
     → count (stands_lower old new) run ≡ cond (nat_lt (sizes below') (sizes below)) (count is_mover run) (falling run)

@@ -2,9 +2,9 @@ use Rattle.std.proofs.Common.{◌≡◌, true, false, List, [], ◌∷◌, repli
 use Rattle.std.specs.Option.{option_map}
 use Rattle.block_store.specs.declared.flags.Flags.{Flags}
 use Rattle.block_store.specs.Block.{Block, Free, Masters, Relocatable, no_flags, tidy}
-use Rattle.block_store.specs.Run.{RunSpot, run_at, settle, with_run}
+use Rattle.block_store.specs.Run.{RunSpot, run_at, runs, settle, with_run}
 use Rattle.block_store.specs.Rest.{falling}
-use Rattle.block_store.specs.Compact.{lowered, distance}
+use Rattle.block_store.specs.Compact.{lowered, distance, settled, falls}
 
 -- Worked examples of what settling counts, by the definitions alone.
 
@@ -35,6 +35,16 @@ second-was = refl
 
 second-is : distance 2 after ≡ Some 304
 second-is = refl
+
+-- with all three runs settled, block 5 stands lower too; the lowest run, below the Masters block, has no block
+three-lower : lowered before (settled 3 before) ≡ 3
+three-lower = refl
+
+three-falling : falls 3 (runs before) ≡ 3
+three-falling = refl
+
+two-runs : falls 2 (runs before) ≡ 2
+two-runs = refl
 
 -- the other way round none stands lower
 none-back : lowered after before ≡ 0

@@ -94,7 +94,7 @@ abbrev pub reach : ℕ → List Block → ℕ
 reach k [] = 0
 reach k (b ∷ above) = cond (is_relocatable k b) 0 (size b + reach k above)
 
-reach-distance : (k : ℕ) (bs : List Block) (d : ℕ) → distance k bs ≡ Some d → reach k bs ≡ d
+pub reach-distance : (k : ℕ) (bs : List Block) (d : ℕ) → distance k bs ≡ Some d → reach k bs ≡ d
 reach-distance k [] d e = absurd (none-some _ e)
 reach-distance k (b ∷ bs) d e = cases (is_relocatable k b) (spot (is_relocatable k) bs) (λ d e. reach-distance k bs d e)
     e
@@ -115,7 +115,7 @@ pub reach-tidy : (k : ℕ) (bs : List Block) → reach k (tidy bs) ≡ reach k b
 reach-tidy k [] = refl
 reach-tidy k (b ∷ bs) = reach-add k b (tidy bs) ∙ ap (λ n. cond (is_relocatable k b) 0 (size b + n)) (reach-tidy k bs)
 
-reach-below : (k : ℕ) (below xs ys : List Block) → reach k xs ≤ reach k ys
+pub reach-below : (k : ℕ) (below xs ys : List Block) → reach k xs ≤ reach k ys
     → reach k (below ++ xs) ≤ reach k (below ++ ys)
 reach-below k [] xs ys le = le
 reach-below k (b ∷ below) xs ys le = cases (is_relocatable k b) (reach-below k below xs ys le)
@@ -130,7 +130,7 @@ reach-free k zero above = let z : reach k above ≡ 0 + reach k above = omega ar
 reach-free k (suc n) above = refl
 
 -- so many Free bytes more below a run: its settled form is no higher than that
-reach-settle : (k more : ℕ) (run above : List Block) → Loose run
+pub reach-settle : (k more : ℕ) (run above : List Block) → Loose run
     → reach k (movers run ++ free (more + free_sum run) ++ above) ≤ more + reach k (run ++ above)
 reach-settle k more [] above l = let e : reach k (free (more + 0) ++ above) ≡ more + 0 + reach k above =
     reach-free k (more + 0) above in let z : reach k (free (more + 0) ++ above) ≤ more + reach k above = omega arith in

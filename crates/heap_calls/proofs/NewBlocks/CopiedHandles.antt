@@ -83,10 +83,10 @@ get-push (y ∷ es) e (suc h) x at = get-push es e h x at
 
 -- a name that is no handle with a block
 pub copy-refused : (value : Memory) (zone : List Block) (rest : Rest) (es : List Anchor) (log : Log) (handle : Option ℕ)
-    (code : OsErr) → memory_of zone rest es log ≡ value → log.searches ≤ 18446744073709551615
+    (code : OsErr) → memory_of zone rest es log ≡ value
     → look_up handle (state_of zone rest.slots es) ≡ Err code → searching (hand_to_hand_searches handle value.heap)
     (silent (hand_to_hand handle) value) ≡ (Err code, value)
-copy-refused value zone rest es log handle code is fits none =
+copy-refused value zone rest es log handle code is none =
     searched-done (hand_to_hand handle) (hand_to_hand_searches handle) value zone zone rest rest es es log log
     (Err code) 0 is
     (ap (λ r. for_found r s (λ k. if_ready (slotted (is_relocatable k.number) s) s
@@ -94,7 +94,7 @@ copy-refused value zone rest es log handle code is fits none =
     refl refl
     (sym (ap (λ r. found_searches r (λ k. slot_searches (is_relocatable k.number) s + ready_searches
     (slotted (is_relocatable k.number) s) (block_searches (is_relocatable k.number) (content_of k.at.here)))) none))
-    (ap (λ k. record log { searches = k }) (sym (counted-none log.searches fits)))
+    (ap (λ k. record log { searches = k }) (sym (counted-none log.searches)))
     ∙ ap (λ (m : Memory). (Err code, m)) is
   where
     s : State
@@ -102,14 +102,13 @@ copy-refused value zone rest es log handle code is fits none =
 
 -- a name that is no handle's
 pub copy-not_found : (value : Memory) (zone : List Block) (rest : Rest) (es copy : List Anchor) (log : Log)
-    (handle : Option ℕ) (e : Refusal) → memory_of zone rest es log ≡ value → log.searches ≤ 18446744073709551615
-    → copy ≡ es
+    (handle : Option ℕ) (e : Refusal) → memory_of zone rest es log ≡ value → copy ≡ es
     → slot_of handle copy ≡ Err e → IsAnswer (searching (hand_to_hand_searches handle value.heap)
     (silent (hand_to_hand handle) value)) (Err e) value
-copy-not_found value zone rest es copy log handle (Code code) is fits same e =
-    copy-refused value zone rest es log handle code is fits (look_up-refused zone rest.slots es handle code
+copy-not_found value zone rest es copy log handle (Code code) is same e =
+    copy-refused value zone rest es log handle code is (look_up-refused zone rest.slots es handle code
     (ap (slot_of handle) (sym same) ∙ e))
-copy-not_found value zone rest es copy log handle HostMemory is fits same e = tt
+copy-not_found value zone rest es copy log handle HostMemory is same e = tt
 
 -- nothing is moved for it
 pub copy-still : (value : Memory) (zone : List Block) (rest : Rest) (es : List Anchor) (log : Log) (handle : Option ℕ)
@@ -141,16 +140,16 @@ copy-nil zone rest es handle h source is at agrees small none =
 
 -- what is answered for it
 pub copy-emptied : (value : Memory) (zone : List Block) (rest : Rest) (es : List Anchor) (log : Log) (handle : Option ℕ)
-    (h source : ℕ) {guarded : Bool} → memory_of zone rest es log ≡ value → log.searches ≤ 18446744073709551615
-    → rest.moves ≤ 18446744073709551615 → handle ≡ Some h → slice_get es h ≡ Some (Handle source guarded)
+    (h source : ℕ) {guarded : Bool} → memory_of zone rest es log ≡ value
+    → handle ≡ Some h → slice_get es h ≡ Some (Handle source guarded)
     → Agrees zone rest es → h < no_number → spot (is_relocatable source) zone ≡ None
     → moving (hand_to_hand_moves handle value.heap) (searching (hand_to_hand_searches handle value.heap)
     (silent (hand_to_hand handle) value)) ≡ (Err NIL_HANDLE, value)
-copy-emptied value zone rest es log handle h source is fits few bound at agrees small none =
+copy-emptied value zone rest es log handle h source is bound at agrees small none =
     let nil = copy-nil zone rest es handle h source bound at agrees small none in
     not-moved _ _ (Code NIL_HANDLE) value zone rest es log is
-    (copy-refused value zone rest es log handle NIL_HANDLE is fits nil)
-    (λ code e. copy-still value zone rest es log handle NIL_HANDLE is nil) few
+    (copy-refused value zone rest es log handle NIL_HANDLE is nil)
+    (λ code e. copy-still value zone rest es log handle NIL_HANDLE is nil)
 
 -- the handle of a slot that was looked up in a copy of the entries
 pub slot-in : (es copy : List Anchor) (handle : Option ℕ) (f : Found) → copy ≡ es → slot_of handle copy ≡ Ok f

@@ -139,6 +139,7 @@ agrees-more zone' rest more es agrees fixed has = record {
       let e : count_by uses_slot (map (name_of more.slots) es) ≡ count_by uses_slot (map (name_of rest.slots) es) =
       ap (count_by uses_slot) (names-more rest more es agrees has) in
       omega (arith, has.counts);
+  masters = let a = agrees.masters in omega (arith, has.grows);
 }
 
 pub state-more : {before : List Block} (zone : List Block) (rest more : Rest) (es : List Anchor) → Agrees before rest es

@@ -236,6 +236,7 @@ module _ (zone zone' : List Block) (rest rest' : Rest) (es : List Anchor) (n pla
           ≡ count_by uses_slot (map (name_of rest.slots) es) + 0 =
           sum_by_push (λ x. cond (uses_slot x) 1 0) (map (name_of rest.slots) es) names.Pointer in
           omega (arith, now.unused, now.all);
+      masters = let a = agrees.masters in omega (arith, now.all);
     }
       where
         place-same : (s t : ℕ) → Pointer s ≡ Pointer t → s ≡ t

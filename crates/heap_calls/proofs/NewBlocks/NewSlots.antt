@@ -96,6 +96,7 @@ made-some sparing zone zone' rest rest1 rest' o place is made now unused all slo
     let more : HasMore rest rest' = record {
       slots = λ k used. slots k (ap is_used (now.slots k) ∙ used) ∙ now.slots k;
       counts = omega (arith, unused, all, now.unused, now.all);
+      grows = omega (arith, all, now.all);
       window = window ∙ now.window;
     } in
     let done : P (Some place) = (made, more, unused ∙ ap (λ n. n + 64) now.unused) in
@@ -138,6 +139,7 @@ pub more-kept : (rest more rest' : Rest) → HasMore rest more → KeepsSlots mo
 more-kept rest more rest' has kept = record {
   slots = λ k used. kept.slots k ∙ has.slots k used;
   counts = let a = has.counts in omega (arith, kept.unused, kept.all);
+  grows = let a = has.grows in omega (arith, kept.all);
   window = kept.window ∙ has.window;
 }
 

@@ -1,4 +1,4 @@
-use Rattle.std.proofs.Common.{◌≡◌, ℕ, ◌*◌, ◌≤◌, List, length, refl, sym, ◌∙◌, ap, Option, Some, None, Ok, Err}
+use Rattle.std.proofs.Common.{◌≡◌, ℕ, ◌*◌, List, length, refl, sym, ◌∙◌, ap, Option, Some, None, Ok, Err}
 use Rattle.std.specs.Option.{option_map}
 use Rattle.mac_words.specs.Size.{phys}
 use Rattle.mac_words.specs.declared.code.TheConstants.OsErr.{MEM_FULL}
@@ -137,7 +137,7 @@ module _ (zone : List Block) (rest : Rest) (es : List Anchor) (masters : rest.al
     )
 
 -- a block that is too large
-pub reserve-too_large : (n : ℕ) (value : Memory) → phys n ≡ None → value.log.searches ≤ 18446744073709551615
+pub reserve-too_large : (n : ℕ) (value : Memory) → phys n ≡ None
     → searching (reserve_searches (phys n) value.heap) (silent (reserve_mem n) value) ≡ (Err MEM_FULL, value)
-reserve-too_large n value large fits = rw large (ap (λ (k : ℕ).
-    (Err MEM_FULL, record value { log = record value.log { searches = k } })) (counted-none value.log.searches fits))
+reserve-too_large n value large = rw large (ap (λ (k : ℕ).
+    (Err MEM_FULL, record value { log = record value.log { searches = k } })) (counted-none value.log.searches))

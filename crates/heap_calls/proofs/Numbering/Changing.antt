@@ -1,4 +1,4 @@
-use Rattle.std.proofs.Common.{◌≡◌, ℕ, ◌+◌, ◌-◌, ◌≤◌, ◌<◌, zero, suc, Bool, true, false, ◌==◌, List, [], ◌∷◌, ◌++◌}
+use Rattle.std.proofs.Common.{◌≡◌, ℕ, ◌+◌, ◌-◌, ◌*◌, ◌≤◌, ◌<◌, zero, suc, Bool, true, false, ◌==◌, List, [], ◌∷◌, ◌++◌}
 use Rattle.std.proofs.Common.{length, refl, sym, ◌∙◌, ap, cond, map, arith, Option, Some, None, Result, Ok, Err}
 use Rattle.std.proofs.Common.{slice_get, slice_set, get_or, count_by, subst, ◌⊎◌, inl, inr, nat_le}
 use Rattle.std.proofs.lemmas.List.{map-append, map_push, map-set, length-map}
@@ -123,6 +123,14 @@ masters-rename f g zone = total-rename f g masters_in masters_in same zone
     same Masters = refl
     same (Relocatable id flags content) = refl
 
+-- a heap whose entries agree with its store has a Masters block
+pub some-masters : (zone : List Block) (rest : Rest) (es : List Anchor) → Agrees zone rest es
+    → rest.all ≡ 64 * count is_masters zone → 0 < count is_masters (state_of zone rest.slots es).zone
+some-masters zone rest es agrees all =
+    let some = agrees.masters in
+    let same = masters-rename (handle_number es) (pointer_number es) zone in
+    omega (arith, all)
+
 -- a size that has room
 pub phys-some : (n bytes : ℕ) → phys n ≡ Some bytes → (is_some (phys n) ≡ true) × (bytes ≡ padded n)
 phys-some n bytes is = (ap is_some is, cases (nat_le n 2147483616) is)
@@ -201,6 +209,7 @@ module _ {before : List Block} (zone : List Block) (rest rest' : Rest) (es : Lis
           ≡ count_by uses_slot (map (name_of rest.slots) es) + 1 =
           sum_by_push (λ x. cond (uses_slot x) 1 0) (map (name_of rest.slots) es) (names.Handle Plain) in
           omega (arith, one, all);
+      masters = let a = agrees.masters in omega (arith, all);
     }
       where
         handle-same : (s t : ℕ) (g : Bool) → Handle s g ≡ Handle t false → s ≡ t
@@ -346,6 +355,7 @@ module _ (zone : List Block) (rest rest' : Rest) (es : List Anchor) (h slot : �
           ≡ count_by uses_slot (map (name_of rest.slots) es) =
           used-without rest.slots es h (Handle slot guarded) _ at names-left in
           omega (arith, one, all);
+      masters = let a = agrees.masters in omega (arith, all);
     }
 
     -- the heap without it
@@ -414,6 +424,7 @@ agrees-kept zone zone' rest rest' es agrees fixed now = record {
       let e : count_by uses_slot (map (name_of rest'.slots) es) ≡ count_by uses_slot (map (name_of rest.slots) es) =
       ap (count_by uses_slot) (names-same rest.slots rest'.slots es (λ h s g at. now.slots s)) in
       omega (arith, now.unused, now.all);
+  masters = let a = agrees.masters in omega (arith, now.all);
 }
 
 -- with the same count of moves, the rest is what it was

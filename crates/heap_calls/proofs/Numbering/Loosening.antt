@@ -1,5 +1,5 @@
 use Rattle.std.proofs.Common.{◌≡◌, ℕ, ◌+◌, ◌<◌, Bool, true, false, List, [], ◌∷◌, refl, sym, ◌∙◌, ap, cond, Option}
-use Rattle.std.proofs.Common.{Some, None, Result, Ok, Err, slice_get, subst, is_some, arith}
+use Rattle.std.proofs.Common.{Some, None, Result, Ok, Err, slice_get, subst, is_some}
 use Rattle.std.proofs.lemmas.Option.{slice_get-map, none-some}
 use Rattle.std.specs.Option.{option_map}
 use Rattle.mac_words.specs.Size.{phys}
@@ -9,9 +9,10 @@ use Rattle.block_store.specs.Block.{Block, Free, Fixed, Masters, Relocatable, si
 use Rattle.block_store.specs.Block.{is_relocatable, is_mover, tidy}
 use Rattle.block_store.specs.Slot.{Slot}
 use Rattle.block_store.specs.Room.{Spot, spot, raised, rename_spot}
-use Rattle.block_store.specs.Rest.{Rest, IsRest, counted}
+use Rattle.block_store.specs.Rest.{Rest, IsRest}
 use Rattle.block_store.specs.Seen.{seen}
 use Rattle.block_store.specs.Grow.{freed}
+use Rattle.block_store.proofs.Plain.Counters.{counted-none}
 use Rattle.block_store.proofs.Renamed.Renaming.{spot-rename, is_mover-rename, tidy-rename, freed-rename}
 use Rattle.heap_calls.specs.declared.log.Log.{Log}
 use Rattle.heap_calls.specs.State.{State, Memory}
@@ -241,29 +242,23 @@ not_emptied handle e zone rest es copy log value tidied is same found =
     (loose_in zone rest.slots es copy handle (Err e) same found)
     (empty_handle-loose handle state (tidy-rename f g zone ∙ ap (rename f g) tidied))
 
--- no look for room
-counted-none : (n : ℕ) → n < 18446744073709551616 → counted n 0 ≡ n
-counted-none n less = omega arith
-
 -- the same for a call that looks for room
 pub loose_not_searched : (n : ℕ) (e : Refusal) (zone : List Block) (rest : Rest) (es : List Anchor) (log : Log)
-    (handle : Option ℕ) (value : Memory) → log.searches < 18446744073709551616 → memory_of zone rest es log ≡ value
+    (handle : Option ℕ) (value : Memory) → memory_of zone rest es log ≡ value
     → FindsLoose zone rest.slots es handle (Err e) → IsAnswer (searching
     (reallocate_handle_searches handle n value.heap) (silent (reallocate_handle handle n) value)) (Err e) value
-loose_not_searched n (Code code) zone rest es log handle value few is found =
+loose_not_searched n (Code code) zone rest es log handle value is found =
     let state : State = state_of zone rest.slots es in
     let none : reallocate_handle_searches handle n value.heap ≡ 0 =
     ap (λ (m : Memory). reallocate_handle_searches handle n m.heap) (sym is) ∙ reallocate_searches-loose handle n state
     ∙ ap (λ r. found_searches r (λ k. renewed_searches k.number n state.zone)) found in
-    let same : counted value.log.searches 0 ≡ value.log.searches =
-    ap (λ (m : Memory). counted m.log.searches 0) (sym is) ∙ counted-none log.searches few
-    ∙ ap (λ (m : Memory). m.log.searches) is in
     ap (searching (reallocate_handle_searches handle n value.heap))
     (loose_refused (reallocate_handle handle n) (Code code) zone rest es log handle value (renewed_answer n state)
     is found (reallocate_handle-loose handle n state))
     ∙ ap (λ k. searching k (Err code, value)) none
-    ∙ ap (λ k. (Err code, record value { log = record value.log { searches = k } })) same
-loose_not_searched n HostMemory zone rest es log handle value few is found = tt
+    ∙ ap (λ k. (Err code, record value { log = record value.log { searches = k } }))
+    (counted-none value.log.searches)
+loose_not_searched n HostMemory zone rest es log handle value is found = tt
 
 -- the answer of EmptyHandle, where the block of its slot was released
 pub empty_handle-done : (value : Memory) (zone zone' : List Block) (rest rest' : Rest) (es : List Anchor) (log : Log)

@@ -345,6 +345,7 @@ module _ (zone : List Block) (rest rest' : Rest) (es : List Anchor) (h place : �
           ≡ count_by uses_slot (map (name_of rest.slots) es) = used-without rest.slots es h (Pointer place) _ at
           names-left in
           omega (arith, now.unused, now.all);
+      masters = let a = agrees.masters in omega (arith, now.all);
     }
 
     pub dispose_pointer-done : (pointer : Option ℕ) (s : Spot)

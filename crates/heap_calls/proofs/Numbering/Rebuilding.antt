@@ -1,4 +1,4 @@
-use Rattle.std.proofs.Common.{◌≡◌, ℕ, ◌≤◌, Bool, true, false, List, refl, sym, ◌∙◌, ap, subst, cond, Option, None}
+use Rattle.std.proofs.Common.{◌≡◌, ℕ, Bool, true, false, List, refl, sym, ◌∙◌, ap, subst, cond, Option, None}
 use Rattle.std.proofs.Common.{Result, Ok, Err, is_some}
 use Rattle.std.specs.Option.{option_map}
 use Rattle.mac_words.specs.declared.code.OsErr.{OsErr}
@@ -93,18 +93,18 @@ module _ (value : Memory) (zone : List Block) (rest : Rest) (es : List Anchor) (
 
     -- a call that is refused without a look
     pub not-looked : (code : OsErr) → row state ≡ (Err code, state) → looks state ≡ 0
-        → log.searches ≤ 18446744073709551615 → searching (looks value.heap) (silent row value) ≡ (Err code, value)
-    not-looked code e none small =
+        → searching (looks value.heap) (silent row value) ≡ (Err code, value)
+    not-looked code e none =
         looked-so (Err code) state 0 e none
         ∙ ap (λ (n : ℕ). (Err code, record (memory_of zone rest es log) { log = record log { searches = n } }))
-        (counted-none log.searches small) ∙ ap (λ (m : Memory). (Err code, m)) is
+        (counted-none log.searches) ∙ ap (λ (m : Memory). (Err code, m)) is
 
     -- a call whose handle has no block
     pub not-reached : (e : Refusal) (handle : Option ℕ) → Reaches zone rest.slots es handle (Err e)
         → ((code : OsErr) → look_up handle state ≡ Err code → (row state ≡ (Err code, state)) × (looks state ≡ 0))
-        → log.searches ≤ 18446744073709551615 → IsAnswer (searching (looks value.heap) (silent row value)) (Err e) value
-    not-reached (Code code) handle none tells small = let t = tells code none in not-looked code t.0 t.1 small
-    not-reached HostMemory handle none tells small = tt
+        → IsAnswer (searching (looks value.heap) (silent row value)) (Err e) value
+    not-reached (Code code) handle none tells = let t = tells code none in not-looked code t.0 t.1
+    not-reached HostMemory handle none tells = tt
 
     -- a call that came to a zone or found no room for it
     module _ (zone' : List Block) (rest' : Rest) (now : IsRest rest rest') (k : ℕ) (looked : looks state ≡ k)

@@ -247,6 +247,7 @@ module _ (zone : List Block) (rest rest' : Rest) (es : List Anchor) (h slot : �
           (let w : h < length es = slice_get_within es h (Handle slot guarded) at in
           omega (arith, length-map es (name_of rest.slots))) in
           omega (arith, unused, all);
+      masters = let a = agrees.masters in omega (arith, all);
     }
 
     pub cast-done : (change : Role → Role) → role_of state guarded' ≡ change (role_of (rest.slots slot) guarded)

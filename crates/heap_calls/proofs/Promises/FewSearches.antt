@@ -23,14 +23,14 @@ use Rattle.heap_calls.specs.Purging.{is_loose, purgeable}
 use Rattle.heap_calls.specs.Inner.Search.{tries}
 use Rattle.heap_calls.specs.Searches.{room_searches, slot_searches, ready_searches, block_searches, reserve_searches}
 use Rattle.heap_calls.specs.Searches.{in_place_searches, growth_searches, resized_at, size_searches, found_searches}
-use Rattle.heap_calls.specs.Searches.{stretches, compact_mem_searches, new_handle_searches, new_empty_handle_searches}
-use Rattle.heap_calls.specs.Searches.{more_masters_searches, new_pointer_searches, set_handle_size_searches}
-use Rattle.heap_calls.specs.Searches.{set_pointer_size_searches, reallocate_handle_searches, hand_to_hand_searches}
-use Rattle.heap_calls.specs.Searches.{hand_and_hand_searches, pointer_and_hand_searches, purge_mem_searches}
+use Rattle.heap_calls.specs.Searches.{stretches, compact_mem_searches}
+use Rattle.heap_calls.specs.Searches.{reallocate_handle_searches}
+use Rattle.heap_calls.specs.Searches.{hand_and_hand_searches}
 use Rattle.heap_calls.specs.Asked.{Asked, answered}
 use Rattle.heap_calls.specs.Asked as asked
 use Rattle.block_store.proofs.Zone.Zones.{joined-is}
 use Rattle.block_store.proofs.Plain.Counters.{counted-none}
+use Rattle.heap_calls.specs.Counts.{row_searches}
 use Rattle.block_store.proofs.Zone.Keeping.{tidied, freed-is, unless-le, based-le}
 
 -- A call looks for room no more often than once for each block and once more.
@@ -226,38 +226,32 @@ compact-few n s =
 
 -- a call that doesn't look
 pub unlooked : (zone : List Block) (n : ℕ) → n < 2 ^ 64 → (k : ℕ) × (k ≤ length zone + 1) × (n ≡ counted n k)
-unlooked zone n fits = (0, omega arith, sym (counted-none n (omega arith)))
+unlooked zone n fits = (0, omega arith, sym (counted-none n))
 
--- the row of a call looks so often
-abbrev pub RowLooksFew : Asked → Memory → Type 0
-RowLooksFew a m =
-    0 < count is_masters m.heap.zone → m.log.searches < 2 ^ 64
-    → (n : ℕ) × (n ≤ length m.heap.zone + 1) × ((answered a m).1.log.searches ≡ counted m.log.searches n)
-
--- no call looks more often
-pub looks_few : (a : Asked) (m : Memory) → RowLooksFew a m
-looks_few (asked.NewHandle n) m masters fits =
+-- the row of a call looks at most once more than there are blocks, where one is a Masters block
+pub row_few : (a : Asked) (m : Memory) → 0 < count is_masters m.heap.zone → row_searches a m.heap ≤ length m.heap.zone + 1
+row_few (asked.NewHandle n) m masters =
     let s = m.heap in
     let few =
     slot-blocks nothing s (λ ready. if is_some (phys n) then block_searches nothing (replicate n 0) ready else 0)
     masters
     (λ r. only-if (is_some (phys n)) (block_searches nothing (replicate n 0) r) (count_of nothing r.zone + 1)
     (room-few (put_in_place (Relocatable (length r.names) no_flags (replicate n 0))) nothing r.zone)) in
-    (new_handle_searches n s, few, refl)
-looks_few asked.NewEmptyHandle m masters fits =
-    (new_empty_handle_searches m.heap, slots (nat_lt (used_slots m.heap) (all_slots m.heap)), refl)
+    few
+row_few asked.NewEmptyHandle m masters =
+    slots (nat_lt (used_slots m.heap) (all_slots m.heap))
   where
     slots : (t : Bool) → cond t 0 (room_searches (put_at_base Masters) nothing m.heap.zone) ≤ length m.heap.zone + 1
     slots true = omega arith
     slots false = let r = room-blocks (put_at_base Masters) nothing m.heap.zone masters in omega arith
-looks_few (asked.SetHandleSize handle n) m masters fits =
+row_few (asked.SetHandleSize handle n) m masters =
     let zone = m.heap.zone in
     let few =
     found-few (look_up handle m.heap)
     (λ held. size_searches (is_relocatable held.number) (is_relocatable held.number) n zone) (length zone + 1)
     (λ held. size-few (is_relocatable held.number) (is_relocatable held.number) n zone masters) in
-    (set_handle_size_searches handle n m.heap, few, refl)
-looks_few (asked.ReallocateHandle handle n) m masters fits = (reallocate_handle_searches handle n m.heap, few, refl)
+    few
+row_few (asked.ReallocateHandle handle n) m masters = few
   where
     zone : List Block
     zone = m.heap.zone
@@ -285,7 +279,7 @@ looks_few (asked.ReallocateHandle handle n) m masters fits = (reallocate_handle_
         (λ k. if is_loose (spot (is_relocatable k.number) zone) then looks k.number else 0) (length zone + 1)
         (λ k. only-if (is_loose (spot (is_relocatable k.number) zone)) (looks k.number) (length zone + 1)
         (looks-few k.number))
-looks_few (asked.HandToHand handle) m masters fits =
+row_few (asked.HandToHand handle) m masters =
     let s = m.heap in
     let few =
     found-few (look_up handle s)
@@ -296,8 +290,8 @@ looks_few (asked.HandToHand handle) m masters fits =
     (block_searches (is_relocatable held.number) (content_of held.at.here)) masters
     (λ r. room-few (put_in_place (Relocatable (length r.names) no_flags (content_of held.at.here)))
     (is_relocatable held.number) r.zone)) in
-    (hand_to_hand_searches handle s, few, refl)
-looks_few (asked.HandAndHand from to) m masters fits = (hand_and_hand_searches from to m.heap, few, refl)
+    few
+row_few (asked.HandAndHand from to) m masters = few
   where
     zone : List Block
     zone = m.heap.zone
@@ -315,7 +309,7 @@ looks_few (asked.HandAndHand from to) m masters fits = (hand_and_hand_searches f
         (λ b. size-few (is_relocatable b.number)
         (λ block. is_relocatable a.number block || is_relocatable b.number block)
         (length (content_of b.at.here) + length (content_of a.at.here)) zone masters))
-looks_few (asked.PtrAndHand handle x) m masters fits =
+row_few (asked.PtrAndHand handle x) m masters =
     let zone = m.heap.zone in
     let few =
     found-few (look_up handle m.heap)
@@ -323,37 +317,65 @@ looks_few (asked.PtrAndHand handle x) m masters fits =
     (length (content_of held.at.here) + length x) zone) (length zone + 1)
     (λ held. size-few (is_relocatable held.number) (is_relocatable held.number)
     (length (content_of held.at.here) + length x) zone masters) in
-    (pointer_and_hand_searches handle x m.heap, few, refl)
-looks_few (asked.NewPtr n) m masters fits =
+    few
+row_few (asked.NewPtr n) m masters =
     let s = m.heap in
     let few =
     only-if (is_some (phys n)) (room_searches (put_at_base (Fixed (length s.names) (replicate n 0))) nothing s.zone)
     (length s.zone + 1)
     (let r = room-blocks (put_at_base (Fixed (length s.names) (replicate n 0))) nothing s.zone masters in omega arith)
     in
-    (new_pointer_searches n s, few, refl)
-looks_few (asked.SetPtrSize pointer n) m masters fits =
+    few
+row_few (asked.SetPtrSize pointer n) m masters =
     let zone = m.heap.zone in
     let few =
     found-few (pointed_at pointer m.heap) (λ held. size_searches (is_fixed held.number) nothing n zone)
     (length zone + 1)
     (λ held. size-few (is_fixed held.number) nothing n zone masters) in
-    (set_pointer_size_searches pointer n m.heap, few, refl)
-looks_few (asked.CompactMem n) m masters fits = (compact_mem_searches n m.heap, compact-few n m.heap, refl)
-looks_few (asked.PurgeMem n) m masters fits =
+    few
+row_few (asked.CompactMem n) m masters = compact-few n m.heap
+row_few (asked.PurgeMem n) m masters =
     let zone = m.heap.zone in
     let l = least_or_last-le (λ k. has_room (phys n) (purge k nothing zone)) (purgeable zone) in
     let g = goes-le nothing zone masters in
-    (purge_mem_searches n m.heap, omega arith, refl)
-looks_few (asked.ReserveMem n) m masters fits = (reserve_searches (phys n) m.heap, looks-few (phys n), refl)
+    omega arith
+row_few (asked.ReserveMem n) m masters = looks-few (phys n)
   where
     looks-few : (o : Option ℕ) → reserve_searches o m.heap ≤ length m.heap.zone + 1
     looks-few None = omega arith
     looks-few (Some p) = let r = room-blocks (reserved p) nothing m.heap.zone masters in omega arith
-looks_few asked.MoreMasters m masters fits =
+row_few asked.MoreMasters m masters =
     let few = room-blocks (put_at_base Masters) nothing m.heap.zone masters in
-    (more_masters_searches m.heap, omega arith, refl)
-looks_few a m masters fits = unlooked m.heap.zone m.log.searches fits
+    omega arith
+row_few a m masters = omega arith
+
+-- and counts its looks
+pub row_searched : (a : Asked) (m : Memory) → (answered a m).1.log.searches
+    ≡ counted m.log.searches (row_searches a m.heap)
+row_searched (asked.NewHandle n) m = refl
+row_searched asked.NewEmptyHandle m = refl
+row_searched (asked.SetHandleSize handle n) m = refl
+row_searched (asked.ReallocateHandle handle n) m = refl
+row_searched (asked.HandToHand handle) m = refl
+row_searched (asked.HandAndHand from to) m = refl
+row_searched (asked.PtrAndHand handle x) m = refl
+row_searched (asked.NewPtr n) m = refl
+row_searched (asked.SetPtrSize pointer n) m = refl
+row_searched (asked.CompactMem n) m = refl
+row_searched (asked.PurgeMem n) m = refl
+row_searched (asked.ReserveMem n) m = refl
+row_searched asked.MoreMasters m = refl
+row_searched a m = sym (counted-none m.log.searches)
+
+-- the row of a call looks so often
+abbrev pub RowLooksFew : Asked → Memory → Type 0
+RowLooksFew a m =
+    0 < count is_masters m.heap.zone → m.log.searches < 2 ^ 64
+    → (n : ℕ) × (n ≤ length m.heap.zone + 1) × ((answered a m).1.log.searches ≡ counted m.log.searches n)
+
+-- no call looks more often
+pub looks_few : (a : Asked) (m : Memory) → RowLooksFew a m
+looks_few a m masters fits = (row_searches a m.heap, row_few a m masters, row_searched a m)
 
 -- a compaction that never serves looks once for each run with a block, and once more
 abbrev searches_in : List Block → ℕ

@@ -40,9 +40,8 @@ use Rattle.heap_calls.proofs.Room.Searching.{room-found, seat-some}
 -- How many blocks packing moves down.
 
 -- none
-pub packs-none : (old new : Rest) (n : ℕ) → old.moves ≤ 18446744073709551615 → new.moves ≡ old.moves → n ≡ 0
-    → Packs n old new
-packs-none old new n few same none = same ∙ sym (counted-none old.moves few) ∙ ap (counted old.moves) (sym none)
+pub packs-none : (old new : Rest) (n : ℕ) → new.moves ≡ old.moves → n ≡ 0 → Packs n old new
+packs-none old new n same none = same ∙ sym (counted-none old.moves) ∙ ap (counted old.moves) (sym none)
 
 -- those of a run that was packed, after what moved none
 pub packs-run : (a b c : Rest) (n m : ℕ) → b.moves ≡ a.moves → IsRest (with_moves n b) c → m ≡ n → Packs m a c
@@ -230,14 +229,11 @@ moving-done m n a r zone rest rest' es log is same now =
 -- a call that was refused before it packed
 pub not-moved : {T : Type 0} (m : ℕ) (a : Result T OsErr × Memory) (e : Refusal) (value : Memory) (zone : List Block)
     (rest : Rest) (es : List Anchor) (log : Log) → memory_of zone rest es log ≡ value
-    → IsAnswer a (Err e) value → ((code : OsErr) → e ≡ Code code → m ≡ 0) → rest.moves ≤ 18446744073709551615
-    → IsAnswer (moving m a) (Err e) value
-not-moved m a (Code code) value zone rest es log is answer none few =
-    let P : Memory → Type 0 = λ v. counted v.moves 0 ≡ v.moves in
-    let same : counted value.moves 0 ≡ value.moves = subst P is (counted-none rest.moves few) in
+    → IsAnswer a (Err e) value → ((code : OsErr) → e ≡ Code code → m ≡ 0) → IsAnswer (moving m a) (Err e) value
+not-moved m a (Code code) value zone rest es log is answer none =
     ap (moving m) answer ∙ ap (λ (k : ℕ). (Err code, record value { moves = counted value.moves k })) (none code refl)
-    ∙ ap (λ (k : ℕ). (Err code, record value { moves = k })) same
-not-moved m a HostMemory value zone rest es log is answer none few = tt
+    ∙ ap (λ (k : ℕ). (Err code, record value { moves = k })) (counted-none value.moves)
+not-moved m a HostMemory value zone rest es log is answer none = tt
 
 -- the same, told as it is given back
 pub moving-answer : {T : Type 0} (m n : ℕ) (a : Result T OsErr × Memory) (r : Result T Refusal) (zone : List Block)

@@ -39,9 +39,8 @@ pub record IsNext (bytes : Option ℕ) (start : List Block) (first : Rest) (zone
   pub found : FindsRun k zone (Some place)
 
 -- at first none are
-pub begins : (bytes : Option ℕ) (start : List Block) (first : Rest) → first.moves < 18446744073709551616
-    → IsNext bytes start first start first 0 0
-begins bytes start first fits = record {
+pub begins : (bytes : Option ℕ) (start : List Block) (first : Rest) → IsNext bytes start first start first 0 0
+begins bytes start first = record {
   k = 0;
   so_far = record {
     within = omega arith;

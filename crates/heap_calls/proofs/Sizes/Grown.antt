@@ -1,4 +1,4 @@
-use Rattle.std.proofs.Common.{◌≡◌, ℕ, ◌+◌, ◌≤◌, Bool, false, List, length, Option, Ok, Err, refl, sym, ◌∙◌, ap}
+use Rattle.std.proofs.Common.{◌≡◌, ℕ, ◌+◌, Bool, false, List, length, Option, Ok, Err, refl, sym, ◌∙◌, ap}
 use Rattle.std.proofs.Common.{subst}
 use Rattle.std.specs.Option.{option_map}
 use Rattle.mac_words.specs.declared.code.OsErr.{OsErr}
@@ -52,14 +52,13 @@ module _ (value : Memory) (zone : List Block) (rest : Rest) (es : List Anchor) (
         → Reaches zone rest.slots es' handle (Err e)
         → ((code : OsErr) → look_up handle (state_of zone rest.slots es) ≡ Err code
         → TellsNone (state_of zone rest.slots es) row looks moves code)
-        → log.searches ≤ 18446744073709551615 → rest.moves ≤ 18446744073709551615
         → IsAnswer (moving (moves value.heap) (searching (looks value.heap) (silent row value))) (Err e) value
-    nothing-grown e handle es' same none' tells few_looks few =
+    nothing-grown e handle es' same none' tells =
         let none = reached_in zone rest.slots es es' handle (Err e) same none' in
         not-moved (moves value.heap) (searching (looks value.heap) (silent row value)) e value zone rest es log is
         (not-reached value zone rest es log is row looks e handle none
-        (λ code is. let t = tells code is in (t.row_is, t.looks_is)) few_looks)
-        (none-reached moves e handle value zone rest es log is none (λ code is. (tells code is).moves_is)) few
+        (λ code is. let t = tells code is in (t.row_is, t.looks_is)))
+        (none-reached moves e handle value zone rest es log is none (λ code is. (tells code is).moves_is))
 
     -- the block got the size, or there was no room for it
     pub grown-done : (made : Option (List Block)) (k n : ℕ) → Tells zone rest es row looks moves made k n

@@ -1,4 +1,4 @@
-use Rattle.std.proofs.Common.{◌≡◌, ℕ, ◌-◌, ◌≤◌, ◌<◌, Bool, true, false, List, length, take, replicate, refl, sym, ◌∙◌}
+use Rattle.std.proofs.Common.{◌≡◌, ℕ, ◌-◌, ◌<◌, Bool, true, false, List, length, take, replicate, refl, sym, ◌∙◌}
 use Rattle.std.proofs.Common.{ap, cond, arith, Option, Some, None, Result, Ok, Err, is_some}
 use Rattle.std.proofs.lemmas.List.{length-append, length-take, length-replicate}
 use Rattle.std.specs.Option.{IfSome}
@@ -113,14 +113,13 @@ set_pointer_size-done value zone zone' rest rest' es log pointer t n searches do
 -- what it answers for a name that is no pointer's
 pub no_pointer : (value : Memory) (zone : List Block) (rest : Rest) (es : List Anchor) (log : Log) (e : Refusal)
     (pointer : Option ℕ) (n : ℕ) → memory_of zone rest es log ≡ value → target_of pointer es ≡ Err e
-    → log.searches ≤ 18446744073709551615
     → IsAnswer (searching (set_pointer_size_searches pointer n value.heap) (silent (set_pointer_size pointer n) value))
     (Err e) value
-no_pointer value zone rest es log (Code code) pointer n is found small =
+no_pointer value zone rest es log (Code code) pointer n is found =
     let s = state_of zone rest.slots es in
     let none = pointed_at-refused zone rest.slots es pointer code found in
     not-looked value zone rest es log is (set_pointer_size pointer n) (set_pointer_size_searches pointer n) code
     (ap (λ r. for_found r s (λ (held : Held). cond (is_some (phys n))
     (rebuilt (grow (is_fixed held.number) nothing n s.zone) s) (refused MEM_FULL s))) none)
-    (ap (λ r. found_searches r (λ (held : Held). size_searches (is_fixed held.number) nothing n s.zone)) none) small
-no_pointer value zone rest es log HostMemory pointer n is found small = tt
+    (ap (λ r. found_searches r (λ (held : Held). size_searches (is_fixed held.number) nothing n s.zone)) none)
+no_pointer value zone rest es log HostMemory pointer n is found = tt

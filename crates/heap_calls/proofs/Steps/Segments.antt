@@ -14,7 +14,7 @@ use Rattle.block_store.proofs.Zone.Tidy.{spot-is, spot-passes}
 use Rattle.block_store.proofs.Zone.Totals.{total-append}
 use Rattle.block_store.proofs.Zone.Passing.{has-append, has-count}
 use Rattle.block_store.proofs.Zone.Keeping.{SeesNoFree, apart}
-use Rattle.block_store.proofs.Zone.Alike.{Alike, alike-then, stands-is, locks}
+use Rattle.block_store.proofs.Zone.Alike.{Alike, alike-then, stands-is, stands-none, locks}
 use Rattle.block_store.proofs.Nonrelocatable.FixedCounts.{has-counts, not_fixed-relocatable}
 use Rattle.block_store.proofs.Regroup.Settling.{has-spot}
 use Rattle.heap_calls.specs.State.{State, Memory, Meaning, Handle, Pointer, Disposed}
@@ -369,6 +369,33 @@ none-locked h s bytes known there =
       total-append (locks (is_locked h)) at.below (flagged unlocking at.here ∷ at.above),
       unlocked-now h at.here,
     ))
+
+-- nor is one once it is purgeable too
+purging-locks : (h : ℕ) (b : Block) → locks (is_locked h) (flagged purging b) ≡ locks (is_locked h) b
+purging-locks h (Free n) = refl
+purging-locks h (Fixed id content) = refl
+purging-locks h Masters = refl
+purging-locks h (Relocatable id flags content) = refl
+
+pub loosened-none : (h : ℕ) (s : State) (bytes : ℕ → List ℕ) → Known s bytes → has_block h s ≡ true
+    → locked_place h (loosened h s).zone ≡ None
+loosened-none h s bytes known there =
+    stands-is (is_locked h) (loosened h s).zone ∙ stands-none (is_locked h) (loosened h s).zone
+    (flags-go (λ t. total (locks (is_locked h)) t.zone ≤ 0) purging h now (λ code e. none)
+    (λ at found. omega (
+      arith,
+      ap (total (locks (is_locked h))) (spot-is (is_relocatable h) now.zone at found),
+      total-append (locks (is_locked h)) at.below (at.here ∷ at.above),
+      total-append (locks (is_locked h)) at.below (flagged purging at.here ∷ at.above),
+      purging-locks h at.here,
+      none,
+    )))
+  where
+    now : State
+    now = (h_unlock (Some h) s).1
+
+    none : total (locks (is_locked h)) now.zone ≤ 0
+    none = none-locked h s bytes known there
 
 -- a block of a handle that isn't locked may be emptied once it is purgeable
 purgeable-now : (h : ℕ) (b : Block) → is_relocatable h b ≡ true → locks (is_locked h) b ≤ 0

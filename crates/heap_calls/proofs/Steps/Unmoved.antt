@@ -126,22 +126,22 @@ refilled-none h flags bytes s code e = by_name (handle_at (Some h) s) (λ k is. 
         ≡ Some code) (found k refl) e)
 
 -- a count to which nothing is added
-none-more : (moves n : ℕ) → moves ≤ 18446744073709551615 → n ≡ 0 → counted moves n ≡ moves
-none-more moves n fits none = ap (counted moves) none ∙ counted-none moves fits
+none-more : (moves n : ℕ) → n ≡ 0 → counted moves n ≡ moves
+none-more moves n none = ap (counted moves) none ∙ counted-none moves
 
 -- no block is moved for a step that is refused
-pub step-unmoved : (step : Step) (m : Memory) (code : OsErr) → m.moves ≤ 18446744073709551615
-    → refusal step m ≡ Some code → (stepped step m).moves ≡ m.moves
-step-unmoved (NewFilled role flags bytes) m code fits e =
-    none-more m.moves (new_handle_moves (length bytes) m.heap) fits (filled-none role flags bytes m.heap code e)
-step-unmoved (NewEmptied role) m code fits e = refl
-step-unmoved (Refill h flags bytes) m code fits e = by_block (has_block h m.heap) e
+pub step-unmoved : (step : Step) (m : Memory) (code : OsErr) → refusal step m ≡ Some code
+    → (stepped step m).moves ≡ m.moves
+step-unmoved (NewFilled role flags bytes) m code e =
+    none-more m.moves (new_handle_moves (length bytes) m.heap) (filled-none role flags bytes m.heap code e)
+step-unmoved (NewEmptied role) m code e = refl
+step-unmoved (Refill h flags bytes) m code e = by_block (has_block h m.heap) e
   where
     by_block : (t : Bool) → cond t None (refusal_of (refill_inside h flags bytes m).0) ≡ Some code
         → (cond t m (refill_inside h flags bytes m).1).moves ≡ m.moves
     by_block true e = refl
     by_block false e =
-        none-more m.moves (for_known (handle_at (Some h) m.heap) (refill_moves h (length bytes) m.heap)) fits
+        none-more m.moves (for_known (handle_at (Some h) m.heap) (refill_moves h (length bytes) m.heap))
         (refilled-none h flags bytes m.heap code e)
-step-unmoved (Release h) m code fits e = refl
-step-unmoved (Cast change h) m code fits e = refl
+step-unmoved (Release h) m code e = refl
+step-unmoved (Cast change h) m code e = refl

@@ -1,8 +1,8 @@
-use Rattle.std.proofs.Common.{◌≡◌, ℕ, ◌+◌, ◌≤◌, Bool, true, false, List, length, refl, sym, ◌∙◌, subst}
+use Rattle.std.proofs.Common.{◌≡◌, ℕ, ◌+◌, ◌≤◌, ◌<◌, ◌^◌, Bool, true, false, List, length, refl, sym, ◌∙◌, subst}
 use Rattle.std.proofs.Common.{cond, Option, Some, None}
 use Rattle.std.specs.Prelude.{IsTrue}
 use Rattle.mac_words.specs.declared.code.OsErr.{OsErr}
-use Rattle.block_store.specs.Block.{is_relocatable, is_masters}
+use Rattle.block_store.specs.Block.{count, is_relocatable, is_masters}
 use Rattle.block_store.specs.Run.{has}
 use Rattle.block_store.specs.Rest.{counted}
 use Rattle.heap_calls.specs.State.{Memory}
@@ -14,7 +14,6 @@ use Rattle.heap_calls.specs.LastPut.{put_by}
 use Rattle.heap_calls.specs.Locked.{OneBlockEach, locked_place, releases}
 use Rattle.heap_calls.specs.Standing.{NextIsNew, pointer_place, disposes}
 use Rattle.heap_calls.specs.Emptying.{lets_go, may_be_emptied}
-use Rattle.heap_calls.specs.Looks.{LooksFew}
 use Rattle.heap_calls.specs.Refused.{RefusedLeaves, code_left, zone_behind}
 use Rattle.heap_calls.specs.Shown.{Shows}
 use Rattle.heap_calls.proofs.Promises.Knowing.{Known}
@@ -26,6 +25,7 @@ use Rattle.heap_calls.proofs.Promises.EmptyingLaws.{only-purgeable-go, masters-k
 use Rattle.heap_calls.proofs.Promises.FewSearches.{looks_few, unlooked}
 use Rattle.heap_calls.proofs.Promises.RefusedCalls.{refused_leaves}
 use Rattle.heap_calls.proofs.Gates.Served.{served-gated}
+use Rattle.heap_calls.proofs.Tries.Counting.{counts_searches, counts_moves}
 
 -- What holds of each call's row holds of each try behind the gate of busy names.
 
@@ -108,15 +108,26 @@ served-masters a m once before =
     served-holds (λ t n. IsTrue (has is_masters n.heap.zone)) a m (masters-kept a m once before) (λ why kept. before)
 
 -- a try looks for room at most once more than there are blocks
-pub served_looks : (a : Asked) (m : Memory) → LooksFew a m
+pub served_looks : (a : Asked) (m : Memory) → 0 < count is_masters m.heap.zone → m.log.searches < 2 ^ 64
+    → (n : ℕ) × (n ≤ length m.heap.zone + 1) × ((served a m).1.log.searches ≡ counted m.log.searches n)
 served_looks a m masters fits =
     served-holds
     (λ t n. (k : ℕ) × (k ≤ length m.heap.zone + 1) × (n.log.searches ≡ counted m.log.searches k)) a m
     (looks_few a m masters fits) (λ why kept. unlooked m.heap.zone m.log.searches fits)
 
+-- a try leaves which names are busy
+pub served-busy : (a : Asked) (m : Memory) → (served a m).1.log.busy ≡ m.log.busy
+served-busy a m = served-holds (λ t n. n.log.busy ≡ m.log.busy) a m (row a) (λ why kept. refl)
+  where
+    row : (a : Asked) → (answered a m).1.log.busy ≡ m.log.busy
+    row asked.MemError = refl
+    row a = refl
+
 -- a refused try leaves the heap, but for the zone that the call's row leaves
-pub served-refused : (a : Asked) (m : Memory) → RefusedLeaves a m
-served-refused a m =
+refused-left : (a : Asked) (m : Memory) (code : OsErr) → (served a m).0 ≡ Refused code
+    → ((served a m).1.heap ≡ record m.heap { zone = zone_behind (gate a m) a m.heap })
+    × ((served a m).1.log.code ≡ code_left a code m.log.code) × ((served a m).1.window ≡ m.window)
+refused-left a m =
     let Q : Told × Memory → Type 0 = λ answer. (code : OsErr) → answer.0 ≡ Refused code
     → (answer.1.heap ≡ record m.heap { zone = zone_behind (gate a m) a m.heap })
     × (answer.1.log.code ≡ code_left a code m.log.code) × (answer.1.window ≡ m.window) in
@@ -139,10 +150,8 @@ served-refused a m =
         subst (λ (c : OsErr). (n.heap ≡ m.heap) × (n.log.code ≡ cond (notes a) c m.log.code) × (n.window ≡ m.window))
         same (by_notes why (notes a))
 
--- a try leaves which names are busy
-pub served-busy : (a : Asked) (m : Memory) → (served a m).1.log.busy ≡ m.log.busy
-served-busy a m = served-holds (λ t n. n.log.busy ≡ m.log.busy) a m (row a) (λ why kept. refl)
-  where
-    row : (a : Asked) → (answered a m).1.log.busy ≡ m.log.busy
-    row asked.MemError = refl
-    row a = refl
+-- and which names are busy, and counts its searches and moves
+pub served-refused : (a : Asked) (m : Memory) → RefusedLeaves a m
+served-refused a m code tells =
+    let left = refused-left a m code tells in
+    (left.0, left.1, left.2, served-busy a m, counts_searches a m, counts_moves a m)

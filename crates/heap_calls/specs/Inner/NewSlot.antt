@@ -1,4 +1,4 @@
-use Rattle.std.specs.Prelude.{◌≡◌, ℕ, ◌+◌, zero, suc, false, Option, Some, None, List}
+use Rattle.std.specs.Prelude.{◌≡◌, ◌≤◌, ℕ, ◌+◌, zero, suc, false, Option, Some, None, List}
 use Rattle.std.specs.Bool.{IsTrue}
 use Rattle.block_store.specs.Block.{Block, Masters, is_relocatable}
 use Rattle.block_store.specs.Run.{has}
@@ -30,6 +30,7 @@ zone_searches sparing (suc n) zone = 0
 pub record HasMore (rest more : Rest) : Type 0 where
   pub slots : (number : ℕ) → IsTrue (is_used (rest.slots number)) → more.slots number ≡ rest.slots number
   pub counts : more.unused + rest.all ≡ rest.unused + more.all
+  pub grows : rest.all ≤ more.all
   pub window : more.window ≡ rest.window
 
 -- A master pointer block was put at the base of a run; `None` where there is no room for it, and then nothing

@@ -1,4 +1,4 @@
-use Rattle.std.specs.Prelude.{◌≡◌, ℕ, ◌+◌, ◌^◌, ◌==◌, Bool, true, false, Some, List, [], ◌∷◌, map, count_by, slice_get}
+use Rattle.std.specs.Prelude.{◌≡◌, ◌<◌, ℕ, ◌+◌, ◌^◌, ◌==◌, Bool, true, false, Some, List, [], ◌∷◌, map, count_by, slice_get}
 use Rattle.std.specs.Prelude.{if◌then◌else◌}
 use Rattle.block_store.specs.Block.{Block, is_fixed, rename}
 use Rattle.block_store.specs.Run.{has}
@@ -89,3 +89,5 @@ pub record Agrees (zone : List Block) (rest : Rest) (entries : List Anchor) : Ty
       → slice_get entries k ≡ Some (entry.Pointer place) → h ≡ k
   -- Each slot is a handle's or is unused.
   pub counted : rest.unused + count_by uses_slot (map (name_of rest.slots) entries) ≡ rest.all
+  -- There are master pointers.
+  pub masters : 0 < rest.all

@@ -53,7 +53,7 @@ owns-preloaded files own system m bare plain none =
     (one-owner-preloaded files own system m bare plain none)
 
 -- so it is as an application is launched, before its resources are read and after
-launched-by : (P : Resources → Type 0) (files : List File) (system : Content) (r : Resources)
+pub launched-by : (P : Resources → Type 0) (files : List File) (system : Content) (r : Resources)
     → ((own : Map) → Bare own.references → P (fresh_resources files own (map_of system)))
     → launched_resources files system ≡ Ok r → P r
 launched-by P [] system r each e = cc

@@ -19,14 +19,14 @@ use Rattle.res_calls.specs.Files.{with_reference}
 use Rattle.res_calls.specs.Fetch.{Managers, done, refused, flags_of, now_filled, now_emptied, now_refilled, fetch_as}
 use Rattle.res_calls.specs.Fetch.{is_system}
 use Rattle.res_calls.specs.Update.{bytes_held, written}
-use Rattle.res_calls.specs.Places.{release_found, detach_found, change_found, write_found, rename_found, set_found}
-use Rattle.res_calls.specs.Places.{remove_found, add_found}
 use Rattle.res_calls.specs.Rows as rows
 use Rattle.res_calls.specs.Rows.{map_in, open_map, open_unless, open_named, greatest_number, resource_of, released_at}
 use Rattle.res_calls.specs.Rows.{detached_at, bars, nth_in, closed_file, with_resources, loaded}
 use Rattle.res_calls.specs.Changing as changing
 use Rattle.res_calls.specs.Changing.{create_named, most_files, marked, stored_if, touched, with_changed}
 use Rattle.res_calls.specs.Sound.{Sound, keeps_handle}
+use Rattle.res_calls.specs.Rows.{release_found, detach_found}
+use Rattle.res_calls.specs.Changing.{change_found, write_found, rename_found, set_found, remove_found, add_found}
 use Rattle.res_calls.proofs.Keeping.{either-keeps, found-keeps, open-keeps, known-keeps, removable-keeps, free-keeps}
 use Rattle.res_calls.proofs.Keeping.{updated-keeps, update-comes}
 use Rattle.res_calls.proofs.Owning.Places.{Stands, find-finds, nth-stands}

@@ -15,6 +15,7 @@ use Rattle.heap_calls.specs.Purging.{is_resource as is_owned}
 use Rattle.heap_calls.specs.Inside.{new_inside, new_emptied_inside, refill_inside, has_block, resource_role, owned_as}
 use Rattle.heap_calls.specs.Path.{Step, NewFilled, Release, Cast, walk, reads, read_new, read_again, refusal}
 use Rattle.heap_calls.specs.Path.{refusal_of}
+use Rattle.heap_calls.proofs.Steps.Letting.{releases}
 use Rattle.heap_calls.proofs.Steps.Numbers.{refilled-is, refilled-read, refilled-refusal}
 use Rattle.res_calls.specs.Files.{File, OpenFile, Resources, Found, opened, open_at, file_of}
 use Rattle.res_calls.specs.Fetch.{Managers, Answer, Fetched, done, refused, flags_of, is_system, now_filled}
@@ -30,7 +31,7 @@ use Rattle.res_calls.specs.Rows.{detached_at, fetched}
 use Rattle.res_calls.proofs.Walks.Steps.{for_found, for_open, new_filled, new_emptied, filled_again, fetch_steps_as}
 use Rattle.res_calls.proofs.Walks.Steps.{fetched_steps, preload_steps, load_steps, fork_steps, unless_steps}
 use Rattle.res_calls.proofs.Walks.Steps.{open_steps}
-use Rattle.res_calls.proofs.Walks.Steps.{releases, if_done, close_steps, on_handle, release_steps, detach_steps}
+use Rattle.res_calls.proofs.Walks.Steps.{if_done, close_steps, on_handle, release_steps, detach_steps}
 use Rattle.res_calls.proofs.Walks.Steps.{for_known, add_steps, remove_steps}
 
 -- Each call's answer goes by its steps.

@@ -1,6 +1,6 @@
 use Rattle.std.proofs.Common.{◌≡◌, ◌≤◌, ◌<◌, ◌+◌, ◌^◌, ◌||◌, ◌==◌, nat_lt, ℕ, Bool, true, false, Option, Some, None}
 use Rattle.std.proofs.Common.{List, [], ◌∷◌, refl, sym, ◌∙◌, ap, cond, length}
-use Rattle.std.proofs.Common.{not}
+use Rattle.std.proofs.Common.{not, ◌&&◌}
 use Rattle.std.specs.List.{list_any}
 use Rattle.std.proofs.Common.{Result, Ok, Err}
 use Rattle.mac_words.specs.declared.code.OsErr.{OsErr}
@@ -20,6 +20,7 @@ use Rattle.heap_calls.specs.Inside.{owned_as, has_block}
 use Rattle.heap_calls.specs.Path.{Step, NewFilled, Release, Cast, walk, lets_of}
 use Rattle.heap_calls.proofs.Promises.FewSearches.{unlooked}
 use Rattle.heap_calls.proofs.Steps.FewLooks.{step-looks}
+use Rattle.heap_calls.proofs.Steps.Letting.{releases}
 use Rattle.res_calls.specs.Files.{File, OpenFile, Resources, Found, find_from_current, find_in_current, file_of}
 use Rattle.res_calls.specs.Files.{file_named, open_at}
 use Rattle.res_calls.specs.Fetch.{Managers, flags_of, is_system}
@@ -27,10 +28,10 @@ use Rattle.res_calls.specs.Update.{update}
 use Rattle.res_calls.specs.Rows.{resource_of, handles_of, greatest_number, nth_in, bars}
 use Rattle.res_calls.specs.Asked.{ResourceAsked}
 use Rattle.res_calls.specs.Asked as asks
-use Rattle.res_calls.specs.Disposing.{holds, disposes_of, opens_file}
+use Rattle.res_calls.specs.Disposing.{holds, is_unchanged, disposes_of, opens_file}
 use Rattle.res_calls.proofs.Walks.Steps.{for_found, for_open, fetch_steps, fetch_steps_as, fetched_steps}
 use Rattle.res_calls.proofs.Walks.Steps.{preload_steps}
-use Rattle.res_calls.proofs.Walks.Steps.{load_steps, fork_steps, unless_steps, open_steps, releases}
+use Rattle.res_calls.proofs.Walks.Steps.{load_steps, fork_steps, unless_steps, open_steps}
 use Rattle.res_calls.proofs.Walks.Steps.{if_done, close_steps, on_handle, for_known, add_steps, remove_steps}
 use Rattle.res_calls.proofs.Walks.Steps.{release_steps, detach_steps, steps_of, new_filled, new_emptied, filled_again}
 
@@ -129,6 +130,22 @@ release-lets handle s at h e = by_tests (bars handle s.memory) (is_changed at.re
     by_tests false true = refl
     by_tests false false = e
 
+-- a resource that was changed is not released
+release-keeps : (k h : ℕ) (s : Managers) (o : Option Found) → (k == h && is_unchanged o) ≡ false
+    → lets_of (for_found o (release_steps (Some k) s)) h ≡ false
+release-keeps k h s None e = refl
+release-keeps k h s (Some at) e = by_tests (bars (Some k) s.memory) (is_changed at.reference.here) e
+  where
+    by_number : (t : Bool) → (t && true) ≡ false → (t || false) ≡ false
+    by_number true e = e
+    by_number false e = refl
+
+    by_tests : (busy changed : Bool) → (k == h && not changed) ≡ false
+        → lets_of (cond busy [] (cond changed [] (Release k ∷ []))) h ≡ false
+    by_tests true changed e = refl
+    by_tests false true e = refl
+    by_tests false false e = by_number (k == h) e
+
 cast-lets : (handle : Option ℕ) (h : ℕ) → lets_of (on_handle handle (Cast (owned_as false))) h ≡ false
 cast-lets None h = refl
 cast-lets (Some k) h = refl
@@ -190,8 +207,7 @@ lets-walk h (asks.LoadResource handle) s e =
 lets-walk h (asks.ReleaseResource None) s e =
     found-lets (resource_of None s.resources) (release_steps None s) h (λ at. release-lets None s at h refl)
 lets-walk h (asks.ReleaseResource (Some k)) s e =
-    found-lets (resource_of (Some k) s.resources) (release_steps (Some k) s) h
-    (λ at. release-lets (Some k) s at h (ap (λ (t : Bool). t || false) e))
+    release-keeps k h s (resource_of (Some k) s.resources) e
 lets-walk h (asks.DetachResource handle) s e =
     found-lets (resource_of handle s.resources) (detach_steps handle) h (λ at. detach-lets handle at h)
 lets-walk h (asks.AddResource handle kind id name) s e =

@@ -9,6 +9,7 @@ use Rattle.heap_calls.specs.Answer.{Known, handle_at}
 use Rattle.heap_calls.specs.Purging.{is_resource as is_owned}
 use Rattle.heap_calls.specs.Inside.{resource_role, owned_as, has_block}
 use Rattle.heap_calls.specs.Path.{Step, NewFilled, NewEmptied, Refill, Release, Cast}
+use Rattle.heap_calls.proofs.Steps.Letting.{releases}
 use Rattle.res_calls.specs.Files.{File, OpenFile, Resources, Found, find_from_current, find_in_current, file_of}
 use Rattle.res_calls.specs.Files.{file_named, open_at}
 use Rattle.res_calls.specs.Fetch.{Managers, flags_of, is_system}
@@ -77,11 +78,6 @@ unless_steps at None s = fork_steps at.here.fork s
 abbrev pub open_steps : Option (Split File) → Managers → List Step
 open_steps None s = []
 open_steps (Some at) s = unless_steps at (open_at (place at) s.resources) s
-
--- handles that are released in order
-abbrev pub releases : List ℕ → List Step
-releases [] = []
-releases (h ∷ handles) = Release h ∷ releases handles
 
 -- the handles of a file that is closed, if it could be updated
 abbrev pub if_done : Option Resources → List Step → List Step

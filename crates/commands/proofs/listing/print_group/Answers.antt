@@ -1,4 +1,4 @@
-use Rattle.std.proofs.Common.{◌≡◌, ◌++◌, ◌+◌, List, ℕ, drop, map, rules, arith}
+use Rattle.std.proofs.Common.{◌≡◌, ◌∙◌, ◌++◌, ◌+◌, List, ℕ, drop, map, rules, arith}
 use Rattle.std.proofs.lemmas.Grind.{common_steps}
 use Rattle.std.specs.List.{flat_map}
 use Rattle.fork_format.specs.View.{view_ref}
@@ -14,7 +14,7 @@ returns-in_err-print_many-clause-front g c =
     let i : ℕ = c.loop-resource.resource-index in
     let first : List ℕ = c.push_resource.new.text.items in
     let split : c.loop-resource.lines.items ++ lines i ≡ first ++ lines (i + 1) = grind (arith, common_steps) in
-    first-front-further _ _ first (lines (i + 1)) _ _ _ c.loop-resource.invariant split c.print_many.ensures.front
+    first-front-further _ _ first (lines (i + 1)) _ _ _ c.loop-resource.invariant.printed split c.print_many.ensures.front
 
 pub loop-resource-preserved : goal.loop-resource-preserved
 loop-resource-preserved g c =
@@ -23,6 +23,9 @@ loop-resource-preserved g c =
     let i : ℕ = c.loop-resource.resource-index in
     let first : List ℕ = c.push_resource.new.text.items in
     let split : c.loop-resource.lines.items ++ lines i ≡ first ++ lines (i + 1) = grind (arith, common_steps) in
-    let now : PrintsBut first c.print_many.new.lines.items (g.H.Watch.printed c.loop-resource.host)
-    (g.H.Watch.printed c.print_many.new.host) = search rules in
-    first-further _ _ first _ (lines (i + 1)) _ _ _ c.loop-resource.invariant split now
+    let now : PrintsBut first c.print_many.new.lines.items (g.H.Host.printed c.loop-resource.host)
+    (g.H.Host.printed c.print_many.new.host) = search rules in
+    record {
+      printed = first-further _ _ first _ (lines (i + 1)) _ _ _ c.loop-resource.invariant.printed split now;
+      files = c.print_many.ensures.files ∙ c.loop-resource.invariant.files;
+    }

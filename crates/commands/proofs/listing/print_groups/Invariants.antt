@@ -1,4 +1,4 @@
-use Rattle.std.proofs.Common.{◌++◌, drop, map}
+use Rattle.std.proofs.Common.{◌≡◌, ◌++◌, drop, map}
 use Rattle.std.specs.List.{flat_map}
 use Rattle.fork_format.specs.View.{view_group}
 use Rattle.commands.specs.Listing.{group_lines}
@@ -7,7 +7,9 @@ use Rattle.commands.proofs.listing.print_groups.Given as goal
 
 -- the lines that wait, with those of the types to come, are the rest of the whole
 abbrev pub invariant-loop-group : goal.invariant-loop-group
-invariant-loop-group g l =
-    PrintsBut (l.fn.lines.items ++ flat_map group_lines (map view_group l.content.groups.items))
-    (l.lines.items ++ flat_map group_lines (map view_group (drop l.group-index l.content.groups.items)))
-    (g.H.Watch.printed l.fn.host) (g.H.Watch.printed l.host)
+invariant-loop-group g l = record {
+  printed : PrintsBut (l.fn.lines.items ++ flat_map group_lines (map view_group l.content.groups.items))
+      (l.lines.items ++ flat_map group_lines (map view_group (drop l.group-index l.content.groups.items)))
+      (g.H.Host.printed l.fn.host) (g.H.Host.printed l.host);
+  files : g.H.Host.accesses l.host ≡ g.H.Host.accesses l.fn.host;
+}

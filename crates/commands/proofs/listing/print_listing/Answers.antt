@@ -14,5 +14,5 @@ returns-in_err-push_head-clause-front g c = nothing _ _
 pub returns-clause-front : goal.returns-clause-front
 returns-clause-front g c =
     let before : PrintsBut (listing (view c.args.content.now)) c.print_groups.new.lines.items
-    (g.H.Watch.printed c.args.host.now) (g.H.Watch.printed c.print_groups.new.host) = search rules in
+    (g.H.Host.printed c.args.host.now) (g.H.Host.printed c.print_groups.new.host) = search rules in
     front-further _ _ _ _ _ _ before c.as_slice.ensures.value c.print.ensures.front

@@ -7,12 +7,12 @@ use Rattle.desk.proofs.Free.{same-home}
 use Rattle.desk.proofs.in_region.run.Goals as goal
 
 pub returns-clause-lies : goal.returns-clause-lies
-returns-clause-lies c =
+returns-clause-lies g c =
     subst (λ (r : Whole). IfOk c.run_with-outcome.result.0 (λ o. LieAtEnd (λ w blocks. LiesThere r.bytes w blocks) c.args.job.now))
     (sym c.into_region.ensures) c.run_with-outcome.ensures.lies
 
 pub returns-clause-untouched : goal.returns-clause-untouched
-returns-clause-untouched c =
+returns-clause-untouched g c =
     subst (λ (r : Whole). IfOk c.run_with-outcome.result.0 (λ o. (place : ℕ) → IsNeverGranted place c.args.job.now
     → slice_get r.bytes place ≡ slice_get c.args.region.bytes place))
     (sym c.into_region.ensures)
@@ -21,7 +21,7 @@ returns-clause-untouched c =
     c.new.ensures c.run_with-outcome.ensures.outside)
 
 pub returns-clause-same : goal.returns-clause-same
-returns-clause-same c =
+returns-clause-same g c =
     ap (λ (r : Whole). r.home) c.into_region.ensures
     ∙ same-home c.new.result.region c.run_with-outcome.result.1.region c.run_with-outcome.ensures.kept
     ∙ ap (λ (r : Whole). r.home) c.new.ensures

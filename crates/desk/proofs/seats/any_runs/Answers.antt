@@ -1,10 +1,10 @@
 use Rattle.std.proofs.Common.{Bool, List, ◌+◌, ◌∙◌, ◌||◌, ap, sym, drop}
 use Rattle.std.proofs.lemmas.List.{at_drop_more}
 use Rattle.std.specs.List.{list_any}
-use Rattle.desk.specs.Progress.{runs}
+use Rattle.desk.specs.Phase.{runs}
 use Rattle.desk.specs.Desk.{Place}
 use Rattle.desk.specs.Seated.{Placed}
-use Rattle.desk.specs.View.{seen, progress_seen}
+use Rattle.desk.specs.View.{seen, place_seen}
 use Rattle.desk.proofs.seats.any_runs.Goals as goal
 
 pub loop-seat-preserved : goal.loop-seat-preserved
@@ -12,8 +12,19 @@ loop-seat-preserved g c =
     let seats = c.args.seats.now in
     let i = c.loop-seat.seat-index in
     c.loop-seat.invariant
-    ∙ at_drop_more (λ (xs : List (Placed g.row.S.Denot)). list_any (λ (p : Place). runs p.progress) (seen xs)) seats i
+    ∙ at_drop_more (λ (xs : List (Placed g.row.S.Denot)). list_any (λ (p : Place). runs p.phase) (seen xs)) seats i
     c.seat-item.result c.loop-seat-test.true
-    ∙ ap (λ (b : Bool). b || list_any (λ (p : Place). runs p.progress) (seen (drop (i + 1) seats)))
-    (ap (λ (x : Placed g.row.S.Denot). runs (progress_seen x.phase)) (sym c.seat-item.is)
+    ∙ ap (λ (b : Bool). b || list_any (λ (p : Place). runs p.phase) (seen (drop (i + 1) seats)))
+    (ap (λ (x : Placed g.row.S.Denot). runs (place_seen x).phase) (sym c.seat-item.is)
     ∙ sym c.is_running.ensures ∙ c.if-is_running.false)
+
+pub returns-then-is_running : goal.returns-then-is_running
+returns-then-is_running g c =
+    let seats = c.args.seats.now in
+    let i = c.loop-seat.seat-index in
+    sym (c.loop-seat.invariant
+    ∙ at_drop_more (λ (xs : List (Placed g.row.S.Denot)). list_any (λ (p : Place). runs p.phase) (seen xs)) seats i
+    c.seat-item.result c.loop-seat-test.true
+    ∙ ap (λ (b : Bool). b || list_any (λ (p : Place). runs p.phase) (seen (drop (i + 1) seats)))
+    (ap (λ (x : Placed g.row.S.Denot). runs (place_seen x).phase) (sym c.seat-item.is)
+    ∙ sym c.is_running.ensures ∙ c.if-is_running.true))

@@ -1,15 +1,18 @@
 use Rattle.std.proofs.Common.{refl, subst, IfSome}
+use Rattle.fork_format.specs.View.{view}
+use Rattle.desk.specs.Job.{start_of}
 use Rattle.desk.specs.Lying.{IsZoneOf}
 use Rattle.desk.specs.Seated.{Placed}
 use Rattle.desk.specs.View.{place_seen}
 use Rattle.desk.proofs.seats.leave.Goals as goal
 
 pub returns-clause-told : goal.returns-clause-told
-returns-clause-told g c =
-    rw (← c.seat.view_is, c.own_name-name.ensures, c.part-launched.ensures.told _ _ c.seat.invariant.0) refl
+returns-clause-told g c = rw (← c.seat.view_is, c.own_name-name.ensures, c.part-launched.ensures.told (start_of (view c.seat.inside.system.now) c.seat.inside.app.now)) refl
+
+pub returns-clause-window : goal.returns-clause-window
+returns-clause-window g c = rw (← c.seat.view_is) (c.part-launched.ensures.window _)
 
 pub returns-clause-zone : goal.returns-clause-zone
 returns-clause-zone g c =
-    subst (λ (s : Placed _). IfSome c.part-launched.result.1 (λ f. IsZoneOf (place_seen s).start (place_seen s).script
-    (place_seen s).progress (g.S.BlockStore.zone f.1)))
-    c.seat.view_is (c.part-launched.ensures.zone _ _ c.seat.invariant.0)
+    subst (λ (s : Placed _). IfSome c.part-launched.result.1 (λ f. IsZoneOf (place_seen s).phase (g.S.BlockStore.zone f.1)))
+    c.seat.view_is (c.part-launched.ensures.zone _)

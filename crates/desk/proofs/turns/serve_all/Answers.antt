@@ -13,7 +13,6 @@ loop-index-preserved g c =
       rest = ap (λ (s : State). after_events (drop (i + 1) events) s) c.in_ok-serve.ensures.ok
           ∙ sym (events_next events i _ c.loop-index.desk.state less) ∙ c.loop-index.invariant.rest;
       memory = c.serve.ensures.memory ∙ c.loop-index.invariant.memory;
-      silent = c.tell.ensures.silent ∙ c.loop-index.invariant.silent;
       kept = λ w site m. c.serve.ensures.kept w site (c.loop-index.invariant.kept w site m);
       outside = event-out g.Z.ZoneMaker.byte c.args.desk.now.zones c.loop-index.desk.zones c.serve.new.self.zones events i _
           c.args.desk.now.state c.loop-index.desk.state c.serve.new.self.state less c.in_ok-serve.ensures.ok

@@ -10,7 +10,6 @@ abbrev pub invariant-loop-index : goal.invariant-loop-index
 invariant-loop-index g l = record {
   rest : after_events (drop l.index l.events) l.desk.state ≡ after_events l.events l.fn.desk.state;
   memory : l.desk.state.memory ≡ l.fn.desk.state.memory;
-  silent : g.W.Watch.printed l.watch ≡ g.W.Watch.printed l.fn.watch;
   kept : (w : Window) (site : Site) → g.Z.ZoneMaker.made l.fn.desk.zones w site → g.Z.ZoneMaker.made l.desk.zones w site;
   outside : (place : ℕ) → StaysFree place l.events l.fn.desk.state → StaysFree place (drop l.index l.events) l.desk.state
       × (g.Z.ZoneMaker.byte l.desk.zones place ≡ g.Z.ZoneMaker.byte l.fn.desk.zones place);

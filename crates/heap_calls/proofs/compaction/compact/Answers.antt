@@ -8,7 +8,6 @@ use Rattle.heap_calls.proofs.compaction.compact.Goals as goal
 
 pub loop-bytes-init : goal.loop-bytes-init
 loop-bytes-init g c = begins c.args.bytes (g.S.BlockStore.zone c.args.store.now) (g.S.BlockStore.rest c.args.store.now)
-    (omega arith)
 
 pub block_at-requires : goal.block_at-requires
 block_at-requires g c = run-edge c.loop-bytes.invariant.k c.loop-bytes.run (g.S.BlockStore.zone c.loop-bytes.store)

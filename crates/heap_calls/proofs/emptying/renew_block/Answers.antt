@@ -1,4 +1,4 @@
-use Rattle.std.proofs.Common.{◌≡◌, Some, None, Option, ℕ, sym, ◌∙◌, ap, refl, subst, is_some, arith}
+use Rattle.std.proofs.Common.{◌≡◌, Some, None, Option, ℕ, sym, ◌∙◌, ap, refl, subst, is_some}
 use Rattle.std.specs.Option.{MatchOption}
 use Rattle.heap_calls.specs.Inner.Loose.{renewed}
 use Rattle.heap_calls.proofs.Room.Seats.{at_none}
@@ -90,7 +90,7 @@ returns-clause-fixed g c place =
 pub returns-in_default-clause-moves : goal.returns-in_default-clause-moves
 returns-in_default-clause-moves g c =
     let rest = g.S.BlockStore.rest c.args.store.now in
-    packs-none rest rest (renewed_moves c.args.slot c.args.size (g.S.BlockStore.zone c.args.store.now)) (omega arith)
+    packs-none rest rest (renewed_moves c.args.slot c.args.size (g.S.BlockStore.zone c.args.store.now))
     refl (cond-false {A = ℕ} _ _ 0 (ap is_some (sym c.phys.ensures ∙ c.in_default.is)))
 
 pub returns-in_default-place-clause-moves : goal.returns-in_default-place-clause-moves

@@ -1,4 +1,4 @@
-use Rattle.std.proofs.Common.{Some, subst, arith}
+use Rattle.std.proofs.Common.{Some, subst}
 use Rattle.block_store.specs.Block.{is_relocatable}
 use Rattle.block_store.specs.Room.{spot}
 use Rattle.heap_calls.specs.Inner.Growing.{FindsGrowth, grown}
@@ -15,5 +15,5 @@ returns-in-Up-clause-moves g c =
     let P : Growth → Type 0 = λ o. FindsGrowth t (grown c.args.size (spot t zone)) zone (Some o) in
     let found : P grows.Up = subst P c.in-Up.is c.requires.found in
     packs-none (g.S.BlockStore.rest c.args.store.now) (g.S.BlockStore.rest c.grow_up.new.store)
-    (grow_moves t (grown c.args.size (spot t zone)) zone) (omega arith) c.grow_up.ensures.rest.moves
+    (grow_moves t (grown c.args.size (spot t zone)) zone) c.grow_up.ensures.rest.moves
     (up-moves t (grown c.args.size (spot t zone)) zone found)

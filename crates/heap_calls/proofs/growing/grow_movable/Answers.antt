@@ -3,7 +3,7 @@ use Rattle.std.specs.Option.{IfSome}
 use Rattle.heap_calls.specs.Moves.{room_moves}
 use Rattle.block_store.specs.Grow.{grow_mover}
 use Rattle.block_store.specs.Block.{resized}
-use Rattle.std.proofs.Common.{◌≡◌, ◌+◌, Some, None, sym, ◌∙◌, ap, subst, Option, List, refl, arith}
+use Rattle.std.proofs.Common.{◌≡◌, ◌+◌, Some, None, sym, ◌∙◌, ap, subst, Option, List, refl}
 use Rattle.block_store.specs.Block.{Block, is_relocatable, is_fixed, size as size_of}
 use Rattle.block_store.specs.Run.{has}
 use Rattle.block_store.specs.Room.{spot}
@@ -100,7 +100,7 @@ returns-in_default-growth-clause-moves g c =
     let none : P None = subst P c.in_default-growth.is c.find_growth-found.ensures.found in
     grown-moves c.args.sparing c.args.slot c.args.bytes zone c.requires.stays k c.find_growth-found.ensures.searches
     rest rest
-    (packs-none rest rest (grow_moves t (grown c.args.bytes (spot t zone)) (purged k c.args.sparing zone)) (omega arith)
+    (packs-none rest rest (grow_moves t (grown c.args.bytes (spot t zone)) (purged k c.args.sparing zone))
     refl (no-growth t (grown c.args.bytes (spot t zone)) (purged k c.args.sparing zone) none))
 
 -- the blocks that packing moved

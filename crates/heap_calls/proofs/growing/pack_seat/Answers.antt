@@ -1,4 +1,4 @@
-use Rattle.std.proofs.Common.{◌≡◌, Some, sym, ◌∙◌, ap, subst, refl, arith}
+use Rattle.std.proofs.Common.{◌≡◌, Some, sym, ◌∙◌, ap, subst, refl}
 use Rattle.block_store.specs.Block.{is_room, is_fixed, tidy}
 use Rattle.block_store.specs.Room.{spot}
 use Rattle.block_store.specs.Run.{has, settle, with_run}
@@ -60,7 +60,7 @@ returns-in-Free-clause-moves g c =
     let rest = g.S.BlockStore.rest c.args.store.now in
     let P : Seat → Type 0 = λ s. FindsSeat c.args.bytes zone (Some s) in
     let found : P (see.Free _) = subst P c.in-Free.is c.requires.found in
-    packs-none rest rest (place_moves c.args.bytes zone) (omega arith) refl (at-free c.args.bytes _ zone found)
+    packs-none rest rest (place_moves c.args.bytes zone) refl (at-free c.args.bytes _ zone found)
 
 pub returns-clause-moves : goal.returns-clause-moves
 returns-clause-moves g c =

@@ -1,4 +1,4 @@
-use Rattle.std.proofs.Common.{Some, None, ℕ, Option, sym, ◌∙◌, ap, subst, inr, refl, is_some, arith}
+use Rattle.std.proofs.Common.{Some, None, ℕ, Option, sym, ◌∙◌, ap, subst, inr, refl, is_some}
 use Rattle.mac_words.specs.Size.{padded}
 use Rattle.block_store.specs.Block.{is_relocatable, is_fixed}
 use Rattle.block_store.specs.Run.{has}
@@ -91,7 +91,7 @@ pub returns-in_default-clause-moves : goal.returns-in_default-clause-moves
 returns-in_default-clause-moves g c =
     let large = ap is_some (sym c.phys.ensures ∙ c.in_default.is) in
     packs-none (g.S.BlockStore.rest c.args.store.now) (g.S.BlockStore.rest c.give_slot.new.self)
-    (content_moves c.args.sparing c.args.size (g.S.BlockStore.zone c.args.store.now)) (omega arith)
+    (content_moves c.args.sparing c.args.size (g.S.BlockStore.zone c.args.store.now))
     c.give_slot.ensures.rest.moves
     (cond-false {A = ℕ} _ _ 0 large)
 

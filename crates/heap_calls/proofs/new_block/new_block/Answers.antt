@@ -1,4 +1,4 @@
-use Rattle.std.proofs.Common.{inr, ◌∙◌, ℕ, Option, Some, None, sym, ap, subst, arith}
+use Rattle.std.proofs.Common.{inr, ◌∙◌, ℕ, Option, Some, None, sym, ap, subst}
 use Rattle.heap_calls.proofs.NewBlocks.NewSlots.{only-slot}
 use Rattle.block_store.specs.Rest.{counted}
 use Rattle.heap_calls.specs.Inner.NewBlock.{ready_count}
@@ -36,7 +36,7 @@ returns-in_default-clause-moves g c =
     let rest' = g.S.BlockStore.rest c.make_slot.new.store in
     let P : Option ℕ → Type 0 = λ o. IsSlot c.args.sparing zone rest o zone' rest' in
     let none : P None = subst P c.in_default.is c.in_ok-taken.ensures.slot in
-    packs-none rest rest' (new_moves c.args.sparing c.args.size rest.unused zone) (omega arith)
+    packs-none rest rest' (new_moves c.args.sparing c.args.size rest.unused zone)
     c.make_slot.ensures.moves (ap (λ o. ready_count o (content_moves c.args.sparing c.args.size)) none.0)
 
 -- the moves of a new block, where a slot was taken

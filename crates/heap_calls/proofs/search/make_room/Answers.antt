@@ -1,4 +1,4 @@
-use Rattle.std.proofs.Common.{None, Option, sym, ◌∙◌, ap, subst, refl, arith}
+use Rattle.std.proofs.Common.{None, Option, sym, ◌∙◌, ap, subst, refl}
 use Rattle.block_store.specs.Sparing.{purged}
 use Rattle.block_store.specs.Rest.{counted}
 use Rattle.heap_calls.specs.Inner.Packed.{seat_moves}
@@ -14,7 +14,7 @@ returns-in_default-clause-moves g c =
     let k = c.find_seat-found.result.purges in
     let P : Option Seat → Type 0 = λ o. FindsSeat c.args.bytes (purged k c.args.sparing zone) o in
     let none : P None = subst P c.in_default.is c.find_seat-found.ensures.found in
-    packs-none rest rest (seat_moves c.args.bytes c.args.sparing zone) (omega arith) refl
+    packs-none rest rest (seat_moves c.args.bytes c.args.sparing zone) refl
     (seat-at c.args.bytes k c.args.sparing zone c.find_seat-found.ensures.searches
     ∙ no-place c.args.bytes (purged k c.args.sparing zone) c.requires none)
 

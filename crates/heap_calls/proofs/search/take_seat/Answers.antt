@@ -1,4 +1,4 @@
-use Rattle.std.proofs.Common.{◌≡◌, Some, sym, ◌∙◌, ap, subst, refl, arith}
+use Rattle.std.proofs.Common.{◌≡◌, Some, sym, ◌∙◌, ap, subst, refl}
 use Rattle.block_store.specs.Block.{is_room, tidy, is_relocatable, is_fixed}
 use Rattle.block_store.specs.Room.{spot}
 use Rattle.block_store.specs.Run.{settle, with_run, has, has_free}
@@ -72,7 +72,7 @@ returns-in-Free-clause-moves g c =
     let P : Seat → Type 0 = λ s. FindsSeat c.args.bytes zone (Some s) in
     let found : P (see.Free _) = subst P c.in-Free.is c.requires.found in
     packs-none (g.S.BlockStore.rest c.args.store.now) (g.S.BlockStore.rest c.purge.new.self)
-    (place_moves c.args.bytes zone) (omega arith) c.purge.ensures.rest.moves (at-free c.args.bytes _ zone found)
+    (place_moves c.args.bytes zone) c.purge.ensures.rest.moves (at-free c.args.bytes _ zone found)
 
 pub returns-in-Some-clause-moves : goal.returns-in-Some-clause-moves
 returns-in-Some-clause-moves g c =

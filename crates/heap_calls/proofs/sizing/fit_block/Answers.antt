@@ -1,4 +1,4 @@
-use Rattle.std.proofs.Common.{is_some, sym, ◌∙◌, ap, refl, arith}
+use Rattle.std.proofs.Common.{is_some, sym, ◌∙◌, ap, refl}
 use Rattle.block_store.specs.Block.{is_relocatable}
 use Rattle.block_store.specs.Sparing.{spared}
 use Rattle.heap_calls.specs.Moves.{size_moves}
@@ -10,5 +10,5 @@ returns-then-is_none-clause-moves g c =
     let zone = g.S.BlockStore.zone c.args.store.now in
     let rest = g.S.BlockStore.rest c.args.store.now in
     packs-none rest rest (size_moves (is_relocatable c.args.slot) (spared c.args.sparing) c.args.size zone)
-    (omega arith) refl (too-large (is_relocatable c.args.slot) (spared c.args.sparing) c.args.size zone
+    refl (too-large (is_relocatable c.args.slot) (spared c.args.sparing) c.args.size zone
     (ap is_some (sym c.phys.ensures) ∙ c.if-is_none.ensures))

@@ -82,7 +82,7 @@ returns-in_err-resize-clause-moves g c =
     let less = is-to-fit c.args.slot c.args.size c.in-Some.bytes c.bytes_of.result zone s c.requires.found.1
     (sym c.phys.ensures ∙ c.in-Some.is) c.bytes_of.ensures c.if-bytes-bytes_of.true in
     packs-none (g.S.BlockStore.rest c.args.store.now) (g.S.BlockStore.rest c.resize.new.self)
-    (size_moves (is_relocatable c.args.slot) (spared c.args.sparing) c.args.size zone) (omega arith)
+    (size_moves (is_relocatable c.args.slot) (spared c.args.sparing) c.args.size zone)
     c.resize.ensures.rest.moves
     (cut-moves (is_relocatable c.args.slot) (spared c.args.sparing) c.args.size zone s c.requires.found.1
     c.requires.fits less)
@@ -94,7 +94,7 @@ returns-then-bytes-bytes_of-clause-moves g c =
     let less = is-to-fit c.args.slot c.args.size c.in-Some.bytes c.bytes_of.result zone s c.requires.found.1
     (sym c.phys.ensures ∙ c.in-Some.is) c.bytes_of.ensures c.if-bytes-bytes_of.true in
     packs-none (g.S.BlockStore.rest c.args.store.now) (g.S.BlockStore.rest c.resize.new.self)
-    (size_moves (is_relocatable c.args.slot) (spared c.args.sparing) c.args.size zone) (omega arith)
+    (size_moves (is_relocatable c.args.slot) (spared c.args.sparing) c.args.size zone)
     c.resize.ensures.rest.moves
     (cut-moves (is_relocatable c.args.slot) (spared c.args.sparing) c.args.size zone s c.requires.found.1
     c.requires.fits less)
@@ -117,6 +117,6 @@ returns-clause-moves g c =
     let more = is-to-grow c.args.slot c.args.size c.in-Some.bytes c.bytes_of.result zone k.0 k.1
     (sym c.phys.ensures ∙ c.in-Some.is) c.bytes_of.ensures c.if-bytes-bytes_of.false in
     packs-none (g.S.BlockStore.rest c.args.store.now) (g.S.BlockStore.rest c.grow_in_place.new.store)
-    (size_moves (is_relocatable c.args.slot) (spared c.args.sparing) c.args.size zone) (omega arith)
+    (size_moves (is_relocatable c.args.slot) (spared c.args.sparing) c.args.size zone)
     c.grow_in_place.ensures.rest.moves
     (still-moves (is_relocatable c.args.slot) (spared c.args.sparing) c.args.size zone k.0 k.1 c.requires.fits k.3 more)

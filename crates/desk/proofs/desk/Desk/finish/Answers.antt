@@ -3,13 +3,13 @@ use Rattle.std.proofs.lemmas.Bool.{eqb-true}
 use Rattle.std.specs.List.{Contains}
 use Rattle.windows.specs.declared.Window.{Window}
 use Rattle.desk.specs.declared.outcome.AppOutcome.{AppOutcome}
-use Rattle.desk.specs.Outcome.{told}
+use Rattle.desk.specs.Desk.{told}
 use Rattle.desk.specs.Held.{MadeOf, closed}
 use Rattle.desk.specs.View.{DeskSeen, seen, lots, place_seen, lot_of, told_seen}
 use Rattle.desk.proofs.Leaving.{split_first, no_length, told_next, told_end, first_out, first_made, housed_next, none_out}
 use Rattle.windows.specs.Windows.{Misses}
 use Rattle.windows.specs.Outside.{IsOutside}
-use Rattle.desk.specs.Progress.{window_of}
+use Rattle.desk.specs.Phase.{window_of}
 use Rattle.partitions.specs.Granted.{granted-order}
 use Rattle.desk.specs.Lying.{AllLie}
 use Rattle.desk.proofs.Free.{out-next}
@@ -115,13 +115,12 @@ places-preserved g c =
           (λ w blocks m l. c.release.ensures.left w blocks
           (subst (λ (o : Option Window). IfSome o (λ v. Misses w v)) (sym c.leave-app.ensures.window) m) l)
           (lies_of g.Z.Store.BlockStore.zone (g.Z.ZoneMaker.left c.release.new.zones)
-          (place_seen c.remove-seat.result).start (place_seen c.remove-seat.result).script
-          (place_seen c.remove-seat.result).progress c.leave-app.result.1 c.leave-app.ensures.window
+          (place_seen c.remove-seat.result).phase c.leave-app.result.1 c.leave-app.ensures.window
           c.leave-app.ensures.zone c.release.ensures.lies)
           c.places.invariant.left;
       kept = λ w site m. c.release.ensures.kept w site (c.places.invariant.kept w site m);
       outside = out-next g.Z.ZoneMaker.byte c.self.inside.zones c.places.zones c.release.new.zones
-          (window_of (place_seen c.remove-seat.result).progress) c.self.inside.grants.windows c.places.grants.windows
+          (window_of (place_seen c.remove-seat.result).phase) c.self.inside.grants.windows c.places.grants.windows
           c.release.new.grants.windows
           (c.release.ensures.windows
           ∙ ap (λ (o : Option Window). closed o c.places.grants.windows) c.leave-app.ensures.window)

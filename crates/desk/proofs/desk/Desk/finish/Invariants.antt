@@ -2,7 +2,7 @@ use Rattle.std.proofs.Common.{◌≡◌, ℕ, ◌+◌, ◌≤◌, ◌++◌, map,
 use Rattle.windows.specs.declared.Window.{Window}
 use Rattle.windows.specs.Outside.{IsOutsideAll}
 use Rattle.block_store.specs.Rest.{Site}
-use Rattle.desk.specs.Outcome.{told}
+use Rattle.desk.specs.Desk.{told}
 use Rattle.desk.specs.Held.{AreHoused}
 use Rattle.desk.specs.View.{seen, lots, told_seen}
 use Rattle.desk.proofs.Lying.{LeftSo}

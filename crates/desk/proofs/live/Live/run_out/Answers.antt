@@ -1,13 +1,18 @@
-use Rattle.std.proofs.Common.{◌∙◌, ◌+◌, ℕ, false, List, length, ap, sym}
+use Rattle.std.proofs.Common.{◌∙◌, ◌+◌, false, List, length, ap, sym}
 use Rattle.script_text.specs.declared.script.Line.{Line}
-use Rattle.desk.specs.Progress.{come_to}
-use Rattle.desk.proofs.Alone.{runs_out}
+use Rattle.applications.specs.Trying.{nowhere}
+use Rattle.applications.specs.Alone.{quits}
+use Rattle.applications.specs.Elsewhere.{moved}
+use Rattle.desk.specs.Phase.{Live, ends}
 use Rattle.desk.proofs.live.Live.run_out.Goals as goal
 
 pub returns-clause-came : goal.returns-clause-came
-returns-clause-came g c = λ resources live.
+returns-clause-came g c =
     let s = c.args.self.now in
-    let out = runs_out resources s.script.now s.window.len s.steps (length c.steps.result.now + 1) s.text.items
-    s.application live c.requires (ap (λ (ls : List Line). length ls + 1) c.steps.ensures.steps) in
-    let came = c.in_ok-end.ensures.came resources false out.1 in
-    (ap (λ (k : ℕ). come_to resources s.script.now s.window k false) (sym out.0) ∙ came.0, came.1)
+    ap (λ (lines : List Line). ends false (quits (moved nowhere s.application)) (let live : Live = record {
+      window = s.window;
+      steps = length lines + 1;
+      transcript = s.text.items;
+      state = moved nowhere s.application;
+    } in live)) (sym c.steps.ensures.steps)
+    ∙ c.in_ok-end.ensures.came false

@@ -1,4 +1,4 @@
-use Rattle.std.proofs.Common.{Ok, arith}
+use Rattle.std.proofs.Common.{Ok}
 use Rattle.std.proofs.lemmas.Result.{err_from_is_err_and}
 use Rattle.heap_calls.specs.Copying.{hand_and_hand}
 use Rattle.heap_calls.specs.Inner.Reaching.{Reaches}
@@ -25,8 +25,7 @@ returns-in_err-source-clause-answer g c =
     (nothing-grown c.args.self.now _ (g.S.BlockStore.rest a.store) a.names.items a.log c.self.view_is
     (hand_and_hand c.args.from c.args.to) (hand_and_hand_searches c.args.from c.args.to)
     (hand_and_hand_moves c.args.from c.args.to) c.in_err-source.field-0.0
-    c.args.from _ c.deref.ensures.value c.in_err-source.ensures (hand-none c.args.from c.args.to _) (omega arith)
-    (omega arith))
+    c.args.from _ c.deref.ensures.value c.in_err-source.ensures (hand-none c.args.from c.args.to _))
 
 pub invariant_of-self : goal.invariant_of-self
 invariant_of-self g c = agrees-kept _ _ _ _ _ c.self.invariant c.append_block.ensures.fixed c.append_block.ensures.rest
@@ -41,7 +40,7 @@ returns-in_err-held-clause-answer g c =
     (hand_and_hand c.args.from c.args.to) (hand_and_hand_searches c.args.from c.args.to)
     (hand_and_hand_moves c.args.from c.args.to) c.in_err-held.field-0.0
     c.args.to _ c.deref-2.ensures.value c.in_err-held.ensures
-    (λ code. hand-nowhere c.args.from c.args.to _ _ code from.1) (omega arith) (omega arith))
+    (λ code. hand-nowhere c.args.from c.args.to _ _ code from.1))
 
 pub returns-clause-answer : goal.returns-clause-answer
 returns-clause-answer g c =

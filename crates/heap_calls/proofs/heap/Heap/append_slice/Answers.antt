@@ -1,4 +1,4 @@
-use Rattle.std.proofs.Common.{Ok, arith}
+use Rattle.std.proofs.Common.{Ok}
 use Rattle.std.proofs.lemmas.Result.{err_from_is_err_and}
 use Rattle.heap_calls.specs.Copying.{pointer_and_hand}
 use Rattle.heap_calls.specs.Moves.{pointer_and_hand_moves}
@@ -18,8 +18,7 @@ returns-in_err-held-clause-answer g c =
     (nothing-grown c.args.self.now _ (g.S.BlockStore.rest a.store) a.names.items a.log c.self.view_is
     (pointer_and_hand c.args.handle x) (pointer_and_hand_searches c.args.handle x)
     (pointer_and_hand_moves c.args.handle x) c.in_err-held.field-0.0
-    c.args.handle _ c.deref.ensures.value c.in_err-held.ensures (slice-none c.args.handle x _) (omega arith)
-    (omega arith))
+    c.args.handle _ c.deref.ensures.value c.in_err-held.ensures (slice-none c.args.handle x _))
 
 pub invariant_of-self : goal.invariant_of-self
 invariant_of-self g c = agrees-kept _ _ _ _ _ c.self.invariant c.append_bytes.ensures.fixed c.append_bytes.ensures.rest

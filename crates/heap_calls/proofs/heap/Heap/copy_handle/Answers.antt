@@ -1,4 +1,4 @@
-use Rattle.std.proofs.Common.{rules, Fits, w64, ◌≡◌, length, sym, ◌∙◌, ap, arith, inr, Some, slice_get}
+use Rattle.std.proofs.Common.{◌≡◌, length, sym, ◌∙◌, ap, arith, inr, Some, slice_get}
 use Rattle.heap_calls.specs.declared.anchor.Anchor.TheVariants.{Handle}
 use Rattle.std.proofs.lemmas.Result.{err_from_is_err_and}
 use Rattle.block_store.specs.Block.{content_of}
@@ -20,17 +20,15 @@ pub returns-in_err-found-clause-answer : goal.returns-in_err-found-clause-answer
 returns-in_err-found-clause-answer g c =
     let p = err_from_is_err_and c.from_residual.result c.from_residual.ensures.1 in
     let a = c.self.inside in
-    let fits : Fits w64 a.log.searches = search rules in
     rw (p.1, p.2)
     (not-moved _ _ c.in_err-found.field-0.0 c.args.self.now (g.S.BlockStore.zone a.store) (g.S.BlockStore.rest a.store)
     a.names.items a.log c.self.view_is
     (copy-not_found c.args.self.now (g.S.BlockStore.zone a.store) (g.S.BlockStore.rest a.store) a.names.items
-    c.deref.result.now a.log c.args.handle c.in_err-found.field-0.0 c.self.view_is (omega (arith, fits))
-    c.deref.ensures.value
+    c.deref.result.now a.log c.args.handle c.in_err-found.field-0.0 c.self.view_is c.deref.ensures.value
     (sym c.slot_of.ensures ∙ c.in_err-found.was))
     (not_found-still c.args.self.now (g.S.BlockStore.zone a.store) (g.S.BlockStore.rest a.store) a.names.items
     c.deref.result.now a.log c.args.handle c.in_err-found.field-0.0 c.self.view_is c.deref.ensures.value
-    (sym c.slot_of.ensures ∙ c.in_err-found.was)) (omega arith))
+    (sym c.slot_of.ensures ∙ c.in_err-found.was)))
 
 -- the handle's entry
 entry : (g : Over) (c : In_ok-found g) → (c.args.handle ≡ Some c.in_ok-found.found.number)
@@ -44,9 +42,8 @@ returns-in_default-clause-answer g c =
     let a = c.self.inside in
     let f = c.in_ok-found.found in
     let is = entry g (goal.at.returns-in_default-clause-answer g c).In_ok-found in
-    let fits : Fits w64 a.log.searches = search rules in
     copy-emptied c.args.self.now (g.S.BlockStore.zone a.store) (g.S.BlockStore.rest a.store) a.names.items a.log
-    c.args.handle f.number f.slot c.self.view_is (omega (arith, fits)) (omega arith) is.0 is.1 c.self.invariant
+    c.args.handle f.number f.slot c.self.view_is is.0 is.1 c.self.invariant
     (omega arith) c.in_default.ensures
 
 -- what is copied

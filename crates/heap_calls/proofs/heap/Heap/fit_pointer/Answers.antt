@@ -23,7 +23,7 @@ returns-in_err-target-clause-answer g c =
     let e = c.in_err-target.field-0.0 in
     rw (p.1, p.2) (no_pointer c.args.self.now (g.S.BlockStore.zone a.store) (g.S.BlockStore.rest a.store) a.names.items
     a.log e c.args.pointer c.args.size c.self.view_is
-    (target_in a.names.items _ c.args.pointer (Err e) c.deref.ensures.value c.in_err-target.ensures) (omega arith))
+    (target_in a.names.items _ c.args.pointer (Err e) c.deref.ensures.value c.in_err-target.ensures))
 
 pub fit_fixed-requires : goal.fit_fixed-requires
 fit_fixed-requires g c =

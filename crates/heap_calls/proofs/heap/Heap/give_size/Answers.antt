@@ -1,4 +1,4 @@
-use Rattle.std.proofs.Common.{Ok, arith}
+use Rattle.std.proofs.Common.{Ok}
 use Rattle.std.proofs.lemmas.Result.{err_from_is_err_and}
 use Rattle.heap_calls.specs.Answer.{set_handle_size}
 use Rattle.heap_calls.specs.Moves.{set_handle_size_moves}
@@ -16,8 +16,7 @@ returns-in_err-held-clause-answer g c =
     (nothing-grown c.args.self.now _ (g.S.BlockStore.rest a.store) a.names.items a.log c.self.view_is
     (set_handle_size c.args.handle c.args.size) (set_handle_size_searches c.args.handle c.args.size)
     (set_handle_size_moves c.args.handle c.args.size) c.in_err-held.field-0.0
-    c.args.handle _ c.deref.ensures.value c.in_err-held.ensures (not-resized c.args.handle c.args.size _) (omega arith)
-    (omega arith))
+    c.args.handle _ c.deref.ensures.value c.in_err-held.ensures (not-resized c.args.handle c.args.size _))
 
 pub returns-clause-answer : goal.returns-clause-answer
 returns-clause-answer g c =

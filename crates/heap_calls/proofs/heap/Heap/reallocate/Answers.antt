@@ -1,5 +1,5 @@
 use Rattle.std.proofs.Common.{is_some, refl}
-use Rattle.std.proofs.Common.{◌<◌, Ok, Err, Fits, w64, rules, arith}
+use Rattle.std.proofs.Common.{Ok, Err}
 use Rattle.std.proofs.lemmas.Result.{err_from_is_err_and}
 use Rattle.heap_calls.specs.Answer.{silent}
 use Rattle.heap_calls.specs.Purging.{reallocate_handle}
@@ -22,15 +22,13 @@ returns-in_err-slot-clause-answer g c =
     let zone = g.S.BlockStore.zone a.store in
     let rest = g.S.BlockStore.rest a.store in
     let es = a.names.items in
-    let fits : Fits w64 a.log.searches = search rules in
-    let few : a.log.searches < 18446744073709551616 = omega (arith, fits) in
     let found = loose_in zone rest.slots es _ c.args.handle (Err c.in_err-slot.field-0.0) c.deref.ensures.value
     c.in_err-slot.ensures in
     rw (p.1, p.2) (not-moved _ _ c.in_err-slot.field-0.0 c.args.self.now zone rest es a.log c.self.view_is
-    (loose_not_searched c.args.size c.in_err-slot.field-0.0 zone rest es a.log c.args.handle c.args.self.now few
-    c.self.view_is found)
+    (loose_not_searched c.args.size c.in_err-slot.field-0.0 zone rest es a.log c.args.handle c.args.self.now c.self.view_is
+    found)
     (no_moves-loose c.args.handle c.args.size c.in_err-slot.field-0.0 c.args.self.now zone rest es a.log c.self.view_is
-    found) (omega arith))
+    found))
 
 pub returns-clause-answer : goal.returns-clause-answer
 returns-clause-answer g c =

@@ -1,5 +1,4 @@
-use Rattle.std.proofs.Common.{rules, Fits, w64, ℕ, ◌≤◌, is_some, sym, ◌∙◌, ap, subst, arith}
-use Rattle.heap_calls.specs.State.{Memory}
+use Rattle.std.proofs.Common.{is_some, sym, ◌∙◌}
 use Rattle.mac_words.specs.Size.{phys}
 use Rattle.heap_calls.specs.Pointers.{reserve_mem}
 use Rattle.heap_calls.specs.Searches.{reserve_searches}
@@ -14,10 +13,7 @@ use Rattle.heap_calls.proofs.heap.Heap.reserve_base.Goals as goal
 
 pub returns-in_default-clause-answer : goal.returns-in_default-clause-answer
 returns-in_default-clause-answer g c =
-    let fits : Fits w64 c.self.inside.log.searches = search rules in
-    let same = ap (λ (m : Memory). m.log.searches) c.self.view_is in
     reserve-too_large c.args.size c.args.self.now (sym c.phys.ensures ∙ c.in_default.is)
-    (let P : ℕ → Type 0 = λ k. k ≤ 18446744073709551615 in subst P same (omega (arith, fits)))
 
 reserved : (g : Over) (c : In_ok-room g) → Ends (reserve_mem c.args.size) (g.S.BlockStore.zone c.self.inside.store)
     (g.S.BlockStore.rest c.self.inside.store) c.self.inside.names.items

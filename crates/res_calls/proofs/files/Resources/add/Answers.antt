@@ -6,8 +6,9 @@ use Rattle.res_map.specs.Map.{new_reference}
 use Rattle.res_calls.specs.Files.{OpenFile, Resources}
 use Rattle.res_calls.specs.Changing as changing
 use Rattle.res_calls.specs.Given.{IsAnswered, managers}
-use Rattle.res_calls.specs.Places.{chained, add_found}
+use Rattle.res_calls.specs.Places.{chained}
 use Rattle.res_calls.specs.View.{resources_of}
+use Rattle.res_calls.specs.Changing.{add_found}
 use Rattle.res_calls.proofs.Joining.{on_role}
 use Rattle.res_calls.proofs.Soundness.Calls.{add_resource_sound}
 use Rattle.res_calls.proofs.Soundness.Laws.{answered_sound}

@@ -1,0 +1,8 @@
+use Rattle.commands.specs.Doing.{Asks}
+use Rattle.commands.proofs.Accesses.{also_err}
+use Rattle.commands.proofs.doing.tool.Goals as goal
+
+-- some request was not done
+pub returns-clause-undone : goal.returns-clause-undone
+returns-clause-undone g c =
+    also_err _ _ c.perform.result (λ fault undone. Asks c.in_ok-request.request undone) c.perform.ensures.undone

@@ -1,0 +1,38 @@
+use Rattle.std.specs.Prelude.{◌≡◌, ℕ, Option, List, [], ◌∷◌}
+use Rattle.commands.specs.declared.tasks.Task.{Task}
+use Rattle.commands.specs.declared.words.Request.{Request}
+use Rattle.commands.specs.declared.words.Request.TheVariants.{Look, Run}
+use Rattle.commands.specs.Fault.{Message, CannotRead, IsUsage}
+use Rattle.commands.specs.Accesses.{Access, Read, and_then, IsTold}
+use Rattle.commands.specs.Tasks.{Prints, IsRefusal}
+use Rattle.commands.specs.Running.{Runs, IsStopped}
+
+-- What the words of a command line ask for is done. `p` and `q` are the bytes that have been printed before and after,
+-- `old` and `new` the accesses to files.
+
+-- A task was done: its file was read, and all that the task prints of the file's bytes was printed.
+abbrev pub Looks : Task → Option (List ℕ) → Option (List ℕ) → Option (List Access) → Option (List Access) → Type 0
+Looks task p q old new =
+    (bytes : List ℕ) × (new ≡ and_then old (Read task.path.now bytes ∷ [])) × Prints task.work bytes p q
+
+-- A task was not done, or not to its end: its file can't be read, the bytes are faulty, or printing failed.
+pub data IsUnseen (task : Task) (p q : Option (List ℕ)) (old new : Option (List Access)) (told : Message) : Type 0 where
+  Unread : q ≡ p → new ≡ old → IsTold (CannotRead task.path.now) told → IsUnseen task p q old new told
+  Refused : (bytes : List ℕ) → new ≡ and_then old (Read task.path.now bytes ∷ [])
+      → IsRefusal task.work task.path.now bytes p q told → IsUnseen task p q old new told
+
+-- What was asked for was done: a task, or a job was run to its end.
+abbrev pub IsDone : Request → Option (List ℕ) → Option (List ℕ) → Option (List Access) → Option (List Access) → Type 0
+IsDone (Look task) p q old new = Looks task p q old new
+IsDone (Run errand) p q old new = (q ≡ p) × Runs errand.job.now errand.out.now old new
+
+-- What was asked for was not done, or not to its end.
+abbrev pub IsUndone
+    : Request → Option (List ℕ) → Option (List ℕ) → Option (List Access) → Option (List Access) → Message → Type 0
+IsUndone (Look task) p q old new told = IsUnseen task p q old new told
+IsUndone (Run errand) p q old new told = (q ≡ p) × IsStopped errand.job.now errand.out.now old new told
+
+-- Nothing was done, or not all that some request asks for.
+pub data IsNotDone (p q : Option (List ℕ)) (old new : Option (List Access)) (told : Message) : Type 0 where
+  AsksNothing : q ≡ p → new ≡ old → IsUsage told → IsNotDone p q old new told
+  Asks : (request : Request) → IsUndone request p q old new told → IsNotDone p q old new told

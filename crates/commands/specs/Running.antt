@@ -1,0 +1,81 @@
+use Rattle.std.specs.Prelude.{◌≡◌, ℕ, Option, Ok, Err, List, [], ◌∷◌, map}
+use Rattle.script_text.specs.Job.{Job as TextJob, job_of}
+use Rattle.desk.specs.declared.job.Job.{Job}
+use Rattle.desk.specs.Outcome.{Outcome}
+use Rattle.desk.specs.Whole.{run_of}
+use Rattle.commands.specs.Fault.{Message, CannotRead, Script, Fork, HostMemory}
+use Rattle.commands.specs.Accesses.{Access, Read, Folder, Write, and_then, IsTold, StopsAmong}
+use Rattle.commands.specs.Gathering.{nothing_given, with_inputs, reads_of, system_path, job_given, IsStop}
+use Rattle.commands.specs.Outputs.{Written, left_by}
+
+-- A job is read and run, and what it leaves is written.
+
+-- The text of a job, as its file at a path.
+pub record Stated : Type 0 where
+  pub text : List ℕ
+  pub lines : TextJob
+  pub states : job_of text ≡ Ok lines
+
+-- A job with all that its lines name: the texts at the paths of each line, and the job that they give.
+pub record Taken : Type 0 where
+  pub stated : Stated
+  pub texts : List (List (List ℕ))
+  pub job : Job
+  pub memory : job.memory ≡ stated.lines.memory
+  pub events : job.events.items ≡ stated.lines.events
+  pub given : with_inputs nothing_given stated.lines.inputs texts ≡ Ok (job_given job)
+
+-- The files that are read for a job: its own, at its path, and those that its lines name, in their order.
+abbrev pub reads_for : List ℕ → Stated → List (List (List ℕ)) → List Access
+reads_for path stated texts = Read path stated.text ∷ reads_of stated.lines.inputs texts
+
+-- What is written for a job: the folder is made, and the files that the run leaves are written into it, in order.
+abbrev pub write_of : Written → Access
+write_of file = Write file.path file.bytes
+
+abbrev pub writes_for : List ℕ → Outcome → List Access
+writes_for folder outcome = Folder folder ∷ map write_of (left_by folder outcome)
+
+-- The fault of a job's text is its first faulty line.
+abbrev pub IsJobFault : List ℕ → List ℕ → Message → Type 0
+IsJobFault path text HostMemory = Unit {0}
+IsJobFault path text (Script named line kind) = (named ≡ path) × (job_of text ≡ Err (line, kind))
+IsJobFault path text told = ⊥
+
+-- The fault of a run is that the fork of the System file, which was read at this path, is no fork.
+abbrev pub IsRunFault : List ℕ → Job → Message → Type 0
+IsRunFault system job HostMemory = Unit {0}
+IsRunFault system job (Fork named code) = (named ≡ system) × (run_of job ≡ Err code)
+IsRunFault system job told = ⊥
+
+-- What a run leaves was written into a folder.
+abbrev pub Leaves : List ℕ → Job → Option (List Access) → Option (List Access) → Type 0
+Leaves folder job old new =
+    (outcome : Outcome) × (run_of job ≡ Ok outcome) × (new ≡ and_then old (writes_for folder outcome))
+
+-- A run failed, or what it leaves was not written to its end.
+pub data IsUnleft (system folder : List ℕ) (job : Job) (old new : Option (List Access)) (told : Message) : Type 0 where
+  NotRun : new ≡ old → IsRunFault system job told → IsUnleft system folder job old new told
+  NotWritten : (outcome : Outcome) → run_of job ≡ Ok outcome → StopsAmong (writes_for folder outcome) old new told
+      → IsUnleft system folder job old new told
+
+-- A job was run to its end: all input was read, then all that it leaves was written, and no other file was read or
+-- written.
+abbrev pub Runs : List ℕ → List ℕ → Option (List Access) → Option (List Access) → Type 0
+Runs path folder old new = (t : Taken) × Leaves folder t.job (and_then old (reads_for path t.stated t.texts)) new
+
+-- Why a job was not run to its end, and what was read and written before. If the host is out of memory, the job may
+-- stop anywhere.
+pub data IsStopped (path folder : List ℕ) (old new : Option (List Access)) (told : Message) : Type 0 where
+  -- the job can't be read
+  Unread : new ≡ old → IsTold (CannotRead path) told → IsStopped path folder old new told
+  -- its text is faulty
+  Misstated : (text : List ℕ) → new ≡ and_then old (Read path text ∷ []) → IsJobFault path text told
+      → IsStopped path folder old new told
+  -- a file that a line names can't be read, or the text of a script is faulty
+  Ungathered : (stated : Stated) (texts : List (List (List ℕ))) → new ≡ and_then old (reads_for path stated texts)
+      → IsStop (with_inputs nothing_given stated.lines.inputs texts) told → IsStopped path folder old new told
+  -- all input was read, and the System file's fork is no fork, or the folder can't be made, or a file can't be written
+  Unleft : (t : Taken)
+      → IsUnleft (system_path t.stated.lines.inputs) folder t.job (and_then old (reads_for path t.stated t.texts)) new told
+      → IsStopped path folder old new told

@@ -1,0 +1,8 @@
+use Rattle.desk.proofs.Coming.{has_ended_so}
+use Rattle.desk.proofs.live.Live.end.Goals as goal
+
+pub returns-clause-came : goal.returns-clause-came
+returns-clause-came g c = λ asked.
+    let s = c.args.self.now in
+    has_ended_so s.window s.steps s.text.items c.write_end.new.text.items s.application c.end.new.self c.args.exit asked
+    c.in_ok-code.code c.in_ok-code.ensures.code c.in_ok-write_end.ensures c.in_ok-code.ensures.after

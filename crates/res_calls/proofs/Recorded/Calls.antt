@@ -1,0 +1,72 @@
+use Rattle.std.proofs.Common.{◌≡◌, ℕ, List, map, refl, ap, Option, Some, None, ◌==◌, nat_le, length}
+use Rattle.mac_words.specs.declared.code.TheConstants.OsErr.{LOCKED, RES_ATTR, DISK_FULL, DUPLICATE_FILE}
+use Rattle.res_map.specs.Split.{Split}
+use Rattle.res_map.specs.Map.{is_changed}
+use Rattle.res_calls.specs.Files.{File, Found, file_of, file_named}
+use Rattle.res_calls.specs.Fetch.{Managers, Answer, done, refused}
+use Rattle.res_calls.specs.Rows as rows
+use Rattle.res_calls.specs.Rows.{on_found, on_resource, resource_of, bars, released_at, detached_at, told_type}
+use Rattle.res_calls.specs.Changing.{most_files, create_named, create_res_file}
+use Rattle.res_calls.specs.Fetching.{without_handles}
+use Rattle.res_calls.proofs.Keeping.{either-keeps, found-keeps, open-keeps}
+use Rattle.res_calls.proofs.Owning.Calls.{resource-holds}
+use Rattle.res_calls.proofs.Owning.Places.{Stands}
+use Rattle.res_calls.proofs.Recorded.Outside.{outside-handle}
+
+-- Calls that change nothing that is recorded of a resource.
+
+-- what is recorded is as it was
+abbrev pub Records : Managers → Managers → Type 0
+Records s after = map without_handles after.resources.chain ≡ map without_handles s.resources.chain
+
+-- a call on a resource, or one that tells a type, which leaves the managers
+pub asked-records : {T : Type 0} (handle : Option ℕ) (s : Managers) (answer : Found → Answer T)
+    → ((at : Found) → (answer at).after ≡ s) → Records s (on_resource handle s answer).after
+asked-records handle s answer same =
+    found-keeps (Records s) (resource_of handle s.resources) s answer refl
+    (λ at e. ap (λ (m : Managers). map without_handles m.resources.chain) (same at))
+
+pub type-records : (kind : Option ℕ) (s : Managers) → Records s (told_type kind s).after
+type-records None s = refl
+type-records (Some kind) s = refl
+
+-- UseResFile
+pub use_file-records : (n : ℕ) (s : Managers) → Records s (rows.use_res_file n s).after
+use_file-records n s = open-keeps (Records s) (file_of n s.resources) s _ refl (λ at e. refl)
+
+-- ReleaseResource and DetachResource
+released-records : (handle : Option ℕ) (s : Managers) (at : Found) → Stands s.resources.chain at
+    → Records s (released_at at handle s)
+released-records None s at stands = refl
+released-records (Some k) s at stands = outside-handle s.resources.chain at None stands
+
+detached-records : (handle : Option ℕ) (s : Managers) (at : Found) → Stands s.resources.chain at
+    → Records s (detached_at at handle s)
+detached-records None s at stands = refl
+detached-records (Some k) s at stands = outside-handle s.resources.chain at None stands
+
+pub release-records : (handle : Option ℕ) (s : Managers) → Records s (rows.release_resource handle s).after
+release-records handle s =
+    found-keeps (Records s) (resource_of handle s.resources) s _ refl
+    (λ at e. either-keeps (Records s) (bars handle s.memory) (refused LOCKED s) _ (λ busy. refl)
+    (λ free. either-keeps (Records s) (is_changed at.reference.here) (done tt s) (done tt (released_at at handle s))
+    (λ changed. refl) (λ plain. released-records handle s at (resource-holds handle s at e).0)))
+
+pub detach-records : (handle : Option ℕ) (s : Managers) → Records s (rows.detach_resource handle s).after
+detach-records handle s =
+    found-keeps (Records s) (resource_of handle s.resources) s _ refl
+    (λ at e. either-keeps (Records s) (is_changed at.reference.here) (refused RES_ATTR s)
+    (done tt (detached_at at handle s)) (λ changed. refl)
+    (λ plain. detached-records handle s at (resource-holds handle s at e).0))
+
+-- CreateResFile
+created-records : (name : List ℕ) (o : Option (Split File)) (s : Managers) → Records s (create_named name o s).after
+created-records name None s =
+    either-keeps {T = Unit {0}} (Records s) (nat_le most_files (length s.resources.files)) (refused DISK_FULL s) _
+    (λ full. refl) (λ room. refl)
+created-records name (Some at) s =
+    either-keeps {T = Unit {0}} (Records s) (length at.here.fork == 0) _ (refused DUPLICATE_FILE s) (λ empty. refl)
+    (λ some. refl)
+
+pub create-records : (name : List ℕ) (s : Managers) → Records s (create_res_file name s).after
+create-records name s = created-records name (file_named name s.resources) s
