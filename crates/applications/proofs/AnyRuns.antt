@@ -9,13 +9,15 @@ use Rattle.heap_calls.specs.Locked.{locked_place}
 use Rattle.heap_calls.specs.Standing.{pointer_place}
 use Rattle.heap_calls.proofs.Promises.Knowing.{holds-known}
 use Rattle.applications.specs.Trying.{Blocks, launched_with, nowhere}
-use Rattle.applications.specs.Step.{Event, run}
+use Rattle.applications.specs.Step.{Event, course_of}
 use Rattle.applications.specs.Laws.{put_at_launch, EachTry, Linked, ShowsPut, HoldsPut, KeepsLocked, KeepsFixed}
-use Rattle.applications.specs.Laws.{EmptiesPurgeable, LooksFew, RefusedLeaves, RefusedBinds, NothingBusy, GoesByRule}
+use Rattle.applications.specs.Laws.{PurgesOnlyPurgeable, SearchesFew, RefusedLeaves, RefusedBinds, NothingBusy}
+use Rattle.applications.specs.Laws.{GoesByRule}
 use Rattle.applications.specs.Laws.{KeepsResources, KeepsFiles, KeepsTable, is_answered, frees, drops, freed_by}
 use Rattle.applications.specs.Laws.{dropped_by, LockedStay, FixedStay}
 use Rattle.applications.proofs.TryLaws.{sound-launched, once-shows, once-holds, once-locked, once-fixed, once-purgeable}
-use Rattle.applications.proofs.TryLaws.{once-looks, once-refused, once-keeps-resources, once-keeps-files, once-keeps-table}
+use Rattle.applications.proofs.TryLaws.{once-searches, once-refused, once-keeps-resources, once-keeps-files}
+use Rattle.applications.proofs.TryLaws.{once-keeps-table}
 use Rattle.applications.proofs.Carrying.{run-goes}
 use Rattle.applications.proofs.Lines.{run-lines}
 use Rattle.applications.proofs.StepLaws.{binds-no-name}
@@ -32,7 +34,7 @@ any_launch_holds resources n = holds-known (launched_with resources n nowhere).m
 
 -- the tries of some lines in a fresh partition of n bytes
 abbrev pub tries : Resources → ℕ → Blocks → List Line → List Event
-tries resources n blocks lines = (run blocks lines (launched_with resources n nowhere)).events
+tries resources n blocks lines = (course_of blocks lines (launched_with resources n nowhere)).events
 
 -- each of them keeps a law
 abbrev pub Keeps : ((ℕ → List ℕ) → Event → Type 0) → Resources → ℕ → Blocks → List Line → Type 0
@@ -68,13 +70,13 @@ any_fixed_stays resources n blocks lines = (run-goes KeepsFixed once-fixed block
     (launched_with resources n nowhere) (put_at_launch resources n) (sound-launched resources n)).each
 
 pub any_only_purgeable_go : (resources : Resources) (n : ℕ) (blocks : Blocks) (lines : List Line)
-    → Keeps EmptiesPurgeable resources n blocks lines
-any_only_purgeable_go resources n blocks lines = (run-goes EmptiesPurgeable once-purgeable blocks lines
+    → Keeps PurgesOnlyPurgeable resources n blocks lines
+any_only_purgeable_go resources n blocks lines = (run-goes PurgesOnlyPurgeable once-purgeable blocks lines
     (launched_with resources n nowhere) (put_at_launch resources n) (sound-launched resources n)).each
 
-pub any_looks_few : (resources : Resources) (n : ℕ) (blocks : Blocks) (lines : List Line)
-    → Keeps LooksFew resources n blocks lines
-any_looks_few resources n blocks lines = (run-goes LooksFew once-looks blocks lines
+pub any_searches_few : (resources : Resources) (n : ℕ) (blocks : Blocks) (lines : List Line)
+    → Keeps SearchesFew resources n blocks lines
+any_searches_few resources n blocks lines = (run-goes SearchesFew once-searches blocks lines
     (launched_with resources n nowhere) (put_at_launch resources n) (sound-launched resources n)).each
 
 pub any_refused_leave : (resources : Resources) (n : ℕ) (blocks : Blocks) (lines : List Line)
@@ -104,16 +106,16 @@ unanswered told by e = rw e refl
 -- from line to line locked blocks and pointers' blocks stay where they are
 pub any_locked_lines : (resources : Resources) (n : ℕ) (blocks : Blocks) (lines : List Line)
     → LockedStay (launched_with resources n nowhere).memory.heap
-    (run blocks lines (launched_with resources n nowhere)).lines
-    (run blocks lines (launched_with resources n nowhere)).line_ends
+    (course_of blocks lines (launched_with resources n nowhere)).lines
+    (course_of blocks lines (launched_with resources n nowhere)).line_ends
 any_locked_lines resources n blocks lines = run-lines locked_place freed_by once-locked
     (λ h e refused. unanswered (is_answered e.told) (frees h e.deed e.before) refused) blocks lines
     (launched_with resources n nowhere) (put_at_launch resources n) (sound-launched resources n)
 
 pub any_fixed_lines : (resources : Resources) (n : ℕ) (blocks : Blocks) (lines : List Line)
     → FixedStay (launched_with resources n nowhere).memory.heap
-    (run blocks lines (launched_with resources n nowhere)).lines
-    (run blocks lines (launched_with resources n nowhere)).line_ends
+    (course_of blocks lines (launched_with resources n nowhere)).lines
+    (course_of blocks lines (launched_with resources n nowhere)).line_ends
 any_fixed_lines resources n blocks lines = run-lines pointer_place dropped_by once-fixed
     (λ p e refused. unanswered (is_answered e.told) (drops p e.deed) refused) blocks lines
     (launched_with resources n nowhere) (put_at_launch resources n) (sound-launched resources n)

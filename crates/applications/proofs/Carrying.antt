@@ -11,7 +11,7 @@ use Rattle.res_calls.specs.Asked.{named}
 use Rattle.applications.specs.Trying.{Running, Blocks, Tried, once, asked, resource_asked, code_told}
 use Rattle.applications.specs.Step.{Event, Course, nothing_yet, joined, event_of, marked, marked_for, grown_line, grown}
 use Rattle.applications.specs.Step.{grown_for, asked_for, kept_anew, ended, stands, Round, Ends, Again, made_room, after_asking}
-use Rattle.applications.specs.Step.{round, continued, step_in, step, most_rounds, run}
+use Rattle.applications.specs.Step.{round, continued, step_in, step, most_rounds, course_of}
 use Rattle.applications.specs.Laws.{put_event, put_events, EachTry, Linked}
 use Rattle.applications.proofs.TryLaws.{Sound, once-sound}
 
@@ -251,7 +251,7 @@ module _ (P : (ℕ → List ℕ) → Event → Type 0)
     step-goes blocks l r bytes sound = step_in-goes (most_rounds r) blocks l r bytes sound
 
     pub run-goes : (blocks : Blocks) (lines : List Line) (r : Running) (bytes : ℕ → List ℕ) → Sound r.memory bytes
-        → Goes r.memory.heap bytes (run blocks lines r)
+        → Goes r.memory.heap bytes (course_of blocks lines r)
     run-goes blocks [] r bytes sound = nothing-goes r bytes sound
     run-goes blocks (l ∷ lines) r bytes sound =
         by_over c.over (run-goes blocks lines c.after (put_events c.events bytes) goes.sound)
@@ -263,7 +263,7 @@ module _ (P : (ℕ → List ℕ) → Event → Type 0)
         goes = step-goes blocks l r bytes sound
 
         by_over : (over : Bool)
-            → Goes c.after.memory.heap (put_events c.events bytes) (run blocks lines c.after)
-            → Goes r.memory.heap bytes (cond over c (joined c (run blocks lines c.after)))
+            → Goes c.after.memory.heap (put_events c.events bytes) (course_of blocks lines c.after)
+            → Goes r.memory.heap bytes (cond over c (joined c (course_of blocks lines c.after)))
         by_over true rest = goes
-        by_over false rest = joined-goes r.memory.heap bytes c (run blocks lines c.after) goes rest
+        by_over false rest = joined-goes r.memory.heap bytes c (course_of blocks lines c.after) goes rest

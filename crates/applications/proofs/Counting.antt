@@ -5,11 +5,12 @@ use Rattle.std.proofs.lemmas.Bool.{le-ltb, lt-ltb}
 use Rattle.std.proofs.lemmas.List.{take_more, take_all}
 use Rattle.std.proofs.lemmas.Option.{slice_get_within, get_or_from_slice_get, slice_get_cases}
 use Rattle.mac_words.specs.Told.{Told}
-use Rattle.script_text.specs.Script.{Parts}
+use Rattle.script_text.specs.Script.{ScriptParts}
 use Rattle.script_text.specs.declared.script.Line.{Line}
 use Rattle.res_calls.specs.Files.{Resources}
 use Rattle.applications.specs.Trying.{Running, Blocks, launched_with, nowhere, last_code, is_fatal}
-use Rattle.applications.specs.Step.{Event, Shown, LineEnd, Course, Alike, nothing_yet, joined, step, unless_over, run}
+use Rattle.applications.specs.Step.{Event, Shown, LineEnd, Course, AlikeCourses, nothing_yet, joined, step, unless_over}
+use Rattle.applications.specs.Step.{course_of}
 use Rattle.applications.specs.Alone.{Ending, first_steps, ending, ending_of, quits, stops}
 
 -- A run counted step by step: what the next line adds to the first steps, and to how the application ended.
@@ -71,10 +72,10 @@ over-then c f g h parts = by_first c.over refl
 
 -- a run of lines is a run of the first of them, and of those behind unless it is over
 pub run-then : (blocks : Blocks) (first later : List Line) (r : Running)
-    → run blocks (first ++ later) r ≡ unless_over (run blocks first r) (run blocks later)
+    → course_of blocks (first ++ later) r ≡ unless_over (course_of blocks first r) (course_of blocks later)
 run-then blocks [] later r = refl
 run-then blocks (l ∷ first) later r =
-    over-then (step blocks l r) (run blocks first) (run blocks later) (run blocks (first ++ later))
+    over-then (step blocks l r) (course_of blocks first) (course_of blocks later) (course_of blocks (first ++ later))
     (λ q. run-then blocks first later q)
 
 -- one line more
@@ -85,15 +86,16 @@ take-next lines n l is =
     ∙ ap (λ (x : Line). take n lines ++ x ∷ []) (get_or_from_slice_get lines n l l is)
 
 pub run-next : (blocks : Blocks) (lines : List Line) (r : Running) (n : ℕ) (l : Line) → slice_get lines n ≡ Some l
-    → run blocks (take (n + 1) lines) r ≡ unless_over (run blocks (take n lines) r) (run blocks (l ∷ []))
+    → course_of blocks (take (n + 1) lines) r ≡ unless_over (course_of blocks (take n lines) r)
+    (course_of blocks (l ∷ []))
 run-next blocks lines r n l is =
-    ap (λ (ys : List Line). run blocks ys r) (take-next lines n l is) ∙ run-then blocks (take n lines) (l ∷ []) r
+    ap (λ (ys : List Line). course_of blocks ys r) (take-next lines n l is) ∙ run-then blocks (take n lines) (l ∷ []) r
 
-alike-same : (c : Course) → Alike c c
+alike-same : (c : Course) → AlikeCourses c c
 alike-same c =
     record { events = refl; lines = refl; line_ends = refl; over = refl; told = λ over. refl; after = refl }
 
-alike-joined : (a c d : Course) → Alike c d → Alike (joined a c) (joined a d)
+alike-joined : (a c d : Course) → AlikeCourses c d → AlikeCourses (joined a c) (joined a d)
 alike-joined a c d like = record {
   events = ap (λ (x : List Event). a.events ++ x) like.events;
   lines = ap (λ (x : List Shown). a.lines ++ x) like.lines;
@@ -103,16 +105,16 @@ alike-joined a c d like = record {
   after = like.after;
 }
 
-alike-over : (a : Course) (f g : Running → Course) → ((r : Running) → Alike (f r) (g r))
-    → Alike (unless_over a f) (unless_over a g)
+alike-over : (a : Course) (f g : Running → Course) → ((r : Running) → AlikeCourses (f r) (g r))
+    → AlikeCourses (unless_over a f) (unless_over a g)
 alike-over a f g like = by_over a.over
   where
-    by_over : (t : Bool) → Alike (cond t a (joined a (f a.after))) (cond t a (joined a (g a.after)))
+    by_over : (t : Bool) → AlikeCourses (cond t a (joined a (f a.after))) (cond t a (joined a (g a.after)))
     by_over true = alike-same a
     by_over false = alike-joined a (f a.after) (g a.after) (like a.after)
 
 -- a run of one line is its step
-pub one-line : (blocks : Blocks) (l : Line) (r : Running) → Alike (run blocks (l ∷ []) r) (step blocks l r)
+pub one-line : (blocks : Blocks) (l : Line) (r : Running) → AlikeCourses (course_of blocks (l ∷ []) r) (step blocks l r)
 one-line blocks l r = by_over s.over refl
   where
     s : Course
@@ -121,9 +123,9 @@ one-line blocks l r = by_over s.over refl
     behind : Course
     behind = joined s (nothing_yet s.after)
 
-    by_over : (t : Bool) → s.over ≡ t → Alike (cond s.over s behind) s
-    by_over true is = subst (λ (t : Bool). Alike (cond t s behind) s) (sym is) (alike-same s)
-    by_over false is = subst (λ (t : Bool). Alike (cond t s behind) s) (sym is) (record {
+    by_over : (t : Bool) → s.over ≡ t → AlikeCourses (cond s.over s behind) s
+    by_over true is = subst (λ (t : Bool). AlikeCourses (cond t s behind) s) (sym is) (alike-same s)
+    by_over false is = subst (λ (t : Bool). AlikeCourses (cond t s behind) s) (sym is) (record {
       events = append-nil s.events;
       lines = append-nil s.lines;
       line_ends = append-nil s.line_ends;
@@ -133,26 +135,26 @@ one-line blocks l r = by_over s.over refl
     })
 
 -- one step more than the first n of a script: the next line's step, unless the application ended before it
-pub steps-next : (resources : Resources) (size : ℕ) (script : Parts) (n : ℕ) (l : Line)
+pub steps-next : (resources : Resources) (size : ℕ) (script : ScriptParts) (n : ℕ) (l : Line)
     → slice_get script.steps n ≡ Some l
-    → Alike (first_steps resources size script (n + 1))
+    → AlikeCourses (first_steps resources size script (n + 1))
     (unless_over (first_steps resources size script n) (step script.blocks l))
 steps-next resources size script n l is =
     let begun : Running = launched_with resources size nowhere in
     let c : Course = first_steps resources size script n in
-    subst (λ (x : Course). Alike x (unless_over c (step script.blocks l)))
+    subst (λ (x : Course). AlikeCourses x (unless_over c (step script.blocks l)))
     (sym (run-next script.blocks script.steps begun n l is))
-    (alike-over c (run script.blocks (l ∷ [])) (step script.blocks l) (one-line script.blocks l))
+    (alike-over c (course_of script.blocks (l ∷ [])) (step script.blocks l) (one-line script.blocks l))
 
 -- where there is no next line there is no step more
-pub steps-past : (resources : Resources) (size : ℕ) (script : Parts) (n : ℕ) → length script.steps ≤ n
+pub steps-past : (resources : Resources) (size : ℕ) (script : ScriptParts) (n : ℕ) → length script.steps ≤ n
     → first_steps resources size script (n + 1) ≡ first_steps resources size script n
 steps-past resources size script n past =
-    ap (λ (ys : List Line). run script.blocks ys (launched_with resources size nowhere))
+    ap (λ (ys : List Line). course_of script.blocks ys (launched_with resources size nowhere))
     (take_all (n + 1) script.steps (omega arith) ∙ sym (take_all n script.steps past))
 
 -- nor is there behind the end of the application
-pub steps-over : (resources : Resources) (size : ℕ) (script : Parts) (n : ℕ)
+pub steps-over : (resources : Resources) (size : ℕ) (script : ScriptParts) (n : ℕ)
     → (first_steps resources size script n).over ≡ true
     → first_steps resources size script (n + 1) ≡ first_steps resources size script n
 steps-over resources size script n over = by_line (slice_get_cases script.steps n).1
@@ -164,11 +166,11 @@ steps-over resources size script n over = by_line (slice_get_cases script.steps 
         × (get_or script.steps n l ≡ l)) ⊎ ((length script.steps ≤ n) × (slice_get script.steps n ≡ None))
         → first_steps resources size script (n + 1) ≡ first_steps resources size script n
     by_line (inl next) = run-next script.blocks script.steps begun n next.0 next.2
-        ∙ over-stays (first_steps resources size script n) (run script.blocks (next.0 ∷ [])) over
+        ∙ over-stays (first_steps resources size script n) (course_of script.blocks (next.0 ∷ [])) over
     by_line (inr past) = steps-past resources size script n past.0
 
 -- alike courses end alike
-pub ending-alike : (asked : Bool) (c d : Course) → Alike c d → ending_of asked c ≡ ending_of asked d
+pub ending-alike : (asked : Bool) (c d : Course) → AlikeCourses c d → ending_of asked c ≡ ending_of asked d
 ending-alike asked c d like =
     ap (λ (t : Bool). ends t c.told c.after) like.over ∙ ap (ends d.over c.told) like.after ∙ by_over d.over like.told
   where
@@ -181,7 +183,7 @@ ending-alike asked c d like =
     by_over false same = refl
 
 -- how an application ended after one step more
-pub ending-next : (resources : Resources) (size : ℕ) (script : Parts) (n : ℕ) (quit : Bool) (l : Line)
+pub ending-next : (resources : Resources) (size : ℕ) (script : ScriptParts) (n : ℕ) (quit : Bool) (l : Line)
     → slice_get script.steps n ≡ Some l
     → ending resources size script (n + 1) quit
     ≡ ending_of quit (unless_over (first_steps resources size script n) (step script.blocks l))
@@ -195,7 +197,7 @@ ending-next resources size script n quit l is =
     (steps-next resources size script n l is)
 
 -- and behind the last line: it quits, unless it ended before
-pub ending-past : (resources : Resources) (size : ℕ) (script : Parts) (n : ℕ) (quit : Bool)
+pub ending-past : (resources : Resources) (size : ℕ) (script : ScriptParts) (n : ℕ) (quit : Bool)
     → length script.steps ≤ n
     → ending resources size script (n + 1) quit ≡ ending_of true (first_steps resources size script n)
 ending-past resources size script n quit past =

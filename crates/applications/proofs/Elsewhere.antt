@@ -29,7 +29,7 @@ use Rattle.res_calls.proofs.Walks.Launching.{preloaded-elsewhere}
 use Rattle.segments.proofs.Laws.{served-elsewhere as jumped-elsewhere}
 use Rattle.applications.specs.Step.{Event, LineEnd, Course, joined, event_of, marked, marked_for, grown_line, grown}
 use Rattle.applications.specs.Step.{grown_for, asked_for, kept_anew, ended, stands, Round, Ends, Again, made_room, after_asking}
-use Rattle.applications.specs.Step.{after_try, round, continued, step_in, step, most_rounds, unless_over, run}
+use Rattle.applications.specs.Step.{after_try, round, continued, step_in, step, most_rounds, unless_over, course_of}
 use Rattle.applications.specs.Elsewhere.{moved, event_elsewhere, line_end_elsewhere, course_elsewhere}
 
 -- What a run comes to doesn't hang on where its partition lies.
@@ -214,20 +214,20 @@ step-elsewhere site blocks l r = step_in-elsewhere site (most_rounds r) blocks l
 
 -- and so is a run
 pub whole-elsewhere : (site : Site) (blocks : Blocks) (lines : List Line) (r : Running)
-    → run blocks lines (moved site r) ≡ course_elsewhere site (run blocks lines r)
+    → course_of blocks lines (moved site r) ≡ course_elsewhere site (course_of blocks lines r)
 whole-elsewhere site blocks [] r = refl
 whole-elsewhere site blocks (l ∷ lines) r =
-    ap (λ (c : Course). unless_over c (run blocks lines)) (step_in-elsewhere site (most_rounds r) blocks l r)
-    ∙ over-elsewhere site (step blocks l r) (run blocks lines) (λ x. whole-elsewhere site blocks lines x)
+    ap (λ (c : Course). unless_over c (course_of blocks lines)) (step_in-elsewhere site (most_rounds r) blocks l r)
+    ∙ over-elsewhere site (step blocks l r) (course_of blocks lines) (λ x. whole-elsewhere site blocks lines x)
 
 -- so a run leaves its application where it lies; what is left of a run begins where the whole run began
 pub run-lies : (blocks : Blocks) (lines : List Line) (r : Running)
-    → (run blocks lines r).after.memory.window ≡ r.memory.window
+    → (course_of blocks lines r).after.memory.window ≡ r.memory.window
 run-lies blocks lines r =
     ap (λ (c : Course). c.after.memory.window) (whole-elsewhere r.memory.window blocks lines r)
 
 pub run-left : (blocks : Blocks) (left lines : List Line) (now start : Running)
-    → (run blocks left now).after ≡ (run blocks lines start).after → now.memory.window ≡ start.memory.window
+    → (course_of blocks left now).after ≡ (course_of blocks lines start).after → now.memory.window ≡ start.memory.window
 run-left blocks left lines now start e =
     sym (run-lies blocks left now) ∙ ap (λ (r : Running). r.memory.window) e ∙ run-lies blocks lines start
 
@@ -280,7 +280,7 @@ sizes-fresh n big = omega (arith, free-total (n - 272))
 -- the course of an application that was launched anywhere
 pub launched_course : (resources : Resources) (r : Running) (site : Site) (n : ℕ) (blocks : Blocks) (lines : List Line)
     → r ≡ launched_with resources n site
-    → run blocks lines r ≡ course_elsewhere site (run blocks lines (launched_with resources n nowhere))
+    → course_of blocks lines r ≡ course_elsewhere site (course_of blocks lines (launched_with resources n nowhere))
 launched_course resources r site n blocks lines is =
-    ap (run blocks lines) (is ∙ launched-elsewhere resources n site)
+    ap (course_of blocks lines) (is ∙ launched-elsewhere resources n site)
     ∙ whole-elsewhere site blocks lines (launched_with resources n nowhere)

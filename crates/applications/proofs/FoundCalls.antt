@@ -44,13 +44,13 @@ found-shows-none (asks.UseResFile number) s = told-none {T = Unit {0}} (λ x. Do
 found-shows-none asks.CurResFile s = refl
 found-shows-none (asks.HomeResFile handle) s = told-none {T = ℕ} Number (λ x. refl) _
 found-shows-none (asks.GetResource kind id) s = told-none {T = Fetched} tell_fetched (λ x. refl) _
-found-shows-none (asks.GetOneResource kind id) s = told-none {T = Fetched} tell_fetched (λ x. refl) _
+found-shows-none (asks.Get1Resource kind id) s = told-none {T = Fetched} tell_fetched (λ x. refl) _
 found-shows-none (asks.GetNamedResource kind name) s = told-none {T = Fetched} tell_fetched (λ x. refl) _
-found-shows-none (asks.GetOneNamedResource kind name) s = told-none {T = Fetched} tell_fetched (λ x. refl) _
-found-shows-none asks.CountOneTypes s = refl
-found-shows-none (asks.GetOneIndType index) s = told-none {T = ℕ} Kind (λ x. refl) _
-found-shows-none (asks.CountOneResources kind) s = refl
-found-shows-none (asks.GetOneIndResource kind index) s = told-none {T = Fetched} tell_fetched (λ x. refl) _
+found-shows-none (asks.Get1NamedResource kind name) s = told-none {T = Fetched} tell_fetched (λ x. refl) _
+found-shows-none asks.Count1Types s = refl
+found-shows-none (asks.Get1IndType index) s = told-none {T = ℕ} Kind (λ x. refl) _
+found-shows-none (asks.Count1Resources kind) s = refl
+found-shows-none (asks.Get1IndResource kind index) s = told-none {T = Fetched} tell_fetched (λ x. refl) _
 found-shows-none (asks.LoadResource handle) s = told-none {T = Fetched} tell_fetched (λ x. refl) _
 found-shows-none (asks.ReleaseResource handle) s = told-none {T = Unit {0}} (λ x. Done) (λ x. refl) _
 found-shows-none (asks.DetachResource handle) s = told-none {T = Unit {0}} (λ x. Done) (λ x. refl) _
@@ -147,13 +147,13 @@ reads-again (asks.UseResFile number) s = sym (on_open-none (file_of number s.res
 reads-again asks.CurResFile s = refl
 reads-again (asks.HomeResFile handle) s = sym (on_found-none (resource_of handle s.resources) s _ (λ at. refl))
 reads-again (asks.GetResource kind id) s = refl
-reads-again (asks.GetOneResource kind id) s = refl
+reads-again (asks.Get1Resource kind id) s = refl
 reads-again (asks.GetNamedResource kind name) s = refl
-reads-again (asks.GetOneNamedResource kind name) s = refl
-reads-again asks.CountOneTypes s = refl
-reads-again (asks.GetOneIndType index) s = sym (type-none (nth index (types (current_references s.resources))) s)
-reads-again (asks.CountOneResources kind) s = refl
-reads-again (asks.GetOneIndResource kind index) s = refl
+reads-again (asks.Get1NamedResource kind name) s = refl
+reads-again asks.Count1Types s = refl
+reads-again (asks.Get1IndType index) s = sym (type-none (nth index (types (current_references s.resources))) s)
+reads-again (asks.Count1Resources kind) s = refl
+reads-again (asks.Get1IndResource kind index) s = refl
 reads-again (asks.LoadResource handle) s = refl
 reads-again (asks.ReleaseResource handle) s = sym (on_found-none (resource_of handle s.resources) s _
     (λ at. either-none (bars handle s.memory) _ _ refl (either-none (is_changed at.reference.here) _ _ refl refl)))

@@ -13,7 +13,7 @@ use Rattle.segments.proofs.Taking.{served-wants}
 use Rattle.applications.specs.Trying.{Running, Blocks, Tried, once, program_of, code_told}
 use Rattle.applications.specs.Step.{Event, Shown, LineEnd, Course, joined, event_of, marked_for, grown, grown_for}
 use Rattle.applications.specs.Step.{asked_for, ended, stands, Round, Ends, Again, made_room, after_asking, round}
-use Rattle.applications.specs.Step.{continued, step_in, step, most_rounds, run}
+use Rattle.applications.specs.Step.{continued, step_in, step, most_rounds, course_of}
 use Rattle.applications.specs.Laws.{put_event, put_events, is_answered, StayPut, taken_in, LinesStayPut}
 use Rattle.applications.proofs.TryLaws.{Sound, once-sound}
 use Rattle.applications.proofs.Carrying.{marked_for-heap, marked_for-sound, kept-heap, asked-goes, step-goes}
@@ -268,7 +268,7 @@ module _ (place_of : ℕ → List Block → Option ℕ) (taken : ℕ → Event �
         (again-sound blocks l r bytes sound c is))
 
     run-lasts : (blocks : Blocks) (lines : List Line) (r : Running) (bytes : ℕ → List ℕ) → Sound r.memory bytes
-        → CourseLasts r.memory.heap (run blocks lines r)
+        → CourseLasts r.memory.heap (course_of blocks lines r)
     run-lasts blocks [] r bytes sound =
         no-lines r.memory.heap r.memory.heap (same-put none_taken r.memory.heap)
     run-lasts blocks (l ∷ lines) r bytes sound =
@@ -278,14 +278,15 @@ module _ (place_of : ℕ → List Block → Option ℕ) (taken : ℕ → Event �
         c : Course
         c = step blocks l r
 
-        by_over : (over : Bool) → CourseLasts c.after.memory.heap (run blocks lines c.after)
-            → CourseLasts r.memory.heap (cond over c (joined c (run blocks lines c.after)))
+        by_over : (over : Bool) → CourseLasts c.after.memory.heap (course_of blocks lines c.after)
+            → CourseLasts r.memory.heap (cond over c (joined c (course_of blocks lines c.after)))
         by_over true later = step_in-lasts (most_rounds r) blocks l r bytes sound
         by_over false later =
-            let rest : Course = run blocks lines c.after in
+            let rest : Course = course_of blocks lines c.after in
             joined-lasts r.memory.heap c.after.memory.heap rest.after.memory.heap c.lines rest.lines c.line_ends
             rest.line_ends (step_in-lasts (most_rounds r) blocks l r bytes sound) later
 
     pub run-lines : (blocks : Blocks) (lines : List Line) (r : Running) (bytes : ℕ → List ℕ) → Sound r.memory bytes
-        → LinesStayPut place_of taken r.memory.heap (run blocks lines r).lines (run blocks lines r).line_ends
+        → LinesStayPut place_of taken r.memory.heap (course_of blocks lines r).lines
+        (course_of blocks lines r).line_ends
     run-lines blocks lines r bytes sound = (run-lasts blocks lines r bytes sound).each

@@ -8,7 +8,7 @@ use Rattle.block_store.specs.Rest.{Site}
 use Rattle.heap_calls.specs.State.{Memory}
 use Rattle.heap_calls.specs.Inside.{inside, released}
 use Rattle.heap_calls.proofs.Tries.Elsewhere.{elsewhere}
-use Rattle.script_text.specs.Script.{Parts}
+use Rattle.script_text.specs.Script.{ScriptParts}
 use Rattle.script_text.specs.declared.script.Line.{Line}
 use Rattle.script_text.specs.Transcript.{launch_line}
 use Rattle.res_map.specs.Split.{Split}
@@ -16,11 +16,12 @@ use Rattle.res_calls.specs.Files.{OpenFile, Resources}
 use Rattle.res_calls.specs.Fetch.{Managers, is_system}
 use Rattle.res_calls.specs.Rows.{all_released, handles_of, closed}
 use Rattle.res_calls.specs.Update.{update}
-use Rattle.res_calls.specs.Leaving.{Left, updated_or, update_code, left_file, first_code, last_opened, leave_files}
+use Rattle.res_calls.specs.Leaving.{FilesClosed, updated_or, update_code, left_file, first_code, last_opened}
+use Rattle.res_calls.specs.Leaving.{leave_files}
 use Rattle.res_calls.proofs.Walks.Place.{moved as managers_moved}
 use Rattle.applications.specs.Trying.{Running, launched_with, launched, own_resources, nowhere, managers_of, last_code}
 use Rattle.applications.specs.Trying.{is_fatal}
-use Rattle.applications.specs.Step.{Course, run}
+use Rattle.applications.specs.Step.{Course, course_of}
 use Rattle.applications.specs.Application.{lines_told}
 use Rattle.applications.specs.Alone.{Ending, alone, quits, ending_of, first_steps, run_alone, end_told}
 use Rattle.applications.specs.Alone.{files_after, has_quit, left_after, stops, zone_alone}
@@ -45,7 +46,7 @@ left-elsewhere site at s = ap (λ (m : Memory). let left : Managers = record {
   resources = closed at (updated_or (update s.memory.heap at s.resources) s.resources);
 } in left) (releases-elsewhere site (handles_of at.here.map.references) s.memory)
 
-abbrev left_moved : Site → Left → Left
+abbrev left_moved : Site → FilesClosed → FilesClosed
 left_moved site l = record { code = l.code; after = managers_moved site l.after }
 
 leave-elsewhere : (site : Site) (chain : List OpenFile) (s : Managers)
@@ -61,7 +62,7 @@ leave-elsewhere site (f ∷ older) s = by_system
     code : OsErr
     code = update_code (update s.memory.heap at s.resources)
 
-    first : Left → Left
+    first : FilesClosed → FilesClosed
     first rest = record { code = first_code code rest.code; after = rest.after }
 
     by_system : leave_files older (left_file at (managers_moved site s))
@@ -74,14 +75,14 @@ leave-elsewhere site (f ∷ older) s = by_system
 
 -- a quit comes to the same elsewhere
 quits-elsewhere : (site : Site) (r : Running) → quits (moved site r) ≡ quits r
-quits-elsewhere site r = ap (λ (l : Left). let e : Ending = record {
+quits-elsewhere site r = ap (λ (l : FilesClosed). let e : Ending = record {
   code = l.code;
   files = l.after.resources.files;
 } in e) (leave-elsewhere site r.resources.chain (managers_of r))
 
 -- and so does what it leaves
 quit-elsewhere : (site : Site) (r : Running) → has_quit (moved site r) ≡ moved site (has_quit r)
-quit-elsewhere site r = ap (λ (l : Left). let q : Running = record r {
+quit-elsewhere site r = ap (λ (l : FilesClosed). let q : Running = record r {
   memory = l.after.memory;
   resources = l.after.resources;
 } in q) (leave-elsewhere site r.resources.chain (managers_of r))
@@ -186,7 +187,7 @@ pub launched-lies : (resources : Resources) (n : ℕ) (r : Running) (site : Site
 launched-lies resources n r site is = ap (λ (x : Running). x.memory.window) (is ∙ launched-elsewhere resources n site)
 
 -- what came of an application in a fresh zone is what it gives alone
-module _ (resources : Resources) (n : ℕ) (script : Parts) (steps : ℕ) (quit : Bool) where
+module _ (resources : Resources) (n : ℕ) (script : ScriptParts) (steps : ℕ) (quit : Bool) where
   abbrev pub c : Course
   c = first_steps resources n script steps
 
@@ -200,11 +201,13 @@ module _ (resources : Resources) (n : ℕ) (script : Parts) (steps : ℕ) (quit 
 
   pub given_alone : (r after : Running) (site : Site) (lines : List Line) (asked : Bool) (start whole : List ℕ)
       → r ≡ launched_with resources n site → start ≡ launch_line n → asked ≡ asks → lines ≡ take steps script.steps
-      → whole ≡ start ++ lines_told (run script.blocks lines r).lines ++ end_told (ending_of asked (run script.blocks lines r))
-      → after ≡ left_after asked (run script.blocks lines r) → Gave r after start whole
+      → whole ≡ start ++ lines_told (course_of script.blocks lines r).lines ++ end_told
+      (ending_of asked (course_of script.blocks lines r))
+      → after ≡ left_after asked (course_of script.blocks lines r) → Gave r after start whole
   given_alone r after site lines asked start whole is begins asked_is first said left =
-      let same : run script.blocks lines r ≡ course_elsewhere site c =
-      ap (λ (ls : List Line). run script.blocks ls r) first ∙ launched_course resources r site n script.blocks (take steps script.steps) is in
+      let same : course_of script.blocks lines r ≡ course_elsewhere site c =
+      ap (λ (ls : List Line). course_of script.blocks ls r) first ∙ launched_course resources r site n script.blocks
+      (take steps script.steps) is in
       let went : after ≡ moved site (left_after asks c) =
       left ∙ (λ i. left_after (asked_is i) (same i)) ∙ left-elsewhere_after site asks c in
       record {
@@ -222,7 +225,7 @@ take-past (suc n) [] fits = refl
 take-past (suc n) (l ∷ lines) fits = ap (λ (x : List Line). l ∷ x) (take-past n lines (omega (arith, fits)))
 
 -- a script alone takes all its steps
-pub all_steps : (n : ℕ) (script : Parts)
+pub all_steps : (n : ℕ) (script : ScriptParts)
     → first_steps own_resources n script (length script.steps + 1) ≡ run_alone n script
-all_steps n script = ap (λ (lines : List Line). run script.blocks lines (launched n nowhere))
+all_steps n script = ap (λ (lines : List Line). course_of script.blocks lines (launched n nowhere))
     (take-past (length script.steps + 1) script.steps (omega arith))

@@ -9,7 +9,7 @@ use Rattle.std.specs.Prelude.{nat_lt}
 use Rattle.heap_calls.specs.Staying.{ease}
 use Rattle.applications.specs.Step.{Shown, Course, Round, Ends, Again, grown, grown_for, asked_for, after_asking, ended}
 use Rattle.applications.specs.Step.{stands, made_room, kept_anew}
-use Rattle.applications.specs.Step.{round, continued, step_in, step, joined, run}
+use Rattle.applications.specs.Step.{round, continued, step_in, step, joined, course_of}
 use Rattle.applications.specs.Application.{line_told, lines_told}
 use Rattle.applications.specs.Replies.{Came, CameRound, exit_as, exit_of}
 use Rattle.applications.specs.declared.stepping.Next.TheVariants as next
@@ -165,18 +165,18 @@ over-of c = by_over c.over
     by_over false = refl
 
 abbrev rest_of : Blocks → List Line → Course → Bool → Course
-rest_of blocks rest c over = cond over c (joined c (run blocks rest c.after))
+rest_of blocks rest c over = cond over c (joined c (course_of blocks rest c.after))
 
 whole-of : (blocks : Blocks) (ls rest : List Line) (l : Line) (r : Running) (over : Bool) → ls ≡ l ∷ rest
-    → is_some (exit_of (step blocks l r)) ≡ over → run blocks ls r ≡ rest_of blocks rest (step blocks l r) over
+    → is_some (exit_of (step blocks l r)) ≡ over → course_of blocks ls r ≡ rest_of blocks rest (step blocks l r) over
 whole-of blocks ls rest l r over is ends =
-    ap (λ (x : List Line). run blocks x r) is
+    ap (λ (x : List Line). course_of blocks x r) is
     ∙ ap (rest_of blocks rest (step blocks l r)) (sym (over-of (step blocks l r)) ∙ ends)
 
 -- where the application ends with a step, so does the run
 pub run_ends : (blocks : Blocks) (ls rest : List Line) (l : Line) (r : Running) (exit : Option Exit) (all : Course)
     → ls ≡ l ∷ rest → exit ≡ exit_of (step blocks l r) → is_some exit ≡ true
-    → exit_of (run blocks ls r) ≡ exit_of all → exit ≡ exit_of all
+    → exit_of (course_of blocks ls r) ≡ exit_of all → exit ≡ exit_of all
 run_ends blocks ls rest l r exit all is ends some same =
     ends ∙ sym (ap exit_of (whole-of blocks ls rest l r true is (sym (ap is_some ends) ∙ some))) ∙ same
 
@@ -185,14 +185,14 @@ pub run_goes_on : (blocks : Blocks) (ls rest : List Line) (l : Line) (r after : 
     (text new goal : List ℕ) (all : Course)
     → ls ≡ l ∷ rest → exit ≡ exit_of (step blocks l r) → is_some exit ≡ false
     → Came (step blocks l r) text new after
-    → text ++ lines_told (run blocks ls r).lines ≡ goal
-    → (run blocks ls r).after ≡ all.after → exit_of (run blocks ls r) ≡ exit_of all
-    → (new ++ lines_told (run blocks rest after).lines ≡ goal)
-    × ((run blocks rest after).after ≡ all.after) × (exit_of (run blocks rest after) ≡ exit_of all)
+    → text ++ lines_told (course_of blocks ls r).lines ≡ goal
+    → (course_of blocks ls r).after ≡ all.after → exit_of (course_of blocks ls r) ≡ exit_of all
+    → (new ++ lines_told (course_of blocks rest after).lines ≡ goal)
+    × ((course_of blocks rest after).after ≡ all.after) × (exit_of (course_of blocks rest after) ≡ exit_of all)
 run_goes_on blocks ls rest l r after exit text new goal all is ends none came lines went same =
     let c : Course = step blocks l r in
-    let next : Running → Course = run blocks rest in
-    let whole : run blocks ls r ≡ joined c (next c.after) =
+    let next : Running → Course = course_of blocks rest in
+    let whole : course_of blocks ls r ≡ joined c (next c.after) =
     whole-of blocks ls rest l r false is (sym (ap is_some ends) ∙ none) in (
       ap (λ (x : List ℕ). x ++ lines_told (next after).lines) came.0
           ∙ append_assoc text (lines_told c.lines) (lines_told (next after).lines)

@@ -10,7 +10,7 @@ use Rattle.mac_words.specs.declared.call.HeapCall.TheVariants as heap
 use Rattle.mac_words.specs.Told.{Told, Done, Given, Number, Code, Refused}
 use Rattle.heap_calls.specs.Locked.{locked_place}
 use Rattle.script_text.specs.declared.script.Line.{Line}
-use Rattle.script_text.specs.Script.{Parts}
+use Rattle.script_text.specs.Script.{ScriptParts}
 use Rattle.applications.specs.Step.{Shown, LineEnd}
 use Rattle.applications.specs.Alone.{run_alone}
 
@@ -47,14 +47,14 @@ abbrev set_grow_zone : ℕ → Line
 set_grow_zone n = control_at n (control.SetGrowZone g)
 
 -- a script of these steps, with one grow-zone script
-abbrev with_grown : List Line → List Line → Parts
+abbrev with_grown : List Line → List Line → ScriptParts
 with_grown grown steps = record { steps = steps; blocks = (103 ∷ [], grown) ∷ [] }
 
 -- a line of the transcript: whether it is a grow-zone script's, the number of its call, and what that told
 abbrev line_seen : Shown → Bool × ℕ × Told
 line_seen s = (s.grown, s.line.number, s.told)
 
-abbrev lines_seen : Parts → List (Bool × ℕ × Told)
+abbrev lines_seen : ScriptParts → List (Bool × ℕ × Told)
 lines_seen script = map line_seen (run_alone 1024 script).lines
 
 -- the reserve makes room once; asked again the grow-zone script makes none, and the answer stands with its code
@@ -66,7 +66,7 @@ room_is_made_once : lines_seen (with_grown (at 2 (heap.DisposeHandle r) ∷ [])
     ∷ (false, 10, Code MEM_FULL) ∷ []
 room_is_made_once = refl
 
--- the handle that the waiting call names can't be emptied
+-- the handle that the waiting call names can't be purged
 the_named_handle_is_busy : lines_seen (with_grown (at 2 (heap.EmptyHandle a) ∷ [])
     (set_grow_zone 4 ∷ at 5 (heap.NewHandle a 300) ∷ at 6 (heap.NewHandle b 300) ∷ at 7 (heap.SetHandleSize a 700)
     ∷ at 8 (heap.GetHandleSize a) ∷ []))
@@ -84,7 +84,7 @@ nothing_follows_the_end = refl
 abbrev end_seen : LineEnd → Option ℕ × Bool
 end_seen e = (locked_place 0 e.heap.zone, is_some e.try)
 
-abbrev ends_seen : Parts → List (Option ℕ × Bool)
+abbrev ends_seen : ScriptParts → List (Option ℕ × Bool)
 ends_seen script = map end_seen (run_alone 1024 script).line_ends
 
 -- a locked block stands while a call finds no room, and until its handle is unlocked; the call whose answer stands has

@@ -1,16 +1,16 @@
 use Rattle.std.proofs.Common.{ℕ, List, take}
-use Rattle.script_text.specs.Script.{Parts}
+use Rattle.script_text.specs.Script.{ScriptParts}
 use Rattle.script_text.specs.declared.script.Line.{Line}
 use Rattle.res_calls.specs.Files.{Resources}
 use Rattle.applications.specs.Promises.{KeepsPromises}
 use Rattle.applications.proofs.AnyRuns.{any_launch_holds, any_goes_by_rule, any_linked, any_shows_put, any_holds_put}
-use Rattle.applications.proofs.AnyRuns.{any_locked_stays, any_fixed_stays, any_only_purgeable_go, any_looks_few}
+use Rattle.applications.proofs.AnyRuns.{any_locked_stays, any_fixed_stays, any_only_purgeable_go, any_searches_few}
 use Rattle.applications.proofs.AnyRuns.{any_refused_leave, any_resources_stay, any_files_stay, any_table_stays}
 use Rattle.applications.proofs.AnyRuns.{any_nothing_stays_busy, any_refused_bind, any_locked_lines, any_fixed_lines}
 
 -- The laws of any lines, of the first steps of a script.
 
-pub keeps_promises : (given : Resources) (size : ℕ) (script : Parts) (n : ℕ) → KeepsPromises given size script n
+pub keeps_promises : (given : Resources) (size : ℕ) (script : ScriptParts) (n : ℕ) → KeepsPromises given size script n
 keeps_promises given size script n =
     let lines : List Line = take n script.steps in
     record {
@@ -24,7 +24,7 @@ keeps_promises given size script n =
       fixed = any_fixed_stays given size script.blocks lines;
       fixed_lines = any_fixed_lines given size script.blocks lines;
       purged = any_only_purgeable_go given size script.blocks lines;
-      looks = any_looks_few given size script.blocks lines;
+      searches = any_searches_few given size script.blocks lines;
       refused = any_refused_leave given size script.blocks lines;
       resources = any_resources_stay given size script.blocks lines;
       files = any_files_stay given size script.blocks lines;

@@ -16,7 +16,7 @@ use Rattle.heap_calls.specs.Pointers.{pointed_at, show_pointer}
 use Rattle.heap_calls.specs.Answer.{Held, look_up, for_found, show, silent}
 use Rattle.heap_calls.specs.Busy.{served, barred, pointer_barred, unless_silent}
 use Rattle.block_store.specs.Block.{content_of}
-use Rattle.script_text.specs.declared.word.Word.{Word}
+use Rattle.script_text.specs.declared.word.CallWord.{CallWord}
 use Rattle.script_text.specs.Call.{word_of}
 use Rattle.script_text.specs.declared.script.Line.{Line}
 use Rattle.script_text.specs.Transcript.{Shown, Number, values_of, type_shown}
@@ -46,7 +46,7 @@ name-bytes None = refl
 name-bytes (Some name) = refl
 
 -- a reply makes the line of what it says, with the bytes that are told
-pub line-said : (line : ℕ) (word : Word) (reply : Reply) (bytes : Option (List ℕ)) (told : Told) → Says reply told
+pub line-said : (line : ℕ) (word : CallWord) (reply : Reply) (bytes : Option (List ℕ)) (told : Told) → Says reply told
     → bytes ≡ bytes_told told
     → reply_line line word reply.code.0 (values_of reply bytes)
     ≡ reply_line line word (code_told told).0 (values_told told)
@@ -176,19 +176,20 @@ wants-shows-none blocks (call.Control control.WaitNextEvent) r wants = refl
 wants-shows-none blocks (call.Control control.ExitToShell) r wants = refl
 
 -- so the line of a call of a grow-zone script is written
-pub grown-said : (l : Line) (word : Word) (reply : Reply) (bytes : Option (List ℕ)) (told : Told)
+pub grown-said : (l : Line) (word : CallWord) (reply : Reply) (bytes : Option (List ℕ)) (told : Told)
     → word ≡ word_of l.call → Says reply told → bytes ≡ bytes_told told
     → grow_line l.number word reply.code.0 (values_of reply bytes)
     ≡ line_told (record { grown = true; line = l; told = told })
 grown-said l word reply bytes told is says shown =
     ap (λ (x : List ℕ). codes "+" ++ x) (line-said l.number word reply bytes told says shown)
-    ∙ ap (λ (w : Word). grow_line l.number w (code_told told).0 (values_told told)) is
+    ∙ ap (λ (w : CallWord). grow_line l.number w (code_told told).0 (values_told told)) is
 
 -- and that of a step's own call
-pub own-said : (l : Line) (word : Word) (reply : Reply) (bytes : Option (List ℕ)) (told : Told) → word ≡ word_of l.call
+pub own-said : (l : Line) (word : CallWord) (reply : Reply) (bytes : Option (List ℕ)) (told : Told) → word
+    ≡ word_of l.call
     → Says reply told → bytes ≡ bytes_told told
     → reply_line l.number word reply.code.0 (values_of reply bytes)
     ≡ line_told (record { grown = false; line = l; told = told })
 own-said l word reply bytes told is says shown =
     line-said l.number word reply bytes told says shown
-    ∙ ap (λ (w : Word). reply_line l.number w (code_told told).0 (values_told told)) is
+    ∙ ap (λ (w : CallWord). reply_line l.number w (code_told told).0 (values_told told)) is

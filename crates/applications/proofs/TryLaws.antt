@@ -13,7 +13,7 @@ use Rattle.block_store.specs.Run.{has}
 use Rattle.block_store.specs.Rest.{counted}
 use Rattle.heap_calls.specs.Locked.{locked_place}
 use Rattle.heap_calls.specs.Standing.{pointer_place}
-use Rattle.heap_calls.specs.Emptying.{may_be_emptied}
+use Rattle.heap_calls.specs.Emptying.{has_purgeable}
 use Rattle.heap_calls.specs.State.{State, Memory, fresh_memory}
 use Rattle.mac_words.specs.Told.{Told, Done, Given, Fetched, Number, Numbers, Code, Bytes, Kind, Info, Entry, Refused}
 use Rattle.heap_calls.specs.Asked.{Asked}
@@ -21,10 +21,10 @@ use Rattle.heap_calls.specs.Asked as asks
 use Rattle.heap_calls.specs.Busy.{served}
 use Rattle.heap_calls.proofs.Promises.Knowing.{Known, holds-known, known-fresh}
 use Rattle.heap_calls.proofs.Promises.StandingLaws.{next-new}
-use Rattle.heap_calls.proofs.Promises.FewSearches.{unlooked}
+use Rattle.heap_calls.proofs.Promises.FewSearches.{unsearched}
 use Rattle.heap_calls.proofs.Promises.Taking.{StaysOr}
 use Rattle.heap_calls.proofs.Tries.Gating.{served-known, served-shows}
-use Rattle.heap_calls.proofs.Tries.Gating.{served_looks, served-refused, served-busy}
+use Rattle.heap_calls.proofs.Tries.Gating.{served_searches, served-refused, served-busy}
 use Rattle.heap_calls.proofs.Tries.Keeping.{served_masters_no_fewer}
 use Rattle.heap_calls.proofs.Tries.Taking.{served-stays, served-stands, served-empties}
 use Rattle.res_calls.specs.Files.{Resources}
@@ -39,8 +39,10 @@ use Rattle.heap_calls.specs.Path.{put_reads}
 use Rattle.applications.specs.Trying.{Running, Blocks, once, asked, resource_asked, managers_of, program_of, nowhere}
 use Rattle.applications.specs.Trying.{launched_with}
 use Rattle.applications.specs.Step.{Deed, Ask, Find, Jump, Steer, deed_of, event_of}
-use Rattle.applications.specs.Laws.{put_found, put_deed, put_event, ShowsPut, HoldsPut, frees, drops, lets, opens, Kept}
-use Rattle.applications.specs.Laws.{KeepsLocked, KeepsFixed, EmptiesPurgeable, LooksFew, RefusedLeaves, keeps_resources}
+use Rattle.applications.specs.Laws.{put_found, put_deed, put_event, ShowsPut, HoldsPut, frees, drops, deed_takes_block}
+use Rattle.applications.specs.Laws.{opens, Kept}
+use Rattle.applications.specs.Laws.{KeepsLocked, KeepsFixed, PurgesOnlyPurgeable, SearchesFew, RefusedLeaves}
+use Rattle.applications.specs.Laws.{keeps_resources}
 use Rattle.applications.specs.Laws.{KeepsResources, writes_files, KeepsFiles, KeepsTable, is_answered, StayPut}
 use Rattle.applications.specs.Laws.{put_at_launch, jumps as is_jump}
 use Rattle.res_calls.proofs.Walks.Laws as laws
@@ -125,7 +127,7 @@ once-busy blocks c r = of-try (λ d told reads after. after.memory.log.busy ≡ 
 served-sound : (a : Asked) (m : Memory) (bytes : ℕ → List ℕ) → Sound m bytes
     → Sound (served a m).1 (put_deed (Ask a) (served a m).0 [] bytes)
 served-sound a m bytes sound =
-    let few = served_looks a m sound.masters sound.fits in
+    let few = served_searches a m sound.masters sound.fits in
     let count = few.2 in
     let kept = served_masters_no_fewer a m sound.known.once in
     let some = sound.masters in
@@ -163,7 +165,7 @@ found-sound a s bytes sound =
 jumped-sound : (c : SegmentCall) (p : Program) (bytes : ℕ → List ℕ) → Sound p.managers.memory bytes
     → Sound (jumps.served c p).after.managers.memory (put_reads (jumps.served c p).reads bytes)
 jumped-sound c p bytes sound =
-    let few = jumping.served-looks c p sound.masters sound.fits in
+    let few = jumping.served-searches c p sound.masters sound.fits in
     let count = few.2 in
     let kept = jumping.served-masters c p in
     let some = sound.masters in
@@ -276,36 +278,37 @@ once-fixed blocks l r bytes sound = of-try
     (λ k grow. stays-put pointer_place (λ p. drops p (Steer k)) Done r.memory.heap r.memory.heap
     (λ p place is. inl is))
 
--- and empties only blocks that may be emptied, or that its call lets go
+-- and purges only blocks that may be purged, or that its call lets go
 pub once-purgeable : (blocks : Blocks) (l : Line) (r : Running) (bytes : ℕ → List ℕ) → Sound r.memory bytes
-    → EmptiesPurgeable bytes (event_of l r (once blocks l.call r))
+    → PurgesOnlyPurgeable bytes (event_of l r (once blocks l.call r))
 once-purgeable blocks l r bytes sound h = of-try
     (λ d told reads after. has (is_relocatable h) r.memory.heap.zone ≡ true
     → has (is_relocatable h) after.memory.heap.zone ≡ false
-    → (may_be_emptied h r.memory.heap.zone ≡ true) ⊎ ((is_answered told && lets h d r) ≡ true)) blocks l.call r
-    (λ a before after. done_lets (lets h (Ask a) r) (served a r.memory).0
+    → (has_purgeable h r.memory.heap.zone ≡ true) ⊎ ((is_answered told && deed_takes_block h d r)
+    ≡ true)) blocks l.call r
+    (λ a before after. done_lets (deed_takes_block h (Ask a) r) (served a r.memory).0
     (served-empties a r.memory sound.known.once h before after))
-    (λ a before after. done_lets (lets h (Find a) r) (finds.served a (managers_of r)).told
+    (λ a before after. done_lets (deed_takes_block h (Find a) r) (finds.served a (managers_of r)).told
     (found-empties a (managers_of r) h before after))
     (λ c before after. inl (jumping.served-purgeable c (program_of r) bytes sound.known h before after))
     (λ k grow before after. absurd (true≢false (sym before ∙ after)))
   where
-    done_lets : (lets : Bool) (told : Told)
-        → (may_be_emptied h r.memory.heap.zone ≡ true) ⊎ ((told ≡ Done) × (lets ≡ true))
-        → (may_be_emptied h r.memory.heap.zone ≡ true) ⊎ ((is_answered told && lets) ≡ true)
-    done_lets lets told (inl may) = inl may
-    done_lets lets told (inr both) = inr (rw (both.0, both.1) refl)
+    done_lets : (deed_takes_block : Bool) (told : Told)
+        → (has_purgeable h r.memory.heap.zone ≡ true) ⊎ ((told ≡ Done) × (deed_takes_block ≡ true))
+        → (has_purgeable h r.memory.heap.zone ≡ true) ⊎ ((is_answered told && deed_takes_block) ≡ true)
+    done_lets deed_takes_block told (inl may) = inl may
+    done_lets deed_takes_block told (inr both) = inr (rw (both.0, both.1) refl)
 
--- it looks for room few times
-pub once-looks : (blocks : Blocks) (l : Line) (r : Running) (bytes : ℕ → List ℕ) → Sound r.memory bytes
-    → LooksFew bytes (event_of l r (once blocks l.call r))
-once-looks blocks l r bytes sound = of-try
+-- it searches for room few times
+pub once-searches : (blocks : Blocks) (l : Line) (r : Running) (bytes : ℕ → List ℕ) → Sound r.memory bytes
+    → SearchesFew bytes (event_of l r (once blocks l.call r))
+once-searches blocks l r bytes sound = of-try
     (λ d told reads after. opens d ≡ false → (n : ℕ) × (n ≤ length r.memory.heap.zone + 1)
     × (after.memory.log.searches ≡ counted r.memory.log.searches n)) blocks l.call r
-    (λ a opens. served_looks a r.memory sound.masters sound.fits)
-    (λ a opens. laws.served-looks a (managers_of r) opens sound.masters sound.fits)
-    (λ c opens. jumping.served-looks c (program_of r) sound.masters sound.fits)
-    (λ k grow opens. unlooked r.memory.heap.zone r.memory.log.searches sound.fits)
+    (λ a opens. served_searches a r.memory sound.masters sound.fits)
+    (λ a opens. laws.served-searches a (managers_of r) opens sound.masters sound.fits)
+    (λ c opens. jumping.served-searches c (program_of r) sound.masters sound.fits)
+    (λ k grow opens. unsearched r.memory.heap.zone r.memory.log.searches sound.fits)
 
 -- where it is refused it leaves the heap
 pub once-refused : (blocks : Blocks) (l : Line) (r : Running) (bytes : ℕ → List ℕ) → Sound r.memory bytes

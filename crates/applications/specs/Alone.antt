@@ -3,13 +3,13 @@ use Rattle.std.specs.Prelude.{if◌then◌else◌}
 use Rattle.mac_words.specs.declared.code.OsErr.{OsErr}
 use Rattle.mac_words.specs.declared.code.TheConstants.OsErr.{SYSTEM_ERROR}
 use Rattle.block_store.specs.Block.{Block}
-use Rattle.script_text.specs.Script.{Parts}
+use Rattle.script_text.specs.Script.{ScriptParts}
 use Rattle.script_text.specs.Transcript.{launch_line, end_line}
 use Rattle.res_calls.specs.Files.{File, Resources}
 use Rattle.res_calls.specs.Leaving.{leave}
 use Rattle.applications.specs.Trying.{Running, launched, launched_with, own_resources, nowhere, last_code, is_fatal}
 use Rattle.applications.specs.Trying.{managers_of}
-use Rattle.applications.specs.Step.{Course, run}
+use Rattle.applications.specs.Step.{Course, course_of}
 use Rattle.applications.specs.Application.{lines_told}
 
 -- What an application leaves when it runs alone, given its resources, its script, and the size of its partition. No
@@ -17,8 +17,8 @@ use Rattle.applications.specs.Application.{lines_told}
 -- Applications" and "Terminating a Process".
 
 -- The course of a whole script, run by an application that is only that script.
-abbrev pub run_alone : ℕ → Parts → Course
-run_alone size script = run script.blocks script.steps (launched size nowhere)
+abbrev pub run_alone : ℕ → ScriptParts → Course
+run_alone size script = course_of script.blocks script.steps (launched size nowhere)
 
 -- The end of an application: its code, and its files as they are left.
 pub record Ending : Type 0 where
@@ -57,12 +57,13 @@ left_after asked c =
     else (if asked then has_quit c.after else c.after)
 
 -- The first `n` steps of a script, in a fresh partition of `size` bytes.
-abbrev pub first_steps : Resources → ℕ → Parts → ℕ → Course
-first_steps resources size script n = run script.blocks (take n script.steps) (launched_with resources size nowhere)
+abbrev pub first_steps : Resources → ℕ → ScriptParts → ℕ → Course
+first_steps resources size script n = course_of script.blocks (take n script.steps)
+    (launched_with resources size nowhere)
 
 -- The end of an application after `n` steps, where it ended. A step past the last line is a quit, and a quit may be
 -- asked for as well.
-abbrev pub ending : Resources → ℕ → Parts → ℕ → Bool → Option Ending
+abbrev pub ending : Resources → ℕ → ScriptParts → ℕ → Bool → Option Ending
 ending resources size script n quit =
     ending_of (nat_lt (length script.steps) n || quit) (first_steps resources size script n)
 
@@ -84,7 +85,7 @@ pub record Alone : Type 0 where
 
 -- What an application with these resources leaves when it runs alone, after `n` steps of its script in a partition of
 -- `size` bytes, and after a quit where `quit` asks for one.
-abbrev pub alone : Resources → ℕ → Parts → ℕ → Bool → Alone
+abbrev pub alone : Resources → ℕ → ScriptParts → ℕ → Bool → Alone
 alone resources size script n quit = record {
   transcript = launch_line size ++ lines_told (first_steps resources size script n).lines
       ++ end_told (ending resources size script n quit);
@@ -93,20 +94,20 @@ alone resources size script n quit = record {
 }
 
 -- The zone of that application, as its end left the zone where it ended.
-abbrev pub zone_alone : Resources → ℕ → Parts → ℕ → Bool → List Block
+abbrev pub zone_alone : Resources → ℕ → ScriptParts → ℕ → Bool → List Block
 zone_alone resources size script n quit =
     (left_after (nat_lt (length script.steps) n || quit) (first_steps resources size script n)).memory.heap.zone
 
 -- What an application leaves that takes all its steps, and the step past the last line, which is a quit.
-abbrev pub to_its_end : Resources → ℕ → Parts → Alone
+abbrev pub to_its_end : Resources → ℕ → ScriptParts → Alone
 to_its_end resources size script = alone resources size script (length script.steps + 1) false
 
 -- What an application leaves that is only a script: its fork and the System file have no resources, and it has no other
 -- files.
-abbrev pub script_alone : ℕ → Parts → Alone
+abbrev pub script_alone : ℕ → ScriptParts → Alone
 script_alone size script = to_its_end own_resources size script
 
 -- The zone of that application, as its end left the zone.
 -- See decision 101 (a script ends with its quit).
-abbrev pub script_zone : ℕ → Parts → List Block
+abbrev pub script_zone : ℕ → ScriptParts → List Block
 script_zone size script = zone_alone own_resources size script (length script.steps + 1) false

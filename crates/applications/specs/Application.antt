@@ -5,7 +5,7 @@ use Rattle.mac_words.specs.Told.{Told, Fetched, Number, Numbers, Code, Bytes, Ki
 use Rattle.script_text.specs.Call.{word_of}
 use Rattle.script_text.specs.Transcript.{Shown as Value, bytes_shown, reply_line, grow_line}
 use Rattle.script_text.specs.Transcript as shows
-use Rattle.script_text.specs.declared.word.Word.{Word}
+use Rattle.script_text.specs.declared.word.CallWord.{CallWord}
 use Rattle.applications.specs.Trying.{code_told}
 use Rattle.applications.specs.Step.{Shown}
 
@@ -44,10 +44,10 @@ values_told told = map shows.Number (numbers_told told) ++ bytes_shown (type_tol
     ++ bytes_shown (bytes_told told)
 
 -- The transcript line of a call of the script, and of a call of its grow-zone script.
-abbrev pub told_line : ℕ → Word → Told → List ℕ
+abbrev pub told_line : ℕ → CallWord → Told → List ℕ
 told_line number word told = reply_line number word (code_told told).0 (values_told told)
 
-abbrev pub grown_told_line : ℕ → Word → Told → List ℕ
+abbrev pub grown_told_line : ℕ → CallWord → Told → List ℕ
 grown_told_line number word told = grow_line number word (code_told told).0 (values_told told)
 
 -- The bytes of one line of the transcript.

@@ -11,7 +11,7 @@ use Rattle.heap_calls.specs.Asked.{Show, ShowPtr}
 use Rattle.heap_calls.specs.LastPut.{Holds, put_by}
 use Rattle.heap_calls.specs.Locked.{locked_place, releases}
 use Rattle.heap_calls.specs.Standing.{pointer_place, disposes}
-use Rattle.heap_calls.specs.Emptying.{may_be_emptied, lets_go}
+use Rattle.heap_calls.specs.Emptying.{has_purgeable, takes_block}
 use Rattle.heap_calls.specs.Refused.{refused_zone}
 use Rattle.heap_calls.specs.Busy.{idle}
 use Rattle.script_text.specs.declared.script.Line.{Line}
@@ -95,11 +95,11 @@ drops p (Jump call) = false
 drops p (Steer control) = false
 
 -- Holds of a call that empties the handle `h` or disposes of it, where the call is answered.
-abbrev pub lets : ℕ → Deed → Running → Bool
-lets h (Ask asked) r = lets_go h asked
-lets h (Find asked) r = disposes_of h asked (managers_of r)
-lets h (Jump call) r = false
-lets h (Steer control) r = false
+abbrev pub deed_takes_block : ℕ → Deed → Running → Bool
+deed_takes_block h (Ask asked) r = takes_block h asked
+deed_takes_block h (Find asked) r = disposes_of h asked (managers_of r)
+deed_takes_block h (Jump call) r = false
+deed_takes_block h (Steer control) r = false
 
 -- Holds of a try that was answered and whose call disposes of the handle `h` or unlocks it.
 abbrev pub freed_by : ℕ → Event → Bool
@@ -111,7 +111,7 @@ dropped_by p e = is_answered e.told && drops p e.deed
 
 -- Holds of a try that was answered and whose call empties the handle `h` or disposes of it.
 abbrev pub let_go_by : ℕ → Event → Bool
-let_go_by h e = is_answered e.told && lets h e.deed e.before
+let_go_by h e = is_answered e.told && deed_takes_block h e.deed e.before
 
 -- From one heap to a later one, each block that has a place keeps the place, unless the block was taken away.
 pub record StayPut (place_of : ℕ → List Block → Option ℕ) (taken : ℕ → Bool) (before after : State) : Type 0 where
@@ -133,11 +133,11 @@ KeepsFixed bytes e = StayPut pointer_place (λ p. dropped_by p e) e.before.memor
 
 -- A handle that has a block before a try and no block after the try had a block that may be purged, or the call was
 -- answered and empties the handle or disposes of it.
-abbrev pub EmptiesPurgeable : (ℕ → List ℕ) → Event → Type 0
-EmptiesPurgeable bytes e =
+abbrev pub PurgesOnlyPurgeable : (ℕ → List ℕ) → Event → Type 0
+PurgesOnlyPurgeable bytes e =
     (h : ℕ) → has (is_relocatable h) e.before.memory.heap.zone ≡ true
     → has (is_relocatable h) e.after.memory.heap.zone ≡ false
-    → (may_be_emptied h e.before.memory.heap.zone ≡ true) ⊎ (let_go_by h e ≡ true)
+    → (has_purgeable h e.before.memory.heap.zone ≡ true) ⊎ (let_go_by h e ≡ true)
 
 -- The try is one of the line's call, and the line tells the reply of the try. A line without a try of its own tells a
 -- refusal.
@@ -181,8 +181,8 @@ opens (Steer control) = false
 
 -- A try that does not open a file makes at most one search for room more than there are blocks at its start, by the
 -- heap's own count.
-abbrev pub LooksFew : (ℕ → List ℕ) → Event → Type 0
-LooksFew bytes e =
+abbrev pub SearchesFew : (ℕ → List ℕ) → Event → Type 0
+SearchesFew bytes e =
     opens e.deed ≡ false → (n : ℕ) × (n ≤ length e.before.memory.heap.zone + 1)
     × (e.after.memory.log.searches ≡ counted e.before.memory.log.searches n)
 

@@ -1,17 +1,18 @@
 use Rattle.std.specs.Prelude.{ℕ, take}
 use Rattle.heap_calls.specs.LastPut.{Holds}
-use Rattle.script_text.specs.Script.{Parts}
+use Rattle.script_text.specs.Script.{ScriptParts}
 use Rattle.res_calls.specs.Files.{Resources}
 use Rattle.applications.specs.Trying.{launched_with, nowhere}
 use Rattle.applications.specs.Alone.{first_steps}
 use Rattle.applications.specs.Laws.{put_at_launch, EachTry, Linked, ShowsPut, HoldsPut, KeepsLocked, KeepsFixed}
-use Rattle.applications.specs.Laws.{EmptiesPurgeable, LooksFew, RefusedLeaves, RefusedBinds, GoesByRule, NothingBusy}
+use Rattle.applications.specs.Laws.{PurgesOnlyPurgeable, SearchesFew, RefusedLeaves, RefusedBinds, GoesByRule}
+use Rattle.applications.specs.Laws.{NothingBusy}
 use Rattle.applications.specs.Laws.{KeepsResources, KeepsFiles, KeepsTable, LockedStay, FixedStay}
 
 -- What holds of the launch of an application with these resources in a partition of `size` bytes, and of the first `n`
 -- steps of its script there: a launch or a step has no other application and no place in a memory in it. The tries are
 -- those of the script's calls and of the calls of its grow-zone scripts, the refused ones too.
-pub record KeepsPromises (given : Resources) (size : ℕ) (script : Parts) (n : ℕ) : Type 0 where
+pub record KeepsPromises (given : Resources) (size : ℕ) (script : ScriptParts) (n : ℕ) : Type 0 where
   -- As the application is launched, each handle that has a block holds the stored data that was read into it.
   pub launched : Holds (launched_with given size nowhere).memory.heap (put_at_launch given size)
   -- Each step is a try, and the same step again as long as its grow-zone script makes room: no bound ends the tries.
@@ -37,10 +38,10 @@ pub record KeepsPromises (given : Resources) (size : ℕ) (script : Parts) (n : 
       (first_steps given size script n).line_ends
   -- Each handle that loses its block in a try had an unlocked, purgeable block, or the call was answered, and empties
   -- the handle or disposes of it.
-  pub purged : EachTry EmptiesPurgeable (put_at_launch given size) (first_steps given size script n).events
+  pub purged : EachTry PurgesOnlyPurgeable (put_at_launch given size) (first_steps given size script n).events
   -- The number of searches for room in a try, other than one of OpenResFile, is at most one more than the number of
   -- blocks at the start of the try.
-  pub looks : EachTry LooksFew (put_at_launch given size) (first_steps given size script n).events
+  pub searches : EachTry SearchesFew (put_at_launch given size) (first_steps given size script n).events
   -- A refused try leaves the heap, the resources and the names' bindings as they were, except for the zone where the
   -- tables say so and for the code that ResError returns. A segment that can't be loaded ends the application instead.
   pub refused : EachTry RefusedLeaves (put_at_launch given size) (first_steps given size script n).events

@@ -261,12 +261,12 @@ abbrev pub unless_over : Course → (Running → Course) → Course
 unless_over c next = if c.over then c else joined c (next c.after)
 
 -- The course of steps in order, to the last line or to the end of the application.
-abbrev pub run : Blocks → List Line → Running → Course
-run blocks [] r = nothing_yet r
-run blocks (l ∷ lines) r = unless_over (step blocks l r) (run blocks lines)
+abbrev pub course_of : Blocks → List Line → Running → Course
+course_of blocks [] r = nothing_yet r
+course_of blocks (l ∷ lines) r = unless_over (step blocks l r) (course_of blocks lines)
 
 -- Two courses are alike: they differ at most in the last reply, and only where the application goes on.
-pub record Alike (c d : Course) : Type 0 where
+pub record AlikeCourses (c d : Course) : Type 0 where
   pub events : c.events ≡ d.events
   pub lines : c.lines ≡ d.lines
   pub line_ends : c.line_ends ≡ d.line_ends
@@ -287,4 +287,4 @@ up_to_wait (l ∷ lines) = if is_wait l.call then l ∷ [] else l ∷ up_to_wait
 
 -- The course of a turn: the steps up to and including the next WaitNextEvent, or to the last line.
 abbrev pub turn : Blocks → List Line → Running → Course
-turn blocks lines r = run blocks (up_to_wait lines) r
+turn blocks lines r = course_of blocks (up_to_wait lines) r

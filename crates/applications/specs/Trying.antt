@@ -152,14 +152,14 @@ resource_asked (resource.UseResFile number) names = finds.UseResFile number
 resource_asked resource.CurResFile names = finds.CurResFile
 resource_asked (resource.HomeResFile name) names = finds.HomeResFile (bound_to name.0.items names)
 resource_asked (resource.GetResource name ty id) names = finds.GetResource (type_number ty) id
-resource_asked (resource.Get1Resource name ty id) names = finds.GetOneResource (type_number ty) id
+resource_asked (resource.Get1Resource name ty id) names = finds.Get1Resource (type_number ty) id
 resource_asked (resource.GetNamedResource name ty text) names = finds.GetNamedResource (type_number ty) text.value.0.items
 resource_asked (resource.Get1NamedResource name ty text) names =
-    finds.GetOneNamedResource (type_number ty) text.value.0.items
-resource_asked resource.Count1Types names = finds.CountOneTypes
-resource_asked (resource.Get1IndType index) names = finds.GetOneIndType index
-resource_asked (resource.Count1Resources ty) names = finds.CountOneResources (type_number ty)
-resource_asked (resource.Get1IndResource name ty index) names = finds.GetOneIndResource (type_number ty) index
+    finds.Get1NamedResource (type_number ty) text.value.0.items
+resource_asked resource.Count1Types names = finds.Count1Types
+resource_asked (resource.Get1IndType index) names = finds.Get1IndType index
+resource_asked (resource.Count1Resources ty) names = finds.Count1Resources (type_number ty)
+resource_asked (resource.Get1IndResource name ty index) names = finds.Get1IndResource (type_number ty) index
 resource_asked (resource.LoadResource name) names = finds.LoadResource (bound_to name.0.items names)
 resource_asked (resource.ReleaseResource name) names = finds.ReleaseResource (bound_to name.0.items names)
 resource_asked (resource.DetachResource name) names = finds.DetachResource (bound_to name.0.items names)

@@ -2,9 +2,10 @@
 
 ghost use Rattle.std.specs.Prelude.{◌≡◌, ◌%◌, ◌≤◌, ◌++◌, ◌||◌, map, take, length, nat_lt, IfOk, OnOk};
 ghost use Rattle.block_store.specs.Block.{fresh, sizes};
+ghost use Rattle.block_store.specs.declared.measures.TheConstants.{GREATEST_ZONE, LEAST_ZONE};
 ghost use Rattle.heap_calls.specs.Stored.{IsNamed};
 ghost use Rattle.res_calls.specs.View.{view_file};
-ghost use Rattle.applications.specs.Step.{run};
+ghost use Rattle.applications.specs.Step.{course_of};
 ghost use Rattle.applications.specs.Application.{lines_told};
 ghost use Rattle.applications.specs.Alone.{alone, zone_alone, ending_of, left_after, end_told};
 ghost use Rattle.applications.specs.Replies.{end_if, left_if};
@@ -101,9 +102,9 @@ impl<'s, S: BlockStore> Application<'s, S> {
         watch: &mut W,
     ) -> Result<(), AllocError>
         ensures text { OnOk result (text.new.items
-            ≡ text.old.items ++ lines_told (run script.now.blocks lines.now self.old).lines
-            ++ end_told (ending_of asked (run script.now.blocks lines.now self.old))) }
-        ensures after { OnOk result (self.new ≡ left_after asked (run script.now.blocks lines.now self.old)) }
+            ≡ text.old.items ++ lines_told (course_of script.now.blocks lines.now self.old).lines
+            ++ end_told (ending_of asked (course_of script.now.blocks lines.now self.old))) }
+        ensures after { OnOk result (self.new ≡ left_after asked (course_of script.now.blocks lines.now self.old)) }
         ensures lies { self.new.memory.window ≡ self.old.memory.window }
     {
         let exit = self.run(script, lines, text, watch)?;
@@ -171,8 +172,8 @@ pub fn give_alone(
     quit: bool,
 ) -> Result<Given, AllocError>
     requires even { size % 16 ≡ 0 }
-    requires low { 512 ≤ size }
-    requires high { size ≤ 134217728 }
+    requires low { LEAST_ZONE ≤ size }
+    requires high { size ≤ GREATEST_ZONE }
     ensures { IfOk result (λ given. given ≡ alone resources size script.now steps quit) }
 {
     let store = ListStore::new(alloc, size)?;

@@ -5,7 +5,8 @@ ghost use Rattle.heap_calls.specs.Staying.{ease};
 ghost use Rattle.script_text.specs.Call.{word_of};
 ghost use Rattle.script_text.specs.Transcript.{reply_line, values_of};
 ghost use Rattle.applications.specs.Trying.{once};
-ghost use Rattle.applications.specs.Step.{marked, marked_for, grown, grown_for, kept_anew, names_given, round, step, run, turn};
+ghost use Rattle.applications.specs.Step.{marked, marked_for, grown, grown_for, kept_anew, names_given, round, step};
+ghost use Rattle.applications.specs.Step.{course_of, turn};
 ghost use Rattle.applications.specs.Application.{bytes_told, lines_told};
 ghost use Rattle.applications.specs.Replies.{Came, CameRound, exit_of};
 
@@ -17,7 +18,7 @@ use crate::turns::up_to_wait;
 use crate::watch::{Unwatched, Watch, tell};
 use block_store::BlockStore;
 use mac_words::{Call, HeapCall, ResourceCall};
-use script_text::{Line, Script, Word, write_grow_reply, write_reply};
+use script_text::{CallWord, Line, Script, write_grow_reply, write_reply};
 use std::alloc::AllocError;
 
 /// What is done after a round of a step.
@@ -75,7 +76,13 @@ impl<'s, S: BlockStore> Application<'s, S> {
         for line in lines {
             let tried = self.once(script, &line.call)?;
             let shown = self.shown(&line.call);
-            write_grow_reply(text, line.number, Word::of(&line.call), &tried.reply, shown)?;
+            write_grow_reply(
+                text,
+                line.number,
+                CallWord::of(&line.call),
+                &tried.reply,
+                shown,
+            )?;
         }
         Ok(())
     }
@@ -119,9 +126,9 @@ impl<'s, S: BlockStore> Application<'s, S> {
             self.ask_script(script, line, reading, text)?;
             return Ok(false);
         }
-        let before = self.heap.to_be_had();
+        let before = self.heap.free_or_purgeable();
         self.ask_script(script, line, reading, text)?;
-        Ok(before < self.heap.to_be_had())
+        Ok(before < self.heap.free_or_purgeable())
     }
 
     /// Sets the code of the call's manager to the code of a call whose answer stands, since the calls of the grow-zone
@@ -175,7 +182,13 @@ impl<'s, S: BlockStore> Application<'s, S> {
         ensures lies { self.new.memory.window ≡ self.old.memory.window }
     {
         let shown = self.shown(&line.call);
-        write_reply(text, line.number, Word::of(&line.call), &tried.reply, shown)?;
+        write_reply(
+            text,
+            line.number,
+            CallWord::of(&line.call),
+            &tried.reply,
+            shown,
+        )?;
         self.bind(&line.call, tried.given)
     }
 
@@ -198,7 +211,13 @@ impl<'s, S: BlockStore> Application<'s, S> {
                 return Ok(Next::Again);
             }
             self.keep_anew(&line.call, &tried);
-            write_reply(text, line.number, Word::of(&line.call), &tried.reply, None)?;
+            write_reply(
+                text,
+                line.number,
+                CallWord::of(&line.call),
+                &tried.reply,
+                None,
+            )?;
         } else {
             self.end_call(line, &tried, text)?;
         }
@@ -241,8 +260,8 @@ impl<'s, S: BlockStore> Application<'s, S> {
         text: &mut Vec<u8>,
         watch: &mut W,
     ) -> Result<Option<Exit>, AllocError>
-        ensures ends { IfOk result (λ exit. exit ≡ exit_of (run script.now.blocks lines.now self.old)) }
-        ensures came { OnOk result (Came (run script.now.blocks lines.now self.old) text.old.items text.new.items
+        ensures ends { IfOk result (λ exit. exit ≡ exit_of (course_of script.now.blocks lines.now self.old)) }
+        ensures came { OnOk result (Came (course_of script.now.blocks lines.now self.old) text.old.items text.new.items
             self.new) }
         ensures lies { self.new.memory.window ≡ self.old.memory.window }
     {

@@ -8,7 +8,7 @@ use Rattle.block_store.specs.Block.{Block, Free, Fixed, Masters, Relocatable, co
 use Rattle.block_store.specs.Block.{is_room, is_relocatable}
 use Rattle.block_store.specs.Run.{Stretch, RunSpot, segments, runs, joined, has, settle}
 use Rattle.block_store.specs.Room.{spot}
-use Rattle.block_store.specs.Rest.{falling}
+use Rattle.block_store.specs.Rest.{lowered_in_run}
 
 -- The largest block that can be allocated, and compaction. Inside Macintosh: Memory, chapter 2, "Freeing Memory":
 -- MaxBlock and CompactMem.
@@ -51,10 +51,10 @@ abbrev pub settled : ℕ → List Block → List Block
 settled k zone = settled_runs k (segments zone).first (segments zone).rest
 
 -- The number of blocks that move when the k lowest runs are compacted.
-abbrev pub falls : ℕ → List (List Block) → ℕ
-falls zero runs = 0
-falls (suc k) [] = 0
-falls (suc k) (run ∷ runs) = falling run + falls k runs
+abbrev pub lowered_in_runs : ℕ → List (List Block) → ℕ
+lowered_in_runs zero runs = 0
+lowered_in_runs (suc k) [] = 0
+lowered_in_runs (suc k) (run ∷ runs) = lowered_in_run run + lowered_in_runs k runs
 
 -- The least of 0 .. n that passes the test; n where none of them does.
 abbrev pub least_or_last : (ℕ → Bool) → ℕ → ℕ

@@ -41,12 +41,12 @@ with_moves n r = record r { moves = counted r.moves n }
 
 -- The number of relocatable blocks of a run that have free bytes below them: the blocks that compaction of the run
 -- moves.
-abbrev pub falling : List Block → ℕ
-falling [] = 0
-falling (Free n ∷ run) = count is_mover run
-falling (Fixed id content ∷ run) = falling run
-falling (Masters ∷ run) = falling run
-falling (Relocatable id flags content ∷ run) = falling run
+abbrev pub lowered_in_run : List Block → ℕ
+lowered_in_run [] = 0
+lowered_in_run (Free n ∷ run) = count is_mover run
+lowered_in_run (Fixed id content ∷ run) = lowered_in_run run
+lowered_in_run (Masters ∷ run) = lowered_in_run run
+lowered_in_run (Relocatable id flags content ∷ run) = lowered_in_run run
 
 -- The master pointers, their numbers, and where the store lies are as they were.
 abbrev pub KeepsSlots : Rest → Rest → Type 0

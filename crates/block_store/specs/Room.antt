@@ -61,23 +61,23 @@ abbrev pub put_at_base : Block → List Block → Option (List Block)
 put_at_base new zone = option_map tidy (change_run (has_free (size new)) (low new) zone)
 
 -- The block may be purged: it is unlocked and purgeable, and the search doesn't spare it.
-abbrev pub may_go : (Block → Bool) → Block → Bool
-may_go spared b = is_purgeable b && not (spared b)
+abbrev pub may_be_purged : (Block → Bool) → Block → Bool
+may_be_purged spared b = is_purgeable b && not (spared b)
 
 -- The blocks, of which the k lowest that may be purged are now free blocks.
-abbrev pub emptied : ℕ → (Block → Bool) → List Block → List Block
-emptied zero spared blocks = blocks
-emptied (suc k) spared [] = []
-emptied (suc k) spared (b ∷ above) = if may_go spared b then Free (size b) ∷ emptied k spared above
-    else b ∷ emptied (suc k) spared above
+abbrev pub lowest_purged : ℕ → (Block → Bool) → List Block → List Block
+lowest_purged zero spared blocks = blocks
+lowest_purged (suc k) spared [] = []
+lowest_purged (suc k) spared (b ∷ above) = if may_be_purged spared b then Free (size b) ∷ lowest_purged k spared above
+    else b ∷ lowest_purged (suc k) spared above
 
 -- The zone after k purges: the blocks that were purged are joined with their free neighbours.
 abbrev pub purge : ℕ → (Block → Bool) → List Block → List Block
-purge k spared zone = tidy (emptied k spared zone)
+purge k spared zone = tidy (lowest_purged k spared zone)
 
 -- The number of blocks that may be purged.
 abbrev pub count_of : (Block → Bool) → List Block → ℕ
-count_of spared blocks = count (may_go spared) blocks
+count_of spared blocks = count (may_be_purged spared) blocks
 
 -- The answer of a try, after as few purges as give an answer.
 abbrev pub room : (List Block → Option (List Block)) → (Block → Bool) → List Block → Option (List Block)

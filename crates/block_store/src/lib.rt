@@ -39,5 +39,5 @@ pub use sparing::{Seen, Sparing};
 pub use store::BlockStore;
 pub use stretch::{RoomScan, find_free_in, scan_room, suffices};
 pub use walk::{
-    Walk, free_of_seen, is_counted_free, is_in_run, is_of, may_be_emptied, may_go_now, size_of_seen,
+    Walk, free_of_seen, is_counted_free, is_in_run, is_of, may_purge, may_purge_now, size_of_seen,
 };

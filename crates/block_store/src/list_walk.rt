@@ -4,7 +4,7 @@ ghost use Rattle.std.specs.Prelude.{◌≡◌, ◌<◌, ◌^◌, drop, IsSome, I
 ghost use Rattle.std.specs.Option.{option_map};
 ghost use Rattle.block_store.specs.Block.{size, sizes};
 ghost use Rattle.block_store.specs.Run.{segments, has_free, run_at};
-ghost use Rattle.block_store.specs.Room.{spot_at, emptied, count_of};
+ghost use Rattle.block_store.specs.Room.{spot_at, lowest_purged, count_of};
 ghost use Rattle.block_store.specs.Sparing.{spared};
 ghost use Rattle.block_store.specs.Seen.{seen};
 ghost use Rattle.block_store.specs.Compact.{next_run};
@@ -95,7 +95,7 @@ pub fn has_free_above(
     requires fits { sizes (blocks_of entries.now) < 2 ^ 32 }
     requires there { IsSome (spot_at place (blocks_of entries.now)) }
     ensures { IfSome (spot_at place (blocks_of entries.now)) (λ s.
-        result ≡ has_free bytes (emptied purges (spared sparing) (segments s.above).first)) }
+        result ≡ has_free bytes (lowest_purged purges (spared sparing) (segments s.above).first)) }
 {
     let Some(i) = index_at(entries, place) else {
         unreachable!()

@@ -3,7 +3,7 @@
 ghost use Rattle.std.specs.Prelude.{◌≡◌, ◌≤◌, ◌<◌, ◌^◌, is_some, IfSome};
 ghost use Rattle.std.specs.Option.{option_map};
 ghost use Rattle.block_store.specs.Block.{Block, sizes, is_relocatable, tidy};
-ghost use Rattle.block_store.specs.Room.{spot, may_go, emptied};
+ghost use Rattle.block_store.specs.Room.{spot, may_be_purged, lowest_purged};
 ghost use Rattle.block_store.specs.Grow.{taken};
 ghost use Rattle.block_store.specs.Find.{FindsLowest};
 ghost use Rattle.block_store.specs.Sparing.{spared, opened, purged, most_purges};
@@ -13,7 +13,7 @@ ghost use Rattle.block_store.specs.Inner.Purging.{left_past, leading_free};
 
 use crate::sparing::{Seen, Sparing};
 use crate::stretch::suffices;
-use crate::walk::{Walk, is_counted_free, is_of, may_be_emptied, size_of_seen};
+use crate::walk::{Walk, is_counted_free, is_of, may_purge, size_of_seen};
 
 /// Returns the place of the block to which a master pointer leads, if there is one.
 pub fn place_in<W: Walk>(walk: &mut W, number: u32) -> Option<u32>
@@ -36,12 +36,12 @@ pub fn place_in<W: Walk>(walk: &mut W, number: u32) -> Option<u32>
 fn find_purgeable_in<W: Walk>(walk: &mut W, purges: u32, sparing: Sparing) -> Option<u32>
     requires { sizes (W.rest walk.old) < 2 ^ 32 }
     ensures { result ≡ option_map (λ s. sizes s.below)
-        (spot (may_go (spared sparing)) (purged purges sparing (W.rest walk.old))) }
+        (spot (may_be_purged (spared sparing)) (purged purges sparing (W.rest walk.old))) }
 {
     let mut left = purges;
     let mut place = 0;
     while let Some(block) = walk.next_block() {
-        if may_be_emptied(block, sparing) {
+        if may_purge(block, sparing) {
             if left == 0 {
                 return Some(place);
             }
@@ -55,7 +55,7 @@ fn find_purgeable_in<W: Walk>(walk: &mut W, purges: u32, sparing: Sparing) -> Op
 /// Returns the place of the lowest block that may be purged after `purges` purges.
 pub fn next_purgeable_in<W: Walk>(walk: &mut W, purges: u32, sparing: Sparing) -> Option<u32>
     requires { sizes (W.rest walk.old) < 2 ^ 32 }
-    ensures { FindsLowest (may_go (spared sparing)) (purged purges sparing (W.rest walk.old)) result }
+    ensures { FindsLowest (may_be_purged (spared sparing)) (purged purges sparing (W.rest walk.old)) result }
 {
     find_purgeable_in(walk, purges, sparing)
 }
@@ -67,7 +67,7 @@ pub fn purgeable_in<W: Walk>(walk: &mut W, sparing: Sparing) -> u32
 {
     let mut total = 0;
     while let Some(block) = walk.next_block() {
-        if may_be_emptied(block, sparing) {
+        if may_purge(block, sparing) {
             total += 1;
         }
     }
@@ -78,7 +78,7 @@ pub fn purgeable_in<W: Walk>(walk: &mut W, sparing: Sparing) -> u32
 pub fn left_after(block: Seen, left: u32, sparing: Sparing) -> Option<u32>
     ensures { (b : Block) → seen b ≡ block → result ≡ left_past (spared sparing) left (opened_block sparing b) }
 {
-    if left > 0 && may_be_emptied(block, sparing) {
+    if left > 0 && may_purge(block, sparing) {
         Some(left - 1)
     } else if is_counted_free(block, sparing) {
         Some(left)
@@ -91,8 +91,8 @@ pub fn left_after(block: Seen, left: u32, sparing: Sparing) -> Option<u32>
 /// there.
 fn go_behind<W: Walk>(walk: &mut W, number: u32, purges: u32, sparing: Sparing) -> Option<u32>
     ensures above { option_map (λ s. s.above)
-        (spot (is_relocatable number) (emptied purges (spared sparing) (opened sparing (W.rest walk.old))))
-        ≡ option_map (λ left. emptied left (spared sparing) (opened sparing (W.rest walk.new))) result }
+        (spot (is_relocatable number) (lowest_purged purges (spared sparing) (opened sparing (W.rest walk.old))))
+        ≡ option_map (λ left. lowest_purged left (spared sparing) (opened sparing (W.rest walk.new))) result }
     ensures less { sizes (W.rest walk.new) ≤ sizes (W.rest walk.old) }
 {
     let mut left = purges;

@@ -7,7 +7,7 @@ ghost use Rattle.std.specs.Option.{option_map};
 ghost use Rattle.block_store.specs.Block.{Block, Free, sizes, free_sum, is_relocatable, count, free, tidy};
 ghost use Rattle.block_store.specs.Run.{run_at, in_run, has, has_free, segments, movers, settle, low, high, with_run};
 ghost use Rattle.block_store.specs.Compact.{beyond};
-ghost use Rattle.block_store.specs.Rest.{falling};
+ghost use Rattle.block_store.specs.Rest.{lowered_in_run};
 ghost use Rattle.block_store.specs.Inner.Stretch.{is_free};
 ghost use Rattle.block_store.specs.Inner.ListStore.{block_of, blocks_of, nth_spot};
 ghost use Rattle.block_store.specs.Inner.Packing.{Loose, cleared, cleared_first, packed, run_of_index, run_between};
@@ -89,19 +89,19 @@ fn run_bounds(entries: &[StoredBlock], place: u32) -> (usize, usize)
 }
 
 /// Returns the number of entries of a run that move when the run is compacted.
-fn count_falling(run: &[StoredBlock]) -> u64
-    ensures { result ≡ falling (blocks_of run.now) }
+fn count_lowered(run: &[StoredBlock]) -> u64
+    ensures { result ≡ lowered_in_run (blocks_of run.now) }
 {
     let mut below = false;
-    let mut falls = 0;
+    let mut lowered = 0;
     for entry in run {
         if is_free_entry(entry) {
             below = true;
         } else if below && is_loose(entry) {
-            falls += 1;
+            lowered += 1;
         }
     }
-    falls
+    lowered
 }
 
 /// Returns the index of the first free block.
@@ -216,12 +216,12 @@ pub fn settle_run(entries: &mut Vec<StoredBlock>, place: u32) -> u64
     requires run { IsSome (run_at place (blocks_of entries.old.items)) }
     ensures zone { IfSome (run_at place (blocks_of entries.old.items)) (λ r.
         blocks_of entries.new.items ≡ tidy (with_run settle r)) }
-    ensures falls { IfSome (run_at place (blocks_of entries.old.items)) (λ r. result ≡ falling r.run) }
+    ensures lowered { IfSome (run_at place (blocks_of entries.old.items)) (λ r. result ≡ lowered_in_run r.run) }
 {
     let (start, end) = run_bounds(entries, place);
-    let falls = count_falling(&entries[start..end]);
+    let lowered = count_lowered(&entries[start..end]);
     pack_between(entries, start, end, 0);
-    falls
+    lowered
 }
 
 /// Compacts the run between two indexes, with the entry of a master pointer at its top.

@@ -2,7 +2,7 @@
 
 ghost use Rattle.std.specs.Prelude.{◌≡◌, ◌+◌, ◌≤◌, ◌<◌, ◌^◌, ◌∷◌, ◌++◌, take, drop, length, vec_len, IsSome, IfSome};
 ghost use Rattle.block_store.specs.Block.{sizes, tidy};
-ghost use Rattle.block_store.specs.Room.{spot_at, may_go, emptied};
+ghost use Rattle.block_store.specs.Room.{spot_at, may_be_purged, lowest_purged};
 ghost use Rattle.block_store.specs.Sparing.{spared, opened, purged};
 ghost use Rattle.block_store.specs.Seen.{with_flags};
 ghost use Rattle.block_store.specs.Inner.ListStore.{block_of, blocks_of};
@@ -13,8 +13,8 @@ use crate::sparing::Sparing;
 use crate::walk::is_spared;
 
 /// Reports whether an entry's block, as it stands, may be purged.
-fn may_go_at(entry: &StoredBlock, sparing: Sparing) -> bool
-    ensures { result ≡ may_go (spared sparing) (block_of entry.now) }
+fn may_purge_at(entry: &StoredBlock, sparing: Sparing) -> bool
+    ensures { result ≡ may_be_purged (spared sparing) (block_of entry.now) }
 {
     match entry {
         StoredBlock::Relocatable(slot, flags, _) => {
@@ -30,13 +30,14 @@ fn empty_at(entries: &mut Vec<StoredBlock>, i: usize, left: u32, sparing: Sparin
     requires within { i < vec_len entries.old }
     requires fits { sizes (blocks_of entries.old.items) < 2 ^ 32 }
     ensures blocks { take (i + 1) (blocks_of entries.new.items)
-        ++ emptied result (spared sparing) (drop (i + 1) (blocks_of entries.new.items))
-        ≡ take i (blocks_of entries.old.items) ++ emptied left (spared sparing) (drop i (blocks_of entries.old.items)) }
+        ++ lowest_purged result (spared sparing) (drop (i + 1) (blocks_of entries.new.items))
+        ≡ take i (blocks_of entries.old.items) ++ lowest_purged left (spared sparing)
+        (drop i (blocks_of entries.old.items)) }
     ensures bytes { sizes (blocks_of entries.new.items) ≡ sizes (blocks_of entries.old.items) }
     ensures many { length entries.new.items ≡ length entries.old.items }
 {
     let entry = &entries[i];
-    if left > 0 && may_go_at(entry, sparing) {
+    if left > 0 && may_purge_at(entry, sparing) {
         let bytes = entry_size(entry);
         entries[i] = StoredBlock::Free(bytes);
         left - 1
@@ -50,7 +51,7 @@ fn empty_from(entries: &mut Vec<StoredBlock>, from: usize, purges: u32, sparing:
     requires within { from ≤ vec_len entries.old }
     requires fits { sizes (blocks_of entries.old.items) < 2 ^ 32 }
     ensures blocks { blocks_of entries.new.items ≡ take from (blocks_of entries.old.items)
-        ++ emptied purges (spared sparing) (drop from (blocks_of entries.old.items)) }
+        ++ lowest_purged purges (spared sparing) (drop from (blocks_of entries.old.items)) }
     ensures bytes { sizes (blocks_of entries.new.items) ≡ sizes (blocks_of entries.old.items) }
 {
     let mut left = purges;
@@ -84,7 +85,7 @@ pub fn purge_above(entries: &mut Vec<StoredBlock>, place: u32, purges: u32, spar
     requires fits { sizes (blocks_of entries.old.items) < 2 ^ 32 }
     requires spot { IsSome (spot_at place (blocks_of entries.old.items)) }
     ensures { IfSome (spot_at place (blocks_of entries.old.items)) (λ s.
-        blocks_of entries.new.items ≡ tidy (s.below ++ s.here ∷ emptied purges (spared sparing) s.above)) }
+        blocks_of entries.new.items ≡ tidy (s.below ++ s.here ∷ lowest_purged purges (spared sparing) s.above)) }
 {
     let Some(i) = index_at(entries, place) else {
         unreachable!()

@@ -11,7 +11,7 @@ ghost use Rattle.block_store.specs.Walk.{seen_size};
 ghost use Rattle.block_store.specs.Inner.RunScan.{is_wanted, suits, scan_from};
 
 use crate::sparing::{Seen, Sparing};
-use crate::walk::{Walk, is_counted_free, is_in_run, may_be_emptied, size_of_seen};
+use crate::walk::{Walk, is_counted_free, is_in_run, may_purge, size_of_seen};
 
 /// The state of a search for a run: the purges left, the place where the current run began, its number of free bytes so
 /// far, whether it has the block that it must have, and the place of the search.
@@ -57,7 +57,7 @@ pub fn scan_run(block: Seen, number: Option<u32>, scan: RunScan, sparing: Sparin
     let size = size_of_seen(block);
     let mut next = scan;
     next.place += size;
-    if scan.left > 0 && may_be_emptied(block, sparing) {
+    if scan.left > 0 && may_purge(block, sparing) {
         next.left -= 1;
         next.free += size;
         return next;

@@ -3,13 +3,13 @@
 ghost use Rattle.std.specs.Prelude.{◌≡◌, ◌<◌, ◌^◌, ◌&&◌, max, nat_lt};
 ghost use Rattle.block_store.specs.Block.{Block, sizes, free_sum};
 ghost use Rattle.block_store.specs.Run.{segments, has_free};
-ghost use Rattle.block_store.specs.Room.{may_go, emptied, count_of};
+ghost use Rattle.block_store.specs.Room.{may_be_purged, lowest_purged, count_of};
 ghost use Rattle.block_store.specs.Sparing.{spared};
 ghost use Rattle.block_store.specs.Compact.{largest_free, largest_run, place_behind, beyond};
 ghost use Rattle.block_store.specs.Seen.{seen};
 
 use crate::sparing::{Seen, Sparing};
-use crate::walk::{Walk, free_of_seen, is_in_run, may_go_now, size_of_seen};
+use crate::walk::{Walk, free_of_seen, is_in_run, may_purge_now, size_of_seen};
 
 /// Returns the larger of two numbers.
 pub fn larger(a: u32, b: u32) -> u32
@@ -67,15 +67,15 @@ pub fn next_run_in<W: Walk>(walk: &mut W) -> Option<u32>
 
 /// Reports whether a block is purged where `left` purges are left.
 fn goes(block: Seen, left: u32, sparing: Sparing) -> bool
-    ensures { (b : Block) → seen b ≡ block → result ≡ (nat_lt 0 left && may_go (spared sparing) b) }
+    ensures { (b : Block) → seen b ≡ block → result ≡ (nat_lt 0 left && may_be_purged (spared sparing) b) }
 {
-    left > 0 && may_go_now(block, sparing)
+    left > 0 && may_purge_now(block, sparing)
 }
 
 /// Returns the number of free bytes in the first run, after `purges` purges in the run.
 fn run_free_in<W: Walk>(walk: &mut W, purges: u32, sparing: Sparing) -> u32
     requires { sizes (W.rest walk.old) < 2 ^ 32 }
-    ensures { result ≡ free_sum (emptied purges (spared sparing) (segments (W.rest walk.old)).first) }
+    ensures { result ≡ free_sum (lowest_purged purges (spared sparing) (segments (W.rest walk.old)).first) }
 {
     let mut left = purges;
     let mut free = 0;
@@ -96,7 +96,7 @@ fn run_free_in<W: Walk>(walk: &mut W, purges: u32, sparing: Sparing) -> u32
 /// Reports whether the first run has `bytes` free bytes, after `purges` purges in the run.
 pub fn run_has_free_in<W: Walk>(walk: &mut W, bytes: u32, purges: u32, sparing: Sparing) -> bool
     requires { sizes (W.rest walk.old) < 2 ^ 32 }
-    ensures { result ≡ has_free bytes (emptied purges (spared sparing) (segments (W.rest walk.old)).first) }
+    ensures { result ≡ has_free bytes (lowest_purged purges (spared sparing) (segments (W.rest walk.old)).first) }
 {
     bytes <= run_free_in(walk, purges, sparing)
 }
@@ -111,7 +111,7 @@ pub fn purgeable_in_run_in<W: Walk>(walk: &mut W, sparing: Sparing) -> u32
         if !is_in_run(block) {
             return total;
         }
-        if may_go_now(block, sparing) {
+        if may_purge_now(block, sparing) {
             total += 1;
         }
     }

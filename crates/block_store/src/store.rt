@@ -10,13 +10,13 @@ ghost use Rattle.block_store.specs.Block.{free_sum, is_room, is_relocatable, is_
 ghost use Rattle.block_store.specs.Block.{with_content, resized, tidy};
 ghost use Rattle.windows.specs.Writes.{written};
 ghost use Rattle.block_store.specs.Run.{has, has_free, settle, low, high, with_run, run_at, segments};
-ghost use Rattle.block_store.specs.Room.{spot, spot_at, filled, may_go, emptied, count_of};
+ghost use Rattle.block_store.specs.Room.{spot, spot_at, filled, may_be_purged, lowest_purged, count_of};
 ghost use Rattle.block_store.specs.Grow.{freed, grow_up, taken};
 ghost use Rattle.block_store.specs.Find.{FindsLowest, FindsLowestRun, IsEdge};
 ghost use Rattle.block_store.specs.Compact.{largest_free, largest_run, next_run, NoneRises, lowered, Aligned, Placed};
 ghost use Rattle.block_store.specs.Slot.{Unused, Used, is_used, is_resource};
 ghost use Rattle.block_store.specs.Sparing.{purged, spared, most_purges};
-ghost use Rattle.block_store.specs.Rest.{Rest, IsRest, with_slot, with_moves, falling};
+ghost use Rattle.block_store.specs.Rest.{Rest, IsRest, with_slot, with_moves, lowered_in_run};
 ghost use Rattle.block_store.specs.declared.measures.TheConstants.{GREATEST_ZONE, SLOTS_A_BLOCK};
 ghost use Rattle.block_store.specs.Seen.{seen, with_flags, moved_away};
 
@@ -88,7 +88,7 @@ pub trait BlockStore {
 
     /// Returns the place of the block that is purged next, after `purges` purges, if there is one.
     fn next_purgeable(&self, purges: u32, sparing: Sparing) -> Option<u32>
-        ensures { FindsLowest (may_go (spared sparing)) (purged purges sparing (zone self.now)) result };
+        ensures { FindsLowest (may_be_purged (spared sparing)) (purged purges sparing (zone self.now)) result };
 
     /// Returns the number of blocks that may be purged.
     fn purgeable(&self, sparing: Sparing) -> u32
@@ -122,7 +122,7 @@ pub trait BlockStore {
     fn run_after(&self, place: u32, bytes: u32, purges: u32, sparing: Sparing) -> bool
         requires { IsSome (spot_at place (zone self.now)) }
         ensures { IfSome (spot_at place (zone self.now)) (λ s.
-            result ≡ has_free bytes (emptied purges (spared sparing) (segments s.above).first)) };
+            result ≡ has_free bytes (lowest_purged purges (spared sparing) (segments s.above).first)) };
 
     /// Returns the number of blocks that may be purged in the run above the block at a place.
     fn purgeable_after(&self, place: u32, sparing: Sparing) -> u32
@@ -134,7 +134,7 @@ pub trait BlockStore {
     fn purge_after(&mut self, place: u32, purges: u32, sparing: Sparing)
         requires { IsSome (spot_at place (zone self.old)) }
         ensures zone { IfSome (spot_at place (zone self.old)) (λ s.
-            zone self.new ≡ tidy (s.below ++ s.here ∷ emptied purges (spared sparing) s.above)) }
+            zone self.new ≡ tidy (s.below ++ s.here ∷ lowest_purged purges (spared sparing) s.above)) }
         ensures rest { IsRest (rest self.old) (rest self.new) };
 
     /// Compacts a run: its relocatable blocks stand in order, then one free block.
@@ -144,10 +144,10 @@ pub trait BlockStore {
         requires { IsSome (run_at run (zone self.old)) }
         ensures zone { IfSome (run_at run (zone self.old)) (λ r. zone self.new ≡ tidy (with_run settle r)) }
         ensures rest { IfSome (run_at run (zone self.old)) (λ r.
-            IsRest (with_moves (falling r.run) (rest self.old)) (rest self.new)) }
+            IsRest (with_moves (lowered_in_run r.run) (rest self.old)) (rest self.new)) }
         // The relocatable blocks that stand lower afterwards are counted, and no others.
         ensures counted { IfSome (run_at run (zone self.old)) (λ r.
-            falling r.run ≡ lowered (zone self.old) (zone self.new)) }
+            lowered_in_run r.run ≡ lowered (zone self.old) (zone self.new)) }
         ensures lower { NoneRises (zone self.old) (zone self.new) };
 
     /// Compacts a run upward, with `bytes` free bytes at its bottom.

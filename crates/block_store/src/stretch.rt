@@ -11,7 +11,7 @@ ghost use Rattle.block_store.specs.Walk.{seen_size};
 ghost use Rattle.block_store.specs.Inner.Stretch.{is_enough, stretch, after_scan};
 
 use crate::sparing::{Seen, Sparing};
-use crate::walk::{Walk, is_counted_free, may_be_emptied, size_of_seen};
+use crate::walk::{Walk, is_counted_free, may_purge, size_of_seen};
 
 /// The state of a search for room: the purges left, the place where the current stretch began, its number of bytes so
 /// far, and the place of the search.
@@ -42,7 +42,7 @@ pub fn scan_room(block: Seen, bytes: u32, scan: RoomScan, sparing: Sparing) -> O
 {
     let size = size_of_seen(block);
     let place = scan.place + size;
-    if scan.left > 0 && may_be_emptied(block, sparing) {
+    if scan.left > 0 && may_purge(block, sparing) {
         return Some(RoomScan {
             left: scan.left - 1,
             start: scan.start,

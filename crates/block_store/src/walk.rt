@@ -3,7 +3,7 @@
 ghost use Rattle.std.specs.Prelude.{◌≡◌, ◌<◌, ◌^◌, List, []};
 ghost use Rattle.block_store.specs.Block.{Block, Relocatable, free_of, is_relocatable, no_flags};
 ghost use Rattle.block_store.specs.Run.{in_run};
-ghost use Rattle.block_store.specs.Room.{may_go};
+ghost use Rattle.block_store.specs.Room.{may_be_purged};
 ghost use Rattle.block_store.specs.Sparing.{spared};
 ghost use Rattle.block_store.specs.Seen.{seen};
 ghost use Rattle.block_store.specs.Inner.Stretch.{is_free, names, opened_block};
@@ -91,8 +91,8 @@ fn is_named(slot: u32, sparing: Sparing) -> bool
 }
 
 /// Reports whether a block may be purged, where purges are left.
-pub fn may_be_emptied(block: Seen, sparing: Sparing) -> bool
-    ensures { (b : Block) → seen b ≡ block → result ≡ may_go (spared sparing) (opened_block sparing b) }
+pub fn may_purge(block: Seen, sparing: Sparing) -> bool
+    ensures { (b : Block) → seen b ≡ block → result ≡ may_be_purged (spared sparing) (opened_block sparing b) }
 {
     match block {
         Seen::Relocatable(slot, flags, _) => {
@@ -114,8 +114,8 @@ pub fn is_spared(slot: u32, sparing: Sparing) -> bool
 }
 
 /// Reports whether a block, as it stands, may be purged.
-pub fn may_go_now(block: Seen, sparing: Sparing) -> bool
-    ensures { (b : Block) → seen b ≡ block → result ≡ may_go (spared sparing) b }
+pub fn may_purge_now(block: Seen, sparing: Sparing) -> bool
+    ensures { (b : Block) → seen b ≡ block → result ≡ may_be_purged (spared sparing) b }
 {
     match block {
         Seen::Relocatable(slot, flags, _) => {

@@ -19,6 +19,7 @@ pub struct Memory<'a> {
 
 impl<'a> Host for Memory<'a> {
     ghost printed = { λ _. None };
+
     ghost accesses = { λ _. None };
 
     fn read(&mut self, alloc: Global, path: &str) -> Result<Vec<u8>, ReadError> {

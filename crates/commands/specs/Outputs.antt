@@ -3,7 +3,7 @@ use Rattle.std.specs.Prelude.{if◌then◌else◌}
 use Rattle.std.specs.List.{flat_map}
 use Rattle.std.specs.Str.{encode_utf8_all}
 use Rattle.res_calls.specs.Files.{File}
-use Rattle.desk.specs.Outcome.{Launched, Told, Outcome}
+use Rattle.desk.specs.Outcome.{Launched, AppResult, Outcome}
 use Rattle.commands.specs.declared.outputs.Output.{Output}
 
 -- The files that a run leaves in a folder.
@@ -29,7 +29,7 @@ pub record Written : Type 0 where
   pub bytes : List ℕ
 
 -- The log of an application that was launched: its transcript.
-abbrev pub log_left : List ℕ → Told → List Written
+abbrev pub log_left : List ℕ → AppResult → List Written
 log_left folder t = of_launched t.launched
   where
     of_launched : Option Launched → List Written
@@ -44,7 +44,7 @@ forks_within folder name k (f ∷ files) =
     ++ forks_within folder name (k + 1) files
 
 -- The forks that were written of an application that was launched.
-abbrev pub forks_left : List ℕ → Told → List Written
+abbrev pub forks_left : List ℕ → AppResult → List Written
 forks_left folder t = of_launched t.launched
   where
     of_launched : Option Launched → List Written
@@ -53,10 +53,10 @@ forks_left folder t = of_launched t.launched
 
 -- The files that a run leaves, in order: the desk's log, the logs of the applications, and their forks.
 -- See decision 162 (the files of a run are written in a fixed order).
-abbrev pub logs_left : List ℕ → List Told → List Written
+abbrev pub logs_left : List ℕ → List AppResult → List Written
 logs_left folder apps = flat_map (log_left folder) apps
 
-abbrev pub all_forks_left : List ℕ → List Told → List Written
+abbrev pub all_forks_left : List ℕ → List AppResult → List Written
 all_forks_left folder apps = flat_map (forks_left folder) apps
 
 abbrev pub left_by : List ℕ → Outcome → List Written

@@ -1,5 +1,5 @@
 use Rattle.std.specs.Prelude.{◌≡◌, ℕ, Ok, List, IsTrue, codes}
-use Rattle.script_text.specs.Script.{Parts, script_of, spelled}
+use Rattle.script_text.specs.Script.{ScriptParts, script_of, spelled}
 use Rattle.applications.specs.Alone.{script_alone}
 use Rattle.fork_format.specs.Content.{Content}
 use Rattle.fork_format.specs.Fork.{is_fork, content_of}
@@ -12,7 +12,7 @@ use Rattle.commands.specs.declared.work.Form.TheVariants.{Canonical, Accepted}
 -- which the text spells.
 abbrev pub IsTranscriptOf : ℕ → List ℕ → List ℕ → Type 0
 IsTranscriptOf n text out =
-    (script : Parts) × (script_of text ≡ Ok (spelled script)) × (out ≡ (script_alone n script).transcript)
+    (script : ScriptParts) × (script_of text ≡ Ok (spelled script)) × (out ≡ (script_alone n script).transcript)
 
 -- The listing of a resource fork: that of the content which its bytes spell.
 abbrev pub IsListingOf : List ℕ → List ℕ → Type 0

@@ -3,7 +3,7 @@
 ghost use Rattle.std.specs.Prelude.{◌≡◌, ◌≤◌, ◌∷◌, [], map, length, Ok, IfOk, IfErr, OnOk, OnErr};
 ghost use Rattle.script_text.specs.Job.{input_seen, job_seen, job_of};
 ghost use Rattle.script_text.specs.JobFacts.{IsMemory, AreInOrder, AreApps};
-ghost use Rattle.desk.specs.Whole.{run_of, IsRun};
+ghost use Rattle.desk.specs.Whole.{run_of, IsOutcome};
 ghost use Rattle.commands.specs.Fault.{message_of, CannotWrite};
 ghost use Rattle.commands.specs.Accesses.{Folder, Write, and_then, IsTold, WritesFront, StopsAmong};
 ghost use Rattle.commands.specs.Outputs.{output_seen};
@@ -56,7 +56,7 @@ fn ran<W: Watch>(
     requires few { length job.now.apps.items ≤ 64 }
 
     // The outcome is what the definition of the desk says.
-    ensures outcome { IsRun (run_of job.now) result }
+    ensures outcome { IsOutcome (run_of job.now) result }
 {
     let region = match Region::new(alloc, job.memory as usize) {
         Ok(region) => region,
@@ -81,7 +81,7 @@ fn outcome_of<W: Watch>(
 ) -> Result<Outcome, ToolFault>
     requires memory { IsMemory job.now.memory }
     requires few { length job.now.apps.items ≤ 64 }
-    ensures outcome { IfOk result (λ outcome. IsRun (run_of job.now) (Ok outcome)) }
+    ensures outcome { IfOk result (λ outcome. IsOutcome (run_of job.now) (Ok outcome)) }
     ensures fault { IfErr result (λ fault. IsRunFault system.now job.now (message_of fault)) }
 {
     match ran(alloc, job, watched, watch) {

@@ -8,7 +8,7 @@ use Rattle.std.proofs.lemmas.List.Concat.{flat_map-append}
 use Rattle.windows.specs.declared.Window.{Window}
 use Rattle.mac_words.specs.declared.code.OsErr.{OsErr}
 use Rattle.fork_format.specs.Content.{Content}
-use Rattle.script_text.specs.Script.{Parts}
+use Rattle.script_text.specs.Script.{ScriptParts}
 use Rattle.script_text.specs.Transcript.{launch_line}
 use Rattle.script_text.specs.declared.script.Line.{Line}
 use Rattle.script_text.specs.declared.job.Event.{Event}
@@ -34,11 +34,11 @@ use Rattle.desk.proofs.Events.{Pairs, pairs_kept, pair_at}
 -- The desk seen from one application is that application alone.
 
 -- What follows an act of an application that runs as it does alone: it runs so, or it left what it leaves alone.
-abbrev pub FollowsAlone : Resources → Parts → Next → Type 0
+abbrev pub FollowsAlone : Resources → ScriptParts → Next → Type 0
 FollowsAlone resources script (GoesOn live) = RunsAsAlone resources script live
 FollowsAlone resources script (Ends l left) = LeftAsAlone resources script l
 
-module _ (resources : Resources) (script : Parts) where
+module _ (resources : Resources) (script : ScriptParts) where
   -- before its first step
   begun-alone : (w : Window) → RunsAsAlone resources script (begun resources w)
   begun-alone w = record {
@@ -225,12 +225,12 @@ module _ (resources : Resources) (script : Parts) where
 
 -- An application at its place.
 
-came-alone : (start : Result Resources OsErr) (script : Parts) (resources : Resources) (next : Next)
+came-alone : (start : Result Resources OsErr) (script : ScriptParts) (resources : Resources) (next : Next)
     → start ≡ Ok resources → FollowsAlone resources script next → IsAsAlone start script (come_by next).phase
 came-alone start script resources (GoesOn live) is so = (resources, is, so)
 came-alone start script resources (Ends l left) is so = (resources, is, so)
 
-acted-alone : (act : Act) (start : Result Resources OsErr) (script : Parts) (phase : Phase)
+acted-alone : (act : Act) (start : Result Resources OsErr) (script : ScriptParts) (phase : Phase)
     → IsAsAlone start script phase → IsAsAlone start script (acted_by act script phase).phase
 acted-alone act start script (Waiting given) so = so
 acted-alone act start script (Running live) so =
@@ -242,13 +242,14 @@ acted-place : (system : Content) (act : Act) (app : App) (p : Place) → IsPlace
 acted-place system act app p so = record {
   name = so.name;
   script = so.script;
-  phase = subst (λ (script : Parts). IsAsAlone (start_of system app) app.script (acted_by act script p.phase).phase)
+  phase = subst (λ (script : ScriptParts). IsAsAlone (start_of system app) app.script
+      (acted_by act script p.phase).phase)
       (sym so.script)
       (acted-alone act (start_of system app) app.script p.phase so.phase);
 }
 
 -- one that is launched waited
-launched-alone : (start : Result Resources OsErr) (script : Parts) (phase : Phase) (s : State) (live : Live)
+launched-alone : (start : Result Resources OsErr) (script : ScriptParts) (phase : Phase) (s : State) (live : Live)
     → begun_if (ready phase) s ≡ Ok live → IsAsAlone start script phase → IsAsAlone start script (Running live)
 launched-alone start script (Waiting (Err code)) s live is so = cc
 launched-alone start script (Waiting (Ok resources)) s live is so =
@@ -290,7 +291,7 @@ seen_alone memory system apps events i app p given here =
     (all_alone memory system apps events)
 
 -- what is told of an application that was launched is what it leaves alone
-pub told-alone : (start : Result Resources OsErr) (script : Parts) (phase : Phase) (l : Launched)
+pub told-alone : (start : Result Resources OsErr) (script : ScriptParts) (phase : Phase) (l : Launched)
     → IsAsAlone start script phase → told_of phase ≡ Some l
     → (resources : Resources) × (start ≡ Ok resources) × LeftAsAlone resources script l
 told-alone start script (Waiting given) l so is = cc
@@ -315,7 +316,7 @@ left_same first second a b p q l m here there starts scripts one other size step
     let own : x.0 ≡ y.0 = same-start x.0 y.0 (start_of first a) (start_of second b) starts x.1 y.1 in
     let all : launched_alone x.0 a.script l.size l.steps l.asked ≡ launched_alone y.0 b.script m.size m.steps m.asked =
     ap (λ (r : Resources). launched_alone r a.script l.size l.steps l.asked) own
-    ∙ ap (λ (s : Parts). launched_alone y.0 s l.size l.steps l.asked) scripts
+    ∙ ap (λ (s : ScriptParts). launched_alone y.0 s l.size l.steps l.asked) scripts
     ∙ ap (λ (n : ℕ). launched_alone y.0 b.script n l.steps l.asked) size
     ∙ ap (λ (n : ℕ). launched_alone y.0 b.script m.size n l.asked) steps
     ∙ ap (λ (t : Bool). launched_alone y.0 b.script m.size m.steps t) asked in

@@ -2,7 +2,7 @@ use Rattle.std.proofs.Common.{◌≡◌, ℕ, Bool, Option, Some, None, Result, 
 use Rattle.std.proofs.Common.{refl, sym, ◌∙◌, ap, subst}
 use Rattle.mac_words.specs.declared.code.OsErr.{OsErr}
 use Rattle.fork_format.specs.Content.{Content}
-use Rattle.script_text.specs.Script.{Parts}
+use Rattle.script_text.specs.Script.{ScriptParts}
 use Rattle.script_text.specs.declared.job.Event.{Event}
 use Rattle.res_calls.specs.Files.{Resources}
 use Rattle.desk.specs.declared.job.App.{App}
@@ -20,7 +20,7 @@ use Rattle.desk.proofs.Alone.{all_alone, told-alone}
 -- A law of what an application leaves alone holds of what each launched application of a run leaves.
 
 told-keeps : (P : Law)
-    → ((resources : Resources) (script : Parts) (size n : ℕ) (asked : Bool)
+    → ((resources : Resources) (script : ScriptParts) (size n : ℕ) (asked : Bool)
     → P resources script (launched_alone resources script size n asked))
     → (system : Content) (app : App) (p : Place) → IsPlaceOf system app p
     → OfLaunched P (start_of system app) app.script (told p)
@@ -37,7 +37,7 @@ told-keeps P each system app p so = by_launched (told p).launched refl
         )
 
 each-keeps : (P : Law)
-    → ((resources : Resources) (script : Parts) (size n : ℕ) (asked : Bool)
+    → ((resources : Resources) (script : ScriptParts) (size n : ℕ) (asked : Bool)
     → P resources script (launched_alone resources script size n asked))
     → (system : Content) (apps : List App) (places : List Place) → Pairs (IsPlaceOf system) apps places
     → OfEach P system apps (map told places)
@@ -48,7 +48,7 @@ each-keeps P each system [] (p ∷ places) so = absurd so
 each-keeps P each system (app ∷ apps) [] so = absurd so
 
 each-run : (P : Law)
-    → ((resources : Resources) (script : Parts) (size n : ℕ) (asked : Bool)
+    → ((resources : Resources) (script : ScriptParts) (size n : ℕ) (asked : Bool)
     → P resources script (launched_alone resources script size n asked))
     → (system : Result Content OsErr) (memory : ℕ) (apps : List App) (events : List Event) (found : Outcome)
     → run_by system memory apps events ≡ Ok found → OfEachApp P system apps found.apps
@@ -68,7 +68,7 @@ run-seen system content memory apps events found is same =
 
 -- such a law holds of each application that a run launched
 pub each-launched : {E : Type 0} (P : Law)
-    → ((resources : Resources) (script : Parts) (size n : ℕ) (asked : Bool)
+    → ((resources : Resources) (script : ScriptParts) (size n : ℕ) (asked : Bool)
     → P resources script (launched_alone resources script size n asked))
     → (job : Job) (content : Content) (result : Result declared.Outcome E) (outcome : declared.Outcome)
     → system_of job ≡ Ok content

@@ -8,7 +8,7 @@ use Rattle.windows.specs.Windows.{put_in, taken_out}
 use Rattle.windows.proofs.Ordered.{contains-counted, times-put_in, times-taken_out, length-taken_out, one-itself, none-counted}
 use Rattle.windows.proofs.Listed.{length-with_window}
 use Rattle.partitions.proofs.Order.{given_back}
-use Rattle.script_text.specs.Script.{Parts}
+use Rattle.script_text.specs.Script.{ScriptParts}
 use Rattle.script_text.specs.declared.script.Line.{Line}
 use Rattle.applications.specs.Step.{Course, step, is_wait}
 use Rattle.applications.specs.Alone.{ended_by}
@@ -44,7 +44,7 @@ call-window c live = by_over c.over
     by_over true = refl
     by_over false = refl
 
-step-window : (script : Parts) (live : Live) → InWindow live.window (stepped script live)
+step-window : (script : ScriptParts) (live : Live) → InWindow live.window (stepped script live)
 step-window script live = by_line (slice_get script.steps live.steps)
   where
     by_line : (o : Option Line) → InWindow live.window (step_of o script live)
@@ -56,7 +56,8 @@ then-window : (w : Window) (next : Next) (more : Live → Next) → ((live : Liv
 then-window w (GoesOn live) more on so = subst (λ (v : Window). InWindow v (more live)) so (on live)
 then-window w (Ends launched left) more on so = so
 
-turn-window : (script : Parts) (lines : List Line) (live : Live) → InWindow live.window (turn_through lines script live)
+turn-window : (script : ScriptParts) (lines : List Line) (live : Live) → InWindow live.window
+    (turn_through lines script live)
 turn-window script [] live = step-window script live
 turn-window script (l ∷ lines) live =
     by_wait (step-window script live)
@@ -70,7 +71,7 @@ turn-window script (l ∷ lines) live =
     by_wait first rest true = first
     by_wait first rest false = rest
 
-act-window : (act : Act) (script : Parts) (live : Live) → InWindow live.window (acted act script live)
+act-window : (act : Act) (script : ScriptParts) (live : Live) → InWindow live.window (acted act script live)
 act-window Step script live = step-window script live
 act-window Turn script live = turn-window script (drop live.steps script.steps) live
 act-window Quit script live = refl
@@ -82,7 +83,7 @@ module _ (f : Option Window → ℕ) (z : f None ≡ 0) where
   come_sum w (GoesOn live) is = let same = ap (λ (v : Window). f (Some v)) is in omega (arith, z, same)
   come_sum w (Ends launched left) is = let same = ap (λ (v : Window). f (Some v)) is in omega (arith, z, same)
 
-  act_sum : (act : Act) (script : Parts) (phase : Phase)
+  act_sum : (act : Act) (script : ScriptParts) (phase : Phase)
       → f (left_window (acted_by act script phase).left) + f (window_of (acted_by act script phase).phase)
       ≡ f (window_of phase)
   act_sum act script (Waiting start) = omega (arith, z)

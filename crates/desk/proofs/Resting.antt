@@ -4,7 +4,7 @@ use Rattle.std.proofs.Common.{append_assoc, zero, suc, nat_lt}
 use Rattle.std.specs.List.{list_any}
 use Rattle.std.proofs.lemmas.Bool.{ltb-true, ltb-false}
 use Rattle.std.proofs.lemmas.Option.{slice_get_within}
-use Rattle.script_text.specs.Script.{Parts}
+use Rattle.script_text.specs.Script.{ScriptParts}
 use Rattle.script_text.specs.declared.script.Line.{Line}
 use Rattle.applications.specs.Step.{Course, step, is_wait}
 use Rattle.applications.specs.Alone.{ended_by}
@@ -18,11 +18,11 @@ use Rattle.desk.specs.Desk.{larger, longest_or, longest, rested}
 -- lines, and the one behind the last.
 
 -- an application that goes on took a step more, within its script
-abbrev GoesFurther : Parts → ℕ → Next → Type 0
+abbrev GoesFurther : ScriptParts → ℕ → Next → Type 0
 GoesFurther script n (GoesOn live) = (n < live.steps) × (live.steps ≤ length script.steps)
 GoesFurther script n (Ends launched left) = Unit {0}
 
-module _ (script : Parts) where
+module _ (script : ScriptParts) where
   called-further : (live : Live) (l : Line) (c : Course) → slice_get script.steps live.steps ≡ Some l
       → GoesFurther script live.steps (called c live)
   called-further live l c is = by_over c.over
@@ -65,17 +65,17 @@ module _ (script : Parts) where
       by_wait first rest false = rest
 
 -- an application that runs has fewer than so many steps to take; and is within its script as well
-abbrev Soon : ℕ → Parts → Phase → Type 0
+abbrev Soon : ℕ → ScriptParts → Phase → Type 0
 Soon k script (Waiting start) = Unit {0}
 Soon k script (Running live) = length script.steps < live.steps + k
 Soon k script (Ended launched) = Unit {0}
 
-abbrev Within : ℕ → Parts → Phase → Type 0
+abbrev Within : ℕ → ScriptParts → Phase → Type 0
 Within k script (Waiting start) = Unit {0}
 Within k script (Running live) = (live.steps ≤ length script.steps) × (length script.steps < live.steps + k)
 Within k script (Ended launched) = Unit {0}
 
-abbrev Each : (Parts → Phase → Type 0) → List Place → Type 0
+abbrev Each : (ScriptParts → Phase → Type 0) → List Place → Type 0
 Each P [] = Unit {0}
 Each P (p ∷ places) = P p.script p.phase × Each P places
 
@@ -120,13 +120,14 @@ round-turns : (s : State) → (round s).places ≡ map turned_place s.places
 round-turns s = each-turned s.places [] s refl
 
 -- Each round leaves a step less.
-come-within : (k n : ℕ) (script : Parts) (next : Next) → length script.steps < n + suc k → GoesFurther script n next
+come-within : (k n : ℕ) (script : ScriptParts) (next : Next) → length script.steps < n + suc k → GoesFurther script n
+    next
     → Within k script (come_by next).phase
 come-within k n script (GoesOn live) soon so =
     (so.1, let further : n < live.steps = so.0 in omega (arith, soon, further))
 come-within k n script (Ends launched left) soon so = tt
 
-turn-within : (k : ℕ) (script : Parts) (phase : Phase) → Soon (suc k) script phase
+turn-within : (k : ℕ) (script : ScriptParts) (phase : Phase) → Soon (suc k) script phase
     → Within k script (acted_by Turn script phase).phase
 turn-within k script (Waiting start) soon = tt
 turn-within k script (Running live) soon =
@@ -138,7 +139,7 @@ turns-within : (k : ℕ) (places : List Place) → Each (Soon (suc k)) places �
 turns-within k [] so = tt
 turns-within k (p ∷ places) so = (turn-within k p.script p.phase so.0, turns-within k places so.1)
 
-within-soon : (k : ℕ) (script : Parts) (phase : Phase) → Within k script phase → Soon k script phase
+within-soon : (k : ℕ) (script : ScriptParts) (phase : Phase) → Within k script phase → Soon k script phase
 within-soon k script (Waiting start) so = tt
 within-soon k script (Running live) so = so.1
 within-soon k script (Ended launched) so = tt
@@ -147,7 +148,7 @@ each-soon : (k : ℕ) (places : List Place) → Each (Within k) places → Each 
 each-soon k [] so = tt
 each-soon k (p ∷ places) so = (within-soon k p.script p.phase so.0, each-soon k places so.1)
 
-stopped : (script : Parts) (phase : Phase) → Within 0 script phase → runs phase ≡ false
+stopped : (script : ScriptParts) (phase : Phase) → Within 0 script phase → runs phase ≡ false
 stopped script (Waiting start) so = refl
 stopped script (Running live) so = absurd (
     let low : live.steps ≤ length script.steps = so.0 in
@@ -195,7 +196,8 @@ longest-least most (p ∷ places) =
     let first : most ≤ larger most n = larger-first most n in
     omega (arith, on, first)
 
-soon-most : (most k : ℕ) (script : Parts) (phase : Phase) → length script.steps ≤ most → most < k → Soon k script phase
+soon-most : (most k : ℕ) (script : ScriptParts) (phase : Phase) → length script.steps ≤ most → most < k → Soon k script
+    phase
 soon-most most k script (Waiting start) short less = tt
 soon-most most k script (Running live) short less = omega (arith, short, less)
 soon-most most k script (Ended launched) short less = tt

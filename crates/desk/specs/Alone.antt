@@ -1,7 +1,7 @@
 use Rattle.std.specs.Prelude.{◌≡◌, ◌≤◌, ℕ, Bool, false, Result, Ok, ◌++◌, length}
 use Rattle.mac_words.specs.declared.code.OsErr.{OsErr}
 use Rattle.fork_format.specs.Content.{Content}
-use Rattle.script_text.specs.Script.{Parts}
+use Rattle.script_text.specs.Script.{ScriptParts}
 use Rattle.script_text.specs.Transcript.{launch_line}
 use Rattle.res_calls.specs.Files.{Resources}
 use Rattle.applications.specs.Application.{lines_told}
@@ -15,7 +15,7 @@ use Rattle.desk.specs.Job.{start_of}
 -- The desk seen from one application. The definition of the desk names nothing of this; it is a law of the desk.
 
 -- What a launched application leaves that runs alone.
-abbrev pub launched_alone : Resources → Parts → ℕ → ℕ → Bool → Launched
+abbrev pub launched_alone : Resources → ScriptParts → ℕ → ℕ → Bool → Launched
 launched_alone resources script size n asked = record {
   size = size;
   steps = n;
@@ -26,7 +26,7 @@ launched_alone resources script size n asked = record {
 
 -- An application that runs is what it is alone after the same number of steps of its script, in a partition of the same
 -- size; none of these steps was its end.
-pub record RunsAsAlone (resources : Resources) (script : Parts) (live : Live) : Type 0 where
+pub record RunsAsAlone (resources : Resources) (script : ScriptParts) (live : Live) : Type 0 where
   pub within : live.steps ≤ length script.steps
   pub goes : (first_steps resources live.window.len script live.steps).over ≡ false
   pub state : live.state ≡ (first_steps resources live.window.len script live.steps).after
@@ -35,12 +35,12 @@ pub record RunsAsAlone (resources : Resources) (script : Parts) (live : Live) : 
 
 -- What an application left is what it leaves alone, in a partition of the same size, after the same number of steps, and
 -- after a quit if one was asked for.
-abbrev pub LeftAsAlone : Resources → Parts → Launched → Type 0
+abbrev pub LeftAsAlone : Resources → ScriptParts → Launched → Type 0
 LeftAsAlone resources script l = l ≡ launched_alone resources script l.size l.steps l.asked
 
 -- An application waits with the resources that were given for it; or it was launched with them, and runs, or has ended,
 -- as it does alone.
-abbrev pub IsAsAlone : Result Resources OsErr → Parts → Phase → Type 0
+abbrev pub IsAsAlone : Result Resources OsErr → ScriptParts → Phase → Type 0
 IsAsAlone start script (Waiting given) = given ≡ start
 IsAsAlone start script (Running live) =
     (resources : Resources) × (start ≡ Ok resources) × RunsAsAlone resources script live

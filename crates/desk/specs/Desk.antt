@@ -6,7 +6,7 @@ use Rattle.windows.specs.Windows.{put_in, taken_out}
 use Rattle.mac_words.specs.declared.code.OsErr.{OsErr}
 use Rattle.mac_words.specs.declared.code.TheConstants.OsErr.{MEM_FULL, PROFILE}
 use Rattle.partitions.specs.Grant.{grant}
-use Rattle.script_text.specs.Script.{Parts}
+use Rattle.script_text.specs.Script.{ScriptParts}
 use Rattle.script_text.specs.DeskLog.{launch_of, refusal_of, end_of}
 use Rattle.script_text.specs.declared.job.Event.{Event}
 use Rattle.script_text.specs.declared.job.Event.TheVariants as event
@@ -15,7 +15,7 @@ use Rattle.desk.specs.declared.act.Act.{Act}
 use Rattle.desk.specs.declared.act.Act.TheVariants.{Step, Turn, Quit}
 use Rattle.desk.specs.Sizes.{Sizes, sizes_of}
 use Rattle.desk.specs.Phase.{Phase, Waiting, Running, Ended, Live, Left, Coming, begun, acted_by, runs, told_of}
-use Rattle.desk.specs.Outcome.{Told, Outcome, outcome_told}
+use Rattle.desk.specs.Outcome.{AppResult, Outcome, outcome_told}
 
 -- The desk: several applications in one memory, each in a window of its own. Inside Macintosh: Processes, chapter 1,
 -- "Partitions" and "Scheduling of Processes".
@@ -23,7 +23,7 @@ use Rattle.desk.specs.Outcome.{Told, Outcome, outcome_told}
 -- An application's place at the desk: its name; its script; and the application as it waits, runs or has ended.
 pub record Place : Type 0 where
   pub name : List ℕ
-  pub script : Parts
+  pub script : ScriptParts
   pub phase : Phase
 
 -- The memory's size, the windows in use, the applications in order, and the desk's log so far.
@@ -179,7 +179,7 @@ after_events (e ∷ events) s = after_events events (after_event e s)
 
 -- What a run leaves.
 
-abbrev pub told : Place → Told
+abbrev pub told : Place → AppResult
 told p = record { name = p.name; launched = told_of p.phase }
 
 abbrev pub outcome_of : State → Outcome

@@ -15,7 +15,7 @@ pub record Launched : Type 0 where
   pub files : List File
 
 -- An application's name, and what it leaves if it was launched.
-pub record Told : Type 0 where
+pub record AppResult : Type 0 where
   pub name : List ℕ
   pub launched : Option Launched
 
@@ -27,7 +27,7 @@ abbrev pub forks_told : List ℕ → ℕ → List File → List ℕ
 forks_told name k [] = []
 forks_told name k (f ∷ files) = fork_told name k f ++ forks_told name (k + 1) files
 
-abbrev pub forks_of : Told → List ℕ
+abbrev pub forks_of : AppResult → List ℕ
 forks_of t = by_launched t.launched
   where
     by_launched : Option Launched → List ℕ
@@ -37,7 +37,7 @@ forks_of t = by_launched t.launched
 -- What a run leaves: the desk's log, which ends with the forks that were written, and what the applications leave.
 pub record Outcome : Type 0 where
   pub log : List ℕ
-  pub apps : List Told
+  pub apps : List AppResult
 
-abbrev pub outcome_told : List ℕ → List Told → Outcome
+abbrev pub outcome_told : List ℕ → List AppResult → Outcome
 outcome_told log apps = record { log = log ++ flat_map forks_of apps; apps = apps }

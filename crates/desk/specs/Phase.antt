@@ -2,7 +2,7 @@ use Rattle.std.specs.Prelude.{ℕ, ◌+◌, Bool, true, false, Option, Some, Non
 use Rattle.std.specs.Prelude.{slice_get, if◌then◌else◌}
 use Rattle.windows.specs.declared.Window.{Window}
 use Rattle.mac_words.specs.declared.code.OsErr.{OsErr}
-use Rattle.script_text.specs.Script.{Parts}
+use Rattle.script_text.specs.Script.{ScriptParts}
 use Rattle.script_text.specs.Transcript.{launch_line, end_line}
 use Rattle.script_text.specs.declared.script.Line.{Line}
 use Rattle.res_calls.specs.Files.{Resources}
@@ -89,15 +89,15 @@ called c live = if c.over then ends false (ended_by c) (after_course c live) els
 
 -- A step past the last call is a quit, and counts as a step.
 -- See decision 80 (a step with no call left is a quit, and counts as a step).
-abbrev pub run_out : Parts → Live → Next
+abbrev pub run_out : ScriptParts → Live → Next
 run_out script live = ends false (quits live.state) (record live { steps = length script.steps + 1 })
 
 -- A step: the call of the next line, tried in the application's own state; or a quit if no line is left.
-abbrev pub step_of : Option Line → Parts → Live → Next
+abbrev pub step_of : Option Line → ScriptParts → Live → Next
 step_of None script live = run_out script live
 step_of (Some l) script live = called (step script.blocks l live.state) live
 
-abbrev pub stepped : Parts → Live → Next
+abbrev pub stepped : ScriptParts → Live → Next
 stepped script live = step_of (slice_get script.steps live.steps) script live
 
 -- A quit that is asked for.
@@ -111,16 +111,16 @@ and_then (Ends launched left) more = Ends launched left
 
 -- A turn: steps up to and including the next WaitNextEvent, or to the end.
 -- See decision 83 (a turn is the steps up to and including the next `WaitNextEvent`).
-abbrev pub turn_through : List Line → Parts → Live → Next
+abbrev pub turn_through : List Line → ScriptParts → Live → Next
 turn_through [] script live = stepped script live
 turn_through (l ∷ lines) script live =
     if is_wait l.call then stepped script live else and_then (stepped script live) (turn_through lines script)
 
-abbrev pub turned : Parts → Live → Next
+abbrev pub turned : ScriptParts → Live → Next
 turned script live = turn_through (drop live.steps script.steps) script live
 
 -- What an application does, or is made to do.
-abbrev pub acted : Act → Parts → Live → Next
+abbrev pub acted : Act → ScriptParts → Live → Next
 acted Step script live = stepped script live
 acted Turn script live = turned script live
 acted Quit script live = quitted live
@@ -144,7 +144,7 @@ come_by (GoesOn live) = staying (Running live)
 come_by (Ends launched left) = record { phase = Ended launched; left = Some left }
 
 -- Only an application that runs does anything.
-abbrev pub acted_by : Act → Parts → Phase → Coming
+abbrev pub acted_by : Act → ScriptParts → Phase → Coming
 acted_by act script (Waiting start) = staying (Waiting start)
 acted_by act script (Running live) = come_by (acted act script live)
 acted_by act script (Ended launched) = staying (Ended launched)

@@ -10,7 +10,7 @@ use Rattle.desk.specs.declared.outcome.Outcome as declared
 use Rattle.desk.specs.Phase.{Phase, Waiting, Running, Ended, Left}
 use Rattle.desk.specs.Desk.{Place, State}
 use Rattle.desk.specs.Job.{start_of}
-use Rattle.desk.specs.Outcome.{Told, Outcome}
+use Rattle.desk.specs.Outcome.{AppResult, Outcome}
 use Rattle.desk.specs.Live.{Lot, lot_of_live, live_seen, leaves_seen}
 use Rattle.desk.specs.Seated.{Placed}
 
@@ -56,7 +56,7 @@ abbrev pub left_of : {S : Type 0} → Departure S → Left
 left_of d = record { window = d.window; code = d.code }
 
 -- What applications leave, and what a run leaves.
-abbrev pub told_seen : AppOutcome → Told
+abbrev pub told_seen : AppOutcome → AppResult
 told_seen a = record { name = a.name.0.items; launched = option_map leaves_seen a.launched }
 
 abbrev pub outcome_seen : declared.Outcome → Outcome

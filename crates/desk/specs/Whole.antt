@@ -6,7 +6,7 @@ use Rattle.fork_format.specs.Content.{Content}
 use Rattle.fork_format.specs.Fork.{is_fork, content_of}
 use Rattle.fork_format.specs.View.{view}
 use Rattle.fork_format.specs.declared.content.Content.{Content as Stored}
-use Rattle.script_text.specs.Script.{Parts}
+use Rattle.script_text.specs.Script.{ScriptParts}
 use Rattle.script_text.specs.declared.job.Event.{Event}
 use Rattle.res_calls.specs.Files.{Resources}
 use Rattle.applications.specs.Trying.{no_content}
@@ -16,7 +16,7 @@ use Rattle.desk.specs.declared.job.Job.{Job}
 use Rattle.desk.specs.declared.outcome.Outcome as declared
 use Rattle.desk.specs.declared.outcome.RunFault.{RunFault}
 use Rattle.desk.specs.declared.outcome.RunFault.TheVariants.{System, HostMemory}
-use Rattle.desk.specs.Outcome.{Launched, Told, Outcome}
+use Rattle.desk.specs.Outcome.{Launched, AppResult, Outcome}
 use Rattle.desk.specs.Desk.{after_events, outcome_of}
 use Rattle.desk.specs.Job.{start_of, opening}
 use Rattle.desk.specs.View.{outcome_seen}
@@ -48,28 +48,28 @@ abbrev pub run_of : Job → Result Outcome OsErr
 run_of job = run_by (system_of job) job.memory job.apps.items job.events.items
 
 -- The result of a run, as the code holds it; nothing is said if the host was out of memory.
-abbrev pub IsRun : Result Outcome OsErr → Result declared.Outcome RunFault → Type 0
-IsRun run (Ok outcome) = run ≡ Ok (outcome_seen outcome)
-IsRun run (Err (System code)) = run ≡ Err code
-IsRun run (Err HostMemory) = Unit {0}
+abbrev pub IsOutcome : Result Outcome OsErr → Result declared.Outcome RunFault → Type 0
+IsOutcome run (Ok outcome) = run ≡ Ok (outcome_seen outcome)
+IsOutcome run (Err (System code)) = run ≡ Err code
+IsOutcome run (Err HostMemory) = Unit {0}
 
 -- Laws of each application that was launched, of the resources with which it was launched, its script, and what it
 -- leaves.
 abbrev pub Law : Type 1
-Law = Resources → Parts → Launched → Type 0
+Law = Resources → ScriptParts → Launched → Type 0
 
-abbrev pub OfLaunched : Law → Result Resources OsErr → Parts → Told → Type 0
+abbrev pub OfLaunched : Law → Result Resources OsErr → ScriptParts → AppResult → Type 0
 OfLaunched P start script t =
     IfSome t.launched (λ l. (resources : Resources) × (start ≡ Ok resources) × P resources script l)
 
-abbrev pub OfEach : Law → Content → List App → List Told → Type 0
+abbrev pub OfEach : Law → Content → List App → List AppResult → Type 0
 OfEach P system [] [] = Unit {0}
 OfEach P system (app ∷ apps) (t ∷ told) = OfLaunched P (start_of system app) app.script t × OfEach P system apps told
 OfEach P system [] (t ∷ told) = ⊥
 OfEach P system (app ∷ apps) [] = ⊥
 
 -- A law holds of each launched application of a job.
-abbrev pub OfEachApp : Law → Result Content OsErr → List App → List Told → Type 0
+abbrev pub OfEachApp : Law → Result Content OsErr → List App → List AppResult → Type 0
 OfEachApp P (Err code) apps told = ⊥
 OfEachApp P (Ok system) apps told = OfEach P system apps told
 
@@ -84,7 +84,7 @@ IsAlone resources script l =
     × (l.files ≡ (alone resources l.size script l.steps l.asked).files)
 
 -- A law of the first steps of an application in a partition of some size holds of those that the application took.
-abbrev pub InItsSteps : (Resources → ℕ → Parts → ℕ → Type 0) → Law
+abbrev pub InItsSteps : (Resources → ℕ → ScriptParts → ℕ → Type 0) → Law
 InItsSteps P resources script l = P resources l.size script l.steps
 
 -- The System file's content, as the code holds it; nothing is said if the host was out of memory.

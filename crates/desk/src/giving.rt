@@ -1,6 +1,7 @@
 //! What an application leaves that runs alone in a region.
 
 ghost use Rattle.std.specs.Prelude.{◌≡◌, ◌%◌, ◌≤◌, [], length, IfOk};
+ghost use Rattle.block_store.specs.declared.measures.TheConstants.{GREATEST_ZONE, LEAST_ZONE};
 ghost use Rattle.applications.specs.Alone.{alone, zone_alone};
 ghost use Rattle.desk.specs.Lying.{LieAs};
 
@@ -29,8 +30,8 @@ pub fn give_in_region<W: Watch>(
 ) -> (Result<Given, AllocError>, Region)
     requires home { region.out ≡ [] }
     requires even { length region.bytes % 16 ≡ 0 }
-    requires low { 512 ≤ length region.bytes }
-    requires high { length region.bytes ≤ 134217728 }
+    requires low { LEAST_ZONE ≤ length region.bytes }
+    requires high { length region.bytes ≤ GREATEST_ZONE }
     ensures given { IfOk result.0 (λ given. given ≡ alone resources (length region.bytes) script.now steps quit) }
     ensures lies { IfOk result.0 (λ _.
         LieAs (zone_alone resources (length region.bytes) script.now steps quit) result.1.bytes) }

@@ -6,7 +6,7 @@ ghost use Rattle.zone_bytes.specs.Laid.{LiesThere};
 ghost use Rattle.applications.specs.Promises.{KeepsPromises};
 ghost use Rattle.desk.specs.Free.{IsNeverGranted};
 ghost use Rattle.desk.specs.Lying.{LieAtEnd};
-ghost use Rattle.desk.specs.Whole.{run_of, IsRun, EachLaunched, IsAlone, InItsSteps};
+ghost use Rattle.desk.specs.Whole.{run_of, IsOutcome, EachLaunched, IsAlone, InItsSteps};
 
 use crate::job::Job;
 use crate::outcome::{Outcome, RunFault};
@@ -39,7 +39,7 @@ pub fn run<W: Watch>(
     // What the run leaves is what the definition of the desk says for the events, one after another: the log, and of
     // each application the transcript and the files. The run is refused for the System file exactly if that file's
     // fork can't be read.
-    ensures outcome { IsRun (run_of job.now) result.0 }
+    ensures outcome { IsOutcome (run_of job.now) result.0 }
 
     // For every interleaving of launches, calls and quits, each launched application's transcript and forks are those
     // that it would give alone with the same partition size, its own files and the same System file; each handle that

@@ -1,6 +1,7 @@
 //! A script that is run to its end.
 
 ghost use Rattle.std.specs.Prelude.{◌≡◌, ◌%◌, ◌≤◌, ◌+◌, [], length, IfOk};
+ghost use Rattle.block_store.specs.declared.measures.TheConstants.{GREATEST_ZONE, LEAST_ZONE};
 ghost use Rattle.applications.specs.Trying.{own_resources as own};
 ghost use Rattle.applications.specs.Alone.{run_alone, script_alone, script_zone, first_steps};
 ghost use Rattle.applications.specs.Promises.{KeepsPromises};
@@ -32,8 +33,8 @@ pub fn run_script<W: Watch>(
 ) -> (Result<Vec<u8>, AllocError>, Region)
     requires home { region.out ≡ [] }
     requires even { length region.bytes % 16 ≡ 0 }
-    requires low { 512 ≤ length region.bytes }
-    requires high { length region.bytes ≤ 134217728 }
+    requires low { LEAST_ZONE ≤ length region.bytes }
+    requires high { length region.bytes ≤ GREATEST_ZONE }
 
     // For every interleaving of launches, calls and quits, each launched application's transcript and forks are those
     // that it would give alone with the same partition size, its own files and the same System file; each handle that
@@ -74,8 +75,8 @@ fn run_as_application<W: Watch>(
 ) -> (Result<Vec<u8>, AllocError>, Region)
     requires home { region.out ≡ [] }
     requires even { length region.bytes % 16 ≡ 0 }
-    requires low { 512 ≤ length region.bytes }
-    requires high { length region.bytes ≤ 134217728 }
+    requires low { LEAST_ZONE ≤ length region.bytes }
+    requires high { length region.bytes ≤ GREATEST_ZONE }
     ensures transcript { IfOk result.0 (λ text. text.items
         ≡ (script_alone (length region.bytes) script.now).transcript) }
     ensures lies { IfOk result.0 (λ _. LieAs (script_zone (length region.bytes) script.now) result.1.bytes) }

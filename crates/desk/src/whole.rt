@@ -13,7 +13,7 @@ ghost use Rattle.desk.specs.Job.{opening};
 ghost use Rattle.desk.specs.Free.{StaysFree, IsNeverGranted};
 ghost use Rattle.desk.specs.Lying.{AllLie, LieAtEnd};
 ghost use Rattle.desk.specs.View.{outcome_seen};
-ghost use Rattle.desk.specs.Whole.{run_of, IsRun, EachLaunched, IsAlone, InItsSteps};
+ghost use Rattle.desk.specs.Whole.{run_of, IsOutcome, EachLaunched, IsAlone, InItsSteps};
 
 use crate::desk::Desk;
 use crate::forks::write_forks;
@@ -106,7 +106,7 @@ pub fn run_with<Z: ZoneMaker, W: Watch>(
     // What the run leaves is what the definition of the desk says for the events, one after another: the log, and of
     // each application the transcript and the files. The run is refused for the System file exactly if that file's
     // fork can't be read.
-    ensures outcome { IsRun (run_of job.now) result.0 }
+    ensures outcome { IsOutcome (run_of job.now) result.0 }
 
     // For every interleaving of launches, calls and quits, each launched application's transcript and forks are those
     // that it would give alone with the same partition size, its own files and the same System file; each handle that

@@ -9,8 +9,11 @@ ghost use Rattle.fork_format.specs.Canonical.{are_distinct, refs_offset};
 ghost use Rattle.fork_format.specs.Canonical as canonical;
 ghost use Rattle.fork_format.specs.Extent.{is_low, next, behind, no_starts, refs_end, AreExtents};
 ghost use Rattle.fork_format.specs.View.{view_ref, view_group, view};
+ghost use Rattle.fork_format.specs.declared.fit.TheConstants.{MAX_REFS_END};
+ghost use Rattle.fork_format.specs.declared.layout.TheConstants.{MAX_DATA};
 
 use crate::content::{Content, Group, Ref};
+use crate::layout::MAX_DATA;
 use byteorder::{BigEndian, ByteOrder};
 use mac_words::OsType;
 
@@ -18,8 +21,6 @@ use mac_words::OsType;
 const MAX_DATUM_OFFSET: usize = 16_777_215;
 /// The largest offset of a name. The next number, 65535, stands for no name.
 const MAX_NAME_OFFSET: usize = 65_534;
-/// The greatest size of the resource data in bytes: of all stored data, with its lengths.
-const MAX_DATA: usize = 134_217_728;
 /// The greatest offset, from the type list, at which the references may end. The type list stands 28 bytes above the
 /// start of the map, and the offset of the name list, from the start of the map, has two bytes.
 const MAX_REFS_END: usize = 65_507;
@@ -62,7 +63,7 @@ fn may_begin(r: &Ref<'_>, starts: Starts) -> bool
 pub fn starts_after(r: &Ref<'_>, starts: Starts) -> Starts
     requires { IsTrue (is_low starts (view_ref r.now)) }
     ensures next { result ≡ next starts (view_ref r.now) }
-    ensures datum { result.datum ≤ 134217728 }
+    ensures datum { result.datum ≤ MAX_DATA }
     ensures name { starts.name ≤ 65790 → result.name ≤ 65790 }
 {
     let name_len = match &r.name {
@@ -78,10 +79,10 @@ pub fn starts_after(r: &Ref<'_>, starts: Starts) -> Starts
 /// Returns where stored data and names begin after these resources, if those of each of the resources may begin where
 /// they do.
 fn starts_behind(refs: &[Ref<'_>], starts: Starts) -> Option<Starts>
-    requires datum { starts.datum ≤ 134217728 }
+    requires datum { starts.datum ≤ MAX_DATA }
     requires name { starts.name ≤ 65790 }
     ensures behind { result ≡ behind starts (map view_ref refs.now) }
-    ensures datum { IfSome result (λ s. s.datum ≤ 134217728) }
+    ensures datum { IfSome result (λ s. s.datum ≤ MAX_DATA) }
     ensures name { IfSome result (λ s. s.name ≤ 65790) }
 {
     let mut next = starts;
@@ -97,7 +98,7 @@ fn starts_behind(refs: &[Ref<'_>], starts: Starts) -> Option<Starts>
 /// Returns where the stored data and the names of all resources end, if those of each resource may begin where they do.
 fn ends_of(groups: &[Group<'_>]) -> Option<Starts>
     ensures behind { result ≡ behind no_starts (refs_of (map view_group groups.now)) }
-    ensures datum { IfSome result (λ s. s.datum ≤ 134217728) }
+    ensures datum { IfSome result (λ s. s.datum ≤ MAX_DATA) }
     ensures name { IfSome result (λ s. s.name ≤ 65790) }
 {
     let mut ends = Starts { datum: 0, name: 0 };
@@ -113,7 +114,7 @@ fn ends_of(groups: &[Group<'_>]) -> Option<Starts>
 /// Returns where the references end, from the type list, if no group is empty and the name list may begin there.
 fn refs_end_of(groups: &[Group<'_>]) -> Option<usize>
     ensures end { result ≡ refs_end (refs_offset (map view_group groups.now)) (map view_group groups.now) }
-    ensures low { IfSome result (λ at. at ≤ 65507) }
+    ensures low { IfSome result (λ at. at ≤ MAX_REFS_END) }
 {
     if groups.len() > MAX_TYPES {
         return None;

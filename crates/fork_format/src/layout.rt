@@ -7,13 +7,16 @@ ghost use Rattle.fork_format.specs.Fork.{number, parts_fit, types_fit, ref_size,
 ghost use Rattle.fork_format.specs.Fork.{datum_fits, ref_fits, refs_fit, offsets, type_count, type_places, ref_count};
 ghost use Rattle.fork_format.specs.Fork.{ref_places, type_size, is_fork};
 ghost use Rattle.fork_format.specs.Layout.{IsLayout, sizes_if};
+ghost use Rattle.fork_format.specs.declared.layout.TheConstants.{MAX_ENTRIES};
 
 use byteorder::{BigEndian, ByteOrder};
 
 /// The greatest number of references with which a fork is read.
 const MAX_REFS: usize = 65_536;
-/// The greatest total size of the stored data in bytes, with its lengths, with which a fork is read.
-const MAX_DATA: usize = 134_217_728;
+/// The greatest total size of the stored data in bytes, with its lengths, with which a fork is read or written.
+pub(crate) const MAX_DATA: usize = 134_217_728;
+/// The greatest number of entries in a type list, which tells the number less one in two bytes; FFFF stands for none.
+const MAX_ENTRIES: usize = 65_535;
 
 /// Where resource data, map, type list and name list begin or end.
 #[derive(Clone, Copy)]
@@ -123,7 +126,7 @@ pub fn type_count_of(l: Layout, bytes: &[u8]) -> usize
     requires room { l.type_list + 2 ≤ length bytes.now }
     ensures { result ≡ type_count bytes.now }
 {
-    (half(bytes, l.type_list) + 1) % 65536
+    (half(bytes, l.type_list) + 1) % (MAX_ENTRIES + 1)
 }
 
 /// Returns the size of a resource's stored data with its length, if it lies in the resource data.
@@ -201,7 +204,7 @@ fn type_size_of(l: Layout, bytes: &[u8], at: usize) -> Option<usize>
 fn types_size_of(l: Layout, bytes: &[u8], first: usize, count: usize) -> Option<usize>
     requires layout { IsLayout l bytes.now }
     requires room { first + 8 * count ≤ length bytes.now }
-    requires few { count ≤ 65535 }
+    requires few { count ≤ MAX_ENTRIES }
     ensures { result ≡ sizes_if (list_all (refs_fit bytes.now) (offsets first 8 count))
         (sum_by (type_size bytes.now) (offsets first 8 count)) }
 {
@@ -220,7 +223,7 @@ fn types_size_of(l: Layout, bytes: &[u8], first: usize, count: usize) -> Option<
 /// Returns the number of references of all types.
 fn refs_of_types(bytes: &[u8], first: usize, count: usize) -> usize
     requires room { first + 8 * count ≤ length bytes.now }
-    requires few { count ≤ 65535 }
+    requires few { count ≤ MAX_ENTRIES }
     ensures { result ≡ sum_by (ref_count bytes.now) (offsets first 8 count) }
 {
     let mut at = first;

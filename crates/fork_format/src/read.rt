@@ -16,6 +16,7 @@ ghost use Rattle.fork_format.specs.Fork as fork;
 ghost use Rattle.fork_format.specs.Layout.{IsLayout};
 ghost use Rattle.fork_format.specs.Place.{ArePlaces, put, opened, place};
 ghost use Rattle.fork_format.specs.View.{view_name, view_ref, view_group, view};
+ghost use Rattle.fork_format.specs.declared.layout.TheConstants.{MAX_ENTRIES};
 
 use crate::content::{Content, Group, Ref, RefName};
 use crate::fault::ForkFault;
@@ -195,7 +196,7 @@ fn read_joined<'b>(
 ) -> Result<Vec<Group<'b>>, AllocError>
     requires layout { IsLayout l bytes.now }
     requires room { first + 8 * count ≤ length bytes.now }
-    requires few { count ≤ 65535 }
+    requires few { count ≤ MAX_ENTRIES }
     requires fits { IsTrue (list_all (refs_fit bytes.now) (offsets first 8 count)) }
     ensures { IfOk result (λ v. map view_group v.items ≡ joined (map (group_at bytes.now) (offsets first 8 count))) }
 {
@@ -241,7 +242,7 @@ fn read_apart<'b>(
 ) -> Result<Vec<Group<'b>>, AllocError>
     requires layout { IsLayout l bytes.now }
     requires room { first + 8 * count ≤ length bytes.now }
-    requires few { count ≤ 65535 }
+    requires few { count ≤ MAX_ENTRIES }
     requires fits { IsTrue (list_all (refs_fit bytes.now) (offsets first 8 count)) }
     ensures { IfOk result (λ v. map view_group v.items ≡ map (group_at bytes.now) (offsets first 8 count)) }
 {
@@ -299,7 +300,7 @@ fn read_types<'b>(
 ) -> Result<Vec<Group<'b>>, AllocError>
     requires layout { IsLayout l bytes.now }
     requires room { first + 8 * count ≤ length bytes.now }
-    requires few { count ≤ 65535 }
+    requires few { count ≤ MAX_ENTRIES }
     requires fits { IsTrue (list_all (refs_fit bytes.now) (offsets first 8 count)) }
     ensures { IfOk result (λ v. map view_group v.items ≡ joined (map (group_at bytes.now) (offsets first 8 count))) }
 {

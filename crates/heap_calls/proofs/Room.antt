@@ -1,8 +1,8 @@
 pub mod Searching
 pub mod Staying
 pub mod Packing
-pub mod Seats
+pub mod Placements
 pub mod Stretches
 pub mod SettlingRuns
-pub mod LeastLooks
+pub mod LeastSearches
 pub mod MoveCounts

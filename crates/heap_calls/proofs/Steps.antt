@@ -6,7 +6,7 @@ pub mod Survival
 pub mod Refusals
 pub mod Numbers
 pub mod Unmoved
-pub mod FewLooks
+pub mod FewSearches
 pub mod Place
 pub mod Roles
 pub mod Segments

@@ -157,13 +157,13 @@ hoisted h zone = unwrap_or (option_map tidy (change_run (has (is_relocatable h))
 
 -- MoveHHi: moves a handle's block to the top of its run; -117 (memLockedErr) where the block is locked.
 -- See decision 33 (`MoveHHi` and `HLockHi` of a locked block are -117).
-abbrev pub move_hhi : Option ℕ → State → Answer (Unit {0})
-move_hhi handle s = on_block handle s (λ held. if is_mover held.at.here
+abbrev pub move_h_hi : Option ℕ → State → Answer (Unit {0})
+move_h_hi handle s = on_block handle s (λ held. if is_mover held.at.here
     then (Ok tt, record s { zone = hoisted held.number s.zone }) else refused LOCKED s)
 
 -- HLockHi: moves a handle's block to the top of its run, as MoveHHi does, and then locks the block.
-abbrev pub hlock_hi : Option ℕ → State → Answer (Unit {0})
-hlock_hi handle s = for_found (move_hhi handle s).0 s (λ _. h_lock handle (move_hhi handle s).1)
+abbrev pub h_lock_hi : Option ℕ → State → Answer (Unit {0})
+h_lock_hi handle s = for_found (move_h_hi handle s).0 s (λ _. h_lock handle (move_h_hi handle s).1)
 
 -- MaxBlock: the largest number of bytes that one block could have if all runs were compacted.
 abbrev pub max_block : State → Answer ℕ

@@ -4,7 +4,7 @@ use Rattle.mac_words.specs.declared.code.OsErr.{OsErr}
 use Rattle.mac_words.specs.Told.{Told, Done, Given, Number, Numbers, Code, Bytes, Refused}
 use Rattle.heap_calls.specs.State.{State, Memory}
 use Rattle.heap_calls.specs.Answer.{Answer, dispose_handle, get_handle_size, free_mem, set_handle_size, h_lock}
-use Rattle.heap_calls.specs.Answer.{h_unlock, move_hhi, hlock_hi, max_block, compact_mem, put, show, noting, silent}
+use Rattle.heap_calls.specs.Answer.{h_unlock, move_h_hi, h_lock_hi, max_block, compact_mem, put, show, noting, silent}
 use Rattle.heap_calls.specs.Answer.{searching, moving}
 use Rattle.heap_calls.specs.Slots.{new_handle, new_empty_handle}
 use Rattle.heap_calls.specs.Pointers.{new_pointer, dispose_pointer, get_pointer_size, set_pointer_size, put_pointer}
@@ -97,8 +97,8 @@ answered (HPurge handle) m = telling (λ _. Done) (noting (h_purge handle) m)
 answered (HNoPurge handle) m = telling (λ _. Done) (noting (h_no_purge handle) m)
 answered (HGetState handle) m = telling Number (noting (h_get_state handle) m)
 answered (HSetState handle state) m = telling (λ _. Done) (noting (h_set_state handle state) m)
-answered (MoveHHi handle) m = telling (λ _. Done) (noting (move_hhi handle) m)
-answered (HLockHi handle) m = telling (λ _. Done) (noting (hlock_hi handle) m)
+answered (MoveHHi handle) m = telling (λ _. Done) (noting (move_h_hi handle) m)
+answered (HLockHi handle) m = telling (λ _. Done) (noting (h_lock_hi handle) m)
 answered (HandToHand handle) m = telling Given (packing (hand_to_hand_moves handle) (hand_to_hand_searches handle)
     (hand_to_hand handle) m)
 answered (HandAndHand from to) m = telling (λ _. Done) (packing (hand_and_hand_moves from to)

@@ -12,8 +12,8 @@ use Rattle.heap_calls.specs.Asked.{HSetState, MoveHHi, HLockHi, HandToHand, Hand
 use Rattle.heap_calls.specs.Asked.{DisposePtr, GetPtrSize, SetPtrSize, MemError, Put, Show, PutPtr, ShowPtr, Where}
 use Rattle.mac_words.specs.Told.{Told, Done, Given, Number, Bytes, Refused}
 use Rattle.heap_calls.specs.Asked.{telling, seeking, packing, answered}
-use Rattle.heap_calls.specs.Answer.{dispose_handle, get_handle_size, set_handle_size, h_lock, h_unlock, move_hhi}
-use Rattle.heap_calls.specs.Answer.{hlock_hi, put, show, noting, silent}
+use Rattle.heap_calls.specs.Answer.{dispose_handle, get_handle_size, set_handle_size, h_lock, h_unlock, move_h_hi}
+use Rattle.heap_calls.specs.Answer.{h_lock_hi, put, show, noting, silent}
 use Rattle.heap_calls.specs.Pointers.{dispose_pointer, get_pointer_size, set_pointer_size, put_pointer, show_pointer}
 use Rattle.heap_calls.specs.Pointers.{place_of}
 use Rattle.heap_calls.specs.Purging.{h_purge, h_no_purge, h_get_state, h_set_state, empty_handle, reallocate_handle}
@@ -211,8 +211,8 @@ served (HPurge handle) m = telling (λ _. Done) (unless (barred handle m) (notin
 served (HNoPurge handle) m = telling (λ _. Done) (unless (barred handle m) (noting (h_no_purge handle)) m)
 served (HGetState handle) m = telling Number (unless (barred handle m) (noting (h_get_state handle)) m)
 served (HSetState handle state) m = telling (λ _. Done) (unless (barred handle m) (noting (h_set_state handle state)) m)
-served (MoveHHi handle) m = telling (λ _. Done) (unless (barred handle m) (noting (move_hhi handle)) m)
-served (HLockHi handle) m = telling (λ _. Done) (unless (barred handle m) (noting (hlock_hi handle)) m)
+served (MoveHHi handle) m = telling (λ _. Done) (unless (barred handle m) (noting (move_h_hi handle)) m)
+served (HLockHi handle) m = telling (λ _. Done) (unless (barred handle m) (noting (h_lock_hi handle)) m)
 served (HandToHand handle) m = telling Given (unless (barred handle m) (packing (hand_to_hand_moves handle)
     (hand_to_hand_searches handle) (hand_to_hand handle)) m)
 served (HandAndHand from to) m = telling (λ _. Done) (unless (both_barred from to m)

@@ -8,19 +8,19 @@ use Rattle.heap_calls.specs.Asked.{Asked, DisposeHandle, EmptyHandle, Reallocate
 -- Memory Blocks".
 
 -- Whether the block of the handle h is unlocked and purgeable.
-abbrev pub may_be_emptied : ℕ → List Block → Bool
-may_be_emptied h zone = has (λ b. is_relocatable h b && is_purgeable b) zone
+abbrev pub has_purgeable : ℕ → List Block → Bool
+has_purgeable h zone = has (λ b. is_relocatable h b && is_purgeable b) zone
 
 -- Whether a call disposes of the handle h, frees its block, or gives it another block.
-abbrev pub lets_go : ℕ → Asked → Bool
-lets_go h (DisposeHandle (Some k)) = k == h
-lets_go h (EmptyHandle (Some k)) = k == h
-lets_go h (ReallocateHandle (Some k) size) = k == h
-lets_go h asked = false
+abbrev pub takes_block : ℕ → Asked → Bool
+takes_block h (DisposeHandle (Some k)) = k == h
+takes_block h (EmptyHandle (Some k)) = k == h
+takes_block h (ReallocateHandle (Some k) size) = k == h
+takes_block h asked = false
 
 -- A handle that has a block before a call and none after it had an unlocked, purgeable block, unless the call was
 -- itself to dispose of the handle, to free its block or to give it another.
-abbrev pub OnlyPurgeableGo : Asked → Memory → Type 0
-OnlyPurgeableGo asked m =
-    (h : ℕ) → lets_go h asked ≡ false → has (is_relocatable h) m.heap.zone ≡ true
-    → has (is_relocatable h) (answered asked m).1.heap.zone ≡ false → may_be_emptied h m.heap.zone ≡ true
+abbrev pub PurgesOnlyPurgeable : Asked → Memory → Type 0
+PurgesOnlyPurgeable asked m =
+    (h : ℕ) → takes_block h asked ≡ false → has (is_relocatable h) m.heap.zone ≡ true
+    → has (is_relocatable h) (answered asked m).1.heap.zone ≡ false → has_purgeable h m.heap.zone ≡ true

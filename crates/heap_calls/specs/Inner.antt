@@ -11,7 +11,7 @@ pub mod Pointing
 pub mod Copied
 pub mod Packed
 pub mod Least
-pub mod LookLaws
+pub mod SearchLaws
 pub mod Reaching
 pub mod Loose
 pub mod Appending

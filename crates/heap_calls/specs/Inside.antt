@@ -10,7 +10,7 @@ use Rattle.block_store.specs.Run.{has}
 use Rattle.heap_calls.specs.State.{Role, Plain, Resource, SystemResource, Handle, State}
 use Rattle.heap_calls.specs.State.{Memory}
 use Rattle.heap_calls.specs.Answer.{Answer, Known, refused, given, nothing, rebuilt, for_found, handle_at, without}
-use Rattle.heap_calls.specs.Answer.{silent, searching, moving, h_unlock, hlock_hi}
+use Rattle.heap_calls.specs.Answer.{silent, searching, moving, h_unlock, h_lock_hi}
 use Rattle.heap_calls.specs.Slots.{slotted, if_ready, made}
 use Rattle.heap_calls.specs.Purging.{is_resource, h_purge}
 use Rattle.heap_calls.specs.Searches.{new_handle_searches, new_empty_handle_searches, room_searches}
@@ -25,8 +25,8 @@ new_filled role flags x s = if_ready (slotted nothing s) s (λ ready. if is_some
     then made role flags nothing x ready else refused MEM_FULL ready)
 
 -- A new handle in this role that is empty.
-abbrev pub new_emptied : Role → State → Answer ℕ
-new_emptied role s = if_ready (slotted nothing s) s (λ ready. given (Handle role) (Some ready.zone) ready)
+abbrev pub new_empty : Role → State → Answer ℕ
+new_empty role s = if_ready (slotted nothing s) s (λ ready. given (Handle role) (Some ready.zone) ready)
 
 -- A new block of these flags and bytes for an empty handle, which keeps its role.
 abbrev pub refill : ℕ → Flags → List ℕ → State → Answer (Unit {0})
@@ -94,8 +94,8 @@ new_all (w ∷ wanted) m = (
   (new_all wanted (new_inside Resource w.0 w.1 m).1).1,
 )
 
-abbrev pub new_emptied_inside : Role → Memory → Result ℕ OsErr × Memory
-new_emptied_inside role m = searching (new_empty_handle_searches m.heap) (silent (new_emptied role) m)
+abbrev pub new_empty_inside : Role → Memory → Result ℕ OsErr × Memory
+new_empty_inside role m = searching (new_empty_handle_searches m.heap) (silent (new_empty role) m)
 
 -- The searches for room for the new block of an empty handle, and the blocks that packing moves down for it; none for
 -- a size that no block can have.
@@ -126,7 +126,7 @@ inside change m = record m { heap = change m.heap }
 -- of its run, and locked there. A block that is locked stays as it is, and so does an empty handle. Inside Macintosh:
 -- Processes, chapter 7, "Loading and Unloading Segments".
 abbrev pub held_high : ℕ → State → State
-held_high h s = (hlock_hi (Some h) s).1
+held_high h s = (h_lock_hi (Some h) s).1
 
 -- What the Segment Manager does with the block of a segment as the segment is unloaded: the block is unlocked, and
 -- made purgeable.

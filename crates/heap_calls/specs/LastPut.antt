@@ -12,7 +12,7 @@ use Rattle.heap_calls.specs.Asked.{PtrAndHand, NewPtr, SetPtrSize, Put, PutPtr}
 -- any block.
 
 -- A call, and its reply.
-pub record Entry : Type 0 where
+pub record HistoryEntry : Type 0 where
   pub asked : Asked
   pub told : Told
 
@@ -31,12 +31,12 @@ put_by (SetPtrSize (Some k) n) Done bytes h = if k == h then resized_content n (
 put_by asked told bytes h = bytes h
 
 -- The bytes last put into each block by the calls of a history, from those before the history on.
-abbrev pub last_put_from : (ℕ → List ℕ) → List Entry → ℕ → List ℕ
+abbrev pub last_put_from : (ℕ → List ℕ) → List HistoryEntry → ℕ → List ℕ
 last_put_from bytes [] = bytes
 last_put_from bytes (e ∷ entries) = last_put_from (put_by e.asked e.told bytes) entries
 
 -- The bytes last put into each block by the calls of a history.
-abbrev pub last_put : List Entry → ℕ → List ℕ
+abbrev pub last_put : List HistoryEntry → ℕ → List ℕ
 last_put entries = last_put_from (λ h. []) entries
 
 -- Each handle's and each pointer's block holds these bytes.

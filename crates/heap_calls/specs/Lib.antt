@@ -13,7 +13,7 @@ pub mod Moves
 pub mod Standing
 pub mod History
 pub mod Counts
-pub mod Looks
+pub mod FewSearches
 pub mod Lowering
 pub mod Emptying
 pub mod Refused

@@ -5,8 +5,8 @@ use Rattle.block_store.specs.Block.{Block, Relocatable, size, is_mover, is_reloc
 use Rattle.block_store.specs.Run.{RunSpot, run_spot, has_free, has, high, runs}
 use Rattle.block_store.specs.Room.{Spot, spot, place, put_in_place, purge}
 use Rattle.block_store.specs.Grow.{growth, grow_up, grow_mover, freed}
-use Rattle.block_store.specs.Compact.{falls, runs_settled}
-use Rattle.block_store.specs.Rest.{falling}
+use Rattle.block_store.specs.Compact.{lowered_in_runs, runs_settled}
+use Rattle.block_store.specs.Rest.{lowered_in_run}
 use Rattle.heap_calls.specs.State.{State}
 use Rattle.heap_calls.specs.Answer.{handle_at, look_up, nothing}
 use Rattle.heap_calls.specs.Slots.{slotted}
@@ -20,7 +20,7 @@ use Rattle.heap_calls.specs.Searches.{room_searches, ready_searches, resized_at,
 -- See decision 19 (moves by compaction are counted).
 abbrev pub run_moves : (List Block → List Block) → Option RunSpot → ℕ
 run_moves before None = 0
-run_moves before (Some r) = falling (before r.run)
+run_moves before (Some r) = lowered_in_run (before r.run)
 
 -- A run that is packed as it is.
 abbrev pub as_it_is : List Block → List Block
@@ -111,11 +111,11 @@ pointer_and_hand_moves handle x s =
 
 -- The moves of CompactMem.
 abbrev pub compact_mem_moves : ℕ → State → ℕ
-compact_mem_moves n s = falls (runs_settled (phys n) s.zone) (runs s.zone)
+compact_mem_moves n s = lowered_in_runs (runs_settled (phys n) s.zone) (runs s.zone)
 
 -- The moves where all runs are packed.
 abbrev pub all_moves : List Block → ℕ
-all_moves zone = falls (length (runs zone)) (runs zone)
+all_moves zone = lowered_in_runs (length (runs zone)) (runs zone)
 
 -- The moves of MaxMem: those of packing all runs once every block is purged that may be purged.
 abbrev pub max_mem_moves : State → ℕ

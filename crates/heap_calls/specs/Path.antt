@@ -6,7 +6,7 @@ use Rattle.block_store.specs.Block.{Block}
 use Rattle.heap_calls.specs.State.{Role, State, Memory}
 use Rattle.heap_calls.specs.Refused.{slotted_zone}
 use Rattle.heap_calls.specs.Answer.{nothing}
-use Rattle.heap_calls.specs.Inside.{new_inside, new_emptied_inside, refill_inside, inside, released, cast, has_block}
+use Rattle.heap_calls.specs.Inside.{new_inside, new_empty_inside, refill_inside, inside, released, cast, has_block}
 
 -- The steps that the Resource Manager takes on a heap, one after another. More Macintosh Toolbox, chapter 1, "Using
 -- the Resource Manager".
@@ -15,7 +15,7 @@ use Rattle.heap_calls.specs.Inside.{new_inside, new_emptied_inside, refill_insid
 -- the disposal of a handle and its block; or a handle in another role.
 pub data Step : Type 0 where
   NewFilled : (role : Role) (flags : Flags) (bytes : List ℕ) → Step
-  NewEmptied : (role : Role) → Step
+  NewEmpty : (role : Role) → Step
   Refill : (handle : ℕ) (flags : Flags) (bytes : List ℕ) → Step
   Release : (handle : ℕ) → Step
   Cast : (change : Role → Role) (handle : ℕ) → Step
@@ -23,7 +23,7 @@ pub data Step : Type 0 where
 -- The memory after a step. A handle that has a block is not filled again.
 abbrev pub stepped : Step → Memory → Memory
 stepped (NewFilled role flags bytes) m = (new_inside role flags bytes m).1
-stepped (NewEmptied role) m = (new_emptied_inside role m).1
+stepped (NewEmpty role) m = (new_empty_inside role m).1
 stepped (Refill h flags bytes) m = if has_block h m.heap then m else (refill_inside h flags bytes m).1
 stepped (Release h) m = inside (released h) m
 stepped (Cast change h) m = inside (cast change h) m
@@ -36,7 +36,7 @@ refusal_of (Err code) = Some code
 -- The code with which a step is refused; `None` where the step is done.
 abbrev pub refusal : Step → Memory → Option OsErr
 refusal (NewFilled role flags bytes) m = refusal_of (new_inside role flags bytes m).0
-refusal (NewEmptied role) m = refusal_of (new_emptied_inside role m).0
+refusal (NewEmpty role) m = refusal_of (new_empty_inside role m).0
 refusal (Refill h flags bytes) m = if has_block h m.heap then None else refusal_of (refill_inside h flags bytes m).0
 refusal (Release h) m = None
 refusal (Cast change h) m = None
@@ -54,7 +54,7 @@ read_again h bytes (Err code) = []
 -- What a step read.
 abbrev pub read_by : Step → Memory → List (ℕ × List ℕ)
 read_by (NewFilled role flags bytes) m = read_new bytes (new_inside role flags bytes m).0
-read_by (NewEmptied role) m = []
+read_by (NewEmpty role) m = []
 read_by (Refill h flags bytes) m = if has_block h m.heap then []
     else read_again h bytes (refill_inside h flags bytes m).0
 read_by (Release h) m = []
@@ -76,23 +76,23 @@ put_reads [] bytes = bytes
 put_reads (read ∷ later) bytes = put_reads later (λ h. if read.0 == h then read.1 else bytes h)
 
 -- Whether a step disposes of a handle.
-abbrev pub lets : Step → ℕ → Bool
-lets (NewFilled role flags bytes) h = false
-lets (NewEmptied role) h = false
-lets (Refill k flags bytes) h = false
-lets (Release k) h = k == h
-lets (Cast change k) h = false
+abbrev pub step_disposes : Step → ℕ → Bool
+step_disposes (NewFilled role flags bytes) h = false
+step_disposes (NewEmpty role) h = false
+step_disposes (Refill k flags bytes) h = false
+step_disposes (Release k) h = k == h
+step_disposes (Cast change k) h = false
 
 -- Whether one of the steps of a path disposes of a handle.
-abbrev pub lets_of : List Step → ℕ → Bool
-lets_of [] h = false
-lets_of (step ∷ steps) h = lets step h || lets_of steps h
+abbrev pub steps_dispose : List Step → ℕ → Bool
+steps_dispose [] h = false
+steps_dispose (step ∷ steps) h = step_disposes step h || steps_dispose steps h
 
 -- The zone after a step that was refused: as it was, except that a master pointer block that was made for the step
 -- stays.
 abbrev pub left_zone : Step → State → List Block
 left_zone (NewFilled role flags bytes) s = slotted_zone nothing s
-left_zone (NewEmptied role) s = slotted_zone nothing s
+left_zone (NewEmpty role) s = slotted_zone nothing s
 left_zone (Refill h flags bytes) s = s.zone
 left_zone (Release h) s = s.zone
 left_zone (Cast change h) s = s.zone

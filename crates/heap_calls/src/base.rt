@@ -5,15 +5,15 @@ ghost use Rattle.block_store.specs.Find.{FindsLowestRun};
 ghost use Rattle.block_store.specs.Sparing.{purged, most_purges};
 ghost use Rattle.block_store.specs.Rest.{IsRest};
 ghost use Rattle.block_store.specs.Run.{run_spot, has_free};
-ghost use Rattle.heap_calls.specs.Inner.LookLaws.{base-ends, base-stays};
-ghost use Rattle.block_store.proofs.Emptied.Rising.{run-rises};
+ghost use Rattle.heap_calls.specs.Inner.SearchLaws.{base-ends, base-stays};
+ghost use Rattle.block_store.proofs.Purged.Rising.{run-rises};
 ghost use Rattle.heap_calls.specs.Inner.Base.{IsBaseAt, base, base_searches};
 ghost use Rattle.heap_calls.specs.Inner.Numbered.{KeepsFixed};
-ghost use Rattle.heap_calls.specs.Inner.NewSlot.{HasMore, IsMade, IsSlot, zone_searches};
+ghost use Rattle.heap_calls.specs.Inner.NewSlot.{HasMore, IsMade, TakesSlot, zone_searches};
 ghost use Rattle.heap_calls.specs.Inner.Packed.{PacksNone};
 ghost use Rattle.block_store.specs.declared.measures.TheConstants.{GREATEST_ZONE};
 
-use crate::least::{Look, any_goes, least_look};
+use crate::least::{Sought, any_goes, least_search};
 use crate::search::Room;
 use block_store::{BlockStore, MASTERS_SIZE, Sparing};
 use std::alloc::AllocError;
@@ -32,18 +32,18 @@ struct LowestRun {
     sparing: Sparing,
 }
 
-impl Look for LowestRun {
+impl Sought for LowestRun {
     type Found = u32;
 
-    ghost Allows = { λ look zone. Unit {0} };
+    ghost Allows = { λ sought zone. Unit {0} };
 
-    ghost is_there = { λ look zone k. is_some (run_spot (has_free look.bytes) (purged k look.sparing zone)) };
+    ghost is_there = { λ sought zone k. is_some (run_spot (has_free sought.bytes) (purged k sought.sparing zone)) };
 
-    ghost most = { λ look zone. most_purges look.sparing zone };
+    ghost most = { λ sought zone. most_purges sought.sparing zone };
 
-    ghost Finds = { λ look zone k found. FindsLowestRun (has_free look.bytes) (purged k look.sparing zone) found };
+    ghost Finds = { λ sought zone k found. FindsLowestRun (has_free sought.bytes) (purged k sought.sparing zone) found };
 
-    fn look<S: BlockStore>(&self, store: &S, purges: u32) -> Option<u32> {
+    fn search_after<S: BlockStore>(&self, store: &S, purges: u32) -> Option<u32> {
         store.find_run(self.bytes, purges, self.sparing)
     }
 
@@ -55,11 +55,11 @@ impl Look for LowestRun {
         store.purgeable(self.sparing)
     }
 
-    ghost rises = { λ look zone k m allows. run-rises look.bytes look.sparing zone k m };
+    ghost rises = { λ sought zone k m allows. run-rises sought.bytes sought.sparing zone k m };
 
-    ghost ends = { λ look zone k allows. base-ends look.bytes look.sparing zone k };
+    ghost ends = { λ sought zone k allows. base-ends sought.bytes sought.sparing zone k };
 
-    ghost stays = { λ look zone k found allows. base-stays look.bytes look.sparing zone k found };
+    ghost stays = { λ sought zone k found allows. base-stays sought.bytes sought.sparing zone k found };
 }
 
 /// Finds the lowest run with `bytes` free bytes, after as few purges as serve.
@@ -70,10 +70,10 @@ fn find_base<S: BlockStore>(store: &S, bytes: u32, sparing: Sparing) -> FoundRun
     ensures searches { result.purges + 1 ≡ base_searches bytes sparing (S.zone store.now) }
     ensures few { result.purges ≤ GREATEST_ZONE }
 {
-    let looked = least_look(store, &LowestRun { bytes, sparing });
+    let searched = least_search(store, &LowestRun { bytes, sparing });
     FoundRun {
-        run: looked.found,
-        purges: looked.purges,
+        run: searched.found,
+        purges: searched.purges,
     }
 }
 
@@ -143,7 +143,7 @@ pub struct Taken {
 /// Takes an unused slot for a new handle; where all slots are used, a master pointer block with 64 more is made
 /// first.
 pub fn make_slot<S: BlockStore>(store: &mut S, sparing: Sparing) -> Result<Taken, AllocError>
-    ensures slot { IfOk result (λ r. IsSlot sparing (S.zone store.old) (S.rest store.old) r.slot (S.zone store.new)
+    ensures slot { IfOk result (λ r. TakesSlot sparing (S.zone store.old) (S.rest store.old) r.slot (S.zone store.new)
         (S.rest store.new)) }
     ensures fixed { KeepsFixed (S.zone store.old) (S.zone store.new) }
     ensures kept { OnErr result (HasMore (S.rest store.old) (S.rest store.new)) }

@@ -6,7 +6,7 @@ ghost use Rattle.block_store.specs.Room.{place};
 ghost use Rattle.block_store.specs.Run.{runs};
 ghost use Rattle.block_store.specs.Rest.{KeepsSlots, counted};
 ghost use Rattle.block_store.specs.Sparing.{purged};
-ghost use Rattle.block_store.specs.Compact.{has_room, runs_settled, compacted, falls};
+ghost use Rattle.block_store.specs.Compact.{has_room, runs_settled, compacted, lowered_in_runs};
 ghost use Rattle.heap_calls.specs.Asked.{packing};
 ghost use Rattle.heap_calls.specs.Inner.Given.{seen_in_run};
 ghost use Rattle.heap_calls.specs.Answer.{max_block, compact_mem, noting};
@@ -53,7 +53,7 @@ impl<S: BlockStore> Heap<S> {
 pub fn compact<S: BlockStore>(store: &mut S, bytes: Option<u32>) -> u32
     ensures zone { S.zone store.new ≡ compacted bytes (S.zone store.old) }
     ensures moves { (S.rest store.new).moves ≡ counted (S.rest store.old).moves
-        (falls (runs_settled bytes (S.zone store.old)) (runs (S.zone store.old))) }
+        (lowered_in_runs (runs_settled bytes (S.zone store.old)) (runs (S.zone store.old))) }
     ensures rest { KeepsSlots (S.rest store.old) (S.rest store.new) }
     ensures runs { result ≡ stretches (runs_settled bytes (S.zone store.old)) (runs (S.zone store.old)) }
 {

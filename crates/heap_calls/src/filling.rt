@@ -3,7 +3,7 @@
 ghost use Rattle.std.specs.Prelude.{◌≡◌, ◌⊎◌, ◌+◌, ◌<◌, ◌≤◌, false, Err, [], map, length, IfOk, OnErr, IsErr, IsTrue};
 ghost use Rattle.std.specs.Prelude.{vec_len, vec_capacity};
 ghost use Rattle.heap_calls.specs.State.{Plain};
-ghost use Rattle.heap_calls.specs.Inside.{inside, has_block, new_inside, new_emptied_inside, refill_inside};
+ghost use Rattle.heap_calls.specs.Inside.{inside, has_block, new_inside, new_empty_inside, refill_inside};
 ghost use Rattle.heap_calls.specs.Inside.{resource_role, new_all};
 ghost use Rattle.heap_calls.specs.Inner.Given.{IsAnswer, KeepsMoves, KeepsNames};
 ghost use Rattle.heap_calls.specs.Inner.Filling.{IsSizeOf, IsFresh, IsReplaced, IsFilling, IsRefilled, refilled_moves};
@@ -64,7 +64,7 @@ impl<S: BlockStore> Heap<S> {
     /// where all master pointers are used and there is no room for a block of more. Where the host is out of memory,
     /// all but the zone stays as it was, and the whole heap does over a store that takes no host memory.
     pub fn new_empty_resource(&mut self, guarded: bool) -> Result<usize, Refusal>
-        ensures answer { IsAnswer (new_emptied_inside (resource_role guarded) self.old) result self.new }
+        ensures answer { IsAnswer (new_empty_inside (resource_role guarded) self.old) result self.new }
         ensures host { result ≡ Err Refusal.HostMemory → IsTrue S.TAKES_HOST ⊎ (self.new ≡ self.old) }
         ensures kept { result ≡ Err Refusal.HostMemory → KeepsMoves self.old self.new }
         ensures lies { self.new.window ≡ self.old.window }

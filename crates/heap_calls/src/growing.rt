@@ -8,12 +8,12 @@ ghost use Rattle.block_store.specs.Room.{spot, place, room};
 ghost use Rattle.block_store.specs.Grow.{growth, grow_mover, move_away};
 ghost use Rattle.block_store.specs.Sparing.{purged, most_purges, spared};
 ghost use Rattle.block_store.specs.Rest.{IsRest, KeepsSlots};
-ghost use Rattle.heap_calls.specs.Inner.Search.{FindsSeat, IsAt};
+ghost use Rattle.heap_calls.specs.Inner.Search.{FindsPlacement, IsAt};
 ghost use Rattle.heap_calls.specs.Inner.Growing.{FindsGrowth, growing, growing_searches, Spares, Stays, grown};
 ghost use Rattle.heap_calls.specs.Inner.Growing.{SameBlocks, IsToGrow, CanGrowUp, GrewUp};
 ghost use Rattle.heap_calls.specs.Inner.GrowingInPlace.{made_zone};
 ghost use Rattle.heap_calls.specs.Moves.{place_moves, grow_moves, room_moves};
-ghost use Rattle.heap_calls.specs.Inner.LookLaws.{growth-rises, growth-ends, growth-stays};
+ghost use Rattle.heap_calls.specs.Inner.SearchLaws.{growth-rises, growth-ends, growth-stays};
 ghost use Rattle.heap_calls.specs.Inner.Least.{CanGrow};
 ghost use Rattle.heap_calls.specs.Inner.Numbered.{KeepsFixed};
 ghost use Rattle.heap_calls.specs.Inner.Packed.{Packs};
@@ -21,8 +21,8 @@ ghost use Rattle.heap_calls.specs.Searches.{room_searches};
 ghost use Rattle.block_store.specs.declared.measures.TheConstants.{GREATEST_ZONE};
 
 use crate::growing_in_place::{Grown, bytes_at};
-use crate::least::{Look, any_goes, least_look};
-use crate::search::{Seat, seat_after};
+use crate::least::{Sought, any_goes, least_search};
+use crate::search::{Placement, placement_after};
 use block_store::{BlockStore, Sparing};
 use mac_words::phys;
 use std::alloc::AllocError;
@@ -32,7 +32,7 @@ use std::alloc::AllocError;
 #[derive(Clone, Copy)]
 pub enum Growth {
     Up,
-    Away(Seat),
+    Away(Placement),
     Last(u32),
 }
 
@@ -63,8 +63,8 @@ fn growth_after<S: BlockStore>(
     if store.room_above(number, more, purges, sparing) {
         return Some(Growth::Up);
     }
-    if let Some(seat) = seat_after(store, bytes, purges, sparing) {
-        return Some(Growth::Away(seat));
+    if let Some(placement) = placement_after(store, bytes, purges, sparing) {
+        return Some(Growth::Away(placement));
     }
     let Some(run) = store.run_of(number, more, purges, sparing) else {
         return None;
@@ -83,20 +83,20 @@ struct FirstGrowth {
     sparing: Sparing,
 }
 
-impl Look for FirstGrowth {
+impl Sought for FirstGrowth {
     type Found = Growth;
 
-    ghost Allows = { λ look zone. CanGrow look.number look.size look.bytes look.more look.sparing zone };
+    ghost Allows = { λ sought zone. CanGrow sought.number sought.size sought.bytes sought.more sought.sparing zone };
 
-    ghost is_there = { λ look zone k. is_some (grow_mover (is_relocatable look.number)
-        (grown look.size (spot (is_relocatable look.number) zone)) (purged k look.sparing zone)) };
+    ghost is_there = { λ sought zone k. is_some (grow_mover (is_relocatable sought.number)
+        (grown sought.size (spot (is_relocatable sought.number) zone)) (purged k sought.sparing zone)) };
 
-    ghost most = { λ look zone. most_purges look.sparing zone };
+    ghost most = { λ sought zone. most_purges sought.sparing zone };
 
-    ghost Finds = { λ look zone k found. FindsGrowth (is_relocatable look.number)
-        (grown look.size (spot (is_relocatable look.number) zone)) (purged k look.sparing zone) found };
+    ghost Finds = { λ sought zone k found. FindsGrowth (is_relocatable sought.number)
+        (grown sought.size (spot (is_relocatable sought.number) zone)) (purged k sought.sparing zone) found };
 
-    fn look<S: BlockStore>(&self, store: &S, purges: u32) -> Option<Growth> {
+    fn search_after<S: BlockStore>(&self, store: &S, purges: u32) -> Option<Growth> {
         growth_after(
             store,
             self.number,
@@ -116,12 +116,15 @@ impl Look for FirstGrowth {
         store.purgeable(self.sparing)
     }
 
-    ghost rises = { λ look zone k m can. growth-rises look.number look.size look.bytes look.more look.sparing zone k m
+    ghost rises = { λ sought zone k m can. growth-rises sought.number sought.size sought.bytes sought.more
+        sought.sparing zone k m
         can };
 
-    ghost ends = { λ look zone k can. growth-ends look.number look.size look.bytes look.more look.sparing zone k };
+    ghost ends = { λ sought zone k can. growth-ends sought.number sought.size sought.bytes sought.more sought.sparing
+        zone k };
 
-    ghost stays = { λ look zone k found can. growth-stays look.number look.size look.bytes look.more look.sparing zone k
+    ghost stays = { λ sought zone k found can. growth-stays sought.number sought.size sought.bytes sought.more
+        sought.sparing zone k
         found };
 }
 
@@ -151,17 +154,17 @@ pub fn find_growth<S: BlockStore>(
         (grown size (spot (is_relocatable number) (S.zone store.now))) sparing (S.zone store.now) }
     ensures few { result.purges ≤ GREATEST_ZONE }
 {
-    let look = FirstGrowth {
+    let sought = FirstGrowth {
         number,
         size,
         bytes,
         more,
         sparing,
     };
-    let looked = least_look(store, &look);
+    let searched = least_search(store, &sought);
     FoundGrowth {
-        growth: looked.found,
-        purges: looked.purges,
+        growth: searched.found,
+        purges: searched.purges,
     }
 }
 
@@ -179,19 +182,19 @@ fn grow_up<S: BlockStore>(store: &mut S, number: u32, size: u32) -> Result<(), A
     store.resize(place, size)
 }
 
-/// Returns the place that a seat stands for, once the run of the seat, if it is a run, is packed.
-fn pack_seat<S: BlockStore>(store: &mut S, bytes: u32, seat: Seat) -> u32
+/// Returns the place that a placement stands for, once the run of the placement, if it is a run, is packed.
+fn pack_placement<S: BlockStore>(store: &mut S, bytes: u32, placement: Placement) -> u32
     requires positive { 0 < bytes }
-    requires found { FindsSeat bytes (S.zone store.old) (Some seat) }
+    requires found { FindsPlacement bytes (S.zone store.old) (Some placement) }
     ensures place { IsAt (place bytes (S.zone store.old)) (S.zone store.new) (Some result) }
     ensures blocks { SameBlocks (S.zone store.old) (S.zone store.new) }
     ensures fixed { KeepsFixed (S.zone store.old) (S.zone store.new) }
     ensures rest { KeepsSlots (S.rest store.old) (S.rest store.new) }
     ensures moves { Packs (place_moves bytes (S.zone store.old)) (S.rest store.old) (S.rest store.new) }
 {
-    let run = match seat {
-        Seat::Free(place) => return place,
-        Seat::Run(run) => run,
+    let run = match placement {
+        Placement::Free(place) => return place,
+        Placement::Run(run) => run,
     };
     store.settle(run);
     let Some(place) = store.find_free(bytes, 0, Sparing::Nothing) else {
@@ -206,12 +209,12 @@ fn grow_away<S: BlockStore>(
     number: u32,
     size: u32,
     bytes: u32,
-    seat: Seat,
+    placement: Placement,
 ) -> Result<(), AllocError>
     requires takes { size_of (grown size (spot (is_relocatable number) (S.zone store.old))) ≡ bytes }
     requires positive { 0 < bytes }
     requires found { FindsGrowth (is_relocatable number) (grown size (spot (is_relocatable number) (S.zone store.old)))
-        (S.zone store.old) (Some (Growth.Away seat)) }
+        (S.zone store.old) (Some (Growth.Away placement)) }
     ensures ok { OnOk result (grow_mover (is_relocatable number)
         (grown size (spot (is_relocatable number) (S.zone store.old))) (S.zone store.old) ≡ Some (S.zone store.new)) }
     ensures fixed { KeepsFixed (S.zone store.old) (S.zone store.new) }
@@ -220,7 +223,7 @@ fn grow_away<S: BlockStore>(
         (spot (is_relocatable number) (S.zone store.old))) (S.zone store.old)) (S.rest store.old) (S.rest store.new) }
     ensures host { IsErr result → IsTrue S.TAKES_HOST }
 {
-    let place = pack_seat(store, bytes, seat);
+    let place = pack_placement(store, bytes, placement);
     store.move_to(place, number, size)
 }
 
@@ -271,7 +274,7 @@ fn carry_out<S: BlockStore>(
 {
     match growth {
         Growth::Up => grow_up(store, number, size),
-        Growth::Away(seat) => grow_away(store, number, size, bytes, seat),
+        Growth::Away(placement) => grow_away(store, number, size, bytes, placement),
         Growth::Last(run) => grow_as_last(store, number, size, run),
     }
 }

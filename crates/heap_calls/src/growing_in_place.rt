@@ -11,13 +11,13 @@ ghost use Rattle.block_store.specs.Grow.{grow_fixed};
 ghost use Rattle.block_store.specs.Sparing.{spared};
 ghost use Rattle.block_store.specs.Rest.{IsRest};
 ghost use Rattle.heap_calls.specs.Inner.GrowingInPlace.{made_zone, enough, seen_size, room_at, FindsPurges, pushed_up};
-ghost use Rattle.heap_calls.specs.Inner.LookLaws.{above-rises, above-ends};
+ghost use Rattle.heap_calls.specs.Inner.SearchLaws.{above-rises, above-ends};
 ghost use Rattle.heap_calls.specs.Inner.Least.{IsMost, enough_above};
 ghost use Rattle.heap_calls.specs.Inner.Numbered.{KeepsFixed};
 ghost use Rattle.heap_calls.specs.Searches.{room_searches, in_place_searches};
 ghost use Rattle.block_store.specs.declared.measures.TheConstants.{GREATEST_ZONE};
 
-use crate::least::{Look, least_look};
+use crate::least::{Sought, least_search};
 use block_store::{BlockStore, MASTERS_SIZE, Seen, Sparing};
 use mac_words::phys;
 use std::alloc::AllocError;
@@ -140,18 +140,18 @@ struct RunAbove {
     most: u32,
 }
 
-impl Look for RunAbove {
+impl Sought for RunAbove {
     type Found = ();
 
-    ghost Allows = { λ look zone. IsMost look.most look.sparing (spot_at look.place zone) };
+    ghost Allows = { λ sought zone. IsMost sought.most sought.sparing (spot_at sought.place zone) };
 
-    ghost is_there = { λ look zone k. enough_above look.bytes k look.sparing (spot_at look.place zone) };
+    ghost is_there = { λ sought zone k. enough_above sought.bytes k sought.sparing (spot_at sought.place zone) };
 
-    ghost most = { λ look zone. look.most };
+    ghost most = { λ sought zone. sought.most };
 
-    ghost Finds = { λ look zone k found. Unit {0} };
+    ghost Finds = { λ sought zone k found. Unit {0} };
 
-    fn look<S: BlockStore>(&self, store: &S, purges: u32) -> Option<()> {
+    fn search_after<S: BlockStore>(&self, store: &S, purges: u32) -> Option<()> {
         if store.run_after(self.place, self.bytes, purges, self.sparing) {
             Some(())
         } else {
@@ -167,12 +167,13 @@ impl Look for RunAbove {
         self.most
     }
 
-    ghost rises = { λ look zone k m allows. above-rises look.bytes look.sparing (spot_at look.place zone) k m };
+    ghost rises = { λ sought zone k m allows. above-rises sought.bytes sought.sparing (spot_at sought.place zone) k m };
 
-    ghost ends = { λ look zone k allows. above-ends look.bytes look.most look.sparing (spot_at look.place zone) k
+    ghost ends = { λ sought zone k allows. above-ends sought.bytes sought.most sought.sparing
+        (spot_at sought.place zone) k
         allows };
 
-    ghost stays = { λ look zone k found allows le there. there };
+    ghost stays = { λ sought zone k found allows le there. there };
 }
 
 /// Finds the least number of blocks to purge from the run above the block at `place` so that the run has `bytes` free
@@ -185,22 +186,22 @@ fn least_purges<S: BlockStore>(store: &S, place: u32, bytes: u32, sparing: Spari
         (λ s. result.searches ≡ room_searches (enough bytes) (spared sparing) (segments s.above).first) }
 {
     let most = store.purgeable_after(place, sparing);
-    let look = RunAbove {
+    let sought = RunAbove {
         place,
         bytes,
         sparing,
         most,
     };
-    let looked = least_look(store, &look);
-    let searches = looked.purges + 1;
-    let Some(()) = looked.found else {
+    let searched = least_search(store, &sought);
+    let searches = searched.purges + 1;
+    let Some(()) = searched.found else {
         return Fewest {
             purges: None,
             searches,
         };
     };
     Fewest {
-        purges: Some(looked.purges),
+        purges: Some(searched.purges),
         searches,
     }
 }

@@ -141,8 +141,8 @@ impl<S: BlockStore> Heap<S> {
     pub fn searches(&self) -> u64
         ensures { result ≡ self.now.log.searches }
     {
-        let looks = self.log;
-        looks.searches
+        let log = self.log;
+        log.searches
     }
 
     /// Returns how many blocks compaction has moved down; the count stays at its greatest value once it is there. A

@@ -11,7 +11,7 @@ ghost use Rattle.heap_calls.specs.Busy.{idle, served, NoneGuarded};
 ghost use Rattle.heap_calls.specs.Counts.{CountsSearches, CountsMoves};
 ghost use Rattle.heap_calls.specs.History.{after_calls};
 ghost use Rattle.heap_calls.specs.Locked.{OneBlockEach};
-ghost use Rattle.heap_calls.specs.Looks.{LooksFew};
+ghost use Rattle.heap_calls.specs.FewSearches.{SearchesFew};
 ghost use Rattle.heap_calls.specs.Lowering.{CompactCountsLowered, CompactRaisesNone, MaxCountsLowered, MaxRaisesNone};
 ghost use Rattle.heap_calls.specs.Refused.{RefusedLeaves, BarredLeaves};
 ghost use Rattle.heap_calls.specs.Staying.{ease, Parted, RefusedKeepsNoMore, LessStaysLater, KeepsBytes, KeepsMasters};
@@ -42,8 +42,8 @@ pub fn a_call_is_counted()
 /// Each try of a call makes at most one more search for room than there are blocks at its start, where one of the
 /// blocks is a master pointer block.
 #[tactic(auto, using(crate::proofs::Tries::Counting::try_few))]
-pub fn a_call_looks_few_times()
-    ensures { (asked : Asked) (m : Memory) → 0 < count is_masters m.heap.zone → LooksFew asked m }
+pub fn a_call_searches_few_times()
+    ensures { (asked : Asked) (m : Memory) → 0 < count is_masters m.heap.zone → SearchesFew asked m }
 {}
 
 /// The zone of each heap has a master pointer block; none of its free blocks has a size of 0 bytes, and no two of them
@@ -52,7 +52,7 @@ pub fn a_call_looks_few_times()
 pub fn a_heap_looks_few_times<S: BlockStore>(heap: &Heap<S>)
     ensures masters { 0 < count is_masters heap.now.heap.zone }
     ensures tidied { tidy heap.now.heap.zone ≡ heap.now.heap.zone }
-    ensures looks { (asked : Asked) → LooksFew asked heap.now }
+    ensures searches { (asked : Asked) → SearchesFew asked heap.now }
 {
     // The invariant is known once a field is read.
     let _ = &heap.store;

@@ -3,7 +3,7 @@
 ghost use Rattle.std.specs.Prelude.{◌≡◌, ◌≢◌};
 ghost use Rattle.heap_calls.specs.Busy.{barred, unless};
 ghost use Rattle.heap_calls.specs.Inner.Given.{IsAnswer, seen_mover};
-ghost use Rattle.heap_calls.specs.Answer.{h_lock, h_unlock, move_hhi, hlock_hi, noting, silent};
+ghost use Rattle.heap_calls.specs.Answer.{h_lock, h_unlock, move_h_hi, h_lock_hi, noting, silent};
 
 use crate::anchor::slot_of;
 use crate::heap::Heap;
@@ -41,8 +41,8 @@ impl<S: BlockStore> Heap<S> {
 
     /// `MoveHHi`: moves the block of a handle to the top of its run of movable blocks. Returns -117 (memLockedErr)
     /// where the block is locked.
-    pub fn move_hhi(&mut self, handle: Option<usize>) -> Result<(), Refusal>
-        ensures answer { IsAnswer (unless (barred handle self.old) (noting (move_hhi handle)) self.old)
+    pub fn move_h_hi(&mut self, handle: Option<usize>) -> Result<(), Refusal>
+        ensures answer { IsAnswer (unless (barred handle self.old) (noting (move_h_hi handle)) self.old)
             result self.new }
         ensures host { result ≢ Err Refusal.HostMemory }
         ensures lies { self.new.window ≡ self.old.window }
@@ -56,8 +56,8 @@ impl<S: BlockStore> Heap<S> {
 
     /// `HLockHi`: moves the block of a handle to the top of its run of movable blocks, as `MoveHHi` does, and locks
     /// the block there. Returns -117 (memLockedErr) where the block is locked already.
-    pub fn hlock_hi(&mut self, handle: Option<usize>) -> Result<(), Refusal>
-        ensures answer { IsAnswer (unless (barred handle self.old) (noting (hlock_hi handle)) self.old)
+    pub fn h_lock_hi(&mut self, handle: Option<usize>) -> Result<(), Refusal>
+        ensures answer { IsAnswer (unless (barred handle self.old) (noting (h_lock_hi handle)) self.old)
             result self.new }
         ensures host { result ≢ Err Refusal.HostMemory }
         ensures lies { self.new.window ≡ self.old.window }
@@ -71,7 +71,7 @@ impl<S: BlockStore> Heap<S> {
 
     /// Moves the block of a handle to the top of its run.
     fn move_high(&mut self, handle: Option<usize>) -> Result<(), Refusal>
-        ensures answer { IsAnswer (silent (move_hhi handle) self.old) result self.new }
+        ensures answer { IsAnswer (silent (move_h_hi handle) self.old) result self.new }
         ensures host { result ≢ Err Refusal.HostMemory }
         ensures lies { self.new.window ≡ self.old.window }
     {
@@ -91,7 +91,7 @@ impl<S: BlockStore> Heap<S> {
 
     /// Moves the block of a handle to the top of its run, and locks the block there.
     pub(crate) fn lock_high(&mut self, handle: Option<usize>) -> Result<(), Refusal>
-        ensures answer { IsAnswer (silent (hlock_hi handle) self.old) result self.new }
+        ensures answer { IsAnswer (silent (h_lock_hi handle) self.old) result self.new }
         ensures host { result ≢ Err Refusal.HostMemory }
         ensures lies { self.new.window ≡ self.old.window }
     {

@@ -5,8 +5,8 @@ ghost use Rattle.block_store.specs.Block.{free_sum};
 ghost use Rattle.block_store.specs.Compact.{has_room};
 ghost use Rattle.block_store.specs.Sparing.{purged, most_purges};
 ghost use Rattle.block_store.specs.declared.sparing.Sparing.TheVariants.{Nothing};
-ghost use Rattle.heap_calls.specs.Inner.LookLaws.{room-ends};
-ghost use Rattle.block_store.proofs.Emptied.Rising.{has_room-rises};
+ghost use Rattle.heap_calls.specs.Inner.SearchLaws.{room-ends};
+ghost use Rattle.block_store.proofs.Purged.Rising.{has_room-rises};
 ghost use Rattle.heap_calls.specs.Inner.Given.{IsAnswer};
 ghost use Rattle.heap_calls.specs.Answer.{noting, silent, searching, moving};
 ghost use Rattle.heap_calls.specs.Purging.{blocks_purged, purged_all, purge_mem, purge_space, max_mem};
@@ -16,7 +16,7 @@ ghost use Rattle.heap_calls.specs.Searches.{purge_mem_searches};
 use crate::compaction::{compact, has_room};
 use crate::growing_in_place::Grown;
 use crate::heap::Heap;
-use crate::least::{Look, any_goes, least_look};
+use crate::least::{Sought, any_goes, least_search};
 use crate::refusal::Refusal;
 use block_store::{BlockStore, GREATEST_ZONE, HEADER_SIZE, Sparing};
 use mac_words::{OsErr, phys};
@@ -60,7 +60,7 @@ impl<S: BlockStore> Heap<S> {
     }
 
     /// Returns the number of bytes that are free or belong to blocks that may be purged.
-    pub fn to_be_had(&self) -> u32
+    pub fn free_or_purgeable(&self) -> u32
         ensures { result ≡ free_sum (purged_all self.now.heap.zone) }
     {
         self.store.free_after(GREATEST_ZONE, Sparing::Nothing)
@@ -103,18 +103,18 @@ struct FreeBlock {
     bytes: Option<u32>,
 }
 
-impl Look for FreeBlock {
+impl Sought for FreeBlock {
     type Found = ();
 
-    ghost Allows = { λ look zone. Unit {0} };
+    ghost Allows = { λ sought zone. Unit {0} };
 
-    ghost is_there = { λ look zone k. has_room look.bytes (purged k Nothing zone) };
+    ghost is_there = { λ sought zone k. has_room sought.bytes (purged k Nothing zone) };
 
-    ghost most = { λ look zone. most_purges Nothing zone };
+    ghost most = { λ sought zone. most_purges Nothing zone };
 
-    ghost Finds = { λ look zone k found. Unit {0} };
+    ghost Finds = { λ sought zone k found. Unit {0} };
 
-    fn look<S: BlockStore>(&self, store: &S, purges: u32) -> Option<()> {
+    fn search_after<S: BlockStore>(&self, store: &S, purges: u32) -> Option<()> {
         if has_room(store, self.bytes, purges) {
             Some(())
         } else {
@@ -130,11 +130,11 @@ impl Look for FreeBlock {
         store.purgeable(Sparing::Nothing)
     }
 
-    ghost rises = { λ look zone k m allows. has_room-rises look.bytes Nothing zone k m };
+    ghost rises = { λ sought zone k m allows. has_room-rises sought.bytes Nothing zone k m };
 
-    ghost ends = { λ look zone k allows. room-ends look.bytes Nothing zone k };
+    ghost ends = { λ sought zone k allows. room-ends sought.bytes Nothing zone k };
 
-    ghost stays = { λ look zone k found allows le there. there };
+    ghost stays = { λ sought zone k found allows le there. there };
 }
 
 /// Returns how many blocks are purged, lowest first, until a free block of `bytes` bytes stands; the number of all
@@ -144,5 +144,5 @@ impl Look for FreeBlock {
 fn purges_for<S: BlockStore>(store: &S, bytes: Option<u32>) -> u32
     ensures { result ≡ blocks_purged bytes (S.zone store.now) }
 {
-    least_look(store, &FreeBlock { bytes }).purges
+    least_search(store, &FreeBlock { bytes }).purges
 }

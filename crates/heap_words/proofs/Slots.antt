@@ -1,41 +1,41 @@
 -- A slot and its number. For callers.
 use Rattle.std.proofs.Common.{◌≡◌, inl, inr, refl, ap, arith, true, false, None, Some}
-use Rattle.heap_words.specs.Slots.{slot_number, IsSlot, IsSlotNumber}
+use Rattle.heap_words.specs.Slots.{slot_number, IsSlotWord, IsSlotNumber}
 use Rattle.heap_words.specs.declared.slot.SlotWord.{SlotWord}
-use Rattle.heap_words.specs.declared.slot.SlotWord.TheVariants.{Block, Emptied, Unused}
+use Rattle.heap_words.specs.declared.slot.SlotWord.TheVariants.{Block, Empty, Unused}
 
 -- the number of a slot is one that can be read
-pub slot_reads_as : (s : SlotWord) → IsSlot s → IsSlotNumber (slot_number s)
+pub slot_reads_as : (s : SlotWord) → IsSlotWord s → IsSlotNumber (slot_number s)
 slot_reads_as (Block at) h = inl h
-slot_reads_as (Emptied true) h = inr (inr (inl refl))
-slot_reads_as (Emptied false) h = inr (inl refl)
+slot_reads_as (Empty true) h = inr (inr (inl refl))
+slot_reads_as (Empty false) h = inr (inl refl)
 slot_reads_as (Unused None) h = inr (inr (inr refl))
 slot_reads_as (Unused (Some next)) h = inr (inr (inr (omega arith)))
 
 -- a slot is told by its number
-pub same_slot : (s t : SlotWord) → IsSlot s → IsSlot t → slot_number s ≡ slot_number t → s ≡ t
+pub same_slot : (s t : SlotWord) → IsSlotWord s → IsSlotWord t → slot_number s ≡ slot_number t → s ≡ t
 same_slot (Block m) (Block n) h k e = ap Block e
-same_slot (Block m) (Emptied true) h k e = absurd (omega (arith, h.0, e))
-same_slot (Block m) (Emptied false) h k e = absurd (omega (arith, h.0, e))
+same_slot (Block m) (Empty true) h k e = absurd (omega (arith, h.0, e))
+same_slot (Block m) (Empty false) h k e = absurd (omega (arith, h.0, e))
 same_slot (Block m) (Unused None) h k e = absurd (omega (arith, h.0, e))
 same_slot (Block m) (Unused (Some n)) h k e = absurd (omega (arith, h.0, e))
-same_slot (Emptied true) (Block n) h k e = absurd (omega (arith, k.0, e))
-same_slot (Emptied true) (Emptied true) h k e = refl
-same_slot (Emptied true) (Emptied false) h k e = absurd (omega (arith, e))
-same_slot (Emptied true) (Unused None) h k e = absurd (omega (arith, e))
-same_slot (Emptied true) (Unused (Some n)) h k e = absurd (omega (arith, e))
-same_slot (Emptied false) (Block n) h k e = absurd (omega (arith, k.0, e))
-same_slot (Emptied false) (Emptied true) h k e = absurd (omega (arith, e))
-same_slot (Emptied false) (Emptied false) h k e = refl
-same_slot (Emptied false) (Unused None) h k e = absurd (omega (arith, e))
-same_slot (Emptied false) (Unused (Some n)) h k e = absurd (omega (arith, e))
+same_slot (Empty true) (Block n) h k e = absurd (omega (arith, k.0, e))
+same_slot (Empty true) (Empty true) h k e = refl
+same_slot (Empty true) (Empty false) h k e = absurd (omega (arith, e))
+same_slot (Empty true) (Unused None) h k e = absurd (omega (arith, e))
+same_slot (Empty true) (Unused (Some n)) h k e = absurd (omega (arith, e))
+same_slot (Empty false) (Block n) h k e = absurd (omega (arith, k.0, e))
+same_slot (Empty false) (Empty true) h k e = absurd (omega (arith, e))
+same_slot (Empty false) (Empty false) h k e = refl
+same_slot (Empty false) (Unused None) h k e = absurd (omega (arith, e))
+same_slot (Empty false) (Unused (Some n)) h k e = absurd (omega (arith, e))
 same_slot (Unused None) (Block n) h k e = absurd (omega (arith, k.0, e))
-same_slot (Unused None) (Emptied true) h k e = absurd (omega (arith, e))
-same_slot (Unused None) (Emptied false) h k e = absurd (omega (arith, e))
+same_slot (Unused None) (Empty true) h k e = absurd (omega (arith, e))
+same_slot (Unused None) (Empty false) h k e = absurd (omega (arith, e))
 same_slot (Unused None) (Unused None) h k e = refl
 same_slot (Unused None) (Unused (Some n)) h k e = absurd (omega (arith, k.0, e))
 same_slot (Unused (Some m)) (Block n) h k e = absurd (omega (arith, k.0, e))
-same_slot (Unused (Some m)) (Emptied true) h k e = absurd (omega (arith, e))
-same_slot (Unused (Some m)) (Emptied false) h k e = absurd (omega (arith, e))
+same_slot (Unused (Some m)) (Empty true) h k e = absurd (omega (arith, e))
+same_slot (Unused (Some m)) (Empty false) h k e = absurd (omega (arith, e))
 same_slot (Unused (Some m)) (Unused None) h k e = absurd (omega (arith, h.0, e))
 same_slot (Unused (Some m)) (Unused (Some n)) h k e = let f : m ≡ n = omega (arith, e) in ap (λ i. Unused (Some i)) f

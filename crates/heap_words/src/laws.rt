@@ -6,7 +6,7 @@ ghost use Rattle.heap_words.specs.Headers.{header_bytes};
 ghost use Rattle.heap_words.specs.Words.{word};
 ghost use Rattle.heap_words.specs.declared.header.TheConstants.{HEADER};
 ghost use Rattle.heap_words.specs.declared.word.TheConstants.{UNIT};
-ghost use Rattle.heap_words.specs.Slots.{IsSlot, slot_number};
+ghost use Rattle.heap_words.specs.Slots.{IsSlotWord, slot_number};
 
 use crate::header::{Header, read_header, write_header};
 use crate::slot::{SlotWord, read_slot, write_slot};
@@ -37,7 +37,7 @@ pub fn header_read_again(part: &mut Part, at: u32, header: Header) -> Header
 pub fn slot_read_again(part: &mut Part, at: u32, slot: SlotWord) -> SlotWord
     requires multiple { at % 4 ≡ 0 }
     requires inside { at + 4 ≤ length part.old.bytes }
-    requires slot { IsSlot slot }
+    requires slot { IsSlotWord slot }
     requires small { slot_number slot < 2 ^ 32 }
     ensures same_home { part.new.home ≡ part.old.home }
     ensures same_place { part.new.at ≡ part.old.at }

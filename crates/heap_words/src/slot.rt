@@ -1,17 +1,17 @@
 //! The slot of a master pointer.
 ghost use Rattle.std.specs.Prelude.{◌≡◌, ◌+◌, ◌*◌, ◌%◌, ◌≤◌, ◌<◌, ◌^◌, length};
 ghost use Rattle.windows.specs.Writes.{written};
-ghost use Rattle.heap_words.specs.Slots.{IsSlot, IsSlotNumber, slot_number};
+ghost use Rattle.heap_words.specs.Slots.{IsSlotWord, IsSlotNumber, slot_number};
 ghost use Rattle.heap_words.specs.Words.{word, word_at};
 
 use crate::word::{UNIT, read_word, write_word};
 use raw_region::Part;
 
 // The word of the slot of an empty handle.
-const EMPTIED: u32 = 2;
+const EMPTY: u32 = 2;
 
 // The word of the slot of a resource's empty handle.
-const EMPTIED_RESOURCE: u32 = 18;
+const EMPTY_RESOURCE: u32 = 18;
 
 // The word of an unused slot that no other unused slot follows.
 const LAST_UNUSED: u32 = 1;
@@ -22,19 +22,19 @@ pub enum SlotWord {
     /// The place of the slot's block, a multiple of `UNIT` that is not 0.
     Block(u32),
     /// NIL: the handle's block was purged or emptied. The flag says whether the block was a resource.
-    Emptied(bool),
+    Empty(bool),
     /// The slot is unused. It holds the place of the next unused slot, if another follows.
     Unused(Option<u32>),
 }
 
 fn number_of(slot: SlotWord) -> u32
-    requires { IsSlot slot }
+    requires { IsSlotWord slot }
     ensures { result ≡ slot_number slot }
 {
     match slot {
         SlotWord::Block(at) => at,
-        SlotWord::Emptied(true) => EMPTIED_RESOURCE,
-        SlotWord::Emptied(false) => EMPTIED,
+        SlotWord::Empty(true) => EMPTY_RESOURCE,
+        SlotWord::Empty(false) => EMPTY,
         SlotWord::Unused(None) => LAST_UNUSED,
         SlotWord::Unused(Some(next)) => UNIT * next + LAST_UNUSED,
     }
@@ -43,12 +43,12 @@ fn number_of(slot: SlotWord) -> u32
 fn slot_of(number: u32) -> SlotWord
     requires { IsSlotNumber number }
     ensures number { slot_number result ≡ number }
-    ensures kept { IsSlot result }
+    ensures kept { IsSlotWord result }
 {
     match number {
         LAST_UNUSED => SlotWord::Unused(None),
-        EMPTIED => SlotWord::Emptied(false),
-        EMPTIED_RESOURCE => SlotWord::Emptied(true),
+        EMPTY => SlotWord::Empty(false),
+        EMPTY_RESOURCE => SlotWord::Empty(true),
         _ if number % UNIT == 0 => SlotWord::Block(number),
         _ => SlotWord::Unused(Some(number / UNIT)),
     }
@@ -60,7 +60,7 @@ pub fn read_slot(part: &Part, at: u32) -> SlotWord
     requires inside { at + 4 ≤ length part.now.bytes }
     requires slot { IsSlotNumber (word_at at part.now.bytes) }
     ensures number { slot_number result ≡ word_at at part.now.bytes }
-    ensures kept { IsSlot result }
+    ensures kept { IsSlotWord result }
 {
     slot_of(read_word(part, at as usize))
 }
@@ -69,7 +69,7 @@ pub fn read_slot(part: &Part, at: u32) -> SlotWord
 pub fn write_slot(part: &mut Part, at: u32, slot: SlotWord)
     requires multiple { at % 4 ≡ 0 }
     requires inside { at + 4 ≤ length part.old.bytes }
-    requires slot { IsSlot slot }
+    requires slot { IsSlotWord slot }
     ensures same_home { part.new.home ≡ part.old.home }
     ensures same_place { part.new.at ≡ part.old.at }
     ensures same_length { length part.new.bytes ≡ length part.old.bytes }

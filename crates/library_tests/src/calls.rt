@@ -39,7 +39,7 @@ pub enum Question {
     Searches,
     /// The number of blocks that were moved.
     Moves,
-    ToBeHad,
+    FreeOrPurgeable,
 }
 
 /// The result of a call.
@@ -107,7 +107,7 @@ fn answer_about(heap: &Heap<ListStore>, question: Question) -> Answer {
     match question {
         Question::Searches => Answer::Number(heap.searches()),
         Question::Moves => Answer::Number(heap.moves()),
-        Question::ToBeHad => Answer::Number(u64::from(heap.to_be_had())),
+        Question::FreeOrPurgeable => Answer::Number(u64::from(heap.free_or_purgeable())),
     }
 }
 
@@ -127,7 +127,7 @@ fn answer_to(heap: &mut Heap<ListStore>, call: Call) -> Answer {
         Call::EmptyHandle(handle) => done(heap.empty_handle(handle)),
         Call::HLock(handle) => done(heap.h_lock(handle)),
         Call::HPurge(handle) => done(heap.h_purge(handle)),
-        Call::MoveHHi(handle) => done(heap.move_hhi(handle)),
+        Call::MoveHHi(handle) => done(heap.move_h_hi(handle)),
         Call::HandAndHand(from, to) => done(heap.hand_and_hand(from, to)),
         Call::NewPointer(size) => made(heap.new_pointer(size)),
         Call::CompactMem(size) => Answer::Number(u64::from(heap.compact_mem(size))),

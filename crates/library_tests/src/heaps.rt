@@ -1,6 +1,8 @@
 //! Calls of a heap over a list of blocks, with the values of the worked examples.
 
-use crate::calls::{A, B, BARRED, BUSY, C, Call, FULL, NIL, Question, Answer, WRONG, assert_answers};
+use crate::calls::{
+    A, Answer, B, BARRED, BUSY, C, Call, FULL, NIL, Question, WRONG, assert_answers,
+};
 use mac_words::OsErr;
 use std::test::Fail;
 
@@ -8,7 +10,7 @@ const SEARCHES: Call = Call::Ask(Question::Searches);
 
 const MOVES: Call = Call::Ask(Question::Moves);
 
-const TO_BE_HAD: Call = Call::Ask(Question::ToBeHad);
+const FREE_OR_PURGEABLE: Call = Call::Ask(Question::FreeOrPurgeable);
 
 #[test]
 fn searches_for_room_are_counted(rt: HostRuntime) -> Result<(), Fail> {
@@ -63,15 +65,15 @@ fn blocks_that_packing_moves_down_are_counted(rt: HostRuntime) -> Result<(), Fai
 #[test]
 fn free_and_purgeable_bytes_are_counted(rt: HostRuntime) -> Result<(), Fail> {
     const ROWS: &[(Call, Answer)] = &[
-        (TO_BE_HAD, Answer::Number(752)),
+        (FREE_OR_PURGEABLE, Answer::Number(752)),
         (Call::NewHandle(100), Answer::Made(0)),
         (Call::NewHandle(100), Answer::Made(1)),
-        (TO_BE_HAD, Answer::Number(496)),
+        (FREE_OR_PURGEABLE, Answer::Number(496)),
         (Call::HPurge(A), Answer::Done),
-        (TO_BE_HAD, Answer::Number(624)),
+        (FREE_OR_PURGEABLE, Answer::Number(624)),
         (Call::HPurge(B), Answer::Done),
         (Call::HLock(B), Answer::Done),
-        (TO_BE_HAD, Answer::Number(624)),
+        (FREE_OR_PURGEABLE, Answer::Number(624)),
     ];
     Ok(assert_answers(&rt, rt.alloc(), ROWS, false)?)
 }
@@ -180,7 +182,7 @@ fn a_call_that_was_refused_memory_is_made_again(rt: HostRuntime) {
         (Call::NewHandle(20), Answer::Made(1)),
         (Call::SetHandleSize(A, 40), Answer::Done),
         (Call::SetHandleSize(A, 4), Answer::Done),
-        (TO_BE_HAD, Answer::Number(672)),
+        (FREE_OR_PURGEABLE, Answer::Number(672)),
         (Call::HandAndHand(B, A), Answer::Done),
         (Call::GetHandleSize(A), Answer::Number(24)),
         // The run is packed upward to make room for a pointer.

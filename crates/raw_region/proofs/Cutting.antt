@@ -12,7 +12,7 @@ use Rattle.raw_region.specs.Gaps.{bytes_of, windows_of, window_of, gap_ends_by, 
 use Rattle.raw_region.specs.Gaps.{back, EndsFit}
 use Rattle.raw_region.specs.Regions.{region_view, IsRegion}
 use Rattle.raw_region.specs.declared.region.Region.TheInside.{Inside}
-use Rattle.raw_region.specs.declared.raw.Run.{Run}
+use Rattle.raw_region.specs.declared.raw.OwnBytes.{OwnBytes}
 use Rattle.raw_region.specs.declared.gaps.Gap.{Gap}
 use Rattle.raw_region.proofs.GapBytes.{round, opened_laid, opened_length, opened_bytes, middle_bytes, middle_at}
 use Rattle.raw_region.proofs.GapBytes.{middle_home}
@@ -127,7 +127,7 @@ parted r at len i =
     take i r.gaps.items ++ front at g ∷ back at len g ∷ drop (i + 1) r.gaps.items
 
 -- a window of r, which is seen as w, can be taken from the bytes after the i-th gap, and this is what is then there
-pub record Parts (r : Inside) (w : Whole) (at len i : ℕ) : Type 0 where
+pub record CanPart (r : Inside) (w : Whole) (at len i : ℕ) : Type 0 where
   pub there : i < vec_len r.gaps
   pub room : vec_len r.gaps < vec_capacity r.gaps
   pub fits : (d : Gap) → Fits at len (get_or r.gaps.items i d)
@@ -136,7 +136,7 @@ pub record Parts (r : Inside) (w : Whole) (at len i : ℕ) : Type 0 where
   pub out : windows_of (parted r at len i) ≡ with_window at len w.out
   pub region : (s : Inside) → s.frame ≡ r.frame → s.home ≡ r.home → s.len ≡ r.len → s.gaps.items ≡ parted r at len i
       → vec_capacity s.gaps ≡ vec_capacity r.gaps → IsRegion s
-  pub run : (run : Run) → run ≡ middle at len (get_or r.gaps.items i none)
+  pub run : (run : OwnBytes) → run ≡ middle at len (get_or r.gaps.items i none)
       → (run.home ≡ w.home) × (run.at ≡ at) × (run.items ≡ take len (drop at w.bytes))
   pub run_long : length (take len (drop at w.bytes)) ≡ len
 
@@ -160,7 +160,7 @@ module _ (r : Inside) (I : IsRegion r) (w : Whole) (v : region_view r ≡ w) (at
   whole : length (bytes_of (parted r at len (n - 1))) ≡ r.frame.len
   whole = cut_whole r I at len some fills clear (n - 1) place
 
-  pub parts : Parts r w at len (n - 1)
+  pub parts : CanPart r w at len (n - 1)
   parts = record {
     there = space.0;
     room = space.1;

@@ -6,7 +6,7 @@ use Rattle.std.proofs.lemmas.List.{length-replicate, length-drop, length-take-le
 use denote.RawPtr.{Ptr}
 use Rattle.windows.specs.Writes.{written}
 use Rattle.raw_region.specs.Gaps.{bytes_of, IsLaid, Fits, front, middle, back, before, Beside, joined}
-use Rattle.raw_region.specs.declared.raw.Run.{Run}
+use Rattle.raw_region.specs.declared.raw.OwnBytes.{OwnBytes}
 use Rattle.raw_region.specs.declared.gaps.Gap.{Gap}
 
 pub bytes_of-append : (xs ys : List Gap) → bytes_of (xs ++ ys) ≡ bytes_of xs ++ bytes_of ys
@@ -173,7 +173,7 @@ module _ (h : Ptr) (pre : List Gap) (g : Gap) (post : List Gap) (at len : ℕ) (
       )
 
 -- bytes that come home between those after a and those after b
-module _ (h : Ptr) (pre : List Gap) (a : Gap) (r : Run) (b : Gap) (post : List Gap)
+module _ (h : Ptr) (pre : List Gap) (a : Gap) (r : OwnBytes) (b : Gap) (post : List Gap)
     (laid : IsLaid h 0 (pre ++ a ∷ b ∷ post)) (long : length r.items ≡ b.len) where
   abbrev Q : List ℕ
   Q = b.after.items ++ bytes_of post

@@ -14,7 +14,7 @@ use Rattle.windows.proofs.Ordered.{below_cond}
 use Rattle.windows.specs.Windows.{window, is_window, IsApart, InOrder}
 use Rattle.raw_region.specs.Gaps.{bytes_of, windows_of, window_of, gap_ends_by, gap_is, IsLaid, IsStart, Fits, front}
 use Rattle.raw_region.specs.Gaps.{back, joined, EndsFit}
-use Rattle.raw_region.specs.declared.raw.Run.{Run}
+use Rattle.raw_region.specs.declared.raw.OwnBytes.{OwnBytes}
 use Rattle.raw_region.specs.declared.gaps.Gap.{Gap}
 use Rattle.raw_region.proofs.GapBytes.{ends_within, span}
 
@@ -49,7 +49,7 @@ opened_windows at len (s ∷ ts) (suc i) d h =
     ∙ ap (λ k. take k ws ++ window at len ∷ drop k ws) (one i)
 
 -- the windows once the one at i + 1 goes
-pub shut_windows : (gs : List Gap) (i : ℕ) (r : Run) (d : Gap) → i + 1 < length gs
+pub shut_windows : (gs : List Gap) (i : ℕ) (r : OwnBytes) (d : Gap) → i + 1 < length gs
     → windows_of (take i gs ++ joined (get_or gs i d) r (get_or gs (i + 1) d) ∷ drop (i + 1 + 1) gs)
     ≡ remove (windows_of gs) i
 shut_windows [] i r d h = absurd (omega arith)

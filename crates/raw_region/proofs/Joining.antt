@@ -9,20 +9,20 @@ use Rattle.windows.specs.Writes.{written}
 use Rattle.raw_region.specs.Gaps.{bytes_of, windows_of, window_of, gap_is, IsLaid, IsStart, joined, Beside}
 use Rattle.raw_region.specs.Regions.{region_view, IsRegion}
 use Rattle.raw_region.specs.declared.region.Region.TheInside.{Inside}
-use Rattle.raw_region.specs.declared.raw.Run.{Run}
+use Rattle.raw_region.specs.declared.raw.OwnBytes.{OwnBytes}
 use Rattle.raw_region.specs.declared.gaps.Gap.{Gap}
 use Rattle.raw_region.proofs.GapBytes.{round, is_beside, shut_bytes, shut_length, shut_laid}
 use Rattle.raw_region.proofs.GapWindows.{prefix_len-map, shut_windows, found, is_out}
 use Rattle.raw_region.proofs.Cutting.{none, still_region}
 
 -- what a run put back at n makes of r's gaps
-abbrev pub healed : Inside → Run → ℕ → List Gap
+abbrev pub healed : Inside → OwnBytes → ℕ → List Gap
 healed r run n =
     take (n - 1) r.gaps.items ++ joined (get_or r.gaps.items (n - 1) none) run (get_or r.gaps.items n none)
     ∷ drop (n + 1) r.gaps.items
 
 -- the run of p can be put back for the n-th gap of r, which is seen as w, and this is what is then there
-pub record Joins (r : Inside) (w : Whole) (p : Bytes) (run : Run) (n : ℕ) : Type 0 where
+pub record Joins (r : Inside) (w : Whole) (p : Bytes) (run : OwnBytes) (n : ℕ) : Type 0 where
   pub not_start : 0 < n
   pub there : n < vec_len r.gaps
   pub beside : (d : Gap) → Beside (get_or r.gaps.items (n - 1) d) run (get_or r.gaps.items n d)
@@ -34,7 +34,7 @@ pub record Joins (r : Inside) (w : Whole) (p : Bytes) (run : Run) (n : ℕ) : Ty
 
 module _ (r : Inside) (I : IsRegion r) (w : Whole) (v : region_view r ≡ w) (p : Bytes) (home : p.home ≡ w.home)
     (out : Contains w.out (window p.at (length p.bytes)))
-    (run : Run) (rh : run.home ≡ p.home) (ra : run.at ≡ p.at) (ri : run.items ≡ p.bytes) (l : List Gap)
+    (run : OwnBytes) (rh : run.home ≡ p.home) (ra : run.at ≡ p.at) (ri : run.items ≡ p.bytes) (l : List Gap)
     (same : l ≡ r.gaps.items)
     (n : ℕ) (counts : n ≡ 1 + position_or_len (gap_is p.at (length p.bytes)) (drop 1 l)) where
   abbrev len : ℕ

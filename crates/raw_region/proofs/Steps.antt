@@ -14,8 +14,8 @@ use denote.Param.{layout, param}
 use denote.Param.Laws.{Laws, param_laws}
 use denote.Steps.{nothing, peeks}
 use denote.Struct.Struct.{Struct, within}
-use Rattle.raw_region.specs.contracts.raw.Run as R
-use Rattle.raw_region.specs.declared.raw.Run.{Run}
+use Rattle.raw_region.specs.contracts.raw.OwnBytes as R
+use Rattle.raw_region.specs.declared.raw.OwnBytes.{OwnBytes}
 use Rattle.raw_region.specs.Ownership.{run_owns}
 
 -- what the machine holds of a run, and of two things side by side
@@ -43,7 +43,7 @@ fields_of Rs = Struct (record { name = []; args = []; types = []; fields = Rs })
 
 module _ {M : Type 1} {𝓤 : Ura M} {𝓛 : Logic 𝓤} {K : Type 0} {Γ : List (Item 𝓤)} {G : Goal 𝓤 𝓛.H} where
   -- the bytes become the run's
-  pub run_made : K → (r : Run)
+  pub run_made : K → (r : OwnBytes)
       → Step K 𝓛 (‵ (R.the_row.own_val r (bare ∷ [])) ∷ Γ) G (‵ (run_owns (r.home +ₚ r.at) r.items) ∷ Γ) G
   run_made t r = step (λ s.
       nothing t $ feq_i t (List Val) (bare ∷ []) (bare ∷ []) refl $ fjoin t $
@@ -51,7 +51,7 @@ module _ {M : Type 1} {𝓤 : Ura M} {𝓛 : Logic 𝓤} {K : Type 0} {Γ : List
       fjoin t $ s)
 
   -- the run's bytes are taken out
-  pub run_had : K → (r : Run) (vs : List Val)
+  pub run_had : K → (r : OwnBytes) (vs : List Val)
       → (vs ≡ bare ∷ [] → Seq K 𝓛 (‵ (run_owns (r.home +ₚ r.at) r.items) ∷ Γ) G)
       → Seq K 𝓛 (‵ (R.the_row.own_val r vs) ∷ Γ) G
   run_had t r vs k = fsplit t $ fpick t (λ none. fsplit t $ feq_l t (λ is. drop t $ k is))

@@ -5,7 +5,7 @@ use denote.RawPtr.{Ptr}
 use Rattle.windows.specs.Windows.{window, ends_by, is_window}
 use Rattle.windows.specs.declared.Window.{Window}
 use Rattle.std.specs.List.{All}
-use Rattle.raw_region.specs.declared.raw.Run.{Run}
+use Rattle.raw_region.specs.declared.raw.OwnBytes.{OwnBytes}
 use Rattle.raw_region.specs.declared.gaps.Gap.{Gap}
 
 -- The window of an entry.
@@ -41,7 +41,7 @@ front at g = record {
 }
 
 -- The bytes of a new window of `len` bytes at `at`.
-abbrev pub middle : ℕ → ℕ → Gap → Run
+abbrev pub middle : ℕ → ℕ → Gap → OwnBytes
 middle at len g = record {
   home = g.after.home;
   at = g.after.at + before at g;
@@ -62,12 +62,12 @@ back at len g =
     }
 
 -- The run `r` lies between the free bytes after `a` and those after `b`, with nothing between.
-abbrev pub Beside : Gap → Run → Gap → Type 0
+abbrev pub Beside : Gap → OwnBytes → Gap → Type 0
 Beside a r b = (r.home ≡ a.after.home) × (b.after.home ≡ a.after.home) × (r.at ≡ a.after.at + length a.after.items)
     × (b.after.at ≡ r.at + length r.items)
 
 -- The entry `a`, followed by its own free bytes, the run `r`, and the free bytes after `b`.
-abbrev pub joined : Gap → Run → Gap → Gap
+abbrev pub joined : Gap → OwnBytes → Gap → Gap
 joined a r b = record {
   at = a.at;
   len = a.len;
@@ -75,12 +75,12 @@ joined a r b = record {
 }
 
 -- The runs `f` and `s` are the first `n` bytes of the run `r` and its other bytes.
-abbrev pub IsCut : Run → ℕ → Run → Run → Type 0
+abbrev pub IsCut : OwnBytes → ℕ → OwnBytes → OwnBytes → Type 0
 IsCut r n f s = ((f.home ≡ r.home) × (f.at ≡ r.at) × (f.items ≡ take n r.items))
     × ((s.home ≡ r.home) × (s.at ≡ r.at + n) × (s.items ≡ drop n r.items))
 
 -- The run `t` is the run `r` followed by the run `s`.
-abbrev pub IsGlued : Run → Run → Run → Type 0
+abbrev pub IsGlued : OwnBytes → OwnBytes → OwnBytes → Type 0
 IsGlued r s t = (t.home ≡ r.home) × (t.at ≡ r.at) × (t.items ≡ r.items ++ s.items)
 
 -- The bytes of the region, in which each byte of a window in use is 0.

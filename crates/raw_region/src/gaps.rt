@@ -7,14 +7,14 @@ ghost use denote.RawPtr.{Ptr};
 ghost use Rattle.raw_region.specs.Gaps.{gap_ends_by, gap_is, EndsFit, Fits, front, middle, back, Beside, joined};
 ghost use Rattle.raw_region.specs.declared.gaps.Gap.{Gap};
 
-use crate::raw::Run;
+use crate::raw::OwnBytes;
 use std::mem::replace;
 
 #[derive(Drop)]
 pub(crate) struct Gap {
     pub(crate) at: usize,
     pub(crate) len: usize,
-    pub(crate) after: Run,
+    pub(crate) after: OwnBytes,
 }
 
 // Returns the index of the first window that ends above `at`, or the number of entries if every window ends at or
@@ -45,7 +45,7 @@ pub(crate) fn index_of(gaps: &[Gap], at: usize, len: usize) -> usize
 
 // Cuts a window of `len` bytes at `at` out of the free bytes after the `i`-th window, and returns the bytes of the new
 // window. The new window is entered after the `i`-th.
-pub(crate) fn open(gaps: &mut Vec<Gap>, i: usize, at: usize, len: usize) -> Run
+pub(crate) fn open(gaps: &mut Vec<Gap>, i: usize, at: usize, len: usize) -> OwnBytes
     requires there { i < vec_len gaps.old }
     requires room { vec_len gaps.old < vec_capacity gaps.old }
     requires fits { (d : Gap) → Fits at len (slice_index_or gaps.old.items i d) }
@@ -58,7 +58,7 @@ pub(crate) fn open(gaps: &mut Vec<Gap>, i: usize, at: usize, len: usize) -> Run
 {
     let gap = &mut gaps[i];
     let mid = at - (gap.at + gap.len);
-    let run = replace(&mut gap.after, Run::empty());
+    let run = replace(&mut gap.after, OwnBytes::empty());
     let (front, rest) = run.cut(mid);
     let (run, after) = rest.cut(len);
     gap.after = front;
@@ -70,7 +70,7 @@ pub(crate) fn open(gaps: &mut Vec<Gap>, i: usize, at: usize, len: usize) -> Run
 
 // Returns the bytes of a window: removes the `i`-th entry and joins its bytes, and the free bytes on both sides of
 // them, in the entry below it.
-pub(crate) fn shut(gaps: &mut Vec<Gap>, i: usize, run: Run)
+pub(crate) fn shut(gaps: &mut Vec<Gap>, i: usize, run: OwnBytes)
     requires not_start { 0 < i }
     requires there { i < vec_len gaps.old }
     requires beside { (d : Gap) →
@@ -89,6 +89,6 @@ pub(crate) fn shut(gaps: &mut Vec<Gap>, i: usize, run: Run)
         after,
     } = gaps.remove(i);
     let gap = &mut gaps[i - 1];
-    let front = replace(&mut gap.after, Run::empty());
+    let front = replace(&mut gap.after, OwnBytes::empty());
     gap.after = front.glue(run).glue(after);
 }

@@ -1,6 +1,6 @@
 //! The functions that take, give and split the ownership of raw memory; the memory's owner is ghost state, which takes
 //! no memory when the program runs. Four of them take the memory of a `Vec` or give it back (`detach`, `attach`,
-//! `house`, `vacate`), and the three of `Run` make, split and join runs.
+//! `house`, `vacate`), and the three of `OwnBytes` make, split and join runs.
 ghost use Rattle.std.specs.Prelude.{◌≡◌, ℕ, ◌+◌, ◌^◌, ◌<◌, ◌≤◌, List, [], ◌∷◌, ◌++◌, length, take, drop};
 ghost use Rattle.std.specs.Vec.{with_items};
 ghost use base.Fml.{ftrue, fex, fall, fwand, fsep, feq};
@@ -12,13 +12,13 @@ use std_alloc::vec::{Lodged, lodge};
 
 // The bytes at distance `at` from the address `home`, which nothing else can reach.
 #[derive(Drop)]
-pub(crate) struct Run {
+pub(crate) struct OwnBytes {
     ghost home: { Ptr },
     ghost at: { ℕ },
     ghost items: { List ℕ },
 }
 
-impl Model for Run {
+impl Model for OwnBytes {
     ghost also_owns = { λ r. run_owns (r.home +ₚ r.at) r.items };
 }
 
@@ -43,7 +43,7 @@ impl Move for Frame {
 }
 
 // Separates a `Vec` from its bytes.
-pub(crate) fn detach(vec: Vec<u8>) -> (Run, Frame)
+pub(crate) fn detach(vec: Vec<u8>) -> (OwnBytes, Frame)
     requires some { 0 < vec.len }
     ensures home { result.0.home ≡ vec.ptr }
     ensures start { result.0.at ≡ 0 }
@@ -52,23 +52,23 @@ pub(crate) fn detach(vec: Vec<u8>) -> (Run, Frame)
     ensures waits { result.1.len ≡ vec.len }
     ensures placed { InBlock vec.ptr }
 {
-    (Run {}, Frame { vec })
+    (OwnBytes {}, Frame { vec })
 }
 
 // Gives the bytes of a run back to the `Vec` from which they were separated.
-pub(crate) fn attach(run: Run, frame: Frame) -> Vec<u8>
+pub(crate) fn attach(run: OwnBytes, frame: Frame) -> Vec<u8>
     requires home { run.home ≡ frame.ptr }
     requires start { run.at ≡ 0 }
     requires whole { length run.items ≡ frame.len }
     ensures { result.items ≡ run.items }
 {
-    let Run {} = run;
+    let OwnBytes {} = run;
     let Frame { vec } = frame;
     vec
 }
 
 // Makes a `Vec` over the bytes of a run. The `Vec` neither grows nor frees the bytes.
-pub(crate) fn house(ptr: *mut u8, len: usize, run: Run) -> Vec<u8, Lodged>
+pub(crate) fn house(ptr: *mut u8, len: usize, run: OwnBytes) -> Vec<u8, Lodged>
     requires there { run.home +ₚ run.at ≡ ptr }
     requires whole { length run.items ≡ len }
     requires some { 0 < len }
@@ -78,12 +78,12 @@ pub(crate) fn house(ptr: *mut u8, len: usize, run: Run) -> Vec<u8, Lodged>
     ensures full { result.cap ≡ len }
     ensures there { result.ptr ≡ ptr }
 {
-    let Run {} = run;
+    let OwnBytes {} = run;
     unsafe { lodge(ptr, len, len) }
 }
 
 // Takes the run back from a `Vec` that `house` made.
-pub(crate) fn vacate(vec: Vec<u8, Lodged>, _home: *mut u8, _at: usize) -> Run
+pub(crate) fn vacate(vec: Vec<u8, Lodged>, _home: *mut u8, _at: usize) -> OwnBytes
     requires some { 0 < vec.len }
     requires there { vec.ptr ≡ _home +ₚ _at }
     ensures home { result.home ≡ _home }
@@ -91,19 +91,19 @@ pub(crate) fn vacate(vec: Vec<u8, Lodged>, _home: *mut u8, _at: usize) -> Run
     ensures bytes { result.items ≡ vec.items }
 {
     let _len = vec.dislodge();
-    Run {}
+    OwnBytes {}
 }
 
-impl Run {
+impl OwnBytes {
     // Makes a run of no bytes.
-    pub(crate) fn empty() -> Run
+    pub(crate) fn empty() -> OwnBytes
         ensures { result.items ≡ [] }
     {
-        Run {}
+        OwnBytes {}
     }
 
     // Splits a run into its first `mid` bytes and the others.
-    pub(crate) fn cut(self, mid: usize) -> (Run, Run)
+    pub(crate) fn cut(self, mid: usize) -> (OwnBytes, OwnBytes)
         requires { mid ≤ length self.items }
         ensures front_home { result.0.home ≡ self.home }
         ensures front_place { result.0.at ≡ self.at }
@@ -112,20 +112,20 @@ impl Run {
         ensures back_place { result.1.at ≡ self.at + mid }
         ensures back_bytes { result.1.items ≡ drop mid self.items }
     {
-        let Run {} = self;
-        (Run {}, Run {})
+        let OwnBytes {} = self;
+        (OwnBytes {}, OwnBytes {})
     }
 
     // Joins two runs that lie side by side.
-    pub(crate) fn glue(self, other: Run) -> Run
+    pub(crate) fn glue(self, other: OwnBytes) -> OwnBytes
         requires home { other.home ≡ self.home }
         requires behind { other.at ≡ self.at + length self.items }
         ensures home { result.home ≡ self.home }
         ensures place { result.at ≡ self.at }
         ensures bytes { result.items ≡ self.items ++ other.items }
     {
-        let Run {} = self;
-        let Run {} = other;
-        Run {}
+        let OwnBytes {} = self;
+        let OwnBytes {} = other;
+        OwnBytes {}
     }
 }

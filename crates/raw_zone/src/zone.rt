@@ -73,7 +73,7 @@ impl RawZone {
     ghost use Rattle.block_store.specs.declared.measures.TheConstants.{GREATEST_ZONE, LEAST_ZONE, SLOTS_A_BLOCK};
     ghost use Rattle.block_store.specs.declared.measures.TheConstants.{UNIT};
     ghost use Rattle.block_store.specs.Run.{movers, settle, run_at, with_run, has};
-    ghost use Rattle.block_store.specs.Rest.{IsRest, falling};
+    ghost use Rattle.block_store.specs.Rest.{IsRest, lowered_in_run};
     ghost use Rattle.raw_zone.specs.Parted.{zone_of, rest_of};
     ghost use Rattle.block_store.specs.Room.{spot, spot_at};
     ghost use Rattle.block_store.specs.Find.{FindsLowest};
@@ -145,7 +145,7 @@ impl RawZone {
         requires { IsSome (run_at run (zone_of self.old)) }
         ensures zone { IfSome (run_at run (zone_of self.old)) (λ r. zone_of self.new ≡ tidy (with_run settle r)) }
         ensures rest { IsRest (rest_of self.old) (rest_of self.new) }
-        ensures lowered { IfSome (run_at run (zone_of self.old)) (λ r. result.lowered ≡ falling r.run) }
+        ensures lowered { IfSome (run_at run (zone_of self.old)) (λ r. result.lowered ≡ lowered_in_run r.run) }
         ensures top { IfSome (run_at run (zone_of self.old)) (λ r. result.top ≡ run + sizes (movers r.run)) }
         ensures stop { IfSome (run_at run (zone_of self.old)) (λ r. result.stop ≡ run + sizes r.run) }
     {

@@ -2,7 +2,7 @@
 
 ghost use Rattle.std.specs.Prelude.{◌≡◌, ◌+◌, ◌%◌, ◌≤◌, ◌<◌, ◌^◌};
 ghost use Rattle.heap_words.specs.declared.word.TheConstants.{UNIT};
-ghost use Rattle.heap_words.specs.Slots.{IsSlot, slot_number};
+ghost use Rattle.heap_words.specs.Slots.{IsSlotWord, slot_number};
 
 use heap_words::{Header, SlotWord, Tag, header_read_again, slot_read_again};
 use raw_region::Region;
@@ -55,7 +55,7 @@ fn headers_are_read_again(rt: HostRuntime) -> Result<(), Fail> {
 
 /// Returns the slot that is read after `slot` is written, and the word that stands there.
 fn slot_in(alloc: Global, slot: SlotWord) -> Result<(SlotWord, [u8; 4]), AllocError>
-    requires slot { IsSlot slot }
+    requires slot { IsSlotWord slot }
     requires small { slot_number slot < 2 ^ 32 }
 {
     let mut region = Region::new(alloc, 48)?;
@@ -71,9 +71,9 @@ fn slot_in(alloc: Global, slot: SlotWord) -> Result<(SlotWord, [u8; 4]), AllocEr
 fn slots_are_read_again(rt: HostRuntime) -> Result<(), Fail> {
     let block = SlotWord::Block(272);
     assert_eq!(rt; slot_in(rt.alloc(), block)?, (block, [0, 0, 1, 0x10]));
-    let emptied = SlotWord::Emptied(false);
+    let emptied = SlotWord::Empty(false);
     assert_eq!(rt; slot_in(rt.alloc(), emptied)?, (emptied, [0, 0, 0, 2]));
-    let resource = SlotWord::Emptied(true);
+    let resource = SlotWord::Empty(true);
     assert_eq!(rt; slot_in(rt.alloc(), resource)?, (resource, [0, 0, 0, 18]));
     let unused = SlotWord::Unused(Some(32));
     assert_eq!(rt; slot_in(rt.alloc(), unused)?, (unused, [0, 0, 2, 1]));

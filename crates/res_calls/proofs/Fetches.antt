@@ -11,7 +11,7 @@ use Rattle.heap_calls.specs.declared.refusal.Refusal.TheVariants.{Code, HostMemo
 use Rattle.res_map.specs.Map.{Reference, with_handle}
 use Rattle.res_calls.specs.Files.{OpenFile, Resources, Found, with_reference, file_of}
 use Rattle.res_calls.specs.Fetch.{Managers, Answer, is_system, flags_of, fetch_new, fetch_again, now_filled}
-use Rattle.res_calls.specs.Fetch.{now_emptied, now_refilled}
+use Rattle.res_calls.specs.Fetch.{now_empty, now_refilled}
 use Rattle.res_calls.specs.Fetch as fetch
 use Rattle.res_calls.specs.Given.{IsFetched, IsUnread, managers}
 use Rattle.res_calls.specs.Places.{made_for, found_from, last_fetched}
@@ -46,7 +46,7 @@ new_done true f r m n h chain made put =
     subst (λ p. IsFetched (now_filled f p (managers r m)) (given h true) (managers (filed chain r) n)) (sym made)
     (refl, ap (λ (l : List OpenFile). managers (filed l r) n) put)
 new_done false f r m n h chain made put =
-    subst (λ p. IsFetched (now_emptied f p (managers r m)) (given h false) (managers (filed chain r) n)) (sym made)
+    subst (λ p. IsFetched (now_empty f p (managers r m)) (given h false) (managers (filed chain r) n)) (sym made)
     (refl, ap (λ (l : List OpenFile). managers (filed l r) n) put)
 
 pub new_refused : (loading : Bool) (f : Found) (r : Resources) (m n : Memory) (refusal : Refusal)
@@ -57,10 +57,10 @@ new_refused true f r m n (Code code) made =
     subst (λ p. IsFetched (now_filled f p (managers r m)) (refused_with (Code code) None) (managers r n)) (sym made)
     (refl, refl, refl)
 new_refused false f r m n (Code code) made =
-    subst (λ p. IsFetched (now_emptied f p (managers r m)) (refused_with (Code code) None) (managers r n)) (sym made)
+    subst (λ p. IsFetched (now_empty f p (managers r m)) (refused_with (Code code) None) (managers r n)) (sym made)
     (refl, refl, refl)
 
--- an emptied handle is read again
+-- an empty handle is read again
 again_as : (loading has : Bool) (f : Found) (r : Resources) (m n : Memory) (h : ℕ) (result : Result Fetched Unread)
     → has_block h m.heap ≡ has
     → IsFetched (cond (loading && not has)
@@ -157,7 +157,7 @@ pub ind_noted : (kind n : ℕ) (r : Resources) (m m' : Memory) (found : Option S
     → found_from found r.chain ≡ rows.nth_in kind n (file_of r.current r) → loading ≡ r.loading
     → IsFetched (fetched_as loading (found_from found r.chain) (managers r m)) answer (managers new m')
     → result ≡ answer → after ≡ record new { error = last_fetched answer new.error }
-    → IsFetched (noting (rows.get_one_ind_resource kind n) (managers r m)) result (managers after m')
+    → IsFetched (noting (rows.get1_ind_resource kind n) (managers r m)) result (managers after m')
 ind_noted kind n r m m' found loading answer result new after there on fetched same kept =
-    rw (same, kept) (fetch_noted (rows.get_one_ind_resource kind n) (managers r m) answer new m'
+    rw (same, kept) (fetch_noted (rows.get1_ind_resource kind n) (managers r m) answer new m'
     (rw (there, on) at fetched))

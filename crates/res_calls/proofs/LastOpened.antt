@@ -10,7 +10,8 @@ use Rattle.res_map.specs.Split.{Split}
 use Rattle.res_calls.specs.Files.{OpenFile, Resources}
 use Rattle.res_calls.specs.Fetch.{Managers, is_system}
 use Rattle.res_calls.specs.Given.{managers}
-use Rattle.res_calls.specs.Leaving.{Left, update_code, updated_or, left_file, last_opened, first_code, leave, leave_files}
+use Rattle.res_calls.specs.Leaving.{FilesClosed, update_code, updated_or, left_file, last_opened, first_code, leave}
+use Rattle.res_calls.specs.Leaving.{leave_files}
 use Rattle.res_calls.specs.Places.{at_index, has_own, left_last, left_last_of, IsLastUpdated, IsLastClosed}
 use Rattle.res_calls.specs.Rows.{handles_of, closed, closed_file}
 use Rattle.res_calls.specs.Sound.{Sound}
@@ -136,7 +137,7 @@ next_after [] s own = cc
 next_after (f ∷ older) s own = rw (not-true (is_system f) own) refl
 
 pub no_more : (chain : List OpenFile) (s : Managers) → has_own chain ≡ false
-    → leave_files chain s ≡ (let left : Left = record { code = NO_ERR; after = s } in left)
+    → leave_files chain s ≡ (let left : FilesClosed = record { code = NO_ERR; after = s } in left)
 no_more [] s none = refl
 no_more (f ∷ older) s none = rw (by_number (is_system f) none) refl
   where
@@ -181,8 +182,8 @@ pub leaves_all : (code : OsErr) (now start : Managers) → has_own now.resources
     → Leaves code now start → (code ≡ (leave start).code) × (now ≡ (leave start).after)
 leaves_all code now start none so =
     let last = no_more now.resources.chain now none in (
-      sym (code-alone code) ∙ ap (first_code code) (sym (ap (λ (l : Left). l.code) last)) ∙ so.code,
-      sym (ap (λ (l : Left). l.after) last) ∙ so.after,
+      sym (code-alone code) ∙ ap (first_code code) (sym (ap (λ (l : FilesClosed). l.code) last)) ∙ so.code,
+      sym (ap (λ (l : FilesClosed). l.after) last) ∙ so.after,
     )
 
 -- as an application leaves, its heap lies where it lay
@@ -195,17 +196,18 @@ leave-lies (f ∷ older) s = by_system
     at : Split OpenFile
     at = last_opened f older
 
-    left : Left
+    left : FilesClosed
     left = leave_files older (left_file at s)
 
-    first : Left
+    first : FilesClosed
     first = record {
       code = first_code (update_code (update s.memory.heap at s.resources)) left.code;
       after = left.after;
     }
 
     by_system : left.after.memory.window ≡ s.memory.window → (t : Bool)
-        → (cond t (let l : Left = record { code = NO_ERR; after = s } in l) first).after.memory.window ≡ s.memory.window
+        → (cond t (let l : FilesClosed = record { code = NO_ERR; after = s } in l) first).after.memory.window
+        ≡ s.memory.window
     by_system behind true = refl
     by_system behind false = behind
 

@@ -9,7 +9,8 @@ use Rattle.fork_format.specs.Canonical.{fits}
 use Rattle.res_map.specs.Map.{content}
 use Rattle.res_calls.specs.Files.{File, OpenFile, Resources, is_at}
 use Rattle.res_calls.specs.Fetch.{Managers, is_system}
-use Rattle.res_calls.specs.Leaving.{Left, update_code, updated_or, left_file, last_opened, first_code, leave, leave_files}
+use Rattle.res_calls.specs.Leaving.{FilesClosed, update_code, updated_or, left_file, last_opened, first_code, leave}
+use Rattle.res_calls.specs.Leaving.{leave_files}
 use Rattle.res_calls.specs.Places.{has_own}
 use Rattle.res_calls.specs.Sound.{Sound, falls}
 use Rattle.res_calls.specs.Update.{update, updated_map, written, written_at, fork_of}
@@ -32,7 +33,7 @@ leave_keeps P each (f ∷ older) s is holds =
   where
     by_number : (is_system f ≡ false → P (leave (left_file (last_opened f older) s)).after) → (t : Bool)
         → is_system f ≡ t → P (leave_files (f ∷ older) s).after
-    by_number behind true e = subst P (sym (ap (λ (l : Left). l.after) (no_more (f ∷ older) s (ap not e)))) holds
+    by_number behind true e = subst P (sym (ap (λ (l : FilesClosed). l.after) (no_more (f ∷ older) s (ap not e)))) holds
     by_number behind false e = subst P (sym (next_after (f ∷ older) s (ap not e))) (behind e)
 
 -- what holds of the open files
@@ -48,7 +49,8 @@ ends (f ∷ older) s is = by_number (ends older (left_file (last_opened f older)
   where
     by_number : has_own (leave (left_file (last_opened f older) s)).after.resources.chain ≡ false → (t : Bool)
         → is_system f ≡ t → has_own (leave_files (f ∷ older) s).after.resources.chain ≡ false
-    by_number behind true e = ap (λ (l : Left). has_own l.after.resources.chain) (no_more (f ∷ older) s (ap not e))
+    by_number behind true e = ap (λ (l : FilesClosed). has_own l.after.resources.chain)
+        (no_more (f ∷ older) s (ap not e))
         ∙ ap has_own is ∙ ap not e
     by_number behind false e =
         ap (λ (q : Managers). has_own q.resources.chain) (next_after (f ∷ older) s (ap not e)) ∙ behind
@@ -112,10 +114,10 @@ leaves_count s = leave_keeps (λ q. length q.resources.files ≡ length s.resour
         ap length wrote ∙ written-at-many f.file (fork_of q.memory.heap f) q.resources.files
 
 -- a file is as it was, or has another fork, which was written
-abbrev pub Alike : File → File → Type 0
-Alike f g = (g ≡ f) ⊎ (g ≡ record f { fork = g.fork; written = true })
+abbrev pub SameButWritten : File → File → Type 0
+SameButWritten f g = (g ≡ f) ⊎ (g ≡ record f { fork = g.fork; written = true })
 
-alike-again : (f g h : File) → Alike f g → Alike g h → Alike f h
+alike-again : (f g h : File) → SameButWritten f g → SameButWritten g h → SameButWritten f h
 alike-again f g h (inl one) (inl other) = inl (other ∙ one)
 alike-again f g h (inl one) (inr other) =
     inr (other ∙ ap (λ (x : File). (let y : File = record x { fork = h.fork; written = true } in y)) one)
@@ -125,7 +127,7 @@ alike-again f g h (inr one) (inr other) =
     inr (other ∙ ap (λ (x : File). (let y : File = record x { fork = h.fork; written = true } in y)) one)
 
 written_each : (j : ℕ) (fork : List ℕ) (files : List File) (i : ℕ) (f : File) → slice_get files i ≡ Some f
-    → (g : File) × (slice_get (written j fork files) i ≡ Some g) × Alike f g
+    → (g : File) × (slice_get (written j fork files) i ≡ Some g) × SameButWritten f g
 written_each j fork [] i f e = cc
 written_each zero fork (x ∷ files) zero f e = let is : x ≡ f = cc in (
   record x { fork = fork; written = true },
@@ -140,7 +142,7 @@ written_each (suc j) fork (x ∷ files) (suc i) f e =
     (behind.0, ap (λ (l : List File). slice_get l (suc i)) (written_cons j fork x files) ∙ behind.1, behind.2)
 
 written_at_each : (o : Option ℕ) (fork : List ℕ) (files : List File) (i : ℕ) (f : File) → slice_get files i ≡ Some f
-    → (g : File) × (slice_get (written_at o fork files) i ≡ Some g) × Alike f g
+    → (g : File) × (slice_get (written_at o fork files) i ≡ Some g) × SameButWritten f g
 written_at_each None fork files i f e = (f, e, inl refl)
 written_at_each (Some j) fork files i f e = written_each j fork files i f e
 
@@ -152,7 +154,7 @@ leaves_alike s i f e = leave_keeps By
     (f, e, inl refl)
   where
     By : Managers → Type 0
-    By q = (g : File) × (slice_get q.resources.files i ≡ Some g) × Alike f g
+    By q = (g : File) × (slice_get q.resources.files i ≡ Some g) × SameButWritten f g
 
     by_files : (x : OpenFile) (older : List OpenFile) (q : Managers)
         → ((left_file (last_opened x older) q).resources.files ≡ q.resources.files)
@@ -249,8 +251,8 @@ nothing_touched (f ∷ older) s quiet =
         → (t : Bool) → is_system f ≡ t → ((leave_files (f ∷ older) s).code ≡ NO_ERR)
         × ((leave_files (f ∷ older) s).after.resources.files ≡ s.resources.files)
     by_number rest true e = let last = no_more (f ∷ older) s (ap not e) in (
-      ap (λ (l : Left). l.code) last,
-      ap (λ (l : Left). l.after.resources.files) last,
+      ap (λ (l : FilesClosed). l.code) last,
+      ap (λ (l : FilesClosed). l.after.resources.files) last,
     )
     by_number rest false e = (
       next_code (f ∷ older) s (ap not e)

@@ -18,13 +18,13 @@ pub data ResourceAsked : Type 0 where
   CurResFile : ResourceAsked
   HomeResFile : (handle : Option ℕ) → ResourceAsked
   GetResource : (kind : ℕ) (id : ℤ) → ResourceAsked
-  GetOneResource : (kind : ℕ) (id : ℤ) → ResourceAsked
+  Get1Resource : (kind : ℕ) (id : ℤ) → ResourceAsked
   GetNamedResource : (kind : ℕ) (name : List ℕ) → ResourceAsked
-  GetOneNamedResource : (kind : ℕ) (name : List ℕ) → ResourceAsked
-  CountOneTypes : ResourceAsked
-  GetOneIndType : (index : ℕ) → ResourceAsked
-  CountOneResources : (kind : ℕ) → ResourceAsked
-  GetOneIndResource : (kind : ℕ) (index : ℕ) → ResourceAsked
+  Get1NamedResource : (kind : ℕ) (name : List ℕ) → ResourceAsked
+  Count1Types : ResourceAsked
+  Get1IndType : (index : ℕ) → ResourceAsked
+  Count1Resources : (kind : ℕ) → ResourceAsked
+  Get1IndResource : (kind : ℕ) (index : ℕ) → ResourceAsked
   LoadResource : (handle : Option ℕ) → ResourceAsked
   ReleaseResource : (handle : Option ℕ) → ResourceAsked
   DetachResource : (handle : Option ℕ) → ResourceAsked
@@ -69,13 +69,13 @@ served (UseResFile number) s = telling (λ _. Done) (noting (rows.use_res_file n
 served CurResFile s = telling Number (noting rows.cur_res_file s)
 served (HomeResFile handle) s = telling Number (noting (rows.home_res_file handle) s)
 served (GetResource kind id) s = telling tell_fetched (noting (rows.get_resource kind id) s)
-served (GetOneResource kind id) s = telling tell_fetched (noting (rows.get_one_resource kind id) s)
+served (Get1Resource kind id) s = telling tell_fetched (noting (rows.get1_resource kind id) s)
 served (GetNamedResource kind name) s = telling tell_fetched (noting (rows.get_named_resource kind name) s)
-served (GetOneNamedResource kind name) s = telling tell_fetched (noting (rows.get_one_named_resource kind name) s)
-served CountOneTypes s = telling Number (noting rows.count_one_types s)
-served (GetOneIndType index) s = telling Kind (noting (rows.get_one_ind_type index) s)
-served (CountOneResources kind) s = telling Number (noting (rows.count_one_resources kind) s)
-served (GetOneIndResource kind index) s = telling tell_fetched (noting (rows.get_one_ind_resource kind index) s)
+served (Get1NamedResource kind name) s = telling tell_fetched (noting (rows.get1_named_resource kind name) s)
+served Count1Types s = telling Number (noting rows.count1_types s)
+served (Get1IndType index) s = telling Kind (noting (rows.get1_ind_type index) s)
+served (Count1Resources kind) s = telling Number (noting (rows.count1_resources kind) s)
+served (Get1IndResource kind index) s = telling tell_fetched (noting (rows.get1_ind_resource kind index) s)
 served (LoadResource handle) s = telling tell_fetched (noting (rows.load_resource handle) s)
 served (ReleaseResource handle) s = telling (λ _. Done) (noting (rows.release_resource handle) s)
 served (DetachResource handle) s = telling (λ _. Done) (noting (rows.detach_resource handle) s)

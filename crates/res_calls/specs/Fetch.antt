@@ -5,7 +5,7 @@ use Rattle.mac_words.specs.Attributes.{has_bit}
 use Rattle.mac_words.specs.declared.attributes.TheConstants.Attrs.{PURGEABLE, LOCKED}
 use Rattle.block_store.specs.declared.flags.Flags.{Flags}
 use Rattle.heap_calls.specs.State.{Resource, Memory}
-use Rattle.heap_calls.specs.Inside.{new_inside, new_emptied_inside, refill_inside, has_block, resource_role}
+use Rattle.heap_calls.specs.Inside.{new_inside, new_empty_inside, refill_inside, has_block, resource_role}
 use Rattle.res_map.specs.Map.{Reference, is_preload}
 use Rattle.res_calls.specs.Files.{Resources, OpenFile, Found, holding}
 
@@ -64,9 +64,9 @@ now_filled at (Ok h, m) s = record {
   after = held at h (record s { memory = m });
 }
 
-abbrev pub now_emptied : Found → Result ℕ OsErr × Memory → Managers → Answer Fetched
-now_emptied at (Err code, m) s = refused code (record s { memory = m })
-now_emptied at (Ok h, m) s = done (record { handle = h; read = 0 }) (held at h (record s { memory = m }))
+abbrev pub now_empty : Found → Result ℕ OsErr × Memory → Managers → Answer Fetched
+now_empty at (Err code, m) s = refused code (record s { memory = m })
+now_empty at (Ok h, m) s = done (record { handle = h; read = 0 }) (held at h (record s { memory = m }))
 
 -- The fetch of a reference that has no handle: a new handle is made, to a block that holds the stored data where
 -- loading is on, and an empty handle otherwise.
@@ -76,7 +76,7 @@ fetch_new loading at s =
     if loading
     then now_filled at (new_inside (resource_role (is_system at.file.here)) (flags_of at.reference.here)
     at.reference.here.stored.datum s.memory) s
-    else now_emptied at (new_emptied_inside (resource_role (is_system at.file.here)) s.memory) s
+    else now_empty at (new_empty_inside (resource_role (is_system at.file.here)) s.memory) s
 
 -- The answer of a fetch that read the stored data into the block of an empty handle again.
 -- See decision 51 (a fetch reports what it was reading where it finds no room).

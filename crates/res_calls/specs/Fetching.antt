@@ -4,8 +4,8 @@ use Rattle.res_map.specs.Split.{Split, place}
 use Rattle.res_map.specs.Map.{Map, with_handle}
 use Rattle.res_calls.specs.Files.{File, OpenFile, Resources, file_named, opened}
 use Rattle.res_calls.specs.Rows.{map_in}
-use Rattle.res_calls.specs.Asked.{ResourceAsked, GetResource, GetOneResource, GetNamedResource, GetOneNamedResource}
-use Rattle.res_calls.specs.Asked.{GetOneIndResource, LoadResource}
+use Rattle.res_calls.specs.Asked.{ResourceAsked, GetResource, Get1Resource, GetNamedResource, Get1NamedResource}
+use Rattle.res_calls.specs.Asked.{Get1IndResource, LoadResource}
 
 -- What a fetch may change of the resources, whatever blocks it purges. More Macintosh Toolbox, chapter 1, "Reading
 -- Resources into Memory" and "Releasing Resources".
@@ -13,10 +13,10 @@ use Rattle.res_calls.specs.Asked.{GetOneIndResource, LoadResource}
 -- Holds of the calls that fetch resources.
 abbrev pub fetches : ResourceAsked → Bool
 fetches (GetResource kind id) = true
-fetches (GetOneResource kind id) = true
+fetches (Get1Resource kind id) = true
 fetches (GetNamedResource kind name) = true
-fetches (GetOneNamedResource kind name) = true
-fetches (GetOneIndResource kind index) = true
+fetches (Get1NamedResource kind name) = true
+fetches (Get1IndResource kind index) = true
 fetches (LoadResource handle) = true
 fetches asked = false
 

@@ -38,18 +38,18 @@ last_opened f older = record { before = []; here = f; after = older }
 -- The result of updating and closing open files in order, up to the System file: the first code that is not 0, and the
 -- managers after.
 -- See decision 81 (a quit closes the files in the reverse order of their opening).
-pub record Left : Type 0 where
+pub record FilesClosed : Type 0 where
   pub code : OsErr
   pub after : Managers
 
-abbrev pub leave_files : List OpenFile → Managers → Left
+abbrev pub leave_files : List OpenFile → Managers → FilesClosed
 leave_files [] s = record { code = NO_ERR; after = s }
 leave_files (f ∷ older) s = if is_system f then record { code = NO_ERR; after = s }
     else left_first (update_code (update s.memory.heap (last_opened f older) s.resources))
     (leave_files older (left_file (last_opened f older) s))
   where
-    left_first : OsErr → Left → Left
+    left_first : OsErr → FilesClosed → FilesClosed
     left_first code rest = record { code = first_code code rest.code; after = rest.after }
 
-abbrev pub leave : Managers → Left
+abbrev pub leave : Managers → FilesClosed
 leave s = leave_files s.resources.chain s

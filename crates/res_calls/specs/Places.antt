@@ -4,7 +4,7 @@ use Rattle.byteorder.specs.Endian.{big_number}
 use Rattle.mac_words.specs.declared.code.OsErr.{OsErr}
 use Rattle.mac_words.specs.declared.code.TheConstants.OsErr.{NO_ERR}
 use Rattle.heap_calls.specs.State.{Memory}
-use Rattle.heap_calls.specs.Inside.{new_inside, new_emptied_inside, resource_role}
+use Rattle.heap_calls.specs.Inside.{new_inside, new_empty_inside, resource_role}
 use Rattle.heap_calls.specs.declared.refusal.Refusal.{Refusal}
 use Rattle.heap_calls.specs.declared.refusal.Refusal.TheVariants.{Code, HostMemory}
 use Rattle.res_map.specs.Split.{Split, behind, place}
@@ -15,7 +15,7 @@ use Rattle.res_calls.specs.Fetch as fetch
 use Rattle.res_calls.specs.Rows.{reference_in, fetched_as, closed_file}
 use Rattle.res_calls.specs.Rows as rows
 use Rattle.res_calls.specs.Update.{update}
-use Rattle.res_calls.specs.Leaving.{Left, update_code, updated_or, left_file, last_opened}
+use Rattle.res_calls.specs.Leaving.{FilesClosed, update_code, updated_or, left_file, last_opened}
 use Rattle.fork_format.specs.declared.content.RefName.{RefName}
 use Rattle.res_calls.specs.declared.info.Info.{Info}
 use Rattle.res_calls.specs.declared.files.File.{File as StoredFile}
@@ -80,7 +80,7 @@ chained files r = record r { chain = map view_open files }
 -- otherwise.
 abbrev pub made_for : Bool → Bool → Reference → Memory → Result ℕ OsErr × Memory
 made_for loading guarded x m = if loading then new_inside (resource_role guarded) (flags_of x) x.stored.datum m
-    else new_emptied_inside (resource_role guarded) m
+    else new_empty_inside (resource_role guarded) m
 
 -- The fetch of the reference that a search finds; -192 (resNotFound) where no reference was found.
 abbrev pub fetch_wanted : Within → Wanted → Bool → Managers → Answer fetch.Fetched
@@ -119,14 +119,14 @@ standing files chain current r =
     record r { files = map view_file files; chain = map view_open chain; current = current }
 
 -- The result of updating and closing the file opened last: the code of the update, and the managers after.
-abbrev pub left_last_of : List OpenFile → Managers → Left
+abbrev pub left_last_of : List OpenFile → Managers → FilesClosed
 left_last_of [] s = record { code = NO_ERR; after = s }
 left_last_of (f ∷ older) s = record {
   code = update_code (update s.memory.heap (last_opened f older) s.resources);
   after = left_file (last_opened f older) s;
 }
 
-abbrev pub left_last : Managers → Left
+abbrev pub left_last : Managers → FilesClosed
 left_last s = left_last_of s.resources.chain s
 
 -- The result of updating the file opened last: the code of the update, and the resources after.

@@ -191,32 +191,32 @@ fetched found s = fetched_as s.resources.loading found s
 abbrev pub get_resource : ℕ → ℤ → Managers → Answer Fetched
 get_resource kind id s = fetched (find_from_current (is_resource kind id) s.resources) s
 
-abbrev pub get_one_resource : ℕ → ℤ → Managers → Answer Fetched
-get_one_resource kind id s = fetched (find_in_current (is_resource kind id) s.resources) s
+abbrev pub get1_resource : ℕ → ℤ → Managers → Answer Fetched
+get1_resource kind id s = fetched (find_in_current (is_resource kind id) s.resources) s
 
 -- GetNamedResource and Get1NamedResource: fetch the first resource of a type and name, on the search path and in the
 -- current file alone.
 abbrev pub get_named_resource : ℕ → List ℕ → Managers → Answer Fetched
 get_named_resource kind text s = fetched (find_from_current (is_named kind text) s.resources) s
 
-abbrev pub get_one_named_resource : ℕ → List ℕ → Managers → Answer Fetched
-get_one_named_resource kind text s = fetched (find_in_current (is_named kind text) s.resources) s
+abbrev pub get1_named_resource : ℕ → List ℕ → Managers → Answer Fetched
+get1_named_resource kind text s = fetched (find_in_current (is_named kind text) s.resources) s
 
 -- Count1Types and Get1IndType: return the number of types in the current file, and the n-th of the types, counted from
 -- 1; -192 (resNotFound) where there is no n-th type.
-abbrev pub count_one_types : Managers → Answer ℕ
-count_one_types s = done (length (types (current_references s.resources))) s
+abbrev pub count1_types : Managers → Answer ℕ
+count1_types s = done (length (types (current_references s.resources))) s
 
 abbrev pub told_type : Option ℕ → Managers → Answer ℕ
 told_type None s = refused RES_NOT_FOUND s
 told_type (Some kind) s = done kind s
 
-abbrev pub get_one_ind_type : ℕ → Managers → Answer ℕ
-get_one_ind_type n s = told_type (nth n (types (current_references s.resources))) s
+abbrev pub get1_ind_type : ℕ → Managers → Answer ℕ
+get1_ind_type n s = told_type (nth n (types (current_references s.resources))) s
 
 -- Count1Resources: returns the number of resources of a type in the current file.
-abbrev pub count_one_resources : ℕ → Managers → Answer ℕ
-count_one_resources kind s = done (length (of_type kind (current_references s.resources))) s
+abbrev pub count1_resources : ℕ → Managers → Answer ℕ
+count1_resources kind s = done (length (of_type kind (current_references s.resources))) s
 
 -- A found reference, by its open file and its place in the file.
 abbrev pub reference_in : Split OpenFile → Split Reference → Found
@@ -228,8 +228,8 @@ nth_in kind n None = None
 nth_in kind n (Some f) = option_map (reference_in f) (split_nth n (is_of kind) f.here.map.references)
 
 -- Get1IndResource: fetches the n-th resource of a type in the current file.
-abbrev pub get_one_ind_resource : ℕ → ℕ → Managers → Answer Fetched
-get_one_ind_resource kind n s = fetched (nth_in kind n (file_of s.resources.current s.resources)) s
+abbrev pub get1_ind_resource : ℕ → ℕ → Managers → Answer Fetched
+get1_ind_resource kind n s = fetched (nth_in kind n (file_of s.resources.current s.resources)) s
 
 -- LoadResource: fetches the resource of a handle as with loading on, whatever SetResLoad has set.
 abbrev pub load_resource : Option ℕ → Managers → Answer Fetched

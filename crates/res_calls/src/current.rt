@@ -95,7 +95,7 @@ impl Resources {
 
     /// `Count1Types`: returns the number of resource types in the current file.
     pub fn count1_types(&mut self) -> usize
-        ensures answer { (m : Memory) → IsAnswered (λ (n : ℕ). n) (noting rows.count_one_types (managers self.old m))
+        ensures answer { (m : Memory) → IsAnswered (λ (n : ℕ). n) (noting rows.count1_types (managers self.old m))
             (Ok result) (managers self.new m) }
         ensures fits { result < 2 ^ 63 }
     {
@@ -107,7 +107,7 @@ impl Resources {
     /// where the current file has no `n`-th type.
     pub fn get1_ind_type(&mut self, n: u32) -> Result<OsType, Refusal>
         ensures answer { (m : Memory) → IsAnswered (λ (t : OsTypeValue). big_number 4 t.0)
-            (noting (rows.get_one_ind_type n) (managers self.old m)) result (managers self.new m) }
+            (noting (rows.get1_ind_type n) (managers self.old m)) result (managers self.new m) }
         ensures host { result ≢ Err Refusal.HostMemory }
     {
         let answer = self.ind_type(n);
@@ -117,7 +117,7 @@ impl Resources {
     /// Does the work of `Get1IndType` without setting the code that `ResError` returns.
     fn ind_type(&self, n: u32) -> Result<OsType, Refusal>
         ensures answer { (m : Memory) → IsAnswered (λ (t : OsTypeValue). big_number 4 t.0)
-            (rows.get_one_ind_type n (managers self.now m)) result (managers self.now m) }
+            (rows.get1_ind_type n (managers self.now m)) result (managers self.now m) }
         ensures host { result ≢ Err Refusal.HostMemory }
     {
         match nth_type(&self.chain, self.current, n) {
@@ -128,7 +128,7 @@ impl Resources {
 
     /// `Count1Resources`: returns the number of resources of a type in the current file.
     pub fn count1_resources(&mut self, ty: OsType) -> usize
-        ensures answer { (m : Memory) → IsAnswered (λ (n : ℕ). n) (noting (rows.count_one_resources
+        ensures answer { (m : Memory) → IsAnswered (λ (n : ℕ). n) (noting (rows.count1_resources
             (big_number 4 ty.0)) (managers self.old m)) (Ok result) (managers self.new m) }
         ensures fits { result < 2 ^ 63 }
     {

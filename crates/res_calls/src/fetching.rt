@@ -4,7 +4,7 @@
 
 ghost use Rattle.std.specs.Prelude.{◌≡◌, ◌⊎◌, IsTrue, map, is_some, true, Some, Err};
 ghost use Rattle.heap_calls.specs.Inner.Given.{IsAnswer, KeepsNames};
-ghost use Rattle.res_map.specs.View.{view_entry};
+ghost use Rattle.res_map.specs.View.{view_lent};
 ghost use Rattle.res_calls.specs.Files.{Found, Resources as ResourcesValue};
 ghost use Rattle.res_calls.specs.Fetch as fetch;
 ghost use Rattle.res_calls.specs.Fetch.{is_system};
@@ -22,11 +22,11 @@ use crate::find::{Spot, Wanted, Within, entry_at, number_at, set_handle};
 use block_store::{BlockStore, Flags};
 use heap_calls::{Heap, Refusal};
 use mac_words::{Attrs, OsErr};
-use res_map::Entry;
+use res_map::LentReference;
 
 /// Returns the flags of the block into which a resource is read: locked for resLocked, purgeable for resPurgeable.
-pub(crate) fn flags_of(entry: &Entry<'_>) -> Flags
-    ensures { result ≡ fetch.flags_of (view_entry entry.now) }
+pub(crate) fn flags_of(entry: &LentReference<'_>) -> Flags
+    ensures { result ≡ fetch.flags_of (view_lent entry.now) }
 {
     let Attrs(attrs) = entry.stored.attrs;
     Flags {
@@ -39,11 +39,11 @@ pub(crate) fn flags_of(entry: &Entry<'_>) -> Flags
 /// empty handle otherwise. `guarded` says that the resource is the System file's.
 fn make_handle<S: BlockStore>(
     heap: &mut Heap<S>,
-    entry: &Entry<'_>,
+    entry: &LentReference<'_>,
     guarded: bool,
     loading: bool,
 ) -> Result<usize, Refusal>
-    ensures answer { IsAnswer (made_for loading guarded (view_entry entry.now) heap.old) result heap.new }
+    ensures answer { IsAnswer (made_for loading guarded (view_lent entry.now) heap.old) result heap.new }
     ensures host { result ≡ Err Refusal.HostMemory → IsTrue S.TAKES_HOST ⊎ (heap.new ≡ heap.old) }
     ensures kept { result ≡ Err Refusal.HostMemory → KeepsNames heap.old heap.new }
     ensures lies { heap.new.window ≡ heap.old.window }
@@ -92,11 +92,11 @@ fn fetch_new<S: BlockStore>(
 /// into a new block of the handle.
 fn fetch_again<S: BlockStore>(
     heap: &mut Heap<S>,
-    entry: &Entry<'_>,
+    entry: &LentReference<'_>,
     handle: usize,
     loading: bool,
 ) -> Result<Fetched, Unread>
-    ensures answer { (r : ResourcesValue) (f : Found) → f.reference.here ≡ view_entry entry.now
+    ensures answer { (r : ResourcesValue) (f : Found) → f.reference.here ≡ view_lent entry.now
         → IsFetched (fetch.fetch_again loading f handle (managers r heap.old)) result (managers r heap.new) }
     ensures host { WantsHost result → IsTrue S.TAKES_HOST ⊎ (heap.new ≡ heap.old) }
     ensures kept { WantsHost result → KeepsNames heap.old heap.new }

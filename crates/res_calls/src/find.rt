@@ -7,7 +7,7 @@ ghost use Rattle.std.specs.Prelude.{None, OnOk, OnErr, slice_get, slice_set, rem
 ghost use Rattle.mac_words.specs.Attributes.{has_bit};
 ghost use Rattle.res_map.specs.Split.{split, place, replaced, removed};
 ghost use Rattle.res_map.specs.Map.{with_handle, with_attrs, stored_anew, renamed};
-ghost use Rattle.res_map.specs.View.{view_entry};
+ghost use Rattle.res_map.specs.View.{view_lent};
 ghost use Rattle.res_calls.specs.Files.{Found, find, with_reference};
 ghost use Rattle.res_calls.specs.Rows.{resource_of};
 ghost use Rattle.res_calls.specs.Places.{found_at, found_from, spot_of, is_searched, is_wanted};
@@ -17,7 +17,7 @@ ghost use Rattle.res_calls.specs.Changing.{touched_files};
 use crate::chain::is_open_at;
 use crate::files::{OWN_PLACE, OpenFile, Resources};
 use mac_words::{Attrs, Name, OsType};
-use res_map::{Entry, ResFile};
+use res_map::{LentReference, ResFile};
 use std::alloc::{AllocError, Global};
 
 /// The place of a reference.
@@ -105,10 +105,10 @@ fn find_spot(files: &[OpenFile], within: Within, wanted: Wanted<'_>) -> Option<S
 
 /// Returns the reference at `at`.
 #[tactic(auto, using(crate::proofs::Standing::inside_files, crate::proofs::Standing::inside_map, crate::proofs::Standing::entry_here))]
-pub(crate) fn entry_at<'a>(files: &'a [OpenFile], at: Spot) -> Entry<'a>
+pub(crate) fn entry_at<'a>(files: &'a [OpenFile], at: Spot) -> LentReference<'a>
     requires { is_some (found_at at (map view_open files.now)) ≡ true }
     ensures { option_map (λ (f : Found). f.reference.here) (found_at at (map view_open files.now))
-        ≡ Some (view_entry result) }
+        ≡ Some (view_lent result) }
 {
     files[at.file].map.reference(at.reference)
 }

@@ -91,7 +91,7 @@ impl Resources {
         ty: OsType,
         id: i16,
     ) -> Result<Fetched, Unread>
-        ensures answer { IsFetched (noting (rows.get_one_resource (big_number 4 ty.0) id) (managers self.old heap.old))
+        ensures answer { IsFetched (noting (rows.get1_resource (big_number 4 ty.0) id) (managers self.old heap.old))
             result (managers self.new heap.new) }
         ensures left { WantsHost result → self.new ≡ self.old }
         ensures host { WantsHost result → IsTrue S.TAKES_HOST ⊎ (heap.new ≡ heap.old) }
@@ -137,7 +137,7 @@ impl Resources {
         ty: OsType,
         name: &[u8],
     ) -> Result<Fetched, Unread>
-        ensures answer { IsFetched (noting (rows.get_one_named_resource (big_number 4 ty.0) name.now)
+        ensures answer { IsFetched (noting (rows.get1_named_resource (big_number 4 ty.0) name.now)
             (managers self.old heap.old)) result (managers self.new heap.new) }
         ensures left { WantsHost result → self.new ≡ self.old }
         ensures host { WantsHost result → IsTrue S.TAKES_HOST ⊎ (heap.new ≡ heap.old) }
@@ -163,7 +163,7 @@ impl Resources {
         ty: OsType,
         n: u32,
     ) -> Result<Fetched, Unread>
-        ensures answer { IsFetched (noting (rows.get_one_ind_resource (big_number 4 ty.0) n)
+        ensures answer { IsFetched (noting (rows.get1_ind_resource (big_number 4 ty.0) n)
             (managers self.old heap.old)) result (managers self.new heap.new) }
         ensures left { WantsHost result → self.new ≡ self.old }
         ensures host { WantsHost result → IsTrue S.TAKES_HOST ⊎ (heap.new ≡ heap.old) }

@@ -4,7 +4,7 @@ ghost use Rattle.std.specs.Prelude.{◌≡◌, ◌≢◌, ◌<◌, ◌^◌, Err,
 ghost use Rattle.mac_words.specs.declared.attributes.Attrs.{Attrs as AttrsValue};
 ghost use Rattle.res_calls.specs.Files.{Found};
 ghost use Rattle.heap_calls.specs.State.{Memory};
-ghost use Rattle.res_map.specs.View.{view_entry};
+ghost use Rattle.res_map.specs.View.{view_lent};
 ghost use Rattle.res_calls.specs.Rows as rows;
 ghost use Rattle.res_calls.specs.Rows.{noting};
 ghost use Rattle.res_calls.specs.Given.{IsAnswered, managers};
@@ -16,7 +16,7 @@ use arrayvec::ArrayVec;
 use fork_format::RefName;
 use heap_calls::Refusal;
 use mac_words::{Attrs, Name, OsErr, OsType};
-use res_map::Entry;
+use res_map::LentReference;
 
 /// The ID, the type and the name of a resource.
 ///
@@ -46,8 +46,8 @@ fn name_of(name: Option<RefName<'_>>) -> Name
 }
 
 /// Returns the ID, the type and the name of a reference.
-fn info_of(entry: &Entry<'_>) -> Info
-    ensures { seen_info result ≡ rows.info_of (view_entry entry.now) }
+fn info_of(entry: &LentReference<'_>) -> Info
+    ensures { seen_info result ≡ rows.info_of (view_lent entry.now) }
 {
     Info {
         id: entry.stored.id,
@@ -58,8 +58,8 @@ fn info_of(entry: &Entry<'_>) -> Info
 
 impl Resources {
     /// Returns the reference of the resource whose handle is `handle`.
-    fn entry(&self, handle: Option<usize>) -> Option<Entry<'_>>
-        ensures { option_map view_entry result ≡ option_map (λ (f : Found). f.reference.here)
+    fn entry(&self, handle: Option<usize>) -> Option<LentReference<'_>>
+        ensures { option_map view_lent result ≡ option_map (λ (f : Found). f.reference.here)
             (rows.resource_of handle self.now) }
     {
         match self.find_handle(handle) {

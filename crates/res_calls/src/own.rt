@@ -5,7 +5,7 @@
 ghost use Rattle.std.specs.Prelude.{◌≡◌, ◌⊎◌, IsTrue, is_some, option_map};
 ghost use Rattle.byteorder.specs.Endian.{big_number};
 ghost use Rattle.heap_calls.specs.Inner.Given.{KeepsNames};
-ghost use Rattle.res_map.specs.View.{view_entry};
+ghost use Rattle.res_map.specs.View.{view_lent};
 ghost use Rattle.res_calls.specs.Files.{Found};
 ghost use Rattle.res_calls.specs.Own as own;
 ghost use Rattle.res_calls.specs.Given.{IsFetched, managers};
@@ -17,7 +17,7 @@ use crate::find::{Spot, Wanted, Within, entry_at};
 use block_store::BlockStore;
 use heap_calls::Heap;
 use mac_words::OsType;
-use res_map::Entry;
+use res_map::LentReference;
 
 impl Resources {
     /// Returns the place of the first reference of a type and ID in the application's own file.
@@ -29,8 +29,8 @@ impl Resources {
     }
 
     /// Returns the first reference of a type and ID in the application's own file.
-    fn own_entry(&self, ty: OsType, id: i16) -> Option<Entry<'_>>
-        ensures { option_map view_entry result ≡ option_map (λ (f : Found). f.reference.here)
+    fn own_entry(&self, ty: OsType, id: i16) -> Option<LentReference<'_>>
+        ensures { option_map view_lent result ≡ option_map (λ (f : Found). f.reference.here)
             (own.find_own (big_number 4 ty.0) id self.now) }
     {
         match self.find_own(ty, id) {

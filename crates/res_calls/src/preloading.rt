@@ -6,7 +6,7 @@ ghost use Rattle.std.specs.Prelude.{◌≡◌, ◌⊎◌, ◌<◌, IsTrue, IsErr
 ghost use Rattle.heap_calls.specs.Inside.{new_all};
 ghost use Rattle.heap_calls.specs.Inner.Filling.{wanted_as};
 ghost use Rattle.res_map.specs.Map.{is_preload};
-ghost use Rattle.res_map.specs.View.{view_entry};
+ghost use Rattle.res_map.specs.View.{view_lent};
 ghost use Rattle.res_calls.specs.Fetch as fetch;
 ghost use Rattle.res_calls.specs.Preloading.{filling_of, wanted_of, next_number, given_to};
 
@@ -14,20 +14,20 @@ use crate::fetching::flags_of;
 use block_store::BlockStore;
 use heap_calls::{Filling, Heap};
 use mac_words::Attrs;
-use res_map::{Entry, ResFile};
+use res_map::{LentReference, ResFile};
 use std::alloc::{AllocError, Global};
 
 /// Reports whether a reference has resPreload.
-fn is_read_first(entry: &Entry<'_>) -> bool
-    ensures { result ≡ is_preload (view_entry entry.now) }
+fn is_read_first(entry: &LentReference<'_>) -> bool
+    ensures { result ≡ is_preload (view_lent entry.now) }
 {
     let Attrs(attrs) = entry.stored.attrs;
     attrs & Attrs::PRELOAD != 0
 }
 
 /// Returns the flags and the bytes of the block that a resource is read into.
-fn fill_of<'a>(entry: &Entry<'a>) -> Filling<'a>
-    ensures { wanted_as result ≡ filling_of (view_entry entry.now) }
+fn fill_of<'a>(entry: &LentReference<'a>) -> Filling<'a>
+    ensures { wanted_as result ≡ filling_of (view_lent entry.now) }
 {
     Filling {
         bytes: entry.stored.datum,

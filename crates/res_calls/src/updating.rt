@@ -7,7 +7,7 @@ ghost use Rattle.fork_format.specs.Canonical.{clear};
 ghost use Rattle.fork_format.specs.Fork.{Spells};
 ghost use Rattle.res_map.specs.Split.{Split};
 ghost use Rattle.res_map.specs.Map.{content, all_anew};
-ghost use Rattle.res_map.specs.View.{view_entry, view_bytes, view_all};
+ghost use Rattle.res_map.specs.View.{view_lent, view_bytes, view_all};
 ghost use Rattle.res_calls.specs.Files.{OpenFile as OpenFileValue, Resources as ResourcesValue, file_of};
 ghost use Rattle.res_calls.specs.Given.{IsAnswered, managers};
 ghost use Rattle.res_calls.specs.Places.{at_index};
@@ -23,7 +23,7 @@ use block_store::BlockStore;
 use fork_format::{WriteFault, write_fork};
 use heap_calls::{Heap, Refusal};
 use mac_words::{Attrs, OsErr};
-use res_map::{Entry, ResFile};
+use res_map::{LentReference, ResFile};
 use std::alloc::{AllocError, Global};
 
 /// The stored data and the fork that an update of an open file makes. They are made before anything is changed.
@@ -60,9 +60,9 @@ fn own_bytes(alloc: Global, bytes: Option<&[u8]>) -> Result<Option<Vec<u8>>, All
 fn fresh_of<S: BlockStore>(
     alloc: Global,
     heap: &Heap<S>,
-    entry: &Entry<'_>,
+    entry: &LentReference<'_>,
 ) -> Result<Option<Vec<u8>>, AllocError>
-    ensures { IfOk result (λ o. view_bytes o ≡ fresh heap.now.heap (view_entry entry.now)) }
+    ensures { IfOk result (λ o. view_bytes o ≡ fresh heap.now.heap (view_lent entry.now)) }
 {
     if entry.stored.attrs.has(Attrs::CHANGED) {
         own_bytes(alloc, held_bytes(heap, entry.handle))

@@ -8,7 +8,7 @@ use Rattle.fork_format.specs.Canonical.{has_refs, are_distinct}
 use Rattle.fork_format.proofs.Bools.{same_self, and_both}
 use Rattle.res_map.specs.Map.{Reference, Map, IsOrdered, types, starts_with, stand_together, read_reference, with_handle}
 use Rattle.res_map.specs.Map.{of_groups, group_of, groups_of, all_anew, content, map_of}
-use Rattle.res_map.specs.Runs.{run, stored_group, runs}
+use Rattle.res_map.specs.Runs.{leading_count, stored_group, leading_groups}
 use Rattle.res_map.proofs.Anew.{kinds-anew}
 use Rattle.res_map.proofs.Order.{kinds_of, ordered-kinds}
 use Rattle.res_map.proofs.Runs.{none-of, runs_are, runs-read}
@@ -71,10 +71,10 @@ ordered_groups groups kinds references apart some kinds_are are = record {
 
 -- the run of a group's references is all of it
 run-group : (k : ℕ) (refs : List Ref) (rest : List Reference) → is_apart k (kinds_of rest) ≡ true
-    → run k (map (read_reference k) refs ++ rest) ≡ length refs
+    → leading_count k (map (read_reference k) refs ++ rest) ≡ length refs
 run-group k [] rest h = (none-of k rest h).1
 run-group k (r ∷ refs) rest h =
-    ap (λ t. cond t (suc (run k (map (read_reference k) refs ++ rest))) 0) (same_self k)
+    ap (λ t. cond t (suc (leading_count k (map (read_reference k) refs ++ rest))) 0) (same_self k)
     ∙ ap suc (run-group k refs rest h)
 
 stored-group : (k : ℕ) (refs : List Ref) (rest : List Reference)
@@ -88,17 +88,17 @@ behind-group k [] rest = refl
 behind-group k (r ∷ refs) rest = behind-group k refs rest
 
 runs-groups : (groups : List Group) → are_distinct (group_kinds groups) ≡ true
-    → runs (group_kinds groups) (of_groups groups) ≡ groups
+    → leading_groups (group_kinds groups) (of_groups groups) ≡ groups
 runs-groups [] h = refl
 runs-groups (g ∷ groups) h =
     let both : (is_apart g.kind (group_kinds groups) ≡ true) × (are_distinct (group_kinds groups) ≡ true) =
     and_parts (is_apart g.kind (group_kinds groups)) (are_distinct (group_kinds groups)) h in
     let all : List Reference = of_groups (g ∷ groups) in
-    ap (λ n. stored_group g.kind (take n all) ∷ runs (group_kinds groups) (drop n all))
+    ap (λ n. stored_group g.kind (take n all) ∷ leading_groups (group_kinds groups) (drop n all))
     (run-group g.kind g.refs (of_groups groups) (apart-groups g.kind groups both.0))
     ∙ ap (λ l. (let x : Group = record { kind = g.kind; refs = l } in x)
-    ∷ runs (group_kinds groups) (drop (length g.refs) all)) (stored-group g.kind g.refs (of_groups groups))
-    ∙ ap (λ l. g ∷ runs (group_kinds groups) l) (behind-group g.kind g.refs (of_groups groups))
+    ∷ leading_groups (group_kinds groups) (drop (length g.refs) all)) (stored-group g.kind g.refs (of_groups groups))
+    ∙ ap (λ l. g ∷ leading_groups (group_kinds groups) l) (behind-group g.kind g.refs (of_groups groups))
     ∙ ap (λ l. g ∷ l) (runs-groups groups both.1)
 
 -- the groups of a content that is opened are its own
@@ -138,6 +138,6 @@ ordered_anew kinds all references stored is anew =
 
 -- the groups of ordered references are those of their runs
 pub runs_ordered : (kinds : List ℕ) (references : List Reference) → IsOrdered kinds references
-    → runs kinds references ≡ groups_of references
+    → leading_groups kinds references ≡ groups_of references
 runs_ordered kinds references is = runs_are kinds references is.types is.together
     ∙ ap (map (group_of references)) is.types

@@ -16,7 +16,7 @@ use Rattle.fork_format.proofs.Whole.{filter-all}
 use Rattle.fork_format.proofs.Spelled.{distinct-all}
 use Rattle.res_map.specs.Map.{Reference, is_of, of_type, types, stand_together, read_reference}
 use Rattle.res_map.specs.Map.{with_handle, of_group, of_groups, group_of, all_anew}
-use Rattle.res_map.specs.Runs.{run, stored_group, runs}
+use Rattle.res_map.specs.Runs.{leading_count, stored_group, leading_groups}
 use Rattle.res_map.specs.View.{view_reference, view_all}
 use Rattle.res_map.specs.declared.stored.StoredReference.{StoredReference}
 use Rattle.res_map.proofs.Anew.{kinds-anew, take-anew, drop-anew}
@@ -28,53 +28,54 @@ use Rattle.res_map.proofs.TypeLists.{is_apart}
 -- a count of them: the first one of another type ends it
 pub run_ends : (kind : ℕ) (refs : List StoredReference) (i : ℕ) (x : StoredReference) (all : ℕ) → i < length refs
     → x ≡ get_or refs i x → (x.kind == kind) ≡ false
-    → i + run kind (map view_reference (drop i refs)) ≡ all → i ≡ all
+    → i + leading_count kind (map view_reference (drop i refs)) ≡ all → i ≡ all
 run_ends kind refs i x all inside is other e =
-    let none : run kind (map view_reference (drop i refs)) ≡ 0 =
-    ap (run kind) (rest-map view_reference refs i x inside is)
-    ∙ ap (λ t. cond t (suc (run kind (map view_reference (drop (i + 1) refs)))) 0) other in
+    let none : leading_count kind (map view_reference (drop i refs)) ≡ 0 =
+    ap (leading_count kind) (rest-map view_reference refs i x inside is)
+    ∙ ap (λ t. cond t (suc (leading_count kind (map view_reference (drop (i + 1) refs)))) 0) other in
     omega arith
 
 pub run_on : (kind : ℕ) (refs : List StoredReference) (i : ℕ) (x : StoredReference) (all : ℕ) → i < length refs
     → x ≡ get_or refs i x → (x.kind == kind) ≡ true
-    → i + run kind (map view_reference (drop i refs)) ≡ all
-    → i + 1 + run kind (map view_reference (drop (i + 1) refs)) ≡ all
+    → i + leading_count kind (map view_reference (drop i refs)) ≡ all
+    → i + 1 + leading_count kind (map view_reference (drop (i + 1) refs)) ≡ all
 run_on kind refs i x all inside is same e =
-    let rest : ℕ = run kind (map view_reference (drop (i + 1) refs)) in
-    let more : run kind (map view_reference (drop i refs)) ≡ suc rest =
-    ap (run kind) (rest-map view_reference refs i x inside is)
+    let rest : ℕ = leading_count kind (map view_reference (drop (i + 1) refs)) in
+    let more : leading_count kind (map view_reference (drop i refs)) ≡ suc rest =
+    ap (leading_count kind) (rest-map view_reference refs i x inside is)
     ∙ ap (λ t. cond t (suc rest) 0) same in
     omega arith
 
 -- they are counted by their types
 run-kinds : (kind : ℕ) (references others : List Reference) → kinds_of references ≡ kinds_of others
-    → run kind references ≡ run kind others
+    → leading_count kind references ≡ leading_count kind others
 run-kinds kind [] [] e = refl
 run-kinds kind [] (o ∷ others) e = cc
 run-kinds kind (r ∷ references) [] e = cc
 run-kinds kind (r ∷ references) (o ∷ others) e =
     let first : r.kind ≡ o.kind = cc in
     let rest : kinds_of references ≡ kinds_of others = cc in
-    ap (λ k. cond (k == kind) (suc (run kind references)) 0) first
+    ap (λ k. cond (k == kind) (suc (leading_count kind references)) 0) first
     ∙ ap (λ n. cond (is_of kind o) (suc n) 0) (run-kinds kind references others rest)
 
 -- the group of a run, and those of the references behind it
 pub runs_next : (kind : ℕ) (kinds : List ℕ) (given : List (Option (Vec ℕ Global))) (refs : List StoredReference) (n : ℕ)
-    → n ≡ run kind (map view_reference refs)
-    → runs (kind ∷ kinds) (all_anew (view_all given) (map view_reference refs))
+    → n ≡ leading_count kind (map view_reference refs)
+    → leading_groups (kind ∷ kinds) (all_anew (view_all given) (map view_reference refs))
     ≡ stored_group kind (all_anew (view_all (take n given)) (map view_reference (take n refs)))
-    ∷ runs kinds (all_anew (view_all (drop n given)) (map view_reference (drop n refs)))
+    ∷ leading_groups kinds (all_anew (view_all (drop n given)) (map view_reference (drop n refs)))
 runs_next kind kinds given refs n is =
     let all : List Reference = all_anew (view_all given) (map view_reference refs) in
-    let size : run kind all ≡ n =
+    let size : leading_count kind all ≡ n =
     run-kinds kind all (map view_reference refs) (kinds-anew (view_all given) (map view_reference refs)) ∙ sym is in
     let front : take n all ≡ all_anew (view_all (take n given)) (map view_reference (take n refs)) =
     take-anew n (view_all given) (map view_reference refs) ∙ two (take-map _ n given) (take-map _ n refs) in
     let back : drop n all ≡ all_anew (view_all (drop n given)) (map view_reference (drop n refs)) =
     drop-anew n (view_all given) (map view_reference refs) ∙ two (drop-map _ n given) (drop-map _ n refs) in
-    ap (λ m. stored_group kind (take m all) ∷ runs kinds (drop m all)) size
-    ∙ ap (λ l. stored_group kind l ∷ runs kinds (drop n all)) front
-    ∙ ap (λ l. stored_group kind (all_anew (view_all (take n given)) (map view_reference (take n refs))) ∷ runs kinds l)
+    ap (λ m. stored_group kind (take m all) ∷ leading_groups kinds (drop m all)) size
+    ∙ ap (λ l. stored_group kind l ∷ leading_groups kinds (drop n all)) front
+    ∙ ap (λ l. stored_group kind (all_anew (view_all (take n given)) (map view_reference (take n refs))) ∷
+    leading_groups kinds l)
     back
   where
     two : {gs hs : List (Option (List ℕ))} {rs ss : List Reference} → gs ≡ hs → rs ≡ ss
@@ -84,8 +85,8 @@ runs_next kind kinds given refs n is =
 -- References with those in front that are of the first one's type, and those behind that are of other types.
 
 record IsCut (kind : ℕ) (front back references : List Reference) : Type 0 where
-  front_is : take (run kind references) references ≡ front
-  back_is : drop (run kind references) references ≡ back
+  front_is : take (leading_count kind references) references ≡ front
+  back_is : drop (leading_count kind references) references ≡ back
   whole : front ++ back ≡ references
   own : of_type kind references ≡ front
   others : (m : ℕ) → (kind == m) ≡ false → of_type m references ≡ of_type m back
@@ -96,7 +97,7 @@ record IsCut (kind : ℕ) (front back references : List Reference) : Type 0 wher
 
 -- there is none of a type among others
 pub none-of : (kind : ℕ) (references : List Reference) → is_apart kind (kinds_of references) ≡ true
-    → (of_type kind references ≡ []) × (run kind references ≡ 0)
+    → (of_type kind references ≡ []) × (leading_count kind references ≡ 0)
 none-of kind [] h = (refl, refl)
 none-of kind (r ∷ references) h =
     let both : (not (r.kind == kind) ≡ true) × (is_apart kind (kinds_of references) ≡ true) =
@@ -105,7 +106,7 @@ none-of kind (r ∷ references) h =
   where
     cases : (t : Bool) → not t ≡ true → of_type kind references ≡ []
         → (cond t (r ∷ of_type kind references) (of_type kind references) ≡ [])
-        × (cond t (suc (run kind references)) 0 ≡ 0)
+        × (cond t (suc (leading_count kind references)) 0 ≡ 0)
     cases true other rest = absurd (let no : false ≡ true = other in cc)
     cases false other rest = (rest, refl)
 
@@ -113,9 +114,10 @@ none-of kind (r ∷ references) h =
 cut_first : (r : Reference) (references : List Reference) → is_apart r.kind (kinds_of references) ≡ true
     → stand_together (kinds_of references) ≡ true → IsCut r.kind (r ∷ []) references (r ∷ references)
 cut_first r references other together =
-    let none : (of_type r.kind references ≡ []) × (run r.kind references ≡ 0) = none-of r.kind references other in
-    let counted : run r.kind (r ∷ references) ≡ 1 =
-    ap (λ t. cond t (suc (run r.kind references)) 0) (same_self r.kind) ∙ ap suc none.1 in
+    let none : (of_type r.kind references ≡ []) × (leading_count r.kind references ≡ 0) = none-of r.kind references
+    other in
+    let counted : leading_count r.kind (r ∷ references) ≡ 1 =
+    ap (λ t. cond t (suc (leading_count r.kind references)) 0) (same_self r.kind) ∙ ap suc none.1 in
     let are : is_apart r.kind (types references) ≡ true =
     distinct-all (λ m. not (m == r.kind)) (kinds_of references) other in
     record {
@@ -135,8 +137,8 @@ cut_first r references other together =
 cut_more : (r : Reference) (front back references : List Reference) → IsCut r.kind front back references
     → IsCut r.kind (r ∷ front) back (r ∷ references)
 cut_more r front back references cut =
-    let counted : run r.kind (r ∷ references) ≡ suc (run r.kind references) =
-    ap (λ t. cond t (suc (run r.kind references)) 0) (same_self r.kind) in
+    let counted : leading_count r.kind (r ∷ references) ≡ suc (leading_count r.kind references) =
+    ap (λ t. cond t (suc (leading_count r.kind references)) 0) (same_self r.kind) in
     record {
       front_is = ap (λ n. take n (r ∷ references)) counted ∙ ap (λ l. r ∷ l) cut.front_is;
       back_is = ap (λ n. drop n (r ∷ references)) counted ∙ cut.back_is;
@@ -218,27 +220,30 @@ groups_behind kind front back references c (m ∷ kinds) are =
 
 -- the groups of all types are those of the runs
 pub runs_are : (kinds : List ℕ) (references : List Reference) → kinds ≡ types references
-    → stand_together (kinds_of references) ≡ true → runs kinds references ≡ map (group_of references) kinds
+    → stand_together (kinds_of references) ≡ true → leading_groups kinds references ≡ map (group_of references) kinds
 runs_are [] references are together = refl
 runs_are (kind ∷ kinds) references are together =
     let c : FirstCut kind kinds references = first_cut kind kinds references are together in
-    ap (λ l. stored_group kind l ∷ runs kinds (drop (run kind references) references)) (c.is.front_is ∙ sym c.is.own)
-    ∙ ap (λ l. group_of references kind ∷ l) (ap (runs kinds) c.is.back_is ∙ runs_are kinds c.back c.rest c.is.together
+    ap (λ l. stored_group kind l ∷ leading_groups kinds (drop (leading_count kind references) references))
+    (c.is.front_is ∙ sym c.is.own)
+    ∙ ap (λ l. group_of references kind ∷ l) (ap (leading_groups kinds) c.is.back_is ∙ runs_are kinds c.back c.rest
+    c.is.together
     ∙ sym (groups_behind kind c.front c.back references c.is kinds
     (ap (is_apart kind) c.rest ∙ c.is.apart_are)))
 
 -- they are read as the references without handles
 pub runs-read : (kinds : List ℕ) (references : List Reference) → kinds ≡ types references
     → stand_together (kinds_of references) ≡ true
-    → of_groups (runs kinds references) ≡ map (with_handle None) references
+    → of_groups (leading_groups kinds references) ≡ map (with_handle None) references
 runs-read [] [] are together = refl
 runs-read [] (r ∷ references) are together = absurd (let no : [] ≡ types (r ∷ references) = are in cc)
 runs-read (kind ∷ kinds) references are together =
     let c : FirstCut kind kinds references = first_cut kind kinds references are together in
-    ap (λ l. of_group (stored_group kind l) ++ of_groups (runs kinds (drop (run kind references) references)))
+    ap (λ l. of_group (stored_group kind l) ++ of_groups
+    (leading_groups kinds (drop (leading_count kind references) references)))
     c.is.front_is
-    ∙ ap (λ l. l ++ of_groups (runs kinds (drop (run kind references) references))) c.is.reads
-    ∙ ap (λ l. map (with_handle None) c.front ++ l) (ap (λ l. of_groups (runs kinds l)) c.is.back_is
+    ∙ ap (λ l. l ++ of_groups (leading_groups kinds (drop (leading_count kind references) references))) c.is.reads
+    ∙ ap (λ l. map (with_handle None) c.front ++ l) (ap (λ l. of_groups (leading_groups kinds l)) c.is.back_is
     ∙ runs-read kinds c.back c.rest c.is.together)
     ∙ sym (map-append (with_handle None) c.front c.back) ∙ ap (map (with_handle None)) c.is.whole
 
@@ -246,16 +251,17 @@ runs-read (kind ∷ kinds) references are together =
 pub groups_on : (front front' : List StoredGroup) (g : StoredGroup) (kinds : List ℕ) (j kind n : ℕ)
     (given own_given more_given : List (Option (Vec ℕ Global))) (refs own more : List StoredReference)
     (all : List Group)
-    → drop j kinds ≡ kind ∷ drop (j + 1) kinds → n ≡ run kind (map view_reference refs)
+    → drop j kinds ≡ kind ∷ drop (j + 1) kinds → n ≡ leading_count kind (map view_reference refs)
     → own_given ≡ take n given → more_given ≡ drop n given → own ≡ take n refs → more ≡ drop n refs
     → view_group g ≡ stored_group kind (all_anew (view_all own_given) (map view_reference own))
     → front' ≡ front ++ g ∷ []
-    → map view_group front ++ runs (drop j kinds) (all_anew (view_all given) (map view_reference refs)) ≡ all
-    → map view_group front' ++ runs (drop (j + 1) kinds) (all_anew (view_all more_given) (map view_reference more))
+    → map view_group front ++ leading_groups (drop j kinds) (all_anew (view_all given) (map view_reference refs)) ≡ all
+    → map view_group front' ++ leading_groups (drop (j + 1) kinds)
+    (all_anew (view_all more_given) (map view_reference more))
     ≡ all
 groups_on front front' g kinds j kind n given own_given more_given refs own more all next size p q r s is pushed e =
     let rest : List Group =
-    runs (drop (j + 1) kinds) (all_anew (view_all (drop n given)) (map view_reference (drop n refs))) in
+    leading_groups (drop (j + 1) kinds) (all_anew (view_all (drop n given)) (map view_reference (drop n refs))) in
     let group : view_group g
     ≡ stored_group kind (all_anew (view_all (take n given)) (map view_reference (take n refs))) =
     is ∙ ap (λ l. stored_group kind (all_anew (view_all l) (map view_reference own))) p
@@ -264,5 +270,5 @@ groups_on front front' g kinds j kind n given own_given more_given refs own more
     ∙ append_assoc (map view_group front) (view_group g ∷ []) rest
     ∙ ap (λ x. map view_group front ++ x ∷ rest) group
     ∙ ap (λ l. map view_group front ++ l)
-    (sym (ap (λ l. runs l (all_anew (view_all given) (map view_reference refs))) next
+    (sym (ap (λ l. leading_groups l (all_anew (view_all given) (map view_reference refs))) next
     ∙ runs_next kind (drop (j + 1) kinds) given refs n size)) ∙ e)

@@ -4,7 +4,7 @@ use Rattle.byteorder.specs.Endian.{big_number}
 use Rattle.fork_format.specs.View.{view_ref}
 use Rattle.res_map.specs.declared.stored.StoredName.{StoredName}
 use Rattle.res_map.specs.declared.stored.StoredReference.{StoredReference}
-use Rattle.res_map.specs.declared.entry.Entry.{Entry}
+use Rattle.res_map.specs.declared.lent.LentReference.{LentReference}
 use Rattle.res_map.specs.Map.{Reference}
 
 -- A name as a value, without the place where it lies in memory.
@@ -25,8 +25,8 @@ view_reference r = record {
 }
 
 -- A reference that is lent as a value.
-abbrev pub view_entry : Entry → Reference
-view_entry e = record { kind = big_number 4 e.ty.0; stored = view_ref e.stored; handle = e.handle }
+abbrev pub view_lent : LentReference → Reference
+view_lent e = record { kind = big_number 4 e.ty.0; stored = view_ref e.stored; handle = e.handle }
 
 -- Bytes that may be given, as a value.
 abbrev pub view_bytes : Option (Vec ℕ Global) → Option (List ℕ)

@@ -5,16 +5,16 @@
 
 mod adding;
 mod changing;
-mod entry;
 mod laws;
+mod lent;
 mod reading;
 mod res_file;
 mod search;
 mod stored;
 mod storing;
 
-pub use entry::Entry;
 pub use laws::{
     a_content_that_is_opened_is_told_again, a_map_whose_content_is_opened_is_there_again,
 };
+pub use lent::LentReference;
 pub use res_file::ResFile;

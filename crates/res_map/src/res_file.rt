@@ -11,11 +11,11 @@ ghost use Rattle.res_map.specs.Split.{split, place};
 ghost use Rattle.res_map.specs.Map.{Reference, Map, IsOrdered, is_of, is_resource, is_named, has_handle, types};
 ghost use Rattle.res_map.specs.Map.{of_type, nth, split_nth, map_of, with_handle, with_attrs, stored_anew, renamed};
 ghost use Rattle.res_map.specs.Map.{added, new_reference};
-ghost use Rattle.res_map.specs.View.{view_reference, view_entry};
+ghost use Rattle.res_map.specs.View.{view_reference, view_lent};
 
 use crate::adding::{new_one, put_in, take_out};
 use crate::changing::{name_of, put_attrs, put_datum, put_handle, put_name};
-use crate::entry::{Entry, entry_of, type_of};
+use crate::lent::{LentReference, entry_of, type_of};
 use crate::reading::{read_groups, read_types};
 use crate::search::{count_of, handles_of, nth_place, place_holding, place_named, place_of};
 use crate::stored::StoredReference;
@@ -73,9 +73,9 @@ impl ResFile {
     }
 
     /// Returns the reference at a place.
-    pub fn reference(&self, index: usize) -> Entry<'_>
+    pub fn reference(&self, index: usize) -> LentReference<'_>
         requires { index < length self.now.references }
-        ensures { slice_get self.now.references index ≡ Some (view_entry result) }
+        ensures { slice_get self.now.references index ≡ Some (view_lent result) }
     {
         entry_of(&self.refs[index])
     }

@@ -3,10 +3,10 @@
 ghost use Rattle.std.specs.Prelude.{◌≡◌, ◌≤◌, ℕ, length, map, unwrap_or, IfOk};
 ghost use Rattle.fork_format.specs.View.{view_ref, view_group, view};
 ghost use Rattle.res_map.specs.Map.{Reference, stored_anew, all_anew, content};
-ghost use Rattle.res_map.specs.Runs.{run, stored_group, runs};
+ghost use Rattle.res_map.specs.Runs.{leading_count, stored_group, leading_groups};
 ghost use Rattle.res_map.specs.View.{view_reference, view_bytes, view_all};
 
-use crate::entry::{lent_name, type_of};
+use crate::lent::{lent_name, type_of};
 use crate::res_file::ResFile;
 use crate::stored::StoredReference;
 use fork_format::{Content, Group, Ref};
@@ -94,8 +94,8 @@ fn group_of<'a>(
 
 /// Returns the number of references before the first one of another type.
 #[tactic(auto, using(crate::proofs::Runs::run_ends, crate::proofs::Runs::run_on))]
-fn run_of(refs: &[StoredReference], kind: u32) -> usize
-    ensures run { result ≡ run kind (map view_reference refs.now) }
+fn leading_of(refs: &[StoredReference], kind: u32) -> usize
+    ensures leading { result ≡ leading_count kind (map view_reference refs.now) }
     ensures within { result ≤ length refs.now }
 {
     for i in 0..refs.len() {
@@ -115,13 +115,13 @@ fn groups_of<'a>(
 ) -> Result<Vec<Group<'a>>, AllocError>
     requires { length fresh.now ≡ length refs.now }
     ensures { IfOk result (λ v. map view_group v.items
-        ≡ runs kinds.now (all_anew (view_all fresh.now) (map view_reference refs.now))) }
+        ≡ leading_groups kinds.now (all_anew (view_all fresh.now) (map view_reference refs.now))) }
 {
     let mut groups = Vec::with_capacity(alloc, kinds.len())?;
     let mut refs = refs;
     let mut fresh = fresh;
     for kind in kinds {
-        let len = run_of(refs, *kind);
+        let len = leading_of(refs, *kind);
         let (own_refs, more_refs) = refs.split_at(len);
         let (own_fresh, more_fresh) = fresh.split_at(len);
         groups.push(group_of(alloc, *kind, own_refs, own_fresh)?)?;

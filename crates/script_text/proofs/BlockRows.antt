@@ -2,7 +2,7 @@
 use Rattle.std.proofs.Common.{◌≡◌, [], ◌∷◌, Ok, Err, refl, codes, pos, negsuc}
 use Rattle.std.specs.Fmt.{digits}
 use Rattle.script_text.specs.declared.fault.FaultKind.TheVariants.{UnknownCall, BadArgument, NotAllowed}
-use Rattle.script_text.specs.declared.word.Word.TheVariants as word
+use Rattle.script_text.specs.declared.word.CallWord.TheVariants as word
 use Rattle.script_text.specs.Token.{after_blanks, token_at}
 use Rattle.script_text.specs.Argument.{Letters, argument}
 use Rattle.script_text.specs.Call.{word_spelled}

@@ -2,8 +2,8 @@
 use Rattle.std.proofs.Common.{◌≡◌, ℕ, List, [], ◌∷◌, Ok, Err, refl, codes, pos, negsuc}
 use Rattle.std.specs.Fmt.{digits}
 use Rattle.script_text.specs.declared.fault.FaultKind.TheVariants.{UnknownCall, BadArgument}
-use Rattle.script_text.specs.declared.word.Word.{Word}
-use Rattle.script_text.specs.declared.word.Word.TheVariants as word
+use Rattle.script_text.specs.declared.word.CallWord.{CallWord}
+use Rattle.script_text.specs.declared.word.CallWord.TheVariants as word
 use Rattle.script_text.specs.Token.{after_blanks, token_at}
 use Rattle.script_text.specs.Argument.{Value, Letters, Number as Count, Raw, argument}
 use Rattle.script_text.specs.Call.{word_spelled}
@@ -11,7 +11,7 @@ use Rattle.script_text.specs.Script.{script_of, read_at, with_token, Statement, 
 use Rattle.script_text.specs.Transcript.{Number, Bytes, launch_line, end_line, reply_line}
 
 -- a line that holds a call
-abbrev pub says : ℕ → Word → List Value → Statement
+abbrev pub says : ℕ → CallWord → List Value → Statement
 says n w values = record { line = n; said = Makes w values }
 
 nothing : script_of [] ≡ Ok (record { steps = []; blocks = [] })

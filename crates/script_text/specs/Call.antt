@@ -10,15 +10,15 @@ use Rattle.mac_words.specs.declared.resource_call.ResourceCall.TheVariants as re
 use Rattle.mac_words.specs.declared.segment_call.SegmentCall.{SegmentCall}
 use Rattle.mac_words.specs.declared.segment_call.SegmentCall.TheVariants as segment
 use Rattle.script_text.specs.declared.fault.FaultKind.{FaultKind}
-use Rattle.script_text.specs.declared.word.Word.{Word}
-use Rattle.script_text.specs.declared.word.Word.TheVariants as word
+use Rattle.script_text.specs.declared.word.CallWord.{CallWord}
+use Rattle.script_text.specs.declared.word.CallWord.TheVariants as word
 use Rattle.script_text.specs.declared.word.TheConstants.{WORDS}
 use Rattle.script_text.specs.Reading.{◌>>=◌}
 use Rattle.script_text.specs.Argument.{Kind, Label, Size, Id, Byte, ResType, Bytes, File, Text, Switch, Value, Letters}
 use Rattle.script_text.specs.Argument.{Number, Signed, Raw, Flag, arguments}
 
 -- The table of calls: how each call is spelled, and the kinds of its arguments.
-abbrev pub row : Word → List ℕ × List Kind
+abbrev pub row : CallWord → List ℕ × List Kind
 row word.NewHandle = (codes "NewHandle", Label ∷ Size ∷ [])
 row word.NewEmptyHandle = (codes "NewEmptyHandle", Label ∷ [])
 row word.DisposeHandle = (codes "DisposeHandle", Label ∷ [])
@@ -93,15 +93,15 @@ row word.WaitNextEvent = (codes "WaitNextEvent", [])
 row word.ExitToShell = (codes "ExitToShell", [])
 
 -- The spelling of a call.
-abbrev pub spelling : Word → List ℕ
+abbrev pub spelling : CallWord → List ℕ
 spelling w = (row w).0
 
 -- The kinds of a call's arguments.
-abbrev pub kinds : Word → List Kind
+abbrev pub kinds : CallWord → List Kind
 kinds w = (row w).1
 
 -- A call of the Memory Manager as its word and the values of its arguments.
-abbrev pub heap_spoken : HeapCall → Word × List Value
+abbrev pub heap_spoken : HeapCall → CallWord × List Value
 heap_spoken (heap.NewHandle h size) = (word.NewHandle, Letters h.0.items ∷ Number size ∷ [])
 heap_spoken (heap.NewEmptyHandle h) = (word.NewEmptyHandle, Letters h.0.items ∷ [])
 heap_spoken (heap.DisposeHandle h) = (word.DisposeHandle, Letters h.0.items ∷ [])
@@ -140,7 +140,7 @@ heap_spoken (heap.ShowPtr p) = (word.ShowPtr, Letters p.0.items ∷ [])
 heap_spoken (heap.Where name) = (word.Where, Letters name.0.items ∷ [])
 
 -- A call of the Resource Manager as its word and the values of its arguments.
-abbrev pub resource_spoken : ResourceCall → Word × List Value
+abbrev pub resource_spoken : ResourceCall → CallWord × List Value
 resource_spoken (resource.OpenResFile file) = (word.OpenResFile, Raw file.0.items ∷ [])
 resource_spoken (resource.CreateResFile file) = (word.CreateResFile, Raw file.0.items ∷ [])
 resource_spoken (resource.CloseResFile n) = (word.CloseResFile, Number n ∷ [])
@@ -176,32 +176,32 @@ resource_spoken (resource.SetResLoad on) = (word.SetResLoad, Flag on ∷ [])
 resource_spoken resource.ResError = (word.ResError, [])
 
 -- A call of the Segment Manager, or through the jump table, as its word and the values of its arguments.
-abbrev pub segment_spoken : SegmentCall → Word × List Value
+abbrev pub segment_spoken : SegmentCall → CallWord × List Value
 segment_spoken (segment.LoadSeg id) = (word.LoadSeg, Signed id ∷ [])
 segment_spoken (segment.UnloadSeg id) = (word.UnloadSeg, Signed id ∷ [])
 segment_spoken (segment.CallEntry n) = (word.CallEntry, Number n ∷ [])
 segment_spoken (segment.ShowEntry n) = (word.ShowEntry, Number n ∷ [])
 
 -- A call by which an application controls how it is run, as its word and the values of its arguments.
-abbrev pub control_spoken : ControlCall → Word × List Value
+abbrev pub control_spoken : ControlCall → CallWord × List Value
 control_spoken (control.SetGrowZone name) = (word.SetGrowZone, Letters name.0.items ∷ [])
 control_spoken control.WaitNextEvent = (word.WaitNextEvent, [])
 control_spoken control.ExitToShell = (word.ExitToShell, [])
 
 -- A call as its word and the values of its arguments.
-abbrev pub spoken : Call → Word × List Value
+abbrev pub spoken : Call → CallWord × List Value
 spoken (call.Heap c) = heap_spoken c
 spoken (call.Resource c) = resource_spoken c
 spoken (call.Segment c) = segment_spoken c
 spoken (call.Control c) = control_spoken c
 
 -- The word of a call.
-abbrev pub word_of : Call → Word
+abbrev pub word_of : Call → CallWord
 word_of c = (spoken c).0
 
 -- Whether a grow-zone script may hold the call of this word.
 -- See decision 95 (a line that would end the application cannot stand in a grow-zone script).
-abbrev pub may_stand : Word → Bool
+abbrev pub may_stand : CallWord → Bool
 may_stand word.EmptyHandle = true
 may_stand word.DisposeHandle = true
 may_stand word.DisposePtr = true
@@ -217,11 +217,11 @@ abbrev pub is_allowed : Call → Bool
 is_allowed c = may_stand (word_of c)
 
 -- The word that a token spells.
-unfoldable pub word_spelled : List ℕ → Option Word
+unfoldable pub word_spelled : List ℕ → Option CallWord
 word_spelled token = find (λ w. bytes_eq (spelling w) token) WORDS
 
 -- The word of a call and the values of its arguments, which a text spells.
-abbrev pub call_read : Word → List ℕ → Result (Word × List Value) FaultKind
+abbrev pub call_read : CallWord → List ℕ → Result (CallWord × List Value) FaultKind
 call_read word text = do
   values ← arguments (kinds word) text
   Ok (word, values)

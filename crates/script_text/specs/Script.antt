@@ -10,8 +10,8 @@ use Rattle.script_text.specs.declared.fault.FaultKind.{FaultKind}
 use Rattle.script_text.specs.declared.fault.FaultKind.TheVariants.{UnknownCall, BadArgument, NotAllowed, LongLine}
 use Rattle.script_text.specs.declared.script.Begun as declared
 use Rattle.script_text.specs.declared.script.Line.{Line}
-use Rattle.script_text.specs.declared.word.Word.{Word}
-use Rattle.script_text.specs.declared.word.Word.TheVariants as word
+use Rattle.script_text.specs.declared.word.CallWord.{CallWord}
+use Rattle.script_text.specs.declared.word.CallWord.TheVariants as word
 use Rattle.script_text.specs.Reading.{◌>>=◌}
 use Rattle.script_text.specs.Token.{place, is_blank, after_blanks}
 use Rattle.script_text.specs.Argument.{Label, Value, Letters, arguments}
@@ -21,7 +21,7 @@ use Rattle.script_text.specs.Call.{spoken, may_stand, is_allowed, word_spelled, 
 
 -- The steps of a script, and its grow-zone scripts in the order of their `end` lines, each with its name and its
 -- lines.
-pub record Parts : Type 0 where
+pub record ScriptParts : Type 0 where
   pub steps : List Line
   pub blocks : List (List ℕ × List Line)
 
@@ -50,7 +50,7 @@ NoneIsUnused blocks = has_block (codes "none") blocks ≡ false
 
 -- What a line states: a call by its word, and the values of its arguments.
 pub data Said : Type 0 where
-  Makes : (word : Word) → (values : List Value) → Said
+  Makes : (word : CallWord) → (values : List Value) → Said
 
 -- A line that holds a call: its number, from 1, and what it states.
 pub record Statement : Type 0 where
@@ -85,7 +85,7 @@ with_statement s above (Some b) = record {
 
 -- A call of a known word at the n-th line, by the text after the word: a grow-zone script may hold only some calls.
 -- See decision 115 (in a block a call that is not allowed is fault 3).
-abbrev pub call_at : ℕ → Above → Word → List ℕ → Result Above FaultKind
+abbrev pub call_at : ℕ → Above → CallWord → List ℕ → Result Above FaultKind
 call_at n above word rest =
     if is_some above.begun && not (may_stand word) then Err NotAllowed
     else (call_read word rest >>= λ call.
@@ -217,5 +217,5 @@ abbrev pub begun_seen : declared.Begun → Begun
 begun_seen b = record { line = b.line; name = b.name.0.items; statements = map statement b.lines.items }
 
 -- A script of the code, with its lines as statements.
-abbrev pub spelled : Parts → Spelled
+abbrev pub spelled : ScriptParts → Spelled
 spelled parts = record { steps = map statement parts.steps; blocks = blocks_seen parts.blocks }

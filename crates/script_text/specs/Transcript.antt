@@ -6,7 +6,7 @@ use Rattle.std.specs.Ordering.{int_eq}
 use Rattle.mac_words.specs.declared.name.Name.{Name}
 use Rattle.mac_words.specs.declared.name.OsType.{OsType}
 use Rattle.mac_words.specs.declared.reply.Reply.{Reply}
-use Rattle.script_text.specs.declared.word.Word.{Word}
+use Rattle.script_text.specs.declared.word.CallWord.{CallWord}
 use Rattle.script_text.specs.Call.{spelling}
 
 -- A value of a transcript.
@@ -63,7 +63,7 @@ abbrev pub end_line : ℤ → List ℕ
 end_line code = codes "end " ++ signed_decimal code ++ codes "\n"
 
 -- The number of a call's line, and the spelling of the call.
-abbrev pub call_at : ℕ → Word → List ℕ
+abbrev pub call_at : ℕ → CallWord → List ℕ
 call_at line word = decimal line ++ codes " " ++ spelling word
 
 -- The result code and, after code 0, the values.
@@ -71,9 +71,9 @@ abbrev pub outcome : ℤ → List Shown → List ℕ
 outcome code values = codes " " ++ signed_decimal code ++ (if int_eq code (pos 0) then shown_all values else [])
 
 -- The line of a call.
-abbrev pub reply_line : ℕ → Word → ℤ → List Shown → List ℕ
+abbrev pub reply_line : ℕ → CallWord → ℤ → List Shown → List ℕ
 reply_line line word code values = call_at line word ++ outcome code values ++ codes "\n"
 
 -- The line of a call of a grow-zone script: a +, and the line of the call.
-abbrev pub grow_line : ℕ → Word → ℤ → List Shown → List ℕ
+abbrev pub grow_line : ℕ → CallWord → ℤ → List Shown → List ℕ
 grow_line line word code values = codes "+" ++ reply_line line word code values

@@ -22,4 +22,4 @@ pub use fault::{FaultKind, ScriptFault};
 pub use job::{Event, Input, JobText, read_job};
 pub use script::{Line, Script, read_script};
 pub use transcript::{write_end, write_grow_reply, write_hex, write_launch, write_reply};
-pub use word::{CALLS, Word, words_are_apart};
+pub use word::{CALLS, CallWord, words_are_apart};

@@ -1,107 +1,116 @@
 //! The words of calls, by their length.
 
-use crate::word::Word;
+use crate::word::CallWord;
 
-static OF_THREE: [Word; 1] = [Word::Put];
+static OF_THREE: [CallWord; 1] = [CallWord::Put];
 
-static OF_FOUR: [Word; 1] = [Word::Show];
+static OF_FOUR: [CallWord; 1] = [CallWord::Show];
 
-static OF_FIVE: [Word; 2] = [Word::HLock, Word::Where];
+static OF_FIVE: [CallWord; 2] = [CallWord::HLock, CallWord::Where];
 
-static OF_SIX: [Word; 4] = [Word::NewPtr, Word::HPurge, Word::MaxMem, Word::PutPtr];
-
-static OF_SEVEN: [Word; 6] = [
-    Word::HUnlock,
-    Word::MoveHHi,
-    Word::HLockHi,
-    Word::FreeMem,
-    Word::LoadSeg,
-    Word::ShowPtr,
+static OF_SIX: [CallWord; 4] = [
+    CallWord::NewPtr,
+    CallWord::HPurge,
+    CallWord::MaxMem,
+    CallWord::PutPtr,
 ];
 
-static OF_EIGHT: [Word; 5] = [
-    Word::HNoPurge,
-    Word::MaxBlock,
-    Word::PurgeMem,
-    Word::MemError,
-    Word::ResError,
+static OF_SEVEN: [CallWord; 6] = [
+    CallWord::HUnlock,
+    CallWord::MoveHHi,
+    CallWord::HLockHi,
+    CallWord::FreeMem,
+    CallWord::LoadSeg,
+    CallWord::ShowPtr,
 ];
 
-static OF_NINE: [Word; 6] = [
-    Word::NewHandle,
-    Word::HGetState,
-    Word::HSetState,
-    Word::UnloadSeg,
-    Word::CallEntry,
-    Word::ShowEntry,
+static OF_EIGHT: [CallWord; 5] = [
+    CallWord::HNoPurge,
+    CallWord::MaxBlock,
+    CallWord::PurgeMem,
+    CallWord::MemError,
+    CallWord::ResError,
 ];
 
-static OF_TEN: [Word; 13] = [
-    Word::DisposePtr,
-    Word::HandToHand,
-    Word::PtrAndHand,
-    Word::GetPtrSize,
-    Word::SetPtrSize,
-    Word::PurgeSpace,
-    Word::CompactMem,
-    Word::ReserveMem,
-    Word::UseResFile,
-    Word::CurResFile,
-    Word::GetResInfo,
-    Word::SetResInfo,
-    Word::SetResLoad,
+static OF_NINE: [CallWord; 6] = [
+    CallWord::NewHandle,
+    CallWord::HGetState,
+    CallWord::HSetState,
+    CallWord::UnloadSeg,
+    CallWord::CallEntry,
+    CallWord::ShowEntry,
 ];
 
-static OF_ELEVEN: [Word; 13] = [
-    Word::GetResource,
-    Word::EmptyHandle,
-    Word::HandAndHand,
-    Word::MoreMasters,
-    Word::SetGrowZone,
-    Word::OpenResFile,
-    Word::HomeResFile,
-    Word::Count1Types,
-    Word::Get1IndType,
-    Word::AddResource,
-    Word::GetResAttrs,
-    Word::SetResAttrs,
-    Word::ExitToShell,
+static OF_TEN: [CallWord; 13] = [
+    CallWord::DisposePtr,
+    CallWord::HandToHand,
+    CallWord::PtrAndHand,
+    CallWord::GetPtrSize,
+    CallWord::SetPtrSize,
+    CallWord::PurgeSpace,
+    CallWord::CompactMem,
+    CallWord::ReserveMem,
+    CallWord::UseResFile,
+    CallWord::CurResFile,
+    CallWord::GetResInfo,
+    CallWord::SetResInfo,
+    CallWord::SetResLoad,
 ];
 
-static OF_TWELVE: [Word; 3] = [Word::CloseResFile, Word::Get1Resource, Word::LoadResource];
-
-static OF_THIRTEEN: [Word; 7] = [
-    Word::DisposeHandle,
-    Word::SetHandleSize,
-    Word::GetHandleSize,
-    Word::CreateResFile,
-    Word::UpdateResFile,
-    Word::WriteResource,
-    Word::WaitNextEvent,
+static OF_ELEVEN: [CallWord; 13] = [
+    CallWord::GetResource,
+    CallWord::EmptyHandle,
+    CallWord::HandAndHand,
+    CallWord::MoreMasters,
+    CallWord::SetGrowZone,
+    CallWord::OpenResFile,
+    CallWord::HomeResFile,
+    CallWord::Count1Types,
+    CallWord::Get1IndType,
+    CallWord::AddResource,
+    CallWord::GetResAttrs,
+    CallWord::SetResAttrs,
+    CallWord::ExitToShell,
 ];
 
-static OF_FOURTEEN: [Word; 3] = [
-    Word::NewEmptyHandle,
-    Word::DetachResource,
-    Word::RemoveResource,
+static OF_TWELVE: [CallWord; 3] = [
+    CallWord::CloseResFile,
+    CallWord::Get1Resource,
+    CallWord::LoadResource,
 ];
 
-static OF_FIFTEEN: [Word; 4] = [
-    Word::Count1Resources,
-    Word::Get1IndResource,
-    Word::ReleaseResource,
-    Word::ChangedResource,
+static OF_THIRTEEN: [CallWord; 7] = [
+    CallWord::DisposeHandle,
+    CallWord::SetHandleSize,
+    CallWord::GetHandleSize,
+    CallWord::CreateResFile,
+    CallWord::UpdateResFile,
+    CallWord::WriteResource,
+    CallWord::WaitNextEvent,
 ];
 
-static OF_SIXTEEN: [Word; 2] = [Word::ReallocateHandle, Word::GetNamedResource];
+static OF_FOURTEEN: [CallWord; 3] = [
+    CallWord::NewEmptyHandle,
+    CallWord::DetachResource,
+    CallWord::RemoveResource,
+];
 
-static OF_SEVENTEEN: [Word; 1] = [Word::Get1NamedResource];
+static OF_FIFTEEN: [CallWord; 4] = [
+    CallWord::Count1Resources,
+    CallWord::Get1IndResource,
+    CallWord::ReleaseResource,
+    CallWord::ChangedResource,
+];
 
-static OF_TWENTY_ONE: [Word; 1] = [Word::GetResourceSizeOnDisk];
+static OF_SIXTEEN: [CallWord; 2] = [CallWord::ReallocateHandle, CallWord::GetNamedResource];
+
+static OF_SEVENTEEN: [CallWord; 1] = [CallWord::Get1NamedResource];
+
+static OF_TWENTY_ONE: [CallWord; 1] = [CallWord::GetResourceSizeOnDisk];
 
 /// Returns the words of `length` letters, among which a token of that length is searched for first. A word that is
 /// missing here is found nevertheless, since all words are searched afterwards.
-pub fn likely(length: usize) -> &'static [Word] {
+pub fn likely(length: usize) -> &'static [CallWord] {
     match length {
         3 => &OF_THREE,
         4 => &OF_FOUR,

@@ -4,7 +4,8 @@ ghost use Rattle.std.specs.Prelude.{◌≡◌, false, true, List, [], ◌∷◌,
 ghost use Rattle.std.specs.Option.{option_map};
 ghost use Rattle.std.specs.Str.Lines.{lines};
 ghost use Rattle.script_text.specs.Call.{is_allowed};
-ghost use Rattle.script_text.specs.Script.{Parts, AllAllowed, NoneIsUnused, are_allowed, block_of, Above, call_at};
+ghost use Rattle.script_text.specs.Script.{ScriptParts, AllAllowed, NoneIsUnused, are_allowed, block_of, Above};
+ghost use Rattle.script_text.specs.Script.{call_at};
 ghost use Rattle.script_text.specs.Script.{grow_at, end_at};
 ghost use Rattle.script_text.specs.Script.{is_new, with_token, read_at, read_from, no_lines, is_begun, is_there};
 ghost use Rattle.script_text.specs.Script.{sets_missing, first_missing, lesser, unfinished, script_of};
@@ -17,7 +18,7 @@ use crate::blocks::Blocks;
 use crate::fault::{FaultKind, ScriptFault};
 use crate::lines::{LONGEST_LINE, next_line};
 use crate::token::{first_blank, trim};
-use crate::word::Word;
+use crate::word::CallWord;
 use mac_words::{Call, ControlCall, Label};
 use std::alloc::{AllocError, Global};
 use std::marker::Model;
@@ -38,7 +39,7 @@ pub struct Script {
 }
 
 impl Model for Script {
-    ghost Value = { Parts };
+    ghost Value = { ScriptParts };
 
     ghost view = { λ s. record { steps = s.steps.items; blocks = s.blocks } };
 
@@ -115,7 +116,7 @@ fn has_name(begun: &Option<Begun>, name: &Label) -> bool
 
 impl Reader {
     /// Adds a call as a step, or as a line of the grow-zone script whose `end` is still to come.
-    fn take(&mut self, number: usize, word: Word, rest: &[u8]) -> Result<(), FaultKind>
+    fn take(&mut self, number: usize, word: CallWord, rest: &[u8]) -> Result<(), FaultKind>
         ensures { Gives (λ _. self.new) result (call_at number self.old word rest.now) }
     {
         if self.begun.is_some() && !word.is_allowed() {
@@ -173,7 +174,7 @@ impl Reader {
         match token {
             b"grow" => self.begin(number, rest),
             b"end" => self.finish(rest),
-            _ => match Word::find(token) {
+            _ => match CallWord::find(token) {
                 Some(word) => self.take(number, word, rest),
                 None => Err(FaultKind::UnknownCall),
             },

@@ -8,7 +8,7 @@ ghost use Rattle.script_text.specs.Transcript.{Number, Bytes, hex, hex_digit, sh
 ghost use Rattle.script_text.specs.Transcript.{name_shown, values_of, launch_line, end_line, call_at, outcome};
 ghost use Rattle.script_text.specs.Transcript.{reply_line, grow_line};
 
-use crate::word::Word;
+use crate::word::CallWord;
 use itoa::Buffer;
 use mac_words::{Name, OsErr, OsType, Reply};
 use std::alloc::AllocError;
@@ -139,7 +139,7 @@ pub fn write_end(text: &mut Vec<u8>, code: OsErr) -> Result<(), AllocError>
 }
 
 /// Appends the number of a call's line and the call's name.
-fn push_call(text: &mut Vec<u8>, line: usize, word: Word) -> Result<(), AllocError>
+fn push_call(text: &mut Vec<u8>, line: usize, word: CallWord) -> Result<(), AllocError>
     ensures { OnOk result (text.new.items ≡ text.old.items ++ call_at line word) }
 {
     text.extend_from_slice(Buffer::new().format(line).as_bytes())?;
@@ -167,7 +167,7 @@ fn push_outcome(text: &mut Vec<u8>, reply: &Reply, bytes: Option<&[u8]>) -> Resu
 pub fn write_reply(
     text: &mut Vec<u8>,
     line: usize,
-    word: Word,
+    word: CallWord,
     reply: &Reply,
     bytes: Option<&[u8]>,
 ) -> Result<(), AllocError>
@@ -184,7 +184,7 @@ pub fn write_reply(
 pub fn write_grow_reply(
     text: &mut Vec<u8>,
     line: usize,
-    word: Word,
+    word: CallWord,
     reply: &Reply,
     bytes: Option<&[u8]>,
 ) -> Result<(), AllocError>

@@ -3,7 +3,7 @@
 ghost use Rattle.std.specs.Prelude.{◌≡◌, [], ◌∷◌, true, Some, IfOk, IfSome, bytes_eq};
 ghost use Rattle.script_text.specs.Call.{spelling, kinds, spoken, word_of, may_stand, word_spelled, call_read};
 ghost use Rattle.script_text.specs.Reading.{Gives};
-ghost use Rattle.script_text.specs.declared.word.Word as declared;
+ghost use Rattle.script_text.specs.declared.word.CallWord as declared;
 
 use crate::argument::Argument;
 use crate::arguments::{four, none, one, three, two};
@@ -14,7 +14,7 @@ use std::alloc::Global;
 
 /// The word of a call, spelled as its variant is named.
 #[derive(Clone, Copy, Debug, PartialEq, Eq)]
-pub enum Word {
+pub enum CallWord {
     NewHandle,
     NewEmptyHandle,
     DisposeHandle,
@@ -263,7 +263,7 @@ macro_rules! words {
         $($owner:literal { $($word:ident = $group:ident $calls:ident $read:ident $names:tt $what:literal;)* })*
         [$($held:ident)*]
     ) => {
-        [$($(Word::$word,)*)*]
+        [$($(CallWord::$word,)*)*]
     };
 }
 
@@ -273,7 +273,7 @@ macro_rules! spelling_of {
         $($owner:literal { $($word:ident = $group:ident $calls:ident $read:ident $names:tt $what:literal;)* })*
         [$($held:ident)*]
     ) => {
-        match $given { $($(Word::$word => stringify!($word).as_bytes(),)*)* }
+        match $given { $($(CallWord::$word => stringify!($word).as_bytes(),)*)* }
     };
 }
 
@@ -301,7 +301,7 @@ macro_rules! read_of {
         $($owner:literal { $($word:ident = $group:ident $calls:ident $read:ident $names:tt $what:literal;)* })*
         [$($held:ident)*]
     ) => {
-        match $given { $($(Word::$word => arm!($given, $alloc, $text; $word $group $calls $read $names),)*)* }
+        match $given { $($(CallWord::$word => arm!($given, $alloc, $text; $word $group $calls $read $names),)*)* }
     };
 }
 
@@ -311,7 +311,7 @@ macro_rules! word_of_call {
         $($owner:literal { $($word:ident = $group:ident $calls:ident $read:ident $names:tt $what:literal;)* })*
         [$($held:ident)*]
     ) => {
-        match $given { $($(Call::$group($calls::$word { .. }) => Word::$word,)*)* }
+        match $given { $($(Call::$group($calls::$word { .. }) => CallWord::$word,)*)* }
     };
 }
 
@@ -356,7 +356,7 @@ macro_rules! is_held {
         $($owner:literal { $($word:ident = $group:ident $calls:ident $read:ident $names:tt $what:literal;)* })*
         [$($held:ident)*]
     ) => {
-        matches!($given, $(Word::$held)|*)
+        matches!($given, $(CallWord::$held)|*)
     };
 }
 
@@ -364,10 +364,10 @@ macro_rules! is_held {
 /// the part of the toolbox. Then the lines that make a grow-zone script and the calls that it may hold, and the result codes.
 pub const CALLS: &str = calls!(listed);
 
-pub(crate) static WORDS: [Word; 72] = calls!(words);
+pub(crate) static WORDS: [CallWord; 72] = calls!(words);
 
 /// Returns the word that a token spells, if the word is one of the few of the token's length that are tried first.
-fn likely_word(token: &[u8]) -> Option<Word>
+fn likely_word(token: &[u8]) -> Option<CallWord>
     ensures { IfSome result (λ word. bytes_eq (spelling word) token.now ≡ true) }
 {
     for word in likely(token.len()) {
@@ -380,15 +380,15 @@ fn likely_word(token: &[u8]) -> Option<Word>
 
 /// Returns the word that a token spells, by trying every word.
 #[tactic(auto, unfolding(crate::specs::Call::word_spelled))]
-fn any_word(token: &[u8]) -> Option<Word>
+fn any_word(token: &[u8]) -> Option<CallWord>
     ensures { result ≡ word_spelled token.now }
 {
     WORDS.iter().copied().find(|word| word.text() == token)
 }
 
-impl Word {
+impl CallWord {
     /// Returns the word of a call.
-    pub fn of(call: &Call) -> Word
+    pub fn of(call: &Call) -> CallWord
         ensures { result ≡ word_of call.now }
     {
         calls!(word_of_call call)
@@ -410,7 +410,7 @@ impl Word {
 
     /// Returns the word that a token spells, if the token spells one.
     #[tactic(auto, using(crate::proofs::Spelled::spelled_so))]
-    pub(crate) fn find(token: &[u8]) -> Option<Word>
+    pub(crate) fn find(token: &[u8]) -> Option<CallWord>
         ensures { result ≡ word_spelled token.now }
     {
         match likely_word(token) {
@@ -511,5 +511,5 @@ impl Word {
 
 /// Finds each word by its spelling: no two words are spelled alike, and no word is forgotten.
 pub fn words_are_apart()
-    ensures { (w : declared.Word) → word_spelled (spelling w) ≡ Some w }
+    ensures { (w : declared.CallWord) → word_spelled (spelling w) ≡ Some w }
 {}

@@ -15,11 +15,11 @@ use Rattle.heap_calls.specs.Owned.{resource_role_at}
 use Rattle.heap_calls.specs.Staying.{staying}
 use Rattle.heap_calls.specs.Locked.{locked_place}
 use Rattle.heap_calls.specs.Standing.{pointer_place}
-use Rattle.heap_calls.specs.Emptying.{may_be_emptied}
+use Rattle.heap_calls.specs.Emptying.{has_purgeable}
 use Rattle.heap_calls.specs.Path.{put_reads}
 use Rattle.heap_calls.specs.Asked.{told_as}
 use Rattle.heap_calls.proofs.Promises.Knowing.{Known}
-use Rattle.heap_calls.proofs.Promises.FewSearches.{unlooked}
+use Rattle.heap_calls.proofs.Promises.FewSearches.{unsearched}
 use Rattle.heap_calls.proofs.Steps.Segments.{held-known, loosened-known, held-locked, loosened-locked, held-fixed}
 use Rattle.heap_calls.proofs.Steps.Segments.{loosened-fixed, held-bytes, loosened-bytes, held-has, loosened-has}
 use Rattle.heap_calls.proofs.Steps.Segments.{held-masters, loosened-masters, held-roles, loosened-roles}
@@ -30,7 +30,7 @@ use Rattle.res_calls.specs.Owning.{Owns}
 use Rattle.res_calls.specs.Sound.{Sound}
 use Rattle.res_calls.specs.Rows.{bars, with_memory}
 use Rattle.res_calls.proofs.Walks.Own.{own-known, own-locked, own-fixed, own-purgeable, own-bytes, own-masters}
-use Rattle.res_calls.proofs.Walks.Own.{own-looks, own-fits, own-no_more, own-busy, own-code, own-window, own-files}
+use Rattle.res_calls.proofs.Walks.Own.{own-searches, own-fits, own-no_more, own-busy, own-code, own-window, own-files}
 use Rattle.res_calls.proofs.Walks.Own.{own-elsewhere, own-owns, own-sound, own-unread, own-refused}
 use Rattle.res_calls.proofs.Walks.Place.{moved, answer_moved}
 use Rattle.segments.specs.Table.{Entry, can_load, unloaded}
@@ -163,21 +163,21 @@ served-fixed c p bytes known q place is =
     (λ n k. held-fixed k (fetched n p).after.memory.heap q ∙ own-fixed code_type n p.managers q place is)
     c (λ k same. loosened-fixed k p.managers.memory.heap q ∙ is)
 
--- only blocks that may be emptied are
+-- only blocks that may be purged are
 pub served-purgeable : (c : SegmentCall) (p : Program) (bytes : ℕ → List ℕ) → Known p.managers.memory.heap bytes
     → (h : ℕ) → has (is_relocatable h) p.managers.memory.heap.zone ≡ true
     → has (is_relocatable h) (served c p).after.managers.memory.heap.zone ≡ false
-    → may_be_emptied h p.managers.memory.heap.zone ≡ true
+    → has_purgeable h p.managers.memory.heap.zone ≡ true
 served-purgeable c p bytes known h before =
     served-goes (λ wants reads s. has (is_relocatable h) s.memory.heap.zone ≡ false
-    → may_be_emptied h p.managers.memory.heap.zone ≡ true) p both
+    → has_purgeable h p.managers.memory.heap.zone ≡ true) p both
     (λ n wants full. own-purgeable code_type n p.managers h before)
     (λ n k gone. own-purgeable code_type n p.managers h before
     (sym (held-has k (fetched n p).after.memory.heap h) ∙ gone))
     c (λ k same gone. both (sym (loosened-has k p.managers.memory.heap h) ∙ gone))
   where
     both : has (is_relocatable h) p.managers.memory.heap.zone ≡ false
-        → may_be_emptied h p.managers.memory.heap.zone ≡ true
+        → has_purgeable h p.managers.memory.heap.zone ≡ true
     both gone = let no : true ≡ false = sym before ∙ gone in cc
 
 -- the zone keeps its size, and its blocks of master pointers
@@ -200,20 +200,20 @@ served-masters c p = served-goes
     let kept = own-masters code_type n p.managers in omega arith)
     c (λ k same. let as_many = loosened-masters k p.managers.memory.heap in omega arith)
 
--- it looks at most once more than there are blocks
-pub served-looks : (c : SegmentCall) (p : Program) → 0 < count is_masters p.managers.memory.heap.zone
+-- it searches at most once more than there are blocks
+pub served-searches : (c : SegmentCall) (p : Program) → 0 < count is_masters p.managers.memory.heap.zone
     → p.managers.memory.log.searches < 2 ^ 64 → (n : ℕ) × (n ≤ length p.managers.memory.heap.zone + 1)
     × ((served c p).after.managers.memory.log.searches ≡ counted p.managers.memory.log.searches n)
-served-looks c p masters fits = served-goes
+served-searches c p masters fits = served-goes
     (λ wants reads s. (n : ℕ) × (n ≤ length p.managers.memory.heap.zone + 1)
     × (s.memory.log.searches ≡ counted p.managers.memory.log.searches n)) p none
-    (λ n wants full. own-looks code_type n p.managers masters fits)
-    (λ n k. own-looks code_type n p.managers masters fits)
+    (λ n wants full. own-searches code_type n p.managers masters fits)
+    (λ n k. own-searches code_type n p.managers masters fits)
     c (λ k same. none)
   where
     none : (n : ℕ) × (n ≤ length p.managers.memory.heap.zone + 1)
         × (p.managers.memory.log.searches ≡ counted p.managers.memory.log.searches n)
-    none = unlooked p.managers.memory.heap.zone p.managers.memory.log.searches fits
+    none = unsearched p.managers.memory.heap.zone p.managers.memory.log.searches fits
 
 -- where it finds no room no more stays than before it
 pub served-no_more : (c : SegmentCall) (p : Program) → (served c p).wants ≡ true
@@ -237,7 +237,7 @@ served-wanting c p = served-goes (λ wants reads s. wants ≡ true → s.resourc
     (λ n t full wants. let refusal = full wants in (own-refused code_type n p.managers refusal.0 refusal.1).1)
     (λ n k wants. cc) c (λ k same wants. refl)
 
--- the count of looks always fits
+-- the count of searches always fits
 pub served-fits : (c : SegmentCall) (p : Program) → 0 < count is_masters p.managers.memory.heap.zone
     → p.managers.memory.log.searches < 2 ^ 64 → (served c p).after.managers.memory.log.searches < 2 ^ 64
 served-fits c p masters fits = served-goes (λ wants reads s. s.memory.log.searches < 2 ^ 64) p fits

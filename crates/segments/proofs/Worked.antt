@@ -22,23 +22,23 @@ use Rattle.segments.specs.Asked.{served}
 -- What lines of calls tell, one after another, of small applications.
 
 -- a line: a call of the Segment Manager, of the Resource Manager, or of the Memory Manager
-abbrev Line : Type 0
-Line = Program → Told × Program
+abbrev SegmentLine : Type 0
+SegmentLine = Program → Told × Program
 
-abbrev line : SegmentCall → Line
+abbrev line : SegmentCall → SegmentLine
 line c p = ((served c p).told, (served c p).after)
 
-abbrev resource_line : ResourceAsked → Line
+abbrev resource_line : ResourceAsked → SegmentLine
 resource_line a p =
     ((resource.served a p.managers).told, record p { managers = (resource.served a p.managers).after })
 
-abbrev heap_line : Asked → Line
+abbrev heap_line : Asked → SegmentLine
 heap_line a p = (
   (heap.served a p.managers.memory).0,
   record p { managers = record p.managers { memory = (heap.served a p.managers.memory).1 } },
 )
 
-abbrev tells : List Line → Program → List Told
+abbrev tells : List SegmentLine → Program → List Told
 tells [] p = []
 tells (l ∷ lines) p = (l p).0 ∷ tells lines (l p).1
 

@@ -55,6 +55,7 @@ impl<'a> Disk<'a> {
 impl Host for Disk<'_> {
     // What is printed, read and written is compared, and nothing is claimed of it.
     ghost printed = { λ _. None };
+
     ghost accesses = { λ _. None };
 
     fn read(&mut self, alloc: Global, path: &str) -> Result<Vec<u8>, ReadError> {

@@ -2,7 +2,7 @@
 use Rattle.std.specs.Prelude.{◌≡◌, ℕ, ◌+◌, ◌≤◌, ◌<◌, ◌⊎◌, true, List, [], ◌∷◌, ◌++◌, length, take, drop, get_or}
 use Rattle.block_store.specs.Block.{Block, size, sizes, is_mover}
 use Rattle.zone_bytes.specs.Layout.{Each}
-use Rattle.zone_bytes.specs.Marks.{AtEach, AtMost, AreMarks, Begins, IsTally, between}
+use Rattle.zone_bytes.specs.Marks.{AtEach, AtMost, AreMarks, Begins, IsTally, above_all, between}
 use Rattle.zone_bytes.specs.declared.edges.Edges.{Edges}
 use Rattle.zone_bytes.specs.declared.landmark.Landmark.{Landmark}
 use Rattle.zone_bytes.specs.declared.landmark.Tally.TheVariants as tally
@@ -44,7 +44,7 @@ IsBare lo hi zone = AtEach (AtMost 0 lo hi) 0 zone × IsTally (tally.Open 0) (be
 -- every zone.
 pub record AreLaid (index at : ℕ) (zone : List Block) (marks : List Landmark) : Type 0 where
   pub below : AreMarks at zone (take index marks)
-  pub above : AreMarks 4294967295 zone (drop index marks)
+  pub above : AreMarks above_all zone (drop index marks)
   pub inside : index ≤ length marks
   pub begins : index < length marks → Begins at 0 zone
-  pub last : index ≡ length marks → at ≡ 4294967295
+  pub last : index ≡ length marks → at ≡ above_all

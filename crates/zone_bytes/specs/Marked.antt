@@ -3,13 +3,13 @@ use Rattle.std.specs.Prelude.{◌≡◌, ◌≤◌, ℕ, List}
 use Rattle.block_store.specs.Block.{Block, free_sum}
 use Rattle.zone_bytes.specs.Decode.{zone_in}
 use Rattle.zone_bytes.specs.Lawful.{IsSound}
-use Rattle.zone_bytes.specs.Marks.{AreMarks, AreTops}
+use Rattle.zone_bytes.specs.Marks.{AreMarks, AreTops, above_all}
 use Rattle.zone_bytes.specs.Purgeable.{purgeable_sum}
 use Rattle.zone_bytes.specs.declared.keeping.Landmarks.{Landmarks}
 
 -- The landmarks are those of the zone, and the tops are those of the landmarks' groups.
 abbrev pub AreOf : Landmarks → List Block → Type 0
-AreOf landmarks zone = AreMarks 4294967295 zone landmarks.marks × AreTops landmarks.tops landmarks.marks
+AreOf landmarks zone = AreMarks above_all zone landmarks.marks × AreTops landmarks.tops landmarks.marks
 
 -- The bytes are sound, `free` of them are free, at most `purgeable` of them would be freed by purges, and the
 -- landmarks are those of the zone that the bytes spell.

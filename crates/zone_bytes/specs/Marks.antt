@@ -57,6 +57,10 @@ pub record Measures (lo hi at : ℕ) (zone : List Block) (m : Measured) : Type 0
 abbrev pub no_mark : Landmark
 no_mark = record { at = 0; most = 0; tally = tally.Open 0 }
 
+-- A place above every block.
+abbrev pub above_all : ℕ
+above_all = 4294967295
+
 -- The place of the first of some landmarks; `end` if there are none.
 abbrev pub next_of : ℕ → List Landmark → ℕ
 next_of end [] = end
@@ -79,7 +83,7 @@ pub record AreTops (tops : List ℕ) (marks : List Landmark) : Type 0 where
 -- No free block of `bytes` bytes or more lies below the landmark at `index`; if there is no such landmark, none lies
 -- in the zone.
 abbrev pub NoneBelow : ℕ → List Block → List Landmark → ℕ → Type 0
-NoneBelow bytes zone marks index = AtEach (NoRoom bytes 0 (next_of 4294967295 (drop index marks))) 0 zone
+NoneBelow bytes zone marks index = AtEach (NoRoom bytes 0 (next_of above_all (drop index marks))) 0 zone
 
 -- The blocks from `lo` to `hi` became others of as many bytes.
 pub record Replaced (lo hi : ℕ) (old new : List Block) : Type 0 where

@@ -1,7 +1,7 @@
 -- A pass over a zone that purges its lowest purgeable blocks and joins free blocks that stand side by side.
 use Rattle.std.specs.Prelude.{◌≡◌, ℕ, ◌+◌, ◌-◌, ◌≤◌, List, ◌∷◌, ◌++◌}
 use Rattle.block_store.specs.Block.{Block, sizes, free, free_sum, tidy}
-use Rattle.block_store.specs.Room.{emptied}
+use Rattle.block_store.specs.Room.{lowest_purged}
 use Rattle.block_store.specs.Slot.{Slot}
 use Rattle.block_store.specs.Sparing.{spared, opened}
 use Rattle.block_store.specs.Inner.Joining.{Closed}
@@ -27,7 +27,7 @@ pub record Purging (p : Purge) (n : Sparing) (start at left freed : ℕ) (xs : L
   pub up : start ≤ at
   pub tidied : tidy done ≡ done
   pub closed : Closed done
-  pub will : tidy (done ++ (free (at - start) ++ emptied left (spared n) (opened n rest))) ≡ tidy p.goal
+  pub will : tidy (done ++ (free (at - start) ++ lowest_purged left (spared n) (opened n rest))) ≡ tidy p.goal
   pub count : free_sum (done ++ (free (at - start) ++ rest)) ≡ p.free + freed
 
 pub record Purged (p : Purge) (freed : ℕ) (xs : List ℕ) : Type 0 where
@@ -43,7 +43,7 @@ pub record MayPurge (f : Freeing) (place : ℕ) (xs : List ℕ) : Type 0 where
 -- The pass over the blocks above a block.
 abbrev pub purge_above : Freeing → ℕ → Sparing → Purge
 purge_above f purges n = record {
-  goal = f.below ++ f.here ∷ emptied purges (spared n) f.above;
+  goal = f.below ++ f.here ∷ lowest_purged purges (spared n) f.above;
   slots = f.slots;
   unused = f.unused;
   free = free_sum (f.below ++ f.here ∷ f.above);

@@ -3,7 +3,7 @@ use Rattle.std.specs.Prelude.{◌≡◌, ℕ, Bool, ◌+◌, ◌%◌, ◌≤◌,
 use Rattle.block_store.specs.Block.{Block, Free, free, free_sum, sizes, tidy}
 use Rattle.block_store.specs.Run.{low}
 use Rattle.zone_bytes.specs.Layout.{head_of, Tiles, Leads, Each}
-use Rattle.zone_bytes.specs.Settling.{Lay, InRun, Lies, HasSlots, IsRun, SameOthers}
+use Rattle.zone_bytes.specs.Settling.{Lay, InRun, Lies, HasSlots, IsRunFrom, SameOthers}
 
 -- The relocatable blocks of a packed run, the number of free bytes that are to be below them, and the number of those
 -- that stay above them.
@@ -52,7 +52,7 @@ lifted gap run = tidy (low (Free gap) run)
 
 -- The run of `lay` begins at `place`, and has at least `gap` free bytes.
 pub record MayLift (lay : Lay) (place gap : ℕ) : Type 0 where
-  pub run : IsRun lay place (place + sizes lay.run)
+  pub run : IsRunFrom lay place (place + sizes lay.run)
   pub some : 0 < gap
   pub even : gap % 16 ≡ 0
   pub enough : gap ≤ free_sum lay.run

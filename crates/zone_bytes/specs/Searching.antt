@@ -71,9 +71,9 @@ IsSearch bytes answer at xs (search.Known s) = IsKnown bytes answer at xs s
 IsSearch bytes answer at xs (search.Behind p) = IsBehind bytes answer at xs p
 
 -- A number that is at least that of the free bytes of the run in which a search is.
-abbrev pub most_had : Search → ℕ
-most_had (search.Known s) = s.free
-most_had (search.Behind p) = p.most + p.beyond
+abbrev pub most_free_of : Search → ℕ
+most_free_of (search.Known s) = s.free
+most_free_of (search.Behind p) = p.most + p.beyond
 
 -- The place of the lowest free block of `bytes` bytes or more after the given number of purges.
 abbrev pub lowest_room : ℕ → ℕ → Sparing → List ℕ → Option ℕ

@@ -7,9 +7,9 @@ use Rattle.block_store.specs.Run.{in_run, movers, settle}
 use Rattle.zone_bytes.specs.Layout.{head_of, Tiles, IsSlot, names, Leads, Apart, Each, Pairs}
 
 -- The number of relocatable blocks of a run that move down when the run is packed and `gap` free bytes are below it.
-abbrev pub falling_from : ℕ → List Block → ℕ
-falling_from gap [] = 0
-falling_from gap (b ∷ blocks) = (if is_mover b then (if nat_lt 0 gap then 1 else 0) else 0) + falling_from
+abbrev pub lowered_in_run_from : ℕ → List Block → ℕ
+lowered_in_run_from gap [] = 0
+lowered_in_run_from gap (b ∷ blocks) = (if is_mover b then (if nat_lt 0 gap then 1 else 0) else 0) + lowered_in_run_from
     (gap + free_of b) blocks
 
 -- A zone with one of its runs, and the bytes in which the zone lies.
@@ -46,7 +46,7 @@ runs_on (suc (suc zero)) f = false
 runs_on (suc (suc (suc k))) f = nat_lt f 128
 
 -- The run of `lay` is from `place` to `stop`.
-pub record IsRun (lay : Lay) (place stop : ℕ) : Type 0 where
+pub record IsRunFrom (lay : Lay) (place stop : ℕ) : Type 0 where
   pub lies : Lies lay.resource (lay.below ++ (lay.run ++ lay.above)) lay.bytes
   pub slots : HasSlots (lay.below ++ (lay.run ++ lay.above))
   pub bottom : sizes lay.below ≡ place
@@ -74,7 +74,7 @@ pub record PackingAt (lay : Lay) (gap stop from to moves : ℕ) (xs : List ℕ) 
   pub lead_moved : Leads (sizes lay.below + gap) moved xs
   pub lead_high : Leads from (rest ++ lay.above) xs
   pub named : names (lay.below ++ moved) ++ names (rest ++ lay.above) ≡ names (lay.below ++ (lay.run ++ lay.above))
-  pub count : moves + falling_from (from - to) rest ≡ falling_from 0 lay.run
+  pub count : moves + lowered_in_run_from (from - to) rest ≡ lowered_in_run_from 0 lay.run
   pub others : SameOthers (lay.below ++ (lay.run ++ lay.above)) lay.bytes xs
 
 -- Of the run's blocks the blocks `gone` were passed, and the relocatable blocks among them were moved.
@@ -94,7 +94,7 @@ pub record Packed (lay : Lay) (gap moves : ℕ) (xs : List ℕ) : Type 0 where
   pub leads : Leads (sizes lay.below + gap) (movers lay.run) xs
   pub high : Leads (sizes lay.below + sizes lay.run) lay.above xs
   pub others : SameOthers (lay.below ++ (lay.run ++ lay.above)) lay.bytes xs
-  pub moved : moves ≡ falling_from 0 lay.run
+  pub moved : moves ≡ lowered_in_run_from 0 lay.run
   pub kept : length xs ≡ length lay.bytes
 
 -- The first blocks of a run as a run, with the other blocks of the run above them.
@@ -140,5 +140,5 @@ PackedUntil lay place gap enough moves top stop xs =
 pub record Settled (lay : Lay) (moves : ℕ) (xs : List ℕ) : Type 0 where
   pub lies : Lies lay.resource (lay.below ++ (settle lay.run ++ lay.above)) xs
   pub others : SameOthers (lay.below ++ (lay.run ++ lay.above)) lay.bytes xs
-  pub moved : moves ≡ falling_from 0 lay.run
+  pub moved : moves ≡ lowered_in_run_from 0 lay.run
   pub kept : length xs ≡ length lay.bytes

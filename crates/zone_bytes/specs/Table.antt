@@ -15,8 +15,8 @@ Has [] x = ⊥
 Has (y ∷ ys) x = (y ≡ x) ⊎ Has ys x
 
 -- The word of the slot of an empty handle.
-abbrev pub emptied_word : Bool → ℕ
-emptied_word resource = if resource then 18 else 2
+abbrev pub empty_word : Bool → ℕ
+empty_word resource = if resource then 18 else 2
 
 -- The first of a list of slots, or 0 if the list is empty.
 abbrev pub first_of : List ℕ → ℕ
@@ -34,7 +34,7 @@ abbrev pub Says : List Block → List ℕ → List ℕ → ℕ → Slot → Type
 Says blocks xs unused s NoSlot = IsSlot s blocks → ⊥
 Says blocks xs unused s Unused = IsSlot s blocks × Has unused s
 Says blocks xs unused s (Used resource) = IsSlot s blocks ×
-    (Has (names blocks) s ⊎ (Each (Apart s) (names blocks) × (piece s 4 xs ≡ word (emptied_word resource))))
+    (Has (names blocks) s ⊎ (Each (Apart s) (names blocks) × (piece s 4 xs ≡ word (empty_word resource))))
 
 abbrev pub IsUsed : Slot → Type 0
 IsUsed NoSlot = ⊥

@@ -9,7 +9,7 @@ ghost use Rattle.block_store.specs.Room.{spot};
 ghost use Rattle.block_store.specs.Sparing.{opened, purged, spared};
 ghost use Rattle.zone_bytes.specs.Decode.{zone_in};
 ghost use Rattle.zone_bytes.specs.Lawful.{IsSound};
-ghost use Rattle.zone_bytes.specs.Marks.{AreMarks, AreTops, Begins};
+ghost use Rattle.zone_bytes.specs.Marks.{AreMarks, AreTops, Begins, above_all};
 ghost use Rattle.zone_bytes.specs.Searching.{IsRoomScan};
 ghost use Rattle.zone_bytes.specs.Stepping.{left_in};
 
@@ -60,7 +60,7 @@ fn scan_purges(part: &Part, bytes: u32, purges: u32, sparing: Sparing) -> Scanne
 /// Returns the place of the lowest free block of at least `bytes` bytes, of those from the place `edge` on.
 fn room_from(marks: &[Landmark], tops: &[u32], part: &Part, edge: u32, bytes: u32) -> Option<u32>
     requires sound { (first : ℕ) × (unused : ℕ) × IsSound part.now.bytes first unused }
-    requires marks { AreMarks 4294967295 (zone_in part.now.bytes) marks.now }
+    requires marks { AreMarks above_all (zone_in part.now.bytes) marks.now }
     requires tops { AreTops tops.now marks.now }
     requires edge { Begins edge 0 (zone_in part.now.bytes) }
     ensures { result ≡ option_map (λ s. edge + sizes s.below) (spot (is_room bytes) (left_in edge part.now.bytes)) }
@@ -84,7 +84,7 @@ pub fn find_room_by_marks(
     sparing: Sparing,
 ) -> Option<u32>
     requires sound { (first : ℕ) × (unused : ℕ) × IsSound part.now.bytes first unused }
-    requires marks { AreMarks 4294967295 (zone_in part.now.bytes) marks.now }
+    requires marks { AreMarks above_all (zone_in part.now.bytes) marks.now }
     requires tops { AreTops tops.now marks.now }
     requires plain { (zone : List Block) → opened sparing zone ≡ zone }
     ensures { FindsLowest (is_room bytes) (purged purges sparing (zone_in part.now.bytes)) result }

@@ -10,8 +10,8 @@ ghost use Rattle.block_store.specs.Run.{has, has_free};
 ghost use Rattle.block_store.specs.Sparing.{opened, purged, spared};
 ghost use Rattle.zone_bytes.specs.Decode.{zone_in};
 ghost use Rattle.zone_bytes.specs.Lawful.{IsSound};
-ghost use Rattle.zone_bytes.specs.Marks.{AreMarks, Begins, ends_run, no_mark};
-ghost use Rattle.zone_bytes.specs.Searching.{IsFound, IsKnown, IsPiece, IsSearch, IsStretch, begun, most_had};
+ghost use Rattle.zone_bytes.specs.Marks.{AreMarks, Begins, above_all, ends_run, no_mark};
+ghost use Rattle.zone_bytes.specs.Searching.{IsFound, IsKnown, IsPiece, IsSearch, IsStretch, begun, most_free_of};
 ghost use Rattle.zone_bytes.specs.Stepping.{left_in, IsOnWay};
 ghost use Rattle.zone_bytes.specs.declared.finding_runs.Search.TheVariants as how;
 ghost use Rattle.zone_bytes.specs.declared.landmark.Tally.TheVariants as tally;
@@ -138,7 +138,7 @@ fn look_past(part: &Part, search: Search, at: u32, next: u32, bytes: u32) -> Sea
 
 /// Returns a number that is at least that of the free bytes of the run in which a search is.
 fn most_free(search: Search) -> u32
-    ensures { result ≡ most_had search ⊎ (result ≡ 4294967295) }
+    ensures { result ≡ most_free_of search ⊎ (result ≡ 4294967295) }
 {
     match search {
         Search::Known(scan) => scan.free,
@@ -236,7 +236,7 @@ fn past_stretches(
     bytes: u32,
 ) -> Option<u32>
     requires sound { (first : ℕ) × (unused : ℕ) × IsSound part.now.bytes first unused }
-    requires marks { AreMarks 4294967295 (zone_in part.now.bytes) marks.now }
+    requires marks { AreMarks above_all (zone_in part.now.bytes) marks.now }
     requires known { (answer : Option ℕ) × IsKnown bytes answer from part.now.bytes scan }
     requires within { first ≤ length marks.now }
     requires edge { Begins from 0 (zone_in part.now.bytes) }
@@ -284,7 +284,7 @@ pub fn find_run_by_marks(
     sparing: Sparing,
 ) -> Option<u32>
     requires sound { (first : ℕ) × (unused : ℕ) × IsSound part.now.bytes first unused }
-    requires marks { AreMarks 4294967295 (zone_in part.now.bytes) marks.now }
+    requires marks { AreMarks above_all (zone_in part.now.bytes) marks.now }
     requires plain { (zone : List Block) → opened sparing zone ≡ zone }
     ensures { FindsLowestRun (has_free bytes) (purged purges sparing (zone_in part.now.bytes)) result }
 {

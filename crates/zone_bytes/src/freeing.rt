@@ -6,7 +6,7 @@ ghost use Rattle.block_store.specs.Grow.{freed};
 ghost use Rattle.zone_bytes.specs.Joining.{Freeing, MayFree, MayRelease, Joining, MayJoin, HasHandle};
 ghost use Rattle.zone_bytes.specs.Marked.{AreOf};
 ghost use Rattle.zone_bytes.specs.Marks.{Replaced};
-ghost use Rattle.zone_bytes.specs.Table.{Table, Lays, emptied_word};
+ghost use Rattle.zone_bytes.specs.Table.{Table, Lays, empty_word};
 ghost use Rattle.zone_bytes.specs.Beside.{KeepsPlace};
 
 use crate::carving::make_free;
@@ -19,8 +19,8 @@ use heap_words::Tag;
 use raw_region::Part;
 
 /// Returns the word of the slot of a handle that is emptied, by the flags in the header of the handle's block.
-fn word_of_emptied(flags: u32) -> u32
-    ensures { result ≡ emptied_word (nat_le 32 (flags % 64)) }
+fn word_once_empty(flags: u32) -> u32
+    ensures { result ≡ empty_word (nat_le 32 (flags % 64)) }
 {
     if flags % 64 >= 32 { 18 } else { 2 }
 }
@@ -38,7 +38,7 @@ pub fn free_up(part: &mut Part, start: u32, at: u32) -> u32
     let end = at + header.size;
     make_free(part, start, end);
     if header.tag == Tag::Relocatable {
-        write_word(part, header.slot, word_of_emptied(header.flags));
+        write_word(part, header.slot, word_once_empty(header.flags));
     }
     end
 }

@@ -9,7 +9,7 @@ ghost use Rattle.block_store.specs.Slot.{Used, set_slot, is_resource};
 ghost use Rattle.zone_bytes.specs.Beside.{KeepsPlace};
 ghost use Rattle.zone_bytes.specs.Looking.{place_of_word, IsHandle};
 ghost use Rattle.zone_bytes.specs.Stepping.{left_in, IsOnWay};
-ghost use Rattle.zone_bytes.specs.Table.{Table, Lays, emptied_word};
+ghost use Rattle.zone_bytes.specs.Table.{Table, Lays, empty_word};
 
 use crate::raw_walk::{RawWalk, walk_from};
 use crate::words::{read_word, write_word};
@@ -17,8 +17,8 @@ use block_store::Walk;
 use raw_region::Part;
 
 /// Returns the word of the slot of an empty handle.
-fn emptied(resource: bool) -> u32
-    ensures { result ≡ emptied_word resource }
+fn word_of_empty(resource: bool) -> u32
+    ensures { result ≡ empty_word resource }
 {
     if resource { 18 } else { 2 }
 }
@@ -75,7 +75,7 @@ pub fn mark_slot(part: &mut Part, slot: u32, resource: bool)
             let flags = read_word(part, place + 12);
             write_word(part, place + 12, with_resource(flags, resource));
         }
-        None => write_word(part, slot, emptied(resource)),
+        None => write_word(part, slot, word_of_empty(resource)),
     }
 }
 

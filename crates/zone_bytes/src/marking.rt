@@ -8,7 +8,7 @@ ghost use Rattle.zone_bytes.specs.Decode.{zone_in};
 ghost use Rattle.zone_bytes.specs.Edges.{AreLaid, ByEdges, IsBare};
 ghost use Rattle.zone_bytes.specs.Lawful.{IsSound};
 ghost use Rattle.zone_bytes.specs.Marks.{AtEach, AtMost, NoRoom, NoneBelow, Begins, AreMarks, AreTops, Replaced, no_mark};
-ghost use Rattle.zone_bytes.specs.Marks.{Lowered, IsTally, Measures, between, next_of};
+ghost use Rattle.zone_bytes.specs.Marks.{Lowered, IsTally, Measures, above_all, between, next_of};
 ghost use Rattle.zone_bytes.specs.Stepping.{left_in, IsOnWay};
 ghost use Rattle.zone_bytes.specs.declared.landmark.TheConstants.{GROUP};
 
@@ -40,7 +40,7 @@ fn next_look(low: usize, high: usize, likely: usize) -> usize
 /// landmarks are in order of place. The search begins at the index `likely`.
 pub fn index_above(marks: &[Landmark], place: u32, likely: usize) -> usize
     ensures index { result ≤ length marks.now }
-    ensures above { place ≤ next_of 4294967295 (drop result marks.now) }
+    ensures above { place ≤ next_of above_all (drop result marks.now) }
     ensures below { 0 < result → (get_or marks.now (result - 1) no_mark).at < place }
 {
     let mut low = 0;
@@ -72,7 +72,7 @@ pub fn mark_below(marks: &[Landmark], place: u32, likely: usize) -> u32
 /// Returns the place of a landmark. For an index equal to the number of landmarks, returns a place above every zone.
 pub fn place_of_mark(marks: &[Landmark], index: usize) -> u32
     requires { index ≤ length marks.now }
-    ensures { result ≡ next_of 4294967295 (drop index marks.now) }
+    ensures { result ≡ next_of above_all (drop index marks.now) }
 {
     if index == marks.len() {
         return u32::MAX;
@@ -101,7 +101,7 @@ fn room_in_stretch(part: &Part, mark: Landmark, to: u32, bytes: u32) -> Option<u
 /// which there is none.
 fn room_in_group(marks: &[Landmark], part: &Part, group: usize, bytes: u32) -> Option<u32>
     requires sound { (first : ℕ) × (unused : ℕ) × IsSound part.now.bytes first unused }
-    requires marks { AreMarks 4294967295 (zone_in part.now.bytes) marks.now }
+    requires marks { AreMarks above_all (zone_in part.now.bytes) marks.now }
     requires within { GROUP * group + GROUP ≤ length marks.now }
     requires below { NoneBelow bytes (zone_in part.now.bytes) marks.now (GROUP * group) }
     ensures none { MatchOption result
@@ -121,7 +121,7 @@ fn room_in_group(marks: &[Landmark], part: &Part, group: usize, bytes: u32) -> O
 /// Returns the place of the lowest free block of at least `bytes` bytes.
 pub fn find_by_marks(marks: &[Landmark], tops: &[u32], part: &Part, bytes: u32) -> Option<u32>
     requires sound { (first : ℕ) × (unused : ℕ) × IsSound part.now.bytes first unused }
-    requires marks { AreMarks 4294967295 (zone_in part.now.bytes) marks.now }
+    requires marks { AreMarks above_all (zone_in part.now.bytes) marks.now }
     requires tops { AreTops tops.now marks.now }
     ensures { FindsLowest (is_room bytes) (zone_in part.now.bytes) result }
 {
@@ -211,9 +211,9 @@ pub fn change_marks(
     likely: usize,
 )
     requires sound { (first : ℕ) × (unused : ℕ) × IsSound part.now.bytes first unused }
-    requires marks { (old : List Block) × Replaced lo hi old (zone_in part.now.bytes) × AreMarks 4294967295 old marks.old }
+    requires marks { (old : List Block) × Replaced lo hi old (zone_in part.now.bytes) × AreMarks above_all old marks.old }
     requires tops { AreTops tops.old marks.old }
-    ensures marks { AreMarks 4294967295 (zone_in part.now.bytes) marks.new }
+    ensures marks { AreMarks above_all (zone_in part.now.bytes) marks.new }
     ensures tops { AreTops tops.new marks.new }
 {
     let last = index_above(marks, hi, likely);
@@ -236,7 +236,7 @@ pub fn change_marks(
 /// zone's top.
 fn stretch_from(part: &Part, at: u32, place: u32, last: bool) -> Measured
     requires { IsOnWay at part.now.bytes }
-    ensures last { last ≡ true → result.edge ≡ 4294967295 }
+    ensures last { last ≡ true → result.edge ≡ above_all }
     ensures edge { last ≡ false → Begins result.edge at (left_in at part.now.bytes) }
     ensures order { at ≤ result.edge }
     ensures measured { Measures at result.edge at (left_in at part.now.bytes) result }
@@ -330,7 +330,7 @@ pub fn lay_marks(
     requires sound { (first : ℕ) × (unused : ℕ) × IsSound part.now.bytes first unused }
     requires laid { AreLaid next.index next.at (zone_in part.now.bytes) marks.old }
     requires tops { AreTops tops.old marks.old }
-    ensures marks { AreMarks 4294967295 (zone_in part.now.bytes) marks.new }
+    ensures marks { AreMarks above_all (zone_in part.now.bytes) marks.new }
     ensures tops { AreTops tops.new marks.new }
 {
     let mut at = next.at;

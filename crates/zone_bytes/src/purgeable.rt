@@ -12,14 +12,14 @@ ghost use Rattle.zone_bytes.specs.Stepping.{left_in, IsOnWay};
 use crate::carving::padded_size;
 use crate::raw_walk::{seen_of, walk_from};
 use crate::words::read_header;
-use block_store::{Flags, Seen, Sparing, Walk, may_go_now, size_of_seen};
+use block_store::{Flags, Seen, Sparing, Walk, may_purge_now, size_of_seen};
 use raw_region::Part;
 
 /// Returns the bytes that a block of `bytes` bytes would free if it were purged.
 fn purgeable_of_seen(block: Seen, bytes: u32) -> u32
     ensures { (b : Block) → seen b ≡ block → size b ≡ bytes → result ≡ purgeable_of b }
 {
-    if may_go_now(block, Sparing::Nothing) {
+    if may_purge_now(block, Sparing::Nothing) {
         bytes
     } else {
         0

@@ -14,7 +14,7 @@ ghost use Rattle.zone_bytes.specs.Beside.{KeepsPlace};
 use crate::freeing::free_up;
 use crate::raw_walk::seen_of;
 use crate::words::read_header;
-use block_store::{Seen, Sparing, is_counted_free, may_be_emptied};
+use block_store::{Seen, Sparing, is_counted_free, may_purge};
 use heap_words::{Header, Tag};
 use raw_region::Part;
 
@@ -32,7 +32,7 @@ struct Pass {
 fn left_after(block: Seen, left: u32, sparing: Sparing) -> Option<u32>
     ensures { (b : Block) → seen b ≡ block → result ≡ left_past (spared sparing) left (opened_block sparing b) }
 {
-    if left > 0 && may_be_emptied(block, sparing) {
+    if left > 0 && may_purge(block, sparing) {
         return Some(left - 1);
     }
     if is_counted_free(block, sparing) {

@@ -4,7 +4,7 @@ ghost use Rattle.std.specs.Prelude.{◌≡◌, ◌+◌, ◌++◌, ℕ, List, [],
 ghost use Rattle.block_store.specs.Block.{Block, sizes};
 ghost use Rattle.block_store.specs.Run.{movers};
 ghost use Rattle.zone_bytes.specs.Edges.{AreEdges};
-ghost use Rattle.zone_bytes.specs.Settling.{Lay, IsRun, EndsRun, Settled};
+ghost use Rattle.zone_bytes.specs.Settling.{Lay, IsRunFrom, EndsRun, Settled};
 ghost use Rattle.zone_bytes.specs.Raising.{Raise, MayRaise, Raised, MayLift, Lifted};
 ghost use Rattle.zone_bytes.specs.Beside.{KeepsPlace};
 
@@ -36,7 +36,7 @@ fn lift_blocks(part: &mut Part, place: u32, top: u32, stop: u32, gap: u32)
 fn settle_above(part: &mut Part, edges: &mut Edges, packed: PackedRun, gap: u32) -> PackedRun
     ghost lay: { Lay }
     requires bytes { part.old.bytes ≡ lay.bytes }
-    requires run { IsRun lay (packed.top + gap) (packed.top + gap + sizes lay.run) }
+    requires run { IsRunFrom lay (packed.top + gap) (packed.top + gap + sizes lay.run) }
     requires ends { EndsRun lay.above }
     ensures same { KeepsPlace part.old part.new }
     ensures settled { Settled lay result.lowered part.new.bytes }

@@ -7,7 +7,7 @@ ghost use Rattle.heap_words.specs.Words.{word};
 ghost use Rattle.block_store.specs.Block.{Block, sizes};
 ghost use Rattle.block_store.specs.Run.{movers};
 ghost use Rattle.zone_bytes.specs.Edges.{AreEdges};
-ghost use Rattle.zone_bytes.specs.Settling.{Lay, IsRun, EndsRun, runs_on, PackedUntil, Settled, gone_to};
+ghost use Rattle.zone_bytes.specs.Settling.{Lay, IsRunFrom, EndsRun, runs_on, PackedUntil, Settled, gone_to};
 ghost use Rattle.zone_bytes.specs.Beside.{KeepsPlace};
 
 use crate::edges::Edges;
@@ -83,7 +83,7 @@ pub(crate) fn pack_until(
 ) -> PackedRun
     ghost lay: { Lay }
     requires bytes { part.old.bytes ≡ lay.bytes }
-    requires run { IsRun lay place (place + sizes lay.run) }
+    requires run { IsRunFrom lay place (place + sizes lay.run) }
     requires ends { EndsRun lay.above }
     requires gap { gap ≤ length lay.bytes }
     ensures same { KeepsPlace part.old part.new }
@@ -125,7 +125,7 @@ pub(crate) fn pack_until(
 pub fn settle_run(part: &mut Part, edges: &mut Edges, place: u32) -> PackedRun
     ghost lay: { Lay }
     requires bytes { part.old.bytes ≡ lay.bytes }
-    requires run { IsRun lay place (place + sizes lay.run) }
+    requires run { IsRunFrom lay place (place + sizes lay.run) }
     requires ends { EndsRun lay.above }
     ensures same { KeepsPlace part.old part.new }
     ensures settled { Settled lay result.lowered part.new.bytes }

@@ -24,7 +24,7 @@ use Rattle.block_store.proofs.Zone.Aligned.{spot_at-is}
 use Rattle.block_store.proofs.Zone.Listing.{size-freed}
 use Rattle.block_store.proofs.Zone.Parted.{tidy-parted, spot_at-parted}
 use Rattle.block_store.proofs.Nonrelocatable.Placing.{spot_at-below}
-use Rattle.block_store.proofs.Emptied.Sparing.{filter-tidy, here-same}
+use Rattle.block_store.proofs.Purged.Sparing.{filter-tidy, here-same}
 use Rattle.block_store.proofs.Content.Resizing.{found-has, if_found, length-resized, less_or_more}
 
 -- A block that moves in steps: a Fixed block at the place gets its bytes, the block goes, and the Fixed one takes

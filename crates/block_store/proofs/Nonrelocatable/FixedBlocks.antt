@@ -22,7 +22,7 @@ use Rattle.block_store.proofs.Zone.Leading.{count-carved, count-freed, none-coun
 use Rattle.block_store.proofs.Zone.Aligned.{Sixteens, spot_at-is, aligned-filled, aligned-freed}
 use Rattle.block_store.proofs.Nonrelocatable.Placing.{StandsAt, placed-filled_at, placed-tidy, placed-freed}
 use Rattle.block_store.proofs.Content.Filling.{Lawful, not_masters, lawful-written}
-use Rattle.block_store.proofs.Emptied.Purges.{lawful-fewer}
+use Rattle.block_store.proofs.Purged.Purges.{lawful-fewer}
 use Rattle.block_store.proofs.Plain.Options.{the_some}
 
 -- Fixed blocks, and new blocks of master pointers.

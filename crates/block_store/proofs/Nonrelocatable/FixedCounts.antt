@@ -7,7 +7,7 @@ use Rattle.std.specs.Option.{option_map, IsSomeAnd}
 use Rattle.block_store.specs.Block.{Block, Free, Fixed, Masters, Relocatable, size, sizes, count, free, is_room}
 use Rattle.block_store.specs.Block.{is_relocatable, is_fixed, tidy, with_content, resized}
 use Rattle.block_store.specs.Run.{RunSpot, run_at, with_run, settle, high, low, has}
-use Rattle.block_store.specs.Room.{Spot, spot, spot_at, raised, filled, may_go, emptied}
+use Rattle.block_store.specs.Room.{Spot, spot, spot_at, raised, filled, may_be_purged, lowest_purged}
 use Rattle.block_store.specs.Grow.{growth, taken, grow_up, freed}
 use Rattle.block_store.specs.Sparing.{spared, opened, purged}
 use Rattle.block_store.specs.Compact.{Placed}
@@ -83,7 +83,7 @@ not_fixed-room p n (Fixed id content) e = let f : false ≡ true = e in cc
 not_fixed-room p n Masters e = refl
 not_fixed-room p n (Relocatable id flags content) e = refl
 
-pub not_fixed-go : (p : ℕ) (spared : Block → Bool) (b : Block) → may_go spared b ≡ true → is_fixed p b ≡ false
+pub not_fixed-go : (p : ℕ) (spared : Block → Bool) (b : Block) → may_be_purged spared b ≡ true → is_fixed p b ≡ false
 not_fixed-go p spared (Free n) e = refl
 not_fixed-go p spared (Fixed id content) e = let f : false ≡ true = e in cc
 not_fixed-go p spared Masters e = refl
@@ -109,16 +109,17 @@ pub fixed-unfixed : (p q : ℕ) → (q ≡ p → ⊥) → (bs : List Block)
 fixed-unfixed p q other bs = fixed-tidy p (freed (is_fixed q) bs)
     ∙ fixed-freed p (is_fixed q) (not_fixed-other p q other) bs
 
-pub fixed-emptied : (p k : ℕ) (spared : Block → Bool) (bs : List Block)
-    → count (is_fixed p) (emptied k spared bs) ≡ count (is_fixed p) bs
-fixed-emptied p zero spared bs = refl
-fixed-emptied p (suc k) spared [] = refl
-fixed-emptied p (suc k) spared (b ∷ bs) = cases (may_go spared b) refl (fixed-emptied p k spared bs)
-    (fixed-emptied p (suc k) spared bs)
+pub fixed-lowest_purged : (p k : ℕ) (spared : Block → Bool) (bs : List Block)
+    → count (is_fixed p) (lowest_purged k spared bs) ≡ count (is_fixed p) bs
+fixed-lowest_purged p zero spared bs = refl
+fixed-lowest_purged p (suc k) spared [] = refl
+fixed-lowest_purged p (suc k) spared (b ∷ bs) = cases (may_be_purged spared b) refl (fixed-lowest_purged p k spared bs)
+    (fixed-lowest_purged p (suc k) spared bs)
   where
-    cases : (t : Bool) → may_go spared b ≡ t → count (is_fixed p) (emptied k spared bs) ≡ count (is_fixed p) bs
-        → count (is_fixed p) (emptied (suc k) spared bs) ≡ count (is_fixed p) bs
-        → count (is_fixed p) (cond t (Free (size b) ∷ emptied k spared bs) (b ∷ emptied (suc k) spared bs))
+    cases : (t : Bool) → may_be_purged spared b ≡ t → count (is_fixed p) (lowest_purged k spared bs)
+        ≡ count (is_fixed p) bs
+        → count (is_fixed p) (lowest_purged (suc k) spared bs) ≡ count (is_fixed p) bs
+        → count (is_fixed p) (cond t (Free (size b) ∷ lowest_purged k spared bs) (b ∷ lowest_purged (suc k) spared bs))
         ≡ count (is_fixed p) (b ∷ bs)
     cases true e went stayed = let z : cond {A = ℕ} (is_fixed p b) 1 0 ≡ 0 =
         ap {B = ℕ} (λ (v : Bool). cond v 1 0) (not_fixed-go p spared b e) in omega (arith, went)
@@ -132,20 +133,21 @@ fixed-opened p (sparing.Freed slot) bs = fixed-freed p (is_relocatable slot) (no
 
 pub fixed-purged : (p k : ℕ) (n : Sparing) (bs : List Block)
     → count (is_fixed p) (purged k n bs) ≡ count (is_fixed p) bs
-fixed-purged p k n bs = fixed-tidy p (emptied k (spared n) (opened n bs)) ∙ fixed-emptied p k (spared n) (opened n bs)
+fixed-purged p k n bs = fixed-tidy p (lowest_purged k (spared n) (opened n bs)) ∙ fixed-lowest_purged p k (spared n)
+    (opened n bs)
     ∙ fixed-opened p n bs
 
 count-append : (test : Block → Bool) (below above : List Block)
     → count test (below ++ above) ≡ count test below + count test above
 count-append test below above = total-append (λ (b : Block). cond (test b) 1 0) below above
 
--- blocks above others that were emptied
-pub fixed-emptied_above : (p k : ℕ) (spared : Block → Bool) (below : List Block) (b : Block) (above : List Block)
-    → count (is_fixed p) (tidy (below ++ b ∷ emptied k spared above)) ≡ count (is_fixed p) (below ++ b ∷ above)
-fixed-emptied_above p k spared below b above =
-    fixed-tidy p (below ++ b ∷ emptied k spared above)
-    ∙ count-append (is_fixed p) below (b ∷ emptied k spared above)
-    ∙ ap (λ n. count (is_fixed p) below + (cond (is_fixed p b) 1 0 + n)) (fixed-emptied p k spared above)
+-- blocks above others that were purged
+pub fixed-purged_above : (p k : ℕ) (spared : Block → Bool) (below : List Block) (b : Block) (above : List Block)
+    → count (is_fixed p) (tidy (below ++ b ∷ lowest_purged k spared above)) ≡ count (is_fixed p) (below ++ b ∷ above)
+fixed-purged_above p k spared below b above =
+    fixed-tidy p (below ++ b ∷ lowest_purged k spared above)
+    ∙ count-append (is_fixed p) below (b ∷ lowest_purged k spared above)
+    ∙ ap (λ n. count (is_fixed p) below + (cond (is_fixed p b) 1 0 + n)) (fixed-lowest_purged p k spared above)
     ∙ sym (count-append (is_fixed p) below (b ∷ above))
 
 -- what a store's calls make of a block

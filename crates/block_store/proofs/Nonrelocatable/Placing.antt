@@ -6,7 +6,7 @@ use Rattle.std.specs.Option.{option_map}
 use Rattle.block_store.specs.Block.{Block, Free, Fixed, Masters, Relocatable, size, sizes, free, free_sum, is_mover}
 use Rattle.block_store.specs.Block.{is_relocatable, add, tidy, content_of, with_content, resized}
 use Rattle.block_store.specs.Run.{RunSpot, in_run, run_at, with_run, movers, others, settle, low, high, has_free}
-use Rattle.block_store.specs.Room.{Spot, raised, spot_at, filled, may_go, emptied}
+use Rattle.block_store.specs.Room.{Spot, raised, spot_at, filled, may_be_purged, lowest_purged}
 use Rattle.block_store.specs.Grow.{growth, taken, grow_up, freed}
 use Rattle.block_store.specs.Sparing.{spared, opened, purged}
 use Rattle.block_store.specs.Compact.{Placed}
@@ -115,19 +115,19 @@ placed-freed place test (b ∷ bs) p =
     (ap (λ n. place + n) (same_size-freed (test b) b)) (placed-freed (place + size b) test bs
     (placed-next place b bs p)))
 
-pub placed-emptied : (place k : ℕ) (spared : Block → Bool) (bs : List Block) → Placed place bs
-    → Placed place (emptied k spared bs)
-placed-emptied place zero spared bs p = p
-placed-emptied place (suc k) spared [] p = tt
-placed-emptied place (suc k) spared (b ∷ bs) p =
-    cases (may_go spared b) (placed-emptied (place + size b) k spared bs (placed-next place b bs p))
-    (placed-emptied (place + size b) (suc k) spared bs (placed-next place b bs p))
+pub placed-lowest_purged : (place k : ℕ) (spared : Block → Bool) (bs : List Block) → Placed place bs
+    → Placed place (lowest_purged k spared bs)
+placed-lowest_purged place zero spared bs p = p
+placed-lowest_purged place (suc k) spared [] p = tt
+placed-lowest_purged place (suc k) spared (b ∷ bs) p =
+    cases (may_be_purged spared b) (placed-lowest_purged (place + size b) k spared bs (placed-next place b bs p))
+    (placed-lowest_purged (place + size b) (suc k) spared bs (placed-next place b bs p))
   where
-    cases : (t : Bool) → Placed (place + size b) (emptied k spared bs)
-        → Placed (place + size b) (emptied (suc k) spared bs) → Placed place
-        (cond t (Free (size b) ∷ emptied k spared bs) (b ∷ emptied (suc k) spared bs))
+    cases : (t : Bool) → Placed (place + size b) (lowest_purged k spared bs)
+        → Placed (place + size b) (lowest_purged (suc k) spared bs) → Placed place
+        (cond t (Free (size b) ∷ lowest_purged k spared bs) (b ∷ lowest_purged (suc k) spared bs))
     cases true went stayed = went
-    cases false went stayed = placed-cons place b (emptied (suc k) spared bs) (placed-here place b bs p) stayed
+    cases false went stayed = placed-cons place b (lowest_purged (suc k) spared bs) (placed-here place b bs p) stayed
 
 pub placed-opened : (place : ℕ) (n : Sparing) (bs : List Block) → Placed place bs → Placed place (opened n bs)
 placed-opened place sparing.Nothing bs p = p
@@ -136,19 +136,19 @@ placed-opened place (sparing.Two slot other) bs p = p
 placed-opened place (sparing.Freed slot) bs p = placed-freed place (is_relocatable slot) bs p
 
 pub placed-purged : (place k : ℕ) (n : Sparing) (bs : List Block) → Placed place bs → Placed place (purged k n bs)
-placed-purged place k n bs p = placed-tidy place (emptied k (spared n) (opened n bs))
-    (placed-emptied place k (spared n) (opened n bs) (placed-opened place n bs p))
+placed-purged place k n bs p = placed-tidy place (lowest_purged k (spared n) (opened n bs))
+    (placed-lowest_purged place k (spared n) (opened n bs) (placed-opened place n bs p))
 
--- blocks above others that were emptied
-pub placed-emptied_above : (place k : ℕ) (spared : Block → Bool) (below : List Block) (b : Block) (above : List Block)
-    → Placed place (below ++ b ∷ above) → Placed place (tidy (below ++ b ∷ emptied k spared above))
-placed-emptied_above place k spared below b above p =
+-- blocks above others that were purged
+pub placed-purged_above : (place k : ℕ) (spared : Block → Bool) (below : List Block) (b : Block) (above : List Block)
+    → Placed place (below ++ b ∷ above) → Placed place (tidy (below ++ b ∷ lowest_purged k spared above))
+placed-purged_above place k spared below b above p =
     let rest = placed-above place below (b ∷ above) p in
     let here = place + sizes below in
-    placed-tidy place (below ++ b ∷ emptied k spared above)
-    (placed-append place below (b ∷ emptied k spared above) (placed-below place below (b ∷ above) p)
-    (placed-cons here b (emptied k spared above) (placed-here here b above rest)
-    (placed-emptied (here + size b) k spared above (placed-next here b above rest))))
+    placed-tidy place (below ++ b ∷ lowest_purged k spared above)
+    (placed-append place below (b ∷ lowest_purged k spared above) (placed-below place below (b ∷ above) p)
+    (placed-cons here b (lowest_purged k spared above) (placed-here here b above rest)
+    (placed-lowest_purged (here + size b) k spared above (placed-next here b above rest))))
 
 -- a block of the same size in place of another
 pub placed-same : (place : ℕ) (below above : List Block) (b c : Block) → StandsAt (place + sizes below) c

@@ -6,8 +6,9 @@ use Rattle.std.proofs.lemmas.List.{append-nil}
 use Rattle.block_store.specs.Block.{Block, size, sizes, total, count, free, free_sum}
 use Rattle.block_store.specs.Block.{is_relocatable, tidy}
 use Rattle.block_store.specs.Run.{Stretch, segments, runs, joined, movers, settle}
-use Rattle.block_store.specs.Rest.{falling}
-use Rattle.block_store.specs.Compact.{distance, stands_lower, lowered, settled_runs, settled, falls, NoneRises}
+use Rattle.block_store.specs.Rest.{lowered_in_run}
+use Rattle.block_store.specs.Compact.{distance, stands_lower, lowered, settled_runs, settled, lowered_in_runs}
+use Rattle.block_store.specs.Compact.{NoneRises}
 use Rattle.block_store.specs.Inner.Packing.{Loose}
 use Rattle.block_store.proofs.Zone.Apart.{apart-tidied}
 use Rattle.block_store.proofs.Zone.Totals.{total-append}
@@ -31,7 +32,7 @@ settle-count k run loose =
 -- what a run counts, with as much below it as before
 run-lowered : (old new below below' run above above' : List Block)
     → Changed old new below below' (run ++ above) (settle run ++ above') → Loose run → Filled run
-    → sizes below' ≡ sizes below → count (stands_lower old new) run ≡ falling run
+    → sizes below' ≡ sizes below → count (stands_lower old new) run ≡ lowered_in_run run
 run-lowered old new below below' run above above' c loose filled same =
     let few : nat_lt (sizes below') (sizes below) ≡ false = grind (arith, nat_tests) in
     lowered-movers old new below below' run above (free (free_sum run) ++ above')
@@ -63,7 +64,7 @@ past-run old new below below' run above above' b c loose = record {
 runs-lowered : (k : ℕ) (old new below below' run : List Block) (parts : List Stretch)
     → Changed old new below below' (joined run parts) (settled_runs k run parts) → Loose run → AreParts parts
     → Filled (joined run parts) → sizes below' ≡ sizes below
-    → count (stands_lower old new) (joined run parts) ≡ falls k (run ∷ map (λ (p : Stretch). p.run) parts)
+    → count (stands_lower old new) (joined run parts) ≡ lowered_in_runs k (run ∷ map (λ (p : Stretch). p.run) parts)
 runs-lowered zero old new below below' run parts c loose are filled same =
     none-lower old new below below' (joined run parts) [] []
     (record {
@@ -84,7 +85,7 @@ runs-lowered (suc k) old new below below' run [] c loose are filled same =
     }) loose filled same in
     all ∙ cases k
   where
-    cases : (k : ℕ) → falling run ≡ falling run + falls k []
+    cases : (k : ℕ) → lowered_in_run run ≡ lowered_in_run run + lowered_in_runs k []
     cases zero = omega arith
     cases (suc k) = omega arith
 runs-lowered (suc k) old new below below' run (p ∷ parts) c loose are filled same =
@@ -93,7 +94,7 @@ runs-lowered (suc k) old new below below' run (p ∷ parts) c loose are filled s
     let above = joined p.run parts in
     let above' = settled_runs k p.run parts in
     let parts-filled = filled-parts run (p.barrier ∷ above) filled in
-    let first : count lower run ≡ falling run = run-lowered old new below below' run (p.barrier ∷ above)
+    let first : count lower run ≡ lowered_in_run run = run-lowered old new below below' run (p.barrier ∷ above)
     (p.barrier ∷ above') c loose parts-filled.0 same in
     let past = past-run old new below below' run above above' p.barrier c loose in
     let level : sizes (below' ++ settle run) ≡ sizes (below ++ run) =
@@ -101,7 +102,7 @@ runs-lowered (suc k) old new below below' run (p ∷ parts) c loose are filled s
     let barrier : count lower (p.barrier ∷ []) ≡ 0 = none-lower old new (below ++ run) (below' ++ settle run)
     (p.barrier ∷ []) above above' past level in
     let b = p.barrier ∷ [] in
-    let rest : count lower above ≡ falls k (p.run ∷ map (λ (p : Stretch). p.run) parts) =
+    let rest : count lower above ≡ lowered_in_runs k (p.run ∷ map (λ (p : Stretch). p.run) parts) =
     runs-lowered k old new (below ++ run ++ b) (below' ++ settle run ++ b) p.run parts
     (past-one past)
     are.1 are.2 parts-filled.1.1
@@ -115,7 +116,7 @@ runs-lowered (suc k) old new below below' run (p ∷ parts) c loose are filled s
     total-append of run (p.barrier ∷ above) in
     let one : total of b ≡ 0 = barrier in
     let z : total of (run ++ p.barrier ∷ above)
-    ≡ falling run + falls k (p.run ∷ map (λ (p : Stretch). p.run) parts) = omega arith in z
+    ≡ lowered_in_run run + lowered_in_runs k (p.run ∷ map (λ (p : Stretch). p.run) parts) = omega arith in z
   where
     past-one : Changed old new (below ++ run) (below' ++ settle run) (p.barrier ∷ joined p.run parts)
         (p.barrier ∷ settled_runs k p.run parts)
@@ -127,7 +128,7 @@ runs-lowered (suc k) old new below below' run (p ∷ parts) c loose are filled s
 -- settling the k lowest runs counts the blocks that stand lower afterwards, in a zone in which no slot leads to two
 -- blocks and each block takes bytes
 pub settled_lowered : (k : ℕ) (zone : List Block) → ((h : ℕ) → count (is_relocatable h) zone ≤ 1) → tidy zone ≡ zone
-    → falls k (runs zone) ≡ lowered zone (settled k zone)
+    → lowered_in_runs k (runs zone) ≡ lowered zone (settled k zone)
 settled_lowered k zone once tidied =
     let new = settled k zone in
     let whole : joined (segments zone).first (segments zone).rest ≡ zone = joined-segments zone in

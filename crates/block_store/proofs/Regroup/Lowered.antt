@@ -9,7 +9,7 @@ use Rattle.block_store.specs.Block.{Block, Free, Fixed, Masters, Relocatable, si
 use Rattle.block_store.specs.Block.{is_mover, is_relocatable, add, tidy}
 use Rattle.block_store.specs.Run.{RunSpot, has, movers, settle, with_run, run_at}
 use Rattle.block_store.specs.Room.{Spot, raised, spot}
-use Rattle.block_store.specs.Rest.{falling}
+use Rattle.block_store.specs.Rest.{lowered_in_run}
 use Rattle.block_store.specs.Compact.{distance, is_less, stands_lower, lowered}
 use Rattle.block_store.specs.Inner.Packing.{Loose}
 use Rattle.block_store.proofs.Zone.Totals.{total-append}
@@ -169,7 +169,8 @@ filled-parts (x ∷ xs) ys f = let parts = filled-parts xs ys f.1 in ((f.0, part
 pub lowered-movers : (old new below below' run above above' : List Block)
     → Changed old new below below' (run ++ above) (movers run ++ above') → Loose run → Filled run
     → sizes below' ≤ sizes below
-    → count (stands_lower old new) run ≡ cond (nat_lt (sizes below') (sizes below)) (count is_mover run) (falling run)
+    → count (stands_lower old new) run ≡ cond (nat_lt (sizes below') (sizes below)) (count is_mover run)
+    (lowered_in_run run)
 lowered-movers old new below below' [] above above' c loose filled less =
     elim (nat_lt (sizes below') (sizes below)) as (λ t. 0 ≡ cond {A = ℕ} t 0 0) [ true ↦ refl | false ↦ refl ]
 lowered-movers old new below below' (Free n ∷ run) above above' c loose filled less =
@@ -202,12 +203,12 @@ lowered-movers old new below below' (Relocatable id flags content ∷ run) above
     grind (arith, nat_tests) in
     cases (stands_lower old new b) (nat_lt (sizes below') (sizes below)) (not flags.locked)
     (stands-first old new below below' (run ++ above) (movers run ++ above') id flags content d) loose.0
-    (rest ∙ ap (λ t. cond t (count is_mover run) (falling run)) same)
+    (rest ∙ ap (λ t. cond t (count is_mover run) (lowered_in_run run)) same)
   where
     cases : (lower t mover : Bool) → lower ≡ t → mover ≡ true → count (stands_lower old new) run
-        ≡ cond t (count is_mover run) (falling run)
+        ≡ cond t (count is_mover run) (lowered_in_run run)
         → cond {A = ℕ} lower 1 0 + count (stands_lower old new) run
-        ≡ cond t (cond mover 1 0 + count is_mover run) (falling run)
+        ≡ cond t (cond mover 1 0 + count is_mover run) (lowered_in_run run)
     cases true true true e m rest = omega arith
     cases false false true e m rest = omega arith
     cases true false mover e m rest = let f : true ≡ false = e in cc
@@ -216,7 +217,7 @@ lowered-movers old new below below' (Relocatable id flags content ∷ run) above
 
 -- what a settled run counts, in a zone in which no slot leads to two blocks and each block takes bytes
 pub lowered-settled : (zone : List Block) (place : ℕ) (r : RunSpot) → ((k : ℕ) → count (is_relocatable k) zone ≤ 1)
-    → tidy zone ≡ zone → run_at place zone ≡ Some r → falling r.run ≡ lowered zone (tidy (with_run settle r))
+    → tidy zone ≡ zone → run_at place zone ≡ Some r → lowered_in_run r.run ≡ lowered zone (tidy (with_run settle r))
 lowered-settled zone place r once tidied found =
     let parts = run_at-parts place zone r found in
     let new = tidy (with_run settle r) in
@@ -238,7 +239,8 @@ lowered-settled zone place r once tidied found =
       is = λ k. is k
           ∙ ap (distance k) settled;
     }) refl in
-    let run : count lower r.run ≡ cond (nat_lt (sizes r.below) (sizes r.below)) (count is_mover r.run) (falling r.run) =
+    let run : count lower r.run ≡ cond (nat_lt (sizes r.below) (sizes r.below)) (count is_mover r.run)
+    (lowered_in_run r.run) =
     lowered-movers zone new r.below r.below r.run r.above (left ++ r.above)
     (record { once = once; fewer = λ k. omega arith; was = whole; is = λ k. is k ∙ ap (distance k) settled })
     parts.loose (filled-parts r.below r.run filled.0).1 (omega arith) in
@@ -268,16 +270,16 @@ lowered-settled zone place r once tidied found =
     let of : Block → ℕ = λ b. cond (lower b) 1 0 in
     let sum : total of zone ≡ total of r.below + total of r.run + total of r.above = ap (total of) (sym parts.whole)
     ∙ total-append of (r.below ++ r.run) r.above ∙ ap (λ n. n + total of r.above) (total-append of r.below r.run) in
-    let mid : count lower r.run ≡ falling r.run = run ∙ cond-false _ _ _ few in
-    let z : falling r.run ≡ total of zone = omega arith in z
+    let mid : count lower r.run ≡ lowered_in_run r.run = run ∙ cond-false _ _ _ few in
+    let z : lowered_in_run r.run ≡ total of zone = omega arith in z
 
 -- the same of a zone that was settled
 pub settle-counted : (zone zone' : List Block) (place : ℕ) → ((k : ℕ) → count (is_relocatable k) zone ≤ 1)
     → tidy zone ≡ zone → IfSome (run_at place zone) (λ r. zone' ≡ tidy (with_run settle r))
-    → IfSome (run_at place zone) (λ r. falling r.run ≡ lowered zone zone')
+    → IfSome (run_at place zone) (λ r. lowered_in_run r.run ≡ lowered zone zone')
 settle-counted zone zone' place once tidied after = cases (run_at place zone) refl after
   where
     cases : (o : Option RunSpot) → run_at place zone ≡ o → IfSome o (λ r. zone' ≡ tidy (with_run settle r))
-        → IfSome o (λ r. falling r.run ≡ lowered zone zone')
+        → IfSome o (λ r. lowered_in_run r.run ≡ lowered zone zone')
     cases None e after = after
     cases (Some r) e after = lowered-settled zone place r once tidied e ∙ ap (lowered zone) (sym after)

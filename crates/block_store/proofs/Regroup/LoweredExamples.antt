@@ -3,8 +3,8 @@ use Rattle.std.specs.Option.{option_map}
 use Rattle.block_store.specs.declared.flags.Flags.{Flags}
 use Rattle.block_store.specs.Block.{Block, Free, Masters, Relocatable, no_flags, tidy}
 use Rattle.block_store.specs.Run.{RunSpot, run_at, runs, settle, with_run}
-use Rattle.block_store.specs.Rest.{falling}
-use Rattle.block_store.specs.Compact.{lowered, distance, settled, falls}
+use Rattle.block_store.specs.Rest.{lowered_in_run}
+use Rattle.block_store.specs.Compact.{lowered, distance, settled, lowered_in_runs}
 
 -- Worked examples of what settling counts, by the definitions alone.
 
@@ -27,8 +27,8 @@ settled-after = refl
 two-lower : lowered before after ≡ 2
 two-lower = refl
 
-two-falling : option_map (λ (r : RunSpot). falling r.run) (run_at 272 before) ≡ Some 2
-two-falling = refl
+two-lowered_in_run : option_map (λ (r : RunSpot). lowered_in_run r.run) (run_at 272 before) ≡ Some 2
+two-lowered_in_run = refl
 
 second-was : distance 2 before ≡ Some 352
 second-was = refl
@@ -40,10 +40,10 @@ second-is = refl
 three-lower : lowered before (settled 3 before) ≡ 3
 three-lower = refl
 
-three-falling : falls 3 (runs before) ≡ 3
-three-falling = refl
+three-lowered_in_run : lowered_in_runs 3 (runs before) ≡ 3
+three-lowered_in_run = refl
 
-two-runs : falls 2 (runs before) ≡ 2
+two-runs : lowered_in_runs 2 (runs before) ≡ 2
 two-runs = refl
 
 -- the other way round none stands lower

@@ -16,7 +16,7 @@ use Rattle.block_store.specs.Block.{free_sum, is_mover, is_relocatable, size, ad
 use Rattle.block_store.specs.Run.{in_run, segments, Segments, has, movers, others, settle, high, low, has_free}
 use Rattle.block_store.specs.Run.{RunSpot, with_run, run_at}
 use Rattle.block_store.specs.Compact.{beyond}
-use Rattle.block_store.specs.Rest.{falling}
+use Rattle.block_store.specs.Rest.{lowered_in_run}
 use Rattle.block_store.specs.Inner.Stretch.{is_free}
 use Rattle.block_store.specs.Room.{Spot, raised}
 use Rattle.block_store.specs.declared.entries.StoredBlock.{StoredBlock}
@@ -73,7 +73,7 @@ beyond-more b above e = ap (λ (s : Segments). beyond s.rest) (gone-on b above e
 
 -- what falls from a block on
 pub falls-free : (below : Bool) (b : Block) (above : List Block) → is_free b ≡ true
-    → cond below (count is_mover (b ∷ above)) (falling (b ∷ above)) ≡ count is_mover above
+    → cond below (count is_mover (b ∷ above)) (lowered_in_run (b ∷ above)) ≡ count is_mover above
 falls-free true (Free n) above e = let z : 0 + count is_mover above ≡ count is_mover above = omega arith in z
 falls-free false (Free n) above e = refl
 falls-free below (Fixed id content) above e = let f : false ≡ true = e in cc
@@ -95,7 +95,8 @@ falls-barrier Masters above e l = let z : 0 + count is_mover above ≡ count is_
 falls-barrier (Relocatable id flags content) above e l = ap {B = ℕ} (λ (t : Bool). cond t 1 0 + count is_mover above) l
     ∙ (let z : 0 + count is_mover above ≡ count is_mover above = omega arith in z)
 
-pub falls-later : (b : Block) (above : List Block) → is_free b ≡ false → falling (b ∷ above) ≡ falling above
+pub falls-later : (b : Block) (above : List Block) → is_free b ≡ false → lowered_in_run (b ∷ above) ≡ lowered_in_run
+    above
 falls-later (Free n) above e = let f : true ≡ false = e in cc
 falls-later (Fixed id content) above e = refl
 falls-later Masters above e = refl
@@ -104,46 +105,46 @@ falls-later (Relocatable id flags content) above e = refl
 -- how many so far, and the others, an entry on: a Free one
 pub fallen-free : (below below' : Bool) (falls falls' whole : ℕ) (b : Block) (above : List Block) → falls' ≡ falls
     → below' ≡ true → is_free b ≡ true
-    → falls + cond below (count is_mover (b ∷ above)) (falling (b ∷ above)) ≡ whole
-    → falls' + cond below' (count is_mover above) (falling above) ≡ whole
+    → falls + cond below (count is_mover (b ∷ above)) (lowered_in_run (b ∷ above)) ≡ whole
+    → falls' + cond below' (count is_mover above) (lowered_in_run above) ≡ whole
 fallen-free below below' falls falls' whole b above same is free was =
-    ap (λ n. n + cond below' (count is_mover above) (falling above)) same
-    ∙ ap (λ t. falls + cond t (count is_mover above) (falling above)) is
+    ap (λ n. n + cond below' (count is_mover above) (lowered_in_run above)) same
+    ∙ ap (λ t. falls + cond t (count is_mover above) (lowered_in_run above)) is
     ∙ ap (λ n. falls + n) (sym (falls-free below b above free)) ∙ was
 
 -- one that falls
 pub fallen-mover : (below below' : Bool) (falls falls' whole : ℕ) (b : Block) (above : List Block) → falls' ≡ falls + 1
     → below' ≡ below → is_free b ≡ false → below ≡ true → in_run b ≡ true
-    → falls + cond below (count is_mover (b ∷ above)) (falling (b ∷ above)) ≡ whole
-    → falls' + cond below' (count is_mover above) (falling above) ≡ whole
+    → falls + cond below (count is_mover (b ∷ above)) (lowered_in_run (b ∷ above)) ≡ whole
+    → falls' + cond below' (count is_mover above) (lowered_in_run above) ≡ whole
 fallen-mover below below' falls falls' whole b above same is other e loose was =
-    ap (λ n. n + cond below' (count is_mover above) (falling above)) same
-    ∙ ap (λ t. (falls + 1) + cond t (count is_mover above) (falling above)) (is ∙ e)
+    ap (λ n. n + cond below' (count is_mover above) (lowered_in_run above)) same
+    ∙ ap (λ t. (falls + 1) + cond t (count is_mover above) (lowered_in_run above)) (is ∙ e)
     ∙ (let z : (falls + 1) + count is_mover above ≡ falls + (1 + count is_mover above) = omega arith in z)
     ∙ ap (λ n. falls + n) (sym (falls-mover b above other loose))
-    ∙ ap (λ t. falls + cond t (count is_mover (b ∷ above)) (falling (b ∷ above))) (sym e) ∙ was
+    ∙ ap (λ t. falls + cond t (count is_mover (b ∷ above)) (lowered_in_run (b ∷ above))) (sym e) ∙ was
 
 -- one that stays where it is
 pub fallen-barrier : (below below' : Bool) (falls falls' whole : ℕ) (b : Block) (above : List Block) → falls' ≡ falls
     → below' ≡ below → is_free b ≡ false → below ≡ true → in_run b ≡ false
-    → falls + cond below (count is_mover (b ∷ above)) (falling (b ∷ above)) ≡ whole
-    → falls' + cond below' (count is_mover above) (falling above) ≡ whole
+    → falls + cond below (count is_mover (b ∷ above)) (lowered_in_run (b ∷ above)) ≡ whole
+    → falls' + cond below' (count is_mover above) (lowered_in_run above) ≡ whole
 fallen-barrier below below' falls falls' whole b above same is other e fixed was =
-    ap (λ n. n + cond below' (count is_mover above) (falling above)) same
-    ∙ ap (λ t. falls + cond t (count is_mover above) (falling above)) (is ∙ e)
+    ap (λ n. n + cond below' (count is_mover above) (lowered_in_run above)) same
+    ∙ ap (λ t. falls + cond t (count is_mover above) (lowered_in_run above)) (is ∙ e)
     ∙ ap (λ n. falls + n) (sym (falls-barrier b above other fixed))
-    ∙ ap (λ t. falls + cond t (count is_mover (b ∷ above)) (falling (b ∷ above))) (sym e) ∙ was
+    ∙ ap (λ t. falls + cond t (count is_mover (b ∷ above)) (lowered_in_run (b ∷ above))) (sym e) ∙ was
 
 -- one below all Free ones
 pub fallen-later : (below below' : Bool) (falls falls' whole : ℕ) (b : Block) (above : List Block) → falls' ≡ falls
     → below' ≡ below → is_free b ≡ false → below ≡ false
-    → falls + cond below (count is_mover (b ∷ above)) (falling (b ∷ above)) ≡ whole
-    → falls' + cond below' (count is_mover above) (falling above) ≡ whole
+    → falls + cond below (count is_mover (b ∷ above)) (lowered_in_run (b ∷ above)) ≡ whole
+    → falls' + cond below' (count is_mover above) (lowered_in_run above) ≡ whole
 fallen-later below below' falls falls' whole b above same is other e was =
-    ap (λ n. n + cond below' (count is_mover above) (falling above)) same
-    ∙ ap (λ t. falls + cond t (count is_mover above) (falling above)) (is ∙ e)
+    ap (λ n. n + cond below' (count is_mover above) (lowered_in_run above)) same
+    ∙ ap (λ t. falls + cond t (count is_mover above) (lowered_in_run above)) (is ∙ e)
     ∙ ap (λ n. falls + n) (sym (falls-later b above other)) ∙ ap
-    (λ t. falls + cond t (count is_mover (b ∷ above)) (falling (b ∷ above))) (sym e) ∙ was
+    (λ t. falls + cond t (count is_mover (b ∷ above)) (lowered_in_run (b ∷ above))) (sym e) ∙ was
 
 -- an entry is cleared
 cleared-free : (b : Block) → is_free b ≡ true → cleared b ≡ Free 0

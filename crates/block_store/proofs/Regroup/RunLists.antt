@@ -30,16 +30,17 @@ segments-loose (b ∷ above) = cases (in_run b) refl (segments above) (segments-
     cases false e s l = (tt, (l.0, l.1))
 
 -- what is known of a run that is there
-pub record Parts (zone : List Block) (r : RunSpot) : Type 0 where
+pub record KnownRun (zone : List Block) (r : RunSpot) : Type 0 where
   pub whole : r.below ++ r.run ++ r.above ≡ zone
   pub loose : Loose r.run
 
 parts-raised : (below zone : List Block) (o : Option RunSpot) (r : RunSpot)
-    → ((q : RunSpot) → o ≡ Some q → Parts zone q) → option_map (run_raised below) o ≡ Some r → Parts (below ++ zone) r
+    → ((q : RunSpot) → o ≡ Some q → KnownRun zone q) → option_map (run_raised below) o ≡ Some r
+    → KnownRun (below ++ zone) r
 parts-raised below zone None r known e = absurd (none-some _ e)
 parts-raised below zone (Some q) r known e =
     let k = known q refl in
-    let P : RunSpot → Type 0 = λ s. Parts (below ++ zone) s in
+    let P : RunSpot → Type 0 = λ s. KnownRun (below ++ zone) s in
     subst P (same_Some _ _ e) (record {
       whole = ap (λ l. l ++ q.above) (append_assoc below q.below q.run) ∙ append_assoc below (q.below ++ q.run) q.above
           ∙ ap (λ l. below ++ l) k.whole;
@@ -48,38 +49,38 @@ parts-raised below zone (Some q) r known e =
 
 -- the only run, if it is taken
 only-parts : (t : Bool) (run : List Block) (r : RunSpot) → Loose run
-    → cond t (Some (record { below = []; run = run; above = [] })) None ≡ Some r → Parts run r
+    → cond t (Some (record { below = []; run = run; above = [] })) None ≡ Some r → KnownRun run r
 only-parts false run r loose e = absurd (none-some _ e)
 only-parts true run r loose e =
-    let P : RunSpot → Type 0 = λ s. Parts run s in
+    let P : RunSpot → Type 0 = λ s. KnownRun run s in
     subst P (same_Some _ _ e) (record { whole = append-nil run; loose = loose })
 
 run_from-parts : (place : ℕ) (run : List Block) (parts : List Stretch) (r : RunSpot) → Loose run → AreLoose parts
-    → run_from place run parts ≡ Some r → Parts (joined run parts) r
+    → run_from place run parts ≡ Some r → KnownRun (joined run parts) r
 run_from-parts place run [] r loose are e = only-parts (place == 0) run r loose e
 run_from-parts place run (p ∷ parts) r loose are e =
     cases (place == 0) (nat_le (sizes (run ++ p.barrier ∷ [])) place)
     (run_from (place - sizes (run ++ p.barrier ∷ [])) p.run parts)
     (λ q f. run_from-parts (place - sizes (run ++ p.barrier ∷ [])) p.run parts q are.0 are.1 f) e
   where
-    cases : (t u : Bool) (o : Option RunSpot) → ((q : RunSpot) → o ≡ Some q → Parts (joined p.run parts) q)
+    cases : (t u : Bool) (o : Option RunSpot) → ((q : RunSpot) → o ≡ Some q → KnownRun (joined p.run parts) q)
         → cond t (Some (record { below = []; run = run; above = p.barrier ∷ joined p.run parts }))
         (cond u (option_map (run_raised (run ++ p.barrier ∷ [])) o) None) ≡ Some r
-        → Parts (run ++ p.barrier ∷ joined p.run parts) r
+        → KnownRun (run ++ p.barrier ∷ joined p.run parts) r
     cases true u o known e =
-        let P : RunSpot → Type 0 = λ s. Parts (run ++ p.barrier ∷ joined p.run parts) s in
+        let P : RunSpot → Type 0 = λ s. KnownRun (run ++ p.barrier ∷ joined p.run parts) s in
         subst P (same_Some _ _ e) (record { whole = refl; loose = loose })
     cases false false o known e = absurd (none-some _ e)
     cases false true o known e =
-        let P : List Block → Type 0 = λ l. Parts l r in
+        let P : List Block → Type 0 = λ l. KnownRun l r in
         subst P (append_assoc run (p.barrier ∷ []) (joined p.run parts))
         (parts-raised (run ++ p.barrier ∷ []) (joined p.run parts) o r known e)
 
 -- a run at a place is a part of the zone
-pub run_at-parts : (place : ℕ) (zone : List Block) (r : RunSpot) → run_at place zone ≡ Some r → Parts zone r
+pub run_at-parts : (place : ℕ) (zone : List Block) (r : RunSpot) → run_at place zone ≡ Some r → KnownRun zone r
 run_at-parts place zone r e =
     let loose = segments-loose zone in
-    let P : List Block → Type 0 = λ l. Parts l r in
+    let P : List Block → Type 0 = λ l. KnownRun l r in
     subst P (joined-segments zone) (run_from-parts place (segments zone).first (segments zone).rest r loose.0 loose.1 e)
 
 pub run_at-is : (place : ℕ) (zone : List Block) (r : RunSpot) → run_at place zone ≡ Some r
@@ -88,28 +89,28 @@ run_at-is place zone r e = sym (append_assoc r.below r.run r.above) ∙ (run_at-
 
 -- and so is the lowest run that passes
 lowest-parts : (passes : List Block → Bool) (run : List Block) (parts : List Stretch) (r : RunSpot) → Loose run
-    → AreLoose parts → lowest_run passes run parts ≡ Some r → Parts (joined run parts) r
+    → AreLoose parts → lowest_run passes run parts ≡ Some r → KnownRun (joined run parts) r
 lowest-parts passes run [] r loose are e = only-parts (passes run) run r loose e
 lowest-parts passes run (p ∷ parts) r loose are e = cases (passes run) (lowest_run passes p.run parts)
     (λ q f. lowest-parts passes p.run parts q are.0 are.1 f) e
   where
-    cases : (t : Bool) (o : Option RunSpot) → ((q : RunSpot) → o ≡ Some q → Parts (joined p.run parts) q)
+    cases : (t : Bool) (o : Option RunSpot) → ((q : RunSpot) → o ≡ Some q → KnownRun (joined p.run parts) q)
         → cond t (Some (record { below = []; run = run; above = p.barrier ∷ joined p.run parts }))
         (option_map (run_raised (run ++ p.barrier ∷ [])) o) ≡ Some r
-        → Parts (run ++ p.barrier ∷ joined p.run parts) r
+        → KnownRun (run ++ p.barrier ∷ joined p.run parts) r
     cases true o known e =
-        let P : RunSpot → Type 0 = λ s. Parts (run ++ p.barrier ∷ joined p.run parts) s in
+        let P : RunSpot → Type 0 = λ s. KnownRun (run ++ p.barrier ∷ joined p.run parts) s in
         subst P (same_Some _ _ e) (record { whole = refl; loose = loose })
     cases false o known e =
-        let P : List Block → Type 0 = λ l. Parts l r in
+        let P : List Block → Type 0 = λ l. KnownRun l r in
         subst P (append_assoc run (p.barrier ∷ []) (joined p.run parts))
         (parts-raised (run ++ p.barrier ∷ []) (joined p.run parts) o r known e)
 
 pub run_spot-parts : (passes : List Block → Bool) (zone : List Block) (r : RunSpot) → run_spot passes zone ≡ Some r
-    → Parts zone r
+    → KnownRun zone r
 run_spot-parts passes zone r e =
     let loose = segments-loose zone in
-    let P : List Block → Type 0 = λ l. Parts l r in
+    let P : List Block → Type 0 = λ l. KnownRun l r in
     subst P (joined-segments zone) (lowest-parts passes (segments zone).first (segments zone).rest r loose.0 loose.1 e)
 
 -- the run whose bottom is at this distance from the bottom of a run, and isn't that one

@@ -2,7 +2,7 @@ use Rattle.std.proofs.Common.{ℕ, ◌+◌, Bool, List}
 use Rattle.std.proofs.Common.{map, Option, max}
 use Rattle.block_store.specs.Block.{Block, sizes, free_sum}
 use Rattle.block_store.specs.Run.{segments, Segments, Stretch}
-use Rattle.block_store.specs.Room.{emptied, count_of}
+use Rattle.block_store.specs.Room.{lowest_purged, count_of}
 use Rattle.block_store.specs.Compact.{largest, place_behind, beyond}
 
 -- where the run above the lowest one begins, seen from a place on
@@ -13,9 +13,9 @@ run_behind place bs = place_behind (place + sizes (segments bs).first) (beyond (
 abbrev pub largest_from : ℕ → Segments → ℕ
 largest_from free s = max (free + free_sum s.first) (largest free_sum (map (λ (p : Stretch). p.run) s.rest))
 
--- the Free bytes of the lowest run, where the k lowest blocks that may go are emptied
+-- the Free bytes of the lowest run, where the k lowest blocks that may go are purged
 abbrev pub free_first : ℕ → (Block → Bool) → Segments → ℕ
-free_first k sp s = free_sum (emptied k sp s.first)
+free_first k sp s = free_sum (lowest_purged k sp s.first)
 
 -- how many blocks of the lowest run may go
 abbrev pub goes_first : (Block → Bool) → Segments → ℕ

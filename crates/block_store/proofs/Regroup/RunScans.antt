@@ -8,38 +8,40 @@ use Rattle.block_store.specs.Block.{Block, Free, Fixed, Masters, Relocatable, is
 use Rattle.block_store.specs.Block.{free_sum, add, tidy}
 use Rattle.block_store.specs.Run.{in_run, has, has_free, RunSpot, run_raised, lowest_run, run_spot, segments, Segments}
 use Rattle.block_store.specs.Run.{joined}
-use Rattle.block_store.specs.Room.{may_go, emptied}
+use Rattle.block_store.specs.Room.{may_be_purged, lowest_purged}
 use Rattle.block_store.specs.Sparing.{spared, opened, purged}
 use Rattle.block_store.specs.Inner.RunScan.{is_number, is_wanted, any_run, meets, suits, met_after, scan_runs}
 use Rattle.block_store.specs.declared.sparing.Sparing.{Sparing}
 use Rattle.block_store.proofs.Zone.Totals.{total-append}
 
--- blocks that would be emptied count as those that are
-scan-emptied : (w : Option ℕ) (p : ℕ) (sp : Block → Bool) (k start free : ℕ) (met : Bool) (place : ℕ) (bs : List Block)
-    → scan_runs w p sp k start free met place bs ≡ scan_runs w p sp 0 start free met place (emptied k sp bs)
-scan-emptied w p sp zero start free met place bs = refl
-scan-emptied w p sp (suc k) start free met place [] = refl
-scan-emptied w p sp (suc k) start free met place (b ∷ bs) =
-    cases (may_go sp b) (scan-emptied w p sp k start (free + size b) met (place + size b) bs)
-    (scan-emptied w p sp (suc k) start (free + free_of b) (met_after w met b) (place + size b) bs)
-    (scan-emptied w p sp (suc k) (place + size b) 0 (any_run w) (place + size b) bs)
+-- blocks that would be purged count as those that are
+scan-lowest_purged : (w : Option ℕ) (p : ℕ) (sp : Block → Bool) (k start free : ℕ) (met : Bool) (place : ℕ)
+    (bs : List Block)
+    → scan_runs w p sp k start free met place bs ≡ scan_runs w p sp 0 start free met place (lowest_purged k sp bs)
+scan-lowest_purged w p sp zero start free met place bs = refl
+scan-lowest_purged w p sp (suc k) start free met place [] = refl
+scan-lowest_purged w p sp (suc k) start free met place (b ∷ bs) =
+    cases (may_be_purged sp b) (scan-lowest_purged w p sp k start (free + size b) met (place + size b) bs)
+    (scan-lowest_purged w p sp (suc k) start (free + free_of b) (met_after w met b) (place + size b) bs)
+    (scan-lowest_purged w p sp (suc k) (place + size b) 0 (any_run w) (place + size b) bs)
   where
     cases : (t : Bool) → scan_runs w p sp k start (free + size b) met (place + size b) bs
-        ≡ scan_runs w p sp 0 start (free + size b) met (place + size b) (emptied k sp bs)
+        ≡ scan_runs w p sp 0 start (free + size b) met (place + size b) (lowest_purged k sp bs)
         → scan_runs w p sp (suc k) start (free + free_of b) (met_after w met b) (place + size b) bs
-        ≡ scan_runs w p sp 0 start (free + free_of b) (met_after w met b) (place + size b) (emptied (suc k) sp bs)
+        ≡ scan_runs w p sp 0 start (free + free_of b) (met_after w met b) (place + size b) (lowest_purged (suc k) sp bs)
         → scan_runs w p sp (suc k) (place + size b) 0 (any_run w) (place + size b) bs
-        ≡ scan_runs w p sp 0 (place + size b) 0 (any_run w) (place + size b) (emptied (suc k) sp bs)
+        ≡ scan_runs w p sp 0 (place + size b) 0 (any_run w) (place + size b) (lowest_purged (suc k) sp bs)
         → cond t (scan_runs w p sp k start (free + size b) met (place + size b) bs)
         (cond (in_run b) (scan_runs w p sp (suc k) start (free + free_of b) (met_after w met b) (place + size b) bs)
         (cond (met && nat_le p free) (Some start) (scan_runs w p sp (suc k) (place + size b) 0 (any_run w)
         (place + size b) bs)))
-        ≡ scan_runs w p sp 0 start free met place (cond t (Free (size b) ∷ emptied k sp bs) (b ∷ emptied (suc k) sp bs))
+        ≡ scan_runs w p sp 0 start free met place (cond t (Free (size b) ∷ lowest_purged k sp bs)
+        (b ∷ lowest_purged (suc k) sp bs))
     cases true one run end = one
     cases false one run end = ap (λ o. cond (in_run b) o (cond (met && nat_le p free) (Some start)
         (scan_runs w p sp (suc k) (place + size b) 0 (any_run w) (place + size b) bs))) run
         ∙ ap (λ o. cond (in_run b) (scan_runs w p sp 0 start (free + free_of b) (met_after w met b) (place + size b)
-        (emptied (suc k) sp bs)) (cond (met && nat_le p free) (Some start) o)) end
+        (lowest_purged (suc k) sp bs)) (cond (met && nat_le p free) (Some start) o)) end
 
 -- Free blocks that are made one are as many bytes
 scan-add : (w : Option ℕ) (p : ℕ) (sp : Block → Bool) (start free : ℕ) (met : Bool) (place : ℕ) (b : Block)
@@ -101,7 +103,7 @@ scan_kept w p sp zero start free met place (b ∷ bs) e =
     (enough-kept p free (free_of b) met (met_after w met b) (met-kept w met b) e))
     (cond-true (met && nat_le p free) (Some start) _ e)
 scan_kept w p sp (suc k) start free met place (b ∷ bs) e =
-    either-is (may_go sp b) _ _ (Some start)
+    either-is (may_be_purged sp b) _ _ (Some start)
     (scan_kept w p sp k start (free + size b) met (place + size b) bs
     (enough-kept p free (size b) met met (λ is. is) e))
     (either-is (in_run b) _ _ (Some start)
@@ -213,8 +215,8 @@ pub scan-is : (w : Option ℕ) (p : ℕ) (n : Sparing) (k : ℕ) (zone : List Bl
     → scan_runs w p (spared n) k 0 0 (any_run w) 0 (opened n zone)
     ≡ option_map (λ (r : RunSpot). sizes r.below) (run_spot (suits w p) (purged k n zone))
 scan-is w p n k zone =
-    scan-emptied w p (spared n) k 0 0 (any_run w) 0 (opened n zone)
-    ∙ sym (scan-tidy w p (spared n) 0 0 (any_run w) 0 (emptied k (spared n) (opened n zone)))
+    scan-lowest_purged w p (spared n) k 0 0 (any_run w) 0 (opened n zone)
+    ∙ sym (scan-tidy w p (spared n) 0 0 (any_run w) 0 (lowest_purged k (spared n) (opened n zone)))
     ∙ scan-lowest w p (spared n) 0 0 (any_run w) 0 [] (purged k n zone) refl (meets-none w) refl
     ∙ from_zero (run_spot (suits w p) (purged k n zone))
   where

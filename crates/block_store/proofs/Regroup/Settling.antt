@@ -11,8 +11,8 @@ use Rattle.block_store.specs.Run.{in_run, Stretch, Segments, segments, runs, joi
 use Rattle.block_store.specs.Run.{with_run, has, movers, settle}
 use Rattle.block_store.specs.Room.{Spot, raised, spot}
 use Rattle.block_store.specs.Find.{FindsLowest}
-use Rattle.block_store.specs.Rest.{Rest, IsRest, KeepsSlots, with_moves, counted, falling}
-use Rattle.block_store.specs.Compact.{beyond, settled_runs, settled, falls, has_room}
+use Rattle.block_store.specs.Rest.{Rest, IsRest, KeepsSlots, with_moves, counted, lowered_in_run}
+use Rattle.block_store.specs.Compact.{beyond, settled_runs, settled, lowered_in_runs, has_room}
 use Rattle.block_store.specs.Inner.NthRun.{nth_run_of, nth_run, FindsRun}
 use Rattle.block_store.specs.Compact.{runs_settled}
 use Rattle.block_store.proofs.Zone.Apart.{Apart, tidy-apart, apart-tidied, barrier-alone, apart-above}
@@ -125,23 +125,26 @@ settled-next k place start zone zone' tidied is found done =
     ∙ settled-tidy (suc k) start tidied ∙ ap (λ n. settled n start) (let e : suc k ≡ k + 1 = omega arith in e)
 
 -- the blocks that move with the next run
-falls-runs : (k : ℕ) (run : List Block) (parts : List Stretch) (r : RunSpot) → settled_spot k run parts ≡ Some r
-    → falls (suc k) (run ∷ map (λ (p : Stretch). p.run) parts)
-    ≡ falls k (run ∷ map (λ (p : Stretch). p.run) parts) + falling r.run
-falls-runs zero run parts r e = let same : falling run ≡ falling r.run =
-    ap (λ (r : RunSpot). falling r.run) (same_Some _ _ e) in omega arith
-falls-runs (suc k) run [] r e = absurd (none-some _ e)
-falls-runs (suc k) run (p ∷ parts) r e = cases (settled_spot k p.run parts) (falls-runs k p.run parts) e
+lowered_in_runs-runs : (k : ℕ) (run : List Block) (parts : List Stretch) (r : RunSpot) → settled_spot k run parts
+    ≡ Some r
+    → lowered_in_runs (suc k) (run ∷ map (λ (p : Stretch). p.run) parts)
+    ≡ lowered_in_runs k (run ∷ map (λ (p : Stretch). p.run) parts) + lowered_in_run r.run
+lowered_in_runs-runs zero run parts r e = let same : lowered_in_run run ≡ lowered_in_run r.run =
+    ap (λ (r : RunSpot). lowered_in_run r.run) (same_Some _ _ e) in omega arith
+lowered_in_runs-runs (suc k) run [] r e = absurd (none-some _ e)
+lowered_in_runs-runs (suc k) run (p ∷ parts) r e = cases (settled_spot k p.run parts)
+    (lowered_in_runs-runs k p.run parts) e
   where
     cases : (o : Option RunSpot) → ((r : RunSpot) → o ≡ Some r
-        → falls (suc k) (p.run ∷ map (λ (p : Stretch). p.run) parts)
-        ≡ falls k (p.run ∷ map (λ (p : Stretch). p.run) parts) + falling r.run)
+        → lowered_in_runs (suc k) (p.run ∷ map (λ (p : Stretch). p.run) parts)
+        ≡ lowered_in_runs k (p.run ∷ map (λ (p : Stretch). p.run) parts) + lowered_in_run r.run)
         → option_map (run_raised (settle run ++ p.barrier ∷ [])) o ≡ Some r
-        → falling run + falls (suc k) (p.run ∷ map (λ (p : Stretch). p.run) parts)
-        ≡ falling run + falls k (p.run ∷ map (λ (p : Stretch). p.run) parts) + falling r.run
+        → lowered_in_run run + lowered_in_runs (suc k) (p.run ∷ map (λ (p : Stretch). p.run) parts)
+        ≡ lowered_in_run run + lowered_in_runs k (p.run ∷ map (λ (p : Stretch). p.run) parts) + lowered_in_run r.run
     cases None rest e = absurd (none-some _ e)
     cases (Some r') rest e =
-        let same : falling r'.run ≡ falling r.run = ap (λ (r : RunSpot). falling r.run) (same_Some _ _ e) in
+        let same : lowered_in_run r'.run ≡ lowered_in_run r.run = ap (λ (r : RunSpot). lowered_in_run r.run)
+        (same_Some _ _ e) in
         let more = rest r' refl in
         omega arith
 
@@ -149,25 +152,26 @@ counted-more : (n a b : ℕ) → counted (counted n a) b ≡ counted n (a + b)
 counted-more n a b = omega arith
 
 pub moves-next : (k place : ℕ) (start zone : List Block) (first rest rest' : Rest) → zone ≡ settled k start
-    → FindsRun k zone (Some place) → IfSome (run_at place zone) (λ r. IsRest (with_moves (falling r.run) rest) rest')
-    → rest.moves ≡ counted first.moves (falls k (runs start)) → rest'.moves
-    ≡ counted first.moves (falls (k + 1) (runs start))
+    → FindsRun k zone (Some place) → IfSome (run_at place zone) (λ r. IsRest (with_moves (lowered_in_run r.run) rest)
+    rest')
+    → rest.moves ≡ counted first.moves (lowered_in_runs k (runs start)) → rest'.moves
+    ≡ counted first.moves (lowered_in_runs (k + 1) (runs start))
 moves-next k place start zone first rest rest' is found done before =
-    let P : Option RunSpot → Type 0 = λ o. IfSome o (λ r. IsRest (with_moves (falling r.run) rest) rest') in
-    let now : IsRest (with_moves (falling found.0.run) rest) rest' = subst P found.2 done in
+    let P : Option RunSpot → Type 0 = λ o. IfSome o (λ r. IsRest (with_moves (lowered_in_run r.run) rest) rest') in
+    let now : IsRest (with_moves (lowered_in_run found.0.run) rest) rest' = subst P found.2 done in
     let next : settled_spot k (segments start).first (segments start).rest ≡ Some found.0 = sym (nth-settled k start)
     ∙ ap (nth_run k) (sym is) ∙ found.1 in
-    now.moves ∙ ap (λ n. counted n (falling found.0.run)) before
-    ∙ counted-more first.moves (falls k (runs start)) (falling found.0.run)
-    ∙ ap (counted first.moves) (sym (falls-runs k (segments start).first (segments start).rest found.0 next))
-    ∙ ap (λ n. counted first.moves (falls n (runs start))) (let e : suc k ≡ k + 1 = omega arith in e)
+    now.moves ∙ ap (λ n. counted n (lowered_in_run found.0.run)) before
+    ∙ counted-more first.moves (lowered_in_runs k (runs start)) (lowered_in_run found.0.run)
+    ∙ ap (counted first.moves) (sym (lowered_in_runs-runs k (segments start).first (segments start).rest found.0 next))
+    ∙ ap (λ n. counted first.moves (lowered_in_runs n (runs start))) (let e : suc k ≡ k + 1 = omega arith in e)
 
 pub keeps-next : (place : ℕ) (zone : List Block) (r : RunSpot) (first rest rest' : Rest) → run_at place zone ≡ Some r
-    → IfSome (run_at place zone) (λ r. IsRest (with_moves (falling r.run) rest) rest') → KeepsSlots first rest
+    → IfSome (run_at place zone) (λ r. IsRest (with_moves (lowered_in_run r.run) rest) rest') → KeepsSlots first rest
     → KeepsSlots first rest'
 keeps-next place zone r first rest rest' at done before =
-    let P : Option RunSpot → Type 0 = λ o. IfSome o (λ r. IsRest (with_moves (falling r.run) rest) rest') in
-    let now : IsRest (with_moves (falling r.run) rest) rest' = subst P at done in
+    let P : Option RunSpot → Type 0 = λ o. IfSome o (λ r. IsRest (with_moves (lowered_in_run r.run) rest) rest') in
+    let now : IsRest (with_moves (lowered_in_run r.run) rest) rest' = subst P at done in
     record {
       slots = λ n. now.slots n ∙ before.slots n;
       unused = now.unused ∙ before.unused;
@@ -283,6 +287,6 @@ none-next p start zone k is here before j less = cases (j == k) refl
 pub zone-end : (k n : ℕ) (start zone : List Block) → zone ≡ settled k start → k ≡ n → zone ≡ settled n start
 zone-end k n start zone is same = is ∙ ap (λ m. settled m start) same
 
-pub moves-end : (k n first moves : ℕ) (rs : List (List Block)) → moves ≡ counted first (falls k rs) → k ≡ n
-    → moves ≡ counted first (falls n rs)
-moves-end k n first moves rs is same = is ∙ ap (λ m. counted first (falls m rs)) same
+pub moves-end : (k n first moves : ℕ) (rs : List (List Block)) → moves ≡ counted first (lowered_in_runs k rs) → k ≡ n
+    → moves ≡ counted first (lowered_in_runs n rs)
+moves-end k n first moves rs is same = is ∙ ap (λ m. counted first (lowered_in_runs m rs)) same

@@ -7,7 +7,7 @@ use Rattle.block_store.specs.Block.{Block, Free, Fixed, Masters, Relocatable, si
 use Rattle.block_store.specs.Block.{rename_block, free, is_mover, is_room, is_purgeable, add, tidy}
 use Rattle.block_store.specs.Run.{settle, in_run, Stretch, Segments, segments, joined, RunSpot, run_raised, lowest_run}
 use Rattle.block_store.specs.Run.{run_spot, with_run, change_run, has_free, has, others}
-use Rattle.block_store.specs.Room.{Spot, rename_spot, spot, raised, filled, place, put_in_place, emptied, purge}
+use Rattle.block_store.specs.Room.{Spot, rename_spot, spot, raised, filled, place, put_in_place, lowest_purged, purge}
 use Rattle.block_store.specs.Room.{count_of, least, room}
 use Rattle.block_store.specs.Grow.{growth, taken, grow_up, freed, move_away, grow_last, grow_mover}
 
@@ -228,29 +228,30 @@ is_purgeable-rename f g (Fixed id content) = refl
 is_purgeable-rename f g Masters = refl
 is_purgeable-rename f g (Relocatable id flags content) = refl
 
-pub emptied-rename : (f g : ℕ → ℕ) (p q : Block → Bool) → ((b : Block) → p (rename_block f g b) ≡ q b)
-    → (k : ℕ) (bs : List Block) → emptied k p (rename f g bs) ≡ rename f g (emptied k q bs)
-emptied-rename f g p q same zero bs = refl
-emptied-rename f g p q same (suc k) [] = refl
-emptied-rename f g p q same (suc k) (b ∷ bs) =
+pub lowest_purged-rename : (f g : ℕ → ℕ) (p q : Block → Bool) → ((b : Block) → p (rename_block f g b) ≡ q b)
+    → (k : ℕ) (bs : List Block) → lowest_purged k p (rename f g bs) ≡ rename f g (lowest_purged k q bs)
+lowest_purged-rename f g p q same zero bs = refl
+lowest_purged-rename f g p q same (suc k) [] = refl
+lowest_purged-rename f g p q same (suc k) (b ∷ bs) =
     rw (
       same b,
       is_purgeable-rename f g b,
       size-rename f g b,
-      emptied-rename f g p q same k bs,
-      emptied-rename f g p q
+      lowest_purged-rename f g p q same k bs,
+      lowest_purged-rename f g p q
           same (suc k) bs,
     ) (cases (is_purgeable b && not (q b)))
   where
-    cases : (t : Bool) → cond t (Free (size b) ∷ rename f g (emptied k q bs))
-        (rename_block f g b ∷ rename f g (emptied (suc k) q bs))
-        ≡ rename f g (cond t (Free (size b) ∷ emptied k q bs) (b ∷ emptied (suc k) q bs))
+    cases : (t : Bool) → cond t (Free (size b) ∷ rename f g (lowest_purged k q bs))
+        (rename_block f g b ∷ rename f g (lowest_purged (suc k) q bs))
+        ≡ rename f g (cond t (Free (size b) ∷ lowest_purged k q bs) (b ∷ lowest_purged (suc k) q bs))
     cases true = refl
     cases false = refl
 
 pub purge-rename : (f g : ℕ → ℕ) (p q : Block → Bool) → ((b : Block) → p (rename_block f g b) ≡ q b)
     → (k : ℕ) (bs : List Block) → purge k p (rename f g bs) ≡ rename f g (purge k q bs)
-purge-rename f g p q same k bs = ap tidy (emptied-rename f g p q same k bs) ∙ tidy-rename f g (emptied k q bs)
+purge-rename f g p q same k bs = ap tidy (lowest_purged-rename f g p q same k bs) ∙ tidy-rename f g
+    (lowest_purged k q bs)
 
 -- the least answer of renamed trials is the renamed least answer
 pub least-rename : (f g : ℕ → ℕ) (a b : ℕ → Option (List Block)) → ((k : ℕ) → a k ≡ option_map (rename f g) (b k))

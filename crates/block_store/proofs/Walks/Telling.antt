@@ -7,13 +7,13 @@ use Rattle.block_store.specs.Walk.{Tells, seen_size}
 use Rattle.block_store.specs.declared.sparing.Seen.{Seen}
 
 -- one block was told
-pub record Told (before : List Block) (told : Seen) (after : List Block) : Type 0 where
+pub record ReadBlock (before : List Block) (told : Seen) (after : List Block) : Type 0 where
   pub block : Block
   pub is : seen block ≡ told
   pub before_is : before ≡ block ∷ after
 
 pub told : (before after : List Block) (answer : Option Seen) (s : Seen) → Tells before answer after → answer ≡ Some s
-    → Told before s after
+    → ReadBlock before s after
 told [] after answer s t e = absurd (none-some s (sym t.0 ∙ e))
 told (b ∷ above) after answer s t e = record {
   block = b;
@@ -32,9 +32,9 @@ size-seen (Fixed id content) = refl
 size-seen Masters = refl
 size-seen (Relocatable id flags content) = refl
 
-pub told-size : {before after : List Block} {s : Seen} (t : Told before s after) → seen_size s ≡ size t.block
+pub told-size : {before after : List Block} {s : Seen} (t : ReadBlock before s after) → seen_size s ≡ size t.block
 told-size t = sym (ap seen_size t.is) ∙ size-seen t.block
 
-pub told-sizes : {before after : List Block} {s : Seen} (t : Told before s after)
+pub told-sizes : {before after : List Block} {s : Seen} (t : ReadBlock before s after)
     → sizes before ≡ seen_size s + sizes after
 told-sizes t = ap sizes t.before_is ∙ (let e = told-size t in omega (arith, e))

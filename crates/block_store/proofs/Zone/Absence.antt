@@ -4,7 +4,7 @@ use Rattle.std.proofs.lemmas.Bool.{or_parts}
 use Rattle.std.proofs.lemmas.List.Folds.{list_any-append}
 use Rattle.block_store.specs.Block.{Block, Free, size, free_sum, free, tidy, is_mover}
 use Rattle.block_store.specs.Run.{has, settle, with_run, RunSpot, run_spot}
-use Rattle.block_store.specs.Room.{may_go, emptied}
+use Rattle.block_store.specs.Room.{may_be_purged, lowest_purged}
 use Rattle.block_store.specs.Grow.{freed}
 use Rattle.block_store.specs.Sparing.{spared, opened, purged}
 use Rattle.block_store.specs.declared.sparing.Sparing.{Sparing}
@@ -24,16 +24,16 @@ pub none-parts : (t : Block → Bool) (xs ys : List Block) → has t (xs ++ ys) 
     × (has t ys ≡ false)
 none-parts t xs ys e = or_parts (has t xs) (has t ys) (sym (list_any-append t xs ys) ∙ e)
 
-pub none-emptied : (t sp : Block → Bool) → NoFree t → (k : ℕ) (bs : List Block) → has t bs ≡ false
-    → has t (emptied k sp bs) ≡ false
-none-emptied t sp free zero bs e = e
-none-emptied t sp free (suc k) [] e = e
-none-emptied t sp free (suc k) (b ∷ bs) e = cases (may_go sp b) (or_parts (t b) (has t bs) e)
-    (none-emptied t sp free k bs) (none-emptied t sp free (suc k) bs)
+pub none-lowest_purged : (t sp : Block → Bool) → NoFree t → (k : ℕ) (bs : List Block) → has t bs ≡ false
+    → has t (lowest_purged k sp bs) ≡ false
+none-lowest_purged t sp free zero bs e = e
+none-lowest_purged t sp free (suc k) [] e = e
+none-lowest_purged t sp free (suc k) (b ∷ bs) e = cases (may_be_purged sp b) (or_parts (t b) (has t bs) e)
+    (none-lowest_purged t sp free k bs) (none-lowest_purged t sp free (suc k) bs)
   where
-    cases : (m : Bool) → (t b ≡ false) × (has t bs ≡ false) → (has t bs ≡ false → has t (emptied k sp bs) ≡ false)
-        → (has t bs ≡ false → has t (emptied (suc k) sp bs) ≡ false)
-        → has t (cond m (Free (size b) ∷ emptied k sp bs) (b ∷ emptied (suc k) sp bs)) ≡ false
+    cases : (m : Bool) → (t b ≡ false) × (has t bs ≡ false) → (has t bs ≡ false → has t (lowest_purged k sp bs) ≡ false)
+        → (has t bs ≡ false → has t (lowest_purged (suc k) sp bs) ≡ false)
+        → has t (cond m (Free (size b) ∷ lowest_purged k sp bs) (b ∷ lowest_purged (suc k) sp bs)) ≡ false
     cases true parts less same = rw (free (size b), less parts.1) refl
     cases false parts less same = rw (parts.0, same parts.1) refl
 
@@ -61,8 +61,8 @@ none-free t none (suc n) = rw (none (suc n)) refl
 
 pub none-purged : (t : Block → Bool) → NoFree t → (k : ℕ) (n : Sparing) (zone : List Block) → has t zone ≡ false
     → has t (purged k n zone) ≡ false
-none-purged t free k n zone e = has-tidy t free (emptied k (spared n) (opened n zone))
-    ∙ none-emptied t (spared n) free k (opened n zone) (open_up n)
+none-purged t free k n zone e = has-tidy t free (lowest_purged k (spared n) (opened n zone))
+    ∙ none-lowest_purged t (spared n) free k (opened n zone) (open_up n)
   where
     open_up : (n : Sparing) → has t (opened n zone) ≡ false
     open_up sparing.Nothing = e

@@ -6,7 +6,7 @@ use Rattle.mac_words.specs.Size.{padded}
 use Rattle.block_store.specs.Block.{Block, Free, Fixed, Masters, Relocatable, size, sizes, free, free_of, free_sum}
 use Rattle.block_store.specs.Block.{is_room, is_mover, is_relocatable, add, tidy, with_content, resized}
 use Rattle.block_store.specs.Run.{RunSpot, run_at, with_run, movers, others, settle, low, high}
-use Rattle.block_store.specs.Room.{Spot, raised, spot_at, filled, may_go, emptied}
+use Rattle.block_store.specs.Room.{Spot, raised, spot_at, filled, may_be_purged, lowest_purged}
 use Rattle.block_store.specs.Grow.{growth, taken, grow_up, freed}
 use Rattle.block_store.specs.Sparing.{spared, opened, purged}
 use Rattle.block_store.specs.Compact.{Aligned}
@@ -91,14 +91,15 @@ pub aligned-freed : (test : Block → Bool) (bs : List Block) → Aligned bs →
 aligned-freed test [] a = tt
 aligned-freed test (b ∷ bs) a = (sixteens-freed (test b) b a.0, aligned-freed test bs a.1)
 
-pub aligned-emptied : (k : ℕ) (spared : Block → Bool) (bs : List Block) → Aligned bs → Aligned (emptied k spared bs)
-aligned-emptied zero spared bs a = a
-aligned-emptied (suc k) spared [] a = tt
-aligned-emptied (suc k) spared (b ∷ bs) a = cases (may_go spared b) (aligned-emptied k spared bs a.1)
-    (aligned-emptied (suc k) spared bs a.1)
+pub aligned-lowest_purged : (k : ℕ) (spared : Block → Bool) (bs : List Block) → Aligned bs
+    → Aligned (lowest_purged k spared bs)
+aligned-lowest_purged zero spared bs a = a
+aligned-lowest_purged (suc k) spared [] a = tt
+aligned-lowest_purged (suc k) spared (b ∷ bs) a = cases (may_be_purged spared b) (aligned-lowest_purged k spared bs a.1)
+    (aligned-lowest_purged (suc k) spared bs a.1)
   where
-    cases : (t : Bool) → Aligned (emptied k spared bs) → Aligned (emptied (suc k) spared bs)
-        → Aligned (cond t (Free (size b) ∷ emptied k spared bs) (b ∷ emptied (suc k) spared bs))
+    cases : (t : Bool) → Aligned (lowest_purged k spared bs) → Aligned (lowest_purged (suc k) spared bs)
+        → Aligned (cond t (Free (size b) ∷ lowest_purged k spared bs) (b ∷ lowest_purged (suc k) spared bs))
     cases true went stayed = (size-sixteens b a.0, went)
     cases false went stayed = (a.0, stayed)
 
@@ -109,7 +110,7 @@ aligned-opened (sparing.Two slot other) bs a = a
 aligned-opened (sparing.Freed slot) bs a = aligned-freed _ bs a
 
 pub aligned-purged : (k : ℕ) (n : Sparing) (bs : List Block) → Aligned bs → Aligned (purged k n bs)
-aligned-purged k n bs a = aligned-tidy _ (aligned-emptied k (spared n) (opened n bs) (aligned-opened n bs a))
+aligned-purged k n bs a = aligned-tidy _ (aligned-lowest_purged k (spared n) (opened n bs) (aligned-opened n bs a))
 
 -- what a store's calls make of a block
 pub sixteens-content : (x : List ℕ) (b : Block) → Sixteens b → Sixteens (with_content x b)

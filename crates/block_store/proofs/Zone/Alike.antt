@@ -7,7 +7,8 @@ use Rattle.block_store.specs.Block.{Block, Free, Fixed, Masters, Relocatable, si
 use Rattle.block_store.specs.Block.{is_mover, is_room, is_relocatable, add, tidy, resized}
 use Rattle.block_store.specs.Run.{in_run, Stretch, segments, joined, change_run, has, has_free, movers, others, settle}
 use Rattle.block_store.specs.Run.{high, low}
-use Rattle.block_store.specs.Room.{Spot, spot, raised, filled, place, put_in_place, put_at_base, emptied, purge, may_go}
+use Rattle.block_store.specs.Room.{Spot, spot, raised, filled, place, put_in_place, put_at_base, lowest_purged, purge}
+use Rattle.block_store.specs.Room.{may_be_purged}
 use Rattle.block_store.specs.Room.{room}
 use Rattle.block_store.specs.Grow.{growth, taken, taken_low, grow_up, grow_fixed, freed, move_away, grow_last}
 use Rattle.block_store.specs.Grow.{grow_mover, grow}
@@ -229,28 +230,30 @@ module _ (seen : Block → Bool) (rigid : (b : Block) → in_run b ≡ true → 
         (alike-cons b b bs (tidy bs) refl refl (alike-tidy bs)) (alike-add b (tidy bs))
 
     -- what may go isn't seen
-    may_go-unlocked : (sp : Block → Bool) (b : Block) → may_go sp b ≡ true → seen b ≡ false
-    may_go-unlocked sp (Free n) e = rigid (Free n) refl
-    may_go-unlocked sp (Fixed id content) e = let f : false ≡ true = e in cc
-    may_go-unlocked sp Masters e = let f : false ≡ true = e in cc
-    may_go-unlocked sp (Relocatable id flags content) e = rigid (Relocatable id flags content)
+    may_be_purged-unlocked : (sp : Block → Bool) (b : Block) → may_be_purged sp b ≡ true → seen b ≡ false
+    may_be_purged-unlocked sp (Free n) e = rigid (Free n) refl
+    may_be_purged-unlocked sp (Fixed id content) e = let f : false ≡ true = e in cc
+    may_be_purged-unlocked sp Masters e = let f : false ≡ true = e in cc
+    may_be_purged-unlocked sp (Relocatable id flags content) e = rigid (Relocatable id flags content)
         (and_parts (not flags.locked) flags.purgeable (and_parts (not flags.locked && flags.purgeable)
         (not (sp (Relocatable id flags content))) e).0).0
 
-    pub alike-emptied : (k : ℕ) (sp : Block → Bool) (bs : List Block) → Alike seen bs (emptied k sp bs)
-    alike-emptied zero sp bs = (refl, refl)
-    alike-emptied (suc k) sp [] = (refl, refl)
-    alike-emptied (suc k) sp (b ∷ bs) = cases (may_go sp b) refl (alike-emptied k sp bs) (alike-emptied (suc k) sp bs)
+    pub alike-lowest_purged : (k : ℕ) (sp : Block → Bool) (bs : List Block) → Alike seen bs (lowest_purged k sp bs)
+    alike-lowest_purged zero sp bs = (refl, refl)
+    alike-lowest_purged (suc k) sp [] = (refl, refl)
+    alike-lowest_purged (suc k) sp (b ∷ bs) = cases (may_be_purged sp b) refl (alike-lowest_purged k sp bs)
+        (alike-lowest_purged (suc k) sp bs)
       where
-        cases : (t : Bool) → may_go sp b ≡ t → Alike seen bs (emptied k sp bs) → Alike seen bs (emptied (suc k) sp bs)
-            → Alike seen (b ∷ bs) (cond t (Free (size b) ∷ emptied k sp bs) (b ∷ emptied (suc k) sp bs))
-        cases true e a a' = alike-cons b (Free (size b)) bs (emptied k sp bs)
-            (may_go-unlocked sp b e ∙ sym (rigid (Free (size b)) refl)) refl a
-        cases false e a a' = alike-cons b b bs (emptied (suc k) sp bs) refl refl a'
+        cases : (t : Bool) → may_be_purged sp b ≡ t → Alike seen bs (lowest_purged k sp bs) → Alike seen bs
+            (lowest_purged (suc k) sp bs)
+            → Alike seen (b ∷ bs) (cond t (Free (size b) ∷ lowest_purged k sp bs) (b ∷ lowest_purged (suc k) sp bs))
+        cases true e a a' = alike-cons b (Free (size b)) bs (lowest_purged k sp bs)
+            (may_be_purged-unlocked sp b e ∙ sym (rigid (Free (size b)) refl)) refl a
+        cases false e a a' = alike-cons b b bs (lowest_purged (suc k) sp bs) refl refl a'
 
     pub alike-purged : (k : ℕ) (sp : Block → Bool) (bs : List Block) → Alike seen bs (purge k sp bs)
-    alike-purged k sp bs = alike-then bs (emptied k sp bs) (purge k sp bs) (alike-emptied k sp bs)
-        (alike-tidy (emptied k sp bs))
+    alike-purged k sp bs = alike-then bs (lowest_purged k sp bs) (purge k sp bs) (alike-lowest_purged k sp bs)
+        (alike-tidy (lowest_purged k sp bs))
 
     -- blocks that aren't seen are Free
     pub alike-freed : (test : Block → Bool) → ((b : Block) → test b ≡ true → seen b ≡ false) → (bs : List Block)

@@ -7,7 +7,8 @@ use Rattle.block_store.specs.Block.{Block, Free, size, total, count, free, free_
 use Rattle.block_store.specs.Run.{Stretch, segments, joined, change_run, has, has_free, movers, others, settle, high}
 use Rattle.block_store.specs.Run.{low, RunSpot}
 use Rattle.block_store.specs.Inner.Packing.{Loose}
-use Rattle.block_store.specs.Room.{Spot, spot, filled, place, put_in_place, put_at_base, emptied, purge, may_go, room}
+use Rattle.block_store.specs.Room.{Spot, spot, filled, place, put_in_place, put_at_base, lowest_purged, purge}
+use Rattle.block_store.specs.Room.{may_be_purged, room}
 use Rattle.block_store.specs.Grow.{growth, taken, taken_low, grow_up, grow_fixed, freed, move_away, grow_last}
 use Rattle.block_store.specs.Grow.{grow_mover, grow}
 use Rattle.block_store.specs.Compact.{settled_runs, settled}
@@ -114,18 +115,22 @@ module _ (of : Block → ℕ) (none : (n : ℕ) → of (Free n) ≡ 0)
         cases true r = omega (arith, none (size b))
         cases false r = omega arith
 
-    pub emptied-le : (k : ℕ) (sp : Block → Bool) (bs : List Block) → total of (emptied k sp bs) ≤ total of bs
-    emptied-le zero sp bs = omega arith
-    emptied-le (suc k) sp [] = omega arith
-    emptied-le (suc k) sp (b ∷ bs) = cases (may_go sp b) (emptied-le k sp bs) (emptied-le (suc k) sp bs)
+    pub lowest_purged-le : (k : ℕ) (sp : Block → Bool) (bs : List Block) → total of (lowest_purged k sp bs) ≤ total of
+        bs
+    lowest_purged-le zero sp bs = omega arith
+    lowest_purged-le (suc k) sp [] = omega arith
+    lowest_purged-le (suc k) sp (b ∷ bs) = cases (may_be_purged sp b) (lowest_purged-le k sp bs)
+        (lowest_purged-le (suc k) sp bs)
       where
-        cases : (t : Bool) → total of (emptied k sp bs) ≤ total of bs → total of (emptied (suc k) sp bs) ≤ total of bs
-            → total of (cond t (Free (size b) ∷ emptied k sp bs) (b ∷ emptied (suc k) sp bs)) ≤ of b + total of bs
+        cases : (t : Bool) → total of (lowest_purged k sp bs) ≤ total of bs → total of (lowest_purged (suc k) sp bs) ≤
+            total of bs
+            → total of (cond t (Free (size b) ∷ lowest_purged k sp bs) (b ∷ lowest_purged (suc k) sp bs)) ≤ of b + total
+            of bs
         cases true r r' = omega (arith, none (size b))
         cases false r r' = omega arith
 
     pub purged-le : (k : ℕ) (sp : Block → Bool) (bs : List Block) → total of (purge k sp bs) ≤ total of bs
-    purged-le k sp bs = let e = emptied-le k sp bs in omega (arith, tidied (emptied k sp bs))
+    purged-le k sp bs = let e = lowest_purged-le k sp bs in omega (arith, tidied (lowest_purged k sp bs))
 
     -- three parts one above the other
     pub three : (below run above : List Block) → total of (below ++ (run ++ above))
@@ -286,7 +291,7 @@ module _ (of : Block → ℕ) (none : (n : ℕ) → of (Free n) ≡ 0)
           freely (size next - d),
         ))
 
-    -- what is taken from a run, of which some blocks are emptied: all before and after
+    -- what is taken from a run, of which some blocks are purged: all before and after
     pub taken_low-is : (d : ℕ) (sp : Block → Bool) (above z : List Block) → taken_low d sp above ≡ Some z
         → TakenLow of sp above z
     taken_low-is d sp above z e =

@@ -7,7 +7,8 @@ use Rattle.block_store.specs.Block.{Block, Free, Fixed, Masters, Relocatable, si
 use Rattle.block_store.specs.Block.{is_mover, is_room, is_purgeable, resized, tidy}
 use Rattle.block_store.specs.Run.{in_run, Stretch, segments, joined, change_run, has_free, movers, others, settle}
 use Rattle.block_store.specs.Run.{high, low}
-use Rattle.block_store.specs.Room.{Spot, spot, filled, place, put_in_place, put_at_base, emptied, purge, may_go, room}
+use Rattle.block_store.specs.Room.{Spot, spot, filled, place, put_in_place, put_at_base, lowest_purged, purge}
+use Rattle.block_store.specs.Room.{may_be_purged, room}
 use Rattle.block_store.specs.Grow.{growth, taken, taken_low, grow_up, grow_fixed, move_away, grow_last}
 use Rattle.block_store.specs.Grow.{grow_mover, grow}
 use Rattle.block_store.specs.Compact.{settled_runs, settled}
@@ -23,10 +24,10 @@ use Rattle.block_store.proofs.Zone.Keeping.{freely, three, filled-is, settled-pa
 use Rattle.block_store.proofs.Zone.Keeping.{went-to, last-of}
 use Rattle.block_store.proofs.Zone.Alike.{OneRun, one-run}
 
--- What blocks come to, by a measure that sees neither a Free block nor one that may be emptied, isn't less after a zone
+-- What blocks come to, by a measure that sees neither a Free block nor one that may be purged, isn't less after a zone
 -- was changed.
 
--- one that may be emptied comes to nothing, also where others come to nothing too
+-- one that may be purged comes to nothing, also where others come to nothing too
 pub unless-goes : (test : Block → Bool) (of : Block → ℕ) → ((b : Block) → is_purgeable b ≡ true → of b ≡ 0)
     → (b : Block) → is_purgeable b ≡ true → unless test of b ≡ 0
 unless-goes test of goes b e = one (test b)
@@ -224,19 +225,21 @@ module _ (of : Block → ℕ) (none : (n : ℕ) → of (Free n) ≡ 0)
 
 module _ (of : Block → ℕ) (none : (n : ℕ) → of (Free n) ≡ 0) (goes : (b : Block) → is_purgeable b ≡ true → of b ≡ 0)
   where
-    emptied-all : (k : ℕ) (sp : Block → Bool) (bs : List Block) → total of (emptied k sp bs) ≡ total of bs
-    emptied-all zero sp bs = refl
-    emptied-all (suc k) sp [] = refl
-    emptied-all (suc k) sp (b ∷ bs) = cases (may_go sp b) refl (emptied-all k sp bs) (emptied-all (suc k) sp bs)
+    lowest_purged-all : (k : ℕ) (sp : Block → Bool) (bs : List Block) → total of (lowest_purged k sp bs) ≡ total of bs
+    lowest_purged-all zero sp bs = refl
+    lowest_purged-all (suc k) sp [] = refl
+    lowest_purged-all (suc k) sp (b ∷ bs) = cases (may_be_purged sp b) refl (lowest_purged-all k sp bs)
+        (lowest_purged-all (suc k) sp bs)
       where
-        cases : (t : Bool) → may_go sp b ≡ t → total of (emptied k sp bs) ≡ total of bs
-            → total of (emptied (suc k) sp bs) ≡ total of bs
-            → total of (cond t (Free (size b) ∷ emptied k sp bs) (b ∷ emptied (suc k) sp bs)) ≡ of b + total of bs
+        cases : (t : Bool) → may_be_purged sp b ≡ t → total of (lowest_purged k sp bs) ≡ total of bs
+            → total of (lowest_purged (suc k) sp bs) ≡ total of bs
+            → total of (cond t (Free (size b) ∷ lowest_purged k sp bs) (b ∷ lowest_purged (suc k) sp bs))
+            ≡ of b + total of bs
         cases true e r r' = omega (arith, none (size b), goes b (and_parts (is_purgeable b) (not (sp b)) e).0)
         cases false e r r' = omega arith
 
     pub purged-all : (k : ℕ) (sp : Block → Bool) (bs : List Block) → total of (purge k sp bs) ≡ total of bs
-    purged-all k sp bs = let e = emptied-all k sp bs in omega (arith, tidied of none (emptied k sp bs))
+    purged-all k sp bs = let e = lowest_purged-all k sp bs in omega (arith, tidied of none (lowest_purged k sp bs))
 
     room-all : (try : List Block → Option (List Block)) → ((zone z : List Block) → try zone ≡ Some z
         → total of zone ≤ total of z) → (sp : Block → Bool) (zone z : List Block) → room try sp zone ≡ Some z

@@ -2,7 +2,7 @@ use Rattle.std.specs.Prelude.{ℕ, ◌+◌, zero, suc, Bool, true, false, ◌&&�
 use Rattle.std.specs.Prelude.{if◌then◌else◌, nat_le}
 use Rattle.block_store.specs.Block.{Block, Free, Fixed, Masters, Relocatable, size, free_of}
 use Rattle.block_store.specs.Run.{in_run, has, has_free}
-use Rattle.block_store.specs.Room.{may_go}
+use Rattle.block_store.specs.Room.{may_be_purged}
 use Rattle.block_store.specs.declared.run_search.RunScan.{RunScan}
 
 -- How a search for a run goes over the blocks: a run ends at a barrier, and blocks that would be purged count as free.
@@ -49,7 +49,7 @@ scan_runs number p spared zero start free met place (b ∷ above) =
     else (if met && nat_le p free then Some start
     else scan_runs number p spared zero (place + size b) 0 (any_run number) (place + size b) above)
 scan_runs number p spared (suc k) start free met place (b ∷ above) =
-    if may_go spared b then scan_runs number p spared k start (free + size b) met (place + size b) above
+    if may_be_purged spared b then scan_runs number p spared k start (free + size b) met (place + size b) above
     else (if in_run b then scan_runs number p spared (suc k) start (free + free_of b) (met_after number met b)
     (place + size b) above
     else (if met && nat_le p free then Some start

@@ -1,7 +1,7 @@
 use Rattle.std.specs.Prelude.{ℕ, ◌+◌, zero, suc, Bool, true, false, ◌&&◌, ◌||◌, ◌==◌, Option, Some, None, List, [], ◌∷◌}
 use Rattle.std.specs.Prelude.{if◌then◌else◌, nat_le, nat_lt}
 use Rattle.block_store.specs.Block.{Block, Free, Fixed, Masters, Relocatable, size, is_relocatable}
-use Rattle.block_store.specs.Room.{may_go}
+use Rattle.block_store.specs.Room.{may_be_purged}
 use Rattle.block_store.specs.declared.sparing.Sparing.{Sparing}
 use Rattle.block_store.specs.declared.sparing.Sparing.TheVariants as sparing
 use Rattle.block_store.specs.declared.stretch.RoomScan.{RoomScan}
@@ -40,7 +40,7 @@ stretch p spared zero start free place (b ∷ above) =
     if is_free b then stretch p spared zero start (free + size b) (place + size b) above
     else (if is_enough p free then Some start else stretch p spared zero (place + size b) 0 (place + size b) above)
 stretch p spared (suc k) start free place (b ∷ above) =
-    if may_go spared b then stretch p spared k start (free + size b) (place + size b) above
+    if may_be_purged spared b then stretch p spared k start (free + size b) (place + size b) above
     else (if is_free b then stretch p spared (suc k) start (free + size b) (place + size b) above
     else (if is_enough p free then Some start else stretch p spared (suc k) (place + size b) 0 (place + size b) above))
 

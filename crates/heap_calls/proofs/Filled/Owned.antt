@@ -14,7 +14,7 @@ use Rattle.heap_calls.specs.Answer.{Answer, nothing, given, refused, known_as}
 use Rattle.heap_calls.specs.Slots.{slotted, if_ready, made}
 use Rattle.heap_calls.specs.Moves.{new_handle_moves}
 use Rattle.heap_calls.specs.Searches.{new_handle_searches, new_empty_handle_searches}
-use Rattle.heap_calls.specs.Inside.{new_filled, new_emptied, new_inside, new_emptied_inside, inside, cast, cast_as}
+use Rattle.heap_calls.specs.Inside.{new_filled, new_empty, new_inside, new_empty_inside, inside, cast, cast_as}
 use Rattle.heap_calls.specs.Inside.{resource_role, owned_as, guarded_as}
 use Rattle.heap_calls.specs.Inner.Filling.{owned_by}
 use Rattle.heap_calls.specs.Inner.Given.{IsAnswer}
@@ -103,7 +103,7 @@ filled-role role flags x s = cases (slotted nothing s)
     cases None = refl
     cases (Some ready) = block ready (is_some (phys (length x)))
 
-emptied-role : (role : Role) (s : State) → new_emptied role s ≡ recasted role (new_emptied Plain s)
+emptied-role : (role : Role) (s : State) → new_empty role s ≡ recasted role (new_empty Plain s)
 emptied-role role s = cases (slotted nothing s)
   where
     cases : (o : Option State) → if_ready o s (λ ready. given (Handle role) (Some ready.zone) ready)
@@ -128,7 +128,7 @@ inside-role role flags x m =
     )) (filled-role role flags x m.heap)
 
 emptied_inside-role : (role : Role) (m : Memory)
-    → new_emptied_inside role m ≡ recast_inside role (new_emptied_inside Plain m)
+    → new_empty_inside role m ≡ recast_inside role (new_empty_inside Plain m)
 emptied_inside-role role m =
     ap (λ (a : Answer ℕ). (
       a.0,
@@ -156,8 +156,8 @@ owned-answer guarded flags x old mid new r is now =
     (inside-role (resource_role guarded) flags x old) is now
 
 pub owned-emptied : (guarded : Bool) (old mid new : Memory) (r : Result ℕ Refusal)
-    → IsAnswer (new_emptied_inside Plain old) r mid → new ≡ inside (owned_by guarded r) mid
-    → IsAnswer (new_emptied_inside (resource_role guarded) old) r new
+    → IsAnswer (new_empty_inside Plain old) r mid → new ≡ inside (owned_by guarded r) mid
+    → IsAnswer (new_empty_inside (resource_role guarded) old) r new
 owned-emptied guarded old mid new r is now =
-    recast-answer guarded (new_emptied_inside Plain old) (new_emptied_inside (resource_role guarded) old) r mid new
+    recast-answer guarded (new_empty_inside Plain old) (new_empty_inside (resource_role guarded) old) r mid new
     (emptied_inside-role (resource_role guarded) old) is now

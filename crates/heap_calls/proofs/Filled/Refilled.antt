@@ -35,7 +35,7 @@ use Rattle.heap_calls.proofs.Numbering.Looking.{room_searches-rename}
 use Rattle.heap_calls.proofs.Numbering.MoveNames.{put_moves-rename}
 use Rattle.heap_calls.proofs.Numbering.PurgeTrials.{served_answer}
 
--- A block for an emptied handle.
+-- A block for an empty handle.
 
 -- where no block passes none is freed
 freed-gone : (test : Block → Bool) (bs : List Block) → has test bs ≡ false → freed test bs ≡ bs
@@ -96,7 +96,7 @@ module _ (slot : ℕ) (zone : List Block) (none : has (is_relocatable slot) zone
                 ∙ ap (room (put_in_place (Relocatable slot flags x)) nothing) (sym same)
                 ∙ put-replaced (sparing.Freed slot) (length x) slot zone zone1 put.1 once flags x zone' refl done
 
--- an emptied handle's slot has no block
+-- an empty handle's slot has no block
 pub slot-emptied : (value : Memory) (zone : List Block) (rest : Rest) (es : List Anchor) (log : Log) (h slot : ℕ)
     → memory_of zone rest es log ≡ value
     → ((b : Block) → is_relocatable h (rename_block (handle_number es) (pointer_number es) b) ≡ is_relocatable slot b)
@@ -105,7 +105,7 @@ slot-emptied value zone rest es log h slot is same gone =
     sym (has-rename (handle_number es) (pointer_number es) (is_relocatable h) (is_relocatable slot) same zone)
     ∙ ap (λ (m : Memory). has_block h m.heap) is ∙ gone
 
--- a new block for an emptied handle, told of its number
+-- a new block for an empty handle, told of its number
 module _ (value : Memory) (zone zone' : List Block) (rest rest' : Rest) (es : List Anchor) (log : Log)
     (h slot : ℕ) (flags : Flags) (x : List ℕ) (made : Room) (k : Known) (number : k.number ≡ h)
     (is : memory_of zone rest es log ≡ value) (found : handle_at (Some h) (state_of zone rest.slots es) ≡ Ok k)

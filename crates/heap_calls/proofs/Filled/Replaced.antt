@@ -22,14 +22,14 @@ use Rattle.block_store.proofs.Zone.Tidy.{total-tidy, spot-is, spot-passes}
 use Rattle.block_store.proofs.Zone.Passing.{filter-none}
 use Rattle.block_store.proofs.Regroup.Packed.{once-below}
 use Rattle.block_store.proofs.Plain.Options.{some_and}
-use Rattle.block_store.proofs.Emptied.Sparing.{filter-tidy, spot-lowest, lowest, mapped}
-use Rattle.heap_calls.specs.Inner.Search.{seat}
+use Rattle.block_store.proofs.Purged.Sparing.{filter-tidy, spot-lowest, lowest, mapped}
+use Rattle.heap_calls.specs.Inner.Search.{placement}
 use Rattle.heap_calls.specs.Inner.NewBlock.{fresh_block, zone_with_block}
 use Rattle.heap_calls.specs.Inner.Filling.{IsFresh, IsReplaced}
 use Rattle.heap_calls.specs.Inner.Numbered.{KeepsFixed}
 use Rattle.heap_calls.proofs.Numbering.Numbers.{leads_to-same}
 use Rattle.heap_calls.proofs.Numbering.Changing.{fixed-at}
-use Rattle.heap_calls.proofs.Room.Seats.{room-seat}
+use Rattle.heap_calls.proofs.Room.Placements.{room-placement}
 use Rattle.heap_calls.proofs.Room.Staying.{fixed-spot, fixed-same, fixed-then}
 
 -- A new block that gets flags and bytes of its own is as one that was put in its place with them.
@@ -117,8 +117,9 @@ module _ (sparing : Sparing) (n slot : ℕ) (ready zone1 : List Block)
     abbrev new : Block
     new = fresh_block slot n
 
-    found : (s : Spot) × (seat (size new) sparing ready ≡ Some s) × (filled new s ≡ zone1)
-    found = mapped (filled new) (seat (size new) sparing ready) zone1 (sym (room-seat new sparing ready) ∙ put)
+    found : (s : Spot) × (placement (size new) sparing ready ≡ Some s) × (filled new s ≡ zone1)
+    found = mapped (filled new) (placement (size new) sparing ready) zone1 (sym (room-placement new sparing ready)
+        ∙ put)
 
     alone : (has (is_relocatable slot) found.0.below ≡ false) × (has (is_relocatable slot) found.0.above ≡ false)
     alone =
@@ -162,8 +163,8 @@ module _ (sparing : Sparing) (n slot : ℕ) (ready zone1 : List Block)
         let there = some_and (spot (is_relocatable slot) zone1) (λ s. s.here ≡ fresh_block slot n) new-fresh in
         let P : Option Spot → Type 0 = λ o. IfSome o (λ s. zone' ≡ s.below ++ Relocatable slot flags x ∷ s.above) in
         let now : P (Some there.0) = subst P there.1 done in
-        room-seat (Relocatable slot flags x) sparing ready
-        ∙ ap (λ k. option_map (filled (Relocatable slot flags x)) (seat (padded k) sparing ready)) same
+        room-placement (Relocatable slot flags x) sparing ready
+        ∙ ap (λ k. option_map (filled (Relocatable slot flags x)) (placement (padded k) sparing ready)) same
         ∙ ap (option_map (filled (Relocatable slot flags x))) found.1
         ∙ ap Some (sym (filled-replaced slot flags x (replicate n 0) found.0 same alone.0 alone.1)
         ∙ ap (map (replaced slot flags x)) found.2 ∙ spot-replaced slot flags x zone1 there.0 there.1 once ∙ sym now)

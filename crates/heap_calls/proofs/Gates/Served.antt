@@ -4,8 +4,8 @@ use Rattle.heap_calls.specs.State.{Memory}
 use Rattle.mac_words.specs.Told.{Told, Done, Given, Number, Bytes}
 use Rattle.heap_calls.specs.Asked.{Asked, telling, seeking, packing, answered}
 use Rattle.heap_calls.specs.Asked as asked
-use Rattle.heap_calls.specs.Answer.{dispose_handle, get_handle_size, set_handle_size, h_lock, h_unlock, move_hhi}
-use Rattle.heap_calls.specs.Answer.{hlock_hi, put, show, noting, silent}
+use Rattle.heap_calls.specs.Answer.{dispose_handle, get_handle_size, set_handle_size, h_lock, h_unlock, move_h_hi}
+use Rattle.heap_calls.specs.Answer.{h_lock_hi, put, show, noting, silent}
 use Rattle.heap_calls.specs.Pointers.{dispose_pointer, get_pointer_size, set_pointer_size, put_pointer, show_pointer}
 use Rattle.heap_calls.specs.Pointers.{place_of}
 use Rattle.heap_calls.specs.Purging.{h_purge, h_no_purge, h_get_state, h_set_state, empty_handle, reallocate_handle}
@@ -63,9 +63,9 @@ served-gated (asked.HGetState handle) m = by_unless {T = ℕ} Number (asked.HGet
 served-gated (asked.HSetState handle state) m = by_unless {T = Unit {0}} (λ _. Done) (asked.HSetState handle state)
     (noting (h_set_state handle state)) m (barred handle m) refl refl
 served-gated (asked.MoveHHi handle) m = by_unless {T = Unit {0}} (λ _. Done) (asked.MoveHHi handle)
-    (noting (move_hhi handle)) m (barred handle m) refl refl
+    (noting (move_h_hi handle)) m (barred handle m) refl refl
 served-gated (asked.HLockHi handle) m = by_unless {T = Unit {0}} (λ _. Done) (asked.HLockHi handle)
-    (noting (hlock_hi handle)) m (barred handle m) refl refl
+    (noting (h_lock_hi handle)) m (barred handle m) refl refl
 served-gated (asked.HandToHand handle) m = by_unless {T = ℕ} Given (asked.HandToHand handle)
     (packing (hand_to_hand_moves handle) (hand_to_hand_searches handle) (hand_to_hand handle)) m (barred handle m)
     refl refl

@@ -22,9 +22,9 @@ use Rattle.heap_calls.specs.State as names
 use Rattle.heap_calls.specs.Slots.{slotted, if_ready, new_block}
 use Rattle.heap_calls.specs.Copying.{hand_to_hand}
 use Rattle.heap_calls.specs.Inner.Copied.{IsCopied}
-use Rattle.heap_calls.specs.Inner.Search.{seat_searches}
+use Rattle.heap_calls.specs.Inner.Search.{placement_searches}
 use Rattle.heap_calls.specs.Moves.{hand_to_hand_moves, block_moves}
-use Rattle.heap_calls.specs.Inner.Packed.{seat_moves, content_moves, new_moves}
+use Rattle.heap_calls.specs.Inner.Packed.{placement_moves, content_moves, new_moves}
 use Rattle.heap_calls.specs.Searches.{slot_searches, ready_searches, block_searches, found_searches}
 use Rattle.heap_calls.specs.Searches.{hand_to_hand_searches}
 use Rattle.heap_calls.specs.Inner.NewSlot.{zone_slotted, zone_searches}
@@ -44,9 +44,10 @@ use Rattle.heap_calls.specs.declared.refusal.Refusal.TheVariants.{Code, HostMemo
 use Rattle.heap_calls.specs.declared.anchor.Found.{Found}
 use Rattle.heap_calls.proofs.Numbering.Changing.{agrees-now, block-given, agrees-kept, kept}
 use Rattle.heap_calls.proofs.NewBlocks.Reserving.{IsRefused}
-use Rattle.heap_calls.proofs.NewBlocks.NewHandles.{slotted-is, slot_searches-is, block_searches-seat, no_room-rename}
+use Rattle.heap_calls.proofs.NewBlocks.NewHandles.{slotted-is, slot_searches-is, block_searches-placement}
+use Rattle.heap_calls.proofs.NewBlocks.NewHandles.{no_room-rename}
 use Rattle.heap_calls.proofs.NewBlocks.NewHandles.{agrees-more, state-more, state-kept, with_handle, searched-done}
-use Rattle.heap_calls.proofs.Numbering.MoveNames.{block_moves-seat}
+use Rattle.heap_calls.proofs.Numbering.MoveNames.{block_moves-placement}
 use Rattle.heap_calls.proofs.Room.MoveCounts.{not-moved}
 
 -- HandToHand.
@@ -214,10 +215,10 @@ module _ (zone : List Block) (rest : Rest) (es : List Anchor) (masters : rest.al
             (block_searches (is_relocatable h) bytes) ≡ ready_count o (place_searches (sparing.One source) n)
         ready None = refl
         ready (Some z) =
-            block_searches-seat (handle_number es) (pointer_number es) (is_relocatable h) (sparing.One source) same
+            block_searches-placement (handle_number es) (pointer_number es) (is_relocatable h) (sparing.One source) same
             (length (map (name_of rest.slots) es)) bytes z refl
-            ∙ ap (λ k. seat_searches (padded k) (sparing.One source) z) long
-            ∙ sym (cond-true {A = ℕ} (is_some (phys n)) (seat_searches (padded n) (sparing.One source) z) 0
+            ∙ ap (λ k. placement_searches (padded k) (sparing.One source) z) long
+            ∙ sym (cond-true {A = ℕ} (is_some (phys n)) (placement_searches (padded n) (sparing.One source) z) 0
             (phys-fits n few))
 
     pub copy_moves-is : hand_to_hand_moves handle old ≡ new_moves (sparing.One source) n rest.unused zone
@@ -234,10 +235,10 @@ module _ (zone : List Block) (rest : Rest) (es : List Anchor) (masters : rest.al
             (block_moves (is_relocatable h) bytes) ≡ ready_count o (content_moves (sparing.One source) n)
         ready None = refl
         ready (Some z) =
-            block_moves-seat (handle_number es) (pointer_number es) (is_relocatable h) (sparing.One source) same
+            block_moves-placement (handle_number es) (pointer_number es) (is_relocatable h) (sparing.One source) same
             (length (map (name_of rest.slots) es)) bytes z refl
-            ∙ ap (λ k. seat_moves (padded k) (sparing.One source) z) long
-            ∙ sym (cond-true {A = ℕ} (is_some (phys n)) (seat_moves (padded n) (sparing.One source) z) 0
+            ∙ ap (λ k. placement_moves (padded k) (sparing.One source) z) long
+            ∙ sym (cond-true {A = ℕ} (is_some (phys n)) (placement_moves (padded n) (sparing.One source) z) 0
             (phys-fits n few))
 
     module _ (zone' : List Block) (rest' : Rest) (fixed : KeepsFixed zone zone') where

@@ -22,7 +22,7 @@ use Rattle.heap_calls.specs.Inner.NewBlock.{fresh_block, IsPut, IsNewBlock}
 use Rattle.heap_calls.specs.Inner.Copied.{IsCopied}
 use Rattle.heap_calls.proofs.Filled.Replaced as replacing
 use Rattle.heap_calls.proofs.Filled.Replaced.{put-replaced}
-use Rattle.block_store.proofs.Emptied.Sparing.{filter-room_base, filter-room_place, here-same}
+use Rattle.block_store.proofs.Purged.Sparing.{filter-room_base, filter-room_place, here-same}
 
 -- A copy of a block: a new block of as many bytes 0, into which the bytes are written.
 

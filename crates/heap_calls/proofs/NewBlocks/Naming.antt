@@ -22,7 +22,7 @@ use Rattle.heap_calls.specs.declared.anchor.Found.{Found}
 use Rattle.heap_calls.specs.declared.anchor.Anchor.TheVariants.{Handle}
 use Rattle.heap_calls.specs.Inner.Naming.{entered, number_of}
 use Rattle.heap_calls.specs.Inner.NewBlock.{IsNewBlock, new_searches}
-use Rattle.heap_calls.specs.Inner.NewSlot.{IsSlot, IsMade}
+use Rattle.heap_calls.specs.Inner.NewSlot.{TakesSlot, IsMade}
 use Rattle.heap_calls.specs.Inner.Reaching.{sized_reply}
 use Rattle.heap_calls.specs.Inner.Base.{IsBaseAt, base}
 use Rattle.mac_words.specs.Size.{phys}
@@ -46,7 +46,7 @@ abbrev pub told : Option ℕ → List Anchor → Result ℕ OsErr
 told None es = Err MEM_FULL
 told (Some slot) es = Ok (length es)
 
--- the heap that a call leaves which looks for room
+-- the heap that a call leaves which searches for room
 pub record Ends {T : Type 0} (row : State → Answer T) (zone : List Block) (rest : Rest) (es : List Anchor)
     (r : Result T OsErr) (zone' : List Block) (rest' : Rest) (es' : List Anchor) : Type 0 where
   pub answer : row (state_of zone rest.slots es) ≡ (r, state_of zone' rest'.slots es')
@@ -128,7 +128,7 @@ module _ (zone : List Block) (rest : Rest) (es : List Anchor) (masters : rest.al
       window = handle-window zone rest es n masters agrees zone' rest' fixed slot p;
     }
 
-    pub empty-names : (slot : Option ℕ) → IsSlot sparing.Nothing zone rest slot zone' rest'
+    pub empty-names : (slot : Option ℕ) → TakesSlot sparing.Nothing zone rest slot zone' rest'
         → Names new_empty_handle zone rest es slot zone' rest'
     empty-names None h = let r = empty-refused zone rest es masters agrees zone' rest' fixed h in
         record { answer = r.0; agrees = r.1; window = r.2 }

@@ -30,7 +30,7 @@ use Rattle.heap_calls.specs.State.{State, Memory, Plain, used_slots, all_slots, 
 use Rattle.heap_calls.specs.State as names
 use Rattle.heap_calls.specs.Answer.{Answer, nothing, given, refused, silent, searching}
 use Rattle.heap_calls.specs.Slots.{more_masters, slotted, if_ready, new_block, new_handle}
-use Rattle.heap_calls.specs.Inner.Search.{tries, seat_searches}
+use Rattle.heap_calls.specs.Inner.Search.{tries, placement_searches}
 use Rattle.heap_calls.specs.Searches.{room_searches, slot_searches, ready_searches, block_searches, new_handle_searches}
 use Rattle.heap_calls.specs.Inner.Base.{base_searches}
 use Rattle.heap_calls.specs.Inner.NewSlot.{zone_with_masters, zone_slotted, zone_searches, HasMore}
@@ -82,13 +82,13 @@ pub tries-same : {A B : Type 0} (h : A → B) (a : ℕ → Option B) (b : ℕ �
     → (n : ℕ) → tries a n ≡ tries b n
 tries-same h a b same n = ap (λ f. tries f n) (λ i k. same k i) ∙ tries-map h b n
 
--- the looks for a place of a new block are those for a seat
-pub block_searches-seat : (f g : ℕ → ℕ) (p : Block → Bool) (sparing : Sparing)
+-- the searches for a place of a new block are those for a placement
+pub block_searches-placement : (f g : ℕ → ℕ) (p : Block → Bool) (sparing : Sparing)
     → ((b : Block) → p (rename_block f g b) ≡ spared sparing b) → (number : ℕ) (bytes : List ℕ) (bs : List Block)
     → opened sparing bs ≡ bs
     → room_searches (put_in_place (Relocatable number no_flags bytes)) p (rename f g bs)
-    ≡ seat_searches (padded (length bytes)) sparing bs
-block_searches-seat f g p sparing same number bytes bs closed =
+    ≡ placement_searches (padded (length bytes)) sparing bs
+block_searches-placement f g p sparing same number bytes bs closed =
     tries-map (filled new) (λ k. place (size new) (purge k p (rename f g bs))) (count_of p (rename f g bs))
     ∙ ap (tries (λ k. place (size new) (purge k p (rename f g bs)))) (count_of-rename f g p (spared sparing) same bs)
     ∙ tries-same (rename_spot f g) (λ k. place (size new) (purge k p (rename f g bs)))
@@ -223,7 +223,7 @@ module _ (zone : List Block) (rest : Rest) (es : List Anchor) (masters : rest.al
             ∙ base_searches-is Masters
         cases (suc n) e = cond-true {A = ℕ} (nat_lt (used_slots s) (all_slots s)) 0 _ (some-left n e)
 
--- the looks of NewHandle
+-- the searches of NewHandle
 pub new_handle_searches-is : (zone : List Block) (rest : Rest) (es : List Anchor) (n : ℕ)
     → rest.all ≡ 64 * count is_masters zone → Agrees zone rest es
     → new_handle_searches n (state_of zone rest.slots es) ≡ new_searches sparing.Nothing n rest.unused zone
@@ -246,11 +246,11 @@ new_handle_searches-is zone rest es n masters agrees =
     ready None = refl
     ready (Some z) =
         ap (λ a. cond {A = ℕ} (is_some (phys n)) a 0)
-        (block_searches-seat (handle_number es) (pointer_number es) nothing sparing.Nothing (λ b. refl)
+        (block_searches-placement (handle_number es) (pointer_number es) nothing sparing.Nothing (λ b. refl)
         (length (map (name_of rest.slots) es)) (replicate n 0) z refl
-        ∙ ap (λ k. seat_searches (padded k) sparing.Nothing z) (length-replicate n 0))
+        ∙ ap (λ k. placement_searches (padded k) sparing.Nothing z) (length-replicate n 0))
 
--- what a call that looks for room gives, told of the whole heap
+-- what a call that searches for room gives, told of the whole heap
 pub searched-done : {T : Type 0} (row : State → Answer T) (looks : State → ℕ) (value : Memory) (zone zone' : List Block)
     (rest rest' : Rest) (es es' : List Anchor) (log log' : Log) (r : Result T OsErr) (n : ℕ)
     → memory_of zone rest es log ≡ value → row (state_of zone rest.slots es) ≡ (r, state_of zone' rest'.slots es')

@@ -134,7 +134,7 @@ no_base n bytes fits zone zone' o is found =
     let Q : Option ℕ → Type 0 = λ o. IsBaseAt bytes (base bytes sparing.Nothing zone) zone' o in
     ap (λ p. base p sparing.Nothing zone) (sym fits) ∙ subst Q is found
 
--- the looks for room see no names
+-- the searches for room see no names
 pub new_pointer_searches-is : (n : ℕ) (zone : List Block) (rest : Rest) (es : List Anchor)
     → new_pointer_searches n (state_of zone rest.slots es) ≡ fixed_searches n zone
 new_pointer_searches-is n zone rest es =

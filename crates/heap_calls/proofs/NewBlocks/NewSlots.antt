@@ -13,9 +13,9 @@ use Rattle.block_store.proofs.Plain.Trials.{least-map}
 use Rattle.heap_calls.specs.Inner.Search.{tries}
 use Rattle.heap_calls.specs.Searches.{room_searches}
 use Rattle.heap_calls.specs.Inner.Base.{base, base_searches, IsBaseAt}
-use Rattle.heap_calls.specs.Inner.NewSlot.{zone_with_masters, zone_slotted, HasMore, IsMade, IsSlot}
+use Rattle.heap_calls.specs.Inner.NewSlot.{zone_with_masters, zone_slotted, HasMore, IsMade, TakesSlot}
 use Rattle.heap_calls.specs.Inner.NewBlock.{IsAdded, HasOnlySlot, HasNoRoom}
-use Rattle.heap_calls.proofs.Room.Seats.{slot-back}
+use Rattle.heap_calls.proofs.Room.Placements.{slot-back}
 
 -- Room at the base of a run, and new slots there.
 
@@ -119,7 +119,7 @@ made-none sparing zone zone' rest rest' o is none same now =
 -- there is neither an unused slot nor room for more
 pub slot-none : (sparing : Sparing) (zone zone1 zone' : List Block) (rest rest1 rest' : Rest) (o : Option ℕ) → o ≡ None
     → rest.unused ≡ 0 → zone1 ≡ zone → IsRest rest rest1 → IsMade sparing zone1 rest1 o zone' rest'
-    → IsSlot sparing zone rest None zone' rest'
+    → TakesSlot sparing zone rest None zone' rest'
 slot-none sparing zone zone1 zone' rest rest1 rest' o is unused same now made =
     let P : Option ℕ → Type 0 = λ o. IsMade sparing zone1 rest1 o zone' rest' in
     let none : P None = subst P is made in (
@@ -145,11 +145,11 @@ more-kept rest more rest' has kept = record {
 
 -- a slot could be had, but no block
 pub only-slot : (sparing : Sparing) (n slot : ℕ) (zone zone1 zone' : List Block) (rest rest1 rest' : Rest)
-    (o p : Option ℕ) → o ≡ Some slot → p ≡ None → IsSlot sparing zone rest o zone1 rest1
+    (o p : Option ℕ) → o ≡ Some slot → p ≡ None → TakesSlot sparing zone rest o zone1 rest1
     → IsAdded sparing slot n zone1 rest1 p zone' rest'
     → HasOnlySlot sparing n zone rest zone' rest'
 only-slot sparing n slot zone zone1 zone' rest rest1 rest' o p some none taken added =
-    let P : Option ℕ → Type 0 = λ o. IsSlot sparing zone rest o zone1 rest1 in
+    let P : Option ℕ → Type 0 = λ o. TakesSlot sparing zone rest o zone1 rest1 in
     let Q : Option ℕ → Type 0 = λ p. IsAdded sparing slot n zone1 rest1 p zone' rest' in
     let t : P (Some slot) = subst P some taken in
     let a : Q None = subst Q none added in

@@ -9,7 +9,7 @@ use Rattle.mac_words.specs.declared.code.OsErr.{OsErr}
 use Rattle.mac_words.specs.declared.code.TheConstants.OsErr.{MEM_FULL}
 use Rattle.block_store.specs.Block.{Block, size, rename, rename_block, is_relocatable, is_room, tidy}
 use Rattle.block_store.specs.Run.{has, has_free, settle, with_run, change_run, run_spot, RunSpot}
-use Rattle.block_store.specs.Room.{Spot, spot, spot_at, filled, place, put_in_place, room, emptied}
+use Rattle.block_store.specs.Room.{Spot, spot, spot_at, filled, place, put_in_place, room, lowest_purged}
 use Rattle.block_store.specs.Grow.{freed}
 use Rattle.block_store.specs.Rest.{Rest}
 use Rattle.block_store.specs.Sparing.{spared, purged, most_purges}
@@ -26,16 +26,16 @@ use Rattle.heap_calls.specs.declared.anchor.Anchor.TheVariants.{Handle}
 use Rattle.heap_calls.specs.State.{State, Memory}
 use Rattle.heap_calls.specs.Answer.{nothing, for_found, rebuilt, silent}
 use Rattle.heap_calls.specs.Inner.NewBlock.{fresh_block}
-use Rattle.heap_calls.specs.Inner.Search.{seat, seat_searches, IsAt}
+use Rattle.heap_calls.specs.Inner.Search.{placement, placement_searches, IsAt}
 use Rattle.heap_calls.specs.Searches.{room_searches, found_searches, reallocate_handle_searches}
 use Rattle.heap_calls.specs.Moves.{place_moves, put_moves, reallocate_handle_moves}
-use Rattle.heap_calls.specs.Inner.Packed.{seat_moves}
+use Rattle.heap_calls.specs.Inner.Packed.{placement_moves}
 use Rattle.heap_calls.specs.Purging.{reallocated, reallocate_handle}
 use Rattle.heap_calls.specs.Inner.Loose.{loose_at, renewed, renewed_searches, IsRenewal, renewed_moves}
 use Rattle.heap_calls.specs.Inner.Numbered.{state_of, memory_of, handle_number, pointer_number, no_number}
 use Rattle.heap_calls.proofs.Numbering.Numbers.{Apart, is_relocatable-number, handle_number-at}
-use Rattle.block_store.proofs.Zone.Absence.{none-emptied, none-settled}
-use Rattle.heap_calls.proofs.Room.Seats.{fresh-size}
+use Rattle.block_store.proofs.Zone.Absence.{none-lowest_purged, none-settled}
+use Rattle.heap_calls.proofs.Room.Placements.{fresh-size}
 use Rattle.heap_calls.proofs.Numbering.Changing.{silent-kept, spot_at-is, phys-some, unmoved, unmoved-is}
 use Rattle.heap_calls.proofs.Numbering.Loosening.{known, renewed_answer, reallocate_handle-loose}
 use Rattle.heap_calls.proofs.Numbering.Loosening.{reallocate_searches-loose, reallocate_moves-loose}
@@ -45,27 +45,27 @@ use Rattle.heap_calls.proofs.Numbering.PurgeTrials.{served_answer}
 
 -- A new block for a handle, for which its old one counts as Free.
 
--- the search for a seat once the block of a slot is Free
+-- the search for a placement once the block of a slot is Free
 module _ (slot : ℕ) (zone : List Block)
   where
     abbrev is_it : Block → Bool
     is_it = is_relocatable slot
 
     room-renewed : (new : Block) → room (put_in_place new) nothing (freed is_it zone)
-        ≡ option_map (filled new) (seat (size new) (sparing.Freed slot) zone)
+        ≡ option_map (filled new) (placement (size new) (sparing.Freed slot) zone)
     room-renewed new = least-map (filled new) (λ k. place (size new) (purged k (sparing.Freed slot) zone))
         (most_purges (sparing.Freed slot) zone)
 
     searches-renewed : (new : Block) → room_searches (put_in_place new) nothing (freed is_it zone)
-        ≡ seat_searches (size new) (sparing.Freed slot) zone
+        ≡ placement_searches (size new) (sparing.Freed slot) zone
     searches-renewed new =
         tries-same (λ k. put_in_place new (purged k (sparing.Freed slot) zone))
         (λ k. place (size new) (purged k (sparing.Freed slot) zone))
         (λ k. is_some-map (filled new) (place (size new) (purged k (sparing.Freed slot) zone)))
         (most_purges (sparing.Freed slot) zone)
 
-    seat-room : (p : ℕ) (s : Spot) → seat p (sparing.Freed slot) zone ≡ Some s → is_room p s.here ≡ true
-    seat-room p s e =
+    placement-room : (p : ℕ) (s : Spot) → placement p (sparing.Freed slot) zone ≡ Some s → is_room p s.here ≡ true
+    placement-room p s e =
         let P : Spot → Type 0 = λ s. is_room p s.here ≡ true in
         least-some P (λ k. place p (purged k (sparing.Freed slot) zone)) (most_purges (sparing.Freed slot) zone) s
         (λ k t. place-room p (purged k (sparing.Freed slot) zone) t) e
@@ -87,14 +87,14 @@ module _ (slot : ℕ) (zone : List Block)
         cases None is e = after (run_spot (has_free p) bs) refl e
         cases (Some t) is e = ap (has is_it) (sym (spot-is (is_room p) bs s (is ∙ e))) ∙ none
 
-    seat-gone : (p : ℕ) (s : Spot) → seat p (sparing.Freed slot) zone ≡ Some s
+    placement-gone : (p : ℕ) (s : Spot) → placement p (sparing.Freed slot) zone ≡ Some s
         → has is_it (s.below ++ s.here ∷ s.above) ≡ false
-    seat-gone p s e =
+    placement-gone p s e =
         let P : Spot → Type 0 = λ s. has is_it (s.below ++ s.here ∷ s.above) ≡ false in
         least-some P (λ k. place p (purged k (sparing.Freed slot) zone)) (most_purges (sparing.Freed slot) zone) s
         (λ k t. place-gone p (purged k (sparing.Freed slot) zone) t
-        (has-tidy is_it (λ n. refl) (emptied k (spared (sparing.Freed slot)) (freed is_it zone))
-        ∙ none-emptied is_it (spared (sparing.Freed slot)) (λ n. refl) k (freed is_it zone)
+        (has-tidy is_it (λ n. refl) (lowest_purged k (spared (sparing.Freed slot)) (freed is_it zone))
+        ∙ none-lowest_purged is_it (spared (sparing.Freed slot)) (λ n. refl) k (freed is_it zone)
         (has-freed is_it (λ n. refl) zone))) e
 
     -- a block of n bytes that fits
@@ -106,46 +106,46 @@ module _ (slot : ℕ) (zone : List Block)
         sized : size new ≡ bytes
         sized = fresh-size n bytes (phys-some n bytes fits).1 slot
 
-        renewed-is : renewed slot n zone ≡ option_map (filled new) (seat bytes (sparing.Freed slot) zone)
+        renewed-is : renewed slot n zone ≡ option_map (filled new) (placement bytes (sparing.Freed slot) zone)
         renewed-is = ap (λ t. cond t (reallocated slot n zone) None) (phys-some n bytes fits).0 ∙ room-renewed new
-            ∙ ap (λ p. option_map (filled new) (seat p (sparing.Freed slot) zone)) sized
+            ∙ ap (λ p. option_map (filled new) (placement p (sparing.Freed slot) zone)) sized
 
-        pub renewed_searches-is : (searches : ℕ) → searches ≡ seat_searches bytes (sparing.Freed slot) zone
+        pub renewed_searches-is : (searches : ℕ) → searches ≡ placement_searches bytes (sparing.Freed slot) zone
             → searches ≡ renewed_searches slot n zone
         renewed_searches-is searches is =
-            is ∙ ap (λ p. seat_searches p (sparing.Freed slot) zone) (sym sized) ∙ sym (searches-renewed new)
+            is ∙ ap (λ p. placement_searches p (sparing.Freed slot) zone) (sym sized) ∙ sym (searches-renewed new)
             ∙ sym (ap (λ t. cond {A = ℕ} t (room_searches (put_in_place new) nothing (freed is_it zone)) 0)
             (phys-some n bytes fits).0)
 
-        pub renewed_moves-is : seat_moves bytes (sparing.Freed slot) zone ≡ renewed_moves slot n zone
+        pub renewed_moves-is : placement_moves bytes (sparing.Freed slot) zone ≡ renewed_moves slot n zone
         renewed_moves-is =
-            ap (λ p. seat_moves p (sparing.Freed slot) zone) (sym sized)
+            ap (λ p. placement_moves p (sparing.Freed slot) zone) (sym sized)
             ∙ ap (λ (k : ℕ). place_moves (size new) (purged (k - 1) (sparing.Freed slot) zone))
             (sym (searches-renewed new))
             ∙ sym (ap (λ t. cond {A = ℕ} t (put_moves new nothing (freed is_it zone)) 0) (phys-some n bytes fits).0)
 
         pub renewed-none : (zone' : List Block) (o : Option ℕ) → o ≡ None
-            → IsAt (seat bytes (sparing.Freed slot) zone) zone' o → renewed slot n zone ≡ None
+            → IsAt (placement bytes (sparing.Freed slot) zone) zone' o → renewed slot n zone ≡ None
         renewed-none zone' o is found =
-            let Q : Option ℕ → Type 0 = λ o. IsAt (seat bytes (sparing.Freed slot) zone) zone' o in
+            let Q : Option ℕ → Type 0 = λ o. IsAt (placement bytes (sparing.Freed slot) zone) zone' o in
             renewed-is ∙ ap (option_map (filled new)) (subst Q is found)
 
         -- where there is a place
         module _ (zone' : List Block) (o : Option ℕ) (place : ℕ) (is : o ≡ Some place)
-            (at : IsAt (seat bytes (sparing.Freed slot) zone) zone' o)
+            (at : IsAt (placement bytes (sparing.Freed slot) zone) zone' o)
           where
-            found : IsAt (seat bytes (sparing.Freed slot) zone) zone' (Some place)
-            found = let Q : Option ℕ → Type 0 = λ o. IsAt (seat bytes (sparing.Freed slot) zone) zone' o in
+            found : IsAt (placement bytes (sparing.Freed slot) zone) zone' (Some place)
+            found = let Q : Option ℕ → Type 0 = λ o. IsAt (placement bytes (sparing.Freed slot) zone) zone' o in
                 subst Q is at
 
             pub renew-room : IsSomeAnd (spot_at place zone') (λ s. IsTrue (is_room (padded n) s.here))
             renew-room =
                 let P : Option Spot → Type 0 = λ o. IsSomeAnd o (λ s. IsTrue (is_room (padded n) s.here)) in
                 subst P (sym found.2) (ap (λ p. is_room p found.0.here) (sym (phys-some n bytes fits).1)
-                ∙ seat-room bytes found.0 found.1)
+                ∙ placement-room bytes found.0 found.1)
 
             pub renew-gone : has is_it zone' ≡ false
-            renew-gone = ap (has is_it) (spot_at-is place zone' found.0 found.2) ∙ seat-gone bytes found.0 found.1
+            renew-gone = ap (has is_it) (spot_at-is place zone' found.0 found.2) ∙ placement-gone bytes found.0 found.1
 
             pub renewed-some : (after : List Block) → IfSome (spot_at place zone') (λ s. after ≡ filled new s)
                 → renewed slot n zone ≡ Some after

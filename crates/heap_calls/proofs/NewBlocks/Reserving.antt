@@ -15,7 +15,7 @@ use Rattle.heap_calls.specs.Slots.{if_ready, new_empty_handle}
 use Rattle.heap_calls.specs.Pointers.{add_masters, reserve_mem}
 use Rattle.heap_calls.specs.Searches.{new_empty_handle_searches, more_masters_searches, reserve_searches}
 use Rattle.heap_calls.specs.Inner.Base.{base, base_searches, IsBaseAt}
-use Rattle.heap_calls.specs.Inner.NewSlot.{zone_slotted, zone_searches, IsTaken, IsSlot, IsMade}
+use Rattle.heap_calls.specs.Inner.NewSlot.{zone_slotted, zone_searches, IsTaken, TakesSlot, IsMade}
 use Rattle.heap_calls.specs.Inner.Numbered.{state_of, handle_number, pointer_number, KeepsFixed, Agrees}
 use Rattle.heap_calls.proofs.Numbering.Changing.{agrees-now, handle-empty, agrees-kept, kept}
 use Rattle.heap_calls.proofs.NewBlocks.NewSlots.{at_base, room-base}
@@ -59,7 +59,7 @@ module _ (zone : List Block) (rest : Rest) (es : List Anchor) (masters : rest.al
       (λ b. refl) refl ∙ ap (option_map (λ z. state_of z rest.slots es)) is)
 
   module _ (zone' : List Block) (rest' : Rest) (fixed : KeepsFixed zone zone') where
-    pub empty-refused : IsSlot sparing.Nothing zone rest None zone' rest'
+    pub empty-refused : TakesSlot sparing.Nothing zone rest None zone' rest'
         → IsRefused new_empty_handle zone rest es zone' rest'
     empty-refused none = (
       with_slot None none.0 ∙ ap (λ (t : State). refused {T = ℕ} MEM_FULL t)

@@ -19,7 +19,8 @@ use Rattle.block_store.proofs.Renamed.Renaming.{change_run-rename, has-rename, o
 use Rattle.block_store.proofs.Renamed.Renaming.{free-rename, total-rename, free_of-rename, tidy-rename, is_mover-rename}
 use Rattle.block_store.proofs.Regroup.RunSpots.{run_spot-passes}
 use Rattle.heap_calls.specs.State.{State, Memory}
-use Rattle.heap_calls.specs.Answer.{Answer, Held, look_up, for_found, refused, flagged, change_flags, hoisted, move_hhi}
+use Rattle.heap_calls.specs.Answer.{Answer, Held, look_up, for_found, refused, flagged, change_flags, hoisted}
+use Rattle.heap_calls.specs.Answer.{move_h_hi}
 use Rattle.heap_calls.specs.Answer.{silent}
 use Rattle.heap_calls.specs.Inner.Given.{seen_flags, seen_mover}
 use Rattle.heap_calls.specs.declared.anchor.Anchor.{Anchor}
@@ -142,31 +143,31 @@ module _ (value : Memory) (zone : List Block) (rest : Rest) (es : List Anchor) (
     moved k = cond (is_mover k.at.here) (Ok tt, record state { zone = hoisted k.number state.zone })
         (refused LOCKED state)
 
-    pub move_hhi-emptied : spot (is_relocatable slot) zone ≡ None
-        → silent (move_hhi handle) value ≡ (Err NIL_HANDLE, value)
-    move_hhi-emptied none = silent-refused (move_hhi handle) value zone rest es log NIL_HANDLE is
+    pub move_h_hi-emptied : spot (is_relocatable slot) zone ≡ None
+        → silent (move_h_hi handle) value ≡ (Err NIL_HANDLE, value)
+    move_h_hi-emptied none = silent-refused (move_h_hi handle) value zone rest es log NIL_HANDLE is
         (ap (λ r. for_found r state moved) (looked None none))
 
     -- what is answered at a block, by whether it can move
     row : (s : Spot) (t : Bool) → spot (is_relocatable slot) zone ≡ Some s → is_mover s.here ≡ t
-        → move_hhi handle state ≡ cond t (Ok tt, record state { zone = hoisted h state.zone }) (refused LOCKED state)
+        → move_h_hi handle state ≡ cond t (Ok tt, record state { zone = hoisted h state.zone }) (refused LOCKED state)
     row s t found can =
         ap (λ r. for_found r state moved) (looked (Some s) found)
         ∙ ap (λ t. cond t (Ok tt, record state { zone = hoisted h state.zone }) (refused LOCKED state))
         (is_mover-rename (handle_number es) (pointer_number es) s.here ∙ can)
 
-    pub move_hhi-locked : (s : Spot) → spot (is_relocatable slot) zone ≡ Some s → is_mover s.here ≡ false
-        → silent (move_hhi handle) value ≡ (Err LOCKED, value)
-    move_hhi-locked s found locked = silent-refused (move_hhi handle) value zone rest es log LOCKED is
+    pub move_h_hi-locked : (s : Spot) → spot (is_relocatable slot) zone ≡ Some s → is_mover s.here ≡ false
+        → silent (move_h_hi handle) value ≡ (Err LOCKED, value)
+    move_h_hi-locked s found locked = silent-refused (move_h_hi handle) value zone rest es log LOCKED is
         (row s false found locked)
 
-    pub move_hhi-done : (zone' : List Block) (rest' : Rest) (s : Spot) → spot (is_relocatable slot) zone ≡ Some s
+    pub move_h_hi-done : (zone' : List Block) (rest' : Rest) (s : Spot) → spot (is_relocatable slot) zone ≡ Some s
         → is_mover s.here ≡ true → IsRest rest rest' → zone' ≡ hoisted slot zone
-        → silent (move_hhi handle) value ≡ (Ok tt, memory_of zone' rest' es log)
-    move_hhi-done zone' rest' s found free now done =
+        → silent (move_h_hi handle) value ≡ (Ok tt, memory_of zone' rest' es log)
+    move_h_hi-done zone' rest' s found free now done =
         let f : ℕ → ℕ = handle_number es in
         let g : ℕ → ℕ = pointer_number es in
-        silent-kept (move_hhi handle) value zone zone' rest rest' es log (Ok tt) is
+        silent-kept (move_h_hi handle) value zone zone' rest rest' es log (Ok tt) is
         (row s true found free ∙ ap (λ z. (Ok tt, record state { zone = z })) (hoisted-rename f g h slot
         (is_relocatable-number es h slot at apart small) zone ∙ ap (rename f g) (sym done))) now
 

@@ -4,7 +4,7 @@ use Rattle.std.specs.Option.{option_map}
 use Rattle.mac_words.specs.Size.{phys}
 use Rattle.block_store.specs.Block.{Block, size, rename, rename_block, is_mover, resized}
 use Rattle.block_store.specs.Run.{segments, has_free}
-use Rattle.block_store.specs.Room.{Spot, rename_spot, spot, purge, count_of, may_go}
+use Rattle.block_store.specs.Room.{Spot, rename_spot, spot, purge, count_of, may_be_purged}
 use Rattle.block_store.specs.Grow.{growth, grow_up, grow_mover, grow}
 use Rattle.block_store.proofs.Renamed.Renaming.{size-rename, is_mover-rename, total-rename, is_purgeable-rename}
 use Rattle.block_store.proofs.Renamed.Renaming.{spot-rename, segments-rename, has_free-rename, purge-rename}
@@ -16,7 +16,7 @@ use Rattle.heap_calls.specs.Searches.{room_searches, in_place_searches, growth_s
 use Rattle.heap_calls.specs.Inner.Growing.{fitted}
 use Rattle.heap_calls.specs.Inner.GrowingInPlace.{enough}
 
--- How often a call looks for room sees no names.
+-- How often a call searches for room sees no names.
 
 -- as many are tried where each has an answer or has none
 pub tries-same : {A B : Type 0} (a : ℕ → Option A) (b : ℕ → Option B) → ((k : ℕ) → is_some (a k) ≡ is_some (b k))
@@ -27,10 +27,11 @@ tries-same a b same (suc n) = rw (same 0, tries-same (λ k. a (suc k)) (λ k. b 
 module _ (f g : ℕ → ℕ) (p q : Block → Bool) (spares : (b : Block) → p (rename_block f g b) ≡ q b)
   where
     pub count_of-rename : (zone : List Block) → count_of p (rename f g zone) ≡ count_of q zone
-    count_of-rename zone = total-rename f g (λ (b : Block). cond {A = ℕ} (may_go p b) 1 0)
-        (λ (b : Block). cond {A = ℕ} (may_go q b) 1 0) one zone
+    count_of-rename zone = total-rename f g (λ (b : Block). cond {A = ℕ} (may_be_purged p b) 1 0)
+        (λ (b : Block). cond {A = ℕ} (may_be_purged q b) 1 0) one zone
       where
-        one : (b : Block) → cond {A = ℕ} (may_go p (rename_block f g b)) 1 0 ≡ cond {A = ℕ} (may_go q b) 1 0
+        one : (b : Block) → cond {A = ℕ} (may_be_purged p (rename_block f g b)) 1 0 ≡ cond {A = ℕ} (may_be_purged q b) 1
+            0
         one b = rw (is_purgeable-rename f g b, spares b) refl
 
     pub room_searches-rename : (try try' : List Block → Option (List Block))

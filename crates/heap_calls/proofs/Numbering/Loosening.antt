@@ -34,9 +34,9 @@ use Rattle.heap_calls.specs.declared.anchor.Anchor.TheVariants.{Handle}
 use Rattle.heap_calls.proofs.Numbering.Numbers.{Apart, is_relocatable-number}
 use Rattle.heap_calls.proofs.Numbering.Changing.{silent-kept, silent-refused}
 
--- Handles that have no block that is locked, and calls that look for room.
+-- Handles that have no block that is locked, and calls that search for room.
 
--- a call that looks for room, and was noted
+-- a call that searches for room, and was noted
 pub noted-searching : {T : Type 0} (n : ℕ) (call : State → Answer T) (old mid new : Memory) (r : Result T Refusal)
     → IsAnswer (searching n (silent call old)) r mid
     → new ≡ record mid { log = record mid.log { code = last_after r mid.log.code } }
@@ -154,7 +154,7 @@ loose-counted of handle s = found (handle_at handle s)
     found (Err code) = refl
     found (Ok k) = here k (is_loose (spot (is_relocatable k.number) s.zone))
 
--- the looks that it takes
+-- the searches that it takes
 pub reallocate_searches-loose : (handle : Option ℕ) (n : ℕ) (s : State)
     → reallocate_handle_searches handle n s ≡ found_searches (loose_at handle s)
     (λ k. renewed_searches k.number n s.zone)
@@ -242,7 +242,7 @@ not_emptied handle e zone rest es copy log value tidied is same found =
     (loose_in zone rest.slots es copy handle (Err e) same found)
     (empty_handle-loose handle state (tidy-rename f g zone ∙ ap (rename f g) tidied))
 
--- the same for a call that looks for room
+-- the same for a call that searches for room
 pub loose_not_searched : (n : ℕ) (e : Refusal) (zone : List Block) (rest : Rest) (es : List Anchor) (log : Log)
     (handle : Option ℕ) (value : Memory) → memory_of zone rest es log ≡ value
     → FindsLoose zone rest.slots es handle (Err e) → IsAnswer (searching

@@ -8,9 +8,9 @@ use Rattle.block_store.specs.Block.{is_mover, is_masters, is_room, no_flags, res
 use Rattle.block_store.specs.Run.{RunSpot, run_spot, runs, has, has_free, high}
 use Rattle.block_store.specs.Room.{Spot, rename_spot, spot, place, purge, put_in_place}
 use Rattle.block_store.specs.Grow.{growth, grow_up, grow_mover}
-use Rattle.block_store.specs.Compact.{falls, runs_settled}
+use Rattle.block_store.specs.Compact.{lowered_in_runs, runs_settled}
 use Rattle.block_store.specs.Sparing.{spared, opened}
-use Rattle.block_store.specs.Rest.{Rest, falling}
+use Rattle.block_store.specs.Rest.{Rest, lowered_in_run}
 use Rattle.block_store.specs.declared.sparing.Sparing.{Sparing}
 use Rattle.block_store.specs.declared.sparing.Sparing.TheVariants as sparing
 use Rattle.block_store.proofs.Renamed.Renaming.{size-rename, total-rename, is_mover-rename, is_room-rename, spot-rename}
@@ -27,44 +27,48 @@ use Rattle.heap_calls.specs.Moves.{block_moves, new_handle_moves, growth_moves, 
 use Rattle.heap_calls.specs.Inner.NewBlock.{ready_count}
 use Rattle.heap_calls.specs.Inner.NewSlot.{zone_slotted}
 use Rattle.heap_calls.specs.Inner.Numbered.{state_of, name_of, handle_number, pointer_number, Agrees}
-use Rattle.heap_calls.specs.Inner.Packed.{seat_moves, content_moves, new_moves}
+use Rattle.heap_calls.specs.Inner.Packed.{placement_moves, content_moves, new_moves}
 use Rattle.heap_calls.specs.Purging.{purged_all}
-use Rattle.heap_calls.specs.Inner.Search.{seat_searches}
+use Rattle.heap_calls.specs.Inner.Search.{placement_searches}
 use Rattle.heap_calls.specs.Searches.{room_searches, ready_searches, resized_at}
 use Rattle.heap_calls.proofs.Numbering.Hoisting.{high-rename}
 use Rattle.heap_calls.proofs.Numbering.Largest.{runs-rename, runs_settled-rename}
 use Rattle.heap_calls.proofs.Numbering.Looking.{room_searches-rename}
-use Rattle.heap_calls.proofs.NewBlocks.NewHandles.{block_searches-seat, slotted-is}
+use Rattle.heap_calls.proofs.NewBlocks.NewHandles.{block_searches-placement, slotted-is}
 use Rattle.heap_calls.proofs.Numbering.PurgeTrials.{purged_all-rename}
 
 -- How many blocks packing moves down sees no names.
 
-pub falling-rename : (f g : ℕ → ℕ) (run : List Block) → falling (rename f g run) ≡ falling run
-falling-rename f g [] = refl
-falling-rename f g (Free n ∷ run) = total-rename f g (λ (b : Block). cond {A = ℕ} (is_mover b) 1 0)
+pub lowered_in_run-rename : (f g : ℕ → ℕ) (run : List Block) → lowered_in_run (rename f g run) ≡ lowered_in_run run
+lowered_in_run-rename f g [] = refl
+lowered_in_run-rename f g (Free n ∷ run) = total-rename f g (λ (b : Block). cond {A = ℕ} (is_mover b) 1 0)
     (λ (b : Block). cond {A = ℕ} (is_mover b) 1 0) (λ b. rw (is_mover-rename f g b) refl) run
-falling-rename f g (Fixed id content ∷ run) = falling-rename f g run
-falling-rename f g (Masters ∷ run) = falling-rename f g run
-falling-rename f g (Relocatable id flags content ∷ run) = falling-rename f g run
+lowered_in_run-rename f g (Fixed id content ∷ run) = lowered_in_run-rename f g run
+lowered_in_run-rename f g (Masters ∷ run) = lowered_in_run-rename f g run
+lowered_in_run-rename f g (Relocatable id flags content ∷ run) = lowered_in_run-rename f g run
 
-falls_of-rename : (f g : ℕ → ℕ) (k : ℕ) (rs : List (List Block)) → falls k (map (rename f g) rs) ≡ falls k rs
+falls_of-rename : (f g : ℕ → ℕ) (k : ℕ) (rs : List (List Block)) → lowered_in_runs k (map (rename f g) rs)
+    ≡ lowered_in_runs k rs
 falls_of-rename f g zero rs = refl
 falls_of-rename f g (suc k) [] = refl
-falls_of-rename f g (suc k) (run ∷ rs) = ap (λ n. n + falls k (map (rename f g) rs)) (falling-rename f g run)
-    ∙ ap (λ n. falling run + n) (falls_of-rename f g k rs)
+falls_of-rename f g (suc k) (run ∷ rs) = ap (λ n. n + lowered_in_runs k (map (rename f g) rs))
+    (lowered_in_run-rename f g run)
+    ∙ ap (λ n. lowered_in_run run + n) (falls_of-rename f g k rs)
 
-pub falls-rename : (f g : ℕ → ℕ) (k : ℕ) (zone : List Block) → falls k (runs (rename f g zone)) ≡ falls k (runs zone)
-falls-rename f g k zone = ap (falls k) (runs-rename f g zone) ∙ falls_of-rename f g k (runs zone)
+pub lowered_in_runs-rename : (f g : ℕ → ℕ) (k : ℕ) (zone : List Block) → lowered_in_runs k (runs (rename f g zone))
+    ≡ lowered_in_runs k (runs zone)
+lowered_in_runs-rename f g k zone = ap (lowered_in_runs k) (runs-rename f g zone) ∙ falls_of-rename f g k (runs zone)
 
 pub settled_falls-rename : (f g : ℕ → ℕ) (p : Option ℕ) (zone : List Block)
-    → falls (runs_settled p (rename f g zone)) (runs (rename f g zone)) ≡ falls (runs_settled p zone) (runs zone)
-settled_falls-rename f g p zone = ap (λ k. falls k (runs (rename f g zone))) (runs_settled-rename f g p zone)
-    ∙ falls-rename f g (runs_settled p zone) zone
+    → lowered_in_runs (runs_settled p (rename f g zone)) (runs (rename f g zone)) ≡ lowered_in_runs
+    (runs_settled p zone) (runs zone)
+settled_falls-rename f g p zone = ap (λ k. lowered_in_runs k (runs (rename f g zone))) (runs_settled-rename f g p zone)
+    ∙ lowered_in_runs-rename f g (runs_settled p zone) zone
 
 pub all_moves-rename : (f g : ℕ → ℕ) (zone : List Block) → all_moves (rename f g zone) ≡ all_moves zone
-all_moves-rename f g zone = ap (λ k. falls k (runs (rename f g zone)))
+all_moves-rename f g zone = ap (λ k. lowered_in_runs k (runs (rename f g zone)))
     (ap length (runs-rename f g zone) ∙ length-map (runs zone) (rename f g))
-    ∙ falls-rename f g (length (runs zone)) zone
+    ∙ lowered_in_runs-rename f g (length (runs zone)) zone
 
 pub purged_moves-rename : (f g : ℕ → ℕ) (zone : List Block) → all_moves (purged_all (rename f g zone))
     ≡ all_moves (purged_all zone)
@@ -75,7 +79,7 @@ module _ (f g : ℕ → ℕ)
     run_moves-rename : (c d : List Block → List Block) → ((run : List Block) → c (rename f g run) ≡ rename f g (d run))
         → (o : Option RunSpot) → run_moves c (option_map (rename_run_spot f g) o) ≡ run_moves d o
     run_moves-rename c d same None = refl
-    run_moves-rename c d same (Some r) = ap falling (same r.run) ∙ falling-rename f g (d r.run)
+    run_moves-rename c d same (Some r) = ap lowered_in_run (same r.run) ∙ lowered_in_run-rename f g (d r.run)
 
     pub place_moves-rename : (p : ℕ) (zone : List Block) → place_moves p (rename f g zone) ≡ place_moves p zone
     place_moves-rename p zone =
@@ -168,16 +172,16 @@ module _ (f g : ℕ → ℕ)
                 ∙ growth_moves-rename n zone (spot u zone))
 
 -- for a place of a new block
-pub block_moves-seat : (f g : ℕ → ℕ) (p : Block → Bool) (nd : Sparing)
+pub block_moves-placement : (f g : ℕ → ℕ) (p : Block → Bool) (nd : Sparing)
     → ((b : Block) → p (rename_block f g b) ≡ spared nd b) → (number : ℕ) (bytes : List ℕ) (bs : List Block)
     → opened nd bs ≡ bs
-    → put_moves (Relocatable number no_flags bytes) p (rename f g bs) ≡ seat_moves (padded (length bytes)) nd bs
-block_moves-seat f g p nd same number bytes bs closed =
+    → put_moves (Relocatable number no_flags bytes) p (rename f g bs) ≡ placement_moves (padded (length bytes)) nd bs
+block_moves-placement f g p nd same number bytes bs closed =
     ap (λ k. place_moves wide (purge (k - 1) p (rename f g bs)))
-    (block_searches-seat f g p nd same number bytes bs closed)
-    ∙ ap (place_moves wide) (purge-rename f g p (spared nd) same (seat_searches wide nd bs - 1) bs)
-    ∙ place_moves-rename f g wide (purge (seat_searches wide nd bs - 1) (spared nd) bs)
-    ∙ ap (λ z. place_moves wide (purge (seat_searches wide nd bs - 1) (spared nd) z)) (sym closed)
+    (block_searches-placement f g p nd same number bytes bs closed)
+    ∙ ap (place_moves wide) (purge-rename f g p (spared nd) same (placement_searches wide nd bs - 1) bs)
+    ∙ place_moves-rename f g wide (purge (placement_searches wide nd bs - 1) (spared nd) bs)
+    ∙ ap (λ z. place_moves wide (purge (placement_searches wide nd bs - 1) (spared nd) z)) (sym closed)
   where
     wide : ℕ
     wide = padded (length bytes)
@@ -198,6 +202,6 @@ new_handle_moves-is zone rest es n masters agrees =
     ready None = refl
     ready (Some z) =
         ap (λ a. cond {A = ℕ} (is_some (phys n)) a 0)
-        (block_moves-seat (handle_number es) (pointer_number es) nothing sparing.Nothing (λ b. refl)
+        (block_moves-placement (handle_number es) (pointer_number es) nothing sparing.Nothing (λ b. refl)
         (length (map (name_of rest.slots) es)) (replicate n 0) z refl
-        ∙ ap (λ k. seat_moves (padded k) sparing.Nothing z) (length-replicate n 0))
+        ∙ ap (λ k. placement_moves (padded k) sparing.Nothing z) (length-replicate n 0))

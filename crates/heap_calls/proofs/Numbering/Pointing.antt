@@ -252,7 +252,7 @@ sparing-other zone slots es (Some n) e is = ap (λ o. named_block n o state) (sl
     cases (Some (Pointer p)) is = cc
     cases (Some Disposed) is = refl
 
--- what was found for a look that is the same
+-- what was found for a search that is the same
 pub finds-same : (looked looked' : Result Held OsErr) (zone : List Block) (es : List Anchor) (r : Result ℕ Refusal)
     → looked' ≡ looked → FindsHeld looked zone es r → FindsHeld looked' zone es r
 finds-same looked looked' zone es r same found = let P : Result Held OsErr → Type 0 = λ l. FindsHeld l zone es r in

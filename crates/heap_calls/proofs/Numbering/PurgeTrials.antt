@@ -5,10 +5,10 @@ use Rattle.mac_words.specs.declared.code.OsErr.{OsErr}
 use Rattle.mac_words.specs.declared.code.TheConstants.OsErr.{NO_ERR, MEM_FULL}
 use Rattle.block_store.specs.Block.{Block, sizes, free_sum, rename}
 use Rattle.block_store.specs.Run.{runs}
-use Rattle.block_store.specs.Room.{purge, may_go}
+use Rattle.block_store.specs.Room.{purge, may_be_purged}
 use Rattle.block_store.specs.Compact.{least_or_last, runs_settled, has_room, largest_free, settled, compacted}
 use Rattle.block_store.specs.Rest.{Rest, counted, IsRest}
-use Rattle.block_store.proofs.Emptied.Rising.{purge-all}
+use Rattle.block_store.proofs.Purged.Rising.{purge-all}
 use Rattle.block_store.proofs.Renamed.Renaming.{total-rename, is_purgeable-rename, purge-rename}
 use Rattle.block_store.proofs.Plain.Trials.{least_or_last-le, least_or_last-none}
 use Rattle.heap_calls.specs.declared.log.Log.{Log}
@@ -28,7 +28,7 @@ use Rattle.std.proofs.lemmas.List.{length-map}
 
 -- Purging sees no names.
 
--- a count of looks fits
+-- a count of searches fits
 pub runs_settled-few : (p : Option ℕ) (zone : List Block) → runs_settled p zone ≤ sizes zone + 1
 runs_settled-few p zone = omega (
   arith,
@@ -44,7 +44,8 @@ blocks_purged-few p zone = omega (
 )
 
 pub purgeable-rename : (f g : ℕ → ℕ) (zone : List Block) → purgeable (rename f g zone) ≡ purgeable zone
-purgeable-rename f g zone = total-rename f g (λ b. cond (may_go nothing b) 1 0) (λ b. cond (may_go nothing b) 1 0)
+purgeable-rename f g zone = total-rename f g (λ b. cond (may_be_purged nothing b) 1 0)
+    (λ b. cond (may_be_purged nothing b) 1 0)
     (λ b. rw (is_purgeable-rename f g b) refl) zone
 
 pub blocks_purged-rename : (f g : ℕ → ℕ) (p : Option ℕ) (zone : List Block)
@@ -66,7 +67,7 @@ pub purged_all-rename : (f g : ℕ → ℕ) (zone : List Block) → purged_all (
 purged_all-rename f g zone = ap (λ k. purge k nothing (rename f g zone)) (purgeable-rename f g zone)
     ∙ purge-rename f g nothing nothing (λ b. refl) (purgeable zone) zone
 
--- all that may be emptied is, where no fewer purges are asked for than there can be; no zone has more blocks than bytes
+-- all that may be purged is, where no fewer purges are asked for than there can be; no zone has more blocks than bytes
 pub all-gone : (zone : List Block) → sizes zone ≤ 134217728 → purgeable zone ≤ 134217728
 all-gone zone small = omega (arith, most-le sparing.Nothing zone, small)
 

@@ -26,7 +26,7 @@ use Rattle.heap_calls.specs.Inner.GrowingInPlace.{made_zone}
 use Rattle.heap_calls.specs.Inner.Numbered.{state_of, memory_of, handle_number, pointer_number}
 use Rattle.heap_calls.proofs.Numbering.Changing.{memory-same}
 
--- A call that leaves another zone, or finds no room for it, and looks for room.
+-- A call that leaves another zone, or finds no room for it, and searches for room.
 
 -- the same for a copy of the entries
 pub reached_in : (zone : List Block) (slots : ℕ → Slot) (es es' : List Anchor) (handle : Option ℕ)
@@ -34,11 +34,11 @@ pub reached_in : (zone : List Block) (slots : ℕ → Slot) (es es' : List Ancho
 reached_in zone slots es es' handle r same found = let P : List Anchor → Type 0 = λ l. Reaches zone slots l handle r in
     subst P same found
 
--- what a call that may look for room answers where its handle has no block
+-- what a call that may search for room answers where its handle has no block
 pub record TellsNone (s : State) (row : State → Answer (Unit {0})) (looks moves : State → ℕ) (code : OsErr) : Type 0
   where
     pub row_is : row s ≡ (Err code, s)
-    pub looks_is : looks s ≡ 0
+    pub searches_is : looks s ≡ 0
     pub moves_is : moves s ≡ 0
 
 -- what SetHandleSize answers
@@ -60,7 +60,7 @@ pub not-resized : (handle : Option ℕ) (n : ℕ) (s : State) (code : OsErr) →
 not-resized handle n s code none = record {
   row_is = ap (λ r. for_found r s (λ held. cond (is_some (phys n)) (rebuilt
       (grow (is_relocatable held.number) (is_relocatable held.number) n s.zone) s) (refused MEM_FULL s))) none;
-  looks_is = ap (λ r. found_searches r (λ (k : Held). size_searches (is_relocatable k.number)
+  searches_is = ap (λ r. found_searches r (λ (k : Held). size_searches (is_relocatable k.number)
       (is_relocatable k.number) n s.zone)) none;
   moves_is = ap (λ r. found_searches r (λ (k : Held). size_moves (is_relocatable k.number) (is_relocatable k.number) n
       s.zone)) none;
@@ -91,7 +91,7 @@ module _ (value : Memory) (zone : List Block) (rest : Rest) (es : List Anchor) (
           },
         ))
 
-    -- a call that is refused without a look
+    -- a call that is refused without a search
     pub not-looked : (code : OsErr) → row state ≡ (Err code, state) → looks state ≡ 0
         → searching (looks value.heap) (silent row value) ≡ (Err code, value)
     not-looked code e none =

@@ -25,7 +25,7 @@ use Rattle.block_store.proofs.Zone.Spots.{length-written}
 use Rattle.heap_calls.specs.State.{State, Memory, Meaning, Role, Plain, Resource, SystemResource, used_slots, all_slots}
 use Rattle.heap_calls.specs.State as names
 use Rattle.heap_calls.specs.Answer.{Answer, Held, nothing, given, refused, disposed_of, rebuilt, flagged, change_flags}
-use Rattle.heap_calls.specs.Answer.{hoisted, move_hhi, look_up, handle_at, for_found, written_at, on_block}
+use Rattle.heap_calls.specs.Answer.{hoisted, move_h_hi, look_up, handle_at, for_found, written_at, on_block}
 use Rattle.heap_calls.specs.Answer as calls
 use Rattle.heap_calls.specs.Slots.{slotted, if_ready, new_block, more_masters}
 use Rattle.heap_calls.specs.Pointers.{pointed_at, block_named, reserved, reserve_mem}
@@ -242,7 +242,7 @@ module _ (seen : Block → Bool) (steady : Steady seen)
         cases None a = same zone
         cases (Some z) a = alike-then seen rigid zone z (tidy z) (a z refl) (alike-tidy seen rigid z)
 
-    alike-move : (handle : Option ℕ) (s : State) → Alike seen s.zone (move_hhi handle s).1.zone
+    alike-move : (handle : Option ℕ) (s : State) → Alike seen s.zone (move_h_hi handle s).1.zone
     alike-move handle s = by_spot (look_up handle s)
       where
         by_mover : (k : ℕ) (t : Bool) → Alike seen s.zone (cond t
@@ -259,7 +259,7 @@ module _ (seen : Block → Bool) (steady : Steady seen)
 
     -- HLockHi: what was moved and is locked wasn't seen
     pub alike-locked_high : (k : ℕ) (s : State) → LeavesLoose seen s.zone
-        → Alike seen s.zone (calls.hlock_hi (Some k) s).1.zone
+        → Alike seen s.zone (calls.h_lock_hi (Some k) s).1.zone
     alike-locked_high k s loose = by_spot (look_up (Some k) s) (λ held is. (look_up-spot k s held is).0)
       where
         lock : Flags → Flags

@@ -2,7 +2,7 @@ use Rattle.std.proofs.Common.{ℕ, ◌≤◌, Bool, List, length, refl, arith, c
 use Rattle.mac_words.specs.Size.{phys}
 use Rattle.block_store.specs.Block.{Block, count, is_relocatable}
 use Rattle.block_store.specs.Run.{runs}
-use Rattle.block_store.specs.Room.{emptied}
+use Rattle.block_store.specs.Room.{lowest_purged}
 use Rattle.block_store.specs.Compact.{runs_settled}
 use Rattle.block_store.proofs.Zone.Apart.{tidy-tidy}
 use Rattle.block_store.proofs.Zone.Keeping.{counts-free, purged-le}
@@ -35,7 +35,7 @@ purged-once zone once h =
 pub max-lowered : (s : State) → MaxCountsLowered s
 max-lowered s once =
     settled_lowered (length (runs (purged_all s.zone))) (purged_all s.zone) (purged-once s.zone once)
-    (tidy-tidy (emptied (purgeable s.zone) nothing s.zone))
+    (tidy-tidy (lowest_purged (purgeable s.zone) nothing s.zone))
 
 pub max-raises_none : (s : State) → MaxRaisesNone s
 max-raises_none s = settled_none_rises (length (runs (purged_all s.zone))) (purged_all s.zone)

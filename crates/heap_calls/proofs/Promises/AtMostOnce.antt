@@ -2,9 +2,9 @@ use Rattle.std.proofs.Common.{ℕ, ◌+◌, ◌≤◌, zero, suc, Bool, true, fa
 use Rattle.mac_words.specs.Size.{phys}
 use Rattle.block_store.specs.Block.{Block, Free, Fixed, Masters, Relocatable, size, count, is_mover}
 use Rattle.block_store.specs.Run.{in_run, Stretch, Segments, segments, runs}
-use Rattle.block_store.specs.Room.{may_go, emptied, purge}
-use Rattle.block_store.specs.Compact.{falls, runs_settled}
-use Rattle.block_store.specs.Rest.{falling}
+use Rattle.block_store.specs.Room.{may_be_purged, lowest_purged, purge}
+use Rattle.block_store.specs.Compact.{lowered_in_runs, runs_settled}
+use Rattle.block_store.specs.Rest.{lowered_in_run}
 use Rattle.block_store.proofs.Zone.Tidy.{total-tidy}
 use Rattle.heap_calls.specs.State.{State}
 use Rattle.heap_calls.specs.Answer.{nothing}
@@ -13,21 +13,21 @@ use Rattle.heap_calls.specs.Purging.{purged_all, purgeable}
 
 -- Compaction moves each block at most once: it moves no more than may be moved.
 
-falling-le : (run : List Block) → falling run ≤ count is_mover run
-falling-le [] = omega arith
-falling-le (Free n ∷ run) = omega arith
-falling-le (Fixed id content ∷ run) = omega (arith, falling-le run)
-falling-le (Masters ∷ run) = omega (arith, falling-le run)
-falling-le (Relocatable id flags content ∷ run) = omega (arith, falling-le run)
+lowered_in_run-le : (run : List Block) → lowered_in_run run ≤ count is_mover run
+lowered_in_run-le [] = omega arith
+lowered_in_run-le (Free n ∷ run) = omega arith
+lowered_in_run-le (Fixed id content ∷ run) = omega (arith, lowered_in_run-le run)
+lowered_in_run-le (Masters ∷ run) = omega (arith, lowered_in_run-le run)
+lowered_in_run-le (Relocatable id flags content ∷ run) = omega (arith, lowered_in_run-le run)
 
 abbrev movers_in : List (List Block) → ℕ
 movers_in [] = 0
 movers_in (run ∷ rs) = count is_mover run + movers_in rs
 
-falls-le : (k : ℕ) (rs : List (List Block)) → falls k rs ≤ movers_in rs
-falls-le zero rs = omega arith
-falls-le (suc k) [] = omega arith
-falls-le (suc k) (run ∷ rs) = omega (arith, falling-le run, falls-le k rs)
+lowered_in_runs-le : (k : ℕ) (rs : List (List Block)) → lowered_in_runs k rs ≤ movers_in rs
+lowered_in_runs-le zero rs = omega arith
+lowered_in_runs-le (suc k) [] = omega arith
+lowered_in_runs-le (suc k) (run ∷ rs) = omega (arith, lowered_in_run-le run, lowered_in_runs-le k rs)
 
 abbrev in_segments : Segments → ℕ
 in_segments s = count is_mover s.first + movers_in (map (λ (p : Stretch). p.run) s.rest)
@@ -43,25 +43,28 @@ segments-le (b ∷ above) = cases (in_run b) (segments-le above)
     cases true le = omega (arith, le)
     cases false le = omega (arith, le)
 
-falls_of-le : (k : ℕ) (zone : List Block) → falls k (runs zone) ≤ count is_mover zone
-falls_of-le k zone = omega (arith, falls-le k (runs zone), segments-le zone)
+falls_of-le : (k : ℕ) (zone : List Block) → lowered_in_runs k (runs zone) ≤ count is_mover zone
+falls_of-le k zone = omega (arith, lowered_in_runs-le k (runs zone), segments-le zone)
 
-emptied-le : (k : ℕ) (sp : Block → Bool) (bs : List Block) → count is_mover (emptied k sp bs) ≤ count is_mover bs
-emptied-le zero sp bs = omega arith
-emptied-le (suc k) sp [] = omega arith
-emptied-le (suc k) sp (b ∷ bs) = cases (may_go sp b) (emptied-le k sp bs) (emptied-le (suc k) sp bs)
+lowest_purged-le : (k : ℕ) (sp : Block → Bool) (bs : List Block) → count is_mover (lowest_purged k sp bs) ≤ count
+    is_mover bs
+lowest_purged-le zero sp bs = omega arith
+lowest_purged-le (suc k) sp [] = omega arith
+lowest_purged-le (suc k) sp (b ∷ bs) = cases (may_be_purged sp b) (lowest_purged-le k sp bs)
+    (lowest_purged-le (suc k) sp bs)
   where
-    cases : (m : Bool) → count is_mover (emptied k sp bs) ≤ count is_mover bs
-        → count is_mover (emptied (suc k) sp bs) ≤ count is_mover bs
-        → count is_mover (cond m (Free (size b) ∷ emptied k sp bs) (b ∷ emptied (suc k) sp bs)) ≤ cond {A = ℕ}
+    cases : (m : Bool) → count is_mover (lowest_purged k sp bs) ≤ count is_mover bs
+        → count is_mover (lowest_purged (suc k) sp bs) ≤ count is_mover bs
+        → count is_mover (cond m (Free (size b) ∷ lowest_purged k sp bs) (b ∷ lowest_purged (suc k) sp bs)) ≤ cond
+        {A = ℕ}
         (is_mover b) 1 0 + count is_mover bs
     cases true one more = omega (arith, one)
     cases false one more = omega (arith, more)
 
 purged-le : (k : ℕ) (sp : Block → Bool) (bs : List Block) → count is_mover (purge k sp bs) ≤ count is_mover bs
 purged-le k sp bs =
-    let e = total-tidy (λ (b : Block). cond {A = ℕ} (is_mover b) 1 0) (λ n m. refl) (emptied k sp bs) in
-    omega (arith, emptied-le k sp bs, e)
+    let e = total-tidy (λ (b : Block). cond {A = ℕ} (is_mover b) 1 0) (λ n m. refl) (lowest_purged k sp bs) in
+    omega (arith, lowest_purged-le k sp bs, e)
 
 -- CompactMem
 pub compact_mem_once : (n : ℕ) (s : State) → compact_mem_moves n s ≤ count is_mover s.zone

@@ -25,7 +25,7 @@ use Rattle.block_store.proofs.Zone.Passing.{has-count}
 use Rattle.heap_calls.specs.State.{State, Memory, Role, Plain, Resource, SystemResource, used_slots, all_slots}
 use Rattle.heap_calls.specs.State as names
 use Rattle.heap_calls.specs.Answer.{Answer, Held, nothing, given, refused, disposed_of, rebuilt, flagged, change_flags}
-use Rattle.heap_calls.specs.Answer.{hoisted, move_hhi, look_up, handle_at, for_found, written_at, on_block}
+use Rattle.heap_calls.specs.Answer.{hoisted, move_h_hi, look_up, handle_at, for_found, written_at, on_block}
 use Rattle.heap_calls.specs.Answer as calls
 use Rattle.heap_calls.specs.Slots.{slotted, if_ready, new_block, more_masters}
 use Rattle.heap_calls.specs.Pointers.{pointed_at, block_named, reserved, reserve_mem}
@@ -36,7 +36,7 @@ use Rattle.heap_calls.specs.Copying.{append, appended, written_in}
 use Rattle.heap_calls.specs.Asked.{Asked, answered}
 use Rattle.heap_calls.specs.Asked as asked
 use Rattle.heap_calls.specs.Locked.{OneBlockEach}
-use Rattle.heap_calls.specs.Emptying.{may_be_emptied, OnlyPurgeableGo}
+use Rattle.heap_calls.specs.Emptying.{has_purgeable, PurgesOnlyPurgeable}
 use Rattle.block_store.proofs.Zone.Views.{map-some}
 use Rattle.block_store.proofs.Zone.Keeping.{unless, tidied, freed-is}
 use Rattle.heap_calls.proofs.Promises.Knowing.{look_up-spot, pointed_at-spot}
@@ -46,7 +46,7 @@ use Rattle.heap_calls.proofs.Promises.KnownChanges.{hoisted-all}
 use Rattle.block_store.proofs.Zone.Surviving.{settled-all, purged-all, made-all, base-all}
 use Rattle.block_store.proofs.Zone.Surviving.{grown-all}
 
--- Each block that may not be emptied is there after each call that doesn't let it go.
+-- Each block that may not be purged is there after each call that doesn't let it go.
 
 -- blocks that pass come to nothing
 abbrev pub Unseen : (Block → ℕ) → (Block → Bool) → Type 0
@@ -147,7 +147,7 @@ module _ (of : Block → ℕ) (none : (n : ℕ) → of (Free n) ≡ 0) (goes : (
         by_ready None ready = omega arith
         by_ready (Some r) ready = let a = ready r refl in let b = next r in omega arith
 
-    of-moved : (handle : Option ℕ) (s : State) → total of s.zone ≤ total of (move_hhi handle s).1.zone
+    of-moved : (handle : Option ℕ) (s : State) → total of s.zone ≤ total of (move_h_hi handle s).1.zone
     of-moved handle s = of-found (look_up handle s) s (λ held. if is_mover held.at.here
         then (Ok tt, record s { zone = hoisted held.number s.zone }) else refused LOCKED s)
         (λ held is. by_mover held.number (is_mover held.at.here))
@@ -318,14 +318,14 @@ module _ (of : Block → ℕ) (none : (n : ℕ) → of (Free n) ≡ 0) (goes : (
     of-answered (asked.HSetState handle byte) m once spares = flags-rise of
         (λ f. record { locked = byte / 128 % 2 == 1; purgeable = byte / 64 % 2 == 1 }) spares handle m.heap
     of-answered (asked.MoveHHi handle) m once spares = of-moved handle m.heap
-    of-answered (asked.HLockHi handle) m once spares = cases (move_hhi handle m.heap).0
+    of-answered (asked.HLockHi handle) m once spares = cases (move_h_hi handle m.heap).0
       where
         cases : (r : Result (Unit {0}) OsErr) → total of m.heap.zone ≤ total of
-            (for_found r m.heap (λ (u : Unit {0}). calls.h_lock handle (move_hhi handle m.heap).1)).1.zone
+            (for_found r m.heap (λ (u : Unit {0}). calls.h_lock handle (move_h_hi handle m.heap).1)).1.zone
         cases (Err code) = omega arith
         cases (Ok u) =
             let a = of-moved handle m.heap in
-            let b = flags-rise of (λ f. record f { locked = true }) spares handle (move_hhi handle m.heap).1 in
+            let b = flags-rise of (λ f. record f { locked = true }) spares handle (move_h_hi handle m.heap).1 in
             omega arith
     of-answered (asked.HandToHand handle) m once spares =
         of-found (look_up handle m.heap) m.heap (λ held. if_ready (slotted (is_relocatable held.number) m.heap) m.heap
@@ -440,7 +440,7 @@ module _ (of : Block → ℕ) (none : (n : ℕ) → of (Free n) ≡ 0) (goes : (
         unmoved m.heap (answered (asked.Where name) m).1.heap (found-same (block_named name m.heap) m.heap
         (λ held. (Ok (sizes held.at.below + 16), m.heap)) (λ held. refl))
 
--- 1 for a block of a handle that may not be emptied
+-- 1 for a block of a handle that may not be purged
 abbrev pub stays : ℕ → Block → ℕ
 stays h b = cond (is_relocatable h b && not (is_purgeable b)) 1 0
 
@@ -467,7 +467,7 @@ stays-filled h x (Fixed id content) = refl
 stays-filled h x Masters = refl
 stays-filled h x (Relocatable id flags content) = refl
 
--- a block that may not be emptied is one
+-- a block that may not be purged is one
 pub stays-le : (h : ℕ) (bs : List Block) → total (stays h) bs ≤ count (is_relocatable h) bs
 stays-le h bs = total-le (stays h) (is_of h) (λ b. cases (is_relocatable h b) (is_purgeable b)) bs
   where
@@ -476,14 +476,14 @@ stays-le h bs = total-le (stays h) (is_of h) (λ b. cases (is_relocatable h b) (
     cases true false = omega arith
     cases false u = omega arith
 
--- and each block where none may be emptied
-pub stays-all : (h : ℕ) (bs : List Block) → may_be_emptied h bs ≡ false
+-- and each block where none may be purged
+pub stays-all : (h : ℕ) (bs : List Block) → has_purgeable h bs ≡ false
     → count (is_relocatable h) bs ≤ total (stays h) bs
 stays-all h [] e = omega arith
 stays-all h (b ∷ bs) e = cases (is_relocatable h b) (is_purgeable b) e (λ e. stays-all h bs e)
   where
-    cases : (t u : Bool) → ((t && u) || may_be_emptied h bs) ≡ false
-        → (may_be_emptied h bs ≡ false → count (is_relocatable h) bs ≤ total (stays h) bs)
+    cases : (t u : Bool) → ((t && u) || has_purgeable h bs) ≡ false
+        → (has_purgeable h bs ≡ false → count (is_relocatable h) bs ≤ total (stays h) bs)
         → cond {A = ℕ} t 1 0 + count (is_relocatable h) bs ≤ cond {A = ℕ} (t && not u) 1 0 + total (stays h) bs
     cases true true e rest = let f : true ≡ false = e in cc
     cases true false e rest = let r = rest e in omega arith
@@ -505,7 +505,7 @@ stays-pointer h p (Fixed id content) e = refl
 stays-pointer h p Masters e = refl
 stays-pointer h p (Relocatable id flags content) e = let f : false ≡ true = e in cc
 
--- flags by which a block may not be emptied
+-- flags by which a block may not be purged
 stays-rises : (h : ℕ) (change : Flags → Flags) → ((f : Flags) → (not (change f).locked && (change f).purgeable) ≡ false)
     → Rises (stays h) change
 stays-rises h change kept (Free n) = omega arith
@@ -532,13 +532,13 @@ pub still-there : (h : ℕ) (zone z : List Block) (R : Type 0) → has (is_reloc
 still-there h zone z R before after le = absurd (let b = has-count (is_relocatable h) zone before in
     let a = count-none (is_relocatable h) z after in omega arith)
 
--- a call that spares blocks that may not be emptied
+-- a call that spares blocks that may not be purged
 spared-stays : (h : ℕ) (a : Asked) (m : Memory) → OneBlockEach m.heap.zone → Spares (stays h) a
     → has (is_relocatable h) m.heap.zone ≡ true → has (is_relocatable h) (answered a m).1.heap.zone ≡ false
-    → may_be_emptied h m.heap.zone ≡ true
-spared-stays h a m once spares before after = cases (may_be_emptied h m.heap.zone) refl
+    → has_purgeable h m.heap.zone ≡ true
+spared-stays h a m once spares before after = cases (has_purgeable h m.heap.zone) refl
   where
-    cases : (t : Bool) → may_be_emptied h m.heap.zone ≡ t → t ≡ true
+    cases : (t : Bool) → has_purgeable h m.heap.zone ≡ t → t ≡ true
     cases true e = refl
     cases false e =
         let s = of-answered (stays h) (λ n. refl) (stays-goes h) (stays-sized h) (stays-filled h) a m once spares in
@@ -548,9 +548,9 @@ spared-stays h a m once spares before after = cases (may_be_emptied h m.heap.zon
 
 -- a call that changes flags alone
 flagged-stays : (h : ℕ) (change : Flags → Flags) (handle : Option ℕ) (s : State) → has (is_relocatable h) s.zone ≡ true
-    → has (is_relocatable h) (change_flags change handle s).1.zone ≡ false → may_be_emptied h s.zone ≡ true
+    → has (is_relocatable h) (change_flags change handle s).1.zone ≡ false → has_purgeable h s.zone ≡ true
 flagged-stays h change handle s before after =
-    still-there h s.zone (change_flags change handle s).1.zone (may_be_emptied h s.zone ≡ true) before after
+    still-there h s.zone (change_flags change handle s).1.zone (has_purgeable h s.zone ≡ true) before after
     (flags-rise (is_of h) change (is_of-rises h change) handle s)
 
 unlocked-none : (f : Flags) → (not true && f.purgeable) ≡ false
@@ -563,8 +563,8 @@ unpurgeable-none f = cases f.locked
     cases true = refl
     cases false = refl
 
--- no call empties a block that may not be emptied, unless it lets it go
-pub only-purgeable-go : (a : Asked) (m : Memory) → OneBlockEach m.heap.zone → OnlyPurgeableGo a m
+-- no call empties a block that may not be purged, unless it lets it go
+pub only-purgeable-go : (a : Asked) (m : Memory) → OneBlockEach m.heap.zone → PurgesOnlyPurgeable a m
 only-purgeable-go (asked.DisposeHandle None) m once h keeps = spared-stays h (asked.DisposeHandle None) m once tt
 only-purgeable-go (asked.DisposeHandle (Some k)) m once h keeps =
     spared-stays h (asked.DisposeHandle (Some k)) m once (stays-other h k keeps)

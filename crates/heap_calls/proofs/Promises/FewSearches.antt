@@ -8,7 +8,8 @@ use Rattle.mac_words.specs.declared.code.OsErr.{OsErr}
 use Rattle.block_store.specs.Block.{Block, Free, Fixed, Masters, Relocatable, size, count, fresh, is_mover, is_masters}
 use Rattle.block_store.specs.Block.{is_relocatable, is_fixed, no_flags, content_of}
 use Rattle.block_store.specs.Run.{Stretch, Segments, in_run, has_free, segments, runs}
-use Rattle.block_store.specs.Room.{Spot, spot, put_at_base, put_in_place, purge, emptied, may_go, count_of, least, room}
+use Rattle.block_store.specs.Room.{Spot, spot, put_at_base, put_in_place, purge, lowest_purged, may_be_purged, count_of}
+use Rattle.block_store.specs.Room.{least, room}
 use Rattle.block_store.specs.Grow.{growth, grow_up, grow_mover, freed}
 use Rattle.block_store.specs.Compact.{beyond, has_room, runs_settled}
 use Rattle.block_store.specs.Rest.{counted}
@@ -33,7 +34,7 @@ use Rattle.block_store.proofs.Plain.Counters.{counted-none}
 use Rattle.heap_calls.specs.Counts.{row_searches}
 use Rattle.block_store.proofs.Zone.Keeping.{tidied, freed-is, unless-le, based-le}
 
--- A call looks for room no more often than once for each block and once more.
+-- A call searches for room no more often than once for each block and once more.
 
 -- a trial ends at the last number at the latest
 tries-le : {A : Type 0} (answer : ℕ → Option A) (n : ℕ) → tries answer n ≤ n + 1
@@ -75,7 +76,8 @@ goes-stays sp [] = omega arith
 goes-stays sp (Free n ∷ bs) = let r = goes-stays sp bs in omega arith
 goes-stays sp (Fixed id content ∷ bs) = let r = goes-stays sp bs in omega arith
 goes-stays sp (Masters ∷ bs) = let r = goes-stays sp bs in omega arith
-goes-stays sp (Relocatable id flags content ∷ bs) = cases (may_go sp (Relocatable id flags content)) (goes-stays sp bs)
+goes-stays sp (Relocatable id flags content ∷ bs) = cases (may_be_purged sp (Relocatable id flags content))
+    (goes-stays sp bs)
   where
     cases : (t : Bool) → count_of sp bs + count is_masters bs ≤ length bs
         → (cond {A = ℕ} t 1 0 + count_of sp bs) + (0 + count is_masters bs) ≤ length (Relocatable id flags content ∷ bs)
@@ -85,7 +87,7 @@ goes-stays sp (Relocatable id flags content ∷ bs) = cases (may_go sp (Relocata
 goes-le : (sp : Block → Bool) (zone : List Block) → 0 < count is_masters zone → count_of sp zone + 1 ≤ length zone
 goes-le sp zone masters = let g = goes-stays sp zone in omega arith
 
--- looks for what is tried
+-- searches for what is tried
 pub room-few : (try : List Block → Option (List Block)) (sp : Block → Bool) (zone : List Block)
     → room_searches try sp zone ≤ count_of sp zone + 1
 room-few try sp zone = tries-le (λ k. try (purge k sp zone)) (count_of sp zone)
@@ -94,26 +96,27 @@ pub room-blocks : (try : List Block → Option (List Block)) (sp : Block → Boo
     → 0 < count is_masters zone → room_searches try sp zone ≤ length zone
 room-blocks try sp zone masters = let r = room-few try sp zone in let g = goes-le sp zone masters in omega arith
 
--- blocks that were emptied can't be emptied once more
-goes-emptied : (k : ℕ) (sp : Block → Bool) (bs : List Block) → k ≤ count_of sp bs
-    → count_of sp (emptied k sp bs) + k ≡ count_of sp bs
-goes-emptied zero sp bs le = omega arith
-goes-emptied (suc k) sp [] le = absurd (let f : suc k ≤ 0 = le in omega arith)
-goes-emptied (suc k) sp (b ∷ bs) le = cases (may_go sp b) refl le (goes-emptied k sp bs) (goes-emptied (suc k) sp bs)
+-- blocks that were emptied can't be purged once more
+goes-lowest_purged : (k : ℕ) (sp : Block → Bool) (bs : List Block) → k ≤ count_of sp bs
+    → count_of sp (lowest_purged k sp bs) + k ≡ count_of sp bs
+goes-lowest_purged zero sp bs le = omega arith
+goes-lowest_purged (suc k) sp [] le = absurd (let f : suc k ≤ 0 = le in omega arith)
+goes-lowest_purged (suc k) sp (b ∷ bs) le = cases (may_be_purged sp b) refl le (goes-lowest_purged k sp bs)
+    (goes-lowest_purged (suc k) sp bs)
   where
-    cases : (t : Bool) → may_go sp b ≡ t → suc k ≤ cond {A = ℕ} t 1 0 + count_of sp bs
-        → (k ≤ count_of sp bs → count_of sp (emptied k sp bs) + k ≡ count_of sp bs)
-        → (suc k ≤ count_of sp bs → count_of sp (emptied (suc k) sp bs) + suc k ≡ count_of sp bs)
-        → count_of sp (cond t (Free (size b) ∷ emptied k sp bs) (b ∷ emptied (suc k) sp bs)) + suc k
+    cases : (t : Bool) → may_be_purged sp b ≡ t → suc k ≤ cond {A = ℕ} t 1 0 + count_of sp bs
+        → (k ≤ count_of sp bs → count_of sp (lowest_purged k sp bs) + k ≡ count_of sp bs)
+        → (suc k ≤ count_of sp bs → count_of sp (lowest_purged (suc k) sp bs) + suc k ≡ count_of sp bs)
+        → count_of sp (cond t (Free (size b) ∷ lowest_purged k sp bs) (b ∷ lowest_purged (suc k) sp bs)) + suc k
         ≡ cond {A = ℕ} t 1 0 + count_of sp bs
     cases true e le less same = let r = less (omega arith) in omega arith
     cases false e le less same = let r = same (omega arith) in
-        let z : cond {A = ℕ} (may_go sp b) 1 0 ≡ 0 = ap {B = ℕ} (λ (t : Bool). cond t 1 0) e in omega arith
+        let z : cond {A = ℕ} (may_be_purged sp b) 1 0 ≡ 0 = ap {B = ℕ} (λ (t : Bool). cond t 1 0) e in omega arith
 
 goes-purged : (k : ℕ) (sp : Block → Bool) (zone : List Block) → k ≤ count_of sp zone
     → count_of sp (purge k sp zone) + k ≡ count_of sp zone
-goes-purged k sp zone le = let e = goes-emptied k sp zone le in
-    omega (arith, tidied (λ (b : Block). cond {A = ℕ} (may_go sp b) 1 0) (λ n. refl) (emptied k sp zone))
+goes-purged k sp zone le = let e = goes-lowest_purged k sp zone le in
+    omega (arith, tidied (λ (b : Block). cond {A = ℕ} (may_be_purged sp b) 1 0) (λ n. refl) (lowest_purged k sp zone))
 
 -- a slot and then a block: what was emptied for the slot isn't there for the block
 slot-few : (sp : Block → Bool) (s : State) (count : State → ℕ) → ((r : State) → count r ≤ count_of sp r.zone + 1)
@@ -128,7 +131,7 @@ slot-few sp s count few = by_slots (nat_lt (used_slots s) (all_slots s))
         let r = tries-least (λ k. put_at_base Masters (purge k sp s.zone)) (count_of sp s.zone) zone e in
         let tried = r.3 in
         let left = goes-purged r.0 sp s.zone r.1 in
-        let based = based-le (λ (b : Block). cond {A = ℕ} (may_go sp b) 1 0) (λ n. refl) Masters (has_free 272)
+        let based = based-le (λ (b : Block). cond {A = ℕ} (may_be_purged sp b) 1 0) (λ n. refl) Masters (has_free 272)
         (purge r.0 sp s.zone) zone r.2 in
         let c = few (record s { zone = zone }) in
         omega arith
@@ -161,7 +164,7 @@ in_place-few sp new test zone s found = cases (is_some (grow_up new s))
     cases true = omega arith
     cases false =
         let r = room-few (λ run. if has_free (growth new s) run then Some run else None) sp (segments s.above).first in
-        let c = count-length (may_go sp) (segments s.above).first in
+        let c = count-length (may_be_purged sp) (segments s.above).first in
         let f = first-length s.above in
         let whole : length zone ≡ length (s.below ++ s.here ∷ s.above) = ap length (spot-is test zone s found) in
         omega (arith, length-append s.below (s.here ∷ s.above))
@@ -186,13 +189,13 @@ size-few test sp n zone masters = cases (is_some (phys n))
     cases true = growth-few test sp (resized_at n (spot test zone)) zone masters (spot test zone) refl
     cases false = omega arith
 
--- looks on what was found
+-- searches on what was found
 found-few : {A : Type 0} (r : Result A OsErr) (count : A → ℕ) (most : ℕ) → ((k : A) → count k ≤ most)
     → found_searches r count ≤ most
 found-few (Err code) count most few = omega arith
 found-few (Ok k) count most few = few k
 
--- looks that are made only in one case
+-- searches that are made only in one case
 pub only-if : (t : Bool) (n most : ℕ) → n ≤ most → cond t n 0 ≤ most
 only-if true n most le = le
 only-if false n most le = omega arith
@@ -224,11 +227,11 @@ compact-few n s =
     let most = count-length in_run s.zone in
     omega arith
 
--- a call that doesn't look
-pub unlooked : (zone : List Block) (n : ℕ) → n < 2 ^ 64 → (k : ℕ) × (k ≤ length zone + 1) × (n ≡ counted n k)
-unlooked zone n fits = (0, omega arith, sym (counted-none n))
+-- a call that doesn't search
+pub unsearched : (zone : List Block) (n : ℕ) → n < 2 ^ 64 → (k : ℕ) × (k ≤ length zone + 1) × (n ≡ counted n k)
+unsearched zone n fits = (0, omega arith, sym (counted-none n))
 
--- the row of a call looks at most once more than there are blocks, where one is a Masters block
+-- the row of a call searches at most once more than there are blocks, where one is a Masters block
 pub row_few : (a : Asked) (m : Memory) → 0 < count is_masters m.heap.zone → row_searches a m.heap ≤ length m.heap.zone + 1
 row_few (asked.NewHandle n) m masters =
     let s = m.heap in
@@ -261,12 +264,12 @@ row_few (asked.ReallocateHandle handle n) m masters = few
         if is_some (phys n) then room_searches (put_in_place (Relocatable j no_flags (replicate n 0))) nothing
         (freed (is_relocatable j) zone) else 0
 
-    looks-few : (j : ℕ) → looks j ≤ length zone + 1
-    looks-few j =
+    searches-few : (j : ℕ) → looks j ≤ length zone + 1
+    searches-few j =
         only-if (is_some (phys n))
         (room_searches (put_in_place (Relocatable j no_flags (replicate n 0))) nothing (freed (is_relocatable j) zone))
         (length zone + 1)
-        (let goes : Block → ℕ = λ b. cond {A = ℕ} (may_go nothing b) 1 0 in
+        (let goes : Block → ℕ = λ b. cond {A = ℕ} (may_be_purged nothing b) 1 0 in
         let r = room-few (put_in_place (Relocatable j no_flags (replicate n 0))) nothing
         (freed (is_relocatable j) zone) in
         let u = unless-le (is_relocatable j) goes zone in
@@ -278,7 +281,7 @@ row_few (asked.ReallocateHandle handle n) m masters = few
         found-few (handle_at handle m.heap)
         (λ k. if is_loose (spot (is_relocatable k.number) zone) then looks k.number else 0) (length zone + 1)
         (λ k. only-if (is_loose (spot (is_relocatable k.number) zone)) (looks k.number) (length zone + 1)
-        (looks-few k.number))
+        (searches-few k.number))
 row_few (asked.HandToHand handle) m masters =
     let s = m.heap in
     let few =
@@ -339,17 +342,17 @@ row_few (asked.PurgeMem n) m masters =
     let l = least_or_last-le (λ k. has_room (phys n) (purge k nothing zone)) (purgeable zone) in
     let g = goes-le nothing zone masters in
     omega arith
-row_few (asked.ReserveMem n) m masters = looks-few (phys n)
+row_few (asked.ReserveMem n) m masters = searches-few (phys n)
   where
-    looks-few : (o : Option ℕ) → reserve_searches o m.heap ≤ length m.heap.zone + 1
-    looks-few None = omega arith
-    looks-few (Some p) = let r = room-blocks (reserved p) nothing m.heap.zone masters in omega arith
+    searches-few : (o : Option ℕ) → reserve_searches o m.heap ≤ length m.heap.zone + 1
+    searches-few None = omega arith
+    searches-few (Some p) = let r = room-blocks (reserved p) nothing m.heap.zone masters in omega arith
 row_few asked.MoreMasters m masters =
     let few = room-blocks (put_at_base Masters) nothing m.heap.zone masters in
     omega arith
 row_few a m masters = omega arith
 
--- and counts its looks
+-- and counts its searches
 pub row_searched : (a : Asked) (m : Memory) → (answered a m).1.log.searches
     ≡ counted m.log.searches (row_searches a m.heap)
 row_searched (asked.NewHandle n) m = refl
@@ -367,17 +370,17 @@ row_searched (asked.ReserveMem n) m = refl
 row_searched asked.MoreMasters m = refl
 row_searched a m = sym (counted-none m.log.searches)
 
--- the row of a call looks so often
-abbrev pub RowLooksFew : Asked → Memory → Type 0
-RowLooksFew a m =
+-- the row of a call searches so often
+abbrev pub RowSearchesFew : Asked → Memory → Type 0
+RowSearchesFew a m =
     0 < count is_masters m.heap.zone → m.log.searches < 2 ^ 64
     → (n : ℕ) × (n ≤ length m.heap.zone + 1) × ((answered a m).1.log.searches ≡ counted m.log.searches n)
 
--- no call looks more often
-pub looks_few : (a : Asked) (m : Memory) → RowLooksFew a m
-looks_few a m masters fits = (row_searches a m.heap, row_few a m masters, row_searched a m)
+-- no call searches more often
+pub searches_few : (a : Asked) (m : Memory) → RowSearchesFew a m
+searches_few a m masters fits = (row_searches a m.heap, row_few a m masters, row_searched a m)
 
--- a compaction that never serves looks once for each run with a block, and once more
+-- a compaction that never serves searches once for each run with a block, and once more
 abbrev searches_in : List Block → ℕ
 searches_in zone = compact_mem_searches 2147483647 (record { zone = zone; names = [] })
 

@@ -42,7 +42,7 @@ no-place : (p : ℕ) (zone : List Block) → place p zone ≡ None → is_some (
 no-place p zone none some = let f : false ≡ true = sym (ap is_some none) ∙ some in cc
 
 -- with an unused slot, -108 comes only for a size that no block can have, or where no run has so many Free bytes once
--- all is emptied that may be
+-- all is purged that may be
 pub full_only : (n p : ℕ) (s after : State) → new_handle n s ≡ (Err MEM_FULL, after)
     → nat_lt (used_slots s) (all_slots s) ≡ true → phys n ≡ Some p → largest_run (purged_all s.zone) < p
 full_only n p s after full free fits = cases (nat_le p (largest_run (purged_all s.zone))) refl

@@ -19,7 +19,7 @@ use Rattle.block_store.specs.Grow.{freed, grow}
 use Rattle.heap_calls.specs.State.{State, Meaning, Role, used_slots, all_slots}
 use Rattle.heap_calls.specs.State as names
 use Rattle.heap_calls.specs.Answer.{Answer, Held, nothing, given, refused, rebuilt, flagged, change_flags, hoisted}
-use Rattle.heap_calls.specs.Answer.{move_hhi, look_up, for_found, written_at}
+use Rattle.heap_calls.specs.Answer.{move_h_hi, look_up, for_found, written_at}
 use Rattle.heap_calls.specs.Answer as calls
 use Rattle.heap_calls.specs.Slots.{slotted, more_masters, new_block}
 use Rattle.heap_calls.specs.Purging.{reallocated}
@@ -213,7 +213,7 @@ known-grown_pointer s bytes known p n at zone is grew =
     (ap (resized n) here.0)
     (λ of none. grown-le of none (is_fixed p) (λ n. refl) nothing n s.zone zone at is (known.single p) grew)
 
--- an emptied handle leaves the others
+-- an empty handle leaves the others
 pub known-emptied : (s : State) (bytes : ℕ → List ℕ) → Known s bytes → (h : ℕ)
     → Known (record s { zone = tidy (freed (is_relocatable h) s.zone) }) bytes
 known-emptied s bytes known h =
@@ -278,7 +278,7 @@ hoisted-all of none h zone =
     cases (Some z) more = let l = more z refl in omega (arith, tidied of none z)
 
 pub known-hoisted : (handle : Option ℕ) (s : State) (bytes : ℕ → List ℕ) → Known s bytes
-    → Known (move_hhi handle s).1 bytes
+    → Known (move_h_hi handle s).1 bytes
 known-hoisted handle s bytes known = by_spot (look_up handle s)
   where
     by_mover : (h : ℕ) (t : Bool) → Known (cond t (let done : Answer (Unit {0}) =

@@ -15,7 +15,7 @@ use Rattle.block_store.specs.Grow.{freed, grow}
 use Rattle.block_store.specs.Compact.{compacted, runs_settled, settled}
 use Rattle.heap_calls.specs.State.{State, Memory, Meaning, Role, Plain, Resource, SystemResource}
 use Rattle.heap_calls.specs.State as names
-use Rattle.heap_calls.specs.Answer.{Answer, Held, nothing, given, refused, disposed_of, rebuilt, move_hhi, look_up}
+use Rattle.heap_calls.specs.Answer.{Answer, Held, nothing, given, refused, disposed_of, rebuilt, move_h_hi, look_up}
 use Rattle.heap_calls.specs.Answer.{handle_at, for_found, written_at, on_block}
 use Rattle.heap_calls.specs.Answer as calls
 use Rattle.heap_calls.specs.Slots.{slotted, if_ready, new_block, more_masters}
@@ -256,12 +256,12 @@ step-known (asked.HGetState handle) m bytes known =
 step-known (asked.HSetState handle byte) m bytes known = known-flags
     (λ f. record { locked = byte / 128 % 2 == 1; purgeable = byte / 64 % 2 == 1 }) handle m.heap bytes known
 step-known (asked.MoveHHi handle) m bytes known = known-hoisted handle m.heap bytes known
-step-known (asked.HLockHi handle) m bytes known = cases (move_hhi handle m.heap).0
+step-known (asked.HLockHi handle) m bytes known = cases (move_h_hi handle m.heap).0
   where
     cases : (r : Result (Unit {0}) OsErr) → Known (for_found r m.heap
-        (λ (u : Unit {0}). calls.h_lock handle (move_hhi handle m.heap).1)).1 bytes
+        (λ (u : Unit {0}). calls.h_lock handle (move_h_hi handle m.heap).1)).1 bytes
     cases (Err code) = known
-    cases (Ok u) = known-flags (λ f. record f { locked = true }) handle (move_hhi handle m.heap).1 bytes
+    cases (Ok u) = known-flags (λ f. record f { locked = true }) handle (move_h_hi handle m.heap).1 bytes
         (known-hoisted handle m.heap bytes known)
 step-known (asked.HandToHand None) m bytes known = known
 step-known (asked.HandToHand (Some h)) m bytes known = by_spot (look_up (Some h) m.heap) (look_up-spot h m.heap)

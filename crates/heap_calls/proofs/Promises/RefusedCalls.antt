@@ -242,7 +242,7 @@ flags-refused change handle s code e = by_held (look_up handle s) e
     by_held (Err why) e = cc
     by_held (Ok held) e = cc
 
-moved-leaves : (handle : Option ℕ) (s : State) → Leaves s.zone s (calls.move_hhi handle s)
+moved-leaves : (handle : Option ℕ) (s : State) → Leaves s.zone s (calls.move_h_hi handle s)
 moved-leaves handle s =
     found-leaves (look_up handle s) s (λ held. moved held (is_mover held.at.here))
     (λ held. by_mover held (is_mover held.at.here))
@@ -255,7 +255,7 @@ moved-leaves handle s =
     by_mover held false = refused-leaves LOCKED s
 
 -- HLockHi isn't refused once the block was moved
-locked_high-leaves : (handle : Option ℕ) (s : State) → Leaves s.zone s (calls.hlock_hi handle s)
+locked_high-leaves : (handle : Option ℕ) (s : State) → Leaves s.zone s (calls.h_lock_hi handle s)
 locked_high-leaves None s = refused-leaves NIL_HANDLE s
 locked_high-leaves (Some k) s = by_held (look_up (Some k) s) (λ held is. is)
   where
@@ -371,10 +371,10 @@ refused_leaves (asked.HSetState handle byte) m =
     (flags-leave (λ f. record { locked = byte / 128 % 2 == 1; purgeable = byte / 64 % 2 == 1 }) handle m.heap)
     refl refl refl
 refused_leaves (asked.MoveHHi handle) m =
-    noted (λ _. Done) done-tells (calls.move_hhi handle m.heap) m (answered (asked.MoveHHi handle) m).1 m.heap.zone
+    noted (λ _. Done) done-tells (calls.move_h_hi handle m.heap) m (answered (asked.MoveHHi handle) m).1 m.heap.zone
     (moved-leaves handle m.heap) refl refl refl
 refused_leaves (asked.HLockHi handle) m =
-    noted (λ _. Done) done-tells (calls.hlock_hi handle m.heap) m (answered (asked.HLockHi handle) m).1 m.heap.zone
+    noted (λ _. Done) done-tells (calls.h_lock_hi handle m.heap) m (answered (asked.HLockHi handle) m).1 m.heap.zone
     (locked_high-leaves handle m.heap) refl refl refl
 refused_leaves (asked.HandToHand handle) m =
     noted Given given-tells (hand_to_hand handle m.heap) m (answered (asked.HandToHand handle) m).1

@@ -11,15 +11,15 @@ use Rattle.block_store.specs.Run.{RunSpot, run_spot, run_at, has, has_free, sett
 use Rattle.block_store.specs.Room.{Spot, spot, place, purge, filled}
 use Rattle.block_store.specs.Grow.{growth, grow_up, grow_mover, move_away, grow_last, freed}
 use Rattle.block_store.specs.Sparing.{spared, opened, purged}
-use Rattle.block_store.specs.Rest.{Rest, IsRest, counted, with_moves, falling}
+use Rattle.block_store.specs.Rest.{Rest, IsRest, counted, with_moves, lowered_in_run}
 use Rattle.block_store.specs.declared.sparing.Sparing.{Sparing}
 use Rattle.heap_calls.specs.declared.growing.Growth.TheVariants as grows
 use Rattle.heap_calls.specs.declared.log.Log.{Log}
 use Rattle.heap_calls.specs.declared.anchor.Anchor.{Anchor}
 use Rattle.heap_calls.specs.declared.refusal.Refusal.{Refusal}
 use Rattle.heap_calls.specs.declared.refusal.Refusal.TheVariants.{Code, HostMemory}
-use Rattle.heap_calls.specs.declared.search.Seat.{Seat}
-use Rattle.heap_calls.specs.declared.search.Seat.TheVariants as see
+use Rattle.heap_calls.specs.declared.search.Placement.{Placement}
+use Rattle.heap_calls.specs.declared.search.Placement.TheVariants as see
 use Rattle.heap_calls.specs.State.{State, Memory}
 use Rattle.heap_calls.specs.Answer.{look_up, moving}
 use Rattle.heap_calls.specs.Inner.Given.{IsAnswer}
@@ -27,15 +27,15 @@ use Rattle.heap_calls.specs.Inner.Growing.{FindsGrowth, Stays, grown, growing_se
 use Rattle.heap_calls.specs.Moves.{run_moves, as_it_is, place_moves, mover_moves, grow_moves, room_moves, growth_moves}
 use Rattle.heap_calls.specs.Moves.{size_moves}
 use Rattle.heap_calls.specs.Inner.Numbered.{memory_of, state_of}
-use Rattle.heap_calls.specs.Inner.Packed.{Packs, seat_moves, content_moves}
+use Rattle.heap_calls.specs.Inner.Packed.{Packs, placement_moves, content_moves}
 use Rattle.heap_calls.specs.Inner.Reaching.{Reaches}
-use Rattle.heap_calls.specs.Inner.Search.{FindsSeat, seat_searches}
+use Rattle.heap_calls.specs.Inner.Search.{FindsPlacement, placement_searches}
 use Rattle.heap_calls.specs.Searches.{room_searches, resized_at}
 use Rattle.heap_calls.proofs.Sizes.Carrying.{IsLast, high-at}
 use Rattle.heap_calls.proofs.Numbering.Changing.{unmoved}
 use Rattle.heap_calls.proofs.Sizes.Growth.{opened-stays}
 use Rattle.block_store.proofs.Plain.Counters.{counted-none}
-use Rattle.heap_calls.proofs.Room.Searching.{room-found, seat-some}
+use Rattle.heap_calls.proofs.Room.Searching.{room-found, placement-some}
 
 -- How many blocks packing moves down.
 
@@ -51,16 +51,16 @@ pub packs-after : (a b c : Rest) (n : ℕ) → b.moves ≡ a.moves → Packs n b
 packs-after a b c n before packed = packed ∙ ap (λ k. counted k n) before
 
 -- a search purges one time less than it looks
-pub looks-back : (k n : ℕ) → k + 1 ≡ n → n - 1 ≡ k
-looks-back k n e = omega (arith, e)
+pub searches-back : (k n : ℕ) → k + 1 ≡ n → n - 1 ≡ k
+searches-back k n e = omega (arith, e)
 
 -- A place.
 
-pub at-free : (p at : ℕ) (zone : List Block) → FindsSeat p zone (Some (see.Free at)) → place_moves p zone ≡ 0
+pub at-free : (p at : ℕ) (zone : List Block) → FindsPlacement p zone (Some (see.Free at)) → place_moves p zone ≡ 0
 at-free p at zone found = rw found.1 refl
 
-pub at-packed : (p run : ℕ) (zone : List Block) (found : FindsSeat p zone (Some (see.Run run)))
-    → place_moves p zone ≡ falling found.1.0.run
+pub at-packed : (p run : ℕ) (zone : List Block) (found : FindsPlacement p zone (Some (see.Run run)))
+    → place_moves p zone ≡ lowered_in_run found.1.0.run
 at-packed p run zone found = rw (found.0, found.1.1) refl
 
 pub no-place : (p : ℕ) (zone : List Block) → 0 < p → place p zone ≡ None → place_moves p zone ≡ 0
@@ -73,15 +73,16 @@ no-place p zone pos none = cases (spot (is_room p) zone) (run_spot (has_free p) 
     cases None None is e = refl
     cases None (Some r) is e = absurd (room-found p pos zone r is (tidy (with_run settle r)) refl e)
 
--- after as many purges as there are looks before the last
-pub seat-at : (p k : ℕ) (n : Sparing) (zone : List Block) → k + 1 ≡ seat_searches p n zone
-    → seat_moves p n zone ≡ place_moves p (purged k n zone)
-seat-at p k n zone looks = ap (λ j. place_moves p (purged j n zone)) (looks-back k (seat_searches p n zone) looks)
+-- after as many purges as there are searches before the last
+pub placement-at : (p k : ℕ) (n : Sparing) (zone : List Block) → k + 1 ≡ placement_searches p n zone
+    → placement_moves p n zone ≡ place_moves p (purged k n zone)
+placement-at p k n zone looks = ap (λ j. place_moves p (purged j n zone))
+    (searches-back k (placement_searches p n zone) looks)
 
 pub content-at : (n bytes : ℕ) → is_some (phys n) ≡ true → bytes ≡ padded n → (nd : Sparing) (zone : List Block)
-    → seat_moves bytes nd zone ≡ content_moves nd n zone
-content-at n bytes fits is nd zone = ap (λ p. seat_moves p nd zone) is
-    ∙ sym (cond-true {A = ℕ} (is_some (phys n)) (seat_moves (padded n) nd zone) 0 fits)
+    → placement_moves bytes nd zone ≡ content_moves nd n zone
+content-at n bytes fits is nd zone = ap (λ p. placement_moves p nd zone) is
+    ∙ sym (cond-true {A = ℕ} (is_some (phys n)) (placement_moves (padded n) nd zone) 0 fits)
 
 -- Growth.
 
@@ -89,11 +90,12 @@ pub up-moves : (test : Block → Bool) (new : Block) (zone : List Block) → Fin
     → grow_moves test new zone ≡ 0
 up-moves test new zone found = rw (found.1, found.2) refl
 
-pub away-moves : (test : Block → Bool) (new : Block) (zone : List Block) (p : ℕ) (seat : Seat) → size new ≡ p → 0 < p
-    → FindsGrowth test new zone (Some (grows.Away seat)) → grow_moves test new zone ≡ place_moves p zone
-away-moves test new zone p seat takes pos found =
-    let there : is_some (place (size new) zone) ≡ true = seat-some (size new) zone (omega (arith, takes, pos))
-    (Some seat) found.3 refl in
+pub away-moves : (test : Block → Bool) (new : Block) (zone : List Block) (p : ℕ) (placement : Placement) → size new ≡ p
+    → 0 < p
+    → FindsGrowth test new zone (Some (grows.Away placement)) → grow_moves test new zone ≡ place_moves p zone
+away-moves test new zone p placement takes pos found =
+    let there : is_some (place (size new) zone) ≡ true = placement-some (size new) zone (omega (arith, takes, pos))
+    (Some placement) found.3 refl in
     rw (found.1, found.2, there) (ap (λ k. place_moves k zone) takes)
 
 pub no-growth : (test : Block → Bool) (new : Block) (zone : List Block) → grow_mover test new zone ≡ None
@@ -130,21 +132,21 @@ no-growth test new zone none = cases (spot test zone) none
 pub last-moves : (number n : ℕ) (zone zone1 : List Block) (run : ℕ) (k : IsLast number n zone run) → tidy zone ≡ zone
     → count (is_relocatable number) zone ≤ 1
     → IfSome (run_at run zone) (λ r. zone1 ≡ tidy (with_run (high (is_relocatable number)) r)) → (a b c d : Rest)
-    → IsRest a b → IfSome (run_at run zone1) (λ r. IsRest (with_moves (falling r.run) b) c) → IsRest c d
+    → IsRest a b → IfSome (run_at run zone1) (λ r. IsRest (with_moves (lowered_in_run r.run) b) c) → IsRest c d
     → Packs (grow_moves (is_relocatable number) (grown n (spot (is_relocatable number) zone)) zone) a d
 last-moves number n zone zone1 run k tidied once hoisted a b c d before packed after =
-    let P : Option RunSpot → Type 0 = λ o. IfSome o (λ r. IsRest (with_moves (falling r.run) b) c) in
-    let at : IsRest (with_moves (falling (high (is_relocatable number) k.r.run)) b) c =
+    let P : Option RunSpot → Type 0 = λ o. IfSome o (λ r. IsRest (with_moves (lowered_in_run r.run) b) c) in
+    let at : IsRest (with_moves (lowered_in_run (high (is_relocatable number) k.r.run)) b) c =
     subst P (high-at number zone run k.r k.s tidied once k.at k.passes k.found zone1 hoisted) packed in
     let many : grow_moves (is_relocatable number) (grown n (spot (is_relocatable number) zone)) zone
-    ≡ falling (high (is_relocatable number) k.r.run) = rw (k.found, k.not_up, k.nowhere, k.lowest) refl in
-    after.moves ∙ packs-run a b c (falling (high (is_relocatable number) k.r.run))
+    ≡ lowered_in_run (high (is_relocatable number) k.r.run) = rw (k.found, k.not_up, k.nowhere, k.lowest) refl in
+    after.moves ∙ packs-run a b c (lowered_in_run (high (is_relocatable number) k.r.run))
     (grow_moves (is_relocatable number) (grown n (spot (is_relocatable number) zone)) zone) before.moves at many
 
--- what is tried, at as many purges as there are looks before the last
+-- what is tried, at as many purges as there are searches before the last
 pub room-at : (try : List Block → Option (List Block)) (m : List Block → ℕ) (sp : Block → Bool) (zone : List Block)
     (k : ℕ) → k + 1 ≡ room_searches try sp zone → room_moves try m sp zone ≡ m (purge k sp zone)
-room-at try m sp zone k looks = ap (λ j. m (purge j sp zone)) (looks-back k (room_searches try sp zone) looks)
+room-at try m sp zone k looks = ap (λ j. m (purge j sp zone)) (searches-back k (room_searches try sp zone) looks)
 
 -- the growth of a block that may move
 pub grown-moves : (nd : Sparing) (number n : ℕ) (zone : List Block) → Stays nd (is_relocatable number) → (k : ℕ)

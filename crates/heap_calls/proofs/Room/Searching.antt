@@ -6,7 +6,7 @@ use Rattle.mac_words.specs.Size.{padded}
 use Rattle.block_store.specs.Block.{Block, Free, Fixed, Masters, Relocatable, size, sizes, count, is_room, tidy}
 use Rattle.block_store.specs.Block.{is_relocatable}
 use Rattle.block_store.specs.Run.{has, has_free, settle, with_run, RunSpot, run_spot, run_at}
-use Rattle.block_store.specs.Room.{Spot, raised, spot, place, may_go, emptied, purge, count_of}
+use Rattle.block_store.specs.Room.{Spot, raised, spot, place, may_be_purged, lowest_purged, purge, count_of}
 use Rattle.block_store.specs.Grow.{freed}
 use Rattle.block_store.proofs.Zone.Tidy.{total-tidy}
 use Rattle.block_store.proofs.Zone.Totals.{total-le}
@@ -14,34 +14,38 @@ use Rattle.block_store.proofs.Zone.Listing.{size-freed}
 use Rattle.block_store.proofs.Regroup.RunSpots.{run_spot-passes}
 use Rattle.block_store.proofs.Regroup.HavingRoom.{room-settled}
 use Rattle.block_store.specs.Sparing.{spared, opened, purged, most_purges}
-use Rattle.heap_calls.specs.Inner.Search.{FindsSeat}
-use Rattle.heap_calls.specs.declared.search.Seat.{Seat}
-use Rattle.heap_calls.specs.declared.search.Seat.TheVariants as see
+use Rattle.heap_calls.specs.Inner.Search.{FindsPlacement}
+use Rattle.heap_calls.specs.declared.search.Placement.{Placement}
+use Rattle.heap_calls.specs.declared.search.Placement.TheVariants as see
 use Rattle.block_store.specs.declared.sparing.Sparing.{Sparing}
 use Rattle.block_store.specs.declared.sparing.Sparing.TheVariants as sparing
 
 -- how many may go after k went
-count-emptied : (k : ℕ) (t : Block → Bool) (bs : List Block) → count (may_go t) (emptied k t bs) ≡ count_of t bs - k
-count-emptied zero t bs = omega arith
-count-emptied (suc k) t [] = omega arith
-count-emptied (suc k) t (b ∷ bs) = cases (may_go t b) refl (count-emptied k t bs) (count-emptied (suc k) t bs)
+count-lowest_purged : (k : ℕ) (t : Block → Bool) (bs : List Block) → count (may_be_purged t) (lowest_purged k t bs)
+    ≡ count_of t bs - k
+count-lowest_purged zero t bs = omega arith
+count-lowest_purged (suc k) t [] = omega arith
+count-lowest_purged (suc k) t (b ∷ bs) = cases (may_be_purged t b) refl (count-lowest_purged k t bs)
+    (count-lowest_purged (suc k) t bs)
   where
-    cases : (m : Bool) → may_go t b ≡ m → count (may_go t) (emptied k t bs) ≡ count_of t bs - k
-        → count (may_go t) (emptied (suc k) t bs) ≡ count_of t bs - suc k
-        → count (may_go t) (cond m (Free (size b) ∷ emptied k t bs) (b ∷ emptied (suc k) t bs))
-        ≡ cond {A = ℕ} (may_go t b) 1 0 + count_of t bs - suc k
+    cases : (m : Bool) → may_be_purged t b ≡ m → count (may_be_purged t) (lowest_purged k t bs) ≡ count_of t bs - k
+        → count (may_be_purged t) (lowest_purged (suc k) t bs) ≡ count_of t bs - suc k
+        → count (may_be_purged t) (cond m (Free (size b) ∷ lowest_purged k t bs) (b ∷ lowest_purged (suc k) t bs))
+        ≡ cond {A = ℕ} (may_be_purged t b) 1 0 + count_of t bs - suc k
     cases true e one more =
-        let a : cond {A = ℕ} (may_go t b) 1 0 ≡ 1 = ap {B = ℕ} (λ (t : Bool). cond t 1 0) e in
-        let g : 0 + count (may_go t) (emptied k t bs) ≡ cond {A = ℕ} (may_go t b) 1 0 + count_of t bs - suc k =
+        let a : cond {A = ℕ} (may_be_purged t b) 1 0 ≡ 1 = ap {B = ℕ} (λ (t : Bool). cond t 1 0) e in
+        let g : 0 + count (may_be_purged t) (lowest_purged k t bs) ≡ cond {A = ℕ} (may_be_purged t b) 1 0 + count_of t
+        bs - suc k =
         omega (arith, one) in g
     cases false e one more =
-        let a : cond {A = ℕ} (may_go t b) 1 0 ≡ 0 = ap {B = ℕ} (λ (t : Bool). cond t 1 0) e in
-        let g : cond {A = ℕ} (may_go t b) 1 0 + count (may_go t) (emptied (suc k) t bs)
-        ≡ cond {A = ℕ} (may_go t b) 1 0 + count_of t bs - suc k = omega (arith, more) in g
+        let a : cond {A = ℕ} (may_be_purged t b) 1 0 ≡ 0 = ap {B = ℕ} (λ (t : Bool). cond t 1 0) e in
+        let g : cond {A = ℕ} (may_be_purged t b) 1 0 + count (may_be_purged t) (lowest_purged (suc k) t bs)
+        ≡ cond {A = ℕ} (may_be_purged t b) 1 0 + count_of t bs - suc k = omega (arith, more) in g
 
-pub count-purged : (k : ℕ) (t : Block → Bool) (bs : List Block) → count (may_go t) (purge k t bs) ≡ count_of t bs - k
-count-purged k t bs = total-tidy (λ (b : Block). cond (may_go t b) 1 0) (λ n m. refl) (emptied k t bs)
-    ∙ count-emptied k t bs
+pub count-purged : (k : ℕ) (t : Block → Bool) (bs : List Block) → count (may_be_purged t) (purge k t bs) ≡ count_of t bs
+    - k
+count-purged k t bs = total-tidy (λ (b : Block). cond (may_be_purged t b) 1 0) (λ n m. refl) (lowest_purged k t bs)
+    ∙ count-lowest_purged k t bs
 
 -- no block passes, or some do
 pub count-none : (t : Block → Bool) (bs : List Block) → spot t bs ≡ None → count t bs ≡ 0
@@ -71,13 +75,13 @@ count-some t (b ∷ bs) s e = cases (t b) refl (spot t bs) (count-some t bs) e
 
 -- each block that may go takes bytes
 pub count-le : (t : Block → Bool) (bs : List Block) → count_of t bs ≤ sizes bs
-count-le t bs = total-le (λ (b : Block). cond (may_go t b) 1 0) size one bs
+count-le t bs = total-le (λ (b : Block). cond (may_be_purged t b) 1 0) size one bs
   where
-    one : (b : Block) → cond (may_go t b) 1 0 ≤ size b
+    one : (b : Block) → cond (may_be_purged t b) 1 0 ≤ size b
     one (Free n) = omega arith
     one (Fixed id content) = omega arith
     one Masters = omega arith
-    one (Relocatable id flags content) = elim (may_go t (Relocatable id flags content)) as
+    one (Relocatable id flags content) = elim (may_be_purged t (Relocatable id flags content)) as
         (λ m. cond m 1 0 ≤ padded (length content)) [ true ↦ omega arith | false ↦ omega arith ]
 
 pub most-le : (n : Sparing) (bs : List Block) → most_purges n bs ≤ sizes bs
@@ -88,20 +92,20 @@ most-le (sparing.Freed a) bs = let e = size-freed (is_relocatable a) bs in
     omega (arith, count-le (spared (sparing.Freed a)) (freed (is_relocatable a) bs), e)
 
 -- there is one more to go, or there is none
-pub more-none : (n : Sparing) (k : ℕ) (zone : List Block) → spot (may_go (spared n)) (purged k n zone) ≡ None
+pub more-none : (n : Sparing) (k : ℕ) (zone : List Block) → spot (may_be_purged (spared n)) (purged k n zone) ≡ None
     → most_purges n zone ≤ k
 more-none n k zone e = omega (
   arith,
-  count-none (may_go (spared n)) (purged k n zone) e,
+  count-none (may_be_purged (spared n)) (purged k n zone) e,
   count-purged k (spared n)
       (opened n zone),
 )
 
 pub more-some : (n : Sparing) (k : ℕ) (zone : List Block) (s : Spot)
-    → spot (may_go (spared n)) (purged k n zone) ≡ Some s → k < most_purges n zone
+    → spot (may_be_purged (spared n)) (purged k n zone) ≡ Some s → k < most_purges n zone
 more-some n k zone s e = omega (
   arith,
-  count-some (may_go (spared n)) (purged k n zone) s e,
+  count-some (may_be_purged (spared n)) (purged k n zone) s e,
   count-purged k (spared n)
       (opened n zone),
 )
@@ -117,7 +121,7 @@ has-none t (b ∷ bs) e = cases (t b) (spot t bs) (has-none t bs) e
     cases false (Some s) more e = absurd (none-some _ (sym e))
     cases false None more e = more refl
 
--- where there is a seat, there is a place
+-- where there is a placement, there is a place
 pub room-found : (p : ℕ) → 0 < p → (zone : List Block) (r : RunSpot) → run_spot (has_free p) zone ≡ Some r
     → (after : List Block) → after ≡ tidy (with_run settle r) → spot (is_room p) after ≡ None → ⊥
 room-found p pos zone r e after is none =
@@ -126,11 +130,12 @@ room-found p pos zone r e after is none =
     let b : has (is_room p) after ≡ false = has-none (is_room p) after none in
     let f : true ≡ false = sym a ∙ b in cc
 
-pub seat-some : (p : ℕ) (zone : List Block) → 0 < p → (o : Option Seat) → FindsSeat p zone o → is_some o ≡ true
+pub placement-some : (p : ℕ) (zone : List Block) → 0 < p → (o : Option Placement) → FindsPlacement p zone o → is_some o
+    ≡ true
     → is_some (place p zone) ≡ true
-seat-some p zone pos None found is = let f : false ≡ true = is in cc
-seat-some p zone pos (Some (see.Free at)) found is = rw found.1 refl
-seat-some p zone pos (Some (see.Run run)) found is = rw (found.0, found.1.1)
+placement-some p zone pos None found is = let f : false ≡ true = is in cc
+placement-some p zone pos (Some (see.Free at)) found is = rw found.1 refl
+placement-some p zone pos (Some (see.Run run)) found is = rw (found.0, found.1.1)
     (cases (spot (is_room p) (tidy (with_run settle found.1.0))) refl)
   where
     cases : (o : Option Spot) → spot (is_room p) (tidy (with_run settle found.1.0)) ≡ o → is_some o ≡ true

@@ -3,9 +3,9 @@ use Rattle.std.proofs.Common.{refl, sym, ◌∙◌, ap, arith}
 use mir.Val.{bool_byte}
 use Rattle.std.specs.Option.{option_map, IfSome}
 use Rattle.block_store.specs.Block.{Block, sizes, tidy}
-use Rattle.block_store.specs.Compact.{compacted, falls, has_room, next_run, runs_settled, settled}
+use Rattle.block_store.specs.Compact.{compacted, lowered_in_runs, has_room, next_run, runs_settled, settled}
 use Rattle.block_store.specs.Inner.NthRun.{FindsRun}
-use Rattle.block_store.specs.Rest.{Rest, IsRest, KeepsSlots, counted, falling, with_moves}
+use Rattle.block_store.specs.Rest.{Rest, IsRest, KeepsSlots, counted, lowered_in_run, with_moves}
 use Rattle.block_store.specs.Room.{Spot, spot_at}
 use Rattle.block_store.specs.Run.{run_at, runs, settle, with_run}
 use Rattle.block_store.specs.Seen.{seen}
@@ -26,7 +26,7 @@ pub record SettledTo (k : ℕ) (bytes : Option ℕ) (start : List Block) (first 
     (n : ℕ) : Type 0 where
   pub within : k ≤ length (runs start)
   pub zone_is : zone ≡ settled k start
-  pub moves : rest.moves ≡ counted first.moves (falls k (runs start))
+  pub moves : rest.moves ≡ counted first.moves (lowered_in_runs k (runs start))
   pub keeps : KeepsSlots first rest
   pub count : n ≡ stretches k (runs start)
   pub none : (j : ℕ) → j < k → has_room bytes (settled j start) ≡ false
@@ -81,7 +81,7 @@ pub one-more : (bytes : Option ℕ) (start : List Block) (first : Rest) (zone : 
     (zone' : List Block) (rest' : Rest) → tidy start ≡ start → tidy zone ≡ zone → has_room bytes zone ≡ false
     → (i : IsNext bytes start first zone rest place n) → Counts zone place m
     → IfSome (run_at place zone) (λ r. zone' ≡ tidy (with_run settle r))
-    → IfSome (run_at place zone) (λ r. IsRest (with_moves (falling r.run) rest) rest')
+    → IfSome (run_at place zone) (λ r. IsRest (with_moves (lowered_in_run r.run) rest) rest')
     → SettledTo (i.k + 1) bytes start first zone' rest' (n + m)
 one-more bytes start first zone rest place n m zone' rest' tidied tidied_now full i c done rest_is =
     let k = i.k in
@@ -112,7 +112,7 @@ goes-on bytes start first zone rest place n next n' zone' rest' i done above = r
 pub record IsCompacted (bytes : Option ℕ) (start : List Block) (first : Rest) (zone : List Block) (rest : Rest) (n : ℕ)
     : Type 0 where
   pub zone_is : zone ≡ compacted bytes start
-  pub moves : rest.moves ≡ counted first.moves (falls (runs_settled bytes start) (runs start))
+  pub moves : rest.moves ≡ counted first.moves (lowered_in_runs (runs_settled bytes start) (runs start))
   pub keeps : KeepsSlots first rest
   pub count : n ≡ stretches (runs_settled bytes start) (runs start)
 

@@ -11,7 +11,7 @@ use Rattle.block_store.specs.Block.{is_mover, is_room, is_relocatable, with_cont
 use Rattle.block_store.specs.declared.flags.Flags.{Flags}
 use Rattle.block_store.specs.Run.{RunSpot, change_run, run_spot, run_at, with_run, has, has_free, movers, others}
 use Rattle.block_store.specs.Run.{settle, low, high, Stretch, segments, joined}
-use Rattle.block_store.specs.Room.{Spot, spot, filled, place, emptied, purge, room, count_of}
+use Rattle.block_store.specs.Room.{Spot, spot, filled, place, lowest_purged, purge, room, count_of}
 use Rattle.block_store.specs.Grow.{freed, growth, taken, grow_up, taken_low, grow_fixed, move_away, grow_last}
 use Rattle.block_store.specs.Grow.{grow_mover, grow_at, grow}
 use Rattle.block_store.specs.Sparing.{spared, opened, purged}
@@ -42,11 +42,11 @@ pub fixed-tidy : (bs : List Block) → KeepsFixed bs (tidy bs)
 fixed-tidy bs p = has-tidy (is_fixed p) (λ n. refl) bs
 
 -- two blocks of the same name, or that both aren't Fixed
-abbrev pub Alike : Block → Block → Type 0
-Alike b c = (p : ℕ) → is_fixed p c ≡ is_fixed p b
+abbrev pub SameFixed : Block → Block → Type 0
+SameFixed b c = (p : ℕ) → is_fixed p c ≡ is_fixed p b
 
 -- another block in place of one
-pub fixed-spot : (below above : List Block) (b c : Block) → Alike b c
+pub fixed-spot : (below above : List Block) (b c : Block) → SameFixed b c
     → KeepsFixed (below ++ b ∷ above) (below ++ c ∷ above)
 fixed-spot [] above b c same p = ap (λ t. t || has (is_fixed p) above) (same p)
 fixed-spot (d ∷ below) above b c same p = ap (λ t. is_fixed p d || t) (fixed-spot below above b c same p)
@@ -58,14 +58,15 @@ fixed-above [] above above' same p = same p
 fixed-above (d ∷ below) above above' same p = ap (λ t. is_fixed p d || t) (fixed-above below above above' same p)
 
 -- a block at the lower end of another
-pub fixed-filled : (new : Block) (s : Spot) → Alike s.here new → KeepsFixed (s.below ++ s.here ∷ s.above) (filled new s)
+pub fixed-filled : (new : Block) (s : Spot) → SameFixed s.here new → KeepsFixed (s.below ++ s.here ∷ s.above)
+    (filled new s)
 fixed-filled new s same p = has-counts (is_fixed p) (s.below ++ s.here ∷ s.above) (filled new s)
     (counts.fixed-filled p new s (same p))
 
-pub alike-content : (x : List ℕ) (b : Block) → Alike b (with_content x b)
+pub alike-content : (x : List ℕ) (b : Block) → SameFixed b (with_content x b)
 alike-content x b p = is_fixed-content p x b
 
-pub alike-flags : (f : Flags) (b : Block) → Alike b (with_flags f b)
+pub alike-flags : (f : Flags) (b : Block) → SameFixed b (with_flags f b)
 alike-flags f b p = is_fixed-flags p f b
 
 -- blocks that became Free, none of them of this name
@@ -80,14 +81,15 @@ pub fixed-released : (slot : ℕ) (bs : List Block) → KeepsFixed bs (tidy (fre
 fixed-released slot bs p = fixed-tidy (freed (is_relocatable slot) bs) p ∙ fixed-freed slot bs p
 
 -- purges
-pub fixed-emptied : (k : ℕ) (sp : Block → Bool) (bs : List Block) → KeepsFixed bs (emptied k sp bs)
-fixed-emptied k sp bs p = has-counts (is_fixed p) bs (emptied k sp bs) (counts.fixed-emptied p k sp bs)
+pub fixed-lowest_purged : (k : ℕ) (sp : Block → Bool) (bs : List Block) → KeepsFixed bs (lowest_purged k sp bs)
+fixed-lowest_purged k sp bs p = has-counts (is_fixed p) bs (lowest_purged k sp bs)
+    (counts.fixed-lowest_purged p k sp bs)
 
 fixed-opened : (n : Sparing) (zone : List Block) → KeepsFixed zone (opened n zone)
 fixed-opened n zone p = has-counts (is_fixed p) zone (opened n zone) (counts.fixed-opened p n zone)
 
-pub fixed-purge : (k : ℕ) (sp : Block → Bool) (zone : List Block) → KeepsFixed zone (tidy (emptied k sp zone))
-fixed-purge k sp zone p = fixed-tidy (emptied k sp zone) p ∙ fixed-emptied k sp zone p
+pub fixed-purge : (k : ℕ) (sp : Block → Bool) (zone : List Block) → KeepsFixed zone (tidy (lowest_purged k sp zone))
+fixed-purge k sp zone p = fixed-tidy (lowest_purged k sp zone) p ∙ fixed-lowest_purged k sp zone p
 
 pub fixed-purged : (k : ℕ) (n : Sparing) (zone : List Block) → KeepsFixed zone (purged k n zone)
 fixed-purged k n zone p = fixed-purge k (spared n) (opened n zone) p ∙ fixed-opened n zone p
@@ -185,18 +187,18 @@ fixed-raised (Ok value) place d zone after allowed done same = cases (run_at pla
 
 -- purges above a block
 pub fixed-above_emptied : (below : List Block) (b : Block) (above : List Block) (k : ℕ) (sp : Block → Bool)
-    → KeepsFixed (below ++ b ∷ above) (tidy (below ++ b ∷ emptied k sp above))
+    → KeepsFixed (below ++ b ∷ above) (tidy (below ++ b ∷ lowest_purged k sp above))
 fixed-above_emptied below b above k sp p = has-counts (is_fixed p) (below ++ b ∷ above)
-    (tidy (below ++ b ∷ emptied k sp above)) (counts.fixed-emptied_above p k sp below b above)
+    (tidy (below ++ b ∷ lowest_purged k sp above)) (counts.fixed-purged_above p k sp below b above)
 
 -- growth
-pub alike-resized : (n : ℕ) (b : Block) → Alike b (resized n b)
+pub alike-resized : (n : ℕ) (b : Block) → SameFixed b (resized n b)
 alike-resized n b p = is_fixed-resized p n b
 
 fixed-taken : (d : ℕ) (above rest : List Block) → taken d above ≡ Some rest → KeepsFixed above rest
 fixed-taken d above rest e p = has-counts (is_fixed p) above rest (counts.fixed-taken p d above rest e)
 
-pub fixed-grow_up : (new : Block) (s : Spot) (after : List Block) → Alike s.here new → grow_up new s ≡ Some after
+pub fixed-grow_up : (new : Block) (s : Spot) (after : List Block) → SameFixed s.here new → grow_up new s ≡ Some after
     → KeepsFixed (s.below ++ s.here ∷ s.above) after
 fixed-grow_up new s after same e p = has-counts (is_fixed p) (s.below ++ s.here ∷ s.above) after
     (counts.fixed-grow_up p new s after (same p) e)
@@ -239,7 +241,7 @@ fixed-taken_low d sp above rest e =
         (left ∙ sym (none-loose (segments above).first (segments-loose above).0 p))
         ∙ ap (has (is_fixed p)) (joined-segments above)
 
-pub fixed-grow_fixed : (sp : Block → Bool) (new : Block) (s : Spot) (after : List Block) → Alike s.here new
+pub fixed-grow_fixed : (sp : Block → Bool) (new : Block) (s : Spot) (after : List Block) → SameFixed s.here new
     → grow_fixed sp new s ≡ Some after → KeepsFixed (s.below ++ s.here ∷ s.above) after
 fixed-grow_fixed sp new s after same e = cases (grow_up new s) (taken_low (growth new s) sp s.above) refl refl e
   where
@@ -345,7 +347,7 @@ fixed-grow_mover slot n b zone after mine e = cases (spot (is_relocatable slot) 
     none : (p : ℕ) → is_fixed p new ≡ false
     none p = alike-resized n b p ∙ not_fixed-relocatable p slot b mine
 
-    choose : (s : Spot) → KeepsFixed zone (s.below ++ s.here ∷ s.above) → Alike s.here new
+    choose : (s : Spot) → KeepsFixed zone (s.below ++ s.here ∷ s.above) → SameFixed s.here new
         → (u v w : Option (List Block)) → grow_up new s ≡ u → move_away (is_relocatable slot) new zone ≡ v
         → grow_last (is_relocatable slot) new (growth new s) zone ≡ w
         → option_or u (option_or v w) ≡ Some after → KeepsFixed zone after

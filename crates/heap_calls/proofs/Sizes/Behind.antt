@@ -246,10 +246,11 @@ slice-row handle x s k found =
     (length (content_of held.at.here)) x s)) found
     ∙ append-row (is_relocatable k.number) k.number (length (content_of k.at.here)) x s
 
-pub slice-looks : (handle : Option ℕ) (x : List ℕ) (s : State) (k : Held) → look_up handle s ≡ Ok k
+pub slice-searches : (handle : Option ℕ) (x : List ℕ) (s : State) (k : Held) → look_up handle s ≡ Ok k
     → pointer_and_hand_searches handle x s ≡ size_searches (is_relocatable k.number) (is_relocatable k.number)
     (length (content_of k.at.here) + length x) s.zone
-slice-looks handle x s k found = ap (λ r. found_searches r (λ (held : Held). size_searches (is_relocatable held.number)
+slice-searches handle x s k found = ap (λ r. found_searches r
+    (λ (held : Held). size_searches (is_relocatable held.number)
     (is_relocatable held.number) (length (content_of held.at.here) + length x) s.zone)) found
 
 pub slice-none : (handle : Option ℕ) (x : List ℕ) (s : State) (code : OsErr) → look_up handle s ≡ Err code
@@ -258,7 +259,7 @@ pub slice-none : (handle : Option ℕ) (x : List ℕ) (s : State) (code : OsErr)
 slice-none handle x s code none = record {
   row_is = ap (λ r. for_found r s (λ (held : Held). append (is_relocatable held.number) held.number
       (length (content_of held.at.here)) x s)) none;
-  looks_is = ap (λ r. found_searches r (λ (held : Held). size_searches (is_relocatable held.number)
+  searches_is = ap (λ r. found_searches r (λ (held : Held). size_searches (is_relocatable held.number)
       (is_relocatable held.number) (length (content_of held.at.here) + length x) s.zone)) none;
   moves_is = ap (λ r. found_searches r (λ (held : Held). size_moves (is_relocatable held.number)
       (is_relocatable held.number) (length (content_of held.at.here) + length x) s.zone)) none;
@@ -292,10 +293,10 @@ module _ (from to : Option ℕ) (s : State)
         ∙ ap (λ r. for_found r s (joined a)) found'
         ∙ append-row (either a.number b.number) b.number (length (content_of b.at.here)) (content_of a.at.here) s
 
-    pub hand-looks : (a b : Held) → look_up from s ≡ Ok a → look_up to s ≡ Ok b
+    pub hand-searches : (a b : Held) → look_up from s ≡ Ok a → look_up to s ≡ Ok b
         → hand_and_hand_searches from to s ≡ size_searches (is_relocatable b.number) (either a.number b.number)
         (length (content_of b.at.here) + length (content_of a.at.here)) s.zone
-    hand-looks a b found found' = ap (λ r. found_searches r (λ a. found_searches (look_up to s) (looked a))) found
+    hand-searches a b found found' = ap (λ r. found_searches r (λ a. found_searches (look_up to s) (looked a))) found
         ∙ ap (λ r. found_searches r (looked a)) found'
 
     abbrev packed : Held → Held → ℕ
@@ -312,7 +313,7 @@ module _ (from to : Option ℕ) (s : State)
         → TellsNone s (hand_and_hand from to) (hand_and_hand_searches from to) (hand_and_hand_moves from to) code
     hand-none code none = record {
       row_is = ap (λ r. for_found r s (λ a. for_found (look_up to s) s (joined a))) none;
-      looks_is = ap (λ r. found_searches r (λ a. found_searches (look_up to s) (looked a))) none;
+      searches_is = ap (λ r. found_searches r (λ a. found_searches (look_up to s) (looked a))) none;
       moves_is = ap (λ r. found_searches r (λ a. found_searches (look_up to s) (packed a))) none;
     }
 
@@ -321,7 +322,7 @@ module _ (from to : Option ℕ) (s : State)
     hand-nowhere a code found none = record {
       row_is = ap (λ r. for_found r s (λ a. for_found (look_up to s) s (joined a))) found
           ∙ ap (λ r. for_found r s (joined a)) none;
-      looks_is = ap (λ r. found_searches r (λ a. found_searches (look_up to s) (looked a))) found
+      searches_is = ap (λ r. found_searches r (λ a. found_searches (look_up to s) (looked a))) found
           ∙ ap (λ r. found_searches r (looked a)) none;
       moves_is = ap (λ r. found_searches r (λ a. found_searches (look_up to s) (packed a))) found
           ∙ ap (λ r. found_searches r (packed a)) none;

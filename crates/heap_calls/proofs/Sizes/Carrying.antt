@@ -28,9 +28,9 @@ use Rattle.block_store.specs.Inner.Packing.{Loose}
 use Rattle.block_store.specs.Sparing.{purged, spared}
 use Rattle.block_store.specs.declared.sparing.Sparing.{Sparing}
 use Rattle.block_store.specs.Seen.{moved_away}
-use Rattle.block_store.specs.Rest.{Rest, IsRest, KeepsSlots, with_moves, falling}
-use Rattle.heap_calls.specs.Inner.Search.{FindsSeat, IsAt}
-use Rattle.heap_calls.specs.declared.search.Seat.{Seat}
+use Rattle.block_store.specs.Rest.{Rest, IsRest, KeepsSlots, with_moves, lowered_in_run}
+use Rattle.heap_calls.specs.Inner.Search.{FindsPlacement, IsAt}
+use Rattle.heap_calls.specs.declared.search.Placement.{Placement}
 use Rattle.heap_calls.specs.declared.growing.Growth.TheVariants as grows
 use Rattle.heap_calls.specs.Inner.Growing.{grown, growing, growing_searches, Spares, Stays, FindsGrowth, IsToGrow}
 use Rattle.heap_calls.specs.Inner.Growing.{block_of, SameBlocks, CanGrowUp, GrewUp}
@@ -441,11 +441,11 @@ last-grown number n zone zone1 zone2 zone3 run k tidied once hoisted packed grew
     && has_free (size (resized n k.s.here) - size k.s.here) run) k.lowest)
 
 -- a block moves to a place of its own
-module _ (number n p : ℕ) (zone zone1 : List Block) (at : ℕ) (o : Option Seat)
+module _ (number n p : ℕ) (zone zone1 : List Block) (at : ℕ) (o : Option Placement)
     (takes : size (grown n (spot (is_relocatable number) zone)) ≡ p)
     (known : (s : Spot) × (spot (is_relocatable number) zone ≡ Some s)
     × (grow_up (grown n (spot (is_relocatable number) zone)) s ≡ None)
-    × FindsSeat (size (grown n (spot (is_relocatable number) zone))) zone o)
+    × FindsPlacement (size (grown n (spot (is_relocatable number) zone))) zone o)
     (there : IsAt (place p zone) zone1 (Some at)) (same : SameBlocks zone zone1)
   where
     pub away-room : IsSomeAnd (spot_at at zone1) (λ s. IsTrue (is_room (padded n) s.here))
@@ -535,7 +535,7 @@ module _ (nd : Sparing) (number n : ℕ) (zone : List Block) (stays : Stays nd (
         cases (Some s) is = ap (room (grow_mover (is_relocatable number) (resized n s.here)) (spared nd))
             (sym (opened-stays (is_relocatable number) nd zone stays)) ∙ is
 
-    -- how many looks it takes
+    -- how many searches it takes
     pub grown-searches : (looks : ℕ) → looks ≡ growing_searches (is_relocatable number)
         (grown n (spot (is_relocatable number) zone)) nd zone
         → IfSome (spot (is_relocatable number) zone) (λ s. looks
@@ -562,7 +562,7 @@ grown-size number n takes zone grows fits = cases (spot (is_relocatable number) 
 
 -- the slots stay while a block is moved to the top of its run, which is packed
 pub rest-last : (a b c d : Rest) (o : Option RunSpot) → IsSome o → IsRest a b
-    → IfSome o (λ r. IsRest (with_moves (falling r.run) b) c) → IsRest c d → KeepsSlots a d
+    → IfSome o (λ r. IsRest (with_moves (lowered_in_run r.run) b) c) → IsRest c d → KeepsSlots a d
 rest-last a b c d None there hoisted packed grown = let f : false ≡ true = there in cc
 rest-last a b c d (Some r) there hoisted packed grown = record {
   slots = λ k. grown.slots k ∙ packed.slots k ∙ hoisted.slots k;

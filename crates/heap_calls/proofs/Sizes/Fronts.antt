@@ -9,7 +9,7 @@ use Rattle.std.specs.Option.{option_map, option_or}
 use Rattle.block_store.specs.Block.{Block, Free, Fixed, Masters, Relocatable, size, total, count, free, free_sum}
 use Rattle.block_store.specs.Block.{is_mover, is_room, is_relocatable, resized, tidy}
 use Rattle.block_store.specs.Run.{in_run, change_run, has, has_free, movers, others, settle}
-use Rattle.block_store.specs.Room.{Spot, raised, spot, filled, place, emptied, purge}
+use Rattle.block_store.specs.Room.{Spot, raised, spot, filled, place, lowest_purged, purge}
 use Rattle.block_store.specs.Grow.{growth, taken, taken_low, grow_up, grow_fixed, freed, move_away, grow_last}
 use Rattle.block_store.specs.Grow.{grow_mover, grow}
 use Rattle.block_store.proofs.Zone.Leading.{none-count}
@@ -18,7 +18,7 @@ use Rattle.block_store.proofs.Content.Resizing.{is_relocatable-resized}
 use Rattle.block_store.proofs.Zone.Passing.{has-count}
 use Rattle.block_store.specs.Inner.Packing.{Loose}
 use Rattle.heap_calls.specs.Inner.Growing.{block_of}
-use Rattle.heap_calls.proofs.Sizes.Growth.{find-tidy, find-emptied, spot-find}
+use Rattle.heap_calls.proofs.Sizes.Growth.{find-tidy, find-lowest_purged, spot-find}
 use Rattle.heap_calls.proofs.Sizes.Carrying.{find-free, find-none, has-others}
 use Rattle.block_store.proofs.Zone.Keeping.{counts-free, three, purged-le}
 use Rattle.block_store.proofs.Zone.Views.{map-some, or-some, change_run-some, place-some, taken-some, taken_low-some}
@@ -112,7 +112,7 @@ module _ (t : Block → Bool) (never : (n : ℕ) → t (Free n) ≡ false)
     module _ (sp : Block → Bool) (spares : (b : Block) → t b ≡ true → sp b ≡ true)
       where
         purged-find : (k : ℕ) (zone : List Block) → find t (purge k sp zone) ≡ find t zone
-        purged-find k zone = find-tidy t never (emptied k sp zone) ∙ find-emptied t sp never spares k zone
+        purged-find k zone = find-tidy t never (lowest_purged k sp zone) ∙ find-lowest_purged t sp never spares k zone
 
         taken_low-find : (d : ℕ) (above z : List Block) → taken_low d sp above ≡ Some z → find t z ≡ find t above
         taken_low-find d above z e =

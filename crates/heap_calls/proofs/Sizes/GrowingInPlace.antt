@@ -7,7 +7,7 @@ use Rattle.std.proofs.lemmas.Bool.{cond-true, cond-false, or_parts, le-leb, leb-
 use Rattle.std.proofs.lemmas.Bool.Decides.{nat_tests}
 use Rattle.std.proofs.lemmas.List.{append-nil}
 use Rattle.heap_calls.proofs.Room.Searching.{count-le}
-use Rattle.heap_calls.proofs.Room.LeastLooks.{least-of, tries-of}
+use Rattle.heap_calls.proofs.Room.LeastSearches.{least-of, tries-of}
 use Rattle.block_store.proofs.Plain.Trials.{least_or_last-le}
 use Rattle.heap_calls.specs.Inner.Least.{IsMost, enough_above}
 use Rattle.heap_calls.specs.Searches.{room_searches, in_place_searches}
@@ -16,7 +16,7 @@ use Rattle.block_store.specs.Block.{Block, Free, Fixed, Masters, Relocatable, si
 use Rattle.block_store.specs.Block.{is_room, add, tidy, resized}
 use Rattle.block_store.specs.Run.{has, has_free, in_run, movers, low, with_run, RunSpot, run_raised, run_at, run_from}
 use Rattle.block_store.specs.Run.{segments, Segments, joined, Stretch}
-use Rattle.block_store.specs.Room.{Spot, raised, spot_at, room, may_go, emptied, purge, count_of}
+use Rattle.block_store.specs.Room.{Spot, raised, spot_at, room, may_be_purged, lowest_purged, purge, count_of}
 use Rattle.block_store.specs.Grow.{growth, taken, grow_up, taken_low, grow_fixed}
 use Rattle.block_store.specs.Compact.{beyond, least_or_last}
 use Rattle.block_store.specs.Sparing.{spared}
@@ -34,7 +34,7 @@ use Rattle.block_store.proofs.Plain.Options.{some_and}
 use Rattle.mac_words.proofs.Plain.{is_some-map, not_some}
 use Rattle.block_store.proofs.Nonrelocatable.Placing.{spot_at-below}
 use Rattle.block_store.proofs.Regroup.RunSpots.{barrier-size}
-use Rattle.block_store.proofs.Zone.Absence.{none-emptied}
+use Rattle.block_store.proofs.Zone.Absence.{none-lowest_purged}
 use Rattle.heap_calls.specs.Inner.GrowingInPlace.{room_at, enough, above_taken, pushed_up, seen_size, FindsPurges}
 
 -- Growth of a block where it stands.
@@ -318,18 +318,18 @@ beyond-tidy zone a = tidy-apart (beyond (segments zone).rest)
     (apart-above (segments zone).first (beyond (segments zone).rest) (subst Apart (first-beyond zone) a))
 
 -- no block above the first run goes while one of it may
-emptied-front : (k : ℕ) (sp : Block → Bool) (xs above : List Block) → k ≤ count_of sp xs
-    → emptied k sp (xs ++ above) ≡ emptied k sp xs ++ above
-emptied-front zero sp xs above le = refl
-emptied-front (suc k) sp [] above le = absurd (let z : suc k ≤ 0 = le in omega arith)
-emptied-front (suc k) sp (b ∷ xs) above le = cases (may_go sp b) le (emptied-front k sp xs above)
-    (emptied-front (suc k) sp xs above)
+lowest_purged-front : (k : ℕ) (sp : Block → Bool) (xs above : List Block) → k ≤ count_of sp xs
+    → lowest_purged k sp (xs ++ above) ≡ lowest_purged k sp xs ++ above
+lowest_purged-front zero sp xs above le = refl
+lowest_purged-front (suc k) sp [] above le = absurd (let z : suc k ≤ 0 = le in omega arith)
+lowest_purged-front (suc k) sp (b ∷ xs) above le = cases (may_be_purged sp b) le (lowest_purged-front k sp xs above)
+    (lowest_purged-front (suc k) sp xs above)
   where
     cases : (t : Bool) → suc k ≤ cond {A = ℕ} t 1 0 + count_of sp xs
-        → (k ≤ count_of sp xs → emptied k sp (xs ++ above) ≡ emptied k sp xs ++ above)
-        → (suc k ≤ count_of sp xs → emptied (suc k) sp (xs ++ above) ≡ emptied (suc k) sp xs ++ above)
-        → cond t (Free (size b) ∷ emptied k sp (xs ++ above)) (b ∷ emptied (suc k) sp (xs ++ above))
-        ≡ cond t (Free (size b) ∷ emptied k sp xs) (b ∷ emptied (suc k) sp xs) ++ above
+        → (k ≤ count_of sp xs → lowest_purged k sp (xs ++ above) ≡ lowest_purged k sp xs ++ above)
+        → (suc k ≤ count_of sp xs → lowest_purged (suc k) sp (xs ++ above) ≡ lowest_purged (suc k) sp xs ++ above)
+        → cond t (Free (size b) ∷ lowest_purged k sp (xs ++ above)) (b ∷ lowest_purged (suc k) sp (xs ++ above))
+        ≡ cond t (Free (size b) ∷ lowest_purged k sp xs) (b ∷ lowest_purged (suc k) sp xs) ++ above
     cases true le less same = ap (λ l. Free (size b) ∷ l) (less (let z : suc k ≤ 1 + count_of sp xs = le in
         omega arith))
     cases false le less same = ap (λ l. b ∷ l) (same (let z : suc k ≤ 0 + count_of sp xs = le in omega arith))
@@ -384,17 +384,17 @@ module _ (below : List Block) (b : Block) (above : List Block) (ends : in_run b 
   run_left k sp = purge k sp (segments above).first
 
   pub run_left-is : (k : ℕ) (sp : Block → Bool) → has ends_run (run_left k sp) ≡ false
-  run_left-is k sp = has-tidy ends_run no_free (emptied k sp (segments above).first)
-      ∙ none-emptied ends_run sp no_free k (segments above).first (first-run above)
+  run_left-is k sp = has-tidy ends_run no_free (lowest_purged k sp (segments above).first)
+      ∙ none-lowest_purged ends_run sp no_free k (segments above).first (first-run above)
 
   -- the zone after k of them went
   pub after-purge : (k : ℕ) (sp : Block → Bool) → k ≤ count_of sp (segments above).first
-      → tidy (below ++ b ∷ emptied k sp above) ≡ below ++ b ∷ (run_left k sp ++ beyond (segments above).rest)
+      → tidy (below ++ b ∷ lowest_purged k sp above) ≡ below ++ b ∷ (run_left k sp ++ beyond (segments above).rest)
   after-purge k sp le =
-      kept-below below b above ends apart (emptied k sp above)
-      ∙ ap (λ l. below ++ b ∷ tidy l) (ap (emptied k sp) (first-beyond above)
-      ∙ emptied-front k sp (segments above).first (beyond (segments above).rest) le)
-      ∙ ap (λ l. below ++ b ∷ l) (tidy-front (emptied k sp (segments above).first) (beyond (segments above).rest)
+      kept-below below b above ends apart (lowest_purged k sp above)
+      ∙ ap (λ l. below ++ b ∷ tidy l) (ap (lowest_purged k sp) (first-beyond above)
+      ∙ lowest_purged-front k sp (segments above).first (beyond (segments above).rest) le)
+      ∙ ap (λ l. below ++ b ∷ l) (tidy-front (lowest_purged k sp (segments above).first) (beyond (segments above).rest)
       (beyond-ended above) (beyond-tidy above high))
 
   -- the run above it then
@@ -474,7 +474,7 @@ spot-small place zone s e =
 -- the run above the block at a place, which was emptied so far that it has d Free bytes
 module _ (place : ℕ) (zone : List Block) (tidied : tidy zone ≡ zone) (s : Spot) (at : spot_at place zone ≡ Some s)
     (ends : in_run s.here ≡ false) (k : ℕ) (sp : Block → Bool) (le : k ≤ count_of sp (segments s.above).first)
-    (zone' : List Block) (emptied' : zone' ≡ tidy (s.below ++ s.here ∷ emptied k sp s.above)) (d : ℕ) where
+    (zone' : List Block) (emptied' : zone' ≡ tidy (s.below ++ s.here ∷ lowest_purged k sp s.above)) (d : ℕ) where
   apart-at : Apart (s.below ++ s.here ∷ s.above)
   apart-at = subst Apart (spot_at-is place zone s at) (apart-tidied zone tidied)
 
@@ -510,29 +510,30 @@ module _ (place : ℕ) (zone : List Block) (tidied : tidy zone ≡ zone) (s : Sp
       is ∙ after-raise s.below s.here s.above ends (barrier-size s.here ends) apart-at d k sp
 
 -- a block above which k blocks were emptied, so that the run there has d Free bytes
-pub record EmptiedAbove (place taken d k : ℕ) (sp : Block → Bool) (zone zone' : List Block) : Type 0 where
+pub record PurgedAbove (place taken d k : ℕ) (sp : Block → Bool) (zone zone' : List Block) : Type 0 where
   pub s : Spot
   pub at : spot_at place zone ≡ Some s
   pub size_is : taken ≡ size s.here
-  pub left : zone' ≡ tidy (s.below ++ s.here ∷ emptied k sp s.above)
+  pub left : zone' ≡ tidy (s.below ++ s.here ∷ lowest_purged k sp s.above)
   pub allowed : IsSomeAnd (run_at (place + taken) zone') (λ r. IsTrue (has_free d r.run))
   pub raised : (after : List Block)
       → IfSome (run_at (place + taken) zone') (λ r. after ≡ tidy (with_run (low (Free d)) r))
       → IfSome (spot_at place zone) (λ s. after ≡ s.below ++ s.here ∷ pushed_up d k sp s.above)
 
-pub emptied_above : (place taken d k : ℕ) (sp : Block → Bool) (zone zone' : List Block) → tidy zone ≡ zone
+pub purged_above : (place taken d k : ℕ) (sp : Block → Bool) (zone zone' : List Block) → tidy zone ≡ zone
     → IsSomeAnd (spot_at place zone) (λ s. (in_run s.here ≡ false) × (taken ≡ size s.here))
     → IsSomeAnd (spot_at place zone) (λ s. (k ≤ count_of sp (segments s.above).first)
     × (has_free d (purge k sp (segments s.above).first) ≡ true))
-    → IfSome (spot_at place zone) (λ s. zone' ≡ tidy (s.below ++ s.here ∷ emptied k sp s.above))
-    → EmptiedAbove place taken d k sp zone zone'
-emptied_above place taken d k sp zone zone' tidied still room done =
+    → IfSome (spot_at place zone) (λ s. zone' ≡ tidy (s.below ++ s.here ∷ lowest_purged k sp s.above))
+    → PurgedAbove place taken d k sp zone zone'
+purged_above place taken d k sp zone zone' tidied still room done =
     let stays = some_and (spot_at place zone) _ still in
     let s : Spot = stays.0 in
     let Has : Spot → Type 0 = λ s. (k ≤ count_of sp (segments s.above).first)
     × (has_free d (purge k sp (segments s.above).first) ≡ true) in
     let has : Has s = same_spot (spot_at place zone) s Has stays.1 room in
-    let left = spot_if (spot_at place zone) s (λ s. zone' ≡ tidy (s.below ++ s.here ∷ emptied k sp s.above)) stays.1
+    let left = spot_if (spot_at place zone) s (λ s. zone' ≡ tidy (s.below ++ s.here ∷ lowest_purged k sp s.above))
+    stays.1
     done in
     let Allowed : ℕ → Type 0 = λ n. IsSomeAnd (run_at (place + n) zone') (λ r. IsTrue (has_free d r.run)) in
     record {
@@ -552,8 +553,8 @@ emptied_above place taken d k sp zone zone' tidied still room done =
 
 -- a run has d Free bytes, or doesn't
 pub has_free-purged : (d k : ℕ) (sp : Block → Bool) (run : List Block)
-    → has_free d (purge k sp run) ≡ has_free d (emptied k sp run)
-has_free-purged d k sp run = ap (nat_le d) (total-tidy free_of (λ n m. refl) (emptied k sp run))
+    → has_free d (purge k sp run) ≡ has_free d (lowest_purged k sp run)
+has_free-purged d k sp run = ap (nat_le d) (total-tidy free_of (λ n m. refl) (lowest_purged k sp run))
 
 -- a block that grows comes to the size that is wanted
 pub resized-size : (n : ℕ) (b : Block) → size b < size (resized n b) → size (resized n b) ≡ padded n
@@ -630,11 +631,11 @@ enough-test : (d : ℕ) (run : List Block) → is_some (enough d run) ≡ has_fr
 enough-test d run = elim (has_free d run) as (λ t. is_some (cond t (Some run) None) ≡ t) [ true ↦ refl | false ↦ refl ]
 
 pub above-seen : (d k most : ℕ) (n : Sparing) (o : Option Spot) (r : Bool) → IsMost most n o
-    → IfSome o (λ s. r ≡ has_free d (emptied k (spared n) (above_of s))) → r ≡ enough_above d k n o
+    → IfSome o (λ s. r ≡ has_free d (lowest_purged k (spared n) (above_of s))) → r ≡ enough_above d k n o
 above-seen d k most n None r is h = absurd is
 above-seen d k most n (Some s) r is h = h ∙ sym (has_free-purged d k (spared n) (above_of s))
 
--- the least number of purges in it that gives d Free bytes, or that none does, and the looks that this takes
+-- the least number of purges in it that gives d Free bytes, or that none does, and the searches that this takes
 module _ (d k most : ℕ) (n : Sparing) (s : Spot) (all : AllThatMayGo most n (Some s))
     (least_is : k ≡ least_or_last (λ j. enough_above d j n (Some s)) most)
   where
@@ -647,8 +648,8 @@ module _ (d k most : ℕ) (n : Sparing) (s : Spot) (all : AllThatMayGo most n (S
         ∙ ap (λ (t : ℕ → Bool). least_or_last t (count_of (spared n) (above_of s)))
         (λ i j. (sym (enough-test d (purge j (spared n) (above_of s)))) i)
 
-    here-looks : k + 1 ≡ room_searches (enough d) (spared n) (above_of s)
-    here-looks = tries-of tried (count_of (spared n) (above_of s)) k least_tried
+    here-searches : k + 1 ≡ room_searches (enough d) (spared n) (above_of s)
+    here-searches = tries-of tried (count_of (spared n) (above_of s)) k least_tried
 
     here-room : room (enough d) (spared n) (above_of s) ≡ tried k
     here-room = least-of tried (count_of (spared n) (above_of s)) k least_tried
@@ -665,10 +666,10 @@ module _ (d k most : ℕ) (n : Sparing) (s : Spot) (all : AllThatMayGo most n (S
 
 module _ (d k most : ℕ) (n : Sparing)
   where
-    pub above-looks : (o : Option Spot) → AllThatMayGo most n o → k ≡ least_or_last (λ j. enough_above d j n o) most
+    pub above-searches : (o : Option Spot) → AllThatMayGo most n o → k ≡ least_or_last (λ j. enough_above d j n o) most
         → IfSome o (λ s. k + 1 ≡ room_searches (enough d) (spared n) (above_of s))
-    above-looks None all e = tt
-    above-looks (Some s) all e = here-looks d k most n s all e
+    above-searches None all e = tt
+    above-searches (Some s) all e = here-searches d k most n s all e
 
     pub above-found : (o : Option Spot) → AllThatMayGo most n o → k ≡ least_or_last (λ j. enough_above d j n o) most
         → true ≡ enough_above d k n o → IfSome o (λ s. FindsPurges d (spared n) (above_of s) (Some k))
@@ -701,15 +702,15 @@ most-above place n zone most h =
     total-append size (segments s.above).first (beyond (segments s.above).rest) in
     omega (arith, is, count-le sp (segments s.above).first, a, b, c, d, e)
 
--- how many looks growth where it stands takes: one where the Free block above serves, else those at the run above
-pub looks-up : (sp : Block → Bool) (new : Block) (s : Spot) → is_some (taken (growth new s) s.above) ≡ true
+-- how many searches growth where it stands takes: one where the Free block above serves, else those at the run above
+pub searches-up : (sp : Block → Bool) (new : Block) (s : Spot) → is_some (taken (growth new s) s.above) ≡ true
     → 1 ≡ in_place_searches sp new s
-looks-up sp new s e = sym (cond-true _ 1 _ (up-allowed new s e))
+searches-up sp new s e = sym (cond-true _ 1 _ (up-allowed new s e))
 
-pub looks-run : (sp : Block → Bool) (new : Block) (s : Spot) (looks : ℕ)
+pub searches-run : (sp : Block → Bool) (new : Block) (s : Spot) (looks : ℕ)
     → is_some (taken (growth new s) s.above) ≡ false → looks ≡ room_searches (enough (growth new s)) sp
     (segments s.above).first → looks ≡ in_place_searches sp new s
-looks-run sp new s looks e is = is ∙ sym (cond-false _ 1 _ (ap is_some (no-up new s e)))
+searches-run sp new s looks e is = is ∙ sym (cond-false _ 1 _ (ap is_some (no-up new s e)))
 
 -- what is known of a block that is to grow: where it is, by how much, and whether the Free block right above it serves
 pub record Grows (place : ℕ) (zone : List Block) (n more : ℕ) (up : Bool) : Type 0 where

@@ -31,17 +31,17 @@ use Rattle.heap_calls.proofs.Numbering.MoveNames.{size_moves-rename}
 use Rattle.heap_calls.proofs.Numbering.Numbers.{is_relocatable-number}
 use Rattle.heap_calls.proofs.Numbering.Rebuilding.{TellsNone, not-reached, rebuilt-reply, reached_in, resize-row}
 use Rattle.heap_calls.proofs.Room.MoveCounts.{not-moved, moving-answer, none-reached}
-use Rattle.heap_calls.proofs.Sizes.Behind.{either, lengthened-rename, hand-row, hand-looks, hand-moves, slice-row}
-use Rattle.heap_calls.proofs.Sizes.Behind.{slice-looks, slice-moves}
+use Rattle.heap_calls.proofs.Sizes.Behind.{either, lengthened-rename, hand-row, hand-searches, hand-moves, slice-row}
+use Rattle.heap_calls.proofs.Sizes.Behind.{slice-searches, slice-moves}
 
 -- A call that gives the block of a handle another size.
 
--- what such a call answers of a heap: its zone, its looks, and how often packing moves a block down
+-- what such a call answers of a heap: its zone, its searches, and how often packing moves a block down
 pub record Tells (zone : List Block) (rest : Rest) (es : List Anchor) (row : State → Answer (Unit {0}))
     (looks moves : State → ℕ) (made : Option (List Block)) (k n : ℕ) : Type 0 where
   pub row_is : row (state_of zone rest.slots es)
       ≡ rebuilt (option_map (rename (handle_number es) (pointer_number es)) made) (state_of zone rest.slots es)
-  pub looks_is : looks (state_of zone rest.slots es) ≡ k
+  pub searches_is : looks (state_of zone rest.slots es) ≡ k
   pub moves_is : moves (state_of zone rest.slots es) ≡ n
 
 module _ (value : Memory) (zone : List Block) (rest : Rest) (es : List Anchor) (log : Log)
@@ -57,7 +57,7 @@ module _ (value : Memory) (zone : List Block) (rest : Rest) (es : List Anchor) (
         let none = reached_in zone rest.slots es es' handle (Err e) same none' in
         not-moved (moves value.heap) (searching (looks value.heap) (silent row value)) e value zone rest es log is
         (not-reached value zone rest es log is row looks e handle none
-        (λ code is. let t = tells code is in (t.row_is, t.looks_is)))
+        (λ code is. let t = tells code is in (t.row_is, t.searches_is)))
         (none-reached moves e handle value zone rest es log is none (λ code is. (tells code is).moves_is))
 
     -- the block got the size, or there was no room for it
@@ -70,7 +70,7 @@ module _ (value : Memory) (zone : List Block) (rest : Rest) (es : List Anchor) (
         moving-answer (moves value.heap) n (searching (looks value.heap) (silent row value)) (sized_reply done) zone'
         rest rest' es (record log { searches = counted log.searches seen })
         (rebuilt-reply value zone rest es log is row looks zone' (unmoved rest rest') (unmoved-is rest rest' kept) seen
-        (tells.looks_is ∙ sym seen_is) done made tells.row_is made_is full)
+        (tells.searches_is ∙ sym seen_is) done made tells.row_is made_is full)
         (ap (λ (m : Memory). moves m.heap) (sym is) ∙ tells.moves_is) packed
 
 -- What the calls tell of a heap, by handles that were reached in the store.
@@ -100,7 +100,7 @@ module _ (zone : List Block) (rest : Rest) (es : List Anchor) (agrees : Agrees z
           row_is = resize-row handle n (state_of zone rest.slots es) _ there.1
               ∙ ap (λ o. rebuilt o (state_of zone rest.slots es))
               (fitted-rename f h t u same t u same n zone);
-          looks_is = ap (λ r. found_searches r (λ (k : Held). size_searches (is_relocatable k.number)
+          searches_is = ap (λ r. found_searches r (λ (k : Held). size_searches (is_relocatable k.number)
               (is_relocatable k.number) n (rename f h zone))) there.1
               ∙ size_searches-rename f h t u same t u same n zone;
           moves_is = ap (λ r. found_searches r (λ (k : Held). size_moves (is_relocatable k.number)
@@ -143,7 +143,7 @@ module _ (zone : List Block) (rest : Rest) (es : List Anchor) (agrees : Agrees z
                   (state_of zone rest.slots es)) same_bytes
                   ∙ ap (λ o. rebuilt o (state_of zone rest.slots es))
                   (lengthened-rename f h p q spares r.number r.slot same n y zone);
-              looks_is = looked ∙ ap (λ k. size_searches t p (k + length x) (rename f h zone)) len_is
+              searches_is = looked ∙ ap (λ k. size_searches t p (k + length x) (rename f h zone)) len_is
                   ∙ ap (λ l. size_searches t p (n + length l) (rename f h zone)) same_bytes
                   ∙ size_searches-rename f h p q spares t u same (n + length y) zone;
               moves_is = moved ∙ ap (λ k. size_moves t p (k + length x) (rename f h zone)) len_is
@@ -160,7 +160,7 @@ module _ (zone : List Block) (rest : Rest) (es : List Anchor) (agrees : Agrees z
     slice-tells handle r there x =
         appended-tells (is_relocatable r.number) (is_relocatable r.slot) (same-named handle r there) handle r there x x
         refl (pointer_and_hand handle x) (pointer_and_hand_searches handle x) (pointer_and_hand_moves handle x)
-        (slice-row handle x (state_of zone rest.slots es) _ there.1) (slice-looks handle x
+        (slice-row handle x (state_of zone rest.slots es) _ there.1) (slice-searches handle x
         (state_of zone rest.slots es) _ there.1)
         (slice-moves handle x (state_of zone rest.slots es) _ there.1)
 
@@ -185,6 +185,6 @@ module _ (zone : List Block) (rest : Rest) (es : List Anchor) (agrees : Agrees z
         (content_of (rename_block f h source.0.here)) (bytes_of (spot (is_relocatable a.slot) zone))
         (content_of-rename f h source.0.here ∙ ap bytes_of (sym source.2))
         (hand_and_hand from to) (hand_and_hand_searches from to) (hand_and_hand_moves from to)
-        (hand-row from to (state_of zone rest.slots es) _ _ source.1 there.1) (hand-looks from to
+        (hand-row from to (state_of zone rest.slots es) _ _ source.1 there.1) (hand-searches from to
         (state_of zone rest.slots es) _ _ source.1 there.1)
         (hand-moves from to (state_of zone rest.slots es) _ _ source.1 there.1))

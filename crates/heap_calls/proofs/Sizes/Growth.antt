@@ -5,20 +5,20 @@ use Rattle.std.specs.List.{find}
 use Rattle.std.specs.Option.{option_map, option_or, IfSome, IsSomeAnd}
 use Rattle.block_store.specs.Block.{Block, is_purgeable, Free, size, add, tidy}
 use Rattle.block_store.specs.Run.{has, has_free, run_spot}
-use Rattle.block_store.specs.Room.{Spot, raised, spot, place, may_go, emptied}
+use Rattle.block_store.specs.Room.{Spot, raised, spot, place, may_be_purged, lowest_purged}
 use Rattle.block_store.specs.Grow.{growth, taken, grow_up, grow_mover, move_away}
 use Rattle.block_store.specs.Find.{FindsLowestRun}
 use Rattle.block_store.specs.Sparing.{spared, opened, purged}
-use Rattle.heap_calls.specs.Inner.Search.{FindsSeat}
+use Rattle.heap_calls.specs.Inner.Search.{FindsPlacement}
 use Rattle.heap_calls.specs.Inner.Growing.{FindsGrowth, Spares, Stays}
 use Rattle.block_store.specs.declared.sparing.Sparing.{Sparing}
 use Rattle.block_store.specs.declared.sparing.Sparing.TheVariants as sparing
 use Rattle.block_store.proofs.Plain.Options.{the_some}
 use Rattle.mac_words.proofs.Plain.{is_some-map, not_some}
-use Rattle.heap_calls.specs.declared.search.Seat.{Seat}
+use Rattle.heap_calls.specs.declared.search.Placement.{Placement}
 use Rattle.heap_calls.specs.declared.growing.Growth.{Growth}
 use Rattle.heap_calls.specs.declared.growing.Growth.TheVariants as grows
-use Rattle.heap_calls.proofs.Room.Searching.{seat-some}
+use Rattle.heap_calls.proofs.Room.Searching.{placement-some}
 use Rattle.block_store.proofs.Zone.Tidy.{add-joined}
 
 module _ (test : Block → Bool) (new : Block) (zone : List Block) (d : ℕ) (r : Bool)
@@ -38,9 +38,9 @@ module _ (test : Block → Bool) (new : Block) (zone : List Block) (d : ℕ) (r 
     no-up : r ≡ false → grow_up new at.0 ≡ None
     no-up is = not_some (grow_up new at.0) (up ∙ is)
 
-    pub away-found : (p : ℕ) (seat : Seat) → size new ≡ p → r ≡ false → FindsSeat p zone (Some seat)
-        → FindsGrowth test new zone (Some (grows.Away seat))
-    away-found p seat e is found = let P : ℕ → Type 0 = λ n. FindsSeat n zone (Some seat) in
+    pub away-found : (p : ℕ) (placement : Placement) → size new ≡ p → r ≡ false → FindsPlacement p zone (Some placement)
+        → FindsGrowth test new zone (Some (grows.Away placement))
+    away-found p placement e is found = let P : ℕ → Type 0 = λ n. FindsPlacement n zone (Some placement) in
         (at.0, at.1, no-up is, subst P (sym e) found)
 
     pub last-found : (p run : ℕ) → size new ≡ p → r ≡ false → place p zone ≡ None
@@ -69,9 +69,9 @@ growth-some test new zone pos (Some grows.Up) found is = rw found.1 (either (gro
     either : (a b : Option (List Block)) → is_some a ≡ true → is_some (option_or a b) ≡ true
     either None b e = let f : false ≡ true = e in cc
     either (Some x) b e = refl
-growth-some test new zone pos (Some (grows.Away seat)) found is =
+growth-some test new zone pos (Some (grows.Away placement)) found is =
     rw (found.1, found.2) (either (move_away test new zone) _ (is_some-map _ (place (size new) zone)
-    ∙ seat-some (size new) zone pos (Some seat) found.3 refl))
+    ∙ placement-some (size new) zone pos (Some placement) found.3 refl))
   where
     either : (a b : Option (List Block)) → is_some a ≡ true → is_some (option_or a b) ≡ true
     either None b e = let f : false ≡ true = e in cc
@@ -100,25 +100,26 @@ find-tidy test none [] = refl
 find-tidy test none (b ∷ bs) = find-add test none b (tidy bs) ∙ ap (cond (test b) (Some b)) (find-tidy test none bs)
 
 -- a block that is spared stays
-pub find-emptied : (test sp : Block → Bool) → ((n : ℕ) → test (Free n) ≡ false)
+pub find-lowest_purged : (test sp : Block → Bool) → ((n : ℕ) → test (Free n) ≡ false)
     → ((b : Block) → test b ≡ true → sp b ≡ true) → (k : ℕ) (bs : List Block)
-    → find test (emptied k sp bs) ≡ find test bs
-find-emptied test sp none spares zero bs = refl
-find-emptied test sp none spares (suc k) [] = refl
-find-emptied test sp none spares (suc k) (b ∷ bs) = cases (may_go sp b) refl (find-emptied test sp none spares k bs)
-    (find-emptied test sp none spares (suc k) bs)
+    → find test (lowest_purged k sp bs) ≡ find test bs
+find-lowest_purged test sp none spares zero bs = refl
+find-lowest_purged test sp none spares (suc k) [] = refl
+find-lowest_purged test sp none spares (suc k) (b ∷ bs) = cases (may_be_purged sp b) refl
+    (find-lowest_purged test sp none spares k bs)
+    (find-lowest_purged test sp none spares (suc k) bs)
   where
     gone : (t u : Bool) → u ≡ true → (t && not u) ≡ false
     gone t true e = elim t as (λ t. (t && false) ≡ false) [ true ↦ refl | false ↦ refl ]
     gone t false e = let f : false ≡ true = e in cc
 
-    stays : (t : Bool) → test b ≡ t → may_go sp b ≡ true → test b ≡ false
+    stays : (t : Bool) → test b ≡ t → may_be_purged sp b ≡ true → test b ≡ false
     stays true e go = let f : false ≡ true = sym (gone (is_purgeable b) (sp b) (spares b e)) ∙ go in cc
     stays false e go = e
 
-    cases : (m : Bool) → may_go sp b ≡ m → find test (emptied k sp bs) ≡ find test bs
-        → find test (emptied (suc k) sp bs) ≡ find test bs
-        → find test (cond m (Free (size b) ∷ emptied k sp bs) (b ∷ emptied (suc k) sp bs))
+    cases : (m : Bool) → may_be_purged sp b ≡ m → find test (lowest_purged k sp bs) ≡ find test bs
+        → find test (lowest_purged (suc k) sp bs) ≡ find test bs
+        → find test (cond m (Free (size b) ∷ lowest_purged k sp bs) (b ∷ lowest_purged (suc k) sp bs))
         ≡ cond (test b) (Some b) (find test bs)
     cases true e one more = rw (none (size b), stays (test b) refl e) one
     cases false e one more = ap (cond (test b) (Some b)) more
@@ -137,8 +138,8 @@ find-opened test n none zone s = ap (find test) (opened-stays test n zone s)
 -- a block that is spared is the same after purges
 pub find-purged : (test : Block → Bool) (n : Sparing) → ((m : ℕ) → test (Free m) ≡ false) → Spares n test → Stays n test
     → (k : ℕ) (zone : List Block) → find test (purged k n zone) ≡ find test zone
-find-purged test n none spares stays k zone = find-tidy test none (emptied k (spared n) (opened n zone))
-    ∙ find-emptied test (spared n) none spares k (opened n zone) ∙ find-opened test n none zone stays
+find-purged test n none spares stays k zone = find-tidy test none (lowest_purged k (spared n) (opened n zone))
+    ∙ find-lowest_purged test (spared n) none spares k (opened n zone) ∙ find-opened test n none zone stays
 
 pub growth-stays : (test : Block → Bool) (new : Block) (d : ℕ) (n : Sparing) → ((m : ℕ) → test (Free m) ≡ false)
     → Spares n test → Stays n test → (k : ℕ) (zone : List Block) → IsSomeAnd (spot test zone) (λ s. growth new s ≡ d)

@@ -68,35 +68,36 @@ pub grown-still : (t sp : Block → Bool) (n : ℕ) (zone : List Block) (answer 
 grown-still t sp n zone answer s found still more is =
     rw found (cond-false _ _ _ (lt-leb (size (resized n s.here)) (size s.here) more) ∙ cond-false _ _ _ still ∙ is)
 
--- how many looks the growth of a block takes
-looks-is : (t sp : Block → Bool) (n : ℕ) (zone : List Block) (s : Spot) → spot t zone ≡ Some s → is_some (phys n) ≡ true
+-- how many searches the growth of a block takes
+searches-is : (t sp : Block → Bool) (n : ℕ) (zone : List Block) (s : Spot) → spot t zone ≡ Some s → is_some (phys n)
+    ≡ true
     → size s.here < size (resized n s.here)
     → size_searches t sp n zone ≡ cond (is_mover s.here) (room_searches (grow_mover t (resized n s.here)) sp zone)
     (in_place_searches sp (resized n s.here) s)
-looks-is t sp n zone s found fits more = cond-true _ _ 0 fits
+searches-is t sp n zone s found fits more = cond-true _ _ 0 fits
     ∙ rw found (cond-false _ 0 _ (lt-leb (size (resized n s.here)) (size s.here) more))
 
 -- where it may move
-pub looks-moved : {E : Type 0} (t sp : Block → Bool) (n : ℕ) (zone : List Block) (r : Result Grown E) (s : Spot)
+pub searches-moved : {E : Type 0} (t sp : Block → Bool) (n : ℕ) (zone : List Block) (r : Result Grown E) (s : Spot)
     → spot t zone ≡ Some s → is_mover s.here ≡ true → is_some (phys n) ≡ true → size s.here < size (resized n s.here)
     → IfOk r (λ g. IfSome (spot t zone) (λ s. g.searches ≡ room_searches (grow_mover t (resized n s.here)) sp zone))
     → IfOk r (λ g. g.searches ≡ size_searches t sp n zone)
-looks-moved t sp n zone (Err e) s found mover fits more is = tt
-looks-moved t sp n zone (Ok g) s found mover fits more is =
+searches-moved t sp n zone (Err e) s found mover fits more is = tt
+searches-moved t sp n zone (Ok g) s found mover fits more is =
     let P : Option Spot → Type 0 = λ o. IfSome o (λ s. g.searches
     ≡ room_searches (grow_mover t (resized n s.here)) sp zone) in
-    subst P found is ∙ sym (looks-is t sp n zone s found fits more ∙ cond-true _ _ _ mover)
+    subst P found is ∙ sym (searches-is t sp n zone s found fits more ∙ cond-true _ _ _ mover)
 
 -- where it doesn't
-pub looks-still : {E : Type 0} (t sp : Block → Bool) (n at : ℕ) (zone : List Block) (r : Result Grown E) (s : Spot)
+pub searches-still : {E : Type 0} (t sp : Block → Bool) (n at : ℕ) (zone : List Block) (r : Result Grown E) (s : Spot)
     → spot t zone ≡ Some s → spot_at at zone ≡ Some s → is_mover s.here ≡ false → is_some (phys n) ≡ true
     → size s.here < size (resized n s.here)
     → IfOk r (λ g. IfSome (spot_at at zone) (λ s. g.searches ≡ in_place_searches sp (resized n s.here) s))
     → IfOk r (λ g. g.searches ≡ size_searches t sp n zone)
-looks-still t sp n at zone (Err e) s found stands still fits more is = tt
-looks-still t sp n at zone (Ok g) s found stands still fits more is =
+searches-still t sp n at zone (Err e) s found stands still fits more is = tt
+searches-still t sp n at zone (Ok g) s found stands still fits more is =
     at_place at zone s (λ s. g.searches ≡ in_place_searches sp (resized n s.here) s) stands is
-    ∙ sym (looks-is t sp n zone s found fits more ∙ cond-false _ _ _ still)
+    ∙ sym (searches-is t sp n zone s found fits more ∙ cond-false _ _ _ still)
 
 -- what the block takes, and what it is to take
 as-sized : (number n bytes taken : ℕ) (zone : List Block) (s : Spot) → spot (is_relocatable number) zone ≡ Some s

@@ -9,7 +9,7 @@ use Rattle.block_store.proofs.Zone.Totals.{total-le}
 use Rattle.heap_calls.specs.State.{State, Memory, Meaning, Role, Handle}
 use Rattle.heap_calls.specs.Answer.{nothing}
 use Rattle.heap_calls.specs.Inside.{new_filled, refill, refill_inside, has_block}
-use Rattle.heap_calls.specs.Path.{Step, NewFilled, NewEmptied, Refill, Release, Cast, stepped, read_new, read_again}
+use Rattle.heap_calls.specs.Path.{Step, NewFilled, NewEmpty, Refill, Release, Cast, stepped, read_new, read_again}
 use Rattle.heap_calls.specs.Path.{read_by, walk, reads, put_reads}
 use Rattle.heap_calls.proofs.Promises.Knowing.{Known, for_handle, for_pointer, strange, with_bytes, with-same}
 use Rattle.heap_calls.proofs.Promises.Knowing.{with-other}
@@ -82,7 +82,7 @@ known-cast s bytes known h role other is = record {
 pub step-known : (step : Step) (m : Memory) (bytes : ℕ → List ℕ) → Known m.heap bytes
     → Known (stepped step m).heap (put_reads (read_by step m) bytes)
 step-known (NewFilled role flags x) m bytes known = known-filled role flags x m.heap bytes known
-step-known (NewEmptied role) m bytes known =
+step-known (NewEmpty role) m bytes known =
     emptied-goes (λ a. Known a.1 bytes) role m.heap (λ is. known)
     (λ r is. known-sparing r bytes (known-slotted nothing m.heap bytes known r is) (Handle role))
 step-known (Refill h flags x) m bytes known = by_block (has_block h m.heap) refl

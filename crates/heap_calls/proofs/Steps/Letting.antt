@@ -13,7 +13,8 @@ use Rattle.heap_calls.specs.State.{State, Memory, Meaning, Handle, Pointer, Disp
 use Rattle.heap_calls.specs.Answer.{known_as}
 use Rattle.heap_calls.specs.Inside.{released, released_as}
 use Rattle.heap_calls.specs.Locked.{is_locked, locked_place}
-use Rattle.heap_calls.specs.Path.{Step, NewFilled, NewEmptied, Refill, Release, Cast, stepped, walk, refusal, lets, lets_of}
+use Rattle.heap_calls.specs.Path.{Step, NewFilled, NewEmpty, Refill, Release, Cast, stepped, walk, refusal}
+use Rattle.heap_calls.specs.Path.{step_disposes, steps_dispose}
 use Rattle.heap_calls.specs.Path.{read_by, put_reads}
 use Rattle.heap_calls.proofs.Promises.Knowing.{Known, for_handle, none-handle}
 use Rattle.heap_calls.proofs.Promises.LockedLaws.{fewer, some-locked}
@@ -44,9 +45,9 @@ locked-there h place s is = cases (has (is_relocatable h) s.zone) refl
 
 -- a step that is refused lets no handle go
 pub refused-lets : (step : Step) (m : Memory) (code : OsErr) → refusal step m ≡ Some code → (h : ℕ)
-    → lets step h ≡ false
+    → step_disposes step h ≡ false
 refused-lets (NewFilled role flags bytes) m code e h = refl
-refused-lets (NewEmptied role) m code e h = refl
+refused-lets (NewEmpty role) m code e h = refl
 refused-lets (Refill k flags bytes) m code e h = refl
 refused-lets (Release k) m code e h = absurd (none-some code e)
 refused-lets (Cast change k) m code e h = refl
@@ -90,14 +91,14 @@ walk-less (k ∷ handles) h m =
     omega arith
 
 pub walk-none : (handles : List ℕ) (h : ℕ) (m : Memory) (bytes : ℕ → List ℕ) → Known m.heap bytes
-    → lets_of (releases handles) h ≡ true → locked_count h (walk (releases handles) m).heap ≤ 0
+    → steps_dispose (releases handles) h ≡ true → locked_count h (walk (releases handles) m).heap ≤ 0
 walk-none [] h m bytes known takes = let f : false ≡ true = takes in cc
 walk-none (k ∷ handles) h m bytes known takes = by_number (k == h) refl takes
     (walk-none handles h (stepped (Release k) m) (put_reads (read_by (Release k) m) bytes)
     (step-known (Release k) m bytes known))
   where
-    by_number : (t : Bool) → (k == h) ≡ t → (t || lets_of (releases handles) h) ≡ true
-        → (lets_of (releases handles) h ≡ true → locked_count h (walk (releases (k ∷ handles)) m).heap ≤ 0)
+    by_number : (t : Bool) → (k == h) ≡ t → (t || steps_dispose (releases handles) h) ≡ true
+        → (steps_dispose (releases handles) h ≡ true → locked_count h (walk (releases (k ∷ handles)) m).heap ≤ 0)
         → locked_count h (walk (releases (k ∷ handles)) m).heap ≤ 0
     by_number true e takes later =
         let none = subst (λ (j : ℕ). locked_count h (released j m.heap) ≤ 0) (sym ((Decides-eqb k h).0 e))

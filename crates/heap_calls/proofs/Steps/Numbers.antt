@@ -6,8 +6,8 @@ use Rattle.block_store.specs.declared.flags.Flags.{Flags}
 use Rattle.heap_calls.specs.State.{State, Memory, Meaning, Role, Handle}
 use Rattle.heap_calls.specs.Answer.{Answer, nothing}
 use Rattle.heap_calls.specs.Slots.{slotted}
-use Rattle.heap_calls.specs.Inside.{new_inside, new_emptied_inside, refill_inside, has_block}
-use Rattle.heap_calls.specs.Path.{Step, NewFilled, NewEmptied, Refill, stepped, refusal, refusal_of, read_by}
+use Rattle.heap_calls.specs.Inside.{new_inside, new_empty_inside, refill_inside, has_block}
+use Rattle.heap_calls.specs.Path.{Step, NewFilled, NewEmpty, Refill, stepped, refusal, refusal_of, read_by}
 use Rattle.heap_calls.specs.Path.{read_again}
 use Rattle.heap_calls.proofs.Steps.Refusals.{step-refused}
 use Rattle.heap_calls.proofs.Steps.Ways.{with_new, filled-goes, emptied-goes, refill-goes, slotted-names}
@@ -38,8 +38,8 @@ filled-number role flags bytes m =
     (λ r is. numbers-none role m.heap r MEM_FULL)
     (λ r z is fits. numbers-next role m.heap r (with_new role z r) is refl)
 
-pub emptied-number : (role : Role) (m : Memory) (h : ℕ) → (new_emptied_inside role m).0 ≡ Ok h
-    → (h ≡ length m.heap.names) × ((stepped (NewEmptied role) m).heap.names ≡ m.heap.names ++ Handle role ∷ [])
+pub emptied-number : (role : Role) (m : Memory) (h : ℕ) → (new_empty_inside role m).0 ≡ Ok h
+    → (h ≡ length m.heap.names) × ((stepped (NewEmpty role) m).heap.names ≡ m.heap.names ++ Handle role ∷ [])
 emptied-number role m =
     emptied-goes (Numbers role m.heap) role m.heap (λ none. numbers-none role m.heap m.heap MEM_FULL)
     (λ r is. numbers-next role m.heap r (with_new role r.zone r) is refl)
@@ -59,7 +59,7 @@ pub refused-names : (step : Step) (m : Memory) (code : OsErr) → refusal step m
     → (stepped step m).heap.names ≡ m.heap.names
 refused-names step m code refused = ap (λ (s : State). s.names) (step-refused step m code refused)
 
--- the step that fills an emptied handle
+-- the step that fills an empty handle
 pub refilled-is : (h : ℕ) (flags : Flags) (bytes : List ℕ) (m : Memory) → has_block h m.heap ≡ false
     → stepped (Refill h flags bytes) m ≡ (refill_inside h flags bytes m).1
 refilled-is h flags bytes m none = ap (λ (t : Bool). cond t m (refill_inside h flags bytes m).1) none

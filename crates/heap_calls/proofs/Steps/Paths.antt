@@ -1,6 +1,6 @@
 use Rattle.std.proofs.Common.{◌≡◌, ℕ, Bool, true, false, ◌||◌, List, [], ◌∷◌, ◌++◌, refl, sym, ◌∙◌, ap, append_assoc}
 use Rattle.heap_calls.specs.State.{Memory}
-use Rattle.heap_calls.specs.Path.{Step, stepped, read_by, walk, reads, put_reads, lets, lets_of}
+use Rattle.heap_calls.specs.Path.{Step, stepped, read_by, walk, reads, put_reads, step_disposes, steps_dispose}
 use Rattle.heap_calls.proofs.Promises.Knowing.{with_bytes}
 
 -- A path of steps, and one that follows it.
@@ -17,11 +17,13 @@ reads-then (step ∷ first) later m =
     ∙ sym (append_assoc (read_by step m) (reads first (stepped step m)) (reads later (walk first (stepped step m))))
 
 pub lets-then : (first later : List Step) (h : ℕ)
-    → lets_of (first ++ later) h ≡ (lets_of first h || lets_of later h)
+    → steps_dispose (first ++ later) h ≡ (steps_dispose first h || steps_dispose later h)
 lets-then [] later h = refl
-lets-then (step ∷ first) later h = ap (λ (t : Bool). lets step h || t) (lets-then first later h) ∙ cases (lets step h)
+lets-then (step ∷ first) later h = ap (λ (t : Bool). step_disposes step h || t) (lets-then first later h)
+    ∙ cases (step_disposes step h)
   where
-    cases : (t : Bool) → (t || (lets_of first h || lets_of later h)) ≡ ((t || lets_of first h) || lets_of later h)
+    cases : (t : Bool) → (t || (steps_dispose first h || steps_dispose later h))
+        ≡ ((t || steps_dispose first h) || steps_dispose later h)
     cases true = refl
     cases false = refl
 

@@ -2,7 +2,7 @@ use Rattle.std.proofs.Common.{◌≡◌, ℕ, Bool, true, false, List, [], ◌�
 use Rattle.block_store.specs.Rest.{Site}
 use Rattle.heap_calls.specs.State.{Memory}
 use Rattle.heap_calls.specs.Inside.{has_block, refill_inside}
-use Rattle.heap_calls.specs.Path.{Step, NewFilled, NewEmptied, Refill, Release, Cast, stepped, read_by, refusal, walk}
+use Rattle.heap_calls.specs.Path.{Step, NewFilled, NewEmpty, Refill, Release, Cast, stepped, read_by, refusal, walk}
 use Rattle.heap_calls.specs.Path.{reads}
 use Rattle.heap_calls.proofs.Tries.Elsewhere.{elsewhere}
 
@@ -11,7 +11,7 @@ use Rattle.heap_calls.proofs.Tries.Elsewhere.{elsewhere}
 pub step-elsewhere : (window : Site) (step : Step) (m : Memory)
     → stepped step (elsewhere window m) ≡ elsewhere window (stepped step m)
 step-elsewhere window (NewFilled role flags bytes) m = refl
-step-elsewhere window (NewEmptied role) m = refl
+step-elsewhere window (NewEmpty role) m = refl
 step-elsewhere window (Refill h flags bytes) m = by_block (has_block h m.heap)
   where
     by_block : (t : Bool) → cond t (elsewhere window m) (refill_inside h flags bytes (elsewhere window m)).1
@@ -24,14 +24,14 @@ step-elsewhere window (Cast change h) m = refl
 pub refusal-elsewhere : (window : Site) (step : Step) (m : Memory)
     → refusal step (elsewhere window m) ≡ refusal step m
 refusal-elsewhere window (NewFilled role flags bytes) m = refl
-refusal-elsewhere window (NewEmptied role) m = refl
+refusal-elsewhere window (NewEmpty role) m = refl
 refusal-elsewhere window (Refill h flags bytes) m = refl
 refusal-elsewhere window (Release h) m = refl
 refusal-elsewhere window (Cast change h) m = refl
 
 read-elsewhere : (window : Site) (step : Step) (m : Memory) → read_by step (elsewhere window m) ≡ read_by step m
 read-elsewhere window (NewFilled role flags bytes) m = refl
-read-elsewhere window (NewEmptied role) m = refl
+read-elsewhere window (NewEmpty role) m = refl
 read-elsewhere window (Refill h flags bytes) m = refl
 read-elsewhere window (Release h) m = refl
 read-elsewhere window (Cast change h) m = refl
@@ -62,7 +62,7 @@ rests-same m = record { busy = refl; code = refl; window = refl }
 
 pub step-rests : (step : Step) (m : Memory) → Rests m (stepped step m)
 step-rests (NewFilled role flags bytes) m = record { busy = refl; code = refl; window = refl }
-step-rests (NewEmptied role) m = record { busy = refl; code = refl; window = refl }
+step-rests (NewEmpty role) m = record { busy = refl; code = refl; window = refl }
 step-rests (Refill h flags bytes) m = by_block (has_block h m.heap)
   where
     by_block : (t : Bool) → Rests m (cond t m (refill_inside h flags bytes m).1)

@@ -10,8 +10,8 @@ use Rattle.heap_calls.specs.Answer.{nothing}
 use Rattle.heap_calls.specs.Slots.{slotted}
 use Rattle.heap_calls.specs.Refused.{slotted_zone}
 use Rattle.heap_calls.specs.Staying.{ease, staying}
-use Rattle.heap_calls.specs.Inside.{has_block, refill_inside, new_inside, new_emptied_inside}
-use Rattle.heap_calls.specs.Path.{Step, NewFilled, NewEmptied, Refill, Release, Cast, stepped, refusal, refusal_of}
+use Rattle.heap_calls.specs.Inside.{has_block, refill_inside, new_inside, new_empty_inside}
+use Rattle.heap_calls.specs.Path.{Step, NewFilled, NewEmpty, Refill, Release, Cast, stepped, refusal, refusal_of}
 use Rattle.heap_calls.specs.Path.{left_zone}
 use Rattle.heap_calls.proofs.Promises.RefusedCalls.{Leaves, done}
 use Rattle.heap_calls.proofs.Tries.Keeping.{slotted-le}
@@ -45,11 +45,11 @@ step-refused (NewFilled role flags bytes) m = λ code e.
     (λ none code e. unslotted-is m.heap none) (λ r is code e. slotted-is m.heap r is)
     (λ r z is fits. done (length r.names) (slotted_zone nothing m.heap) m.heap (with_new role z r)) code
     (refusal-err (new_inside role flags bytes m).0 code e)
-step-refused (NewEmptied role) m = λ code e.
+step-refused (NewEmpty role) m = λ code e.
     emptied-goes (Leaves (slotted_zone nothing m.heap) m.heap) role m.heap
     (λ none code e. unslotted-is m.heap none)
     (λ r is. done (length r.names) (slotted_zone nothing m.heap) m.heap (with_new role r.zone r)) code
-    (refusal-err (new_emptied_inside role m).0 code e)
+    (refusal-err (new_empty_inside role m).0 code e)
 step-refused (Refill h flags bytes) m = by_block (has_block h m.heap)
   where
     by_block : (t : Bool) → (code : OsErr) → cond t None (refusal_of (refill_inside h flags bytes m).0) ≡ Some code
@@ -63,7 +63,7 @@ step-refused (Cast change h) m = λ code e. absurd (none-some code e)
 
 left-le : (step : Step) (s : State) → staying (left_zone step s) ≤ staying s.zone
 left-le (NewFilled role flags bytes) s = slotted-le nothing s
-left-le (NewEmptied role) s = slotted-le nothing s
+left-le (NewEmpty role) s = slotted-le nothing s
 left-le (Refill h flags bytes) s = omega arith
 left-le (Release h) s = omega arith
 left-le (Cast change h) s = omega arith

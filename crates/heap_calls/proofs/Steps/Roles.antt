@@ -5,7 +5,7 @@ use Rattle.block_store.specs.declared.flags.Flags.{Flags}
 use Rattle.heap_calls.specs.State.{State, Meaning, Role, Plain, Handle, Pointer, Disposed}
 use Rattle.heap_calls.specs.Answer.{Answer, nothing, known_as}
 use Rattle.heap_calls.specs.Slots.{slotted}
-use Rattle.heap_calls.specs.Inside.{new_filled, new_emptied, refill, released, released_as, cast, cast_as, owned_as}
+use Rattle.heap_calls.specs.Inside.{new_filled, new_empty, refill, released, released_as, cast, cast_as, owned_as}
 use Rattle.heap_calls.specs.Inside.{resource_role}
 use Rattle.heap_calls.specs.Owned.{resource_only, resource_meant, resource_role_at}
 use Rattle.heap_calls.proofs.Promises.Knowing.{next-none}
@@ -48,7 +48,7 @@ filled-makes role flags bytes s =
     filled-goes (MakesHandle role s) role flags bytes s (λ is h. refl) (λ r is. slotted-same s r is)
     (λ r z is fits. slotted-makes role s r (with_new role z r) is refl)
 
-pub emptied-makes : (role : Role) (s : State) → MakesHandle role s (new_emptied role s)
+pub emptied-makes : (role : Role) (s : State) → MakesHandle role s (new_empty role s)
 emptied-makes role s =
     emptied-goes (MakesHandle role s) role s (λ is h. refl)
     (λ r is. slotted-makes role s r (with_new role r.zone r) is refl)

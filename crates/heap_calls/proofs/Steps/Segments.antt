@@ -22,7 +22,7 @@ use Rattle.heap_calls.specs.Answer.{Answer, Held, refused, known_as, held_at, lo
 use Rattle.heap_calls.specs.Answer.{h_unlock, hoisted}
 use Rattle.heap_calls.specs.Locked.{is_locked, locked_place}
 use Rattle.heap_calls.specs.Standing.{pointer_place}
-use Rattle.heap_calls.specs.Emptying.{may_be_emptied}
+use Rattle.heap_calls.specs.Emptying.{has_purgeable}
 use Rattle.heap_calls.specs.Owned.{resource_meant, resource_role_at}
 use Rattle.heap_calls.specs.Inside.{inside, held_high, loosened, has_block}
 use Rattle.heap_calls.proofs.Promises.Knowing.{Known, for_handle, look_up-spot, none-handle, known-less}
@@ -397,7 +397,7 @@ loosened-none h s bytes known there =
     none : total (locks (is_locked h)) now.zone ≤ 0
     none = none-locked h s bytes known there
 
--- a block of a handle that isn't locked may be emptied once it is purgeable
+-- a block of a handle that isn't locked may be purged once it is purgeable
 purgeable-now : (h : ℕ) (b : Block) → is_relocatable h b ≡ true → locks (is_locked h) b ≤ 0
     → (is_relocatable h (flagged purging b) && is_purgeable (flagged purging b)) ≡ true
 purgeable-now h (Free n) is open_now = is
@@ -410,11 +410,11 @@ purgeable-now h (Relocatable id flags content) is open_now = cases (id == h) is 
     cases true e true le = absurd (let f : 1 ≤ 0 = le in omega arith)
     cases true e false le = refl
 
--- the block of a handle that has one may be emptied once it was loosened
-pub loosened-may_be_emptied : (h : ℕ) (s : State) (bytes : ℕ → List ℕ) → Known s bytes → has_block h s ≡ true
-    → may_be_emptied h (loosened h s).zone ≡ true
-loosened-may_be_emptied h s bytes known there =
-    flags-go (λ t. may_be_emptied h t.zone ≡ true) purging h now
+-- the block of a handle that has one may be purged once it was loosened
+pub loosened-has_purgeable : (h : ℕ) (s : State) (bytes : ℕ → List ℕ) → Known s bytes → has_block h s ≡ true
+    → has_purgeable h (loosened h s).zone ≡ true
+loosened-has_purgeable h s bytes known there =
+    flags-go (λ t. has_purgeable h t.zone ≡ true) purging h now
     (λ code e. absurd (block-found h now bytes (known-flags unlocking (Some h) s bytes known) still e))
     (λ at found.
     let none = none-locked h s bytes known there in

@@ -13,8 +13,8 @@ use Rattle.heap_calls.specs.Answer.{nothing}
 use Rattle.heap_calls.specs.Inside.{has_block}
 use Rattle.heap_calls.specs.Locked.{is_locked, locked_place}
 use Rattle.heap_calls.specs.Standing.{pointer_place}
-use Rattle.heap_calls.specs.Path.{Step, NewFilled, NewEmptied, Refill, Release, Cast, stepped, walk, read_by, put_reads}
-use Rattle.heap_calls.specs.Path.{lets, lets_of}
+use Rattle.heap_calls.specs.Path.{Step, NewFilled, NewEmpty, Refill, Release, Cast, stepped, walk, read_by, put_reads}
+use Rattle.heap_calls.specs.Path.{step_disposes, steps_dispose}
 use Rattle.heap_calls.proofs.Promises.Knowing.{Known, for_handle, none-handle, next-none}
 use Rattle.heap_calls.proofs.Promises.AlikeCalls.{Steady, never, steady-never, alike-slotted, alike-gone}
 use Rattle.heap_calls.proofs.Promises.LockedLaws.{steady-locked, fewer, some-locked, other-unlocked}
@@ -27,7 +27,7 @@ use Rattle.heap_calls.proofs.Steps.Knowledge.{step-known}
 -- no block that a step makes or lets go is seen
 abbrev pub Unseen : (Block → Bool) → Step → State → Type 0
 Unseen seen (NewFilled role flags bytes) s = seen (Relocatable (length s.names) flags bytes) ≡ false
-Unseen seen (NewEmptied role) s = Unit {0}
+Unseen seen (NewEmpty role) s = Unit {0}
 Unseen seen (Refill h flags bytes) s = has_block h s ≡ false → seen (Relocatable h flags bytes) ≡ false
 Unseen seen (Release h) s = (b : Block) → is_relocatable h b ≡ true → seen b ≡ false
 Unseen seen (Cast change h) s = Unit {0}
@@ -48,7 +48,7 @@ module _ (seen : Block → Bool) (steady : Steady seen)
           λ z fits. alike-then seen steady.rigid s.zone r.zone z a
               (alike-new (Relocatable (length r.names) flags bytes) open_new r.zone z fits),
         )
-    alike-goes (NewEmptied role) s unseen = alike-slotted seen steady nothing s
+    alike-goes (NewEmpty role) s unseen = alike-slotted seen steady nothing s
     alike-goes (Refill h flags bytes) s unseen = λ none is z fits.
         alike-new (Relocatable h flags bytes) (unseen none) s.zone z fits
     alike-goes (Release h) s unseen = λ is. alike-gone seen steady (is_relocatable h) unseen s.zone
@@ -74,11 +74,11 @@ without-unlocked h place k zone is none flags bytes = cases (k == h) refl
         some-locked h place zone is ((true && flags.locked) ≡ false) (omega arith)
 
 unseen-locked : (step : Step) (s : State) (bytes : ℕ → List ℕ) → Known s bytes → (h place : ℕ)
-    → lets step h ≡ false → locked_place h s.zone ≡ Some place → Unseen (is_locked h) step s
+    → step_disposes step h ≡ false → locked_place h s.zone ≡ Some place → Unseen (is_locked h) step s
 unseen-locked (NewFilled role flags x) s bytes known h place keeps is =
     without-unlocked h place (length s.names) s.zone is
     (none-handle s bytes known (length s.names) (ap for_handle (next-none s.names))) flags x
-unseen-locked (NewEmptied role) s bytes known h place keeps is = tt
+unseen-locked (NewEmpty role) s bytes known h place keeps is = tt
 unseen-locked (Refill k flags x) s bytes known h place keeps is = λ none.
     without-unlocked h place k s.zone is (let n = count-none (is_relocatable k) s.zone none in omega arith) flags x
 unseen-locked (Release k) s bytes known h place keeps is = other-unlocked h k keeps
@@ -86,7 +86,7 @@ unseen-locked (Cast change k) s bytes known h place keeps is = tt
 
 -- a locked block is where it was after a step that doesn't let its handle go
 pub step-locked : (step : Step) (m : Memory) (bytes : ℕ → List ℕ) → Known m.heap bytes → (h place : ℕ)
-    → lets step h ≡ false → locked_place h m.heap.zone ≡ Some place
+    → step_disposes step h ≡ false → locked_place h m.heap.zone ≡ Some place
     → locked_place h (stepped step m).heap.zone ≡ Some place
 step-locked step m bytes known h place keeps is =
     let zone = m.heap.zone in
@@ -97,17 +97,17 @@ step-locked step m bytes known h place keeps is =
 
 -- and after a path
 pub steps-locked : (steps : List Step) (m : Memory) (bytes : ℕ → List ℕ) → Known m.heap bytes → (h place : ℕ)
-    → lets_of steps h ≡ false → locked_place h m.heap.zone ≡ Some place
+    → steps_dispose steps h ≡ false → locked_place h m.heap.zone ≡ Some place
     → locked_place h (walk steps m).heap.zone ≡ Some place
 steps-locked [] m bytes known h place keeps is = is
 steps-locked (step ∷ steps) m bytes known h place keeps is =
-    let both = or_parts (lets step h) (lets_of steps h) keeps in
+    let both = or_parts (step_disposes step h) (steps_dispose steps h) keeps in
     steps-locked steps (stepped step m) (put_reads (read_by step m) bytes) (step-known step m bytes known) h place
     both.1 (step-locked step m bytes known h place both.0 is)
 
 unseen-fixed : (p : ℕ) (step : Step) (s : State) → Unseen (is_fixed p) step s
 unseen-fixed p (NewFilled role flags x) s = refl
-unseen-fixed p (NewEmptied role) s = tt
+unseen-fixed p (NewEmpty role) s = tt
 unseen-fixed p (Refill k flags x) s = λ none. refl
 unseen-fixed p (Release k) s = not_fixed-relocatable p k
 unseen-fixed p (Cast change k) s = tt
@@ -126,7 +126,7 @@ steps-fixed (step ∷ steps) m p = steps-fixed steps (stepped step m) p ∙ step
 
 unseen-never : (step : Step) (s : State) → Unseen never step s
 unseen-never (NewFilled role flags x) s = refl
-unseen-never (NewEmptied role) s = tt
+unseen-never (NewEmpty role) s = tt
 unseen-never (Refill k flags x) s = λ none. refl
 unseen-never (Release k) s = λ b is. refl
 unseen-never (Cast change k) s = tt

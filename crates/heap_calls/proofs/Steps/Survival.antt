@@ -6,20 +6,21 @@ use Rattle.block_store.specs.Run.{has}
 use Rattle.block_store.proofs.Zone.Surviving.{made-all}
 use Rattle.heap_calls.specs.State.{State, Memory}
 use Rattle.heap_calls.specs.Answer.{nothing}
-use Rattle.heap_calls.specs.Emptying.{may_be_emptied}
-use Rattle.heap_calls.specs.Path.{Step, NewFilled, NewEmptied, Refill, Release, Cast, stepped, walk, lets, lets_of}
+use Rattle.heap_calls.specs.Emptying.{has_purgeable}
+use Rattle.heap_calls.specs.Path.{Step, NewFilled, NewEmpty, Refill, Release, Cast, stepped, walk, step_disposes}
+use Rattle.heap_calls.specs.Path.{steps_dispose}
 use Rattle.heap_calls.proofs.Promises.EmptyingLaws.{Unseen, of-slotted, of-gone, stays, stays-goes, stays-sized}
 use Rattle.heap_calls.proofs.Promises.EmptyingLaws.{stays-filled, stays-other, stays-all, stays-le, still-there}
 use Rattle.heap_calls.proofs.Promises.EmptyingLaws.{masters, masters-goes, masters-sized, masters-filled}
 use Rattle.heap_calls.proofs.Promises.EmptyingLaws.{masters-handle}
 use Rattle.heap_calls.proofs.Steps.Ways.{Goes, step-goes}
 
--- Which blocks are there after steps on a heap: each that may not be emptied, and all of master pointers.
+-- Which blocks are there after steps on a heap: each that may not be purged, and all of master pointers.
 
 -- a step lets only blocks go that come to nothing
 abbrev pub Spares : (Block → ℕ) → Step → Type 0
 Spares of (NewFilled role flags bytes) = Unit {0}
-Spares of (NewEmptied role) = Unit {0}
+Spares of (NewEmpty role) = Unit {0}
 Spares of (Refill h flags bytes) = Unit {0}
 Spares of (Release h) = Unseen of (is_relocatable h)
 Spares of (Cast change h) = Unit {0}
@@ -35,7 +36,7 @@ module _ (of : Block → ℕ) (none : (n : ℕ) → of (Free n) ≡ 0)
           λ z fits. let b = made-all of none goes (Relocatable (length r.names) flags bytes) nothing r.zone z fits in
               omega arith,
         )
-    rises-goes (NewEmptied role) s spares = of-slotted of none goes sized filled nothing s
+    rises-goes (NewEmpty role) s spares = of-slotted of none goes sized filled nothing s
     rises-goes (Refill h flags bytes) s spares = λ gone is.
         made-all of none goes (Relocatable h flags bytes) nothing s.zone
     rises-goes (Release h) s spares = λ is. of-gone of none goes sized filled (is_relocatable h) spares s.zone
@@ -48,7 +49,7 @@ module _ (of : Block → ℕ) (none : (n : ℕ) → of (Free n) ≡ 0)
 
 masters-spared : (step : Step) → Spares masters step
 masters-spared (NewFilled role flags bytes) = tt
-masters-spared (NewEmptied role) = tt
+masters-spared (NewEmpty role) = tt
 masters-spared (Refill h flags bytes) = tt
 masters-spared (Release h) = masters-handle h
 masters-spared (Cast change h) = tt
@@ -65,32 +66,32 @@ steps-masters [] m = omega arith
 steps-masters (step ∷ steps) m = let a = step-masters step m in let b = steps-masters steps (stepped step m) in
     omega arith
 
-stays-spared : (h : ℕ) (step : Step) → lets step h ≡ false → Spares (stays h) step
+stays-spared : (h : ℕ) (step : Step) → step_disposes step h ≡ false → Spares (stays h) step
 stays-spared h (NewFilled role flags bytes) keeps = tt
-stays-spared h (NewEmptied role) keeps = tt
+stays-spared h (NewEmpty role) keeps = tt
 stays-spared h (Refill k flags bytes) keeps = tt
 stays-spared h (Release k) keeps = stays-other h k keeps
 stays-spared h (Cast change k) keeps = tt
 
--- a block that may not be emptied is there after steps that don't let its handle go
-steps-stay : (steps : List Step) (m : Memory) (h : ℕ) → lets_of steps h ≡ false
+-- a block that may not be purged is there after steps that don't let its handle go
+steps-stay : (steps : List Step) (m : Memory) (h : ℕ) → steps_dispose steps h ≡ false
     → total (stays h) m.heap.zone ≤ total (stays h) (walk steps m).heap.zone
 steps-stay [] m h keeps = omega arith
 steps-stay (step ∷ steps) m h keeps =
-    let both = or_parts (lets step h) (lets_of steps h) keeps in
+    let both = or_parts (step_disposes step h) (steps_dispose steps h) keeps in
     let a = rises-stepped (stays h) (λ n. refl) (stays-goes h) (stays-sized h) (stays-filled h) step m
     (stays-spared h step both.0) in
     let b = steps-stay steps (stepped step m) h both.1 in
     omega arith
 
--- so a handle that has a block before a path and none after it had one that might be emptied before the path, unless
+-- so a handle that has a block before a path and none after it had one that might be purged before the path, unless
 -- a step let it go
-pub steps-purgeable : (steps : List Step) (m : Memory) (h : ℕ) → lets_of steps h ≡ false
+pub steps-purgeable : (steps : List Step) (m : Memory) (h : ℕ) → steps_dispose steps h ≡ false
     → has (is_relocatable h) m.heap.zone ≡ true → has (is_relocatable h) (walk steps m).heap.zone ≡ false
-    → may_be_emptied h m.heap.zone ≡ true
-steps-purgeable steps m h keeps before after = cases (may_be_emptied h m.heap.zone) refl
+    → has_purgeable h m.heap.zone ≡ true
+steps-purgeable steps m h keeps before after = cases (has_purgeable h m.heap.zone) refl
   where
-    cases : (t : Bool) → may_be_emptied h m.heap.zone ≡ t → t ≡ true
+    cases : (t : Bool) → has_purgeable h m.heap.zone ≡ t → t ≡ true
     cases true e = refl
     cases false e =
         let s = steps-stay steps m h keeps in

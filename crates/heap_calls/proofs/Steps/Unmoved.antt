@@ -19,7 +19,7 @@ use Rattle.heap_calls.specs.Slots.{slotted, if_ready, made}
 use Rattle.heap_calls.specs.Searches.{room_searches, ready_searches}
 use Rattle.heap_calls.specs.Moves.{place_moves, put_moves, block_moves, new_handle_moves}
 use Rattle.heap_calls.specs.Inside.{new_filled, refill, refill_inside, refill_moves, for_known, has_block}
-use Rattle.heap_calls.specs.Path.{Step, NewFilled, NewEmptied, Refill, Release, Cast, stepped, refusal, refusal_of}
+use Rattle.heap_calls.specs.Path.{Step, NewFilled, NewEmpty, Refill, Release, Cast, stepped, refusal, refusal_of}
 use Rattle.heap_calls.proofs.Promises.FewSearches.{room-few}
 use Rattle.heap_calls.proofs.Promises.LastPutLaws.{handle_at-name}
 use Rattle.heap_calls.proofs.Room.MoveCounts.{no-place}
@@ -134,7 +134,7 @@ pub step-unmoved : (step : Step) (m : Memory) (code : OsErr) → refusal step m 
     → (stepped step m).moves ≡ m.moves
 step-unmoved (NewFilled role flags bytes) m code e =
     none-more m.moves (new_handle_moves (length bytes) m.heap) (filled-none role flags bytes m.heap code e)
-step-unmoved (NewEmptied role) m code e = refl
+step-unmoved (NewEmpty role) m code e = refl
 step-unmoved (Refill h flags bytes) m code e = by_block (has_block h m.heap) e
   where
     by_block : (t : Bool) → cond t None (refusal_of (refill_inside h flags bytes m).0) ≡ Some code

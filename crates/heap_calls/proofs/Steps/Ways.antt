@@ -14,9 +14,9 @@ use Rattle.heap_calls.specs.State as names
 use Rattle.heap_calls.specs.Answer.{Answer, nothing, refused, given, rebuilt, handle_at, for_found, without}
 use Rattle.heap_calls.specs.Answer as calls
 use Rattle.heap_calls.specs.Slots.{slotted, if_ready, more_masters, made}
-use Rattle.heap_calls.specs.Inside.{new_filled, new_emptied, refill, released, released_as, cast, cast_as, has_block}
+use Rattle.heap_calls.specs.Inside.{new_filled, new_empty, refill, released, released_as, cast, cast_as, has_block}
 use Rattle.heap_calls.specs.Inside.{refill_inside}
-use Rattle.heap_calls.specs.Path.{Step, NewFilled, NewEmptied, Refill, Release, Cast, stepped}
+use Rattle.heap_calls.specs.Path.{Step, NewFilled, NewEmpty, Refill, Release, Cast, stepped}
 use Rattle.heap_calls.proofs.Promises.Knowing.{for_handle}
 use Rattle.heap_calls.proofs.Promises.LastPutLaws.{handle_at-name}
 
@@ -70,11 +70,11 @@ filled-goes P role flags bytes s none full done =
         refl
     by_size r is false = full r is
 
--- a new emptied handle: there is no slot; or it is there
+-- a new empty handle: there is no slot; or it is there
 pub emptied-goes : (P : Answer ℕ → Type 0) (role : Role) (s : State)
     → (slotted nothing s ≡ None → P (refused MEM_FULL s))
     → ((r : State) → slotted nothing s ≡ Some r → P (Ok (length r.names), with_new role r.zone r))
-    → P (new_emptied role s)
+    → P (new_empty role s)
 emptied-goes P role s none done =
     ready-goes P (slotted nothing s) s (λ ready. given (Handle role) (Some ready.zone) ready) none done
 
@@ -137,7 +137,7 @@ abbrev pub Goes : (State → Type 0) → Step → State → Type 0
 Goes P (NewFilled role flags bytes) s =
     (r : State) → slotted nothing s ≡ Some r
     → P r × ((z : List Block) → Fits (length r.names) flags bytes r.zone z → P (with_new role z r))
-Goes P (NewEmptied role) s = (r : State) → slotted nothing s ≡ Some r → P (with_new role r.zone r)
+Goes P (NewEmpty role) s = (r : State) → slotted nothing s ≡ Some r → P (with_new role r.zone r)
 Goes P (Refill h flags bytes) s =
     has_block h s ≡ false → for_handle (slice_get s.names h) ≡ true → (z : List Block)
     → Fits h flags bytes s.zone z → P (record s { zone = z })
@@ -152,7 +152,7 @@ pub step-goes : (P : State → Type 0) (step : Step) (m : Memory) → P m.heap �
 step-goes P (NewFilled role flags bytes) m before goes =
     filled-goes (λ a. P a.1) role flags bytes m.heap (λ is. before) (λ r is. (goes r is).0)
     (λ r z is fits. (goes r is).1 z fits)
-step-goes P (NewEmptied role) m before goes = emptied-goes (λ a. P a.1) role m.heap (λ is. before) goes
+step-goes P (NewEmpty role) m before goes = emptied-goes (λ a. P a.1) role m.heap (λ is. before) goes
 step-goes P (Refill h flags bytes) m before goes = by_block (has_block h m.heap) refl
   where
     by_block : (t : Bool) → has_block h m.heap ≡ t → P (cond t m (refill_inside h flags bytes m).1).heap

@@ -10,7 +10,7 @@ use Rattle.heap_calls.specs.Asked.{Asked, answered}
 use Rattle.heap_calls.specs.Asked as asked
 use Rattle.heap_calls.specs.Busy.{gate, gated, notes, keep_code}
 use Rattle.heap_calls.specs.Counts.{row_searches, row_moves, behind, CountsSearches, CountsMoves}
-use Rattle.heap_calls.specs.Looks.{LooksFew}
+use Rattle.heap_calls.specs.FewSearches.{SearchesFew}
 use Rattle.heap_calls.proofs.Gates.Served.{served-gated}
 use Rattle.heap_calls.proofs.Promises.FewSearches.{row_few, row_searched}
 
@@ -62,8 +62,8 @@ counts_moves a m =
         let P : ℕ → Type 0 = λ n. (cond (notes a) (keep_code why m) m).moves ≡ n in
         subst P (sym (counted-none m.moves)) (by_notes why (notes a))
 
--- in a zone with a Masters block a try looks at most once more than there are blocks
-pub try_few : (a : Asked) (m : Memory) → 0 < count is_masters m.heap.zone → LooksFew a m
+-- in a zone with a Masters block a try searches at most once more than there are blocks
+pub try_few : (a : Asked) (m : Memory) → 0 < count is_masters m.heap.zone → SearchesFew a m
 try_few a m masters = by_gate (gate a m)
   where
     by_gate : (o : Option OsErr) → behind o (row_searches a m.heap) ≤ length m.heap.zone + 1

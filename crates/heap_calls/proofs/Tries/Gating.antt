@@ -13,7 +13,7 @@ use Rattle.heap_calls.specs.Busy.{gate, gated, notes, keep_code, served}
 use Rattle.heap_calls.specs.LastPut.{put_by}
 use Rattle.heap_calls.specs.Locked.{OneBlockEach, locked_place, releases}
 use Rattle.heap_calls.specs.Standing.{NextIsNew, pointer_place, disposes}
-use Rattle.heap_calls.specs.Emptying.{lets_go, may_be_emptied}
+use Rattle.heap_calls.specs.Emptying.{takes_block, has_purgeable}
 use Rattle.heap_calls.specs.Refused.{RefusedLeaves, code_left, zone_behind}
 use Rattle.heap_calls.specs.Shown.{Shows}
 use Rattle.heap_calls.proofs.Promises.Knowing.{Known}
@@ -22,7 +22,7 @@ use Rattle.heap_calls.proofs.Promises.ShowingLaws.{shows-known}
 use Rattle.heap_calls.proofs.Promises.LockedLaws.{stays-locked}
 use Rattle.heap_calls.proofs.Promises.StandingLaws.{stays-fixed}
 use Rattle.heap_calls.proofs.Promises.EmptyingLaws.{only-purgeable-go, masters-kept}
-use Rattle.heap_calls.proofs.Promises.FewSearches.{looks_few, unlooked}
+use Rattle.heap_calls.proofs.Promises.FewSearches.{searches_few, unsearched}
 use Rattle.heap_calls.proofs.Promises.RefusedCalls.{refused_leaves}
 use Rattle.heap_calls.proofs.Gates.Served.{served-gated}
 use Rattle.heap_calls.proofs.Tries.Counting.{counts_searches, counts_moves}
@@ -92,12 +92,12 @@ served-fixed a m once new p place keeps is =
     served-holds (λ t n. pointer_place p n.heap.zone ≡ Some place) a m (stays-fixed a m once new p place keeps is)
     (λ why kept. is)
 
--- a handle's block that goes might be emptied, unless the call let it go
-pub served-purgeable : (a : Asked) (m : Memory) → OneBlockEach m.heap.zone → (h : ℕ) → lets_go h a ≡ false
+-- a handle's block that goes might be purged, unless the call let it go
+pub served-purgeable : (a : Asked) (m : Memory) → OneBlockEach m.heap.zone → (h : ℕ) → takes_block h a ≡ false
     → has (is_relocatable h) m.heap.zone ≡ true → has (is_relocatable h) (served a m).1.heap.zone ≡ false
-    → may_be_emptied h m.heap.zone ≡ true
+    → has_purgeable h m.heap.zone ≡ true
 served-purgeable a m once h keeps before =
-    served-holds (λ t n. has (is_relocatable h) n.heap.zone ≡ false → may_be_emptied h m.heap.zone ≡ true) a m
+    served-holds (λ t n. has (is_relocatable h) n.heap.zone ≡ false → has_purgeable h m.heap.zone ≡ true) a m
     (only-purgeable-go a m once h keeps before)
     (λ why kept after. let f : true ≡ false = sym before ∙ after in cc)
 
@@ -107,13 +107,13 @@ pub served-masters : (a : Asked) (m : Memory) → OneBlockEach m.heap.zone → I
 served-masters a m once before =
     served-holds (λ t n. IsTrue (has is_masters n.heap.zone)) a m (masters-kept a m once before) (λ why kept. before)
 
--- a try looks for room at most once more than there are blocks
-pub served_looks : (a : Asked) (m : Memory) → 0 < count is_masters m.heap.zone → m.log.searches < 2 ^ 64
+-- a try searches for room at most once more than there are blocks
+pub served_searches : (a : Asked) (m : Memory) → 0 < count is_masters m.heap.zone → m.log.searches < 2 ^ 64
     → (n : ℕ) × (n ≤ length m.heap.zone + 1) × ((served a m).1.log.searches ≡ counted m.log.searches n)
-served_looks a m masters fits =
+served_searches a m masters fits =
     served-holds
     (λ t n. (k : ℕ) × (k ≤ length m.heap.zone + 1) × (n.log.searches ≡ counted m.log.searches k)) a m
-    (looks_few a m masters fits) (λ why kept. unlooked m.heap.zone m.log.searches fits)
+    (searches_few a m masters fits) (λ why kept. unsearched m.heap.zone m.log.searches fits)
 
 -- a try leaves which names are busy
 pub served-busy : (a : Asked) (m : Memory) → (served a m).1.log.busy ≡ m.log.busy

@@ -3,21 +3,21 @@ use Rattle.std.proofs.Common.{length, refl, ◌∙◌, ap, cond, arith}
 use Rattle.mac_words.specs.Size.{padded}
 use Rattle.block_store.specs.Block.{Block, Free, Fixed, Masters, Relocatable, size, sizes, total, count, free_of}
 use Rattle.block_store.specs.Block.{free_sum, is_purgeable, is_masters}
-use Rattle.block_store.specs.Room.{emptied, may_go, count_of}
+use Rattle.block_store.specs.Room.{lowest_purged, may_be_purged, count_of}
 use Rattle.block_store.proofs.Zone.Tidy.{total-tidy}
 use Rattle.block_store.proofs.Zone.Surviving.{purged-all}
-use Rattle.block_store.proofs.Emptied.Purges.{sizes-emptied}
+use Rattle.block_store.proofs.Purged.Purges.{sizes-lowest_purged}
 use Rattle.heap_calls.specs.Answer.{nothing}
 use Rattle.heap_calls.specs.Staying.{ease, staying_of, staying, Parted}
 use Rattle.heap_calls.proofs.Promises.EmptyingLaws.{masters, masters-goes}
 
 -- What can be had of a zone, what stays and the master pointers make up its bytes.
 
--- the bytes of a block that may be emptied
+-- the bytes of a block that may be purged
 abbrev goes_of : Block → ℕ
-goes_of b = cond (may_go nothing b) (size b) 0
+goes_of b = cond (may_be_purged nothing b) (size b) 0
 
--- a block is Free, or stays, or has master pointers, or may be emptied
+-- a block is Free, or stays, or has master pointers, or may be purged
 one-part : (b : Block) → free_of b + staying_of b + 272 * masters b + goes_of b ≡ size b
 one-part (Free n) = omega arith
 one-part (Fixed id content) = omega arith
@@ -34,29 +34,29 @@ all-parts [] = refl
 all-parts (b ∷ bs) = let one = one-part b in let rest = all-parts bs in omega arith
 
 -- once all are emptied that may be, there are no more
-none-left : (k : ℕ) (bs : List Block) → count_of nothing bs ≤ k → total goes_of (emptied k nothing bs) ≡ 0
+none-left : (k : ℕ) (bs : List Block) → count_of nothing bs ≤ k → total goes_of (lowest_purged k nothing bs) ≡ 0
 none-left zero [] few = refl
 none-left (suc k) [] few = refl
-none-left zero (b ∷ bs) few = cases (may_go nothing b) few (none-left zero bs)
+none-left zero (b ∷ bs) few = cases (may_be_purged nothing b) few (none-left zero bs)
   where
     cases : (t : Bool) → cond {A = ℕ} t 1 0 + count_of nothing bs ≤ 0
         → (count_of nothing bs ≤ 0 → total goes_of bs ≡ 0) → cond t (size b) 0 + total goes_of bs ≡ 0
     cases true le rest = absurd (let f : 1 + count_of nothing bs ≤ 0 = le in omega arith)
     cases false le rest = let r = rest (omega arith) in omega arith
 none-left (suc k) (b ∷ bs) few =
-    cases (may_go nothing b) refl few (none-left k bs) (none-left (suc k) bs)
+    cases (may_be_purged nothing b) refl few (none-left k bs) (none-left (suc k) bs)
   where
-    cases : (t : Bool) → may_go nothing b ≡ t → cond {A = ℕ} t 1 0 + count_of nothing bs ≤ suc k
-        → (count_of nothing bs ≤ k → total goes_of (emptied k nothing bs) ≡ 0)
-        → (count_of nothing bs ≤ suc k → total goes_of (emptied (suc k) nothing bs) ≡ 0)
-        → total goes_of (cond t (Free (size b) ∷ emptied k nothing bs) (b ∷ emptied (suc k) nothing bs)) ≡ 0
+    cases : (t : Bool) → may_be_purged nothing b ≡ t → cond {A = ℕ} t 1 0 + count_of nothing bs ≤ suc k
+        → (count_of nothing bs ≤ k → total goes_of (lowest_purged k nothing bs) ≡ 0)
+        → (count_of nothing bs ≤ suc k → total goes_of (lowest_purged (suc k) nothing bs) ≡ 0)
+        → total goes_of (cond t (Free (size b) ∷ lowest_purged k nothing bs) (b ∷ lowest_purged (suc k) nothing bs)) ≡ 0
     cases true is le fewer rest = let r = fewer (omega arith) in omega arith
     cases false is le fewer rest =
         let r = rest (omega arith) in
         let none : goes_of b ≡ 0 = ap {B = ℕ} (λ (t : Bool). cond t (size b) 0) is in
         omega arith
 
--- a block that may be emptied doesn't stay
+-- a block that may be purged doesn't stay
 staying-goes : (b : Block) → is_purgeable b ≡ true → staying_of b ≡ 0
 staying-goes (Free n) e = refl
 staying-goes (Fixed id content) e = let f : false ≡ true = e in cc
@@ -69,7 +69,7 @@ no-free n = refl
 pub parted : (zone : List Block) → Parted zone
 parted zone =
     let k : ℕ = count_of nothing zone in
-    let left : List Block = emptied k nothing zone in
+    let left : List Block = lowest_purged k nothing zone in
     let all = all-parts left in
     let none = none-left k zone (omega arith) in
     let had : ease zone ≡ free_sum left = total-tidy free_of (λ n m. refl) left in
@@ -77,7 +77,7 @@ parted zone =
     let kept = purged-all staying_of no-free staying-goes k nothing zone in
     let tables = total-tidy masters (λ n m. refl) left in
     let held = purged-all masters (λ n. refl) masters-goes k nothing zone in
-    let same = sizes-emptied k nothing zone in
+    let same = sizes-lowest_purged k nothing zone in
     omega arith
 
 -- Each part is a multiple of 16 bytes where the zone is.

@@ -202,14 +202,14 @@ joined-keeps from to s =
     (λ b. append-keeps (λ block. is_relocatable a.number block || is_relocatable b.number block) b.number
     (length (content_of b.at.here)) (content_of a.at.here) s))
 
-moved-keeps : (handle : Option ℕ) (s : State) → Keeps s (calls.move_hhi handle s).1
+moved-keeps : (handle : Option ℕ) (s : State) → Keeps s (calls.move_h_hi handle s).1
 moved-keeps handle s =
     found-keeps (look_up handle s) s _
     (λ held. either-keeps {T = Unit {0}} (is_mover held.at.here) s
     (Ok tt, record s { zone = hoisted held.number s.zone }) (refused LOCKED s) (λ h. refl) (same-keeps s))
 
-locked_high-keeps : (handle : Option ℕ) (s : State) → Keeps s (calls.hlock_hi handle s).1
-locked_high-keeps handle s = by_moved (calls.move_hhi handle s).0 (calls.move_hhi handle s).1 (moved-keeps handle s)
+locked_high-keeps : (handle : Option ℕ) (s : State) → Keeps s (calls.h_lock_hi handle s).1
+locked_high-keeps handle s = by_moved (calls.move_h_hi handle s).0 (calls.move_h_hi handle s).1 (moved-keeps handle s)
   where
     lock : Flags → Flags
     lock f = record f { locked = true }

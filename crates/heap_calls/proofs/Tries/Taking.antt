@@ -10,7 +10,7 @@ use Rattle.heap_calls.specs.Asked as asked
 use Rattle.heap_calls.specs.Busy.{gate, served}
 use Rattle.heap_calls.specs.Locked.{OneBlockEach, locked_place, releases}
 use Rattle.heap_calls.specs.Standing.{NextIsNew, pointer_place, disposes}
-use Rattle.heap_calls.specs.Emptying.{lets_go, may_be_emptied}
+use Rattle.heap_calls.specs.Emptying.{takes_block, has_purgeable}
 use Rattle.heap_calls.specs.Refused.{zone_behind}
 use Rattle.heap_calls.proofs.Promises.Taking.{StaysOr, stays-or-released, stays-or-dropped}
 use Rattle.heap_calls.proofs.Tries.Gating.{served-holds, served-purgeable, served-refused}
@@ -47,7 +47,7 @@ done-or-same a m same (inl is) = inl is
 done-or-same a m same (inr (code, is)) =
     inr (ap (λ (s : State). s.zone) (served-refused a m code is).0 ∙ same (gate a m))
 
-lets-or-same : (a : Asked) (m : Memory) (h : ℕ) → lets_go h a ≡ true
+lets-or-same : (a : Asked) (m : Memory) (h : ℕ) → takes_block h a ≡ true
     → ((served a m).0 ≡ Done) ⊎ ((served a m).1.heap.zone ≡ m.heap.zone)
 lets-or-same (asked.DisposeHandle handle) m h lets = done-or-same (asked.DisposeHandle handle) m same (done-or _)
   where
@@ -67,20 +67,20 @@ lets-or-same (asked.ReallocateHandle handle n) m h lets =
     same (Some why) = refl
 lets-or-same a m h lets = let f : false ≡ true = lets in cc
 
--- a handle's block that goes might be emptied, or the call that let it go is done
+-- a handle's block that goes might be purged, or the call that let it go is done
 pub served-empties : (a : Asked) (m : Memory) → OneBlockEach m.heap.zone → (h : ℕ)
     → has (is_relocatable h) m.heap.zone ≡ true → has (is_relocatable h) (served a m).1.heap.zone ≡ false
-    → (may_be_emptied h m.heap.zone ≡ true) ⊎ (((served a m).0 ≡ Done) × (lets_go h a ≡ true))
-served-empties a m once h before after = by_call (lets_go h a) refl
+    → (has_purgeable h m.heap.zone ≡ true) ⊎ (((served a m).0 ≡ Done) × (takes_block h a ≡ true))
+served-empties a m once h before after = by_call (takes_block h a) refl
   where
-    by_done : lets_go h a ≡ true → ((served a m).0 ≡ Done) ⊎ ((served a m).1.heap.zone ≡ m.heap.zone)
-        → (may_be_emptied h m.heap.zone ≡ true) ⊎ (((served a m).0 ≡ Done) × (lets_go h a ≡ true))
+    by_done : takes_block h a ≡ true → ((served a m).0 ≡ Done) ⊎ ((served a m).1.heap.zone ≡ m.heap.zone)
+        → (has_purgeable h m.heap.zone ≡ true) ⊎ (((served a m).0 ≡ Done) × (takes_block h a ≡ true))
     by_done lets (inl is) = inr (is, lets)
     by_done lets (inr same) =
         let f : true ≡ false = sym before ∙ sym (ap (λ (zone : List Block). has (is_relocatable h) zone) same) ∙ after
         in cc
 
-    by_call : (t : Bool) → lets_go h a ≡ t
-        → (may_be_emptied h m.heap.zone ≡ true) ⊎ (((served a m).0 ≡ Done) × (lets_go h a ≡ true))
+    by_call : (t : Bool) → takes_block h a ≡ t
+        → (has_purgeable h m.heap.zone ≡ true) ⊎ (((served a m).0 ≡ Done) × (takes_block h a ≡ true))
     by_call true e = by_done e (lets-or-same a m h e)
     by_call false e = inl (served-purgeable a m once h e before after)

@@ -10,12 +10,12 @@ use Rattle.block_store.specs.Rest.{Site}
 -- Calls while names are busy, by the definitions alone.
 
 -- a line: a call, or a number that becomes busy or idle
-data Line : Type 0 where
-  Ask : (call : Asked) → Line
-  Busy : (number : ℕ) → Line
-  Idle : (number : ℕ) → Line
+data BusyLine : Type 0 where
+  Ask : (call : Asked) → BusyLine
+  Busy : (number : ℕ) → BusyLine
+  Idle : (number : ℕ) → BusyLine
 
-abbrev told : List Line → Memory → List Told
+abbrev told : List BusyLine → Memory → List Told
 told [] m = []
 told (Ask call ∷ lines) m = (served call m).0 ∷ told lines (served call m).1
 told (Busy n ∷ lines) m = told lines (with_busy (busied n m.log.busy) m)

@@ -5,24 +5,24 @@ use Rattle.block_store.specs.Run.{has}
 use Rattle.heap_calls.specs.State.{State, Handle, Plain}
 use Rattle.heap_calls.specs.Slots.{new_handle}
 use Rattle.heap_calls.specs.Purging.{purge_mem}
-use Rattle.heap_calls.specs.Emptying.{may_be_emptied}
+use Rattle.heap_calls.specs.Emptying.{has_purgeable}
 
--- Blocks that may be emptied, on a small zone.
+-- Blocks that may be purged, on a small zone.
 
 abbrev purgeable : Flags
 purgeable = record { locked = false; purgeable = true }
 
--- the blocks of handles 0 and 1 stand below 16 Free bytes; that of 0 may be emptied
+-- the blocks of handles 0 and 1 stand below 16 Free bytes; that of 0 may be purged
 abbrev heap : State
 heap = record {
   zone = Masters ∷ Relocatable 0 purgeable (replicate 8 0) ∷ Relocatable 1 no_flags (replicate 8 0) ∷ Free 16 ∷ [];
   names = Handle Plain ∷ Handle Plain ∷ [];
 }
 
-may-go : may_be_emptied 0 heap.zone ≡ true
+may-go : has_purgeable 0 heap.zone ≡ true
 may-go = refl
 
-may-stay : may_be_emptied 1 heap.zone ≡ false
+may-stay : has_purgeable 1 heap.zone ≡ false
 may-stay = refl
 
 -- it goes for a new block, and the other stays

@@ -2,7 +2,7 @@ use Rattle.std.proofs.Common.{◌≡◌, true, false, [], ◌∷◌, replicate, 
 use Rattle.block_store.specs.declared.flags.Flags.{Flags}
 use Rattle.block_store.specs.Block.{Free, Masters, Relocatable, no_flags}
 use Rattle.heap_calls.specs.State.{State, Handle, Plain}
-use Rattle.heap_calls.specs.Answer.{set_handle_size, h_unlock, move_hhi, dispose_handle}
+use Rattle.heap_calls.specs.Answer.{set_handle_size, h_unlock, move_h_hi, dispose_handle}
 use Rattle.heap_calls.specs.Purging.{h_set_state}
 use Rattle.heap_calls.specs.Locked.{locked_place, releases}
 use Rattle.heap_calls.specs.Asked.{HSetState}
@@ -31,7 +31,7 @@ locked-grows : locked_place 1 (set_handle_size (Some 1) 40 heap).1.zone ≡ Some
 locked-grows = refl
 
 -- it isn't moved to the top
-locked-not_moved : locked_place 1 (move_hhi (Some 1) heap).1.zone ≡ Some 368
+locked-not_moved : locked_place 1 (move_h_hi (Some 1) heap).1.zone ≡ Some 368
 locked-not_moved = refl
 
 -- what is below it goes

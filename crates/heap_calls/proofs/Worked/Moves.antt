@@ -64,7 +64,7 @@ compaction_packs_the_run = refl
 all_runs_are_packed : max_mem_moves between ≡ 1
 all_runs_are_packed = refl
 
--- a block that may be emptied, and one above it, which then has Free bytes below it
+-- a block that may be purged, and one above it, which then has Free bytes below it
 abbrev above_purgeable : State
 above_purgeable = record {
   zone = Masters ∷ Relocatable 0 purgeable [] ∷ Relocatable 1 no_flags [] ∷ Free 48
@@ -75,12 +75,12 @@ above_purgeable = record {
     purgeable : Flags
     purgeable = record { locked = false; purgeable = true }
 
-compaction_empties_nothing : compact_mem_moves 100 above_purgeable ≡ 0
-compaction_empties_nothing = refl
+compaction_purges_nothing : compact_mem_moves 100 above_purgeable ≡ 0
+compaction_purges_nothing = refl
 
-what_is_emptied_lets_the_next_fall : max_mem_moves above_purgeable ≡ 1
-what_is_emptied_lets_the_next_fall = refl
+what_is_purged_lets_the_next_fall : max_mem_moves above_purgeable ≡ 1
+what_is_purged_lets_the_next_fall = refl
 
 -- for a new handle it is emptied, and then the run is packed
-emptied_then_packed : new_handle_moves 40 above_purgeable ≡ 1
-emptied_then_packed = refl
+purged_then_packed : new_handle_moves 40 above_purgeable ≡ 1
+purged_then_packed = refl

@@ -12,7 +12,7 @@ use Rattle.heap_calls.specs.Refused.{zone_left, code_left}
 
 -- What refused calls leave, on small zones.
 
--- a block of 480 bytes that may be emptied, in a zone of 1024
+-- a block of 480 bytes that may be purged, in a zone of 1024
 abbrev with_block : State
 with_block = (h_purge (Some 0) (new_handle 480 (fresh_heap 1024)).1).1
 
@@ -20,7 +20,7 @@ abbrev with_empty : ℕ → State → State
 with_empty zero s = s
 with_empty (suc n) s = with_empty n (new_empty_handle s).1
 
--- and 63 emptied handles: all slots are used
+-- and 63 empty handles: all slots are used
 abbrev full : State
 full = with_empty 63 with_block
 
@@ -45,7 +45,7 @@ block-left = refl
 abbrev purgeable : Flags
 purgeable = record { locked = false; purgeable = true }
 
--- the block of handle 0, which may be emptied, below that of pointer 1
+-- the block of handle 0, which may be purged, below that of pointer 1
 abbrev heap : State
 heap = record {
   zone = Masters ∷ Relocatable 0 purgeable (replicate 8 0) ∷ Fixed 1 (replicate 8 0) ∷ [];

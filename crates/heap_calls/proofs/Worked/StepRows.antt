@@ -8,8 +8,8 @@ use Rattle.heap_calls.specs.Busy.{idle}
 use Rattle.heap_calls.specs.Locked.{locked_place}
 use Rattle.heap_calls.specs.Standing.{pointer_place}
 use Rattle.heap_calls.specs.Inside.{guarded_as, owned_as}
-use Rattle.heap_calls.specs.Path.{Step, NewFilled, NewEmptied, Refill, Release, Cast, stepped, refusal, read_by, walk}
-use Rattle.heap_calls.specs.Path.{reads, put_reads, lets_of}
+use Rattle.heap_calls.specs.Path.{Step, NewFilled, NewEmpty, Refill, Release, Cast, stepped, refusal, read_by, walk}
+use Rattle.heap_calls.specs.Path.{reads, put_reads, steps_dispose}
 
 -- Steps on a small heap.
 
@@ -34,7 +34,7 @@ at window = record {
   window = window;
 }
 
--- a purgeable resource is read: one look, and no code for MemError
+-- a purgeable resource is read: one search, and no code for MemError
 abbrev fetch : Step
 fetch = NewFilled Resource purgeable (1 ∷ 2 ∷ 3 ∷ [])
 
@@ -45,13 +45,13 @@ fetched-heap : (window : Site) → (stepped fetch (at window)).heap ≡ record {
 }
 fetched-heap window = refl
 
-fetched-looks : (window : Site) → (stepped fetch (at window)).log.searches ≡ 1
-fetched-looks window = refl
+fetched-searches : (window : Site) → (stepped fetch (at window)).log.searches ≡ 1
+fetched-searches window = refl
 
 fetched-read : (window : Site) → read_by fetch (at window) ≡ (2, 1 ∷ 2 ∷ 3 ∷ []) ∷ []
 fetched-read window = refl
 
--- one that is too large for the zone is refused after two looks, and the heap is as it was
+-- one that is too large for the zone is refused after two searches, and the heap is as it was
 abbrev large : Step
 large = NewFilled Resource no_flags (replicate 200 5)
 
@@ -61,8 +61,8 @@ large-refused window = refl
 large-heap : (window : Site) → (stepped large (at window)).heap ≡ heap
 large-heap window = refl
 
-large-looks : (window : Site) → (stepped large (at window)).log.searches ≡ 2
-large-looks window = refl
+large-searches : (window : Site) → (stepped large (at window)).log.searches ≡ 2
+large-searches window = refl
 
 large-unread : (window : Site) → read_by large (at window) ≡ []
 large-unread window = refl
@@ -80,9 +80,9 @@ narrow-heap window = refl
 filled-stays : (window : Site) → stepped (Refill 0 no_flags (4 ∷ [])) (at window) ≡ at window
 filled-stays window = refl
 
--- an emptied handle is filled
+-- an empty handle is filled
 abbrev path : List Step
-path = NewEmptied SystemResource ∷ Refill 2 locked (4 ∷ 5 ∷ []) ∷ []
+path = NewEmpty SystemResource ∷ Refill 2 locked (4 ∷ 5 ∷ []) ∷ []
 
 filled-heap : (window : Site) → (walk path (at window)).heap ≡ record {
   zone = Masters ∷ Relocatable 0 purgeable (7 ∷ 7 ∷ []) ∷ Fixed 1 (9 ∷ [])
@@ -104,10 +104,10 @@ released-heap : (window : Site) → (walk (path ++ Release 2 ∷ []) (at window)
 }
 released-heap window = refl
 
-released-lets : lets_of (path ++ Release 2 ∷ []) 2 ≡ true
+released-lets : steps_dispose (path ++ Release 2 ∷ []) 2 ≡ true
 released-lets = refl
 
-released-other : lets_of (path ++ Release 2 ∷ []) 0 ≡ false
+released-other : steps_dispose (path ++ Release 2 ∷ []) 0 ≡ false
 released-other = refl
 
 -- a pointer is no handle

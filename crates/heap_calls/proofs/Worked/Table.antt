@@ -2,7 +2,7 @@ use Rattle.std.proofs.Common.{◌≡◌, ℕ, List, [], ◌∷◌, ◌++◌, rep
 use Rattle.std.specs.Prelude.{ℤ, pos, negsuc, suc}
 use Rattle.heap_calls.specs.State.{State, fresh_heap}
 use Rattle.heap_calls.specs.Answer.{Answer, dispose_handle, get_handle_size, set_handle_size, show, free_mem, max_block}
-use Rattle.heap_calls.specs.Answer.{compact_mem, put, h_lock, h_unlock, move_hhi, hlock_hi}
+use Rattle.heap_calls.specs.Answer.{compact_mem, put, h_lock, h_unlock, move_h_hi, h_lock_hi}
 use Rattle.heap_calls.specs.Slots.{new_handle, new_empty_handle}
 use Rattle.heap_calls.specs.Pointers.{new_pointer, dispose_pointer, get_pointer_size, set_pointer_size, show_pointer}
 use Rattle.heap_calls.specs.Pointers.{put_pointer, place_of, reserve_mem, add_masters}
@@ -13,8 +13,8 @@ use Rattle.heap_calls.specs.Copying.{hand_to_hand, hand_and_hand, pointer_and_ha
 -- The worked examples of the table, by the definitions alone.
 
 -- a line of a script: what it answers, as a code without its sign and the values, and the heap after it
-abbrev Line : Type 0
-Line = State → List ℕ × State
+abbrev TableLine : Type 0
+TableLine = State → List ℕ × State
 
 abbrev told : {T : Type 0} → (T → List ℕ) → Answer T → List ℕ × State
 told values (Ok v, s) = (0 ∷ values v, s)
@@ -24,7 +24,7 @@ told values (Err code, s) = (code_of code.0 ∷ [], s)
     code_of (pos n) = n
     code_of (negsuc n) = suc n
 
-abbrev run : List Line → State → List (List ℕ)
+abbrev run : List TableLine → State → List (List ℕ)
 run [] s = []
 run (line ∷ lines) s = (line s).0 ∷ run lines (line s).1
 
@@ -37,109 +37,109 @@ number answer = told (λ v. v ∷ []) answer
 abbrev given : Answer ℕ → List ℕ × State
 given answer = told (λ v. []) answer
 
-abbrev new_handle_of : ℕ → Line
+abbrev new_handle_of : ℕ → TableLine
 new_handle_of n s = given (new_handle n s)
 
-abbrev new_empty : Line
+abbrev new_empty : TableLine
 new_empty s = given (new_empty_handle s)
 
-abbrev new_pointer_of : ℕ → Line
+abbrev new_pointer_of : ℕ → TableLine
 new_pointer_of n s = given (new_pointer n s)
 
-abbrev copies : ℕ → Line
+abbrev copies : ℕ → TableLine
 copies h s = given (hand_to_hand (Some h) s)
 
-abbrev disposes : ℕ → Line
+abbrev disposes : ℕ → TableLine
 disposes h s = done (dispose_handle (Some h) s)
 
-abbrev disposes_pointer : ℕ → Line
+abbrev disposes_pointer : ℕ → TableLine
 disposes_pointer h s = done (dispose_pointer (Some h) s)
 
-abbrev size_is : ℕ → Line
+abbrev size_is : ℕ → TableLine
 size_is h s = number (get_handle_size (Some h) s)
 
-abbrev pointer_size_is : ℕ → Line
+abbrev pointer_size_is : ℕ → TableLine
 pointer_size_is h s = number (get_pointer_size (Some h) s)
 
-abbrev resizes : ℕ → ℕ → Line
+abbrev resizes : ℕ → ℕ → TableLine
 resizes h n s = done (set_handle_size (Some h) n s)
 
-abbrev resizes_pointer : ℕ → ℕ → Line
+abbrev resizes_pointer : ℕ → ℕ → TableLine
 resizes_pointer h n s = done (set_pointer_size (Some h) n s)
 
-abbrev reallocates : ℕ → ℕ → Line
+abbrev reallocates : ℕ → ℕ → TableLine
 reallocates h n s = done (reallocate_handle (Some h) n s)
 
-abbrev empties : ℕ → Line
+abbrev empties : ℕ → TableLine
 empties h s = done (empty_handle (Some h) s)
 
-abbrev locks : ℕ → Line
+abbrev locks : ℕ → TableLine
 locks h s = done (h_lock (Some h) s)
 
-abbrev unlocks : ℕ → Line
+abbrev unlocks : ℕ → TableLine
 unlocks h s = done (h_unlock (Some h) s)
 
-abbrev may_go : ℕ → Line
+abbrev may_go : ℕ → TableLine
 may_go h s = done (h_purge (Some h) s)
 
-abbrev may_stay : ℕ → Line
+abbrev may_stay : ℕ → TableLine
 may_stay h s = done (h_no_purge (Some h) s)
 
-abbrev state_is : ℕ → Line
+abbrev state_is : ℕ → TableLine
 state_is h s = number (h_get_state (Some h) s)
 
-abbrev sets_state : ℕ → ℕ → Line
+abbrev sets_state : ℕ → ℕ → TableLine
 sets_state h n s = done (h_set_state (Some h) n s)
 
-abbrev goes_high : ℕ → Line
-goes_high h s = done (move_hhi (Some h) s)
+abbrev goes_high : ℕ → TableLine
+goes_high h s = done (move_h_hi (Some h) s)
 
-abbrev goes_high_locked : ℕ → Line
-goes_high_locked h s = done (hlock_hi (Some h) s)
+abbrev goes_high_locked : ℕ → TableLine
+goes_high_locked h s = done (h_lock_hi (Some h) s)
 
-abbrev joins : ℕ → ℕ → Line
+abbrev joins : ℕ → ℕ → TableLine
 joins h n s = done (hand_and_hand (Some h) (Some n) s)
 
-abbrev appends : ℕ → List ℕ → Line
+abbrev appends : ℕ → List ℕ → TableLine
 appends h x s = done (pointer_and_hand (Some h) x s)
 
-abbrev frees : Line
+abbrev frees : TableLine
 frees s = number (free_mem s)
 
-abbrev most : Line
+abbrev most : TableLine
 most s = number (max_block s)
 
-abbrev space : Line
+abbrev space : TableLine
 space s = told (λ v. v.0 ∷ v.1 ∷ []) (purge_space s)
 
-abbrev compacts : ℕ → Line
+abbrev compacts : ℕ → TableLine
 compacts n s = number (compact_mem n s)
 
-abbrev purges : ℕ → Line
+abbrev purges : ℕ → TableLine
 purges n s = done (purge_mem n s)
 
-abbrev compacts_all : Line
+abbrev compacts_all : TableLine
 compacts_all s = number (max_mem s)
 
-abbrev reserves : ℕ → Line
+abbrev reserves : ℕ → TableLine
 reserves n s = done (reserve_mem n s)
 
-abbrev masters : Line
+abbrev masters : TableLine
 masters s = done (add_masters s)
 
-abbrev writes : ℕ → ℕ → List ℕ → Line
+abbrev writes : ℕ → ℕ → List ℕ → TableLine
 writes h n x s = done (put (Some h) n x s)
 
-abbrev writes_pointer : ℕ → ℕ → List ℕ → Line
+abbrev writes_pointer : ℕ → ℕ → List ℕ → TableLine
 writes_pointer h n x s = done (put_pointer (Some h) n x s)
 
-abbrev shows : ℕ → Line
+abbrev shows : ℕ → TableLine
 shows h s = told (λ v. v) (show (Some h) s)
 
-abbrev shows_pointer : ℕ → Line
+abbrev shows_pointer : ℕ → TableLine
 shows_pointer h s = told (λ v. v) (show_pointer (Some h) s)
 
-abbrev where_is : ℕ → Line
+abbrev where_is : ℕ → TableLine
 where_is h s = number (place_of (Some h) s)
 
 -- a b c; b goes; d needs 400, for which c moves down

@@ -10,7 +10,7 @@ use Rattle.block_store.specs.Find.{FindsLowestRun}
 use Rattle.block_store.specs.Sparing.{purged, most_purges, spared}
 use Rattle.block_store.specs.declared.sparing.Sparing.{Sparing}
 use Rattle.block_store.specs.declared.sparing.Sparing.TheVariants as sparing
-use Rattle.heap_calls.specs.Inner.Search.{FindsSeat, tries}
+use Rattle.heap_calls.specs.Inner.Search.{FindsPlacement, tries}
 use Rattle.heap_calls.specs.declared.growing.Growth.{Growth}
 use Rattle.heap_calls.specs.declared.growing.Growth.TheVariants as grows
 
@@ -24,8 +24,9 @@ grown n (Some s) = resized n s.here
 abbrev pub FindsGrowth : (Block → Bool) → Block → List Block → Option Growth → Type 0
 FindsGrowth test new zone None = grow_mover test new zone ≡ None
 FindsGrowth test new zone (Some grows.Up) = (s : Spot) × (spot test zone ≡ Some s) × (is_some (grow_up new s) ≡ true)
-FindsGrowth test new zone (Some (grows.Away seat)) = (s : Spot) × (spot test zone ≡ Some s) × (grow_up new s ≡ None)
-    × FindsSeat (size new) zone (Some seat)
+FindsGrowth test new zone (Some (grows.Away placement)) = (s : Spot) × (spot test zone ≡ Some s)
+    × (grow_up new s ≡ None)
+    × FindsPlacement (size new) zone (Some placement)
 FindsGrowth test new zone (Some (grows.Last run)) =
     (s : Spot) × (spot test zone ≡ Some s) × (grow_up new s ≡ None) × (place (size new) zone ≡ None)
     × FindsLowestRun (λ run. has test run && has_free (growth new s) run) zone (Some run)

@@ -8,7 +8,7 @@ use Rattle.block_store.specs.Slot.{Unused, Used}
 use Rattle.block_store.specs.Rest.{Rest, KeepsSlots, with_slot}
 use Rattle.block_store.specs.Sparing.{spared, opened}
 use Rattle.block_store.specs.declared.sparing.Sparing.{Sparing}
-use Rattle.heap_calls.specs.Inner.Search.{seat_searches}
+use Rattle.heap_calls.specs.Inner.Search.{placement_searches}
 use Rattle.heap_calls.specs.Inner.NewSlot.{HasMore, zone_slotted, zone_searches}
 
 -- New blocks in a store.
@@ -23,7 +23,7 @@ zone_with_block sparing slot n zone = room (put_in_place (fresh_block slot n)) (
 
 -- The number of searches for the place of a new block.
 abbrev pub place_searches : Sparing → ℕ → List Block → ℕ
-place_searches sparing n zone = if is_some (phys n) then seat_searches (padded n) sparing zone else 0
+place_searches sparing n zone = if is_some (phys n) then placement_searches (padded n) sparing zone else 0
 
 -- The store's slots once a slot is unused again.
 abbrev pub given_back : ℕ → Rest → Rest
@@ -73,8 +73,8 @@ IsNewBlock sparing n zone rest None zone' rest' = HasNoSlot sparing zone rest zo
 
 -- The number of searches where there is an unused slot; 0 where there is none.
 abbrev pub ready_count : Option (List Block) → (List Block → ℕ) → ℕ
-ready_count None looks = 0
-ready_count (Some zone) looks = looks zone
+ready_count None searches = 0
+ready_count (Some zone) searches = searches zone
 
 -- The number of searches for a slot and a block.
 abbrev pub new_searches : Sparing → ℕ → ℕ → List Block → ℕ

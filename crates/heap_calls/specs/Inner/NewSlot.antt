@@ -53,7 +53,7 @@ pub record IsTaken (sparing : Sparing) (slot : ℕ) (zone : List Block) (rest : 
   pub none : has (is_relocatable slot) zone' ≡ false
 
 -- The slot that was taken; `None` where no slot is unused and there is no room for more, and then nothing changed.
-abbrev pub IsSlot : Sparing → List Block → Rest → Option ℕ → List Block → Rest → Type 0
-IsSlot sparing zone rest (Some slot) zone' rest' = IsTaken sparing slot zone rest zone' rest'
-IsSlot sparing zone rest None zone' rest' = (zone_slotted sparing rest.unused zone ≡ None) × (zone' ≡ zone)
+abbrev pub TakesSlot : Sparing → List Block → Rest → Option ℕ → List Block → Rest → Type 0
+TakesSlot sparing zone rest (Some slot) zone' rest' = IsTaken sparing slot zone rest zone' rest'
+TakesSlot sparing zone rest None zone' rest' = (zone_slotted sparing rest.unused zone ≡ None) × (zone' ≡ zone)
     × KeepsSlots rest rest'

@@ -7,7 +7,7 @@ use Rattle.block_store.specs.declared.sparing.Sparing.{Sparing}
 use Rattle.heap_calls.specs.Moves.{place_moves}
 use Rattle.heap_calls.specs.Inner.NewBlock.{ready_count}
 use Rattle.heap_calls.specs.Inner.NewSlot.{zone_slotted}
-use Rattle.heap_calls.specs.Inner.Search.{seat_searches}
+use Rattle.heap_calls.specs.Inner.Search.{placement_searches}
 
 -- How many blocks the packing of a store moves down.
 
@@ -20,12 +20,12 @@ abbrev pub PacksNone : Rest → Rest → Type 0
 PacksNone old new = new.moves ≡ old.moves
 
 -- The moves for a relocatable block of p bytes, after as few purges as give it a place.
-abbrev pub seat_moves : ℕ → Sparing → List Block → ℕ
-seat_moves p sparing zone = place_moves p (purged (seat_searches p sparing zone - 1) sparing zone)
+abbrev pub placement_moves : ℕ → Sparing → List Block → ℕ
+placement_moves p sparing zone = place_moves p (purged (placement_searches p sparing zone - 1) sparing zone)
 
 -- The moves for a relocatable block of n bytes of content.
 abbrev pub content_moves : Sparing → ℕ → List Block → ℕ
-content_moves sparing n zone = if is_some (phys n) then seat_moves (padded n) sparing zone else 0
+content_moves sparing n zone = if is_some (phys n) then placement_moves (padded n) sparing zone else 0
 
 -- The moves for a new slot and its block of n bytes, by the number of slots that are unused.
 abbrev pub new_moves : Sparing → ℕ → ℕ → List Block → ℕ

@@ -5,8 +5,8 @@ use Rattle.block_store.specs.Room.{Spot, spot, spot_at, place, least}
 use Rattle.block_store.specs.Find.{FindsLowest, FindsLowestRun}
 use Rattle.block_store.specs.Sparing.{purged, most_purges}
 use Rattle.block_store.specs.declared.sparing.Sparing.{Sparing}
-use Rattle.heap_calls.specs.declared.search.Seat.{Seat}
-use Rattle.heap_calls.specs.declared.search.Seat.TheVariants as see
+use Rattle.heap_calls.specs.declared.search.Placement.{Placement}
+use Rattle.heap_calls.specs.declared.search.Placement.TheVariants as see
 
 -- How many of the numbers from 0 to n are tried, up to the least with an answer.
 abbrev pub tries : {A : Type 0} → (ℕ → Option A) → ℕ → ℕ
@@ -14,19 +14,20 @@ tries answer zero = 1
 tries answer (suc n) = if is_some (answer 0) then 1 else tries (λ k. answer (suc k)) n + 1
 
 -- The place for a relocatable block of p bytes, after as few purges as serve.
-abbrev pub seat : ℕ → Sparing → List Block → Option Spot
-seat p sparing zone = least (λ k. place p (purged k sparing zone)) (most_purges sparing zone)
+abbrev pub placement : ℕ → Sparing → List Block → Option Spot
+placement p sparing zone = least (λ k. place p (purged k sparing zone)) (most_purges sparing zone)
 
 -- The number of searches for that place.
-abbrev pub seat_searches : ℕ → Sparing → List Block → ℕ
-seat_searches p sparing zone = tries (λ k. place p (purged k sparing zone)) (most_purges sparing zone)
+abbrev pub placement_searches : ℕ → Sparing → List Block → ℕ
+placement_searches p sparing zone = tries (λ k. place p (purged k sparing zone)) (most_purges sparing zone)
 
 -- Where a relocatable block of p bytes is put in a zone: in the lowest free block that is large enough, else in the
 -- lowest run that has p free bytes.
-abbrev pub FindsSeat : ℕ → List Block → Option Seat → Type 0
-FindsSeat p zone None = place p zone ≡ None
-FindsSeat p zone (Some (see.Free at)) = FindsLowest (is_room p) zone (Some at)
-FindsSeat p zone (Some (see.Run run)) = (spot (is_room p) zone ≡ None) × FindsLowestRun (has_free p) zone (Some run)
+abbrev pub FindsPlacement : ℕ → List Block → Option Placement → Type 0
+FindsPlacement p zone None = place p zone ≡ None
+FindsPlacement p zone (Some (see.Free at)) = FindsLowest (is_room p) zone (Some at)
+FindsPlacement p zone (Some (see.Run run)) = (spot (is_room p) zone ≡ None) × FindsLowestRun (has_free p) zone
+    (Some run)
 
 -- The wanted spot stands at this place in the zone; `None` where no spot is wanted.
 abbrev pub IsAt : Option Spot → List Block → Option ℕ → Type 0

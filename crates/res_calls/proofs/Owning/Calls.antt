@@ -11,7 +11,7 @@ use Rattle.mac_words.specs.declared.code.TheConstants.OsErr.{DISK_FULL, DUPLICAT
 use Rattle.mac_words.specs.Attributes.{set}
 use Rattle.heap_calls.specs.Answer.{handle_at}
 use Rattle.heap_calls.specs.Purging.{is_resource}
-use Rattle.heap_calls.specs.Inside.{resource_role, new_inside, new_emptied_inside, refill_inside, has_block, released}
+use Rattle.heap_calls.specs.Inside.{resource_role, new_inside, new_empty_inside, refill_inside, has_block, released}
 use Rattle.heap_calls.specs.Inside.{cast, owned_as}
 use Rattle.res_map.specs.Split.{replaced, Split, place}
 use Rattle.res_map.specs.Map.{is_protected, with_attrs, renamed, stored_anew, Reference, Map, map_of, has_handle}
@@ -19,7 +19,7 @@ use Rattle.res_map.specs.Map.{is_handle, is_changed, is_resource as is_wanted, i
 use Rattle.res_map.proofs.Splitting.{split-passes, split-whole}
 use Rattle.res_calls.specs.Files.{Resources, File, OpenFile, Found, find, opened, file_of, file_named, open_at}
 use Rattle.res_calls.specs.Files.{current_references, fresh_resources}
-use Rattle.res_calls.specs.Fetch.{is_system, Managers, Answer, done, refused, flags_of, now_filled, now_emptied}
+use Rattle.res_calls.specs.Fetch.{is_system, Managers, Answer, done, refused, flags_of, now_filled, now_empty}
 use Rattle.res_calls.specs.Fetch.{now_refilled, fetch_as}
 use Rattle.res_calls.specs.Rows.{with_resources, closed_file, map_in, open_map, resource_of, open_as, open_fork}
 use Rattle.res_calls.specs.Rows.{open_unless, greatest_number, closed, bars, released_at, detached_at, open_named}
@@ -61,14 +61,14 @@ filled-owns at s stands bare owns (Ok n, m) made = record {
 
 emptied-owns : (at : Found) (s : Managers) → Stands s.resources.chain at → at.reference.here.handle ≡ None → OneOwner s
     → (x : Result ℕ OsErr × Memory) → MakesHandle (role_in at.file.here) s.memory.heap (x.0, x.1.heap)
-    → OneOwner (now_emptied at x s).after
+    → OneOwner (now_empty at x s).after
 emptied-owns at s stands bare owns (Err code, m) made = one-owner-same s (record s { memory = m }) owns refl refl made
 emptied-owns at s stands bare owns (Ok n, m) made = record {
   one = one-held s.resources.chain s.memory.heap m.heap at n stands bare owns.one made;
   numbered = owns.numbered;
 }
 
--- an emptied handle is read again
+-- an empty handle is read again
 refilled-owns : (at : Found) (k : ℕ) (s : Managers) → OneOwner s → (x : Result (Unit {0}) OsErr × Memory)
     → ((h : ℕ) → resource_role_at h x.1.heap ≡ resource_role_at h s.memory.heap)
     → OneOwner (now_refilled at k x s).after
@@ -83,7 +83,7 @@ fetch-owns true at s stands owns None bare =
     (new_inside (role_in at.file.here) (flags_of at.reference.here) at.reference.here.stored.datum s.memory)
     (filled-makes (role_in at.file.here) (flags_of at.reference.here) at.reference.here.stored.datum s.memory.heap)
 fetch-owns false at s stands owns None bare =
-    emptied-owns at s stands bare owns (new_emptied_inside (role_in at.file.here) s.memory)
+    emptied-owns at s stands bare owns (new_empty_inside (role_in at.file.here) s.memory)
     (emptied-makes (role_in at.file.here) s.memory.heap)
 fetch-owns true at s stands owns (Some k) is = by_block (has_block k s.memory.heap)
   where
@@ -354,21 +354,21 @@ one-owner-served (asks.HomeResFile handle) s owns =
 one-owner-served (asks.GetResource kind id) s owns =
     noted (rows.get_resource kind id) s
     (searched-owns (λ f. nat_le f.number s.resources.current) (is_wanted kind id) s owns)
-one-owner-served (asks.GetOneResource kind id) s owns =
-    noted (rows.get_one_resource kind id) s
+one-owner-served (asks.Get1Resource kind id) s owns =
+    noted (rows.get1_resource kind id) s
     (searched-owns (λ f. f.number == s.resources.current) (is_wanted kind id) s owns)
 one-owner-served (asks.GetNamedResource kind name) s owns =
     noted (rows.get_named_resource kind name) s
     (searched-owns (λ f. nat_le f.number s.resources.current) (is_named kind name) s owns)
-one-owner-served (asks.GetOneNamedResource kind name) s owns =
-    noted (rows.get_one_named_resource kind name) s
+one-owner-served (asks.Get1NamedResource kind name) s owns =
+    noted (rows.get1_named_resource kind name) s
     (searched-owns (λ f. f.number == s.resources.current) (is_named kind name) s owns)
-one-owner-served asks.CountOneTypes s owns = noted rows.count_one_types s owns
-one-owner-served (asks.GetOneIndType index) s owns =
-    noted (rows.get_one_ind_type index) s (told-owns (nth index (types (current_references s.resources))) s owns)
-one-owner-served (asks.CountOneResources kind) s owns = noted (rows.count_one_resources kind) s owns
-one-owner-served (asks.GetOneIndResource kind index) s owns =
-    noted (rows.get_one_ind_resource kind index) s
+one-owner-served asks.Count1Types s owns = noted rows.count1_types s owns
+one-owner-served (asks.Get1IndType index) s owns =
+    noted (rows.get1_ind_type index) s (told-owns (nth index (types (current_references s.resources))) s owns)
+one-owner-served (asks.Count1Resources kind) s owns = noted (rows.count1_resources kind) s owns
+one-owner-served (asks.Get1IndResource kind index) s owns =
+    noted (rows.get1_ind_resource kind index) s
     (fetched-owns (nth_in kind index (file_of s.resources.current s.resources)) s owns
     (λ at e. nth-stands kind index (λ f. f.number == s.resources.current) s.resources.chain at e))
 one-owner-served (asks.LoadResource handle) s owns =

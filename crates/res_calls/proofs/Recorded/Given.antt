@@ -5,10 +5,10 @@ use Rattle.std.proofs.lemmas.List.Concat.{flat_map-append}
 use Rattle.std.specs.Prelude.{slice_get}
 use Rattle.mac_words.specs.declared.code.OsErr.{OsErr}
 use Rattle.heap_calls.specs.State.{Memory}
-use Rattle.heap_calls.specs.Inside.{new_inside, new_emptied_inside, refill_inside, has_block, resource_role}
+use Rattle.heap_calls.specs.Inside.{new_inside, new_empty_inside, refill_inside, has_block, resource_role}
 use Rattle.res_map.specs.Map.{Reference}
 use Rattle.res_calls.specs.Files.{OpenFile, Resources, Found, with_reference, holding}
-use Rattle.res_calls.specs.Fetch.{Managers, Answer, done, flags_of, is_system, now_filled, now_emptied, now_refilled}
+use Rattle.res_calls.specs.Fetch.{Managers, Answer, done, flags_of, is_system, now_filled, now_empty, now_refilled}
 use Rattle.res_calls.specs.Fetch.{fetch_as}
 use Rattle.res_calls.specs.Rows.{fetched_as, noting}
 use Rattle.res_calls.specs.Fetching.{handles_in, handles, KeepHandles, OnlyGivesHandles}
@@ -81,7 +81,7 @@ filled-given at s stands none (Err code, m) = same-given s.resources
 filled-given at s stands none (Ok k, m) = held-given s.resources at k stands none
 
 emptied-given : (at : Found) (s : Managers) → Stands s.resources.chain at → at.reference.here.handle ≡ None
-    → (x : Result ℕ OsErr × Memory) → OnlyGivesHandles s.resources (now_emptied at x s).after.resources
+    → (x : Result ℕ OsErr × Memory) → OnlyGivesHandles s.resources (now_empty at x s).after.resources
 emptied-given at s stands none (Err code, m) = same-given s.resources
 emptied-given at s stands none (Ok k, m) = held-given s.resources at k stands none
 
@@ -97,7 +97,7 @@ fetch-given true at s stands None none =
     filled-given at s stands none (new_inside (resource_role (is_system at.file.here)) (flags_of at.reference.here)
     at.reference.here.stored.datum s.memory)
 fetch-given false at s stands None none =
-    emptied-given at s stands none (new_emptied_inside (resource_role (is_system at.file.here)) s.memory)
+    emptied-given at s stands none (new_empty_inside (resource_role (is_system at.file.here)) s.memory)
 fetch-given loading at s stands (Some k) is =
     either-keeps (λ m. OnlyGivesHandles s.resources m.resources) (loading && not (has_block k s.memory.heap)) _
     (done (record { handle = k; read = 0 }) s)

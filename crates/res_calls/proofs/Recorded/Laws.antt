@@ -28,13 +28,13 @@ pub served-given : (a : ResourceAsked) (s : Managers) → fetches a ≡ true
     → OnlyGivesHandles s.resources (served a s).after.resources
 served-given (asks.GetResource kind id) s is = noted-given (rows.get_resource kind id) s
     (searched-given s.resources.loading (λ f. nat_le f.number s.resources.current) (is_resource kind id) s)
-served-given (asks.GetOneResource kind id) s is = noted-given (rows.get_one_resource kind id) s
+served-given (asks.Get1Resource kind id) s is = noted-given (rows.get1_resource kind id) s
     (searched-given s.resources.loading (λ f. f.number == s.resources.current) (is_resource kind id) s)
 served-given (asks.GetNamedResource kind name) s is = noted-given (rows.get_named_resource kind name) s
     (searched-given s.resources.loading (λ f. nat_le f.number s.resources.current) (is_named kind name) s)
-served-given (asks.GetOneNamedResource kind name) s is = noted-given (rows.get_one_named_resource kind name) s
+served-given (asks.Get1NamedResource kind name) s is = noted-given (rows.get1_named_resource kind name) s
     (searched-given s.resources.loading (λ f. f.number == s.resources.current) (is_named kind name) s)
-served-given (asks.GetOneIndResource kind index) s is = noted-given (rows.get_one_ind_resource kind index) s
+served-given (asks.Get1IndResource kind index) s is = noted-given (rows.get1_ind_resource kind index) s
     (fetched-given s.resources.loading (nth_in kind index (file_of s.resources.current s.resources)) s
     (λ at e. nth-stands kind index (λ f. f.number == s.resources.current) s.resources.chain at e))
 served-given (asks.LoadResource handle) s is = noted-given (rows.load_resource handle) s
@@ -46,9 +46,9 @@ served-given (asks.UpdateResFile number) s is = cc
 served-given (asks.UseResFile number) s is = cc
 served-given asks.CurResFile s is = cc
 served-given (asks.HomeResFile handle) s is = cc
-served-given asks.CountOneTypes s is = cc
-served-given (asks.GetOneIndType index) s is = cc
-served-given (asks.CountOneResources kind) s is = cc
+served-given asks.Count1Types s is = cc
+served-given (asks.Get1IndType index) s is = cc
+served-given (asks.Count1Resources kind) s is = cc
 served-given (asks.ReleaseResource handle) s is = cc
 served-given (asks.DetachResource handle) s is = cc
 served-given (asks.AddResource handle kind id name) s is = cc
@@ -79,13 +79,13 @@ served-records (asks.UseResFile number) s is = use_file-records number s
 served-records asks.CurResFile s is = refl
 served-records (asks.HomeResFile handle) s is = asked-records handle s _ (λ at. refl)
 served-records (asks.GetResource kind id) s is = fetch-records (asks.GetResource kind id) s refl
-served-records (asks.GetOneResource kind id) s is = fetch-records (asks.GetOneResource kind id) s refl
+served-records (asks.Get1Resource kind id) s is = fetch-records (asks.Get1Resource kind id) s refl
 served-records (asks.GetNamedResource kind name) s is = fetch-records (asks.GetNamedResource kind name) s refl
-served-records (asks.GetOneNamedResource kind name) s is = fetch-records (asks.GetOneNamedResource kind name) s refl
-served-records asks.CountOneTypes s is = refl
-served-records (asks.GetOneIndType index) s is = type-records _ s
-served-records (asks.CountOneResources kind) s is = refl
-served-records (asks.GetOneIndResource kind index) s is = fetch-records (asks.GetOneIndResource kind index) s refl
+served-records (asks.Get1NamedResource kind name) s is = fetch-records (asks.Get1NamedResource kind name) s refl
+served-records asks.Count1Types s is = refl
+served-records (asks.Get1IndType index) s is = type-records _ s
+served-records (asks.Count1Resources kind) s is = refl
+served-records (asks.Get1IndResource kind index) s is = fetch-records (asks.Get1IndResource kind index) s refl
 served-records (asks.LoadResource handle) s is = fetch-records (asks.LoadResource handle) s refl
 served-records (asks.ReleaseResource handle) s is = release-records handle s
 served-records (asks.DetachResource handle) s is = detach-records handle s

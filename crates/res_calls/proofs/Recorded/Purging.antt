@@ -11,7 +11,8 @@ use Rattle.block_store.proofs.Zone.Tidy.{has-tidy}
 use Rattle.heap_calls.specs.Answer.{Known, handle_at}
 use Rattle.heap_calls.specs.Inside.{owned_as, has_block}
 use Rattle.heap_calls.specs.Purging.{is_resource as is_owned}
-use Rattle.heap_calls.specs.Path.{Step, NewFilled, NewEmptied, Refill, Release, Cast, stepped, walk, lets, lets_of}
+use Rattle.heap_calls.specs.Path.{Step, NewFilled, NewEmpty, Refill, Release, Cast, stepped, walk, step_disposes}
+use Rattle.heap_calls.specs.Path.{steps_dispose}
 use Rattle.heap_calls.specs.State.{Memory}
 use Rattle.heap_calls.proofs.Steps.Ways.{step-goes}
 use Rattle.res_map.specs.Split.{Split}
@@ -62,10 +63,10 @@ is_quiet (Release handle) = true
 is_quiet (Cast change handle) = true
 is_quiet step = false
 
-step-quiet : (step : Step) (m : Memory) (h : ℕ) → is_quiet step ≡ true → lets step h ≡ false
+step-quiet : (step : Step) (m : Memory) (h : ℕ) → is_quiet step ≡ true → step_disposes step h ≡ false
     → has (is_relocatable h) m.heap.zone ≡ true → has (is_relocatable h) (stepped step m).heap.zone ≡ true
 step-quiet (NewFilled role flags bytes) m h quiet keeps there = cc
-step-quiet (NewEmptied role) m h quiet keeps there = cc
+step-quiet (NewEmpty role) m h quiet keeps there = cc
 step-quiet (Refill k flags bytes) m h quiet keeps there = cc
 step-quiet (Release k) m h quiet keeps there =
     step-goes (λ s. has (is_relocatable h) s.zone ≡ true) (Release k) m there
@@ -73,12 +74,12 @@ step-quiet (Release k) m h quiet keeps there =
 step-quiet (Cast change k) m h quiet keeps there =
     step-goes (λ s. has (is_relocatable h) s.zone ≡ true) (Cast change k) m there (λ role is. there)
 
-walk-quiet : (steps : List Step) (m : Memory) (h : ℕ) → list_all is_quiet steps ≡ true → lets_of steps h ≡ false
+walk-quiet : (steps : List Step) (m : Memory) (h : ℕ) → list_all is_quiet steps ≡ true → steps_dispose steps h ≡ false
     → has (is_relocatable h) m.heap.zone ≡ true → has (is_relocatable h) (walk steps m).heap.zone ≡ true
 walk-quiet [] m h quiet keeps there = there
 walk-quiet (step ∷ steps) m h quiet keeps there =
     let all = and_parts (is_quiet step) (list_all is_quiet steps) quiet in
-    let none = or_parts (lets step h) (lets_of steps h) keeps in
+    let none = or_parts (step_disposes step h) (steps_dispose steps h) keeps in
     walk-quiet steps (stepped step m) h all.1 none.1 (step-quiet step m h all.0 none.0 there)
 
 -- the steps of each call
@@ -141,10 +142,10 @@ remove-quiet s k at = either-quiet (is_system at.file.here) [] _ refl
 steps-quiet : (a : ResourceAsked) (s : Managers) → fetches a ≡ false → opens_file a ≡ false → AreQuiet (steps_of a s)
 steps-quiet (asks.OpenResFile name) s reads opens = cc
 steps-quiet (asks.GetResource kind id) s reads opens = cc
-steps-quiet (asks.GetOneResource kind id) s reads opens = cc
+steps-quiet (asks.Get1Resource kind id) s reads opens = cc
 steps-quiet (asks.GetNamedResource kind name) s reads opens = cc
-steps-quiet (asks.GetOneNamedResource kind name) s reads opens = cc
-steps-quiet (asks.GetOneIndResource kind index) s reads opens = cc
+steps-quiet (asks.Get1NamedResource kind name) s reads opens = cc
+steps-quiet (asks.Get1IndResource kind index) s reads opens = cc
 steps-quiet (asks.LoadResource handle) s reads opens = cc
 steps-quiet (asks.CloseResFile n) s reads opens =
     open-quiet (file_of n s.resources) (close_steps n s) (close-quiet n s)

@@ -9,14 +9,14 @@ use Rattle.mac_words.specs.declared.code.TheConstants.OsErr.{ADD_RES_FAILED, REM
 use Rattle.heap_calls.specs.State.{Memory, Role}
 use Rattle.heap_calls.specs.Answer.{handle_at}
 use Rattle.heap_calls.specs.Purging.{is_resource as is_owner}
-use Rattle.heap_calls.specs.Inside.{new_inside, new_emptied_inside, refill_inside, has_block, resource_role}
+use Rattle.heap_calls.specs.Inside.{new_inside, new_empty_inside, refill_inside, has_block, resource_role}
 use Rattle.res_map.specs.Split.{Split, place, removed, replaced}
 use Rattle.res_map.specs.Map.{Reference, Map, is_changed, is_protected, is_named, is_resource as is_wanted, added}
 use Rattle.res_map.specs.Map.{new_reference, renamed, stored_anew, with_attrs}
 use Rattle.res_map.proofs.Splitting.{split-whole, split-inside}
 use Rattle.res_calls.specs.Files.{File, OpenFile, Resources, Found, find, file_of, file_named, open_at, opened}
 use Rattle.res_calls.specs.Files.{with_reference}
-use Rattle.res_calls.specs.Fetch.{Managers, done, refused, flags_of, now_filled, now_emptied, now_refilled, fetch_as}
+use Rattle.res_calls.specs.Fetch.{Managers, done, refused, flags_of, now_filled, now_empty, now_refilled, fetch_as}
 use Rattle.res_calls.specs.Fetch.{is_system}
 use Rattle.res_calls.specs.Update.{bytes_held, written}
 use Rattle.res_calls.specs.Rows as rows
@@ -52,7 +52,7 @@ filled-sound at s stands sound (Ok n, m) =
     (held-keeps (record at.reference.here { handle = Some n }) n refl) sound
 
 emptied-sound : (at : Found) (s : Managers) → Stands s.resources.chain at → Sound_in s
-    → (x : Result ℕ OsErr × Memory) → Sound_in (now_emptied at x s).after
+    → (x : Result ℕ OsErr × Memory) → Sound_in (now_empty at x s).after
 emptied-sound at s stands sound (Err code, m) = sound
 emptied-sound at s stands sound (Ok n, m) =
     sound-reference s.resources at (record at.reference.here { handle = Some n }) stands
@@ -70,7 +70,7 @@ fetch_sound true at s None stands sound =
     filled-sound at s stands sound (new_inside (resource_role (is_system at.file.here)) (flags_of at.reference.here)
     at.reference.here.stored.datum s.memory)
 fetch_sound false at s None stands sound =
-    emptied-sound at s stands sound (new_emptied_inside (resource_role (is_system at.file.here)) s.memory)
+    emptied-sound at s stands sound (new_empty_inside (resource_role (is_system at.file.here)) s.memory)
 fetch_sound loading at s (Some k) stands sound =
     either-keeps Sound_in (loading && not (has_block k s.memory.heap)) _
     (done (record { handle = k; read = 0 }) s)
@@ -98,9 +98,9 @@ pub get_resource_sound : (kind : ℕ) (id : ℤ) (s : Managers) → Sound s.reso
 get_resource_sound kind id s sound =
     searched_sound (λ f. nat_le f.number s.resources.current) (is_wanted kind id) s.resources.loading s sound
 
-pub get_one_resource_sound : (kind : ℕ) (id : ℤ) (s : Managers) → Sound s.resources
-    → Sound (rows.get_one_resource kind id s).after.resources
-get_one_resource_sound kind id s sound =
+pub get1_resource_sound : (kind : ℕ) (id : ℤ) (s : Managers) → Sound s.resources
+    → Sound (rows.get1_resource kind id s).after.resources
+get1_resource_sound kind id s sound =
     searched_sound (λ f. f.number == s.resources.current) (is_wanted kind id) s.resources.loading s sound
 
 pub get_named_resource_sound : (kind : ℕ) (name : List ℕ) (s : Managers) → Sound s.resources
@@ -108,14 +108,14 @@ pub get_named_resource_sound : (kind : ℕ) (name : List ℕ) (s : Managers) →
 get_named_resource_sound kind name s sound =
     searched_sound (λ f. nat_le f.number s.resources.current) (is_named kind name) s.resources.loading s sound
 
-pub get_one_named_resource_sound : (kind : ℕ) (name : List ℕ) (s : Managers) → Sound s.resources
-    → Sound (rows.get_one_named_resource kind name s).after.resources
-get_one_named_resource_sound kind name s sound =
+pub get1_named_resource_sound : (kind : ℕ) (name : List ℕ) (s : Managers) → Sound s.resources
+    → Sound (rows.get1_named_resource kind name s).after.resources
+get1_named_resource_sound kind name s sound =
     searched_sound (λ f. f.number == s.resources.current) (is_named kind name) s.resources.loading s sound
 
-pub get_one_ind_resource_sound : (kind n : ℕ) (s : Managers) → Sound s.resources
-    → Sound (rows.get_one_ind_resource kind n s).after.resources
-get_one_ind_resource_sound kind n s sound =
+pub get1_ind_resource_sound : (kind n : ℕ) (s : Managers) → Sound s.resources
+    → Sound (rows.get1_ind_resource kind n s).after.resources
+get1_ind_resource_sound kind n s sound =
     fetched_sound (nth_in kind n (file_of s.resources.current s.resources)) s.resources.loading s
     (λ at e. nth-stands kind n (λ f. f.number == s.resources.current) s.resources.chain at e) sound
 

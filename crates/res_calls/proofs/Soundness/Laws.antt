@@ -61,18 +61,18 @@ sound-served (asks.HomeResFile handle) s sound =
     noted_sound (rows.home_res_file handle) s (asked-sound handle s _ sound (λ at. refl))
 sound-served (asks.GetResource kind id) s sound =
     noted_sound (rows.get_resource kind id) s (calls.get_resource_sound kind id s sound)
-sound-served (asks.GetOneResource kind id) s sound =
-    noted_sound (rows.get_one_resource kind id) s (calls.get_one_resource_sound kind id s sound)
+sound-served (asks.Get1Resource kind id) s sound =
+    noted_sound (rows.get1_resource kind id) s (calls.get1_resource_sound kind id s sound)
 sound-served (asks.GetNamedResource kind name) s sound =
     noted_sound (rows.get_named_resource kind name) s (calls.get_named_resource_sound kind name s sound)
-sound-served (asks.GetOneNamedResource kind name) s sound =
-    noted_sound (rows.get_one_named_resource kind name) s (calls.get_one_named_resource_sound kind name s sound)
-sound-served asks.CountOneTypes s sound = noted_sound rows.count_one_types s sound
-sound-served (asks.GetOneIndType n) s sound =
-    noted_sound (rows.get_one_ind_type n) s (told-sound _ s sound)
-sound-served (asks.CountOneResources kind) s sound = noted_sound (rows.count_one_resources kind) s sound
-sound-served (asks.GetOneIndResource kind n) s sound =
-    noted_sound (rows.get_one_ind_resource kind n) s (calls.get_one_ind_resource_sound kind n s sound)
+sound-served (asks.Get1NamedResource kind name) s sound =
+    noted_sound (rows.get1_named_resource kind name) s (calls.get1_named_resource_sound kind name s sound)
+sound-served asks.Count1Types s sound = noted_sound rows.count1_types s sound
+sound-served (asks.Get1IndType n) s sound =
+    noted_sound (rows.get1_ind_type n) s (told-sound _ s sound)
+sound-served (asks.Count1Resources kind) s sound = noted_sound (rows.count1_resources kind) s sound
+sound-served (asks.Get1IndResource kind n) s sound =
+    noted_sound (rows.get1_ind_resource kind n) s (calls.get1_ind_resource_sound kind n s sound)
 sound-served (asks.LoadResource handle) s sound =
     noted_sound (rows.load_resource handle) s (calls.load_resource_sound handle s sound)
 sound-served (asks.ReleaseResource handle) s sound =

@@ -7,18 +7,18 @@ use Rattle.heap_calls.specs.State.{Memory}
 use Rattle.heap_calls.specs.Staying.{staying}
 use Rattle.heap_calls.specs.Locked.{locked_place}
 use Rattle.heap_calls.specs.Standing.{pointer_place}
-use Rattle.heap_calls.specs.Emptying.{may_be_emptied}
-use Rattle.heap_calls.specs.Path.{Step, walk, put_reads, lets_of}
+use Rattle.heap_calls.specs.Emptying.{has_purgeable}
+use Rattle.heap_calls.specs.Path.{Step, walk, put_reads, steps_dispose}
 use Rattle.heap_calls.proofs.Promises.Knowing.{Known}
 use Rattle.heap_calls.proofs.Steps.Knowledge.{steps-known}
 use Rattle.heap_calls.proofs.Steps.Standstill.{steps-locked, steps-fixed, steps-bytes}
 use Rattle.heap_calls.proofs.Steps.Survival.{steps-masters, steps-purgeable}
-use Rattle.heap_calls.proofs.Steps.FewLooks.{steps-fits}
+use Rattle.heap_calls.proofs.Steps.FewSearches.{steps-fits}
 use Rattle.heap_calls.proofs.Steps.Place.{steps-busy, steps-code, steps-window}
 use Rattle.res_calls.specs.Fetch.{Managers, Answer, Reads}
 use Rattle.res_calls.proofs.Walks.Going.{Goes}
-use Rattle.res_calls.proofs.Walks.Letting.{LookFew}
-use Rattle.res_calls.proofs.Walks.Laws.{Left, left-walk, no_more-walk}
+use Rattle.res_calls.proofs.Walks.Letting.{SearchFew}
+use Rattle.res_calls.proofs.Walks.Laws.{LeftOrSlotted, left-walk, no_more-walk}
 
 -- The laws of an answer that goes by steps.
 
@@ -37,7 +37,7 @@ goes-known steps s a bytes goes known =
 
 -- locked blocks stay, but for those that are let go, and pointers' blocks
 pub goes-locked : {T : Type 0} {w : Bool} (steps : List Step) (s : Managers) (a : Answer T) (bytes : ℕ → List ℕ)
-    → Goes w steps s a → Known s.memory.heap bytes → (h place : ℕ) → lets_of steps h ≡ false
+    → Goes w steps s a → Known s.memory.heap bytes → (h place : ℕ) → steps_dispose steps h ≡ false
     → locked_place h s.memory.heap.zone ≡ Some place → locked_place h a.after.memory.heap.zone ≡ Some place
 goes-locked steps s a bytes goes known h place keeps is =
     of-goes (λ m. locked_place h m.heap.zone ≡ Some place) steps s a goes
@@ -49,10 +49,10 @@ pub goes-fixed : {T : Type 0} {w : Bool} (steps : List Step) (s : Managers) (a :
 goes-fixed steps s a goes p place is = of-goes (λ m. pointer_place p m.heap.zone ≡ Some place) steps s a goes
     (steps-fixed steps s.memory p ∙ is)
 
--- only blocks that may be emptied are
+-- only blocks that may be purged are
 pub goes-purgeable : {T : Type 0} {w : Bool} (steps : List Step) (s : Managers) (a : Answer T)
-    → Goes w steps s a → (h : ℕ) → lets_of steps h ≡ false → has (is_relocatable h) s.memory.heap.zone ≡ true
-    → has (is_relocatable h) a.after.memory.heap.zone ≡ false → may_be_emptied h s.memory.heap.zone ≡ true
+    → Goes w steps s a → (h : ℕ) → steps_dispose steps h ≡ false → has (is_relocatable h) s.memory.heap.zone ≡ true
+    → has (is_relocatable h) a.after.memory.heap.zone ≡ false → has_purgeable h s.memory.heap.zone ≡ true
 goes-purgeable steps s a goes h keeps before after =
     steps-purgeable steps s.memory h keeps before
     (subst (λ (m : Memory). has (is_relocatable h) m.heap.zone ≡ false) goes.heap after)
@@ -69,12 +69,12 @@ goes-masters steps s a goes =
     of-goes (λ m. count is_masters s.memory.heap.zone ≤ count is_masters m.heap.zone) steps s a goes
     (steps-masters steps s.memory)
 
--- where its steps look few times it does, and the count of looks always fits
-pub goes-looks : {T : Type 0} {w : Bool} (steps : List Step) (s : Managers) (a : Answer T) → Goes w steps s a
-    → LookFew steps s.memory → 0 < count is_masters s.memory.heap.zone → s.memory.log.searches < 2 ^ 64
+-- where its steps search few times it does, and the count of searches always fits
+pub goes-searches : {T : Type 0} {w : Bool} (steps : List Step) (s : Managers) (a : Answer T) → Goes w steps s a
+    → SearchFew steps s.memory → 0 < count is_masters s.memory.heap.zone → s.memory.log.searches < 2 ^ 64
     → (n : ℕ) × (n ≤ length s.memory.heap.zone + 1)
     × (a.after.memory.log.searches ≡ counted s.memory.log.searches n)
-goes-looks steps s a goes few masters fits = of-goes
+goes-searches steps s a goes few masters fits = of-goes
     (λ m. (n : ℕ) × (n ≤ length s.memory.heap.zone + 1) × (m.log.searches ≡ counted s.memory.log.searches n))
     steps s a goes (few masters fits)
 
@@ -92,9 +92,9 @@ goes-unread steps s a goes code is = (goes.refuses code is).0
 
 pub goes-refused : {T : Type 0} {w : Bool} (steps : List Step) (s : Managers) (a : Answer T) → Goes w steps s a
     → (code : OsErr) → a.reply ≡ Err code
-    → Left s.memory.heap a.after.memory.heap × (a.after.resources ≡ s.resources)
+    → LeftOrSlotted s.memory.heap a.after.memory.heap × (a.after.resources ≡ s.resources)
 goes-refused steps s a goes code is = let left = goes.refuses code is in (
-  of-goes (λ m. Left s.memory.heap m.heap) steps s a goes (left-walk steps s.memory code left.2),
+  of-goes (λ m. LeftOrSlotted s.memory.heap m.heap) steps s a goes (left-walk steps s.memory code left.2),
   left.1,
 )
 

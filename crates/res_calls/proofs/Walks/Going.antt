@@ -12,14 +12,14 @@ use Rattle.res_map.specs.Map.{Reference, is_preload, is_changed, is_protected, n
 use Rattle.heap_calls.specs.State.{Memory, Resource}
 use Rattle.heap_calls.specs.Answer.{Known}
 use Rattle.heap_calls.specs.Purging.{is_resource as is_owned}
-use Rattle.heap_calls.specs.Inside.{new_inside, new_emptied_inside, refill_inside, has_block, resource_role, owned_as}
+use Rattle.heap_calls.specs.Inside.{new_inside, new_empty_inside, refill_inside, has_block, resource_role, owned_as}
 use Rattle.heap_calls.specs.Path.{Step, NewFilled, Release, Cast, walk, reads, read_new, read_again, refusal}
 use Rattle.heap_calls.specs.Path.{refusal_of}
 use Rattle.heap_calls.proofs.Steps.Letting.{releases}
 use Rattle.heap_calls.proofs.Steps.Numbers.{refilled-is, refilled-read, refilled-refusal}
 use Rattle.res_calls.specs.Files.{File, OpenFile, Resources, Found, opened, open_at, file_of}
 use Rattle.res_calls.specs.Fetch.{Managers, Answer, Fetched, done, refused, flags_of, is_system, now_filled}
-use Rattle.res_calls.specs.Fetch.{now_emptied}
+use Rattle.res_calls.specs.Fetch.{now_empty}
 use Rattle.res_calls.specs.Fetch.{now_refilled, fetch_as, Loaded, given, preload, Reads}
 use Rattle.res_calls.specs.Rows.{on_found, on_open, loaded, open_as, open_fork, open_unless, open_named}
 use Rattle.res_calls.specs.Rows.{greatest_number, all_released, handles_of, closed_file, bars, released_at}
@@ -28,7 +28,7 @@ use Rattle.res_calls.specs.Update.{update, written, bytes_held}
 use Rattle.res_calls.specs.Changing.{most_files, new_file, new_fork, with_files, create_named, on_known, added_to}
 use Rattle.res_calls.specs.Changing.{on_removable, removed_from, stored_if}
 use Rattle.res_calls.specs.Rows.{detached_at, fetched}
-use Rattle.res_calls.proofs.Walks.Steps.{for_found, for_open, new_filled, new_emptied, filled_again, fetch_steps_as}
+use Rattle.res_calls.proofs.Walks.Steps.{for_found, for_open, new_filled, new_empty, filled_again, fetch_steps_as}
 use Rattle.res_calls.proofs.Walks.Steps.{fetched_steps, preload_steps, load_steps, fork_steps, unless_steps}
 use Rattle.res_calls.proofs.Walks.Steps.{open_steps}
 use Rattle.res_calls.proofs.Walks.Steps.{if_done, close_steps, on_handle, release_steps, detach_steps}
@@ -122,8 +122,8 @@ filled-goes at s (Ok h, m) is = record {
 }
 
 emptied-goes : (at : Found) (s : Managers) (x : Result ℕ OsErr × Memory)
-    → new_emptied_inside (resource_role (is_system at.file.here)) s.memory ≡ x
-    → Goes false (new_emptied at ∷ []) s (now_emptied at x s)
+    → new_empty_inside (resource_role (is_system at.file.here)) s.memory ≡ x
+    → Goes false (new_empty at ∷ []) s (now_empty at x s)
 emptied-goes at s (Err why, m) is = record {
   heap = ap (λ (y : Result ℕ OsErr × Memory). y.1) (sym is);
   read = refl;
@@ -132,7 +132,7 @@ emptied-goes at s (Err why, m) is = record {
     refl,
     refl,
     inr (
-      new_emptied at,
+      new_empty at,
       refl,
       ap (λ (y : Result ℕ OsErr × Memory). refusal_of y.0) is ∙ ap (refusal_of {T = Fetched}) e,
     ),
@@ -145,7 +145,7 @@ emptied-goes at s (Ok h, m) is = record {
   refuses = λ code e. cc;
 }
 
--- an emptied handle is filled
+-- an empty handle is filled
 refilled-goes : (at : Found) (h : ℕ) (s : Managers) → has_block h s.memory.heap ≡ false
     → (x : Result (Unit {0}) OsErr × Memory)
     → refill_inside h (flags_of at.reference.here) at.reference.here.stored.datum s.memory ≡ x
@@ -200,7 +200,7 @@ pub fetch-goes : (loading : Bool) (at : Found) (handle : Option ℕ) (s : Manage
 fetch-goes true at None s = filled-goes at s (new_inside (resource_role (is_system at.file.here))
     (flags_of at.reference.here) at.reference.here.stored.datum s.memory) refl
 fetch-goes false at None s =
-    emptied-goes at s (new_emptied_inside (resource_role (is_system at.file.here)) s.memory) refl
+    emptied-goes at s (new_empty_inside (resource_role (is_system at.file.here)) s.memory) refl
 fetch-goes true at (Some h) s = again-goes at h s (has_block h s.memory.heap) refl
 fetch-goes false at (Some h) s = same-goes _ s
 

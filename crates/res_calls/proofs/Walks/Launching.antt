@@ -5,13 +5,13 @@ use Rattle.block_store.specs.Rest.{Site}
 use Rattle.heap_calls.specs.State.{Memory}
 use Rattle.heap_calls.specs.Locked.{locked_place}
 use Rattle.heap_calls.specs.Standing.{pointer_place}
-use Rattle.heap_calls.specs.Emptying.{may_be_emptied}
-use Rattle.heap_calls.specs.Path.{Step, walk, reads, put_reads, lets_of}
+use Rattle.heap_calls.specs.Emptying.{has_purgeable}
+use Rattle.heap_calls.specs.Path.{Step, walk, reads, put_reads, steps_dispose}
 use Rattle.heap_calls.proofs.Promises.Knowing.{Known}
 use Rattle.heap_calls.proofs.Steps.Knowledge.{steps-known}
 use Rattle.heap_calls.proofs.Steps.Standstill.{steps-locked, steps-fixed, steps-bytes}
 use Rattle.heap_calls.proofs.Steps.Survival.{steps-masters, steps-purgeable}
-use Rattle.heap_calls.proofs.Steps.FewLooks.{steps-fits}
+use Rattle.heap_calls.proofs.Steps.FewSearches.{steps-fits}
 use Rattle.heap_calls.proofs.Steps.Place.{steps-busy, steps-code, steps-window}
 use Rattle.res_calls.specs.Files.{OpenFile, Resources}
 use Rattle.res_calls.specs.Fetch.{Managers, Reads, Loaded}
@@ -41,7 +41,7 @@ in-reads : (chain : List OpenFile) (s : Managers)
 in-reads [] s = refl
 in-reads (f ∷ older) s = (loaded-loads f s).read
 
-in-lets : (chain : List OpenFile) (s : Managers) (h : ℕ) → lets_of (launch_steps_in chain s) h ≡ false
+in-lets : (chain : List OpenFile) (s : Managers) (h : ℕ) → steps_dispose (launch_steps_in chain s) h ≡ false
 in-lets [] s h = refl
 in-lets (f ∷ older) s h = load-lets f.map.references s h
 
@@ -52,7 +52,7 @@ preloaded-walks s = in-walks s.resources.chain s
 pub preloaded-reads : (s : Managers) → (preloaded s).1 ≡ reads (launch_steps s) s.memory
 preloaded-reads s = in-reads s.resources.chain s
 
-pub launch-lets : (s : Managers) (h : ℕ) → lets_of (launch_steps s) h ≡ false
+pub launch-lets : (s : Managers) (h : ℕ) → steps_dispose (launch_steps s) h ≡ false
 launch-lets s h = in-lets s.resources.chain s h
 
 -- what holds after the steps
@@ -67,7 +67,7 @@ preloaded-known s bytes known =
     (subst (λ (read : Reads). Known (walk (launch_steps s) s.memory).heap (put_reads read bytes))
     (sym (preloaded-reads s)) (steps-known (launch_steps s) s.memory bytes known))
 
--- locked blocks and pointers' blocks stay, and only blocks that may be emptied are
+-- locked blocks and pointers' blocks stay, and only blocks that may be purged are
 pub preloaded-locked : (s : Managers) (bytes : ℕ → List ℕ) → Known s.memory.heap bytes → (h place : ℕ)
     → locked_place h s.memory.heap.zone ≡ Some place
     → locked_place h (preloaded s).0.memory.heap.zone ≡ Some place
@@ -81,12 +81,12 @@ preloaded-fixed s p place is = of-launch (λ m. pointer_place p m.heap.zone ≡ 
 
 pub preloaded-purgeable : (s : Managers) (h : ℕ) → has (is_relocatable h) s.memory.heap.zone ≡ true
     → has (is_relocatable h) (preloaded s).0.memory.heap.zone ≡ false
-    → may_be_emptied h s.memory.heap.zone ≡ true
+    → has_purgeable h s.memory.heap.zone ≡ true
 preloaded-purgeable s h before after =
     steps-purgeable (launch_steps s) s.memory h (launch-lets s h) before
     (subst (λ (m : Memory). has (is_relocatable h) m.heap.zone ≡ false) (preloaded-walks s) after)
 
--- the zone keeps its size and its blocks of master pointers, and the count of looks fits
+-- the zone keeps its size and its blocks of master pointers, and the count of searches fits
 pub preloaded-bytes : (s : Managers) → sizes (preloaded s).0.memory.heap.zone ≡ sizes s.memory.heap.zone
 preloaded-bytes s = of-launch (λ m. sizes m.heap.zone ≡ sizes s.memory.heap.zone) s
     (steps-bytes (launch_steps s) s.memory)

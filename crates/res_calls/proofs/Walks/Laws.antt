@@ -11,15 +11,15 @@ use Rattle.heap_calls.specs.Refused.{slotted_zone}
 use Rattle.heap_calls.specs.Staying.{staying}
 use Rattle.heap_calls.specs.Locked.{locked_place}
 use Rattle.heap_calls.specs.Standing.{pointer_place}
-use Rattle.heap_calls.specs.Emptying.{may_be_emptied}
-use Rattle.heap_calls.specs.Path.{Step, NewFilled, NewEmptied, Refill, Release, Cast, walk, reads, put_reads}
+use Rattle.heap_calls.specs.Emptying.{has_purgeable}
+use Rattle.heap_calls.specs.Path.{Step, NewFilled, NewEmpty, Refill, Release, Cast, walk, reads, put_reads}
 use Rattle.heap_calls.specs.Path.{left_zone}
 use Rattle.heap_calls.proofs.Promises.Knowing.{Known}
 use Rattle.heap_calls.proofs.Steps.Knowledge.{steps-known}
 use Rattle.heap_calls.proofs.Steps.Standstill.{steps-locked, steps-fixed, steps-bytes}
 use Rattle.heap_calls.proofs.Steps.Survival.{steps-masters, steps-purgeable}
 use Rattle.heap_calls.proofs.Steps.Refusals.{step-refused, step-no_more}
-use Rattle.heap_calls.proofs.Steps.FewLooks.{steps-fits}
+use Rattle.heap_calls.proofs.Steps.FewSearches.{steps-fits}
 use Rattle.heap_calls.proofs.Steps.Place.{steps-busy, steps-code, steps-window}
 use Rattle.res_calls.specs.Fetch.{Managers}
 use Rattle.res_calls.specs.Asked.{ResourceAsked, served}
@@ -28,7 +28,7 @@ use Rattle.res_calls.specs.Writing.{writes}
 use Rattle.res_calls.proofs.Walks.Steps.{steps_of}
 use Rattle.res_calls.proofs.Walks.Going.{Refuses}
 use Rattle.res_calls.proofs.Walks.Serving.{served-serves}
-use Rattle.res_calls.proofs.Walks.Letting.{lets-walk, looks-walk}
+use Rattle.res_calls.proofs.Walks.Letting.{lets-walk, searches-walk}
 
 -- The laws of one call of the Resource Manager.
 
@@ -74,11 +74,11 @@ pub served-fixed : (a : ResourceAsked) (s : Managers) (bytes : ℕ → List ℕ)
 served-fixed a s bytes known p place is = of-walk (λ m. pointer_place p m.heap.zone ≡ Some place) a s
     (steps-fixed (steps_of a s) s.memory p ∙ is)
 
--- only blocks that may be emptied are
+-- only blocks that may be purged are
 pub served-purgeable : (a : ResourceAsked) (s : Managers) (bytes : ℕ → List ℕ) → Known s.memory.heap bytes
     → (h : ℕ) → disposes_of h a s ≡ false → has (is_relocatable h) s.memory.heap.zone ≡ true
     → has (is_relocatable h) (served a s).after.memory.heap.zone ≡ false
-    → may_be_emptied h s.memory.heap.zone ≡ true
+    → has_purgeable h s.memory.heap.zone ≡ true
 served-purgeable a s bytes known h keeps before after =
     steps-purgeable (steps_of a s) s.memory h (lets-walk h a s keeps) before
     (subst (λ (m : Memory). has (is_relocatable h) m.heap.zone ≡ false) (heap-walks a s) after)
@@ -94,14 +94,14 @@ pub served-masters : (a : ResourceAsked) (s : Managers) (bytes : ℕ → List �
 served-masters a s bytes known = of-walk (λ m. count is_masters s.memory.heap.zone ≤ count is_masters m.heap.zone) a s
     (steps-masters (steps_of a s) s.memory)
 
--- a call that opens no file looks at most once more than there are blocks, and the count of looks always fits
-pub served-looks : (a : ResourceAsked) (s : Managers) → opens_file a ≡ false
+-- a call that opens no file searches at most once more than there are blocks, and the count of searches always fits
+pub served-searches : (a : ResourceAsked) (s : Managers) → opens_file a ≡ false
     → 0 < count is_masters s.memory.heap.zone → s.memory.log.searches < 2 ^ 64
     → (n : ℕ) × (n ≤ length s.memory.heap.zone + 1)
     × ((served a s).after.memory.log.searches ≡ counted s.memory.log.searches n)
-served-looks a s opens masters fits = of-walk
+served-searches a s opens masters fits = of-walk
     (λ m. (n : ℕ) × (n ≤ length s.memory.heap.zone + 1) × (m.log.searches ≡ counted s.memory.log.searches n)) a s
-    (looks-walk a s opens masters fits)
+    (searches-walk a s opens masters fits)
 
 pub served-fits : (a : ResourceAsked) (s : Managers) → 0 < count is_masters s.memory.heap.zone
     → s.memory.log.searches < 2 ^ 64 → (served a s).after.memory.log.searches < 2 ^ 64
@@ -109,28 +109,30 @@ served-fits a s masters fits = of-walk (λ m. m.log.searches < 2 ^ 64) a s
     (steps-fits (steps_of a s) s.memory masters fits)
 
 -- a refused call leaves the heap, but that a block of slots may stay that was made for it
-abbrev pub Left : State → State → Type 0
-Left before after = (after ≡ before) ⊎ (after ≡ record before { zone = slotted_zone nothing before })
+abbrev pub LeftOrSlotted : State → State → Type 0
+LeftOrSlotted before after = (after ≡ before) ⊎ (after ≡ record before { zone = slotted_zone nothing before })
 
-left-by : (step : Step) (s : State) → Left s (record s { zone = left_zone step s })
+left-by : (step : Step) (s : State) → LeftOrSlotted s (record s { zone = left_zone step s })
 left-by (NewFilled role flags bytes) s = inr refl
-left-by (NewEmptied role) s = inr refl
+left-by (NewEmpty role) s = inr refl
 left-by (Refill h flags bytes) s = inl refl
 left-by (Release h) s = inl refl
 left-by (Cast change h) s = inl refl
 
-pub left-walk : (steps : List Step) (m : Memory) (code : OsErr) → Refuses steps m code → Left m.heap (walk steps m).heap
+pub left-walk : (steps : List Step) (m : Memory) (code : OsErr) → Refuses steps m code → LeftOrSlotted m.heap
+    (walk steps m).heap
 left-walk steps m code (inl none) = inl (ap (λ (path : List Step). (walk path m).heap) none)
 left-walk steps m code (inr (step, is, refused)) =
-    subst (λ (path : List Step). Left m.heap (walk path m).heap) (sym is)
-    (subst (Left m.heap) (sym (step-refused step m code refused)) (left-by step m.heap))
+    subst (λ (path : List Step). LeftOrSlotted m.heap (walk path m).heap) (sym is)
+    (subst (LeftOrSlotted m.heap) (sym (step-refused step m code refused)) (left-by step m.heap))
 
 pub served-refused : (a : ResourceAsked) (s : Managers) (code : OsErr) → (served a s).told ≡ Refused code
     → (((served a s).after.memory.heap ≡ s.memory.heap)
     ⊎ ((served a s).after.memory.heap ≡ record s.memory.heap { zone = slotted_zone nothing s.memory.heap }))
     × ((served a s).after.resources ≡ record s.resources { error = code })
 served-refused a s code tells = (
-  of-walk (λ m. Left s.memory.heap m.heap) a s (left-walk (steps_of a s) s.memory code (one-step a s code tells)),
+  of-walk (λ m. LeftOrSlotted s.memory.heap m.heap) a s
+      (left-walk (steps_of a s) s.memory code (one-step a s code tells)),
   ((served-serves a s).refuses code tells).1,
 )
 

@@ -6,8 +6,8 @@ use Rattle.block_store.specs.Rest.{Site, counted}
 use Rattle.heap_calls.specs.Staying.{staying}
 use Rattle.heap_calls.specs.Locked.{locked_place}
 use Rattle.heap_calls.specs.Standing.{pointer_place}
-use Rattle.heap_calls.specs.Emptying.{may_be_emptied}
-use Rattle.heap_calls.specs.Path.{Step, walk, reads, put_reads, lets_of}
+use Rattle.heap_calls.specs.Emptying.{has_purgeable}
+use Rattle.heap_calls.specs.Path.{Step, walk, reads, put_reads, steps_dispose}
 use Rattle.heap_calls.proofs.Promises.Knowing.{Known}
 use Rattle.res_map.specs.Map.{is_resource}
 use Rattle.res_calls.specs.Files.{Resources, is_at}
@@ -23,8 +23,8 @@ use Rattle.res_calls.proofs.Owning.Places.{find-finds}
 use Rattle.res_calls.proofs.Soundness.Calls.{searched_sound}
 use Rattle.res_calls.proofs.Walks.Steps.{for_found, fetch_steps}
 use Rattle.res_calls.proofs.Walks.Going.{Goes, Refuses, found-goes, fetch-goes}
-use Rattle.res_calls.proofs.Walks.Letting.{LookFew, fetch-lets, found-lets, found-few, fetch-few}
-use Rattle.res_calls.proofs.Walks.Laws.{Left}
+use Rattle.res_calls.proofs.Walks.Letting.{SearchFew, fetch-lets, found-lets, found-few, fetch-few}
+use Rattle.res_calls.proofs.Walks.Laws.{LeftOrSlotted}
 use Rattle.res_calls.proofs.Walks.Place.{moved, answer_moved, found-place, fetch-place}
 use Rattle.res_calls.proofs.Walks.Answered as goes
 
@@ -47,12 +47,12 @@ pub own-reads : (kind : ℕ) (id : ℤ) (s : Managers)
     → (fetch_own kind id s).reads ≡ reads (own_steps kind id s.resources) s.memory
 own-reads kind id s = (own-goes kind id s).read
 
--- they let no handle go, and look at most once more than there are blocks
-pub own-lets : (kind : ℕ) (id : ℤ) (r : Resources) (h : ℕ) → lets_of (own_steps kind id r) h ≡ false
+-- they let no handle go, and search at most once more than there are blocks
+pub own-lets : (kind : ℕ) (id : ℤ) (r : Resources) (h : ℕ) → steps_dispose (own_steps kind id r) h ≡ false
 own-lets kind id r h = found-lets (find_own kind id r) (fetch_steps true) h
     (λ at. fetch-lets true at at.reference.here.handle h)
 
-pub own-few : (kind : ℕ) (id : ℤ) (s : Managers) → LookFew (own_steps kind id s.resources) s.memory
+pub own-few : (kind : ℕ) (id : ℤ) (s : Managers) → SearchFew (own_steps kind id s.resources) s.memory
 own-few kind id s = found-few (find_own kind id s.resources) (fetch_steps true) s.memory
     (λ at. fetch-few true at at.reference.here.handle s.memory)
 
@@ -76,11 +76,11 @@ pub own-fixed : (kind : ℕ) (id : ℤ) (s : Managers) (p place : ℕ)
 own-fixed kind id s p place is =
     goes.goes-fixed (own_steps kind id s.resources) s (fetch_own kind id s) (own-goes kind id s) p place is
 
--- only blocks that may be emptied are
+-- only blocks that may be purged are
 pub own-purgeable : (kind : ℕ) (id : ℤ) (s : Managers) (h : ℕ)
     → has (is_relocatable h) s.memory.heap.zone ≡ true
     → has (is_relocatable h) (fetch_own kind id s).after.memory.heap.zone ≡ false
-    → may_be_emptied h s.memory.heap.zone ≡ true
+    → has_purgeable h s.memory.heap.zone ≡ true
 own-purgeable kind id s h before after =
     goes.goes-purgeable (own_steps kind id s.resources) s (fetch_own kind id s) (own-goes kind id s) h
     (own-lets kind id s.resources h) before after
@@ -96,13 +96,13 @@ pub own-masters : (kind : ℕ) (id : ℤ) (s : Managers)
 own-masters kind id s =
     goes.goes-masters (own_steps kind id s.resources) s (fetch_own kind id s) (own-goes kind id s)
 
--- it looks at most once more than there are blocks, and the count of looks always fits
-pub own-looks : (kind : ℕ) (id : ℤ) (s : Managers) → 0 < count is_masters s.memory.heap.zone
+-- it searches at most once more than there are blocks, and the count of searches always fits
+pub own-searches : (kind : ℕ) (id : ℤ) (s : Managers) → 0 < count is_masters s.memory.heap.zone
     → s.memory.log.searches < 2 ^ 64
     → (n : ℕ) × (n ≤ length s.memory.heap.zone + 1)
     × ((fetch_own kind id s).after.memory.log.searches ≡ counted s.memory.log.searches n)
-own-looks kind id s masters fits =
-    goes.goes-looks (own_steps kind id s.resources) s (fetch_own kind id s) (own-goes kind id s) (own-few kind id s)
+own-searches kind id s masters fits =
+    goes.goes-searches (own_steps kind id s.resources) s (fetch_own kind id s) (own-goes kind id s) (own-few kind id s)
     masters fits
 
 pub own-fits : (kind : ℕ) (id : ℤ) (s : Managers) → 0 < count is_masters s.memory.heap.zone
@@ -121,7 +121,7 @@ pub own-one_step : (kind : ℕ) (id : ℤ) (s : Managers) (code : OsErr) → (fe
 own-one_step kind id s code is = ((own-goes kind id s).refuses code is).2
 
 pub own-refused : (kind : ℕ) (id : ℤ) (s : Managers) (code : OsErr) → (fetch_own kind id s).reply ≡ Err code
-    → Left s.memory.heap (fetch_own kind id s).after.memory.heap
+    → LeftOrSlotted s.memory.heap (fetch_own kind id s).after.memory.heap
     × ((fetch_own kind id s).after.resources ≡ s.resources)
 own-refused kind id s code is =
     goes.goes-refused (own_steps kind id s.resources) s (fetch_own kind id s) (own-goes kind id s) code is

@@ -13,13 +13,13 @@ use Rattle.res_map.specs.Map.{new_reference, renamed}
 use Rattle.heap_calls.specs.State.{Memory, Resource}
 use Rattle.heap_calls.specs.Answer.{Known, code_of, handle_at}
 use Rattle.heap_calls.specs.Purging.{is_resource as is_owned}
-use Rattle.heap_calls.specs.Inside.{new_inside, new_emptied_inside, refill_inside, has_block, resource_role}
+use Rattle.heap_calls.specs.Inside.{new_inside, new_empty_inside, refill_inside, has_block, resource_role}
 use Rattle.heap_calls.specs.Inside.{inside, released}
 use Rattle.heap_calls.proofs.Tries.Elsewhere.{elsewhere}
 use Rattle.res_calls.specs.Files.{File, OpenFile, Resources, Found, opened, find_from_current, find_in_current, file_of}
 use Rattle.res_calls.specs.Files.{file_named}
 use Rattle.res_calls.specs.Files.{open_at, current_references}
-use Rattle.res_calls.specs.Fetch.{Managers, Answer, done, refused, flags_of, is_system, now_filled, now_emptied}
+use Rattle.res_calls.specs.Fetch.{Managers, Answer, done, refused, flags_of, is_system, now_filled, now_empty}
 use Rattle.res_calls.specs.Fetch.{now_refilled, fetch_as, Loaded, given, preload_one, loaded_both, preload}
 use Rattle.res_calls.specs.Rows as rows
 use Rattle.res_calls.specs.Rows.{on_found, on_open, loaded, opened_with, open_as, open_fork, open_unless, open_named}
@@ -70,7 +70,7 @@ filled-place window at s (Ok h, m) = refl
 filled-place window at s (Err code, m) = refl
 
 emptied-place : (window : Site) (at : Found) (s : Managers) (x : Result ℕ OsErr × Memory)
-    → now_emptied at (x.0, elsewhere window x.1) (moved window s) ≡ answer_moved window (now_emptied at x s)
+    → now_empty at (x.0, elsewhere window x.1) (moved window s) ≡ answer_moved window (now_empty at x s)
 emptied-place window at s (Ok h, m) = refl
 emptied-place window at s (Err code, m) = refl
 
@@ -84,7 +84,7 @@ pub fetch-place : (window : Site) (loading : Bool) (at : Found) (handle : Option
 fetch-place window true at None s = filled-place window at s (new_inside (resource_role (is_system at.file.here))
     (flags_of at.reference.here) at.reference.here.stored.datum s.memory)
 fetch-place window false at None s =
-    emptied-place window at s (new_emptied_inside (resource_role (is_system at.file.here)) s.memory)
+    emptied-place window at s (new_empty_inside (resource_role (is_system at.file.here)) s.memory)
 fetch-place window true at (Some h) s = by_block (has_block h s.memory.heap)
   where
     filling : Memory → Result (Unit {0}) OsErr × Memory
@@ -360,21 +360,21 @@ served-elsewhere window (asks.HomeResFile handle) s = telling-place window Numbe
     (found-place window (resource_of handle s.resources) s _ _ (λ at. refl))
 served-elsewhere window (asks.GetResource kind id) s = telling-place window tell_fetched (rows.get_resource kind id) s
     (fetched-place window (find_from_current (is_resource kind id) s.resources) s)
-served-elsewhere window (asks.GetOneResource kind id) s =
-    telling-place window tell_fetched (rows.get_one_resource kind id) s
+served-elsewhere window (asks.Get1Resource kind id) s =
+    telling-place window tell_fetched (rows.get1_resource kind id) s
     (fetched-place window (find_in_current (is_resource kind id) s.resources) s)
 served-elsewhere window (asks.GetNamedResource kind name) s =
     telling-place window tell_fetched (rows.get_named_resource kind name) s
     (fetched-place window (find_from_current (is_named kind name) s.resources) s)
-served-elsewhere window (asks.GetOneNamedResource kind name) s =
-    telling-place window tell_fetched (rows.get_one_named_resource kind name) s
+served-elsewhere window (asks.Get1NamedResource kind name) s =
+    telling-place window tell_fetched (rows.get1_named_resource kind name) s
     (fetched-place window (find_in_current (is_named kind name) s.resources) s)
-served-elsewhere window asks.CountOneTypes s = refl
-served-elsewhere window (asks.GetOneIndType index) s = telling-place window Kind (rows.get_one_ind_type index) s
+served-elsewhere window asks.Count1Types s = refl
+served-elsewhere window (asks.Get1IndType index) s = telling-place window Kind (rows.get1_ind_type index) s
     (told_type-place window (nth index (types (current_references s.resources))) s)
-served-elsewhere window (asks.CountOneResources kind) s = refl
-served-elsewhere window (asks.GetOneIndResource kind index) s =
-    telling-place window tell_fetched (rows.get_one_ind_resource kind index) s
+served-elsewhere window (asks.Count1Resources kind) s = refl
+served-elsewhere window (asks.Get1IndResource kind index) s =
+    telling-place window tell_fetched (rows.get1_ind_resource kind index) s
     (fetched-place window (nth_in kind index (file_of s.resources.current s.resources)) s)
 served-elsewhere window (asks.LoadResource handle) s = telling-place window tell_fetched (rows.load_resource handle) s
     (found-place window (resource_of handle s.resources) s _ _

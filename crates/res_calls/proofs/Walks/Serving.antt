@@ -80,24 +80,24 @@ served-serves (asks.HomeResFile handle) s = telling-serves Number (rows.home_res
 served-serves (asks.GetResource kind id) s = telling-serves tell_fetched (rows.get_resource kind id) s
     (steps_of (asks.GetResource kind id) s) (λ f. refl)
     (fetched-goes (find_from_current (is_resource kind id) s.resources) s)
-served-serves (asks.GetOneResource kind id) s = telling-serves tell_fetched (rows.get_one_resource kind id) s
-    (steps_of (asks.GetOneResource kind id) s) (λ f. refl)
+served-serves (asks.Get1Resource kind id) s = telling-serves tell_fetched (rows.get1_resource kind id) s
+    (steps_of (asks.Get1Resource kind id) s) (λ f. refl)
     (fetched-goes (find_in_current (is_resource kind id) s.resources) s)
 served-serves (asks.GetNamedResource kind name) s = telling-serves tell_fetched (rows.get_named_resource kind name) s
     (steps_of (asks.GetNamedResource kind name) s) (λ f. refl)
     (fetched-goes (find_from_current (is_named kind name) s.resources) s)
-served-serves (asks.GetOneNamedResource kind name) s =
-    telling-serves tell_fetched (rows.get_one_named_resource kind name) s
-    (steps_of (asks.GetOneNamedResource kind name) s) (λ f. refl)
+served-serves (asks.Get1NamedResource kind name) s =
+    telling-serves tell_fetched (rows.get1_named_resource kind name) s
+    (steps_of (asks.Get1NamedResource kind name) s) (λ f. refl)
     (fetched-goes (find_in_current (is_named kind name) s.resources) s)
-served-serves asks.CountOneTypes s = telling-serves Number rows.count_one_types s [] (λ n. refl) (same-goes _ s)
-served-serves (asks.GetOneIndType index) s = telling-serves Kind (rows.get_one_ind_type index) s [] (λ k. refl)
+served-serves asks.Count1Types s = telling-serves Number rows.count1_types s [] (λ n. refl) (same-goes _ s)
+served-serves (asks.Get1IndType index) s = telling-serves Kind (rows.get1_ind_type index) s [] (λ k. refl)
     (told_type-goes (nth index (types (current_references s.resources))) s)
-served-serves (asks.CountOneResources kind) s = telling-serves Number (rows.count_one_resources kind) s [] (λ n. refl)
+served-serves (asks.Count1Resources kind) s = telling-serves Number (rows.count1_resources kind) s [] (λ n. refl)
     (same-goes _ s)
-served-serves (asks.GetOneIndResource kind index) s =
-    telling-serves tell_fetched (rows.get_one_ind_resource kind index) s
-    (steps_of (asks.GetOneIndResource kind index) s) (λ f. refl)
+served-serves (asks.Get1IndResource kind index) s =
+    telling-serves tell_fetched (rows.get1_ind_resource kind index) s
+    (steps_of (asks.Get1IndResource kind index) s) (λ f. refl)
     (fetched-goes (nth_in kind index (file_of s.resources.current s.resources)) s)
 served-serves (asks.LoadResource handle) s = telling-serves tell_fetched (rows.load_resource handle) s
     (steps_of (asks.LoadResource handle) s) (λ f. refl)

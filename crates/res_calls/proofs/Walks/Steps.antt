@@ -8,14 +8,14 @@ use Rattle.heap_calls.specs.State.{Resource}
 use Rattle.heap_calls.specs.Answer.{Known, handle_at}
 use Rattle.heap_calls.specs.Purging.{is_resource as is_owned}
 use Rattle.heap_calls.specs.Inside.{resource_role, owned_as, has_block}
-use Rattle.heap_calls.specs.Path.{Step, NewFilled, NewEmptied, Refill, Release, Cast}
+use Rattle.heap_calls.specs.Path.{Step, NewFilled, NewEmpty, Refill, Release, Cast}
 use Rattle.heap_calls.proofs.Steps.Letting.{releases}
 use Rattle.res_calls.specs.Files.{File, OpenFile, Resources, Found, find_from_current, find_in_current, file_of}
 use Rattle.res_calls.specs.Files.{file_named, open_at}
 use Rattle.res_calls.specs.Fetch.{Managers, flags_of, is_system}
 use Rattle.res_calls.specs.Rows.{resource_of, handles_of, greatest_number, map_in, nth_in, bars}
-use Rattle.res_calls.specs.Asked.{ResourceAsked, OpenResFile, CloseResFile, GetResource, GetOneResource}
-use Rattle.res_calls.specs.Asked.{GetNamedResource, GetOneNamedResource, GetOneIndResource, LoadResource}
+use Rattle.res_calls.specs.Asked.{ResourceAsked, OpenResFile, CloseResFile, GetResource, Get1Resource}
+use Rattle.res_calls.specs.Asked.{GetNamedResource, Get1NamedResource, Get1IndResource, LoadResource}
 use Rattle.res_calls.specs.Asked.{ReleaseResource, DetachResource, AddResource, RemoveResource}
 use Rattle.res_calls.specs.Update.{update}
 
@@ -35,16 +35,16 @@ abbrev pub new_filled : Found → Step
 new_filled at = NewFilled (resource_role (is_system at.file.here)) (flags_of at.reference.here)
     at.reference.here.stored.datum
 
-abbrev pub new_emptied : Found → Step
-new_emptied at = NewEmptied (resource_role (is_system at.file.here))
+abbrev pub new_empty : Found → Step
+new_empty at = NewEmpty (resource_role (is_system at.file.here))
 
--- an emptied handle is filled
+-- an empty handle is filled
 abbrev pub filled_again : Found → ℕ → Step
 filled_again at h = Refill h (flags_of at.reference.here) at.reference.here.stored.datum
 
 -- the steps of a fetch, by whether loading is on and by the reference's handle
 abbrev pub fetch_steps_as : Bool → Found → Option ℕ → List Step
-fetch_steps_as loading at None = if loading then new_filled at ∷ [] else new_emptied at ∷ []
+fetch_steps_as loading at None = if loading then new_filled at ∷ [] else new_empty at ∷ []
 fetch_steps_as loading at (Some h) = if loading then filled_again at h ∷ [] else []
 
 abbrev pub fetch_steps : Bool → Found → List Step
@@ -124,10 +124,10 @@ abbrev pub steps_of : ResourceAsked → Managers → List Step
 steps_of (OpenResFile name) s = open_steps (file_named name s.resources) s
 steps_of (CloseResFile n) s = for_open (file_of n s.resources) (close_steps n s)
 steps_of (GetResource kind id) s = fetched_steps (find_from_current (is_resource kind id) s.resources) s
-steps_of (GetOneResource kind id) s = fetched_steps (find_in_current (is_resource kind id) s.resources) s
+steps_of (Get1Resource kind id) s = fetched_steps (find_in_current (is_resource kind id) s.resources) s
 steps_of (GetNamedResource kind name) s = fetched_steps (find_from_current (is_named kind name) s.resources) s
-steps_of (GetOneNamedResource kind name) s = fetched_steps (find_in_current (is_named kind name) s.resources) s
-steps_of (GetOneIndResource kind index) s =
+steps_of (Get1NamedResource kind name) s = fetched_steps (find_in_current (is_named kind name) s.resources) s
+steps_of (Get1IndResource kind index) s =
     fetched_steps (nth_in kind index (file_of s.resources.current s.resources)) s
 steps_of (LoadResource handle) s = for_found (resource_of handle s.resources) (fetch_steps true)
 steps_of (ReleaseResource handle) s = for_found (resource_of handle s.resources) (release_steps handle s)

@@ -6,8 +6,8 @@ use Rattle.block_store.specs.Block.{is_relocatable}
 use Rattle.block_store.specs.Run.{has}
 use Rattle.heap_calls.specs.State.{Memory}
 use Rattle.heap_calls.specs.Locked.{locked_place}
-use Rattle.heap_calls.specs.Emptying.{may_be_emptied}
-use Rattle.heap_calls.specs.Path.{Step, Release, walk, lets_of}
+use Rattle.heap_calls.specs.Emptying.{has_purgeable}
+use Rattle.heap_calls.specs.Path.{Step, Release, walk, steps_dispose}
 use Rattle.heap_calls.proofs.Promises.Knowing.{Known}
 use Rattle.heap_calls.proofs.Promises.Taking.{StaysOr}
 use Rattle.heap_calls.proofs.Tries.Taking.{done-or}
@@ -32,26 +32,27 @@ use Rattle.res_calls.proofs.Walks.Laws.{heap-walks, one-step}
 
 -- the steps of a refused call let no handle go
 refuses-lets : (steps : List Step) (m : Memory) (code : OsErr) → Refuses steps m code → (h : ℕ)
-    → lets_of steps h ≡ false
-refuses-lets steps m code (inl none) h = ap (λ (path : List Step). lets_of path h) none
+    → steps_dispose steps h ≡ false
+refuses-lets steps m code (inl none) h = ap (λ (path : List Step). steps_dispose path h) none
 refuses-lets steps m code (inr (step, is, refused)) h =
-    ap (λ (path : List Step). lets_of path h) is ∙ ap (λ (t : Bool). t || false) (refused-lets step m code refused h)
+    ap (λ (path : List Step). steps_dispose path h) is ∙ ap (λ (t : Bool). t || false)
+    (refused-lets step m code refused h)
 
 -- so a call that lets one go is done
-done-if : (a : ResourceAsked) (s : Managers) (h : ℕ) → lets_of (steps_of a s) h ≡ true
+done-if : (a : ResourceAsked) (s : Managers) (h : ℕ) → steps_dispose (steps_of a s) h ≡ true
     → ((served a s).told ≡ Done) ⊎ ((code : OsErr) × ((served a s).told ≡ Refused code)) → (served a s).told ≡ Done
 done-if a s h takes (inl is) = is
 done-if a s h takes (inr (code, is)) =
     let f : true ≡ false = sym takes ∙ refuses-lets (steps_of a s) s.memory code (one-step a s code is) h in cc
 
-takes-done : (a : ResourceAsked) (s : Managers) (h : ℕ) → lets_of (steps_of a s) h ≡ true
+takes-done : (a : ResourceAsked) (s : Managers) (h : ℕ) → steps_dispose (steps_of a s) h ≡ true
     → (served a s).told ≡ Done
 takes-done (asks.CloseResFile n) s h takes = done-if (asks.CloseResFile n) s h takes (done-or _)
 takes-done (asks.ReleaseResource handle) s h takes = done-if (asks.ReleaseResource handle) s h takes (done-or _)
 takes-done a s h takes = let f : true ≡ false = sym takes ∙ lets-walk h a s refl in cc
 
 -- and it is one that disposes of the handle
-takes-disposes : (a : ResourceAsked) (s : Managers) (h : ℕ) → lets_of (steps_of a s) h ≡ true
+takes-disposes : (a : ResourceAsked) (s : Managers) (h : ℕ) → steps_dispose (steps_of a s) h ≡ true
     → disposes_of h a s ≡ true
 takes-disposes a s h takes = cases (disposes_of h a s) refl
   where
@@ -61,7 +62,7 @@ takes-disposes a s h takes = cases (disposes_of h a s) refl
 
 -- steps that let a handle go leave no locked block of it
 abbrev LeaveNone : ℕ → Memory → List Step → Type 0
-LeaveNone h m steps = lets_of steps h ≡ true → locked_place h (walk steps m).heap.zone ≡ None
+LeaveNone h m steps = steps_dispose steps h ≡ true → locked_place h (walk steps m).heap.zone ≡ None
 
 module _ (h : ℕ) (m : Memory) (bytes : ℕ → List ℕ) (known : Known m.heap bytes)
   where
@@ -112,22 +113,22 @@ pub served-stays : (a : ResourceAsked) (s : Managers) (bytes : ℕ → List ℕ)
     → StaysOr (disposes_of h a s) place (served a s).told (locked_place h (served a s).after.memory.heap.zone)
 served-stays a s bytes known h place is =
     subst (λ (m : Memory). StaysOr (disposes_of h a s) place (served a s).told (locked_place h m.heap.zone))
-    (sym (heap-walks a s)) (by_steps (lets_of (steps_of a s) h) refl)
+    (sym (heap-walks a s)) (by_steps (steps_dispose (steps_of a s) h) refl)
   where
-    by_steps : (t : Bool) → lets_of (steps_of a s) h ≡ t
+    by_steps : (t : Bool) → steps_dispose (steps_of a s) h ≡ t
         → StaysOr (disposes_of h a s) place (served a s).told
         (locked_place h (walk (steps_of a s) s.memory).heap.zone)
     by_steps true e = inr (takes-none a s bytes known h e, takes-done a s h e, takes-disposes a s h e)
     by_steps false e = inl (steps-locked (steps_of a s) s.memory bytes known h place e is)
 
--- a handle's block that goes might be emptied, or the call that disposes of the handle is done
+-- a handle's block that goes might be purged, or the call that disposes of the handle is done
 pub served-empties : (a : ResourceAsked) (s : Managers) (h : ℕ) → has (is_relocatable h) s.memory.heap.zone ≡ true
     → has (is_relocatable h) (served a s).after.memory.heap.zone ≡ false
-    → (may_be_emptied h s.memory.heap.zone ≡ true) ⊎ (((served a s).told ≡ Done) × (disposes_of h a s ≡ true))
-served-empties a s h before after = by_steps (lets_of (steps_of a s) h) refl
+    → (has_purgeable h s.memory.heap.zone ≡ true) ⊎ (((served a s).told ≡ Done) × (disposes_of h a s ≡ true))
+served-empties a s h before after = by_steps (steps_dispose (steps_of a s) h) refl
   where
-    by_steps : (t : Bool) → lets_of (steps_of a s) h ≡ t
-        → (may_be_emptied h s.memory.heap.zone ≡ true) ⊎ (((served a s).told ≡ Done) × (disposes_of h a s ≡ true))
+    by_steps : (t : Bool) → steps_dispose (steps_of a s) h ≡ t
+        → (has_purgeable h s.memory.heap.zone ≡ true) ⊎ (((served a s).told ≡ Done) × (disposes_of h a s ≡ true))
     by_steps true e = inr (takes-done a s h e, takes-disposes a s h e)
     by_steps false e = inl (steps-purgeable (steps_of a s) s.memory h e before
         (subst (λ (m : Memory). has (is_relocatable h) m.heap.zone ≡ false) (heap-walks a s) after))

@@ -10,16 +10,16 @@ use Rattle.res_calls.specs.Asked.{ResourceAsked, served}
 -- What lines of calls tell, one after another.
 
 -- a line: a call of either manager
-abbrev pub Line : Type 0
-Line = Managers → Told × Managers
+abbrev pub CallLine : Type 0
+CallLine = Managers → Told × Managers
 
-abbrev pub line : ResourceAsked → Line
+abbrev pub line : ResourceAsked → CallLine
 line a s = ((served a s).told, (served a s).after)
 
-abbrev pub heap_line : Asked → Line
+abbrev pub heap_line : Asked → CallLine
 heap_line a s = ((heap.served a s.memory).0, record s { memory = (heap.served a s.memory).1 })
 
-abbrev pub tells : List Line → Managers → List Told
+abbrev pub tells : List CallLine → Managers → List Told
 tells [] s = []
 tells (l ∷ lines) s = (l s).0 ∷ tells lines (l s).1
 

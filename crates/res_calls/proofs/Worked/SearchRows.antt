@@ -6,9 +6,9 @@ use Rattle.heap_calls.specs.State.{fresh_memory}
 use Rattle.heap_calls.specs.Asked as asks
 use Rattle.res_calls.specs.Files.{Resources, opened}
 use Rattle.res_calls.specs.Fetch.{Managers}
-use Rattle.res_calls.specs.Asked.{UseResFile, CurResFile, HomeResFile, GetResource, GetOneResource}
-use Rattle.res_calls.specs.Asked.{GetNamedResource, GetOneNamedResource, CountOneTypes, GetOneIndType}
-use Rattle.res_calls.specs.Asked.{CountOneResources, GetOneIndResource}
+use Rattle.res_calls.specs.Asked.{UseResFile, CurResFile, HomeResFile, GetResource, Get1Resource}
+use Rattle.res_calls.specs.Asked.{GetNamedResource, Get1NamedResource, Count1Types, Get1IndType}
+use Rattle.res_calls.specs.Asked.{Count1Resources, Get1IndResource}
 use Rattle.res_calls.proofs.Worked.Lines.{line, heap_line, tells, stored, opened_map, group}
 
 -- A search through the open files.
@@ -39,26 +39,26 @@ start window = record { memory = fresh_memory 1024 window; resources = resources
 -- the search starts at the current file
 from-current : (window : Site) → tells (line (GetResource text (pos 5)) ∷ heap_line (asks.Show (Some 0))
     ∷ line (UseResFile 3) ∷ line (GetResource text (pos 5)) ∷ heap_line (asks.Show (Some 1))
-    ∷ line (GetOneResource text (pos 5)) ∷ line CurResFile ∷ []) (start window)
+    ∷ line (Get1Resource text (pos 5)) ∷ line CurResFile ∷ []) (start window)
     ≡ Fetched 0 1 ∷ Bytes (116 ∷ []) ∷ Done ∷ Fetched 1 1 ∷ Bytes (109 ∷ 49 ∷ []) ∷ Fetched 1 0 ∷ Number 3 ∷ []
 from-current window = refl
 
 -- names are compared without case
 by-name : (window : Site) → tells (line (UseResFile 3)
-    ∷ line (GetNamedResource text (109 ∷ 69 ∷ 78 ∷ 85 ∷ [])) ∷ line (GetOneNamedResource text (120 ∷ [])) ∷ [])
+    ∷ line (GetNamedResource text (109 ∷ 69 ∷ 78 ∷ 85 ∷ [])) ∷ line (Get1NamedResource text (120 ∷ [])) ∷ [])
     (start window)
     ≡ Done ∷ Fetched 0 1 ∷ Refused RES_NOT_FOUND ∷ []
 by-name window = refl
 
 -- what the current file has
-counted : (window : Site) → tells (line (UseResFile 3) ∷ line CountOneTypes ∷ line (GetOneIndType 1)
-    ∷ line (CountOneResources text) ∷ line (GetOneIndResource text 2) ∷ heap_line (asks.Show (Some 0)) ∷ [])
+counted : (window : Site) → tells (line (UseResFile 3) ∷ line Count1Types ∷ line (Get1IndType 1)
+    ∷ line (Count1Resources text) ∷ line (Get1IndResource text 2) ∷ heap_line (asks.Show (Some 0)) ∷ [])
     (start window)
     ≡ Done ∷ Number 1 ∷ Kind text ∷ Number 2 ∷ Fetched 0 1 ∷ Bytes (109 ∷ 50 ∷ []) ∷ []
 counted window = refl
 
 -- a resource of the System's is found behind a file without it
-behind-own : (window : Site) → tells (line (UseResFile 2) ∷ line (GetOneResource text (pos 5))
+behind-own : (window : Site) → tells (line (UseResFile 2) ∷ line (Get1Resource text (pos 5))
     ∷ line (GetResource text (pos 5)) ∷ heap_line (asks.Show (Some 0)) ∷ line (HomeResFile (Some 0))
     ∷ line (UseResFile 9) ∷ []) (start window)
     ≡ Done ∷ Refused RES_NOT_FOUND ∷ Fetched 0 1 ∷ Bytes (115 ∷ []) ∷ Number 0 ∷ Refused RES_FILE_NOT_FOUND ∷ []

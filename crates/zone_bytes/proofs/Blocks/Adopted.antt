@@ -29,7 +29,7 @@ use Rattle.zone_bytes.specs.Splicing.{Splice, SameOutside, IsSplice}
 use Rattle.zone_bytes.specs.Decode.{zone_in}
 use Rattle.zone_bytes.specs.Stepping.{left_in, IsOnWay}
 use Rattle.zone_bytes.specs.Walking.{Walk}
-use Rattle.zone_bytes.specs.Table.{Has, Lays, Says, emptied_word, slot_in}
+use Rattle.zone_bytes.specs.Table.{Has, Lays, Says, empty_word, slot_in}
 use Rattle.zone_bytes.specs.Lawful.{IsSound}
 use Rattle.zone_bytes.specs.Adopting.{named_header, adopted}
 use Rattle.zone_bytes.proofs.Tiles.Tiling.{slot-split, slot-inside, slot-append_left, slot-append_right, length-tiles}
@@ -88,7 +88,7 @@ tile-named a b c d a' b' c' d' n content ys t =
     }
 
 -- whether a handle that is emptied is a resource's
-flag-of : (r : Bool) (w : ℕ) → w ≡ emptied_word r → (w == 18) ≡ r
+flag-of : (r : Bool) (w : ℕ) → w ≡ empty_word r → (w == 18) ≡ r
 flag-of true w e = ap (λ v. v == 18) e
 flag-of false w e = ap (λ v. v == 18) e
 
@@ -148,7 +148,7 @@ module _ (xs : List ℕ) (first count : ℕ) (i : IsSound xs first count) (below
   far-parts : Each (Apart number) (names below ++ names above)
   far-parts = subst (Each (Apart number)) (names-append below (old ∷ above)) far
 
-  emptied : piece number 4 xs ≡ word (emptied_word flag.0)
+  emptied : piece number 4 xs ≡ word (empty_word flag.0)
   emptied = elim (subst (λ q. Says all xs i.unused number q) flag.1 (laid.says number)).1 [
     | inl h ↦ absurd (apart-other number number (each-has (Apart number) (names all) number far h) refl)
     | inr h ↦ h.1
@@ -156,7 +156,7 @@ module _ (xs : List ℕ) (first count : ℕ) (i : IsSound xs first count) (below
 
   flag-is : (word_at number xs == 18) ≡ resource number
   flag-is = flag-of flag.0 (word_at number xs)
-      (read_back number (emptied_word flag.0) xs (emptied-small flag.0) emptied)
+      (read_back number (empty_word flag.0) xs (emptied-small flag.0) emptied)
       ∙ ap is_resource (sym flag.1)
 
   abbrev head : List ℕ

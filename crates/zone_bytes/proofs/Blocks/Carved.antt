@@ -21,7 +21,7 @@ use Rattle.zone_bytes.specs.Layout.{flag_word, IsSlot, names, Apart as Far, Each
 use Rattle.zone_bytes.specs.Settling.{Lies, HasSlots}
 use Rattle.zone_bytes.specs.Splicing.{Splice, IsSplice, MayCarve}
 use Rattle.zone_bytes.specs.Decode.{zone_in}
-use Rattle.zone_bytes.specs.Table.{Has, Lays, Says, emptied_word, slot_in}
+use Rattle.zone_bytes.specs.Table.{Has, Lays, Says, empty_word, slot_in}
 use Rattle.zone_bytes.specs.Lawful.{IsSound}
 use Rattle.block_store.proofs.Zone.Aligned.{spot_at-is}
 use Rattle.block_store.proofs.Nonrelocatable.Placing.{spot_at-below}
@@ -118,11 +118,11 @@ pub placed-free : (o k : ℕ) → ArePlaced o (free k)
 placed-free o zero = tt
 placed-free o (suc k) = (tt, tt)
 
-flags-kept : (r : Bool) (w : ℕ) → w ≡ emptied_word r → cond {A = ℕ} (w == 18) 32 0 ≡ flag_word no_flags r
+flags-kept : (r : Bool) (w : ℕ) → w ≡ empty_word r → cond {A = ℕ} (w == 18) 32 0 ≡ flag_word no_flags r
 flags-kept true w e = ap (λ v. cond {A = ℕ} (v == 18) 32 0) e
 flags-kept false w e = ap (λ v. cond {A = ℕ} (v == 18) 32 0) e
 
-pub emptied-small : (r : Bool) → emptied_word r < 2 ^ 32
+pub emptied-small : (r : Bool) → empty_word r < 2 ^ 32
 emptied-small true = omega arith
 emptied-small false = omega arith
 
@@ -166,7 +166,7 @@ module _ (xs : List ℕ) (first count : ℕ) (i : IsSound xs first count) (below
   far-parts : Each (Far number) (names below ++ names above)
   far-parts = subst (Each (Far number)) (names-append below (Free n ∷ above)) far
 
-  emptied : piece number 4 xs ≡ word (emptied_word flag.0)
+  emptied : piece number 4 xs ≡ word (empty_word flag.0)
   emptied = elim (subst (λ q. Says all xs i.unused number q) flag.1 (laid.says number)).1 [
     | inl h ↦ absurd (apart-self number (each-has (Far number) (names all) number far h))
     | inr h ↦ h.1
@@ -181,7 +181,7 @@ module _ (xs : List ℕ) (first count : ℕ) (i : IsSound xs first count) (below
 
   pub flags-are : cond {A = ℕ} (word_at number xs == 18) 32 0 ≡ flag_word no_flags (is_resource (slot_in xs number))
   flags-are =
-      flags-kept flag.0 (word_at number xs) (read_back number (emptied_word flag.0) xs (emptied-small flag.0) emptied)
+      flags-kept flag.0 (word_at number xs) (read_back number (empty_word flag.0) xs (emptied-small flag.0) emptied)
       ∙ ap (λ q. flag_word no_flags (is_resource q)) (sym flag.1)
 
   module _ (stop fl : ℕ) (t : stop ≡ top) (f : fl ≡ cond {A = ℕ} (word_at number xs == 18) 32 0) where

@@ -9,7 +9,7 @@ use Rattle.block_store.specs.declared.flags.Flags.{Flags}
 use Rattle.block_store.specs.Block.{Block, Free, Fixed, Masters, Relocatable, size, sizes, tidy, count, is_masters}
 use Rattle.block_store.specs.Block.{free_of, free_sum}
 use Rattle.block_store.specs.Seen.{with_flags}
-use Rattle.block_store.proofs.Emptied.Purges.{tidy-flags}
+use Rattle.block_store.proofs.Purged.Purges.{tidy-flags}
 use Rattle.zone_bytes.specs.Layout.{kind, flag_word, head_of, Tile}
 use Rattle.zone_bytes.specs.Decode.{zone_in}
 use Rattle.zone_bytes.specs.Table.{Lays, slot_in}

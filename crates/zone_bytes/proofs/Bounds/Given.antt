@@ -5,7 +5,7 @@ use Rattle.std.proofs.lemmas.Bool.{and_parts, cond-true}
 use Rattle.block_store.specs.Block.{Block, Free, Fixed, Masters, Relocatable, size, sizes, total, free_of, free_sum}
 use Rattle.block_store.specs.Block.{is_purgeable, fresh, tidy}
 use Rattle.block_store.specs.Grow.{freed, growth, taken, grow_up}
-use Rattle.block_store.specs.Room.{Spot, spot, filled, may_go, emptied}
+use Rattle.block_store.specs.Room.{Spot, spot, filled, may_be_purged, lowest_purged}
 use Rattle.block_store.proofs.Zone.Keeping.{SeesNoFree, unless, unless-le, freely, freed-is, tidied, taken-le}
 use Rattle.block_store.proofs.Zone.Tidy.{total-tidy, spot-is, spot-passes}
 use Rattle.block_store.proofs.Zone.Totals.{total-append, total-le}
@@ -64,11 +64,12 @@ given-released test zone (Some s) e =
     omega (arith, t, f, u, p, h, l, m, z, q)
 
 -- what is emptied becomes Free
-pub given-emptied : (k : ℕ) (sp : Block → Bool) (zone : List Block)
-    → free_sum (emptied k sp zone) + purgeable_sum (emptied k sp zone) ≡ free_sum zone + purgeable_sum zone
-given-emptied zero sp zone = refl
-given-emptied (suc k) sp [] = refl
-given-emptied (suc k) sp (b ∷ zone) = cases (may_go sp b) refl (given-emptied k sp zone) (given-emptied (suc k) sp zone)
+pub given-lowest_purged : (k : ℕ) (sp : Block → Bool) (zone : List Block)
+    → free_sum (lowest_purged k sp zone) + purgeable_sum (lowest_purged k sp zone) ≡ free_sum zone + purgeable_sum zone
+given-lowest_purged zero sp zone = refl
+given-lowest_purged (suc k) sp [] = refl
+given-lowest_purged (suc k) sp (b ∷ zone) = cases (may_be_purged sp b) refl (given-lowest_purged k sp zone)
+    (given-lowest_purged (suc k) sp zone)
   where
     gives : (b : Block) → is_purgeable b ≡ true → (free_of b ≡ 0) × (purgeable_of b ≡ size b)
     gives (Free n) p = let f : false ≡ true = p in cc
@@ -76,12 +77,13 @@ given-emptied (suc k) sp (b ∷ zone) = cases (may_go sp b) refl (given-emptied 
     gives Masters p = let f : false ≡ true = p in cc
     gives (Relocatable id flags content) p = (refl, ap (λ t. cond t (size (Relocatable id flags content)) 0) p)
 
-    cases : (t : Bool) → may_go sp b ≡ t
-        → free_sum (emptied k sp zone) + purgeable_sum (emptied k sp zone) ≡ free_sum zone + purgeable_sum zone
-        → free_sum (emptied (suc k) sp zone) + purgeable_sum (emptied (suc k) sp zone)
+    cases : (t : Bool) → may_be_purged sp b ≡ t
+        → free_sum (lowest_purged k sp zone) + purgeable_sum (lowest_purged k sp zone) ≡ free_sum zone + purgeable_sum
+        zone
+        → free_sum (lowest_purged (suc k) sp zone) + purgeable_sum (lowest_purged (suc k) sp zone)
         ≡ free_sum zone + purgeable_sum zone
-        → free_sum (cond t (Free (size b) ∷ emptied k sp zone) (b ∷ emptied (suc k) sp zone))
-        + purgeable_sum (cond t (Free (size b) ∷ emptied k sp zone) (b ∷ emptied (suc k) sp zone))
+        → free_sum (cond t (Free (size b) ∷ lowest_purged k sp zone) (b ∷ lowest_purged (suc k) sp zone))
+        + purgeable_sum (cond t (Free (size b) ∷ lowest_purged k sp zone) (b ∷ lowest_purged (suc k) sp zone))
         ≡ free_sum (b ∷ zone) + purgeable_sum (b ∷ zone)
     cases true e r r' = let g = gives b (and_parts (is_purgeable b) (not (sp b)) e).0 in omega (arith, g.0, g.1, r)
     cases false e r r' = omega (arith, r')
@@ -139,15 +141,15 @@ given-small xs first unused i =
 -- blocks above one were emptied
 pub given-purged : (below : List Block) (b : Block) (k : ℕ) (sp : Block → Bool) (above zone : List Block)
     → zone ≡ below ++ b ∷ above → (freed : ℕ)
-    → free_sum (tidy (below ++ b ∷ emptied k sp above)) ≡ free_sum zone + freed
-    → purgeable_sum (tidy (below ++ b ∷ emptied k sp above)) + freed ≡ purgeable_sum zone
+    → free_sum (tidy (below ++ b ∷ lowest_purged k sp above)) ≡ free_sum zone + freed
+    → purgeable_sum (tidy (below ++ b ∷ lowest_purged k sp above)) + freed ≡ purgeable_sum zone
 given-purged below b k sp above zone whole freed f =
-    let e = given-emptied k sp above in
-    let t = given-tidy (below ++ b ∷ emptied k sp above) in
-    let u = total-tidy free_of (λ n m. refl) (below ++ b ∷ emptied k sp above) in
-    let p = given-parts below b (emptied k sp above) in
+    let e = given-lowest_purged k sp above in
+    let t = given-tidy (below ++ b ∷ lowest_purged k sp above) in
+    let u = total-tidy free_of (λ n m. refl) (below ++ b ∷ lowest_purged k sp above) in
+    let p = given-parts below b (lowest_purged k sp above) in
     let q = given-parts below b above in
-    let g = total-append free_of below (b ∷ emptied k sp above) in
+    let g = total-append free_of below (b ∷ lowest_purged k sp above) in
     let h = total-append free_of below (b ∷ above) in
     let y = ap free_sum whole in
     let z = ap purgeable_sum whole in

@@ -6,17 +6,17 @@ use Rattle.mac_words.specs.Size.{padded}
 use Rattle.block_store.specs.Block.{Block, Free, Fixed, Masters, Relocatable, count, free_of, free_sum, is_room}
 use Rattle.block_store.specs.Block.{is_relocatable}
 use Rattle.block_store.specs.Run.{RunSpot, run_spot}
-use Rattle.block_store.specs.Room.{Spot, spot, may_go, emptied}
+use Rattle.block_store.specs.Room.{Spot, spot, may_be_purged, lowest_purged}
 use Rattle.block_store.specs.Sparing.{spared, opened, purged, most_purges}
 use Rattle.block_store.specs.declared.sparing.Sparing.{Sparing}
 use Rattle.block_store.specs.declared.sparing.Sparing.TheVariants as sparing
-use Rattle.block_store.proofs.Emptied.PurgedSums.{free-purged}
+use Rattle.block_store.proofs.Purged.PurgedSums.{free-purged}
 use Rattle.block_store.proofs.Zone.Keeping.{unless-le, freed-is, purged-le, tidied}
 use Rattle.block_store.proofs.Zone.Tidy.{spot-is, spot-passes}
 use Rattle.block_store.proofs.Zone.Totals.{total-append, total-le}
 use Rattle.block_store.proofs.Zone.Views.{run_spot-is}
 use Rattle.zone_bytes.specs.Purgeable.{purgeable_of, purgeable_sum}
-use Rattle.zone_bytes.proofs.Bounds.Given.{none-free, given-emptied}
+use Rattle.zone_bytes.proofs.Bounds.Given.{none-free, given-lowest_purged}
 
 -- where a zone has less than p Free bytes, no run has so many
 pub no-run : (passes : List Block → Bool) (p : ℕ) → ((run : List Block) → passes run ≡ true → p ≤ free_sum run)
@@ -60,8 +60,8 @@ pub free-given : (s : Sparing) → FreesNone s → (k : ℕ) (zone : List Block)
     → free_sum (purged k s zone) + purgeable_sum (purged k s zone) ≡ free_sum zone + purgeable_sum zone
 free-given s none k zone =
     let f = free-purged s k zone in
-    let g = tidied purgeable_of none-free (emptied k (spared s) (opened s zone)) in
-    let e = given-emptied k (spared s) (opened s zone) in
+    let g = tidied purgeable_of none-free (lowest_purged k (spared s) (opened s zone)) in
+    let e = given-lowest_purged k (spared s) (opened s zone) in
     let o = ap free_sum (none zone) in
     let q = ap purgeable_sum (none zone) in
     omega (arith, f, g, e, o, q)
@@ -83,7 +83,7 @@ given-opened (sparing.Freed slot) zone =
     omega (arith, f, l)
 
 -- each block that may go would give something
-one-gives : (sp : Block → Bool) (b : Block) → cond {A = ℕ} (may_go sp b) 1 0 ≤ purgeable_of b
+one-gives : (sp : Block → Bool) (b : Block) → cond {A = ℕ} (may_be_purged sp b) 1 0 ≤ purgeable_of b
 one-gives sp (Free n) = omega arith
 one-gives sp (Fixed id content) = omega arith
 one-gives sp Masters = omega arith
@@ -95,8 +95,8 @@ one-gives sp (Relocatable id flags content) = cases (not flags.locked && flags.p
     cases true false = omega arith
     cases false u = omega arith
 
-count-given : (sp : Block → Bool) (zone : List Block) → count (may_go sp) zone ≤ purgeable_sum zone
-count-given sp zone = total-le (λ b. cond {A = ℕ} (may_go sp b) 1 0) purgeable_of (one-gives sp) zone
+count-given : (sp : Block → Bool) (zone : List Block) → count (may_be_purged sp) zone ≤ purgeable_sum zone
+count-given sp zone = total-le (λ b. cond {A = ℕ} (may_be_purged sp b) 1 0) purgeable_of (one-gives sp) zone
 
 -- where a zone would give nothing, no block may go
 pub none-goes : (s : Sparing) (zone : List Block) → purgeable_sum zone ≤ 0 → most_purges s zone ≡ 0
@@ -106,17 +106,17 @@ none-goes s zone none =
     omega (arith, c, o, none)
 
 pub none-next : (s : Sparing) (k : ℕ) (zone : List Block) → purgeable_sum zone ≤ 0
-    → spot (may_go (spared s)) (purged k s zone) ≡ None
-none-next s k zone none = cases (spot (may_go (spared s)) (purged k s zone)) refl
+    → spot (may_be_purged (spared s)) (purged k s zone) ≡ None
+none-next s k zone none = cases (spot (may_be_purged (spared s)) (purged k s zone)) refl
   where
-    cases : (o : Option Spot) → spot (may_go (spared s)) (purged k s zone) ≡ o → o ≡ None
+    cases : (o : Option Spot) → spot (may_be_purged (spared s)) (purged k s zone) ≡ o → o ≡ None
     cases None e = refl
     cases (Some b) e =
-        let z = ap purgeable_sum (spot-is (may_go (spared s)) (purged k s zone) b e) in
+        let z = ap purgeable_sum (spot-is (may_be_purged (spared s)) (purged k s zone) b e) in
         let t = total-append purgeable_of b.below (b.here ∷ b.above) in
         let p = one-gives (spared s) b.here in
-        let q : cond {A = ℕ} (may_go (spared s) b.here) 1 0 ≡ 1 =
-        ap (λ v. cond {A = ℕ} v 1 0) (spot-passes (may_go (spared s)) (purged k s zone) b e) in
+        let q : cond {A = ℕ} (may_be_purged (spared s) b.here) 1 0 ≡ 1 =
+        ap (λ v. cond {A = ℕ} v 1 0) (spot-passes (may_be_purged (spared s)) (purged k s zone) b e) in
         let l = purged-le purgeable_of none-free k (spared s) (opened s zone) in
         let o = given-opened s zone in
         absurd (omega (arith, z, t, p, q, l, o, none))

@@ -13,7 +13,7 @@ use Rattle.zone_bytes.proofs.Places.Stepped.{Stepped, stepped, left-is}
 use Rattle.zone_bytes.proofs.Places.HeaderTells.{here-on, size-at}
 
 -- what is left of blocks that end at a place, of which the last so far is Free from `start` to `at`
-pub record Left (xs : List ℕ) (place at start : ℕ) (below above : List Block) : Type 0 where
+pub record LeftBelow (xs : List ℕ) (place at start : ℕ) (below above : List Block) : Type 0 where
   pub rest : List Block
   pub is : left_in at xs ≡ rest ++ above
   pub up : at + sizes rest ≡ place
@@ -23,7 +23,7 @@ pub record Below (xs : List ℕ) (place at start : ℕ) : Type 0 where
   pub way : IsOnWay at xs
   pub ordered : (start ≤ at) × (at ≤ length xs)
   pub left : (below above : List Block) → left_in 0 xs ≡ below ++ above → sizes below ≡ place
-      → Left xs place at start below above
+      → LeftBelow xs place at start below above
 
 -- what lies below a place is a front of what lies below a higher one
 front-of : (front rest below above : List Block) → front ++ rest ≡ below ++ above → sizes front < sizes below
@@ -44,7 +44,7 @@ last-more n (b ∷ front) c more = last-more (free_of b) front c more
 
 module _ (xs : List ℕ) (from place : ℕ) (u : LeadsUp from place xs) where
   far : (below above : List Block) → left_in 0 xs ≡ below ++ above → sizes below ≡ place → from < place
-      → Left xs place from from below above
+      → LeftBelow xs place from from below above
   far below above e l f =
       let w = u.low in
       let r = front-of u.below (left_in from xs) below above (sym u.is ∙ e) (omega (arith, w, l, f)) in
@@ -63,7 +63,7 @@ module _ (xs : List ℕ) (from place : ℕ) (u : LeadsUp from place xs) where
       same (c ∷ more) n = last-more 0 u.below c more
 
   near : (below above : List Block) → left_in 0 xs ≡ below ++ above → sizes below ≡ place → from ≡ 0
-      → Left xs place from from below above
+      → LeftBelow xs place from from below above
   near below above e l z =
       let k : from - from ≡ 0 = omega arith in
       record {
@@ -137,7 +137,7 @@ module _ (xs : List ℕ) (place at start : ℕ) (b : Below xs place at start) wh
       }
         where
           next : (rest below above : List Block) → left_in at xs ≡ rest ++ above → at + sizes rest ≡ place
-              → last_free (at - start) rest ≡ last_free 0 below → Left xs place (at + n) now below above
+              → last_free (at - start) rest ≡ last_free 0 below → LeftBelow xs place (at + n) now below above
           next [] below above q u v = absurd (omega (arith, u, l))
           next (c ∷ rest) below above q u v =
               let f = tells c (rest ++ above) q in

@@ -16,7 +16,7 @@ use Rattle.block_store.proofs.Zone.Totals.{total-append}
 use Rattle.zone_bytes.specs.Layout.{head_of, Tiles, IsSlot, names, Leads, Apart, Each, Pairs}
 use Rattle.zone_bytes.specs.Marks.{Replaced}
 use Rattle.zone_bytes.specs.Joining.{Freeing, MayRelease, HasHandle}
-use Rattle.zone_bytes.specs.Table.{Has, Table, Says, Lays, emptied_word}
+use Rattle.zone_bytes.specs.Table.{Has, Table, Says, Lays, empty_word}
 use Rattle.zone_bytes.proofs.Tiles.Tiling.{span-append, length-tiles, tiles-split}
 use Rattle.zone_bytes.proofs.Tiles.Leading.{names-append, pairs-before, pairs-after}
 use Rattle.zone_bytes.proofs.SlotTable.Tables.{apart-other, slot-in}
@@ -101,18 +101,18 @@ free-more below b above e =
     let v = total-append free_of below (b ∷ above) in
     omega (arith, t, u, v, e)
 
-emptied-odd : (r : Bool) → emptied_word r % 16 ≡ 2
+emptied-odd : (r : Bool) → empty_word r % 16 ≡ 2
 emptied-odd true = refl
 emptied-odd false = refl
 
-emptied-fits : (r : Bool) → emptied_word r < 4294967296
+emptied-fits : (r : Bool) → empty_word r < 4294967296
 emptied-fits true = omega arith
 emptied-fits false = omega arith
 
 module _ (t : Table) (slot : ℕ) (xs : List ℕ) (h : HasHandle t slot xs) where
   said : IsSlot slot
       t.blocks × (Has (names t.blocks)
-      slot ⊎ (Each (Apart slot) (names t.blocks) × (piece slot 4 xs ≡ word (emptied_word h.resource))))
+      slot ⊎ (Each (Apart slot) (names t.blocks) × (piece slot 4 xs ≡ word (empty_word h.resource))))
   said = subst (λ st. Says t.blocks xs t.unused slot st) h.used (h.lays.says slot)
 
   pub handle-fits : (slot % 4 ≡ 0) × (slot + 4 ≤ length xs)
@@ -141,7 +141,7 @@ module _ (t : Table) (slot : ℕ) (xs : List ℕ) (h : HasHandle t slot xs) wher
   pub leads : word_at slot xs % 16 ≡ 0 → Found
   leads e = elim said.1 [
     | inl k ↦ found k
-    | inr k ↦ (let r = read_back slot (emptied_word h.resource) xs (emptied-fits h.resource) k.1 in let o =
+    | inr k ↦ (let r = read_back slot (empty_word h.resource) xs (emptied-fits h.resource) k.1 in let o =
         emptied-odd h.resource in absurd (omega (arith, r, o, e)))
   ]
 

@@ -13,7 +13,7 @@ use Rattle.zone_bytes.specs.Layout.{ArePlaced}
 use Rattle.zone_bytes.specs.Settling.{Lies, HasSlots}
 use Rattle.zone_bytes.specs.Splicing.{Splice, SameOutside, IsSplice}
 use Rattle.zone_bytes.specs.Joining.{Freeing, MayFree}
-use Rattle.zone_bytes.specs.Table.{Has, IsUsed, Lays, emptied_word}
+use Rattle.zone_bytes.specs.Table.{Has, IsUsed, Lays, empty_word}
 use Rattle.zone_bytes.proofs.Tiles.Tiling.{span-append, length-tiles, slot-inside, slot-split, tiles-slot}
 use Rattle.zone_bytes.proofs.Tiles.Leading.{each-right, each-map, each-append, names-append, pairs-before}
 use Rattle.zone_bytes.proofs.Tiles.Leading.{pairs-after, piece-clear, leads-written}
@@ -255,7 +255,7 @@ module _ (f : Freeing) (start at : ℕ) (xs : List ℕ) (m : MayFree f start at 
               let k = out.kept in
               (slot-even (head_of resource) xs slot all laid.lies.tiles slot-is, omega (arith, i, l, k))
 
-          pub slot-lays : (w : ℕ) → w ≡ emptied_word (is_resource (f.slots slot))
+          pub slot-lays : (w : ℕ) → w ≡ empty_word (is_resource (f.slots slot))
               → Lays (written slot (word w) mid) (f.below ++ (free (at + size f.here - start) ++ f.above)) f.slots
               f.unused
           slot-lays w e =

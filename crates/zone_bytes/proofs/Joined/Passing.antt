@@ -6,7 +6,7 @@ use Rattle.std.proofs.lemmas.Option.{none-some}
 use Rattle.heap_words.specs.Words.{word_at}
 use Rattle.block_store.specs.Block.{Block, Free, Fixed, Masters, Relocatable, size, sizes, free, free_of, free_sum}
 use Rattle.block_store.specs.Block.{tidy, is_masters}
-use Rattle.block_store.specs.Room.{emptied}
+use Rattle.block_store.specs.Room.{lowest_purged}
 use Rattle.block_store.specs.Seen.{seen}
 use Rattle.block_store.specs.Sparing.{spared, opened}
 use Rattle.block_store.specs.Inner.Stretch.{is_free, opened_block}
@@ -16,8 +16,8 @@ use Rattle.block_store.specs.declared.sparing.Sparing.{Sparing}
 use Rattle.block_store.specs.declared.sparing.Sparing.TheVariants as sparing
 use Rattle.block_store.proofs.Zone.Totals.{total-append}
 use Rattle.block_store.proofs.Zone.Joining.{joined-below, closed-tidy, closed-free}
-use Rattle.block_store.proofs.Emptied.Purges.{emptied-free, emptied-kept, kept-not_free, opened-same}
-use Rattle.block_store.proofs.Emptied.Stretches.{opened-more, size-opened}
+use Rattle.block_store.proofs.Purged.Purges.{lowest_purged-free, lowest_purged-kept, kept-not_free, opened-same}
+use Rattle.block_store.proofs.Purged.Stretches.{opened-more, size-opened}
 use Rattle.zone_bytes.specs.Layout.{kind}
 use Rattle.zone_bytes.specs.Stepping.{header_seen}
 use Rattle.zone_bytes.specs.Table.{Lays}
@@ -55,9 +55,9 @@ opened-none (sparing.One slot) = refl
 opened-none (sparing.Two slot other) = refl
 opened-none (sparing.Freed slot) = refl
 
-emptied-none : (k : ℕ) (sp : Block → Bool) → emptied k sp [] ≡ []
-emptied-none zero sp = refl
-emptied-none (suc k) sp = refl
+lowest_purged-none : (k : ℕ) (sp : Block → Bool) → lowest_purged k sp [] ≡ []
+lowest_purged-none zero sp = refl
+lowest_purged-none (suc k) sp = refl
 
 -- the Free bytes of Free bytes
 pub sum-free : (n : ℕ) → free_sum (free n) ≡ n
@@ -133,8 +133,8 @@ module _ (p : Purge) (n : Sparing) (start at k freed : ℕ) (xs : List ℕ) (u :
       of : (rest : List Block) → u.rest ≡ rest → Purged p freed xs
       of [] e =
           let w : tidy (u.done ++ (gap ++ [])) ≡ tidy p.goal =
-          sym (ap (λ q. tidy (u.done ++ (gap ++ q))) (ap (λ q. emptied k (spared n) (opened n q)) e
-          ∙ ap (emptied k (spared n)) (opened-none n) ∙ emptied-none k (spared n))) ∙ u.will in
+          sym (ap (λ q. tidy (u.done ++ (gap ++ q))) (ap (λ q. lowest_purged k (spared n) (opened n q)) e
+          ∙ ap (lowest_purged k (spared n)) (opened-none n) ∙ lowest_purged-none k (spared n))) ∙ u.will in
           let z : u.done ++ (gap ++ u.rest) ≡ tidy p.goal =
           ap (λ q. u.done ++ (gap ++ q)) e ∙ ap (λ q. u.done ++ q) (append-nil gap)
           ∙ sym (closed-free u.done (at - start) u.tidied u.closed)
@@ -148,9 +148,10 @@ module _ (p : Purge) (n : Sparing) (start at k freed : ℕ) (xs : List ℕ) (u :
           absurd (omega (arith, i, s, l))
 
   module _ (v : Next) where
-    will-next : tidy (u.done ++ (gap ++ emptied k (spared n) (opened_block n v.here ∷ opened n v.above))) ≡ tidy p.goal
+    will-next : tidy (u.done ++ (gap ++ lowest_purged k (spared n) (opened_block n v.here ∷ opened n v.above)))
+        ≡ tidy p.goal
     will-next =
-        ap (λ q. tidy (u.done ++ (gap ++ emptied k (spared n) q)))
+        ap (λ q. tidy (u.done ++ (gap ++ lowest_purged k (spared n) q)))
         (sym (ap (opened n) v.is ∙ opened-more n v.here v.above)) ∙ u.will
 
     -- the block becomes Free
@@ -174,7 +175,7 @@ module _ (p : Purge) (n : Sparing) (start at k freed : ℕ) (xs : List ℕ) (u :
       freed-next new made stop t more f =
           let o = u.up in
           let g : at - start + size v.here ≡ stop - start = omega (arith, o, t) in
-          let after = emptied m (spared n) (opened n v.above) in
+          let after = lowest_purged m (spared n) (opened n v.above) in
           record {
             done = u.done;
             rest = v.above;
@@ -188,7 +189,7 @@ module _ (p : Purge) (n : Sparing) (start at k freed : ℕ) (xs : List ℕ) (u :
                 ∙ sym (joined-below u.done (at - start) (size v.here) after)
                 ∙ ap (λ q. tidy (u.done ++ (gap ++ Free q ∷ after))) (sym (size-opened n v.here))
                 ∙ ap (λ q. tidy (u.done ++ (gap ++ q)))
-                (sym (emptied-free (spared n) k m (opened_block n v.here) (opened n v.above) e)) ∙ will-next;
+                (sym (lowest_purged-free (spared n) k m (opened_block n v.here) (opened n v.above) e)) ∙ will-next;
             count =
                 (let a = total-append free_of u.done (free (stop - start) ++ v.above) in
                 let b = total-append free_of (free (stop - start)) v.above in
@@ -237,9 +238,9 @@ module _ (p : Purge) (n : Sparing) (start at k freed : ℕ) (xs : List ℕ) (u :
         up = omega arith;
         tidied = closed-now.0;
         closed = closed-now.1;
-        will = ap tidy (sym (regrouped (emptied k (spared n) (opened n v.above))))
-            ∙ ap (λ b. tidy (u.done ++ (gap ++ b ∷ emptied k (spared n) (opened n v.above)))) (sym same)
+        will = ap tidy (sym (regrouped (lowest_purged k (spared n) (opened n v.above))))
+            ∙ ap (λ b. tidy (u.done ++ (gap ++ b ∷ lowest_purged k (spared n) (opened n v.above)))) (sym same)
             ∙ ap (λ q. tidy (u.done ++ (gap ++ q)))
-            (sym (emptied-kept (spared n) k (opened_block n v.here) (opened n v.above) e)) ∙ will-next;
+            (sym (lowest_purged-kept (spared n) k (opened_block n v.here) (opened n v.above) e)) ∙ will-next;
         count = ap free_sum (sym (ap (λ q. u.done ++ (gap ++ q)) v.is ∙ regrouped v.above)) ∙ u.count;
       }

@@ -2,14 +2,14 @@
 use Rattle.std.proofs.Common.{◌≡◌, ℕ, if◌then◌else◌, ◌+◌, ◌-◌, ◌<◌, Some, List, [], ◌∷◌, ◌++◌}
 use Rattle.std.proofs.Common.{sym, refl, ap, ◌∙◌, subst, arith, append_assoc}
 use Rattle.block_store.specs.Block.{Block, size, free, free_sum, tidy, count, is_masters}
-use Rattle.block_store.specs.Room.{Spot, spot_at, emptied}
+use Rattle.block_store.specs.Room.{Spot, spot_at, lowest_purged}
 use Rattle.block_store.specs.Sparing.{spared, opened, purged}
 use Rattle.block_store.specs.declared.sparing.Sparing.{Sparing}
 use Rattle.block_store.proofs.Zone.Apart.{Apart, apart-tidied, tidy-apart}
 use Rattle.block_store.proofs.Zone.Tidy.{total-tidy}
 use Rattle.block_store.proofs.Zone.Totals.{total-append}
 use Rattle.block_store.proofs.Zone.Joining.{apart-front, closed-more, closed-under}
-use Rattle.block_store.proofs.Emptied.Purges.{masters-emptied, masters-opened}
+use Rattle.block_store.proofs.Purged.Purges.{masters-lowest_purged, masters-opened}
 use Rattle.zone_bytes.specs.Decode.{zone_in}
 use Rattle.zone_bytes.specs.Layout.{kind}
 use Rattle.zone_bytes.specs.Joining.{Freeing}
@@ -34,8 +34,8 @@ module _ (f : Freeing) (place : ℕ) (xs : List ℕ) (m : MayPurge f place xs) w
   module _ (purges : ℕ) (n now : Sparing) (same : (b : Block)
       → spared now b ≡ spared n b) (none : (blocks : List Block) → opened now blocks ≡ blocks) (stop : ℕ)
       (t : stop ≡ place + size f.here) where
-    after : emptied purges (spared now) (opened now f.above) ≡ emptied purges (spared n) f.above
-    after = ap (emptied purges (spared now)) (none f.above) ∙ (λ i. emptied purges (λ b. same b i) f.above)
+    after : lowest_purged purges (spared now) (opened now f.above) ≡ lowest_purged purges (spared n) f.above
+    after = ap (lowest_purged purges (spared now)) (none f.above) ∙ (λ i. lowest_purged purges (λ b. same b i) f.above)
 
     -- a block that isn't Free
     pub above-other : 0 < kind f.here → Purging (purge_above f purges n) now stop stop purges 0 xs
@@ -55,7 +55,7 @@ module _ (f : Freeing) (place : ℕ) (xs : List ℕ) (m : MayPurge f place xs) w
               (apart-front front f.above (subst Apart (sym (append_assoc f.below (f.here ∷ []) f.above)) a));
           closed = closed-more f.below f.here (not_free-is f.here k);
           will = ap (λ q. tidy (front ++ (free (stop - stop) ++ q))) after
-              ∙ ap tidy (sym (regrouped (emptied purges (spared n) f.above)));
+              ∙ ap tidy (sym (regrouped (lowest_purged purges (spared n) f.above)));
           count = ap free_sum (sym (regrouped f.above)) ∙ (let z : free_sum all ≡ free_sum all + 0 = omega arith in z);
         }
 
@@ -80,7 +80,7 @@ module _ (f : Freeing) (place : ℕ) (xs : List ℕ) (m : MayPurge f place xs) w
           tidied = tidy-apart f.below (apart-front f.below (f.here ∷ f.above) a);
           closed = closed-under f.below (size f.here) f.above (subst (λ q. Apart (f.below ++ q ∷ f.above)) b a);
           will = ap (λ q. tidy (f.below ++ (free (stop - place) ++ q))) after
-              ∙ ap tidy (sym (regrouped (emptied purges (spared n) f.above)));
+              ∙ ap tidy (sym (regrouped (lowest_purged purges (spared n) f.above)));
           count = ap free_sum (sym (regrouped f.above)) ∙ (let z : free_sum all ≡ free_sum all + 0 = omega arith in z);
         }
 
@@ -91,7 +91,7 @@ module _ (xs : List ℕ) (first number : ℕ) (i : IsSound xs first number) (pur
   -- over the whole zone
   abbrev pub purge_all : Purge
   purge_all = record {
-    goal = emptied purges (spared n) (opened n (zone_in xs));
+    goal = lowest_purged purges (spared n) (opened n (zone_in xs));
     slots = slot_in xs;
     unused =
         i.unused;
@@ -115,9 +115,9 @@ module _ (xs : List ℕ) (first number : ℕ) (i : IsSound xs first number) (pur
       → Gained xs new first number more (purged purges n (zone_in xs))
   purge-gained new more after =
       let d = after purge_all all-start in
-      let left = emptied purges (spared n) (opened n (zone_in xs)) in
+      let left = lowest_purged purges (spared n) (opened n (zone_in xs)) in
       gained xs new first number more i left d.lays d.count (masters-tidy left
-      ∙ masters-emptied purges (spared n) (opened n (zone_in xs)) ∙ masters-opened n (zone_in xs))
+      ∙ masters-lowest_purged purges (spared n) (opened n (zone_in xs)) ∙ masters-opened n (zone_in xs))
 
   -- above a place
   module _ (place : ℕ) (s : Spot) (e : spot_at place (zone_in xs) ≡ Some s) where
@@ -135,18 +135,18 @@ module _ (xs : List ℕ) (first number : ℕ) (i : IsSound xs first number) (pur
     }
 
     abbrev left : List Block
-    left = s.below ++ s.here ∷ emptied purges (spared n) s.above
+    left = s.below ++ s.here ∷ lowest_purged purges (spared n) s.above
 
     pub above-gained : (new : List ℕ) (more : ℕ)
         → ((f : Freeing) → MayPurge f place xs → Purged (purge_above f purges n) more new)
-        → Gained xs new first number more (tidy (s.below ++ s.here ∷ emptied purges (spared n) s.above))
+        → Gained xs new first number more (tidy (s.below ++ s.here ∷ lowest_purged purges (spared n) s.above))
     above-gained new more after =
         let d = after spot-at may-purge in
         gained xs new first number more i left d.lays (d.count ∙ ap (λ z. free_sum z + more) (sym is))
         (masters-tidy left
         ∙ total-append (λ (b : Block). if is_masters b then 1 else 0) s.below
-        (s.here ∷ emptied purges (spared n) s.above)
+        (s.here ∷ lowest_purged purges (spared n) s.above)
         ∙ ap (λ m. count is_masters s.below + ((if is_masters s.here then 1 else 0) + m))
-        (masters-emptied purges (spared n) s.above)
+        (masters-lowest_purged purges (spared n) s.above)
         ∙ sym (total-append (λ (b : Block). if is_masters b then 1 else 0) s.below (s.here ∷ s.above))
         ∙ ap (count is_masters) (sym is))

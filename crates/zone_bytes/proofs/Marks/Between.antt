@@ -13,25 +13,25 @@ use Rattle.zone_bytes.specs.declared.landmark.Tally.TheVariants as tally
 use Rattle.zone_bytes.proofs.Marks.Spanned.{free-size}
 
 -- blocks that count the same
-pub record Alike (some others : List Block) : Type 0 where
+pub record CountAlike (some others : List Block) : Type 0 where
   pub ends : has ends_run some ≡ has ends_run others
   pub free : free_sum some ≡ free_sum others
 
-pub alike-as : (t : Tally) (some others : List Block) → Alike some others → IsTally t others → IsTally t some
+pub alike-as : (t : Tally) (some others : List Block) → CountAlike some others → IsTally t others → IsTally t some
 alike-as (tally.Open n) some others a i = (a.ends ∙ i.0, a.free ∙ i.1)
 alike-as (tally.Barred n) some others a i = (a.ends ∙ i.0, (let e = a.free in let l = i.1 in omega (arith, e, l)))
 alike-as tally.Unknown some others a i = tt
 
-pub alike-same : (some others : List Block) → some ≡ others → Alike some others
+pub alike-same : (some others : List Block) → some ≡ others → CountAlike some others
 alike-same some others e = record { ends = ap (has ends_run) e; free = ap free_sum e }
 
-pub alike-back : (some others : List Block) → Alike some others → Alike others some
+pub alike-back : (some others : List Block) → CountAlike some others → CountAlike others some
 alike-back some others a = record { ends = sym a.ends; free = sym a.free }
 
-pub alike-more : (a b c : List Block) → Alike a b → Alike b c → Alike a c
+pub alike-more : (a b c : List Block) → CountAlike a b → CountAlike b c → CountAlike a c
 alike-more a b c x y = record { ends = x.ends ∙ y.ends; free = x.free ∙ y.free }
 
-pub alike-append : (a b c d : List Block) → Alike a c → Alike b d → Alike (a ++ b) (c ++ d)
+pub alike-append : (a b c d : List Block) → CountAlike a c → CountAlike b d → CountAlike (a ++ b) (c ++ d)
 alike-append a b c d x y = record {
   ends = list_any-append ends_run a b ∙ ap (λ v. v || has ends_run b) x.ends
       ∙ ap (λ v. has ends_run c || v) y.ends ∙ sym (list_any-append ends_run c d);
@@ -46,14 +46,15 @@ empty-run (Fixed id content) l = absurd (omega (arith, l))
 empty-run Masters l = absurd (omega (arith, l))
 empty-run (Relocatable id flags content) l = absurd (omega (arith, l))
 
-pub alike-first : (b : Block) (some others : List Block) → Alike some others → Alike (b ∷ some) (b ∷ others)
+pub alike-first : (b : Block) (some others : List Block) → CountAlike some others → CountAlike (b ∷ some) (b ∷ others)
 alike-first b some others a = record {
   ends = ap (λ v. ends_run b || v) a.ends;
   free = ap (λ n. free_of b + n) a.free;
 }
 
 -- a block of no bytes more counts the same
-alike-empty : (b : Block) (some others : List Block) → size b ≤ 0 → Alike some others → Alike (b ∷ some) others
+alike-empty : (b : Block) (some others : List Block) → size b ≤ 0 → CountAlike some others → CountAlike (b ∷ some)
+    others
 alike-empty b some others l a = record {
   ends = ap (λ v. v || has ends_run some) (empty-run b l) ∙ a.ends;
   free = (let f = free-size b in let e = a.free in omega (arith, f, l, e));
@@ -84,13 +85,13 @@ module _ (lo hi : ℕ) where
       either false = refl
 
   -- none of the blocks below begins there
-  pub none-below : (x : ℕ) (blocks : List Block) → x + sizes blocks ≤ lo → Alike (between lo hi x blocks) []
+  pub none-below : (x : ℕ) (blocks : List Block) → x + sizes blocks ≤ lo → CountAlike (between lo hi x blocks) []
   none-below x [] l = record { ends = refl; free = refl }
   none-below x (b ∷ blocks) l =
       cases (nat_le lo x && nat_lt x hi) refl (none-below (x + size b) blocks (omega (arith, l)))
     where
-      cases : (t : Bool) → (nat_le lo x && nat_lt x hi) ≡ t → Alike (between lo hi (x + size b) blocks) []
-          → Alike (cond t (b ∷ between lo hi (x + size b) blocks) (between lo hi (x + size b) blocks)) []
+      cases : (t : Bool) → (nat_le lo x && nat_lt x hi) ≡ t → CountAlike (between lo hi (x + size b) blocks) []
+          → CountAlike (cond t (b ∷ between lo hi (x + size b) blocks) (between lo hi (x + size b) blocks)) []
       cases true e rest =
           let k = leb-true lo x (and_parts (nat_le lo x) (nat_lt x hi) e).0 in
           alike-empty b (between lo hi (x + size b) blocks) [] (omega (arith, l, k)) rest
@@ -108,13 +109,13 @@ module _ (lo hi : ℕ) where
 
   -- each of the blocks within does
   pub all-within : (x : ℕ) (blocks : List Block) → lo ≤ x → x + sizes blocks ≤ hi
-      → Alike (between lo hi x blocks) blocks
+      → CountAlike (between lo hi x blocks) blocks
   all-within x [] l h = record { ends = refl; free = refl }
   all-within x (b ∷ blocks) l h =
       cases (nat_lt x hi) refl (all-within (x + size b) blocks (omega (arith, l)) (omega (arith, h)))
     where
-      cases : (t : Bool) → nat_lt x hi ≡ t → Alike (between lo hi (x + size b) blocks) blocks
-          → Alike (cond (nat_le lo x && nat_lt x hi) (b ∷ between lo hi (x + size b) blocks)
+      cases : (t : Bool) → nat_lt x hi ≡ t → CountAlike (between lo hi (x + size b) blocks) blocks
+          → CountAlike (cond (nat_le lo x && nat_lt x hi) (b ∷ between lo hi (x + size b) blocks)
           (between lo hi (x + size b) blocks)) (b ∷ blocks)
       cases true e rest = rw (le-leb lo x l) (rw e (alike-first b (between lo hi (x + size b) blocks) blocks rest))
       cases false e rest = rw (le-leb lo x l) (rw e (let k = ltb-false x hi e in
@@ -131,7 +132,7 @@ module _ (lo hi : ℕ) where
 
   -- the blocks of a zone that begin there, where it is parted so
   pub between-parts : (below here above : List Block) → sizes below ≡ lo → lo + sizes here ≤ hi
-      → (hi ≡ lo + sizes here) ⊎ (above ≡ []) → Alike (between lo hi 0 (below ++ (here ++ above))) here
+      → (hi ≡ lo + sizes here) ⊎ (above ≡ []) → CountAlike (between lo hi 0 (below ++ (here ++ above))) here
   between-parts below here above l h e =
       alike-more _ _ _ (alike-same _ _ (between-append 0 below (here ++ above)))
       (alike-append _ _ [] here (none-below 0 below (omega (arith, l)))

@@ -8,7 +8,7 @@ use Rattle.block_store.specs.Run.{has}
 use Rattle.block_store.proofs.Zone.Totals.{total-append}
 use Rattle.zone_bytes.specs.Marks.{AtEach, Measures, Spans, between, ends_run}
 use Rattle.zone_bytes.specs.Stepping.{left_in, IsOnWay}
-use Rattle.zone_bytes.proofs.Marks.Between.{Alike, alike-same, alike-more, all-begin, all-within, between-append}
+use Rattle.zone_bytes.proofs.Marks.Between.{CountAlike, alike-same, alike-more, all-begin, all-within, between-append}
 use Rattle.zone_bytes.proofs.Marks.Between.{none-above}
 use Rattle.zone_bytes.proofs.Marks.Passing.{at-append, at-map, passed-all}
 use Rattle.zone_bytes.proofs.Marks.Spanned.{free-size}
@@ -72,7 +72,7 @@ module _ (xs : List ℕ) (from stop : ℕ) where
 
   -- what it tells of the blocks that begin below a bound which it came to
   module _ (at most free : ℕ) (barred : Bool) (c : Counted xs from at stop most free barred) where
-    pub counted-tells : (hi edge : ℕ) → Alike (between from hi from c.done) c.done → (hi ≤ at) ⊎ (length xs ≤ at)
+    pub counted-tells : (hi edge : ℕ) → CountAlike (between from hi from c.done) c.done → (hi ≤ at) ⊎ (length xs ≤ at)
         → Measures from hi from (left_in from xs) (record { edge = edge; most = most; free = free; barred = barred })
     counted-tells hi edge a e = record {
       most = passed-all xs from (λ _ b. free_of b ≤ most) (λ _ b. free_of b ≤ most) from hi at (record {
@@ -93,7 +93,7 @@ module _ (xs : List ℕ) (from stop : ℕ) where
           | inr l ↦ ap (between from hi at) (left-none at xs c.way l)
         ]
 
-        alike : Alike (between from hi from (left_in from xs)) c.done
+        alike : CountAlike (between from hi from (left_in from xs)) c.done
         alike = alike-more _ _ _ (alike-same _ _ (ap (between from hi from) c.is
             ∙ between-append from hi from c.done (left_in at xs)
             ∙ ap (λ y. between from hi from c.done ++ between from hi y (left_in at xs)) c.up

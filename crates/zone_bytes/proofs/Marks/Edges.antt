@@ -12,7 +12,7 @@ use Rattle.zone_bytes.specs.Marks.{AreMarks, AtEach, AtMost, Begins, between, en
 use Rattle.zone_bytes.specs.declared.landmark.Landmark.{Landmark}
 use Rattle.zone_bytes.specs.declared.edges.Edges.{Edges}
 use Rattle.zone_bytes.specs.declared.landmark.Tally.TheVariants as tally
-use Rattle.zone_bytes.proofs.Marks.Between.{Alike, alike-as, alike-same, alike-more, alike-append, between-append}
+use Rattle.zone_bytes.proofs.Marks.Between.{CountAlike, alike-as, alike-same, alike-more, alike-append, between-append}
 use Rattle.zone_bytes.proofs.Marks.Between.{none-below, none-above}
 use Rattle.zone_bytes.proofs.Marks.Lowering.{at-each, drop-all, mark-first, marks-parted}
 use Rattle.zone_bytes.proofs.Marks.Passing.{at-append, at-all, begins-left, begins-right, begins-within}
@@ -74,7 +74,7 @@ movers-bare lo hi x [] m = tt
 movers-bare lo hi x (b ∷ movers) m =
     (λ l h. (let f = mover-free b m.0 in omega (arith, f)), movers-bare lo hi (x + size b) movers m.1)
 
-movers-alike : (lo hi x : ℕ) (movers : List Block) → Each IsMover movers → Alike (between lo hi x movers) []
+movers-alike : (lo hi x : ℕ) (movers : List Block) → Each IsMover movers → CountAlike (between lo hi x movers) []
 movers-alike lo hi x [] m = record { ends = refl; free = refl }
 movers-alike lo hi x (b ∷ movers) m =
     cases (nat_le lo x && nat_lt x hi) (movers-alike lo hi (x + size b) movers m.1)
@@ -82,7 +82,7 @@ movers-alike lo hi x (b ∷ movers) m =
     rest : List Block
     rest = between lo hi (x + size b) movers
 
-    cases : (t : Bool) → Alike rest [] → Alike (cond t (b ∷ rest) rest) []
+    cases : (t : Bool) → CountAlike rest [] → CountAlike (cond t (b ∷ rest) rest) []
     cases true a = record {
       ends = ap (λ v. v || has ends_run rest) (mover-runs b m.0) ∙ a.ends;
       free = (let f = mover-free b m.0 in let g = a.free in omega (arith, f, g));

@@ -6,7 +6,7 @@ use Rattle.block_store.specs.Run.{has}
 use Rattle.zone_bytes.specs.Laying.{free_first}
 use Rattle.zone_bytes.specs.Marks.{AtEach, AtMost, Became, Begins, AreMarks, Replaced, between, ends_run, next_of}
 use Rattle.zone_bytes.specs.declared.landmark.Landmark.{Landmark}
-use Rattle.zone_bytes.proofs.Marks.Between.{Alike, alike-as, alike-same, alike-first}
+use Rattle.zone_bytes.proofs.Marks.Between.{CountAlike, alike-as, alike-same, alike-first}
 use Rattle.zone_bytes.proofs.Tiles.Tiling.{span-append}
 use Rattle.zone_bytes.proofs.Tiles.Keeping.{span-free}
 
@@ -27,12 +27,12 @@ bound-same most lo hi x (d ∷ below) above b c s f e = (e.0, bound-same most lo
 
 tally-same : (lo hi x : ℕ) (below above : List Block) (b c : Block) → size c ≡ size b → free_of c ≡ free_of b
     → ends_run c ≡ ends_run b
-    → Alike (between lo hi x (below ++ c ∷ above)) (between lo hi x (below ++ b ∷ above))
+    → CountAlike (between lo hi x (below ++ c ∷ above)) (between lo hi x (below ++ b ∷ above))
 tally-same lo hi x [] above b c s f r = cases (nat_le lo x && nat_lt x hi)
     (ap (λ n. between lo hi (x + n) above) s)
   where
     cases : (t : Bool) → between lo hi (x + size c) above ≡ between lo hi (x + size b) above
-        → Alike (cond t (c ∷ between lo hi (x + size c) above) (between lo hi (x + size c) above))
+        → CountAlike (cond t (c ∷ between lo hi (x + size c) above) (between lo hi (x + size c) above))
         (cond t (b ∷ between lo hi (x + size b) above) (between lo hi (x + size b) above))
     cases true e = record {
       ends = ap (λ k. ends_run c || has ends_run k) e ∙ ap (λ v. v || has ends_run (between lo hi (x + size b) above)) r;
@@ -42,8 +42,10 @@ tally-same lo hi x [] above b c s f r = cases (nat_le lo x && nat_lt x hi)
 tally-same lo hi x (d ∷ below) above b c s f r = cases (nat_le lo x && nat_lt x hi)
     (tally-same lo hi (x + size d) below above b c s f r)
   where
-    cases : (t : Bool) → Alike (between lo hi (x + size d) (below ++ c ∷ above)) (between lo hi (x + size d) (below ++ b ∷ above))
-        → Alike (cond t (d ∷ between lo hi (x + size d) (below ++ c ∷ above)) (between lo hi (x + size d) (below ++ c ∷ above)))
+    cases : (t : Bool) → CountAlike (between lo hi (x + size d) (below ++ c ∷ above))
+        (between lo hi (x + size d) (below ++ b ∷ above))
+        → CountAlike (cond t (d ∷ between lo hi (x + size d) (below ++ c ∷ above))
+        (between lo hi (x + size d) (below ++ c ∷ above)))
         (cond t (d ∷ between lo hi (x + size d) (below ++ b ∷ above)) (between lo hi (x + size d) (below ++ b ∷ above)))
     cases true a = alike-first d _ _ a
     cases false a = a

@@ -14,7 +14,7 @@ use Rattle.zone_bytes.proofs.Places.AtPlace.{way-above, left-above}
 use Rattle.zone_bytes.proofs.Marks.Passing.{at-map, at-all, at-append, at-left, at-right, begins-here, begins-left}
 use Rattle.zone_bytes.proofs.Marks.Passing.{begins-right, begins-either, begins-within, parts}
 use Rattle.zone_bytes.proofs.Marks.Spanned.{free-size}
-use Rattle.zone_bytes.proofs.Marks.Between.{Alike, alike-as, alike-same, alike-back, alike-more, alike-append}
+use Rattle.zone_bytes.proofs.Marks.Between.{CountAlike, alike-as, alike-same, alike-back, alike-more, alike-append}
 use Rattle.zone_bytes.proofs.Marks.Between.{between-append, none-below, none-above}
 
 -- what holds of each block by its place alone
@@ -119,7 +119,7 @@ module _ (lo hi : ℕ) (old new : List Block) (z : Replaced lo hi old new) (o : 
         (subst (λ q. AtEach R (0 + sizes z.below + q) z.above) (sym s) r))))
 
   -- the blocks of a stretch apart from those that became others
-  pub apart-alike : (a c : ℕ) → (hi ≤ a) ⊎ (c ≤ lo) → Alike (between a c 0 new) (between a c 0 old)
+  pub apart-alike : (a c : ℕ) → (hi ≤ a) ⊎ (c ≤ lo) → CountAlike (between a c 0 new) (between a c 0 old)
   apart-alike a c e =
       let x = 0 + sizes z.below in
       alike-more _ _ _ (alike-same _ _ (ap (between a c 0) z.is ∙ between-append a c 0 z.below (z.there ++ z.above)
@@ -132,7 +132,8 @@ module _ (lo hi : ℕ) (old new : List Block) (z : Replaced lo hi old new) (o : 
       (alike-more _ [] _ (none z.here (omega arith)) (alike-back _ [] (none z.there (let s = z.span in omega (arith, s)))))
       (alike-same _ _ (ap (λ n. between a c (x + n) z.above) (sym z.span)))))))
     where
-      none : (blocks : List Block) → sizes blocks ≤ sizes z.here → Alike (between a c (0 + sizes z.below) blocks) []
+      none : (blocks : List Block) → sizes blocks ≤ sizes z.here → CountAlike (between a c (0 + sizes z.below) blocks)
+          []
       none blocks s = let l = z.low in let h = z.high in elim e [
         | inl k ↦ none-below a c (0 + sizes z.below) blocks (omega (arith, k, l, h, s))
         | inr k ↦ alike-same _ _ (none-above a c (0 + sizes z.below) blocks (omega (arith, k, l)))

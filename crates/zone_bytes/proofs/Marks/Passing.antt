@@ -80,13 +80,13 @@ begins-within p x (b ∷ blocks) (inr e) = let w = begins-within p (x + size b) 
     let l = w.0 in let u = w.1 in (omega (arith, l), omega (arith, u))
 
 -- a place at which blocks begin parts them
-pub record Parts (p x : ℕ) (blocks : List Block) : Type 0 where
+pub record PartsAt (p x : ℕ) (blocks : List Block) : Type 0 where
   pub below : List Block
   pub above : List Block
   pub is : blocks ≡ below ++ above
   pub low : x + sizes below ≡ p
 
-pub parts : (p x : ℕ) (blocks : List Block) → Begins p x blocks → Parts p x blocks
+pub parts : (p x : ℕ) (blocks : List Block) → Begins p x blocks → PartsAt p x blocks
 parts p x [] e = record { below = []; above = []; is = refl; low = omega (arith, e) }
 parts p x (b ∷ blocks) (inl e) = record { below = []; above = b ∷ blocks; is = refl; low = omega (arith, e) }
 parts p x (b ∷ blocks) (inr e) =

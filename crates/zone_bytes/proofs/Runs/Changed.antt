@@ -4,7 +4,7 @@ use Rattle.std.proofs.Common.{append_assoc}
 use Rattle.std.specs.Option.{IfSome}
 use Rattle.block_store.specs.Block.{Block, size, total, count, is_masters, free_of, free_sum, sizes, tidy}
 use Rattle.block_store.specs.Run.{RunSpot, run_at, with_run, settle}
-use Rattle.block_store.specs.Rest.{falling}
+use Rattle.block_store.specs.Rest.{lowered_in_run}
 use Rattle.block_store.specs.Slot.{Slot}
 use Rattle.block_store.specs.Inner.Packing.{Loose}
 use Rattle.block_store.proofs.Zone.Tidy.{Adds}
@@ -27,7 +27,7 @@ pub if-one : (o : Option RunSpot) (P : RunSpot → Type 0) (r : RunSpot) → o �
 if-one o P r e p = if-run o P (λ q f. subst P (one-run o r q e f) p)
 
 -- the bytes are those of the zone with the run at a place changed, and its Masters blocks, Free bytes and those that
--- may be emptied stay
+-- may be purged stay
 pub record ChangedRun (change : List Block → List Block) (zone : List Block) (r : RunSpot) (new : List ℕ)
     (first unused : ℕ) (table : ℕ → Slot) : Type 0 where
   pub made : Made new first unused (tidy (with_run change r)) table
@@ -76,7 +76,7 @@ replaced-run {change} {zone} {r} {new} place stop t e u d = record {
 pub settled-run : (xs : List ℕ) (first unused : ℕ) (i : IsSound xs first unused) (place : ℕ) (r : RunSpot)
     (e : run_at place (zone_in xs) ≡ Some r)
     (stop : ℕ) → place + sizes r.run ≡ stop → (moves : ℕ) (new : List ℕ) → Settled (lay_at xs place) moves new
-    → ChangedRun settle (zone_in xs) r new first unused (slot_in xs) × (moves ≡ falling r.run)
+    → ChangedRun settle (zone_in xs) r new first unused (slot_in xs) × (moves ≡ lowered_in_run r.run)
 settled-run xs first unused i place r e stop t moves new d =
     let m = settle-made xs first unused i place r e stop t moves new d in
     let z : r.below ++ (settle r.run ++ r.above) ≡ tidy (with_run settle r) =

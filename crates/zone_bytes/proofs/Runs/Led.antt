@@ -3,7 +3,7 @@ use Rattle.std.proofs.Common.{◌≡◌, ℕ, ◌+◌, zero, suc, List, ◌++◌
 use Rattle.block_store.specs.Block.{free, free_sum, sizes}
 use Rattle.block_store.specs.Run.{movers, settle}
 use Rattle.zone_bytes.specs.Layout.{Leads}
-use Rattle.zone_bytes.specs.Settling.{Lay, IsRun, Packed, Settled}
+use Rattle.zone_bytes.specs.Settling.{Lay, IsRunFrom, Packed, Settled}
 use Rattle.zone_bytes.proofs.Tiles.Tiling.{span-append}
 use Rattle.zone_bytes.proofs.Tiles.Leading.{leads-append}
 use Rattle.zone_bytes.proofs.Tiles.Keeping.{span-free, span-movers}
@@ -14,7 +14,8 @@ leads-free xs o zero = tt
 leads-free xs o (suc n) = (tt, tt)
 
 -- a packed run whose slots lead to its blocks
-pub settled-of : (lay : Lay) (place stop gap moves : ℕ) (xs : List ℕ) → IsRun lay place stop → Packed lay gap moves xs
+pub settled-of : (lay : Lay) (place stop gap moves : ℕ) (xs : List ℕ) → IsRunFrom lay place stop → Packed lay gap moves
+    xs
     → Leads (0 + sizes lay.below) (movers lay.run) xs → Settled lay moves xs
 settled-of lay place stop gap moves xs r p l =
     let a = span-append (movers lay.run) (free (free_sum lay.run)) in
@@ -36,7 +37,7 @@ settled-of lay place stop gap moves xs r p l =
       kept = p.kept;
     }
 
-pub settled-led : (lay : Lay) (place stop moves : ℕ) (xs : List ℕ) → IsRun lay place stop → Packed lay 0 moves xs
+pub settled-led : (lay : Lay) (place stop moves : ℕ) (xs : List ℕ) → IsRunFrom lay place stop → Packed lay 0 moves xs
     → Settled lay moves xs
 settled-led lay place stop moves xs r p =
     let z : sizes lay.below + 0 ≡ 0 + sizes lay.below = omega arith in

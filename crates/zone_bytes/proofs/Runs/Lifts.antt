@@ -10,7 +10,7 @@ use Rattle.block_store.proofs.Zone.Apart.{tidy-apart}
 use Rattle.block_store.proofs.Zone.Totals.{total-append}
 use Rattle.block_store.proofs.Regroup.Lifted.{apart-low, no-movers}
 use Rattle.zone_bytes.specs.Layout.{head_of, Tiles, IsSlot, names, Leads, Apart, Each}
-use Rattle.zone_bytes.specs.Settling.{Lay, InRun, EndsRun, Lies, HasSlots, IsRun, SameOthers, Packed, cut, UntilAt}
+use Rattle.zone_bytes.specs.Settling.{Lay, InRun, EndsRun, Lies, HasSlots, IsRunFrom, SameOthers, Packed, cut, UntilAt}
 use Rattle.zone_bytes.specs.Settling.{Settled}
 use Rattle.zone_bytes.specs.Edges.{AreEdges}
 use Rattle.zone_bytes.specs.declared.edges.Edges.{Edges}
@@ -224,7 +224,7 @@ module _ (lay : Lay) (place gap : ℕ) (h : MayLift lay place gap) (o : EndsRun 
   abbrev part : Lay
   part = cut lay gone rest
 
-  cut-at : IsRun part place (place + sizes gone)
+  cut-at : IsRunFrom part place (place + sizes gone)
   cut-at = cut-run lay gone rest p.split place (place + sizes lay.run) h.run (place + sizes gone) refl
 
   -- no relocatable block is among those that were packed: they are all
@@ -307,7 +307,7 @@ module _ (lay : Lay) (place gap : ℕ) (h : MayLift lay place gap) (o : EndsRun 
       part-each : Each InRun gone
       part-each = cut-at.in_run
 
-      pub upper-run : IsRun (upper lay gap gone rest ys) (top + gap) (top + gap + sizes (free left ++ rest))
+      pub upper-run : IsRunFrom (upper lay gap gone rest ys) (top + gap) (top + gap + sizes (free left ++ rest))
       upper-run = record {
         lies = subst (λ l. Lies lay.resource l ys) upper-is part-lifted.lies;
         slots = subst HasSlots upper-is (slots-now lay.below gone (lifted gap gone) (rest ++ lay.above) part-each

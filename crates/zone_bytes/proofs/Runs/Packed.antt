@@ -13,7 +13,7 @@ use Rattle.block_store.specs.declared.flags.Flags.{Flags}
 use Rattle.block_store.specs.Block.{Block, Free, Fixed, Masters, Relocatable, size, is_mover, sizes}
 use Rattle.block_store.specs.Run.{movers}
 use Rattle.zone_bytes.specs.Layout.{head_of, Tiles, IsSlot, names, Leads, Apart, Each, Pairs}
-use Rattle.zone_bytes.specs.Settling.{falling_from, Lay, InRun, IsRun, SameOthers, PackingAt, Packing}
+use Rattle.zone_bytes.specs.Settling.{lowered_in_run_from, Lay, InRun, IsRunFrom, SameOthers, PackingAt, Packing}
 use Rattle.zone_bytes.proofs.Tiles.Tiling.{span-append, slot-inside, slot-append_left, slot-append_right, slot-split}
 use Rattle.zone_bytes.proofs.Tiles.Tiling.{length-tiles, tile-take, tiles-append, tiles-one, tiles-split, tiles-slot}
 use Rattle.zone_bytes.proofs.Tiles.Leading.{each-left, each-right, each-map, pairs-before, pairs-after, names-append}
@@ -57,7 +57,7 @@ slot-even head xs s (b ∷ blocks) t (inr i) =
 pub movers-more : (b : Block) (rest : List Block) → is_mover b ≡ true → movers (b ∷ rest) ≡ b ∷ movers rest
 movers-more b rest h = ap (λ v. cond v (b ∷ movers rest) (movers rest)) h
 
-module _ (lay : Lay) (place stop : ℕ) (r : IsRun lay place stop) where
+module _ (lay : Lay) (place stop : ℕ) (r : IsRunFrom lay place stop) where
   pub run-bounds : (place ≤ stop) × (stop + sizes lay.above ≡ length lay.bytes)
   run-bounds =
       let l = length-tiles (head_of lay.resource) lay.bytes (lay.below ++ (lay.run ++ lay.above)) r.lies.tiles in
@@ -113,8 +113,8 @@ module _ (lay : Lay) (place stop : ℕ) (r : IsRun lay place stop) where
                 (leads-right lay.bytes 0 lay.below (lay.run ++ lay.above) r.lies.leads);
             named = ap (λ q. names q ++ names (lay.run ++ lay.above)) (append-nil lay.below)
                 ∙ sym (names-append lay.below (lay.run ++ lay.above));
-            count = ap (λ k. 0 + falling_from k lay.run) (sym z)
-                ∙ (let f : 0 + falling_from 0 lay.run ≡ falling_from 0 lay.run = omega arith in f);
+            count = ap (λ k. 0 + lowered_in_run_from k lay.run) (sym z)
+                ∙ (let f : 0 + lowered_in_run_from 0 lay.run ≡ lowered_in_run_from 0 lay.run = omega arith in f);
             others = λ s i a. refl;
           };
         },
@@ -172,10 +172,10 @@ module _ (lay : Lay) (place stop : ℕ) (r : IsRun lay place stop) where
           lead_moved = q.lead_moved;
           lead_high = q.lead_high.1;
           named = q.named;
-          count = (let c : moves + falling_from (from - to + n) rest ≡ falling_from 0 lay.run =
-              (let g : falling_from (from - to + n) rest ≡ 0 + falling_from (from - to + n) rest =
+          count = (let c : moves + lowered_in_run_from (from - to + n) rest ≡ lowered_in_run_from 0 lay.run =
+              (let g : lowered_in_run_from (from - to + n) rest ≡ 0 + lowered_in_run_from (from - to + n) rest =
               omega arith in ap (λ k. moves + k) g ∙ q.count) in subst
-              (λ k. moves + falling_from k rest ≡ falling_from 0 lay.run) e c);
+              (λ k. moves + lowered_in_run_from k rest ≡ lowered_in_run_from 0 lay.run) e c);
           others = q.others;
         }
 
@@ -431,11 +431,12 @@ module _ (lay : Lay) (place stop : ℕ) (r : IsRun lay place stop) where
                 ∙ append_assoc (names (lay.below ++ moved)) (slot ∷ []) (names (rest ++ lay.above)) ∙ q.named);
             count = (let one : cond (is_mover block) (cond (nat_lt 0 (from - to)) 1 0) 0 ≡ cond
                 (nat_lt 0 (from - to)) 1 0 = ap (λ m. cond m (cond (nat_lt 0 (from - to)) 1 0) 0) is-mover in
-                let all-of : moves + (cond (nat_lt 0 (from - to)) 1 0 + falling_from
-                (from - to + 0) rest) ≡ falling_from 0 lay.run =
-                ap (λ m. moves + (m + falling_from (from - to + 0) rest)) (sym one) ∙ q.count in
-                ap (λ k. moves + cond (nat_lt 0 (from - to)) 1 0 + falling_from k rest) fall
-                ∙ (let z : moves + cond (nat_lt 0 (from - to)) 1 0 + falling_from (from - to + 0) rest ≡ moves +
-                (cond (nat_lt 0 (from - to)) 1 0 + falling_from (from - to + 0) rest) = omega arith in z) ∙ all-of);
+                let all-of : moves + (cond (nat_lt 0 (from - to)) 1 0 + lowered_in_run_from
+                (from - to + 0) rest) ≡ lowered_in_run_from 0 lay.run =
+                ap (λ m. moves + (m + lowered_in_run_from (from - to + 0) rest)) (sym one) ∙ q.count in
+                ap (λ k. moves + cond (nat_lt 0 (from - to)) 1 0 + lowered_in_run_from k rest) fall
+                ∙ (let z : moves + cond (nat_lt 0 (from - to)) 1 0 + lowered_in_run_from (from - to + 0) rest ≡ moves +
+                (cond (nat_lt 0 (from - to)) 1 0 + lowered_in_run_from (from - to + 0) rest) = omega arith in
+                z) ∙ all-of);
             others = others-done;
           }

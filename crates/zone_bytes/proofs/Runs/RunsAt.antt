@@ -7,11 +7,11 @@ use Rattle.std.specs.Option.{IsSome, IfSome}
 use Rattle.block_store.specs.Block.{Block, Free, Fixed, Masters, Relocatable, size, sizes, count, is_mover, free_of}
 use Rattle.block_store.specs.Run.{RunSpot, run_at, settle}
 use Rattle.block_store.specs.Inner.Packing.{Loose}
-use Rattle.block_store.specs.Rest.{falling}
+use Rattle.block_store.specs.Rest.{lowered_in_run}
 use Rattle.block_store.proofs.Regroup.Ends.{Stops, run_at-ended, settled-tidy}
 use Rattle.block_store.proofs.Regroup.RunLists.{run_at-is}
 use Rattle.zone_bytes.specs.Layout.{head_of, Tiles, Each}
-use Rattle.zone_bytes.specs.Settling.{InRun, EndsRun, IsRun, Settled, falling_from}
+use Rattle.zone_bytes.specs.Settling.{InRun, EndsRun, IsRunFrom, Settled, lowered_in_run_from}
 use Rattle.zone_bytes.specs.Decode.{zone_in}
 use Rattle.zone_bytes.specs.Table.{slot_in}
 use Rattle.zone_bytes.specs.Lawful.{IsSound}
@@ -45,29 +45,29 @@ ends-run [] s = tt
 ends-run (b ∷ above) s = s
 
 -- how many blocks come lower
-lowered-all : (gap : ℕ) (run : List Block) → 0 < gap → falling_from gap run ≡ count is_mover run
+lowered-all : (gap : ℕ) (run : List Block) → 0 < gap → lowered_in_run_from gap run ≡ count is_mover run
 lowered-all zero run h = absurd (omega (arith, h))
 lowered-all (suc gap) [] h = refl
 lowered-all (suc gap) (b ∷ run) h = step b (is_mover b) (lowered-all (suc gap + free_of b) run (omega arith))
   where
-    step : (b : Block) (t : Bool) → falling_from (suc gap + free_of b) run ≡ count is_mover run
-        → (cond {A = ℕ} t (cond {A = ℕ} (nat_lt 0 (suc gap)) 1 0) 0) + falling_from
+    step : (b : Block) (t : Bool) → lowered_in_run_from (suc gap + free_of b) run ≡ count is_mover run
+        → (cond {A = ℕ} t (cond {A = ℕ} (nat_lt 0 (suc gap)) 1 0) 0) + lowered_in_run_from
         (suc gap + free_of b) run ≡ cond {A = ℕ} t 1 0 + count is_mover run
-    step b t e = ap (λ v. cond {A = ℕ} t (cond {A = ℕ} v 1 0) 0 + falling_from (suc gap + free_of b) run)
+    step b t e = ap (λ v. cond {A = ℕ} t (cond {A = ℕ} v 1 0) 0 + lowered_in_run_from (suc gap + free_of b) run)
         (lt-ltb 0 (suc gap) (omega arith)) ∙ ap (λ n. cond {A = ℕ} t 1 0 + n) e
 
 module _ (head : Block → List ℕ) where
-  pub lowered-falling : (xs : List ℕ) (run : List Block) → Tiles head xs run → Each InRun run
-      → falling_from 0 run ≡ falling run
-  lowered-falling xs [] t e = refl
-  lowered-falling xs (Free n ∷ run) t e = let s = t.0.some in let l =
+  pub lowered-lowered_in_run : (xs : List ℕ) (run : List Block) → Tiles head xs run → Each InRun run
+      → lowered_in_run_from 0 run ≡ lowered_in_run run
+  lowered-lowered_in_run xs [] t e = refl
+  lowered-lowered_in_run xs (Free n ∷ run) t e = let s = t.0.some in let l =
       lowered-all (0 + n) run (omega (arith, s)) in omega (arith, l)
-  lowered-falling xs (Fixed id content ∷ run) t e = absurd (false≢true e.0)
-  lowered-falling xs (Masters ∷ run) t e = absurd (false≢true e.0)
-  lowered-falling xs (Relocatable id flags content ∷ run) t e =
-      let l = lowered-falling (drop (size (Relocatable id flags content)) xs) run t.1 e.1 in
-      ap (λ v. v + falling_from 0 run) (none (not flags.locked))
-      ∙ (let q : 0 + falling_from 0 run ≡ falling run = omega (arith, l) in q)
+  lowered-lowered_in_run xs (Fixed id content ∷ run) t e = absurd (false≢true e.0)
+  lowered-lowered_in_run xs (Masters ∷ run) t e = absurd (false≢true e.0)
+  lowered-lowered_in_run xs (Relocatable id flags content ∷ run) t e =
+      let l = lowered-lowered_in_run (drop (size (Relocatable id flags content)) xs) run t.1 e.1 in
+      ap (λ v. v + lowered_in_run_from 0 run) (none (not flags.locked))
+      ∙ (let q : 0 + lowered_in_run_from 0 run ≡ lowered_in_run run = omega (arith, l) in q)
     where
       none : (t : Bool) → cond {A = ℕ} t 0 0 ≡ 0
       none true = refl
@@ -114,12 +114,12 @@ module _ (xs : List ℕ) (first count : ℕ) (i : IsSound xs first count) (place
   may-end = subst (λ l. EndsRun l.above) (sym lay-is) ends
 
   module _ (stop : ℕ) (t : place + sizes r.run ≡ stop) where
-    pub may-settle : IsRun (lay_at xs place) place stop
-    may-settle = subst (λ l. IsRun l place stop) (sym lay-is)
+    pub may-settle : IsRunFrom (lay_at xs place) place stop
+    may-settle = subst (λ l. IsRunFrom l place stop) (sym lay-is)
         (is-run xs r i.unused place stop i.lays whole bottom t in-run)
 
     pub settle-made : (moves : ℕ) (new : List ℕ) → Settled (lay_at xs place) moves new
-        → Made new first count (r.below ++ (settle r.run ++ r.above)) (slot_in xs) × (moves ≡ falling r.run)
+        → Made new first count (r.below ++ (settle r.run ++ r.above)) (slot_in xs) × (moves ≡ lowered_in_run r.run)
     settle-made moves new d =
         let s = subst (λ l. Settled l moves new) lay-is d in
         let tiles = tiles-split (head_of (λ s. is_resource (slot_in xs s))) xs r.below (r.run ++ r.above)
@@ -129,6 +129,6 @@ module _ (xs : List ℕ) (first count : ℕ) (i : IsSound xs first count) (place
           made new (r.below ++ (settle r.run ++ r.above)) (slot_in xs) i.unused
               (after xs r i.unused place stop i.lays whole bottom t in-run moves new s) first count
               (settled-tidy place (zone_in xs) r i.tidied e) i.begins i.counted,
-          s.moved ∙ lowered-falling (head_of (λ s. is_resource (slot_in xs s)))
+          s.moved ∙ lowered-lowered_in_run (head_of (λ s. is_resource (slot_in xs s)))
               (take (sizes r.run) (drop (sizes r.below) xs)) r.run run.0 in-run,
         )

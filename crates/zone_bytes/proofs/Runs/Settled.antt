@@ -13,7 +13,7 @@ use Rattle.block_store.specs.Block.{sizes}
 use Rattle.block_store.specs.Run.{movers, settle}
 use Rattle.block_store.proofs.Zone.Spots.{free-some}
 use Rattle.zone_bytes.specs.Layout.{head_of, Tile, Tiles, names, Leads, Each}
-use Rattle.zone_bytes.specs.Settling.{falling_from, Lay, EndsRun, runs_on, IsRun, PackingAt, Packing, Packed}
+use Rattle.zone_bytes.specs.Settling.{lowered_in_run_from, Lay, EndsRun, runs_on, IsRunFrom, PackingAt, Packing, Packed}
 use Rattle.zone_bytes.proofs.Tiles.Tiling.{tiles-append, tiles-one, tiles-split}
 use Rattle.zone_bytes.proofs.Tiles.Heads.{first-reads, slot-reads, kind-small}
 use Rattle.zone_bytes.proofs.Tiles.Leading.{each-left, each-right, names-append, Clear, piece-clear, leads-written}
@@ -50,7 +50,7 @@ one-or-none false w = omega arith
 
 -- at most one move for each block
 pub lowered-span : (head : Block → List ℕ) (xs : List ℕ) (gap : ℕ) (run above : List Block)
-    → Tiles head xs (run ++ above) → falling_from gap run ≤ sizes run
+    → Tiles head xs (run ++ above) → lowered_in_run_from gap run ≤ sizes run
 lowered-span head xs gap [] above t = omega arith
 lowered-span head xs gap (b ∷ run) above t =
     let r = lowered-span head (drop (size b) xs) (gap + free_of b) run above t.1 in
@@ -76,7 +76,7 @@ pub record NextMover (lay : Lay) (gap stop from to moves : ℕ) (xs : List ℕ) 
   pub block : Block
   pub more : (m : ℕ) (e : m ≡ cond (nat_lt 0 (from - to)) 1 0) → (packing m e).moved ≡ moved ++ block ∷ []
 
-module _ (lay : Lay) (place stop : ℕ) (r : IsRun lay place stop) (gap from to moves : ℕ) (xs : List ℕ) where
+module _ (lay : Lay) (place stop : ℕ) (r : IsRunFrom lay place stop) (gap from to moves : ℕ) (xs : List ℕ) where
   pub stop-inside : length xs ≡ length lay.bytes → (stop ≤ length xs) × (length xs ≤ 134217728)
   stop-inside k =
       let b = run-bounds lay place stop r in

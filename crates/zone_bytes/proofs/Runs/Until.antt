@@ -11,7 +11,7 @@ use Rattle.block_store.specs.Block.{Block, free_of, free_sum, is_mover, size, si
 use Rattle.block_store.specs.Run.{movers}
 use Rattle.block_store.proofs.Zone.Totals.{total-append}
 use Rattle.zone_bytes.specs.Layout.{head_of, Tiles, names, Each}
-use Rattle.zone_bytes.specs.Settling.{falling_from, Lay, InRun, Lies, HasSlots, IsRun, SameOthers, PackingAt}
+use Rattle.zone_bytes.specs.Settling.{lowered_in_run_from, Lay, InRun, Lies, HasSlots, IsRunFrom, SameOthers, PackingAt}
 use Rattle.zone_bytes.specs.Settling.{Packed, cut, first_in, left_behind, gone_to, rest_from, UntilAt, PackedUntil}
 use Rattle.zone_bytes.proofs.Tiles.Tiling.{span-append}
 use Rattle.zone_bytes.proofs.Tiles.Leading.{each-left}
@@ -21,15 +21,16 @@ use Rattle.zone_bytes.proofs.Runs.Settled.{finish-none-at, finish-free-at}
 
 -- those that come lower among the first blocks, and those among the others
 falling-append : (gap : ℕ) (gone rest : List Block)
-    → falling_from gap (gone ++ rest) ≡ falling_from gap gone + falling_from (gap + free_sum gone) rest
+    → lowered_in_run_from gap (gone ++ rest) ≡ lowered_in_run_from gap gone + lowered_in_run_from (gap + free_sum gone)
+    rest
 falling-append gap [] rest =
     let e : gap ≡ gap + 0 = omega arith in
-    let f = ap (λ g. falling_from g rest) e in
+    let f = ap (λ g. lowered_in_run_from g rest) e in
     omega (arith, f)
 falling-append gap (b ∷ gone) rest =
     let r = falling-append (gap + free_of b) gone rest in
     let e : gap + free_of b + free_sum gone ≡ gap + (free_of b + free_sum gone) = omega arith in
-    let f = ap (λ g. falling_from g rest) e in
+    let f = ap (λ g. lowered_in_run_from g rest) e in
     omega (arith, r, f)
 
 -- each block has bytes
@@ -80,11 +81,12 @@ module _ (lay : Lay) (gone rest : List Block) (split : gone ++ rest ≡ lay.run)
   pub cut-span : sizes lay.run ≡ sizes gone + sizes rest
   cut-span = ap sizes (sym split) ∙ span-append gone rest
 
-  cut-falling : falling_from 0 lay.run ≡ falling_from 0 gone + falling_from (0 + free_sum gone) rest
-  cut-falling = ap (falling_from 0) (sym split) ∙ falling-append 0 gone rest
+  cut-falling : lowered_in_run_from 0 lay.run ≡ lowered_in_run_from 0 gone + lowered_in_run_from (0 + free_sum gone)
+      rest
+  cut-falling = ap (lowered_in_run_from 0) (sym split) ∙ falling-append 0 gone rest
 
-  module _ (place stop : ℕ) (r : IsRun lay place stop) where
-    pub cut-run : (from : ℕ) → place + sizes gone ≡ from → IsRun (cut lay gone rest) place from
+  module _ (place stop : ℕ) (r : IsRunFrom lay place stop) where
+    pub cut-run : (from : ℕ) → place + sizes gone ≡ from → IsRunFrom (cut lay gone rest) place from
     cut-run from t = record {
       lies = subst (λ l. Lies lay.resource l lay.bytes) (sym cut-same) r.lies;
       slots = subst HasSlots (sym cut-same) r.slots;
@@ -131,7 +133,7 @@ module _ (lay : Lay) (gone rest : List Block) (split : gone ++ rest ≡ lay.run)
                 (let c = q.count in
                 let f = cut-falling in
                 let e : from - to ≡ 0 + free_sum gone = omega (arith, g) in
-                let h = ap (λ k. falling_from k rest) e in
+                let h = ap (λ k. lowered_in_run_from k rest) e in
                 omega (arith, c, f, h));
             others = subst (λ l. SameOthers l lay.bytes xs) (sym cut-same) q.others;
           }
@@ -198,27 +200,28 @@ none-left lay gap stop from to moves xs moved (b ∷ rest) q l =
 
 -- a run without enough Free bytes is packed whole
 module _ (lay : Lay) (place gap enough moves top stop : ℕ) (xs : List ℕ) (gone rest : List Block)
-    (r : IsRun lay place (place + sizes lay.run)) (p : UntilAt lay place gap enough moves top stop xs gone rest) where
-  pub all-gone : length lay.bytes < enough → rest ≡ []
-  all-gone l = elim p.ended [
-    | inl n ↦ n
-    | inr e ↦
-        let b = run-bounds lay place (place + sizes lay.run) r in
-        let f = cut-free lay gone rest p.split in
-        let m = span-movers lay.run r.in_run in
-        absurd (omega (arith, l, e, b, f, m))
-  ]
+    (r : IsRunFrom lay place (place + sizes lay.run)) (p : UntilAt lay place gap enough moves top stop xs gone rest)
+  where
+    pub all-gone : length lay.bytes < enough → rest ≡ []
+    all-gone l = elim p.ended [
+      | inl n ↦ n
+      | inr e ↦
+          let b = run-bounds lay place (place + sizes lay.run) r in
+          let f = cut-free lay gone rest p.split in
+          let m = span-movers lay.run r.in_run in
+          absurd (omega (arith, l, e, b, f, m))
+    ]
 
-  module _ (n : rest ≡ []) where
-    pub all-of : gone ≡ lay.run
-    all-of = sym (append-nil gone) ∙ ap (λ l. gone ++ l) (sym n) ∙ p.split
+    module _ (n : rest ≡ []) where
+      pub all-of : gone ≡ lay.run
+      all-of = sym (append-nil gone) ∙ ap (λ l. gone ++ l) (sym n) ∙ p.split
 
-    pub whole-packed : Packed lay gap moves xs
-    whole-packed = subst (λ l. Packed (cut lay l []) gap moves xs) all-of
-        (subst (λ l. Packed (cut lay gone l) gap moves xs) n p.packed)
+      pub whole-packed : Packed lay gap moves xs
+      whole-packed = subst (λ l. Packed (cut lay l []) gap moves xs) all-of
+          (subst (λ l. Packed (cut lay gone l) gap moves xs) n p.packed)
 
-    pub whole-top : top ≡ place + sizes (movers lay.run)
-    whole-top = p.top_at ∙ ap (λ l. place + sizes (movers l)) all-of
+      pub whole-top : top ≡ place + sizes (movers lay.run)
+      whole-top = p.top_at ∙ ap (λ l. place + sizes (movers l)) all-of
 
-    pub whole-stop : stop ≡ place + sizes lay.run
-    whole-stop = p.stop_at ∙ ap (λ l. place + sizes l) all-of
+      pub whole-stop : stop ≡ place + sizes lay.run
+      whole-stop = p.stop_at ∙ ap (λ l. place + sizes l) all-of

@@ -19,7 +19,7 @@ use Rattle.block_store.proofs.Zone.Totals.{total-append}
 use Rattle.zone_bytes.specs.Decode.{zone_in}
 use Rattle.zone_bytes.specs.Lawful.{IsSound}
 use Rattle.zone_bytes.specs.Marks.{Begins, ends_run}
-use Rattle.zone_bytes.specs.Searching.{IsBehind, IsFound, IsKnown, IsPiece, IsSearch, begun, finds_from, most_had}
+use Rattle.zone_bytes.specs.Searching.{IsBehind, IsFound, IsKnown, IsPiece, IsSearch, begun, finds_from, most_free_of}
 use Rattle.zone_bytes.specs.Stepping.{left_in}
 use Rattle.zone_bytes.specs.declared.finding_runs.Passed.{Passed}
 use Rattle.zone_bytes.specs.declared.finding_runs.Search.{Search}
@@ -82,8 +82,8 @@ module _ (bytes : ℕ) (answer : Option ℕ) (xs : List ℕ) where
   }
 
   -- the search at a place, in a run that has too little so far
-  pub goes-on : (at : ℕ) (s : Search) → IsSearch bytes answer at xs s → most_had s < bytes
-      → GoesOn None bytes spares (most_had s) at (left_in at xs) answer
+  pub goes-on : (at : ℕ) (s : Search) → IsSearch bytes answer at xs s → most_free_of s < bytes
+      → GoesOn None bytes spares (most_free_of s) at (left_in at xs) answer
   goes-on at (search.Known s) k l =
       let e = not-found at s k (short-run s.met bytes s.free l) in
       record { start = s.start; free = s.free; met = s.met; few = omega arith; is = finds-at at s k e }
@@ -107,7 +107,7 @@ module _ (bytes : ℕ) (answer : Option ℕ) (xs : List ℕ) where
 
   -- behind a stretch among whose blocks a run ends
   pub behind-barred : (at next free : ℕ) (s : Search) (here : List Block) → IsSearch bytes answer at xs s
-      → most_had s + free < bytes → Begins at 0 (zone_in xs) → IsPiece at next xs here → has ends_run here ≡ true
+      → most_free_of s + free < bytes → Begins at 0 (zone_in xs) → IsPiece at next xs here → has ends_run here ≡ true
       → free_sum here ≤ free
       → IsBehind bytes answer next xs (record { at = at; end = next; most = free; beyond = 0 })
   behind-barred at next free s here k l e p h f =
@@ -188,7 +188,7 @@ module _ (bytes : ℕ) (answer : Option ℕ) (xs : List ℕ) where
       come u (inr (inr h)) = inr (let w = h.0 in omega (arith, u, w))
 
   -- at the end
-  pub none-left : (at : ℕ) (s : Search) → IsSearch bytes answer at xs s → most_had s < bytes → left_in at xs ≡ []
+  pub none-left : (at : ℕ) (s : Search) → IsSearch bytes answer at xs s → most_free_of s < bytes → left_in at xs ≡ []
       → answer ≡ None
   none-left at s k l e =
       let g = goes-on at s k l in
@@ -198,8 +198,9 @@ module _ (bytes : ℕ) (answer : Option ℕ) (xs : List ℕ) where
       ∙ ap (λ v. cond v (Some g.start) None) (short-run g.met bytes g.free (omega (arith, few, l)))
 
 -- what a search has so far and more, where their sum is as high as numbers go if it is too high
-pub few-had : (s : Search) (most free sum bytes : ℕ) → bytes < 4294967296 → (most ≡ most_had s) ⊎ (most ≡ 4294967295)
-    → sum ≡ min (most + free) 4294967295 → sum < bytes → most_had s + free < bytes
+pub few-had : (s : Search) (most free sum bytes : ℕ) → bytes < 4294967296 → (most ≡ most_free_of s)
+    ⊎ (most ≡ 4294967295)
+    → sum ≡ min (most + free) 4294967295 → sum < bytes → most_free_of s + free < bytes
 few-had s most free sum bytes b (inl e) k l = omega (arith, b, e, k, l)
 few-had s most free sum bytes b (inr e) k l = absurd (omega (arith, b, e, k, l))
 

@@ -12,9 +12,9 @@ use Rattle.zone_bytes.specs.Stepping.{left_in}
 use Rattle.zone_bytes.specs.Table.{slot_in}
 use Rattle.zone_bytes.specs.declared.landmark.Landmark.{Landmark}
 use Rattle.zone_bytes.proofs.Laws.Lawful.{sizes-length}
-use Rattle.zone_bytes.proofs.Marks.Between.{Alike, alike-as, alike-back, alike-more, alike-same, between-parts}
+use Rattle.zone_bytes.proofs.Marks.Between.{CountAlike, alike-as, alike-back, alike-more, alike-same, between-parts}
 use Rattle.zone_bytes.proofs.Marks.Lowering.{Seen, begins-way, seen-from, marks-parted, mark-begins, mark-first, begins-end}
-use Rattle.zone_bytes.proofs.Marks.Passing.{Parts, begins-either, begins-here, begins-right, begins-within, parts}
+use Rattle.zone_bytes.proofs.Marks.Passing.{PartsAt, begins-either, begins-here, begins-right, begins-within, parts}
 use Rattle.zone_bytes.proofs.Places.AtPlace.{left-above}
 use Rattle.zone_bytes.proofs.Places.Stepped.{left-none}
 use Rattle.zone_bytes.proofs.Tiles.Tiling.{span-append}
@@ -51,7 +51,7 @@ module _ (xs : List ℕ) (first unused : ℕ) (i : IsSound xs first unused) wher
             (let k = s.low in let q : 0 + sizes s.below ≡ from = omega (arith, k) in q) d
       ]
 
-      r : Parts to from (left_in from xs)
+      r : PartsAt to from (left_in from xs)
       r = parts to from (left_in from xs) behind
 
       whole : left_in from xs ≡ r.below ++ left_in to xs
@@ -89,7 +89,7 @@ module _ (xs : List ℕ) (first unused : ℕ) (i : IsSound xs first unused) wher
         s : Seen xs first unused i m.at
         s = seen-from xs first unused i m.at mark-edge
 
-        same : Alike (between m.at to 0 (zone_in xs)) p.0
+        same : CountAlike (between m.at to 0 (zone_in xs)) p.0
         same = alike-more (between m.at to 0 (zone_in xs)) _ p.0
             (alike-same _ _ (ap (between m.at to 0) (s.is ∙ ap (λ k. s.below ++ k) p.1.is)))
             (between-parts m.at to s.below p.0 (left_in next xs) s.low (let u = p.1.up in omega (arith, u, h)) (elim o [

@@ -9,7 +9,7 @@ use Rattle.block_store.specs.Room.{Spot, spot}
 use Rattle.block_store.specs.Sparing.{opened, spared}
 use Rattle.block_store.specs.declared.sparing.Sparing.{Sparing}
 use Rattle.block_store.specs.declared.stretch.RoomScan.{RoomScan}
-use Rattle.block_store.proofs.Emptied.Stretches.{stretch-apart, stretch-is}
+use Rattle.block_store.proofs.Purged.Stretches.{stretch-apart, stretch-is}
 use Rattle.block_store.proofs.Zone.Apart.{Apart, apart-above, apart-tidied}
 use Rattle.block_store.proofs.Zone.Tidy.{spot-is}
 use Rattle.zone_bytes.specs.Decode.{zone_in}

@@ -16,7 +16,7 @@ use Rattle.block_store.specs.Room.{Spot, spot, raised}
 use Rattle.block_store.specs.Slot.{Slot, NoSlot, Unused, Used, is_used, is_resource}
 use Rattle.zone_bytes.specs.Layout.{flag_word, head_of, Tile, Tiles, IsSlot, names, Leads, Apart, Each}
 use Rattle.zone_bytes.specs.Looking.{place_of_word}
-use Rattle.zone_bytes.specs.Table.{Has, emptied_word, Says, Lays}
+use Rattle.zone_bytes.specs.Table.{Has, empty_word, Says, Lays}
 use Rattle.zone_bytes.proofs.Places.Stepped.{word-at}
 use Rattle.zone_bytes.proofs.Runs.Packed.{span-whole}
 use Rattle.zone_bytes.proofs.SlotTable.Tables.{slot-in, apart-other}
@@ -30,9 +30,9 @@ used-is Unused u = absurd (false≢true u)
 used-is (Used r) u = (r, refl)
 
 -- the handle of s is emptied
-pub record IsEmptied (xs : List ℕ) (blocks : List Block) (s : ℕ) (r : Bool) : Type 0 where
+pub record IsEmptyHandle (xs : List ℕ) (blocks : List Block) (s : ℕ) (r : Bool) : Type 0 where
   pub apart : Each (Apart s) (names blocks)
-  pub leads : piece s 4 xs ≡ word (emptied_word r)
+  pub leads : piece s 4 xs ≡ word (empty_word r)
 
 -- the slot s leads to its block, one of blocks from o on
 pub record HasBlock (xs : List ℕ) (o : ℕ) (blocks : List Block) (s : ℕ) : Type 0 where
@@ -99,15 +99,15 @@ no-spot s (Relocatable id flags content ∷ blocks) a = elim (eqb_tells id s) [
 ]
 
 -- the words of slots
-word-emptied : (r : Bool) → place_of_word (emptied_word r) ≡ None
+word-emptied : (r : Bool) → place_of_word (empty_word r) ≡ None
 word-emptied true = refl
 word-emptied false = refl
 
-pub emptied-small : (r : Bool) → emptied_word r < 2 ^ 32
+pub emptied-small : (r : Bool) → empty_word r < 2 ^ 32
 emptied-small true = omega arith
 emptied-small false = omega arith
 
-emptied-tells : (r : Bool) → (emptied_word r == 18) ≡ r
+emptied-tells : (r : Bool) → (empty_word r == 18) ≡ r
 emptied-tells true = refl
 emptied-tells false = refl
 
@@ -169,14 +169,14 @@ module _ (xs : List ℕ) (blocks : List Block) (slots : ℕ → Slot) (unused : 
     pub handle-in : (s % 4 ≡ 0) × (s + 4 ≤ length xs)
     handle-in = slot-in xs blocks slots unused h s told.0
 
-    state : IsEmptied xs blocks s flag.0 ⊎ HasBlock xs 0 blocks s
+    state : IsEmptyHandle xs blocks s flag.0 ⊎ HasBlock xs 0 blocks s
     state = elim told.1 [
       | inl k ↦ inr (has-block xs 0 blocks s h.lies.leads k)
       | inr k ↦ inl (record { apart = k.0; leads = k.1 })
     ]
 
-    emptied-reads : IsEmptied xs blocks s flag.0 → word_at s xs ≡ emptied_word flag.0
-    emptied-reads e = read_back s (emptied_word flag.0) xs (emptied-small flag.0) e.leads
+    emptied-reads : IsEmptyHandle xs blocks s flag.0 → word_at s xs ≡ empty_word flag.0
+    emptied-reads e = read_back s (empty_word flag.0) xs (emptied-small flag.0) e.leads
 
     block-reads : (b : HasBlock xs 0 blocks s) → word_at s xs ≡ sizes b.below
     block-reads b =
@@ -185,7 +185,7 @@ module _ (xs : List ℕ) (blocks : List Block) (slots : ℕ → Slot) (unused : 
         let m = h.small in
         read_back s (sizes b.below) xs (omega (arith, f, m)) (b.leads ∙ ap word z)
 
-    emptied-word : IsEmptied xs blocks s flag.0 → place_of_word (word_at s xs) ≡ None
+    emptied-word : IsEmptyHandle xs blocks s flag.0 → place_of_word (word_at s xs) ≡ None
     emptied-word e = ap place_of_word (emptied-reads e) ∙ word-emptied flag.0
 
     block-word : (b : HasBlock xs 0 blocks s) → place_of_word (word_at s xs) ≡ Some (sizes b.below)
@@ -206,7 +206,7 @@ module _ (xs : List ℕ) (blocks : List Block) (slots : ℕ → Slot) (unused : 
           (block-here s b)
     ]
 
-    pub gone-of : place_of_word (word_at s xs) ≡ None → IsEmptied xs blocks s flag.0
+    pub gone-of : place_of_word (word_at s xs) ≡ None → IsEmptyHandle xs blocks s flag.0
     gone-of w = elim state [
       | inl e ↦ e
       | inr b ↦ absurd (none-some (sizes b.below) (sym w ∙ block-word b))
@@ -215,7 +215,7 @@ module _ (xs : List ℕ) (blocks : List Block) (slots : ℕ → Slot) (unused : 
     flag-is : is_resource (slots s) ≡ flag.0
     flag-is = ap is_resource flag.1
 
-    -- the resource flag, in the header and in the word of an emptied handle
+    -- the resource flag, in the header and in the word of an empty handle
     pub resource-here : (place : ℕ) → place_of_word (word_at s xs) ≡ Some place
         → nat_le 32 (word_at (place + 12) xs % 64) ≡ is_resource (slots s)
     resource-here place w = let b = here-of place w in ap (λ n. nat_le 32 (n % 64)) b.flags_are

@@ -13,7 +13,7 @@ use Rattle.block_store.specs.Slot.{Slot, NoSlot, Unused, Used, set_slot, is_reso
 use Rattle.zone_bytes.specs.Layout.{flag_word, head_of, Tile, Tiles, IsSlot, names, Apart, Each, Pairs, Leads}
 use Rattle.zone_bytes.specs.Settling.{Lies}
 use Rattle.zone_bytes.specs.Splicing.{Splice, SameOutside, IsSplice}
-use Rattle.zone_bytes.specs.Table.{Has, Says, IsUsed, Lays, emptied_word}
+use Rattle.zone_bytes.specs.Table.{Has, Says, IsUsed, Lays, empty_word}
 use Rattle.zone_bytes.proofs.Blocks.Carves.{clear, outside}
 use Rattle.zone_bytes.proofs.Blocks.InPlace.{no-slots}
 use Rattle.zone_bytes.proofs.Blocks.Marked.{tile-flagged}
@@ -66,10 +66,10 @@ module _ (xs : List ℕ) (blocks : List Block) (slots : ℕ → Slot) (unused : 
       (λ t q. apart-of xs blocks slots unused h s t is-slot q.0 (λ e. used-no-unused was (sym u ∙ ap slots e ∙ q.1)))
       unused h.unused_slots
 
-  -- the flag in the word of an emptied handle
-  pub lays-emptied : Each (Apart s) (names blocks) → Lays (written s (word (emptied_word r)) xs) blocks now unused
+  -- the flag in the word of an empty handle
+  pub lays-emptied : Each (Apart s) (names blocks) → Lays (written s (word (empty_word r)) xs) blocks now unused
   lays-emptied a =
-      let n = emptied_word r in
+      let n = empty_word r in
       let b = slot-in xs blocks slots unused h s is-slot in
       let w = length-word n in
       lays-written xs blocks slots unused h s n (Used r) unused is-slot a (λ t d e k. k)

@@ -7,7 +7,7 @@ use Rattle.block_store.specs.Block.{Block}
 use Rattle.block_store.specs.Slot.{Slot, NoSlot, Unused, Used, is_resource}
 use Rattle.zone_bytes.specs.Layout.{IsSlot, names, Apart, Each, ArePlaced}
 use Rattle.zone_bytes.specs.Settling.{Lies, HasSlots, SameOthers}
-use Rattle.zone_bytes.specs.Table.{Has, IsUsed, emptied_word, Says, Lays}
+use Rattle.zone_bytes.specs.Table.{Has, IsUsed, empty_word, Says, Lays}
 use Rattle.zone_bytes.proofs.Tiles.Leading.{each-map}
 use Rattle.zone_bytes.proofs.SlotTable.Tables.{apart-of, unused-apart}
 use Rattle.zone_bytes.proofs.Tiles.Keeping.{chain-kept}
@@ -27,7 +27,7 @@ module _ (xs new : List ℕ) (blocks now : List Block) (slots : ℕ → Slot) (u
   module _ (s : ℕ) (r : Bool) (u : slots s ≡ Used r) (fewer : (t : ℕ) → Has (names blocks) t
       → (t ≡ s) ⊎ Has (names now) t)
       (subset : (P : ℕ → Type 0) → Each P (names blocks) → Each P (names now)) (a : Each (Apart s) (names now))
-      (w : piece s 4 new ≡ word (emptied_word r)) (o : SameOthers blocks xs new) where
+      (w : piece s 4 new ≡ word (empty_word r)) (o : SameOthers blocks xs new) where
     removed-says : (t : ℕ) (st : Slot) → slots t ≡ st → Says blocks xs unused t st → Says now new unused t st
     removed-says t NoSlot e q = λ k. q (j t k)
     removed-says t Unused e q = (i t q.0, q.1)
@@ -37,8 +37,8 @@ module _ (xs new : List ℕ) (blocks now : List Block) (slots : ℕ → Slot) (u
         | inl k ↦ elim (fewer t k) [
           | inl m ↦ inr (
             subst (λ v. Each (Apart v) (names now)) (sym m) a,
-            subst (λ v. piece v 4 new ≡ word (emptied_word p)) (sym m)
-                (w ∙ ap (λ v. word (emptied_word v)) (same-flag r p (sym u ∙ ap slots (sym m) ∙ e))),
+            subst (λ v. piece v 4 new ≡ word (empty_word p)) (sym m)
+                (w ∙ ap (λ v. word (empty_word v)) (same-flag r p (sym u ∙ ap slots (sym m) ∙ e))),
           )
           | inr m ↦ inl m
         ]

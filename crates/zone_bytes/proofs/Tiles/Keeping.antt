@@ -8,7 +8,7 @@ use Rattle.block_store.specs.Block.{Block, Free, Fixed, Masters, Relocatable, si
 use Rattle.block_store.specs.Run.{movers, settle}
 use Rattle.block_store.specs.Slot.{Slot, NoSlot, Unused, Used, is_resource}
 use Rattle.zone_bytes.specs.Layout.{IsSlot, names, Apart, Each, ArePlaced}
-use Rattle.zone_bytes.specs.Settling.{Lay, InRun, Lies, IsRun, SameOthers, Settled}
+use Rattle.zone_bytes.specs.Settling.{Lay, InRun, Lies, IsRunFrom, SameOthers, Settled}
 use Rattle.zone_bytes.specs.Table.{IsUsed, Chain, Says, Lays}
 use Rattle.zone_bytes.proofs.Tiles.Tiling.{span-append, slot-split, slot-append_left, slot-append_right}
 use Rattle.zone_bytes.proofs.Tiles.Leading.{names-append, each-map, each-append}
@@ -185,7 +185,7 @@ run-names below was now above n =
 
 -- the zone after a settle, with its slots
 pub lays-settled : (lay : Lay) (place stop moves : ℕ) (slots : ℕ → Slot) (unused new : List ℕ)
-    → lay.resource ≡ (λ s. is_resource (slots s)) → IsRun lay place stop
+    → lay.resource ≡ (λ s. is_resource (slots s)) → IsRunFrom lay place stop
     → Lays lay.bytes (lay.below ++ (lay.run ++ lay.above)) slots unused → Settled lay moves new
     → Lays new (lay.below ++ (settle lay.run ++ lay.above)) slots unused
 lays-settled lay place stop moves slots unused new e r h d =

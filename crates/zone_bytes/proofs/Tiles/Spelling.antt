@@ -13,7 +13,7 @@ use Rattle.block_store.specs.Block.{Block, Free, Fixed, Masters, Relocatable, si
 use Rattle.block_store.specs.Slot.{Slot, NoSlot, Unused, Used, is_resource}
 use Rattle.zone_bytes.specs.Layout.{flag_word, head_of, Tiles, IsSlot, names, Leads, Each}
 use Rattle.zone_bytes.specs.Decode.{zone_in}
-use Rattle.zone_bytes.specs.Table.{Has, emptied_word, Chain, Says, Lays, is_slot, slot_of_word, slot_in}
+use Rattle.zone_bytes.specs.Table.{Has, empty_word, Chain, Says, Lays, is_slot, slot_of_word, slot_in}
 use Rattle.zone_bytes.proofs.Tiles.Tiling.{length-tiles, slot-inside}
 use Rattle.zone_bytes.proofs.Tiles.Leading.{each-map}
 use Rattle.zone_bytes.proofs.Tiles.Decoding.{says, flag_word-small, zone-back}
@@ -108,7 +108,7 @@ word-unused xs w k e =
     (λ i. cond (a i) (Used (nat_le 32 (word_at (w + 12) xs % 64)))
     (cond (b i) (Used false) (cond (c i) (Used true) Unused)))
 
-word-emptied : (xs : List ℕ) (w : ℕ) (r : Bool) → w ≡ emptied_word r → slot_of_word xs w ≡ Used r
+word-emptied : (xs : List ℕ) (w : ℕ) (r : Bool) → w ≡ empty_word r → slot_of_word xs w ≡ Used r
 word-emptied xs w true e = ap (slot_of_word xs) e
 word-emptied xs w false e = ap (slot_of_word xs) e
 
@@ -118,7 +118,7 @@ word-leads xs w r e f =
     let a : eqb (w % 16) 0 ≡ true = elim (eqb_tells (w % 16) 0) [ inl p ↦ p.0 | inr p ↦ absurd (p.1 e) ] in
     (λ i. cond (a i) (Used (f i)) (cond (eqb w 2) (Used false) (cond (eqb w 18) (Used true) Unused)))
 
-small-emptied : (r : Bool) → emptied_word r < 2 ^ 32
+small-emptied : (r : Bool) → empty_word r < 2 ^ 32
 small-emptied true = omega arith
 small-emptied false = omega arith
 
@@ -195,7 +195,7 @@ module _ (xs : List ℕ) (blocks : List Block) (slots : ℕ → Slot) (unused : 
       ∙ elim q.1 [
         | inl k ↦ named-word (λ t. is_resource (slots t)) xs h.small s 0 blocks refl h.lies.tiles h.lies.leads k
             ∙ ap (λ t. Used (is_resource t)) e
-        | inr k ↦ word-emptied xs (word_at s xs) r (read_back s (emptied_word r) xs (small-emptied r) k.1)
+        | inr k ↦ word-emptied xs (word_at s xs) r (read_back s (empty_word r) xs (small-emptied r) k.1)
       ]
 
   pub slots-of : (s : ℕ) → slot_in xs s ≡ slots s

@@ -4,7 +4,7 @@ use Rattle.block_store.specs.Block.{Block, sizes}
 use Rattle.block_store.specs.Run.{RunSpot, settle}
 use Rattle.block_store.specs.Slot.{Slot, is_resource}
 use Rattle.zone_bytes.specs.Layout.{Each}
-use Rattle.zone_bytes.specs.Settling.{Lay, InRun, IsRun, Settled}
+use Rattle.zone_bytes.specs.Settling.{Lay, InRun, IsRunFrom, Settled}
 use Rattle.zone_bytes.specs.Decode.{zone_in}
 use Rattle.zone_bytes.specs.Table.{Lays, slot_in, first_of}
 use Rattle.zone_bytes.proofs.Tiles.Spelling.{zone-of, slots-of}
@@ -34,7 +34,7 @@ module _ (xs : List ℕ) (spot : RunSpot) (unused : List ℕ) (place stop : ℕ)
     pub laid : Lays xs (spot.below ++ (spot.run ++ spot.above)) (slot_in xs) unused
     laid = subst (λ k. Lays xs k (slot_in xs) unused) z h
 
-    pub is-run : IsRun (lay_of spot xs) place stop
+    pub is-run : IsRunFrom (lay_of spot xs) place stop
     is-run = record { lies = laid.lies; slots = laid.has_slots; bottom = b; top = t; in_run = r; small = laid.small }
 
     module _ (moves : ℕ) (new : List ℕ) (d : Settled (lay_of spot xs) moves new) where

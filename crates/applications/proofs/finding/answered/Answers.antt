@@ -57,12 +57,14 @@ returns-in-GetResource-clause-after g c =
 pub returns-in-Get1Resource-clause-told : goal.returns-in-Get1Resource-clause-told
 returns-in-Get1Resource-clause-told g c =
     let fits : FitsSigned w16 c.in-Get1Resource.id = search rules in
-    arm_told tell_fetched true c.fetched-in-Get1Resource.result _ _ _ c.args.call.now _ c.args.names.now (managers c.args.resources.now c.args.heap.now) c.fetched-in-Get1Resource.ensures.tried c.get1_resource.ensures.answer (ap (λ (i : ℤ). telling tell_fetched (rows.noting (rows.get_one_resource (big_number 4 c.in-Get1Resource.ty.0) i) (managers c.args.resources.now c.args.heap.now))) (to_z-of_z w16 c.in-Get1Resource.id fits)) refl c.in-Get1Resource.is
+    arm_told tell_fetched true c.fetched-in-Get1Resource.result _ _ _ c.args.call.now _ c.args.names.now
+    (managers c.args.resources.now c.args.heap.now) c.fetched-in-Get1Resource.ensures.tried c.get1_resource.ensures.answer (ap (λ (i : ℤ). telling tell_fetched (rows.noting (rows.get1_resource (big_number 4 c.in-Get1Resource.ty.0) i) (managers c.args.resources.now c.args.heap.now))) (to_z-of_z w16 c.in-Get1Resource.id fits)) refl c.in-Get1Resource.is
 
 pub returns-in-Get1Resource-clause-after : goal.returns-in-Get1Resource-clause-after
 returns-in-Get1Resource-clause-after g c =
     let fits : FitsSigned w16 c.in-Get1Resource.id = search rules in
-    arm_after tell_fetched c.fetched-in-Get1Resource.result _ _ _ c.args.call.now _ c.args.names.now (managers c.args.resources.now c.args.heap.now) c.fetched-in-Get1Resource.ensures.after c.get1_resource.ensures.answer (ap (λ (i : ℤ). telling tell_fetched (rows.noting (rows.get_one_resource (big_number 4 c.in-Get1Resource.ty.0) i) (managers c.args.resources.now c.args.heap.now))) (to_z-of_z w16 c.in-Get1Resource.id fits)) c.in-Get1Resource.is
+    arm_after tell_fetched c.fetched-in-Get1Resource.result _ _ _ c.args.call.now _ c.args.names.now
+    (managers c.args.resources.now c.args.heap.now) c.fetched-in-Get1Resource.ensures.after c.get1_resource.ensures.answer (ap (λ (i : ℤ). telling tell_fetched (rows.noting (rows.get1_resource (big_number 4 c.in-Get1Resource.ty.0) i) (managers c.args.resources.now c.args.heap.now))) (to_z-of_z w16 c.in-Get1Resource.id fits)) c.in-Get1Resource.is
 
 pub returns-in-Count1Types-clause-told : goal.returns-in-Count1Types-clause-told
 returns-in-Count1Types-clause-told g c =

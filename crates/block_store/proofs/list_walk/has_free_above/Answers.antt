@@ -1,7 +1,7 @@
 use Rattle.std.proofs.Common.{◌≡◌, ◌+◌, ◌∙◌, ap, arith, List}
 use Rattle.block_store.specs.Block.{Block, sizes}
 use Rattle.block_store.specs.Run.{segments, has_free}
-use Rattle.block_store.specs.Room.{emptied}
+use Rattle.block_store.specs.Room.{lowest_purged}
 use Rattle.block_store.specs.Sparing.{spared}
 use Rattle.block_store.proofs.Regroup.RunSpots.{above-place, blocks-from, sizes-from}
 use Rattle.block_store.proofs.list_walk.has_free_above.Goals as goal
@@ -18,6 +18,6 @@ pub returns : goal.returns
 returns c =
     let es = c.args.entries.now in
     let test : List Block → _ = λ above. has_free c.args.bytes
-    (emptied c.args.purges (spared c.args.sparing) (segments above).first) in
+    (lowest_purged c.args.purges (spared c.args.sparing) (segments above).first) in
     above-place es c.args.place c.in-Some.i (λ above. c.run_has_free_in.result ≡ test above) c.in-Some.ensures.1
     (c.run_has_free_in.ensures ∙ ap test (c.walk_over.ensures ∙ blocks-from es (c.in-Some.i + 1)))

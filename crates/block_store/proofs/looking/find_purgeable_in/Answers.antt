@@ -1,14 +1,14 @@
 use Rattle.std.proofs.Common.{◌∙◌, sym, ap, arith}
 use Rattle.block_store.specs.Sparing.{spared, opened}
-use Rattle.block_store.proofs.Emptied.Looks.{next_from, next-is, found-here, found-goes, found-stays, found-end}
-use Rattle.block_store.proofs.Walks.Telling.{Told, told, told-none, told-size, told-sizes}
+use Rattle.block_store.proofs.Purged.Looks.{next_from, next-is, found-here, found-goes, found-stays, found-end}
+use Rattle.block_store.proofs.Walks.Telling.{ReadBlock, told, told-none, told-size, told-sizes}
 use Rattle.block_store.proofs.looking.find_purgeable_in.Given.{Over}
-use Rattle.block_store.proofs.looking.find_purgeable_in.Goals.{In-Some, then-may_be_emptied+else-left-eq0}
-use Rattle.block_store.proofs.looking.find_purgeable_in.Goals.{else-may_be_emptied}
+use Rattle.block_store.proofs.looking.find_purgeable_in.Goals.{In-Some, then-may_purge+else-left-eq0}
+use Rattle.block_store.proofs.looking.find_purgeable_in.Goals.{else-may_purge}
 use Rattle.block_store.proofs.looking.find_purgeable_in.Goals as goal
 
 here : (g : Over) (c : In-Some g)
-    → Told (g.W.Walk.rest c.loop-block.walk) c.in-Some.block (g.W.Walk.rest c.next_block.new.self)
+    → ReadBlock (g.W.Walk.rest c.loop-block.walk) c.in-Some.block (g.W.Walk.rest c.next_block.new.self)
 here g c = told (g.W.Walk.rest c.loop-block.walk) (g.W.Walk.rest c.next_block.new.self) c.next_block.result
     c.in-Some.block c.next_block.ensures c.in-Some.is
 
@@ -22,7 +22,7 @@ pub returns-then-left-eq0 : goal.returns-then-left-eq0
 returns-then-left-eq0 g c =
     let t = here g (goal.at.returns-then-left-eq0 g c).In-Some in
     sym (found-here c.args.sparing t.block (g.W.Walk.rest c.next_block.new.self) c.loop-block.place c.loop-block.left
-    (sym (c.may_be_emptied.ensures t.block t.is) ∙ c.if-may_be_emptied.true) c.if-left-eq0.true)
+    (sym (c.may_purge.ensures t.block t.is) ∙ c.if-may_purge.true) c.if-left-eq0.true)
     ∙ ap (λ l. next_from c.loop-block.place (spared c.args.sparing) c.loop-block.left (opened c.args.sparing l))
     (sym t.before_is) ∙ c.loop-block.invariant.above
 
@@ -32,13 +32,13 @@ loop-block-preserved g c =
     let after = g.W.Walk.rest c.next_block.new.self in
     let same = c.size_of_seen-place.ensures ∙ told-size t in
     record {
-      above = elim c.if-may_be_emptied.branch [
-        | then-may_be_emptied+else-left-eq0 w ↦ found-goes c.args.sparing t.block after c.loop-block.place
-            c.loop-block.left c.size_of_seen-place.result c.if-may_be_emptied.left
-            (sym (c.may_be_emptied.ensures t.block t.is) ∙ w.if-may_be_emptied.true) w.if-left-eq0.false same w.left-is
-        | else-may_be_emptied w ↦ found-stays c.args.sparing t.block after c.loop-block.place c.loop-block.left
-            c.size_of_seen-place.result c.if-may_be_emptied.left
-            (sym (c.may_be_emptied.ensures t.block t.is) ∙ w.if-may_be_emptied.false) same w.left-is
+      above = elim c.if-may_purge.branch [
+        | then-may_purge+else-left-eq0 w ↦ found-goes c.args.sparing t.block after c.loop-block.place
+            c.loop-block.left c.size_of_seen-place.result c.if-may_purge.left
+            (sym (c.may_purge.ensures t.block t.is) ∙ w.if-may_purge.true) w.if-left-eq0.false same w.left-is
+        | else-may_purge w ↦ found-stays c.args.sparing t.block after c.loop-block.place c.loop-block.left
+            c.size_of_seen-place.result c.if-may_purge.left
+            (sym (c.may_purge.ensures t.block t.is) ∙ w.if-may_purge.false) same w.left-is
       ] ∙ ap (λ l. next_from c.loop-block.place (spared c.args.sparing) c.loop-block.left (opened c.args.sparing l))
           (sym t.before_is) ∙ c.loop-block.invariant.above;
       bytes = omega (arith, c.size_of_seen-place.ensures, c.loop-block.invariant.bytes, told-sizes t);

@@ -1,9 +1,9 @@
 use Rattle.std.proofs.Common.{◌≡◌, ◌+◌, length}
 use Rattle.std.specs.Option.{option_map}
 use Rattle.block_store.specs.Block.{sizes}
-use Rattle.block_store.specs.Room.{Spot, spot, may_go}
+use Rattle.block_store.specs.Room.{Spot, spot, may_be_purged}
 use Rattle.block_store.specs.Sparing.{spared, opened, purged}
-use Rattle.block_store.proofs.Emptied.Looks.{next_from}
+use Rattle.block_store.proofs.Purged.Looks.{next_from}
 use Rattle.block_store.proofs.looking.find_purgeable_in.Given as goal
 
 -- the search through what is still to come gives the place
@@ -11,7 +11,7 @@ abbrev pub invariant-loop-block : goal.invariant-loop-block
 invariant-loop-block g l = record {
   above : next_from l.place (spared l.sparing) l.left (opened l.sparing (g.W.Walk.rest l.walk))
       ≡ option_map (λ (s : Spot). sizes s.below)
-      (spot (may_go (spared l.sparing)) (purged l.purges l.sparing (g.W.Walk.rest l.initial.walk)));
+      (spot (may_be_purged (spared l.sparing)) (purged l.purges l.sparing (g.W.Walk.rest l.initial.walk)));
   bytes : l.place + sizes (g.W.Walk.rest l.walk) ≡ sizes (g.W.Walk.rest l.initial.walk);
 }
 

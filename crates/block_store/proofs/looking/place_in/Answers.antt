@@ -3,14 +3,14 @@ use Rattle.block_store.specs.Block.{is_relocatable}
 use Rattle.block_store.proofs.Zone.Apart.{apart-tidied}
 use Rattle.block_store.proofs.Zone.Listing.{spot-here}
 use Rattle.block_store.proofs.Zone.Spots.{finds}
-use Rattle.block_store.proofs.Emptied.Looks.{place_from}
-use Rattle.block_store.proofs.Walks.Telling.{Told, told, told-none}
+use Rattle.block_store.proofs.Purged.Looks.{place_from}
+use Rattle.block_store.proofs.Walks.Telling.{ReadBlock, told, told-none}
 use Rattle.block_store.proofs.looking.place_in.Given.{Over}
 use Rattle.block_store.proofs.looking.place_in.Goals.{In-Some}
 use Rattle.block_store.proofs.looking.place_in.Goals as goal
 
 here : (g : Over) (c : In-Some g)
-    → Told (g.W.Walk.rest c.loop-block.walk) c.in-Some.block (g.W.Walk.rest c.next_block.new.self)
+    → ReadBlock (g.W.Walk.rest c.loop-block.walk) c.in-Some.block (g.W.Walk.rest c.next_block.new.self)
 here g c = told (g.W.Walk.rest c.loop-block.walk) (g.W.Walk.rest c.next_block.new.self) c.next_block.result
     c.in-Some.block c.next_block.ensures c.in-Some.is
 

@@ -2,7 +2,7 @@ use Rattle.std.proofs.Common.{◌≡◌, ◌+◌, length}
 use Rattle.std.specs.Option.{option_map}
 use Rattle.block_store.specs.Block.{sizes, is_relocatable}
 use Rattle.block_store.specs.Room.{Spot, spot}
-use Rattle.block_store.proofs.Emptied.Looks.{place_from}
+use Rattle.block_store.proofs.Purged.Looks.{place_from}
 use Rattle.block_store.proofs.looking.place_in.Given as goal
 
 -- the place of the block among what is still to come is that among all

@@ -1,6 +1,6 @@
 use Rattle.std.proofs.Common.{◌≡◌, ◌-◌, ◌∙◌, sym, ap, subst, Option}
 use Rattle.std.specs.Option.{IfSome}
-use Rattle.block_store.specs.Rest.{falling}
+use Rattle.block_store.specs.Rest.{lowered_in_run}
 use Rattle.block_store.specs.Run.{RunSpot}
 use Rattle.block_store.specs.Inner.ListStore.{blocks_of}
 use Rattle.block_store.specs.Inner.Packing.{run_between}
@@ -15,14 +15,15 @@ pack_between-requires-clause-loose c =
     (run_at-parts c.args.place zone r (found-between c.args.entries.now.items _ c.args.place c.run_bounds-start.result.0
     c.run_bounds-start.result.1 c.deref.ensures.value c.run_bounds-start.ensures.run)).loose
 
-pub returns-clause-falls : goal.returns-clause-falls
-returns-clause-falls c =
+pub returns-clause-lowered : goal.returns-clause-lowered
+returns-clause-lowered c =
     let zone = blocks_of c.args.entries.now.items in
     let start = c.run_bounds-start.result.0 in
     let end = c.run_bounds-start.result.1 in
     let found = found-between c.args.entries.now.items _ c.args.place start end c.deref.ensures.value
     c.run_bounds-start.ensures.run in
-    let P : Option RunSpot → Type 0 = λ o. IfSome o (λ (r : RunSpot). c.count_falling-falls.result ≡ falling r.run) in
-    subst P (sym found) (c.count_falling-falls.ensures
-    ∙ ap falling (blocks-part c.args.entries.now.items c.deref-2.result.now start (end - start)
+    let P : Option RunSpot → Type 0 = λ o. IfSome o (λ (r : RunSpot). c.count_lowered-lowered.result ≡ lowered_in_run
+    r.run) in
+    subst P (sym found) (c.count_lowered-lowered.ensures
+    ∙ ap lowered_in_run (blocks-part c.args.entries.now.items c.deref-2.result.now start (end - start)
     c.deref-2.ensures.value))

@@ -1,5 +1,5 @@
 use Rattle.std.proofs.Common.{arith}
-use Rattle.block_store.proofs.Emptied.PurgedSums.{free-purged}
+use Rattle.block_store.proofs.Purged.PurgedSums.{free-purged}
 use Rattle.block_store.proofs.purged_sums.free_after_in.Goals as goal
 
 pub loop-block-init : goal.loop-block-init

@@ -1,7 +1,7 @@
 use Rattle.std.proofs.Common.{◌≡◌, ◌+◌, ◌≤◌, length}
 use Rattle.block_store.specs.Block.{sizes, free_sum}
 use Rattle.block_store.specs.Sparing.{purged}
-use Rattle.block_store.proofs.Emptied.PurgedSums.{free_from}
+use Rattle.block_store.proofs.Purged.PurgedSums.{free_from}
 use Rattle.block_store.proofs.purged_sums.free_after_in.Given as goal
 
 -- the Free bytes so far and those of what is still to come are those of all

@@ -1,6 +1,6 @@
 use Rattle.std.proofs.Common.{◌∙◌, sym, arith}
 use Rattle.std.proofs.Math.Nat.{zero-max}
-use Rattle.block_store.proofs.Emptied.PurgedSums.{largest_from, largest-purged}
+use Rattle.block_store.proofs.Purged.PurgedSums.{largest_from, largest-purged}
 use Rattle.block_store.proofs.purged_sums.largest_after_in.Goals as goal
 
 pub loop-block-init : goal.loop-block-init

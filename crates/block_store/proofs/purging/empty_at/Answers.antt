@@ -1,15 +1,15 @@
 use Rattle.std.proofs.Common.{◌≡◌, ◌∙◌, ◌+◌, ◌++◌, ◌∷◌, ◌&&◌, nat_lt, take, drop, sym, ap, arith}
 use Rattle.std.proofs.lemmas.List.{take-append-drop}
 use Rattle.block_store.specs.Block.{Free, sizes}
-use Rattle.block_store.specs.Room.{may_go}
+use Rattle.block_store.specs.Room.{may_be_purged}
 use Rattle.block_store.specs.Sparing.{spared}
 use Rattle.block_store.specs.Inner.ListStore.{blocks_of, block_of}
 use Rattle.block_store.specs.declared.entries.StoredBlock.TheVariants as entry
 use Rattle.block_store.proofs.Zone.Listing.{entry_fits, drop-blocks}
 use Rattle.block_store.proofs.Zone.Spots.{blocks-set, sizes-same}
-use Rattle.block_store.proofs.Emptied.Purges.{emptied-goes, emptied-stays, and-false}
+use Rattle.block_store.proofs.Purged.Purges.{emptied-goes, lowest_purged-stays, and-false}
 use Rattle.block_store.proofs.purging.empty_at.Goals as goal
-use Rattle.block_store.proofs.purging.empty_at.Goals.{else-left-gt0-via-then-left-gt0+else-may_go_at}
+use Rattle.block_store.proofs.purging.empty_at.Goals.{else-left-gt0-via-then-left-gt0+else-may_purge_at}
 use Rattle.block_store.proofs.purging.empty_at.Goals.{else-left-gt0-via-else-left-gt0}
 
 pub entry_size-bytes-requires : goal.entry_size-bytes-requires
@@ -19,19 +19,19 @@ entry_size-bytes-requires c = omega (
   entry_fits c.args.entries.now.items c.args.i c.index-entry.result.now (omega arith) c.index-entry.ensures,
 )
 
-pub returns-then-may_go_at-clause-blocks : goal.returns-then-may_go_at-clause-blocks
-returns-then-may_go_at-clause-blocks c =
+pub returns-then-may_purge_at-clause-blocks : goal.returns-then-may_purge_at-clause-blocks
+returns-then-may_purge_at-clause-blocks c =
     let es = c.args.entries.now.items in
     let bs = blocks_of es in
     let i = c.args.i in
     let e = c.index-entry.result.now in
     emptied-goes (spared c.args.sparing) bs _ i c.args.left (block_of e) c.if-left-gt0.true
-    (drop-blocks es i e (omega arith) c.index-entry.ensures) (sym c.may_go_at.ensures ∙ c.if-may_go_at.true)
+    (drop-blocks es i e (omega arith) c.index-entry.ensures) (sym c.may_purge_at.ensures ∙ c.if-may_purge_at.true)
     (blocks-set es i (entry.Free c.entry_size-bytes.result) (omega arith)
     ∙ ap (λ n. take i bs ++ Free n ∷ drop (i + 1) bs) c.entry_size-bytes.ensures)
 
-pub returns-then-may_go_at-clause-bytes : goal.returns-then-may_go_at-clause-bytes
-returns-then-may_go_at-clause-bytes c =
+pub returns-then-may_purge_at-clause-bytes : goal.returns-then-may_purge_at-clause-bytes
+returns-then-may_purge_at-clause-bytes c =
     let es = c.args.entries.now.items in
     let bs = blocks_of es in
     let i = c.args.i in
@@ -45,11 +45,11 @@ pub returns-else-left-gt0-clause-blocks : goal.returns-else-left-gt0-clause-bloc
 returns-else-left-gt0-clause-blocks c =
     let es = c.args.entries.now.items in
     let e = c.index-entry.result.now in
-    emptied-stays (spared c.args.sparing) (blocks_of es) c.args.i c.args.left (block_of e)
+    lowest_purged-stays (spared c.args.sparing) (blocks_of es) c.args.i c.args.left (block_of e)
     (drop-blocks es c.args.i e (omega arith) c.index-entry.ensures)
     (elim c.else-left-gt0.branch [
-      | else-left-gt0-via-then-left-gt0+else-may_go_at w ↦ and-false (nat_lt 0 c.args.left)
-          (may_go (spared c.args.sparing) (block_of e)) (sym w.may_go_at.ensures ∙ w.if-may_go_at.false)
-      | else-left-gt0-via-else-left-gt0 w ↦ ap (λ n. nat_lt 0 n && may_go (spared c.args.sparing) (block_of e))
+      | else-left-gt0-via-then-left-gt0+else-may_purge_at w ↦ and-false (nat_lt 0 c.args.left)
+          (may_be_purged (spared c.args.sparing) (block_of e)) (sym w.may_purge_at.ensures ∙ w.if-may_purge_at.false)
+      | else-left-gt0-via-else-left-gt0 w ↦ ap (λ n. nat_lt 0 n && may_be_purged (spared c.args.sparing) (block_of e))
           (let z : c.args.left ≡ 0 = omega (arith, w.if-left-gt0.false) in z)
     ])

@@ -1,16 +1,16 @@
 use Rattle.std.proofs.Common.{◌≡◌, ◌++◌, take, drop, length}
 use Rattle.block_store.specs.Block.{sizes}
-use Rattle.block_store.specs.Room.{emptied}
+use Rattle.block_store.specs.Room.{lowest_purged}
 use Rattle.block_store.specs.Sparing.{spared}
 use Rattle.block_store.specs.Inner.ListStore.{blocks_of}
 use Rattle.block_store.proofs.purging.empty_from.Given as goal
 
--- the entries so far, followed by the rest with those emptied that are left to go, are all
+-- the entries so far, followed by the rest with those purged that are left to go, are all
 abbrev pub invariant-loop-i : goal.invariant-loop-i
 invariant-loop-i l = record {
-  blocks : take l.i (blocks_of l.entries.items) ++ emptied l.left (spared l.sparing)
+  blocks : take l.i (blocks_of l.entries.items) ++ lowest_purged l.left (spared l.sparing)
       (drop l.i (blocks_of l.entries.items)) ≡ take l.from (blocks_of l.initial.entries.items)
-      ++ emptied l.purges (spared l.sparing) (drop l.from (blocks_of l.initial.entries.items));
+      ++ lowest_purged l.purges (spared l.sparing) (drop l.from (blocks_of l.initial.entries.items));
   bytes : sizes (blocks_of l.entries.items) ≡ sizes (blocks_of l.initial.entries.items);
   many : length l.entries.items ≡ length l.initial.entries.items;
 }

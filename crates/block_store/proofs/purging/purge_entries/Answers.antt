@@ -1,7 +1,7 @@
 use Rattle.std.proofs.Common.{◌∙◌, ap, arith}
 use Rattle.block_store.specs.Block.{sizes}
 use Rattle.block_store.specs.Inner.ListStore.{blocks_of}
-use Rattle.block_store.proofs.Emptied.Purges.{sizes-opened}
+use Rattle.block_store.proofs.Purged.Purges.{sizes-opened}
 use Rattle.block_store.proofs.purging.purge_entries.Goals as goal
 
 pub empty_from-requires-clause-fits : goal.empty_from-requires-clause-fits

@@ -1,5 +1,5 @@
 use Rattle.std.proofs.Common.{arith}
-use Rattle.block_store.proofs.Emptied.Stretches.{stretch-is}
+use Rattle.block_store.proofs.Purged.Stretches.{stretch-is}
 use Rattle.block_store.proofs.stretch.find_room_in.Goals as goal
 
 pub loop-block-init : goal.loop-block-init

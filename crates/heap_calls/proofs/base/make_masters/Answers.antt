@@ -3,7 +3,7 @@ use Rattle.block_store.specs.Block.{Masters, is_fixed}
 use Rattle.block_store.specs.Run.{has}
 use Rattle.heap_calls.proofs.Numbering.Changing.{fixed-carved}
 use Rattle.heap_calls.proofs.NewBlocks.NewSlots.{masters-none, masters-some, made-some, made-none, base-wide}
-use Rattle.heap_calls.proofs.Room.Seats.{at_none}
+use Rattle.heap_calls.proofs.Room.Placements.{at_none}
 use Rattle.heap_calls.proofs.base.make_masters.Goals as goal
 
 pub returns-in_ok-add_masters-clause-made : goal.returns-in_ok-add_masters-clause-made

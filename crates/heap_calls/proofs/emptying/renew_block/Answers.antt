@@ -1,7 +1,7 @@
 use Rattle.std.proofs.Common.{◌≡◌, Some, None, Option, ℕ, sym, ◌∙◌, ap, refl, subst, is_some}
 use Rattle.std.specs.Option.{MatchOption}
 use Rattle.heap_calls.specs.Inner.Loose.{renewed}
-use Rattle.heap_calls.proofs.Room.Seats.{at_none}
+use Rattle.heap_calls.proofs.Room.Placements.{at_none}
 use Rattle.heap_calls.proofs.NewBlocks.Renewing.{renewed_searches-is, renewed-none, renew-room, renew-gone}
 use Rattle.heap_calls.proofs.NewBlocks.Renewing.{renewed-some}
 use Rattle.mac_words.specs.Size.{padded}

@@ -5,7 +5,7 @@ use Rattle.heap_calls.specs.Inner.Filling.{refilled}
 use Rattle.heap_calls.specs.Inner.Loose.{renewed}
 use Rattle.heap_calls.proofs.Filled.Refilled.{refilled_searches-is, refilled_moves-is, not-refilled, renewed-fresh}
 use Rattle.heap_calls.proofs.Filled.Refilled.{refilled-done}
-use Rattle.heap_calls.proofs.Room.Seats.{at_none}
+use Rattle.heap_calls.proofs.Room.Placements.{at_none}
 use Rattle.heap_calls.proofs.Room.Staying.{fixed-then}
 use Rattle.heap_calls.proofs.filling.refill_block.Given.{Over}
 use Rattle.heap_calls.proofs.filling.refill_block.Goals.{In-Some}

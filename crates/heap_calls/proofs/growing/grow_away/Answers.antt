@@ -11,30 +11,30 @@ use Rattle.heap_calls.proofs.growing.grow_away.Goals as goal
 
 pub move_to-requires-clause-room : goal.move_to-requires-clause-room
 move_to-requires-clause-room g c =
-    let packed = c.pack_seat-place in
+    let packed = c.pack_placement-place in
     away-room c.args.number c.args.size c.args.bytes (g.S.BlockStore.zone c.args.store.now)
-    (g.S.BlockStore.zone packed.new.store) packed.result (Some c.args.seat) c.requires.takes c.requires.found
+    (g.S.BlockStore.zone packed.new.store) packed.result (Some c.args.placement) c.requires.takes c.requires.found
     packed.ensures.place packed.ensures.blocks
 
 pub move_to-requires-clause-block : goal.move_to-requires-clause-block
 move_to-requires-clause-block g c =
-    let packed = c.pack_seat-place in
+    let packed = c.pack_placement-place in
     away-block c.args.number c.args.size c.args.bytes (g.S.BlockStore.zone c.args.store.now)
-    (g.S.BlockStore.zone packed.new.store) packed.result (Some c.args.seat) c.requires.takes c.requires.found
+    (g.S.BlockStore.zone packed.new.store) packed.result (Some c.args.placement) c.requires.takes c.requires.found
     packed.ensures.place packed.ensures.blocks
 
 pub returns-clause-ok : goal.returns-clause-ok
 returns-clause-ok g c =
-    let packed = c.pack_seat-place in
+    let packed = c.pack_placement-place in
     on_ok_weaker c.move_to.result
     (away-done c.args.number c.args.size c.args.bytes (g.S.BlockStore.zone c.args.store.now)
-    (g.S.BlockStore.zone packed.new.store) packed.result (Some c.args.seat) c.requires.takes c.requires.found
+    (g.S.BlockStore.zone packed.new.store) packed.result (Some c.args.placement) c.requires.takes c.requires.found
     packed.ensures.place packed.ensures.blocks (g.S.BlockStore.zone c.move_to.new.self))
     c.move_to.ensures.ok
 
 pub returns-clause-fixed : goal.returns-clause-fixed
 returns-clause-fixed g c =
-    let packed = c.pack_seat-place in
+    let packed = c.pack_placement-place in
     fixed-carried c.move_to.result c.args.number c.args.size (g.S.BlockStore.zone c.args.store.now)
     (g.S.BlockStore.zone packed.new.store) (g.S.BlockStore.zone c.move_to.new.self) (returns-clause-ok g c)
     packed.ensures.fixed c.move_to.ensures.err
@@ -44,6 +44,6 @@ returns-clause-moves g c =
     let zone = g.S.BlockStore.zone c.args.store.now in
     let rest = g.S.BlockStore.rest c.args.store.now in
     let t = is_relocatable c.args.number in
-    c.move_to.ensures.rest.moves ∙ c.pack_seat-place.ensures.moves
-    ∙ ap (counted rest.moves) (sym (away-moves t (grown c.args.size (spot t zone)) zone c.args.bytes c.args.seat
+    c.move_to.ensures.rest.moves ∙ c.pack_placement-place.ensures.moves
+    ∙ ap (counted rest.moves) (sym (away-moves t (grown c.args.size (spot t zone)) zone c.args.bytes c.args.placement
     c.requires.takes c.requires.positive c.requires.found))

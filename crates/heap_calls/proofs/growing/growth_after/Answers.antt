@@ -17,7 +17,7 @@ returns-in-Some g c =
     away-found (is_relocatable c.args.number) (grown c.args.size
     (spot (is_relocatable c.args.number) (g.S.BlockStore.zone c.args.store.now)))
     (purged c.args.purges c.args.sparing (g.S.BlockStore.zone c.args.store.now)) c.args.more c.room_above.result
-    c.requires.more c.room_above.ensures c.args.bytes c.in-Some.seat c.requires.takes c.if-room_above.false
+    c.requires.more c.room_above.ensures c.args.bytes c.in-Some.placement c.requires.takes c.if-room_above.false
     c.in-Some.ensures
 
 pub returns-in_default-run_of : goal.returns-in_default-run_of

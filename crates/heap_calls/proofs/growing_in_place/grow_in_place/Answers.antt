@@ -8,7 +8,7 @@ use Rattle.block_store.specs.Grow.{grow_up, grow_fixed, growth}
 use Rattle.block_store.specs.Sparing.{spared}
 use Rattle.heap_calls.specs.Inner.GrowingInPlace.{FindsPurges, enough, pushed_up}
 use Rattle.heap_calls.specs.Searches.{room_searches, in_place_searches}
-use Rattle.heap_calls.proofs.Sizes.GrowingInPlace.{looks-up, looks-run, Grows, grows, spot_if, some_if, spot_and}
+use Rattle.heap_calls.proofs.Sizes.GrowingInPlace.{searches-up, searches-run, Grows, grows, spot_if, some_if, spot_and}
 use Rattle.heap_calls.proofs.Sizes.GrowingInPlace.{spot-small, up-allowed, grown-up, grown-none, pushed, pushed-allowed}
 use Rattle.heap_calls.proofs.Sizes.GrowingInPlace.{grown-pushed, spot_at-above, phys-fits}
 use Rattle.block_store.specs.Block.{is_fixed}
@@ -145,18 +145,18 @@ returns-then-has_room_at-clause-searches g c =
     c.has_room_at.result c.requires.still c.requires.grows c.bytes_at-taken.ensures c.padded_size-wanted.ensures
     c.has_room_at.ensures in
     some_if (spot_at c.args.place zone) k.s (λ s. 1 ≡ in_place_searches sp (resized c.args.bytes s.here) s) k.at
-    (looks-up sp (resized c.args.bytes k.s.here) k.s (sym k.up_is ∙ c.if-has_room_at.true))
+    (searches-up sp (resized c.args.bytes k.s.here) k.s (sym k.up_is ∙ c.if-has_room_at.true))
 
 -- the looks at the run above
-looked : (place : ℕ) (zone : List Block) (n more : ℕ) (up : Bool) (k : Grows place zone n more up) (sp : Block → Bool)
+searched : (place : ℕ) (zone : List Block) (n more : ℕ) (up : Bool) (k : Grows place zone n more up) (sp : Block → Bool)
     (looks : ℕ) → up ≡ false
     → IfSome (spot_at place zone) (λ s. looks ≡ room_searches (enough more) sp (segments s.above).first)
     → IfSome (spot_at place zone) (λ s. looks ≡ in_place_searches sp (resized n s.here) s)
-looked place zone n more up k sp looks none h =
+searched place zone n more up k sp looks none h =
     let is : looks ≡ room_searches (enough more) sp (segments k.s.above).first =
     spot_if (spot_at place zone) k.s (λ s. looks ≡ room_searches (enough more) sp (segments s.above).first) k.at h in
     some_if (spot_at place zone) k.s (λ s. looks ≡ in_place_searches sp (resized n s.here) s) k.at
-    (looks-run sp (resized n k.s.here) k.s looks (sym k.up_is ∙ none)
+    (searches-run sp (resized n k.s.here) k.s looks (sym k.up_is ∙ none)
     (is ∙ ap (λ d. room_searches (enough d) sp (segments k.s.above).first) k.more_is))
 
 pub returns-in_default-clause-searches : goal.returns-in_default-clause-searches
@@ -166,7 +166,7 @@ returns-in_default-clause-searches g c =
     let k = grows c.args.place zone c.args.bytes c.bytes_at-taken.result c.padded_size-wanted.result
     c.has_room_at.result c.requires.still c.requires.grows c.bytes_at-taken.ensures c.padded_size-wanted.ensures
     c.has_room_at.ensures in
-    looked c.args.place zone c.args.bytes more c.has_room_at.result k (spared c.args.sparing)
+    searched c.args.place zone c.args.bytes more c.has_room_at.result k (spared c.args.sparing)
     c.least_purges-fewest.result.searches c.if-has_room_at.false c.least_purges-fewest.ensures.searches
 
 pub returns-clause-searches : goal.returns-clause-searches
@@ -176,7 +176,7 @@ returns-clause-searches g c =
     let k = grows c.args.place zone c.args.bytes c.bytes_at-taken.result c.padded_size-wanted.result
     c.has_room_at.result c.requires.still c.requires.grows c.bytes_at-taken.ensures c.padded_size-wanted.ensures
     c.has_room_at.ensures in
-    looked c.args.place zone c.args.bytes more c.has_room_at.result k (spared c.args.sparing)
+    searched c.args.place zone c.args.bytes more c.has_room_at.result k (spared c.args.sparing)
     c.least_purges-fewest.result.searches c.if-has_room_at.false c.least_purges-fewest.ensures.searches
 
 pub returns-then-has_room_at-clause-fixed : goal.returns-then-has_room_at-clause-fixed

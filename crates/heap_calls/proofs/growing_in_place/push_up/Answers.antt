@@ -6,7 +6,7 @@ use Rattle.block_store.specs.Run.{has, run_at, with_run, low}
 use Rattle.block_store.specs.Room.{spot_at}
 use Rattle.block_store.specs.Sparing.{spared}
 use Rattle.heap_calls.specs.Inner.GrowingInPlace.{pushed_up}
-use Rattle.heap_calls.proofs.Sizes.GrowingInPlace.{EmptiedAbove, emptied_above, spot-small}
+use Rattle.heap_calls.proofs.Sizes.GrowingInPlace.{PurgedAbove, purged_above, spot-small}
 use Rattle.heap_calls.proofs.Numbering.Changing.{spot_at-is}
 use Rattle.heap_calls.proofs.Room.Staying.{fixed-raised, fixed-above_emptied}
 use Rattle.heap_calls.proofs.growing_in_place.push_up.Given.{Over}
@@ -14,11 +14,11 @@ use Rattle.heap_calls.proofs.growing_in_place.push_up.Goals.{After-purge_after}
 use Rattle.heap_calls.proofs.growing_in_place.push_up.Goals as goal
 
 -- the block, with the run above it emptied
-above : (g : Over) (c : After-purge_after g) → EmptiedAbove c.args.place c.args.taken c.args.bytes c.args.purges
+above : (g : Over) (c : After-purge_after g) → PurgedAbove c.args.place c.args.taken c.args.bytes c.args.purges
     (spared c.args.sparing) (g.S.BlockStore.zone c.args.store.now) (g.S.BlockStore.zone c.purge_after.new.self)
 above g c =
     let store = c.args.store.now in
-    emptied_above c.args.place c.args.taken c.args.bytes c.args.purges (spared c.args.sparing)
+    purged_above c.args.place c.args.taken c.args.bytes c.args.purges (spared c.args.sparing)
     (g.S.BlockStore.zone store) (g.S.BlockStore.zone c.purge_after.new.self)
     (g.met.S.BlockStore.tidied store) c.requires.still c.requires.room c.purge_after.ensures.zone
 

@@ -23,8 +23,8 @@ returns-clause-tidied g c =
     subst P c.heap.view_is (tidy-rename f h (g.S.BlockStore.zone a.store)
     ∙ ap (rename f h) (g.met.S.BlockStore.tidied a.store))
 
-pub returns-clause-looks : goal.returns-clause-looks
-returns-clause-looks g c =
+pub returns-clause-searches : goal.returns-clause-searches
+returns-clause-searches g c =
     let a = c.heap.inside in
     let P : Memory → Type 0 = λ m. 0 < count is_masters m.heap.zone in
     λ asked. try_few asked c.args.heap.now (subst P c.heap.view_is (some-masters (g.S.BlockStore.zone a.store)

@@ -5,7 +5,7 @@ use Rattle.block_store.specs.Run.{has}
 use Rattle.block_store.specs.Rest.{KeepsSlots}
 use Rattle.heap_calls.specs.Inner.NewBlock.{IsAdded, fresh_block}
 use Rattle.heap_calls.proofs.Numbering.Changing.{phys-some, fixed-carved}
-use Rattle.heap_calls.proofs.Room.Seats.{no_seat-no_room, carve-room, carved-put, at_none, kept-back}
+use Rattle.heap_calls.proofs.Room.Placements.{no_placement-no_room, carve-room, carved-put, at_none, kept-back}
 use Rattle.std.proofs.lemmas.Bool.{cond-false}
 use Rattle.block_store.specs.Rest.{counted}
 use Rattle.heap_calls.specs.Inner.Packed.{content_moves}
@@ -23,7 +23,7 @@ returns-in_default-place-clause-added g c =
     let P : Option ℕ → Type 0 = λ o. IsAdded c.args.sparing c.args.slot c.args.size zone rest o
     (g.S.BlockStore.zone back.new.self) (g.S.BlockStore.rest back.new.self) in
     let done : P None = (
-      inr (no_seat-no_room c.args.size c.in-Some.bytes fits.1 c.args.sparing zone zone1 room.result.place
+      inr (no_placement-no_room c.args.size c.in-Some.bytes fits.1 c.args.sparing zone zone1 room.result.place
           c.in_default-place.is room.ensures.place c.args.slot),
       back.ensures.zone ∙ at_none room.result.place _ _ c.in_default-place.is room.ensures.none,
       kept-back rest (g.S.BlockStore.rest room.new.store) (g.S.BlockStore.rest back.new.self) c.args.slot

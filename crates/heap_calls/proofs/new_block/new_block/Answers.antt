@@ -2,7 +2,7 @@ use Rattle.std.proofs.Common.{inr, ◌∙◌, ℕ, Option, Some, None, sym, ap, 
 use Rattle.heap_calls.proofs.NewBlocks.NewSlots.{only-slot}
 use Rattle.block_store.specs.Rest.{counted}
 use Rattle.heap_calls.specs.Inner.NewBlock.{ready_count}
-use Rattle.heap_calls.specs.Inner.NewSlot.{IsSlot}
+use Rattle.heap_calls.specs.Inner.NewSlot.{TakesSlot}
 use Rattle.heap_calls.specs.Inner.Packed.{content_moves, new_moves}
 use Rattle.heap_calls.proofs.Room.MoveCounts.{packs-none, packs-after}
 use Rattle.heap_calls.specs.Inner.Packed.{Packs}
@@ -34,7 +34,7 @@ returns-in_default-clause-moves g c =
     let rest = g.S.BlockStore.rest c.args.store.now in
     let zone' = g.S.BlockStore.zone c.make_slot.new.store in
     let rest' = g.S.BlockStore.rest c.make_slot.new.store in
-    let P : Option ℕ → Type 0 = λ o. IsSlot c.args.sparing zone rest o zone' rest' in
+    let P : Option ℕ → Type 0 = λ o. TakesSlot c.args.sparing zone rest o zone' rest' in
     let none : P None = subst P c.in_default.is c.in_ok-taken.ensures.slot in
     packs-none rest rest' (new_moves c.args.sparing c.args.size rest.unused zone)
     c.make_slot.ensures.moves (ap (λ o. ready_count o (content_moves c.args.sparing c.args.size)) none.0)
@@ -48,7 +48,8 @@ packed g c =
     let rest = g.S.BlockStore.rest c.args.store.now in
     let zone1 = g.S.BlockStore.zone c.make_slot.new.store in
     let rest1 = g.S.BlockStore.rest c.make_slot.new.store in
-    let P : Option ℕ → Type 0 = λ o. IsSlot c.args.sparing (g.S.BlockStore.zone c.args.store.now) rest o zone1 rest1 in
+    let P : Option ℕ → Type 0 = λ o. TakesSlot c.args.sparing (g.S.BlockStore.zone c.args.store.now) rest o zone1
+    rest1 in
     let taken : P (Some c.in-Some.slot) = subst P c.in-Some.is c.in_ok-taken.ensures.slot in
     packs-after rest rest1 (g.S.BlockStore.rest c.add_block.new.store) (content_moves c.args.sparing c.args.size zone1)
     c.make_slot.ensures.moves c.add_block.ensures.moves

@@ -8,7 +8,7 @@ use Rattle.heap_calls.proofs.Numbering.Answering.{at_place}
 use Rattle.heap_calls.proofs.Numbering.Changing.{phys-some, fixed-at}
 use Rattle.heap_calls.proofs.Sizes.GrowingInPlace.{spot_and}
 use Rattle.heap_calls.proofs.Room.Staying.{fixed-filled, alike-resized}
-use Rattle.heap_calls.proofs.Sizes.Resizing.{grown-done, looks-still}
+use Rattle.heap_calls.proofs.Sizes.Resizing.{grown-done, searches-still}
 use Rattle.heap_calls.proofs.Sizes.PointerSizes.{stands, sizes-are, fitted-done}
 use Rattle.heap_calls.proofs.pointer_sizing.fit_fixed.Goals as goal
 
@@ -67,6 +67,6 @@ returns-clause-searches g c =
     let sizes = sizes-are c.args.place c.args.size c.in-Some.bytes c.bytes_at.result zone s c.requires.2 fixed
     (sym c.phys.ensures ∙ c.in-Some.is) c.bytes_at.ensures in
     let fits = phys-some c.args.size c.in-Some.bytes (sym c.phys.ensures ∙ c.in-Some.is) in
-    looks-still (is_fixed c.args.place) nothing c.args.size c.args.place zone c.grow_in_place.result s c.requires.1
+    searches-still (is_fixed c.args.place) nothing c.args.size c.args.place zone c.grow_in_place.result s c.requires.1
     c.requires.2 (stands c.args.place s.here fixed).0 fits.0
     (omega (arith, sizes.0, sizes.1, c.if-bytes-bytes_at.false)) c.grow_in_place.ensures.searches

@@ -5,7 +5,7 @@ use Rattle.block_store.specs.Sparing.{spared}
 use Rattle.block_store.specs.Run.{has, in_run}
 use Rattle.block_store.specs.Room.{Spot, filled}
 use Rattle.heap_calls.proofs.Numbering.Answering.{at_place}
-use Rattle.heap_calls.proofs.Sizes.Resizing.{stands-still, moves, looks-still, looks-moved, is-to-grow, is-to-fit}
+use Rattle.heap_calls.proofs.Sizes.Resizing.{stands-still, moves, searches-still, searches-moved, is-to-grow, is-to-fit}
 use Rattle.heap_calls.proofs.Sizes.Resizing.{grown-done}
 use Rattle.heap_calls.proofs.Numbering.Changing.{fixed-at}
 use Rattle.heap_calls.proofs.Room.Staying.{fixed-filled, alike-resized}
@@ -49,7 +49,7 @@ returns-clause-searches g c =
     c.block_at.ensures c.can_move.ensures c.if-can_move.false in
     let more = is-to-grow c.args.slot c.args.size c.in-Some.bytes c.bytes_of.result zone k.0 k.1
     (sym c.phys.ensures ∙ c.in-Some.is) c.bytes_of.ensures c.if-bytes-bytes_of.false in
-    looks-still (is_relocatable c.args.slot) (spared c.args.sparing) c.args.size c.args.place zone
+    searches-still (is_relocatable c.args.slot) (spared c.args.sparing) c.args.size c.args.place zone
     c.grow_in_place.result k.0 k.1 k.2 k.3 c.requires.fits more c.grow_in_place.ensures.searches
 
 pub returns-then-can_move-clause-searches : goal.returns-then-can_move-clause-searches
@@ -59,7 +59,8 @@ returns-then-can_move-clause-searches g c =
     c.can_move.ensures c.if-can_move.true in
     let more = is-to-grow c.args.slot c.args.size c.in-Some.bytes c.bytes_of.result zone k.0 k.1
     (sym c.phys.ensures ∙ c.in-Some.is) c.bytes_of.ensures c.if-bytes-bytes_of.false in
-    looks-moved (is_relocatable c.args.slot) (spared c.args.sparing) c.args.size zone c.grow_movable.result k.0 k.1 k.2
+    searches-moved (is_relocatable c.args.slot) (spared c.args.sparing) c.args.size zone c.grow_movable.result k.0 k.1
+    k.2
     c.requires.fits more c.grow_movable.ensures.searches
 
 pub returns-then-bytes-bytes_of-clause-fixed : goal.returns-then-bytes-bytes_of-clause-fixed

@@ -26,7 +26,7 @@ use types.Part.{sub, whole}
 use types.Run.{enter, returns, of_opd, fld, stop}
 use Rattle.raw_region.specs.Ownership.{run_owns}
 use Rattle.raw_region.specs.contracts.raw.Frame as F
-use Rattle.raw_region.specs.contracts.raw.Run as R
+use Rattle.raw_region.specs.contracts.raw.OwnBytes as R
 use Rattle.raw_region.specs.contracts.raw.attach as f
 use Rattle.raw_region.proofs.Frames.{Owned, owned-laws}
 use Rattle.raw_region.proofs.Leaving.{all_gone}

@@ -26,9 +26,9 @@ use types.Part.{agg}
 use types.Run.{enter, returns, of_opd, no_more, and_then}
 use Rattle.raw_region.specs.Ownership.{run_owns}
 use Rattle.raw_region.specs.contracts.raw.Frame as F
-use Rattle.raw_region.specs.contracts.raw.Run as R
+use Rattle.raw_region.specs.contracts.raw.OwnBytes as R
 use Rattle.raw_region.specs.contracts.raw.detach as f
-use Rattle.raw_region.specs.declared.raw.Run.{Run}
+use Rattle.raw_region.specs.declared.raw.OwnBytes.{OwnBytes}
 use Rattle.raw_region.proofs.Frames.{Owned, owned-laws, extent_of, framed}
 use Rattle.raw_region.proofs.Leaving.{all_gone, shown}
 use Rattle.raw_region.proofs.Runs.{here}
@@ -43,7 +43,7 @@ detach_spec 𝓤 𝓛 𝓜 𝓡 wired =
     let gone = Goes-blank 𝓛 0 (plain (λ _. Owned)) yes (λ κs x f. tt) in
     proved_at 𝓛 f.ended stayed c 𝓜 𝓡 (gone, tt) f.Key.name code.function (code.unfolded 𝓤 𝓛.H 𝓜 𝓡 wired) (λ y are.
     let v = y.0.3.0 in let vss = y.0.4 in let Some = 0 < v.len in let Post = (walk_of 𝓛 f.ended stayed c).post y in
-    let run : Run = record { home = v.ptr; at = 0; items = v.items } in
+    let run : OwnBytes = record { home = v.ptr; at = 0; items = v.items } in
     qed 𝓛 ((raw (alive 𝓛 f.signature y.0.0 y.0.1) ⊛ ‵ (owns (types_at f.signature.params y.0.0) y.0.3 vss))
     ∷ raw (fact 𝓤 Some) ∷ []) ∵
     move ! (1 ∷ []) $ heard ! Some (λ some. split ! $ move ! (1 ∷ []) $

@@ -33,7 +33,7 @@ use types.Kit.{split}
 use types.Kit.{split3, join, pick, await, fsplit, fjoin, feq_l, feq_i, flt_l, flt_i, regoal, rewrite, use0, use1}
 use types.Run.{enter, returns, of_opd, no_more, and_then, first, blocks, exec}
 use Rattle.raw_region.specs.Ownership.{run_owns}
-use Rattle.raw_region.specs.contracts.raw.Run as R
+use Rattle.raw_region.specs.contracts.raw.OwnBytes as R
 use Rattle.raw_region.specs.contracts.raw.house as f
 use Rattle.raw_region.proofs.Blocks.{housed}
 use Rattle.raw_region.proofs.Frames.{byte_laws}

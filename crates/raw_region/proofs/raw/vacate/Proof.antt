@@ -35,7 +35,7 @@ use types.Part.{agg}
 use types.Run.{enter, returns, of_opd, no_more, and_then}
 use Rattle.raw_region.specs.Ownership.{run_owns}
 use Rattle.raw_region.specs.contracts.raw.vacate as f
-use Rattle.raw_region.specs.declared.raw.Run.{Run}
+use Rattle.raw_region.specs.declared.raw.OwnBytes.{OwnBytes}
 use Rattle.raw_region.proofs.Blocks.{vacated}
 use Rattle.raw_region.proofs.Frames.{byte_laws}
 use Rattle.raw_region.proofs.Leaving.{all_gone, shown}
@@ -56,7 +56,7 @@ vacate_spec 𝓤 𝓛 𝓜 𝓡 wired =
     (code.unfolded 𝓤 𝓛.H 𝓜 𝓡 wired) (λ y are.
     let d = y.0.3.0 in let p = y.0.3.1.0 in let n = y.0.3.1.1.0 in let vss = y.0.4 in
     let Some = 0 < d.len in let There = d.ptr ≡ p +ₚ n in let Post = (walk_of 𝓛 f.ended stayed c).post y in
-    let made : Run = record { home = p; at = n; items = d.items } in
+    let made : OwnBytes = record { home = p; at = n; items = d.items } in
     qed 𝓛 ((raw (alive 𝓛 f.signature y.0.0 y.0.1) ⊛ ‵ (owns (types_at f.signature.params y.0.0) y.0.3 vss))
     ∷ (raw (fact 𝓤 Some) ⊛ raw (fact 𝓤 There)) ∷ []) ∵
     move ! (1 ∷ []) $ split ! $ heard ! Some (λ full. heard ! There (λ there. split ! $ move ! (1 ∷ []) $

@@ -1,6 +1,6 @@
 use Rattle.std.proofs.Common.{◌∙◌, ap, map}
 use Rattle.res_map.specs.Map.{Reference}
-use Rattle.res_map.specs.View.{view_entry}
+use Rattle.res_map.specs.View.{view_lent}
 use Rattle.res_calls.specs.Places.{found_at}
 use Rattle.res_calls.specs.View.{view_open}
 use Rattle.res_calls.proofs.Fetches.{here_of, fetch_none, fetch_some}
@@ -9,7 +9,7 @@ use Rattle.res_calls.proofs.fetching.fetch_in.Goals as goal
 pub returns-in-None-clause-answer : goal.returns-in-None-clause-answer
 returns-in-None-clause-answer g c = λ r f e.
     let here = here_of (found_at c.args.at (map view_open c.args.files.now.items)) f
-    (view_entry c.entry_at-entry.result) e
+    (view_lent c.entry_at-entry.result) e
     (rw c.deref.ensures.value at c.entry_at-entry.ensures) in
     fetch_none c.args.loading f _ c.fetch_new.result _ (ap (λ (x : Reference). x.handle) here ∙ c.in-None.is)
     (c.fetch_new.ensures.answer r f e)
@@ -17,7 +17,7 @@ returns-in-None-clause-answer g c = λ r f e.
 pub returns-in-Some-clause-answer : goal.returns-in-Some-clause-answer
 returns-in-Some-clause-answer g c = λ r f e.
     let here = here_of (found_at c.args.at (map view_open c.args.files.now.items)) f
-    (view_entry c.entry_at-entry.result) e
+    (view_lent c.entry_at-entry.result) e
     (rw c.deref.ensures.value at c.entry_at-entry.ensures) in
     fetch_some c.args.loading f _ c.fetch_again.result _ c.in-Some.handle
     (ap (λ (x : Reference). x.handle) here ∙ c.in-Some.is) (c.fetch_again.ensures.answer _ f here)

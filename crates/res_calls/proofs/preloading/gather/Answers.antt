@@ -1,7 +1,7 @@
 use Rattle.std.proofs.Common.{◌+◌, rules, ◌∙◌, ◌≡◌, sym, List, map, ◌++◌, drop}
 use Rattle.heap_calls.specs.declared.filling.Filling.{Filling}
 use Rattle.heap_calls.specs.Inner.Filling.{wanted_as}
-use Rattle.res_map.specs.View.{view_entry}
+use Rattle.res_map.specs.View.{view_lent}
 use Rattle.res_calls.specs.Preloading.{wanted_of}
 use Rattle.res_calls.proofs.Preloads.{wanted_here, wanted_on}
 use Rattle.res_calls.proofs.preloading.gather.Goals.{then-is_read_first+in_ok-push, else-is_read_first}
@@ -9,7 +9,7 @@ use Rattle.res_calls.proofs.preloading.gather.Goals as goal
 
 pub loop-i-preserved : goal.loop-i-preserved
 loop-i-preserved c =
-    let entry = view_entry c.reference-entry.result in
+    let entry = view_lent c.reference-entry.result in
     let P : List Filling → Type 0 = λ l. map wanted_as l ++ wanted_of (drop (c.loop-i.i + 1) c.args.file.now.references)
     ≡ wanted_of c.args.file.now.references in
     elim c.if-is_read_first.branch [

@@ -1,14 +1,14 @@
 use Rattle.std.proofs.Common.{rules, arith, ◌≡◌, ◌+◌, ◌∙◌, sym, subst}
 use Rattle.res_map.specs.Map.{Map}
 use Rattle.std.proofs.Common.{ℕ}
-use Rattle.res_map.specs.View.{view_entry}
+use Rattle.res_map.specs.View.{view_lent}
 use Rattle.res_calls.proofs.Preloads.{IsGiven, given_here, given_on, given_none}
 use Rattle.res_calls.proofs.preloading.give_all.Goals.{then-is_read_first, else-is_read_first}
 use Rattle.res_calls.proofs.preloading.give_all.Goals as goal
 
 pub loop-i-preserved : goal.loop-i-preserved
 loop-i-preserved c =
-    let entry = view_entry c.reference-entry.result in
+    let entry = view_lent c.reference-entry.result in
     let P : Map → ℕ → Type 0 = λ f n. IsGiven c.args.file.now c.args.numbers.now (c.loop-i.i + 1) n f in
     elim c.if-is_read_first.branch [
       | then-is_read_first w ↦ subst (λ f. P f c.if-is_read_first.next) (sym w.file-is)

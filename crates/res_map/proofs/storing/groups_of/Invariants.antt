@@ -1,7 +1,7 @@
 use Rattle.std.proofs.Common.{◌≡◌, ◌++◌, length, map, drop}
 use Rattle.fork_format.specs.View.{view_group}
 use Rattle.res_map.specs.Map.{all_anew}
-use Rattle.res_map.specs.Runs.{runs}
+use Rattle.res_map.specs.Runs.{leading_groups}
 use Rattle.res_map.specs.View.{view_reference, view_all}
 use Rattle.res_map.proofs.storing.groups_of.Given as goal
 
@@ -10,6 +10,6 @@ abbrev pub invariant-loop-kind : goal.invariant-loop-kind
 invariant-loop-kind l = record {
   long : length l.fresh ≡ length l.refs;
   all : map view_group l.groups.items
-      ++ runs (drop l.kind-index l.kinds) (all_anew (view_all l.fresh) (map view_reference l.refs))
-      ≡ runs l.kinds (all_anew (view_all l.fn.fresh) (map view_reference l.fn.refs));
+      ++ leading_groups (drop l.kind-index l.kinds) (all_anew (view_all l.fresh) (map view_reference l.refs))
+      ≡ leading_groups l.kinds (all_anew (view_all l.fn.fresh) (map view_reference l.fn.refs));
 }

@@ -1,6 +1,6 @@
 use Rattle.std.proofs.Common.{◌+◌, sym, ap, ◌∙◌, arith}
 use Rattle.heap_words.specs.Headers.{tag_number}
-use Rattle.zone_bytes.specs.Table.{emptied_word}
+use Rattle.zone_bytes.specs.Table.{empty_word}
 use Rattle.zone_bytes.proofs.Tiles.Tags.{tag-true, tag-false, tag-small}
 use Rattle.zone_bytes.proofs.Joined.Freed.{here-read, may-make, other-lays, slot-fits, slot-lays, led, none-led}
 use Rattle.zone_bytes.proofs.freeing.free_up.Goals as goal
@@ -70,10 +70,10 @@ returns-then-eq-clause-lays c = λ f m.
     let e = c.read_header-header.ensures in
     let s = r.says h.size (tag_number h.tag) e.first e.size (tag-small h.tag) in
     let l = led f c.args.start c.args.at xs m (sym s.1 ∙ tag-true h.tag c.if-eq.ensures) in
-    rw (c.write_word.ensures.bytes, c.word_of_emptied.ensures, e.slot, e.flags)
+    rw (c.write_word.ensures.bytes, c.word_once_empty.ensures, e.slot, e.flags)
     (slot-lays f c.args.start c.args.at xs m (c.args.at + h.size) (ap (λ n. c.args.at + n) (sym s.0))
     c.make_free.new.part.bytes c.make_free.ensures.lies c.make_free.ensures.outside _ l.named _
-    (ap emptied_word l.flag))
+    (ap empty_word l.flag))
 
 pub returns-else-eq-clause-end : goal.returns-else-eq-clause-end
 returns-else-eq-clause-end c = λ f m.

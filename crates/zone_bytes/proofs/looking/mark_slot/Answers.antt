@@ -72,5 +72,5 @@ returns-in-None-clause-lays c = λ t h.
     (leads-read xs c.args.slot _ _ c.read_word.ensures c.in-None.ensures) in
     let u = flag xs t.blocks t.slots t.unused h.lays c.args.slot h.used in
     subst (λ ys. Lays ys t.blocks (set_slot t.slots c.args.slot (Used r)) t.unused)
-    (sym (c.write_word-in-None.ensures.bytes ∙ ap (λ n. written c.args.slot (word n) xs) c.emptied.ensures))
+    (sym (c.write_word-in-None.ensures.bytes ∙ ap (λ n. written c.args.slot (word n) xs) c.word_of_empty.ensures))
     (lays-emptied xs t.blocks t.slots t.unused h.lays c.args.slot u.0 r u.1 e.apart)

@@ -1,6 +1,6 @@
 use Rattle.std.proofs.Common.{◌∙◌, ◌+◌, drop, arith, sym}
 use Rattle.mac_words.proofs.Plain.{rest-next}
-use Rattle.applications.specs.Step.{run}
+use Rattle.applications.specs.Step.{course_of}
 use Rattle.applications.proofs.Rounds.{run_ends, run_goes_on}
 use Rattle.applications.proofs.Elsewhere.{run-left}
 use Rattle.applications.proofs.application.Application.run.Goals as goal
@@ -11,7 +11,7 @@ returns-then-is_some-clause-ends g c =
     let i = c.loop-line.line-index in
     let l = c.line-item.result in
     run_ends blocks (drop i c.args.lines.now) (drop (i + 1) c.args.lines.now) l c.loop-line.self c.in_ok-exit.exit
-    (run blocks c.args.lines.now c.args.self.now) (rest-next c.args.lines.now i l (omega arith) c.line-item.is)
+    (course_of blocks c.args.lines.now c.args.self.now) (rest-next c.args.lines.now i l (omega arith) c.line-item.is)
     c.in_ok-exit.ensures.ends (sym c.is_some.ensures ∙ c.if-is_some.true) c.loop-line.invariant.2
 
 pub loop-line-preserved : goal.loop-line-preserved
@@ -20,7 +20,7 @@ loop-line-preserved g c =
     let i = c.loop-line.line-index in
     let l = c.line-item.result in
     run_goes_on blocks (drop i c.args.lines.now) (drop (i + 1) c.args.lines.now) l c.loop-line.self c.step.new.self
-    c.in_ok-exit.exit c.loop-line.text.items c.step.new.text.items _ (run blocks c.args.lines.now c.args.self.now)
+    c.in_ok-exit.exit c.loop-line.text.items c.step.new.text.items _ (course_of blocks c.args.lines.now c.args.self.now)
     (rest-next c.args.lines.now i l (omega arith) c.line-item.is) c.in_ok-exit.ensures.ends (sym c.is_some.ensures ∙ c.if-is_some.false)
     c.in_ok-exit.ensures.came c.loop-line.invariant.0 c.loop-line.invariant.1 c.loop-line.invariant.2
 

@@ -1,5 +1,5 @@
 use Rattle.std.proofs.Common.{◌∙◌, ap, subst}
-use Rattle.block_store.specs.Room.{may_go}
+use Rattle.block_store.specs.Room.{may_be_purged}
 use Rattle.block_store.specs.Find.{FindsLowest}
 use Rattle.block_store.specs.Sparing.{purged, spared}
 use Rattle.block_store.specs.Inner.ListStore.{blocks_of}
@@ -7,5 +7,5 @@ use Rattle.block_store.proofs.list_store.ListStoreBlockStore.next_purgeable.Goal
 
 pub returns : goal.returns
 returns c =
-    subst (λ z. FindsLowest (may_go (spared c.args.sparing)) (purged c.args.purges c.args.sparing z)
+    subst (λ z. FindsLowest (may_be_purged (spared c.args.sparing)) (purged c.args.purges c.args.sparing z)
     c.next_purgeable_in.result) (c.walk_over.ensures ∙ ap blocks_of c.deref.ensures.value) c.next_purgeable_in.ensures

@@ -1,6 +1,6 @@
 use Rattle.std.proofs.Common.{length}
 use Rattle.block_store.specs.Inner.ListStore.{blocks_of, slots_of}
-use Rattle.block_store.proofs.Emptied.Purges.{lawful-purged}
+use Rattle.block_store.proofs.Purged.Purges.{lawful-purged}
 use Rattle.block_store.proofs.list_store.ListStoreBlockStore.purge.Goals as goal
 
 pub invariant_of-self : goal.invariant_of-self

@@ -1,7 +1,7 @@
 use Rattle.std.proofs.Common.{◌≡◌, ◌+◌, sym, ◌∙◌, ap, Ok, arith}
 use Rattle.mac_words.specs.declared.code.TheConstants.OsErr.{NO_ERR}
 use Rattle.block_store.specs.Run.{runs}
-use Rattle.block_store.specs.Compact.{compacted, falls, runs_settled}
+use Rattle.block_store.specs.Compact.{compacted, lowered_in_runs, runs_settled}
 use Rattle.heap_calls.specs.State.{Memory}
 use Rattle.heap_calls.specs.Answer.{compact_mem, noting}
 use Rattle.heap_calls.specs.Moves.{compact_mem_moves}
@@ -40,11 +40,11 @@ returns-clause-answer g c =
     ∙ ap (λ k. k + 1) (settled_stretches-rename (handle_number es) (pointer_number es) _ zone
     ∙ ap (λ p. stretches (runs_settled p zone) (runs zone)) (sym c.phys.ensures)
     ∙ sym c.compact-stretches.ensures.runs) in
-    let moves : compact_mem_moves c.args.size c.args.self.now.heap ≡ falls (runs_settled c.phys.result zone)
+    let moves : compact_mem_moves c.args.size c.args.self.now.heap ≡ lowered_in_runs (runs_settled c.phys.result zone)
     (runs zone) =
     ap (λ (m : Memory). compact_mem_moves c.args.size m.heap) (sym c.self.view_is)
     ∙ settled_falls-rename (handle_number es) (pointer_number es) _ zone
-    ∙ ap (λ p. falls (runs_settled p zone) (runs zone)) (sym c.phys.ensures) in
+    ∙ ap (λ p. lowered_in_runs (runs_settled p zone) (runs zone)) (sym c.phys.ensures) in
     moving-done _ _ _ (Ok c.saturating_sub-most.result) zone' rest rest' es c.count.new.self
     (searching-done _ _ (noting (compact_mem c.args.size) c.args.self.now) (Ok c.saturating_sub-most.result)
     (memory_of zone' (unmoved rest rest') es (record a.log { code = NO_ERR }))

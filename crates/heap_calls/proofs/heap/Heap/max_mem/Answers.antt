@@ -7,7 +7,7 @@ use Rattle.heap_calls.specs.State.{Memory}
 use Rattle.heap_calls.specs.Moves.{all_moves, max_mem_moves}
 use Rattle.heap_calls.specs.Inner.Numbered.{handle_number, pointer_number}
 use Rattle.heap_calls.proofs.Numbering.PurgeTrials.{purged_all-is, max_mem-done}
-use Rattle.block_store.specs.Compact.{compacted, falls, runs_settled}
+use Rattle.block_store.specs.Compact.{compacted, lowered_in_runs, runs_settled}
 use Rattle.block_store.specs.Sparing.{purged}
 use Rattle.block_store.specs.declared.sparing.Sparing.TheVariants as sparing
 use Rattle.heap_calls.proofs.Numbering.Changing.{agrees-kept, unmoved}
@@ -46,16 +46,17 @@ returns g c =
     let emptied = c.purge.ensures.rest in
     let many = c.purgeable-purges.ensures in
     let is = purged_all-is zone all c.purgeable-purges.result (omega (arith, many)) c.purge.ensures.zone in
-    let moves : max_mem_moves c.args.self.now.heap ≡ falls (runs_settled None all) (runs all) =
+    let moves : max_mem_moves c.args.self.now.heap ≡ lowered_in_runs (runs_settled None all) (runs all) =
     ap (λ (m : Memory). max_mem_moves m.heap) (sym c.self.view_is) ∙ purged_moves-rename (handle_number es)
     (pointer_number es) zone ∙ ap all_moves (sym is)
-    ∙ ap (λ k. falls k (runs all)) (sym (least_or_last-none (length (runs all)))) in
+    ∙ ap (λ k. lowered_in_runs k (runs all)) (sym (least_or_last-none (length (runs all)))) in
     moving-done _ _ _ (Ok c.saturating_sub.result) zone' rest rest' es (record a.log { code = NO_ERR })
     (max_mem-done c.args.self.now zone all zone' rest (unmoved rest rest') es a.log c.largest_free.result
     c.saturating_sub.result c.self.view_is is c.compact.ensures.zone
     (unmoved-is rest rest' (kept g (goal.at.returns g c).After-compact))
     c.largest_free.ensures c.saturating_sub.ensures)
-    moves (c.compact.ensures.moves ∙ ap (λ k. counted k (falls (runs_settled None all) (runs all))) emptied.moves)
+    moves (c.compact.ensures.moves ∙ ap (λ k. counted k (lowered_in_runs (runs_settled None all) (runs all)))
+    emptied.moves)
 
 pub invariant_of-self : goal.invariant_of-self
 invariant_of-self g c =

@@ -7,8 +7,8 @@ use Rattle.heap_calls.proofs.Numbering.Changing.{agrees-same}
 use Rattle.heap_calls.proofs.Room.Searching.{at_run}
 use Rattle.heap_calls.proofs.Room.Staying.{fixed-run, fixed-same, fixed-then, none-high}
 use Rattle.heap_calls.proofs.Numbering.Hoisting.{seen-at, seen_mover-is, rest-same, run-found, hoist-allowed}
-use Rattle.heap_calls.proofs.Numbering.Hoisting.{hoisted-done, hoisted-none, move_hhi-emptied, move_hhi-locked}
-use Rattle.heap_calls.proofs.Numbering.Hoisting.{move_hhi-done}
+use Rattle.heap_calls.proofs.Numbering.Hoisting.{hoisted-done, hoisted-none, move_h_hi-emptied, move_h_hi-locked}
+use Rattle.heap_calls.proofs.Numbering.Hoisting.{move_h_hi-done}
 use Rattle.heap_calls.proofs.NewBlocks.CopiedHandles.{slot-in}
 use Rattle.heap_calls.proofs.heap.Heap.move_high.Given.{Over}
 use Rattle.heap_calls.proofs.heap.Heap.move_high.Goals.{In_ok-found, After-can_move}
@@ -35,7 +35,7 @@ returns-in_default-clause-answer g c =
     let es = a.names.items in
     let f = c.in_ok-found.found in
     let is = entry g (goal.at.returns-in_default-clause-answer g c).In_ok-found in
-    move_hhi-emptied c.args.self.now zone rest es a.log c.args.handle f.number f.slot c.self.view_is is.0 is.1
+    move_h_hi-emptied c.args.self.now zone rest es a.log c.args.handle f.number f.slot c.self.view_is is.0 is.1
     c.self.invariant.apart (omega arith) c.in_default.ensures
 
 pub returns-then-not-can_move-clause-answer : goal.returns-then-not-can_move-clause-answer
@@ -49,7 +49,7 @@ returns-then-not-can_move-clause-answer g c =
     let there = c.in-Some.ensures in
     let locked : is_mover there.0.here ≡ false = mover g
     (goal.at.returns-then-not-can_move-clause-answer g c).After-can_move ∙ c.if-not-can_move.true in
-    move_hhi-locked c.args.self.now zone rest es a.log c.args.handle f.number f.slot c.self.view_is is.0 is.1
+    move_h_hi-locked c.args.self.now zone rest es a.log c.args.handle f.number f.slot c.self.view_is is.0 is.1
     c.self.invariant.apart (omega arith) there.0 there.1 locked
 
 pub returns-in_default-run_of-clause-answer : goal.returns-in_default-run_of-clause-answer
@@ -65,7 +65,7 @@ returns-in_default-run_of-clause-answer g c =
     c).After-can_move ∙ c.if-not-can_move.false in
     let none = run-found (has (is_relocatable f.slot)) zone _ None (g.met.S.BlockStore.tidied a.store)
     c.in_default-run_of.ensures in
-    move_hhi-done c.args.self.now zone rest es a.log c.args.handle f.number f.slot c.self.view_is is.0 is.1
+    move_h_hi-done c.args.self.now zone rest es a.log c.args.handle f.number f.slot c.self.view_is is.0 is.1
     c.self.invariant.apart (omega arith) zone rest there.0 there.1 free (rest-same rest) (hoisted-none f.slot zone none)
     ∙ ap (λ m. (Ok tt, m)) c.self.view_is
 
@@ -108,7 +108,7 @@ returns-clause-answer g c =
     ∙ c.if-not-can_move.false in
     let found = run-found (has (is_relocatable f.slot)) zone _ (Some c.in-Some-run_of.run')
     (g.met.S.BlockStore.tidied a.store) c.in-Some-run_of.ensures in
-    move_hhi-done c.args.self.now zone rest es a.log c.args.handle f.number f.slot c.self.view_is is.0 is.1
+    move_h_hi-done c.args.self.now zone rest es a.log c.args.handle f.number f.slot c.self.view_is is.0 is.1
     c.self.invariant.apart (omega arith) zone' (g.S.BlockStore.rest c.hoist.new.self) there.0 there.1 free
     c.hoist.ensures.rest
     (hoisted-done f.slot c.in-Some-run_of.run' zone zone' found c.hoist.ensures.zone)

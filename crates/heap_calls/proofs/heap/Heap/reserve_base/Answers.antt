@@ -6,7 +6,7 @@ use Rattle.heap_calls.proofs.NewBlocks.Naming.{Ends, reserve-ends, served-lookin
 use Rattle.heap_calls.proofs.NewBlocks.Reserving.{reserve-too_large, reserve_searches-is}
 use Rattle.heap_calls.proofs.Numbering.Changing.{agrees-same}
 use Rattle.heap_calls.proofs.Numbering.PurgeTrials.{served_answer}
-use Rattle.heap_calls.proofs.Room.Seats.{at_none}
+use Rattle.heap_calls.proofs.Room.Placements.{at_none}
 use Rattle.heap_calls.proofs.heap.Heap.reserve_base.Given.{Over}
 use Rattle.heap_calls.proofs.heap.Heap.reserve_base.Goals.{In_ok-room}
 use Rattle.heap_calls.proofs.heap.Heap.reserve_base.Goals as goal

@@ -2,7 +2,7 @@ use Rattle.std.proofs.Common.{◌≡◌, ◌∙◌, ◌+◌, Some, [], ap, refl,
 use Rattle.std.specs.Option.{IfSome, IsSome}
 use Rattle.block_store.specs.Block.{sizes, tidy}
 use Rattle.block_store.specs.Run.{RunSpot, run_at, movers, settle, with_run}
-use Rattle.block_store.specs.Rest.{IsRest, falling}
+use Rattle.block_store.specs.Rest.{IsRest, lowered_in_run}
 use Rattle.zone_bytes.specs.Decode.{zone_in}
 use Rattle.zone_bytes.specs.Edges.{AreEdges}
 use Rattle.zone_bytes.specs.Table.{slot_in}
@@ -39,7 +39,8 @@ settle_run-packed-requires c =
 done : (c : After-settle_run-packed) → (r : RunSpot) × (run_at c.args.run (zone_in c.self.inside.part.bytes) ≡ Some r)
     × ChangedRun settle (zone_in c.self.inside.part.bytes) r c.settle_run-packed.new.part.bytes c.self.inside.first
     c.self.inside.unused (slot_in c.self.inside.part.bytes)
-    × (c.settle_run-packed.result.lowered ≡ falling r.run) × (c.settle_run-packed.result.stop ≡ c.args.run + sizes r.run)
+    × (c.settle_run-packed.result.lowered ≡ lowered_in_run r.run)
+    × (c.settle_run-packed.result.stop ≡ c.args.run + sizes r.run)
     × (c.settle_run-packed.result.top ≡ c.args.run + sizes (movers r.run))
 done c =
     let xs = c.self.inside.part.bytes in
@@ -101,10 +102,10 @@ returns-clause-rest c =
 pub returns-clause-lowered : goal.returns-clause-lowered
 returns-clause-lowered c =
     let d = done (goal.at.returns-clause-lowered c).After-settle_run-packed in
-    subst (λ v. IfSome (run_at c.args.run (zone_of v)) (λ r. c.settle_run-packed.result.lowered ≡ falling r.run))
+    subst (λ v. IfSome (run_at c.args.run (zone_of v)) (λ r. c.settle_run-packed.result.lowered ≡ lowered_in_run r.run))
     c.self.view_is
     (if-one (run_at c.args.run (zone_in c.self.inside.part.bytes))
-    (λ r. c.settle_run-packed.result.lowered ≡ falling r.run) d.0 d.1 d.3)
+    (λ r. c.settle_run-packed.result.lowered ≡ lowered_in_run r.run) d.0 d.1 d.3)
 
 pub returns-clause-stop : goal.returns-clause-stop
 returns-clause-stop c =

@@ -1,7 +1,7 @@
 use Rattle.std.proofs.Common.{◌∙◌, ap, sym, subst, ◌<◌, ◌≤◌, ◌^◌, arith}
 use Rattle.block_store.specs.Block.{sizes}
 use Rattle.block_store.specs.Find.{FindsLowest}
-use Rattle.block_store.specs.Room.{may_go}
+use Rattle.block_store.specs.Room.{may_be_purged}
 use Rattle.block_store.specs.Sparing.{purged, spared}
 use Rattle.raw_zone.specs.Parted.{zone_of}
 use Rattle.zone_bytes.proofs.Places.AtPlace.{left-zone, on-way, sizes-fit}
@@ -27,6 +27,6 @@ next_purgeable_in-requires c =
 
 pub returns : goal.returns
 returns c =
-    subst (λ l. FindsLowest (may_go (spared c.args.sparing))
+    subst (λ l. FindsLowest (may_be_purged (spared c.args.sparing))
     (purged c.args.purges c.args.sparing l) c.next_purgeable_in.result)
     (c.walk_from.ensures ∙ left-zone c.self.inside.part.bytes ∙ ap zone_of c.self.view_is) c.next_purgeable_in.ensures

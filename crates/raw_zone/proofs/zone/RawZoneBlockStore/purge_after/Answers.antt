@@ -2,7 +2,7 @@ use Rattle.std.proofs.Common.{◌≡◌, Some, ◌∷◌, ◌++◌, ap, sym, sub
 use Rattle.std.specs.Option.{IfSome, IsSome}
 use Rattle.block_store.specs.Block.{tidy}
 use Rattle.block_store.specs.Rest.{IsRest}
-use Rattle.block_store.specs.Room.{Spot, spot_at, emptied}
+use Rattle.block_store.specs.Room.{Spot, spot_at, lowest_purged}
 use Rattle.block_store.specs.Sparing.{spared}
 use Rattle.zone_bytes.specs.Beside.{rest_in}
 use Rattle.zone_bytes.specs.Decode.{zone_in}
@@ -33,7 +33,7 @@ purge_above-freed-requires c =
 
 gained-at : (c : goal.After-purge_above-freed) (s : Spot) → spot_at c.args.place (zone_in c.self.inside.part.bytes) ≡ Some s
     → Gained c.self.inside.part.bytes c.purge_above-freed.new.part.bytes c.self.inside.first c.self.inside.unused
-    c.purge_above-freed.result (tidy (s.below ++ s.here ∷ emptied c.args.purges (spared c.args.sparing) s.above))
+    c.purge_above-freed.result (tidy (s.below ++ s.here ∷ lowest_purged c.args.purges (spared c.args.sparing) s.above))
 gained-at c s e =
     let n = c.self.inside in
     above-gained n.part.bytes n.first n.unused c.self.invariant.sound c.args.purges c.args.sparing c.args.place s e
@@ -41,7 +41,7 @@ gained-at c s e =
 
 done : (c : goal.After-purge_above-freed) → let s = (here (goal.at.overflow_add-self c).After-self).0 in
     Gained c.self.inside.part.bytes c.purge_above-freed.new.part.bytes c.self.inside.first c.self.inside.unused
-    c.purge_above-freed.result (tidy (s.below ++ s.here ∷ emptied c.args.purges (spared c.args.sparing) s.above))
+    c.purge_above-freed.result (tidy (s.below ++ s.here ∷ lowest_purged c.args.purges (spared c.args.sparing) s.above))
 done c = let a = here (goal.at.overflow_add-self c).After-self in gained-at c a.0 a.1
 
 pub overflow_add-self : goal.overflow_add-self
@@ -77,7 +77,8 @@ pub returns-clause-zone : goal.returns-clause-zone
 returns-clause-zone c =
     let ys = c.purge_above-freed.new.part.bytes in
     let goal-of : Spot
-    → Type 0 = λ s. zone_in ys ≡ tidy (s.below ++ s.here ∷ emptied c.args.purges (spared c.args.sparing) s.above) in
+    → Type 0 = λ s. zone_in ys ≡ tidy (s.below ++ s.here ∷ lowest_purged c.args.purges (spared c.args.sparing)
+    s.above) in
     subst (λ v. IfSome (spot_at c.args.place (zone_of v)) goal-of) c.self.view_is
     (if-spot (spot_at c.args.place (zone_in c.self.inside.part.bytes)) goal-of
     (λ s e. (gained-at (goal.at.returns-clause-zone c).After-purge_above-freed s e).made.zone))

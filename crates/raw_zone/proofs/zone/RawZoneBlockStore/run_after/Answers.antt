@@ -1,7 +1,7 @@
 use Rattle.std.proofs.Common.{◌≡◌, ◌∙◌, ap, sym, subst, ◌<◌, ◌^◌}
 use Rattle.std.specs.Option.{IfSome, IsSome}
 use Rattle.block_store.specs.Block.{sizes}
-use Rattle.block_store.specs.Room.{Spot, spot_at, emptied}
+use Rattle.block_store.specs.Room.{Spot, spot_at, lowest_purged}
 use Rattle.block_store.specs.Run.{segments, has_free}
 use Rattle.block_store.specs.Sparing.{spared}
 use Rattle.raw_zone.specs.Parted.{zone_of}
@@ -30,10 +30,10 @@ pub returns : goal.returns
 returns c =
     let z = c.self.inside in
     let is = λ (s : Spot). c.run_has_free_in.result ≡ has_free c.args.bytes
-    (emptied c.args.purges (spared c.args.sparing) (segments s.above).first) in
+    (lowest_purged c.args.purges (spared c.args.sparing) (segments s.above).first) in
     subst (λ v. IfSome (spot_at c.args.place (zone_of v)) is) c.self.view_is
     (if-spot (spot_at c.args.place (zone_in z.part.bytes)) is (λ s e.
     c.run_has_free_in.ensures
-    ∙ ap (λ l. has_free c.args.bytes (emptied c.args.purges (spared c.args.sparing) (segments l).first))
+    ∙ ap (λ l. has_free c.args.bytes (lowest_purged c.args.purges (spared c.args.sparing) (segments l).first))
     (c.walk_above.ensures s.here s.above
     (left-at z.part.bytes z.first z.unused c.self.invariant.sound c.args.place s e))))
