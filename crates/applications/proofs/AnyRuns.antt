@@ -10,12 +10,12 @@ use Rattle.heap_calls.specs.Standing.{pointer_place}
 use Rattle.heap_calls.proofs.Promises.Knowing.{holds-known}
 use Rattle.applications.specs.Trying.{Blocks, launched_with, nowhere}
 use Rattle.applications.specs.Step.{Event, course_of}
-use Rattle.applications.specs.Laws.{put_at_launch, EachTry, Linked, ShowsPut, HoldsPut, KeepsLocked, KeepsFixed}
+use Rattle.applications.specs.Laws.{put_at_launch, EachTry, Linked, ShowsPut, HoldsPut, KeepsLocked, KeepsNonrelocatable}
 use Rattle.applications.specs.Laws.{PurgesOnlyPurgeable, SearchesFew, RefusedLeaves, RefusedBinds, NothingBusy}
 use Rattle.applications.specs.Laws.{GoesByRule}
 use Rattle.applications.specs.Laws.{KeepsResources, KeepsFiles, KeepsTable, is_answered, frees, drops, freed_by}
-use Rattle.applications.specs.Laws.{dropped_by, LockedStay, FixedStay}
-use Rattle.applications.proofs.TryLaws.{sound-launched, once-shows, once-holds, once-locked, once-fixed, once-purgeable}
+use Rattle.applications.specs.Laws.{dropped_by, LockedStay, NonrelocatableStay}
+use Rattle.applications.proofs.TryLaws.{sound-launched, once-shows, once-holds, once-locked, once-nonrelocatable, once-purgeable}
 use Rattle.applications.proofs.TryLaws.{once-searches, once-refused, once-keeps-resources, once-keeps-files}
 use Rattle.applications.proofs.TryLaws.{once-keeps-table}
 use Rattle.applications.proofs.Carrying.{run-goes}
@@ -64,9 +64,9 @@ pub any_locked_stays : (resources : Resources) (n : ℕ) (blocks : Blocks) (line
 any_locked_stays resources n blocks lines = (run-goes KeepsLocked once-locked blocks lines
     (launched_with resources n nowhere) (put_at_launch resources n) (sound-launched resources n)).each
 
-pub any_fixed_stays : (resources : Resources) (n : ℕ) (blocks : Blocks) (lines : List Line)
-    → Keeps KeepsFixed resources n blocks lines
-any_fixed_stays resources n blocks lines = (run-goes KeepsFixed once-fixed blocks lines
+pub any_nonrelocatable_stays : (resources : Resources) (n : ℕ) (blocks : Blocks) (lines : List Line)
+    → Keeps KeepsNonrelocatable resources n blocks lines
+any_nonrelocatable_stays resources n blocks lines = (run-goes KeepsNonrelocatable once-nonrelocatable blocks lines
     (launched_with resources n nowhere) (put_at_launch resources n) (sound-launched resources n)).each
 
 pub any_only_purgeable_go : (resources : Resources) (n : ℕ) (blocks : Blocks) (lines : List Line)
@@ -112,11 +112,11 @@ any_locked_lines resources n blocks lines = run-lines locked_place freed_by once
     (λ h e refused. unanswered (is_answered e.told) (frees h e.deed e.before) refused) blocks lines
     (launched_with resources n nowhere) (put_at_launch resources n) (sound-launched resources n)
 
-pub any_fixed_lines : (resources : Resources) (n : ℕ) (blocks : Blocks) (lines : List Line)
-    → FixedStay (launched_with resources n nowhere).memory.heap
+pub any_nonrelocatable_lines : (resources : Resources) (n : ℕ) (blocks : Blocks) (lines : List Line)
+    → NonrelocatableStay (launched_with resources n nowhere).memory.heap
     (course_of blocks lines (launched_with resources n nowhere)).lines
     (course_of blocks lines (launched_with resources n nowhere)).line_ends
-any_fixed_lines resources n blocks lines = run-lines pointer_place dropped_by once-fixed
+any_nonrelocatable_lines resources n blocks lines = run-lines pointer_place dropped_by once-nonrelocatable
     (λ p e refused. unanswered (is_answered e.told) (drops p e.deed) refused) blocks lines
     (launched_with resources n nowhere) (put_at_launch resources n) (sound-launched resources n)
 

@@ -4,9 +4,9 @@ use Rattle.script_text.specs.declared.script.Line.{Line}
 use Rattle.res_calls.specs.Files.{Resources}
 use Rattle.applications.specs.Promises.{KeepsPromises}
 use Rattle.applications.proofs.AnyRuns.{any_launch_holds, any_goes_by_rule, any_linked, any_shows_put, any_holds_put}
-use Rattle.applications.proofs.AnyRuns.{any_locked_stays, any_fixed_stays, any_only_purgeable_go, any_searches_few}
+use Rattle.applications.proofs.AnyRuns.{any_locked_stays, any_nonrelocatable_stays, any_only_purgeable_go, any_searches_few}
 use Rattle.applications.proofs.AnyRuns.{any_refused_leave, any_resources_stay, any_files_stay, any_table_stays}
-use Rattle.applications.proofs.AnyRuns.{any_nothing_stays_busy, any_refused_bind, any_locked_lines, any_fixed_lines}
+use Rattle.applications.proofs.AnyRuns.{any_nothing_stays_busy, any_refused_bind, any_locked_lines, any_nonrelocatable_lines}
 
 -- The laws of any lines, of the first steps of a script.
 
@@ -21,8 +21,8 @@ keeps_promises given size script n =
       held = any_holds_put given size script.blocks lines;
       locked = any_locked_stays given size script.blocks lines;
       locked_lines = any_locked_lines given size script.blocks lines;
-      fixed = any_fixed_stays given size script.blocks lines;
-      fixed_lines = any_fixed_lines given size script.blocks lines;
+      nonrelocatable = any_nonrelocatable_stays given size script.blocks lines;
+      nonrelocatable_lines = any_nonrelocatable_lines given size script.blocks lines;
       purged = any_only_purgeable_go given size script.blocks lines;
       searches = any_searches_few given size script.blocks lines;
       refused = any_refused_leave given size script.blocks lines;

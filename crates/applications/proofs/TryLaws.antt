@@ -41,7 +41,7 @@ use Rattle.applications.specs.Trying.{launched_with}
 use Rattle.applications.specs.Step.{Deed, Ask, Find, Jump, Steer, deed_of, event_of}
 use Rattle.applications.specs.Laws.{put_found, put_deed, put_event, ShowsPut, HoldsPut, frees, drops, deed_takes_block}
 use Rattle.applications.specs.Laws.{opens, Kept}
-use Rattle.applications.specs.Laws.{KeepsLocked, KeepsFixed, PurgesOnlyPurgeable, SearchesFew, RefusedLeaves}
+use Rattle.applications.specs.Laws.{KeepsLocked, KeepsNonrelocatable, PurgesOnlyPurgeable, SearchesFew, RefusedLeaves}
 use Rattle.applications.specs.Laws.{keeps_resources}
 use Rattle.applications.specs.Laws.{KeepsResources, writes_files, KeepsFiles, KeepsTable, is_answered, StayPut}
 use Rattle.applications.specs.Laws.{put_at_launch, jumps as is_jump}
@@ -261,9 +261,9 @@ once-locked blocks l r bytes sound = of-try
     (λ k grow. stays-put locked_place (λ h. frees h (Steer k) r) Done r.memory.heap r.memory.heap (λ h place is. inl is))
 
 -- and pointers' blocks
-pub once-fixed : (blocks : Blocks) (l : Line) (r : Running) (bytes : ℕ → List ℕ) → Sound r.memory bytes
-    → KeepsFixed bytes (event_of l r (once blocks l.call r))
-once-fixed blocks l r bytes sound = of-try
+pub once-nonrelocatable : (blocks : Blocks) (l : Line) (r : Running) (bytes : ℕ → List ℕ) → Sound r.memory bytes
+    → KeepsNonrelocatable bytes (event_of l r (once blocks l.call r))
+once-nonrelocatable blocks l r bytes sound = of-try
     (λ d told reads after. StayPut pointer_place (λ p. is_answered told && drops p d) r.memory.heap after.memory.heap)
     blocks l.call r
     (λ a. stays-put pointer_place (λ p. drops p (Ask a)) (served a r.memory).0 r.memory.heap
@@ -271,10 +271,10 @@ once-fixed blocks l r bytes sound = of-try
     (served-stands a r.memory sound.known.once (next-new r.memory.heap bytes sound.known)))
     (λ a. stays-put pointer_place (λ p. drops p (Find a)) (finds.served a (managers_of r)).told r.memory.heap
     (finds.served a (managers_of r)).after.memory.heap
-    (λ p place is. inl (laws.served-fixed a (managers_of r) bytes sound.known p place is)))
+    (λ p place is. inl (laws.served-nonrelocatable a (managers_of r) bytes sound.known p place is)))
     (λ c. stays-put pointer_place (λ p. drops p (Jump c)) (jumps.served c (program_of r)).told r.memory.heap
     (jumps.served c (program_of r)).after.managers.memory.heap
-    (λ p place is. inl (jumping.served-fixed c (program_of r) bytes sound.known p place is)))
+    (λ p place is. inl (jumping.served-nonrelocatable c (program_of r) bytes sound.known p place is)))
     (λ k grow. stays-put pointer_place (λ p. drops p (Steer k)) Done r.memory.heap r.memory.heap
     (λ p place is. inl is))
 

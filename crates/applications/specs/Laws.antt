@@ -128,8 +128,8 @@ KeepsLocked bytes e = StayPut locked_place (λ h. freed_by h e) e.before.memory.
 
 -- The block of a pointer stands after a try where it stood before, unless it was taken away: the call was answered, and
 -- disposes of the pointer.
-abbrev pub KeepsFixed : (ℕ → List ℕ) → Event → Type 0
-KeepsFixed bytes e = StayPut pointer_place (λ p. dropped_by p e) e.before.memory.heap e.after.memory.heap
+abbrev pub KeepsNonrelocatable : (ℕ → List ℕ) → Event → Type 0
+KeepsNonrelocatable bytes e = StayPut pointer_place (λ p. dropped_by p e) e.before.memory.heap e.after.memory.heap
 
 -- A handle that has a block before a try and no block after the try had a block that may be purged, or the call was
 -- answered and empties the handle or disposes of it.
@@ -168,8 +168,8 @@ LockedStay before lines ends = LinesStayPut locked_place freed_by before lines e
 
 -- The block of a pointer stands after one line of the transcript where it stood after the line before, unless the
 -- line's call was answered and disposes of the pointer.
-abbrev pub FixedStay : State → List Shown → List LineEnd → Type 0
-FixedStay before lines ends = LinesStayPut pointer_place dropped_by before lines ends
+abbrev pub NonrelocatableStay : State → List Shown → List LineEnd → Type 0
+NonrelocatableStay before lines ends = LinesStayPut pointer_place dropped_by before lines ends
 
 -- Holds of a call that opens a file. The call may make as many blocks as the file has resources to preload.
 -- See decision 94 (an opening may search for room once for each resource that it reads).

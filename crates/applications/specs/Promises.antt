@@ -4,10 +4,10 @@ use Rattle.script_text.specs.Script.{ScriptParts}
 use Rattle.res_calls.specs.Files.{Resources}
 use Rattle.applications.specs.Trying.{launched_with, nowhere}
 use Rattle.applications.specs.Alone.{first_steps}
-use Rattle.applications.specs.Laws.{put_at_launch, EachTry, Linked, ShowsPut, HoldsPut, KeepsLocked, KeepsFixed}
+use Rattle.applications.specs.Laws.{put_at_launch, EachTry, Linked, ShowsPut, HoldsPut, KeepsLocked, KeepsNonrelocatable}
 use Rattle.applications.specs.Laws.{PurgesOnlyPurgeable, SearchesFew, RefusedLeaves, RefusedBinds, GoesByRule}
 use Rattle.applications.specs.Laws.{NothingBusy}
-use Rattle.applications.specs.Laws.{KeepsResources, KeepsFiles, KeepsTable, LockedStay, FixedStay}
+use Rattle.applications.specs.Laws.{KeepsResources, KeepsFiles, KeepsTable, LockedStay, NonrelocatableStay}
 
 -- What holds of the launch of an application with these resources in a partition of `size` bytes, and of the first `n`
 -- steps of its script there: a launch or a step has no other application and no place in a memory in it. The tries are
@@ -32,9 +32,9 @@ pub record KeepsPromises (given : Resources) (size : ℕ) (script : ScriptParts)
   pub locked_lines : LockedStay (launched_with given size nowhere).memory.heap (first_steps given size script n).lines
       (first_steps given size script n).line_ends
   -- A pointer's block never moves, and only a DisposePtr that was answered takes it away.
-  pub fixed : EachTry KeepsFixed (put_at_launch given size) (first_steps given size script n).events
+  pub nonrelocatable : EachTry KeepsNonrelocatable (put_at_launch given size) (first_steps given size script n).events
   -- The same from the launch to the first line of the transcript and from each line to the next.
-  pub fixed_lines : FixedStay (launched_with given size nowhere).memory.heap (first_steps given size script n).lines
+  pub nonrelocatable_lines : NonrelocatableStay (launched_with given size nowhere).memory.heap (first_steps given size script n).lines
       (first_steps given size script n).line_ends
   -- Each handle that loses its block in a try had an unlocked, purgeable block, or the call was answered, and empties
   -- the handle or disposes of it.

@@ -1,3 +1,3 @@
 pub mod Placing
-pub mod FixedBlocks
-pub mod FixedCounts
+pub mod Blocks
+pub mod Counts

@@ -11,19 +11,19 @@ use Rattle.block_store.specs.declared.measures.TheConstants.{MASTERS_SIZE}
 abbrev pub no_flags : Flags
 no_flags = record { locked = false; purgeable = false }
 
--- A block of a zone: a free block; a nonrelocatable block (`Fixed`); a master pointer block, of 64 master pointers
+-- A block of a zone: a free block; a nonrelocatable block; a master pointer block, of 64 master pointers
 -- (`Masters`); or a relocatable block. The id is the name by which a block is reached: in a store the number of its
 -- master pointer, or its place; in a heap its number.
 pub data Block : Type 0 where
   Free : (bytes : ℕ) → Block
-  Fixed : (id : ℕ) (content : List ℕ) → Block
+  Nonrelocatable : (id : ℕ) (content : List ℕ) → Block
   Masters : Block
   Relocatable : (id : ℕ) (flags : Flags) (content : List ℕ) → Block
 
 -- The physical size of a block in bytes, its header included.
 abbrev pub size : Block → ℕ
 size (Free n) = n
-size (Fixed id content) = padded (length content)
+size (Nonrelocatable id content) = padded (length content)
 size Masters = MASTERS_SIZE
 size (Relocatable id flags content) = padded (length content)
 
@@ -43,7 +43,7 @@ sizes blocks = total size blocks
 -- The number of free bytes of a block: its size where it is a free block, else 0.
 abbrev pub free_of : Block → ℕ
 free_of (Free n) = n
-free_of (Fixed id content) = 0
+free_of (Nonrelocatable id content) = 0
 free_of Masters = 0
 free_of (Relocatable id flags content) = 0
 
@@ -54,21 +54,21 @@ free_sum blocks = total free_of blocks
 -- The block is an unlocked relocatable block, which may be moved.
 abbrev pub is_mover : Block → Bool
 is_mover (Free n) = false
-is_mover (Fixed id content) = false
+is_mover (Nonrelocatable id content) = false
 is_mover Masters = false
 is_mover (Relocatable id flags content) = not flags.locked
 
 -- The block is unlocked and purgeable, so that it may be purged.
 abbrev pub is_purgeable : Block → Bool
 is_purgeable (Free n) = false
-is_purgeable (Fixed id content) = false
+is_purgeable (Nonrelocatable id content) = false
 is_purgeable Masters = false
 is_purgeable (Relocatable id flags content) = not flags.locked && flags.purgeable
 
 -- The block is a free block of at least p bytes.
 abbrev pub is_room : ℕ → Block → Bool
 is_room p (Free n) = nat_le p n
-is_room p (Fixed id content) = false
+is_room p (Nonrelocatable id content) = false
 is_room p Masters = false
 is_room p (Relocatable id flags content) = false
 
@@ -102,14 +102,14 @@ resized_content n content = take n content ++ replicate (n - length content) 0
 -- The block with its content at another size, n bytes.
 abbrev pub resized : ℕ → Block → Block
 resized n (Free m) = Free m
-resized n (Fixed id content) = Fixed id (resized_content n content)
+resized n (Nonrelocatable id content) = Nonrelocatable id (resized_content n content)
 resized n Masters = Masters
 resized n (Relocatable id flags content) = Relocatable id flags (resized_content n content)
 
 -- The block with its name changed: by f where it is relocatable, by g where it is nonrelocatable.
 abbrev pub rename_block : (ℕ → ℕ) → (ℕ → ℕ) → Block → Block
 rename_block f g (Free n) = Free n
-rename_block f g (Fixed id content) = Fixed (g id) content
+rename_block f g (Nonrelocatable id content) = Nonrelocatable (g id) content
 rename_block f g Masters = Masters
 rename_block f g (Relocatable id flags content) = Relocatable (f id) flags content
 
@@ -125,34 +125,34 @@ fresh n = Masters ∷ free (n - MASTERS_SIZE)
 -- The block is the relocatable block of a name.
 abbrev pub is_relocatable : ℕ → Block → Bool
 is_relocatable name (Free n) = false
-is_relocatable name (Fixed id content) = false
+is_relocatable name (Nonrelocatable id content) = false
 is_relocatable name Masters = false
 is_relocatable name (Relocatable id flags content) = id == name
 
 -- The block is the nonrelocatable block of a name.
-abbrev pub is_fixed : ℕ → Block → Bool
-is_fixed name (Free n) = false
-is_fixed name (Fixed id content) = id == name
-is_fixed name Masters = false
-is_fixed name (Relocatable id flags content) = false
+abbrev pub is_nonrelocatable : ℕ → Block → Bool
+is_nonrelocatable name (Free n) = false
+is_nonrelocatable name (Nonrelocatable id content) = id == name
+is_nonrelocatable name Masters = false
+is_nonrelocatable name (Relocatable id flags content) = false
 
 -- The block is a master pointer block.
 abbrev pub is_masters : Block → Bool
 is_masters (Free n) = false
-is_masters (Fixed id content) = false
+is_masters (Nonrelocatable id content) = false
 is_masters Masters = true
 is_masters (Relocatable id flags content) = false
 
 -- The content of a block: the bytes that its owner may use.
 abbrev pub content_of : Block → List ℕ
 content_of (Free n) = []
-content_of (Fixed id content) = content
+content_of (Nonrelocatable id content) = content
 content_of Masters = []
 content_of (Relocatable id flags content) = content
 
 -- The block with another content.
 abbrev pub with_content : List ℕ → Block → Block
 with_content bytes (Free n) = Free n
-with_content bytes (Fixed id content) = Fixed id bytes
+with_content bytes (Nonrelocatable id content) = Nonrelocatable id bytes
 with_content bytes Masters = Masters
 with_content bytes (Relocatable id flags content) = Relocatable id flags bytes

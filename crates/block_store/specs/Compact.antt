@@ -4,7 +4,7 @@ use native.Mathlib.Nat.{ℕ_set}
 use Rattle.std.specs.Option.{option_map}
 use Rattle.mac_words.specs.Size.{padded}
 use Rattle.block_store.specs.declared.measures.TheConstants.{MASTERS_SIZE, UNIT}
-use Rattle.block_store.specs.Block.{Block, Free, Fixed, Masters, Relocatable, count, size, sizes, free_of, free_sum}
+use Rattle.block_store.specs.Block.{Block, Free, Nonrelocatable, Masters, Relocatable, count, size, sizes, free_of, free_sum}
 use Rattle.block_store.specs.Block.{is_room, is_relocatable}
 use Rattle.block_store.specs.Run.{Stretch, RunSpot, segments, runs, joined, has, settle}
 use Rattle.block_store.specs.Room.{spot}
@@ -88,7 +88,7 @@ is_less (Some is) (Some was) = nat_lt is was
 -- The relocatable block stands lower in the new list than in the old one.
 abbrev pub stands_lower : List Block → List Block → Block → Bool
 stands_lower old new (Free n) = false
-stands_lower old new (Fixed id content) = false
+stands_lower old new (Nonrelocatable id content) = false
 stands_lower old new Masters = false
 stands_lower old new (Relocatable id flags content) = is_less (distance id new) (distance id old)
 
@@ -113,13 +113,13 @@ Aligned-prop (b ∷ above) = hlevel (Aligned-prop above, ℕ_set)
 abbrev pub Placed : ℕ → List Block → Type 0
 Placed place [] = Unit {0}
 Placed place (Free n ∷ above) = Placed (place + n) above
-Placed place (Fixed id content ∷ above) = (id ≡ place) × Placed (place + padded (length content)) above
+Placed place (Nonrelocatable id content ∷ above) = (id ≡ place) × Placed (place + padded (length content)) above
 Placed place (Masters ∷ above) = Placed (place + MASTERS_SIZE) above
 Placed place (Relocatable id flags content ∷ above) = Placed (place + padded (length content)) above
 
 pub Placed-prop : (place : ℕ) (zone : List Block) → IsProp (Placed place zone)
 Placed-prop place [] = hlevel
 Placed-prop place (Free n ∷ above) = Placed-prop (place + n) above
-Placed-prop place (Fixed id content ∷ above) = hlevel (Placed-prop (place + padded (length content)) above, ℕ_set)
+Placed-prop place (Nonrelocatable id content ∷ above) = hlevel (Placed-prop (place + padded (length content)) above, ℕ_set)
 Placed-prop place (Masters ∷ above) = Placed-prop (place + MASTERS_SIZE) above
 Placed-prop place (Relocatable id flags content ∷ above) = Placed-prop (place + padded (length content)) above

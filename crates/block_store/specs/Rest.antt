@@ -1,7 +1,7 @@
 use Rattle.std.specs.Prelude.{◌≡◌, ℕ, ◌+◌, ◌-◌, List, [], ◌∷◌, min}
 use denote.RawPtr.{Ptr}
 use Rattle.windows.specs.declared.Window.{Window}
-use Rattle.block_store.specs.Block.{Block, Free, Fixed, Masters, Relocatable, is_mover, count}
+use Rattle.block_store.specs.Block.{Block, Free, Nonrelocatable, Masters, Relocatable, is_mover, count}
 use Rattle.block_store.specs.Slot.{Slot, set_slot, AreSlots}
 
 -- Where a store lies: in a window of the memory that begins at the address `home`.
@@ -44,7 +44,7 @@ with_moves n r = record r { moves = counted r.moves n }
 abbrev pub lowered_in_run : List Block → ℕ
 lowered_in_run [] = 0
 lowered_in_run (Free n ∷ run) = count is_mover run
-lowered_in_run (Fixed id content ∷ run) = lowered_in_run run
+lowered_in_run (Nonrelocatable id content ∷ run) = lowered_in_run run
 lowered_in_run (Masters ∷ run) = lowered_in_run run
 lowered_in_run (Relocatable id flags content ∷ run) = lowered_in_run run
 

@@ -16,6 +16,6 @@ Tells (b ∷ above) told after = (told ≡ Some (seen b)) × (after ≡ above)
 -- The physical size of a block, from what is seen of the block.
 abbrev pub seen_size : Seen → ℕ
 seen_size (see.Free n) = n
-seen_size (see.Fixed n) = padded n
+seen_size (see.Nonrelocatable n) = padded n
 seen_size see.Masters = MASTERS_SIZE
 seen_size (see.Relocatable slot flags n) = padded n

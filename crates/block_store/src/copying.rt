@@ -13,7 +13,7 @@ fn content(entry: &StoredBlock) -> &[u8]
     ensures { result.now ≡ content_of (block_of entry.now) }
 {
     match entry {
-        StoredBlock::Fixed(_, content) => content.as_slice(),
+        StoredBlock::Nonrelocatable(_, content) => content.as_slice(),
         StoredBlock::Relocatable(_, _, content) => content.as_slice(),
         _ => &[],
     }
@@ -34,9 +34,9 @@ fn repeated_entry(entry: StoredBlock, bytes: usize, from: usize) -> StoredBlock
         (written from (take bytes (content_of (block_of entry))) (content_of (block_of entry))) (block_of entry) }
 {
     match entry {
-        StoredBlock::Fixed(place, mut content) => {
+        StoredBlock::Nonrelocatable(place, mut content) => {
             repeat(&mut content, bytes, from);
-            StoredBlock::Fixed(place, content)
+            StoredBlock::Nonrelocatable(place, content)
         }
         StoredBlock::Relocatable(slot, flags, mut content) => {
             repeat(&mut content, bytes, from);

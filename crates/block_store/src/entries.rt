@@ -20,7 +20,7 @@ use std::alloc::{AllocError, Global};
 #[derive(Drop)]
 pub enum StoredBlock {
     Free(u32),
-    Fixed(u32, Vec<u8>),
+    Nonrelocatable(u32, Vec<u8>),
     Masters,
     Relocatable(u32, Flags, Vec<u8>),
 }
@@ -40,7 +40,7 @@ pub fn entry_size(entry: &StoredBlock) -> u32
 {
     match entry {
         StoredBlock::Free(n) => *n,
-        StoredBlock::Fixed(_, content) => padded_size(content.len()),
+        StoredBlock::Nonrelocatable(_, content) => padded_size(content.len()),
         StoredBlock::Masters => MASTERS_SIZE,
         StoredBlock::Relocatable(_, _, content) => padded_size(content.len()),
     }
@@ -181,9 +181,9 @@ pub fn written_entry(entry: StoredBlock, from: usize, bytes: &[u8]) -> StoredBlo
 {
     match entry {
         StoredBlock::Free(n) => StoredBlock::Free(n),
-        StoredBlock::Fixed(place, mut content) => {
+        StoredBlock::Nonrelocatable(place, mut content) => {
             overwrite(&mut content, from, bytes);
-            StoredBlock::Fixed(place, content)
+            StoredBlock::Nonrelocatable(place, content)
         }
         StoredBlock::Masters => StoredBlock::Masters,
         StoredBlock::Relocatable(slot, flags, mut content) => {

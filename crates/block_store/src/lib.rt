@@ -4,7 +4,6 @@
 
 mod copying;
 mod entries;
-mod fixed;
 mod flags;
 mod list_store;
 mod list_walk;
@@ -12,6 +11,7 @@ mod list_zones;
 mod looking;
 mod maker;
 mod measures;
+mod nonrelocatable_blocks;
 mod packing;
 mod purged_sums;
 mod purging;

@@ -15,11 +15,11 @@ use crate::copying::copy_at;
 use crate::entries::{
     StoredBlock, fill, free_slot, free_total, index_at, tidy_entries, write_at, zeros,
 };
-use crate::fixed::{free_place, put_masters};
 use crate::flags::Flags;
 use crate::list_walk::{has_free_above, look_at, purgeable_above, run_above, walk_over};
 use crate::looking::{next_purgeable_in, place_in, purgeable_in, room_above_in};
 use crate::measures::{GREATEST_ZONE, LEAST_ZONE, MASTERS_SIZE, SLOTS_A_BLOCK, UNIT};
+use crate::nonrelocatable_blocks::{free_place, put_masters};
 use crate::packing::{hoist_slot, raise_run, settle_run};
 use crate::purged_sums::{free_after_in, largest_after_in};
 use crate::purging::{flag_at, purge_above, purge_entries};
@@ -206,9 +206,9 @@ impl BlockStore for ListStore {
         Ok(())
     }
 
-    fn carve_fixed(&mut self, place: u32, size: u32) -> Result<(), AllocError> {
+    fn carve_nonrelocatable(&mut self, place: u32, size: u32) -> Result<(), AllocError> {
         let content = zeros(self.alloc, size as usize)?;
-        let new = StoredBlock::Fixed(place, content);
+        let new = StoredBlock::Nonrelocatable(place, content);
         fill(&mut self.blocks, place, new)?;
         Ok(())
     }
@@ -262,7 +262,7 @@ impl BlockStore for ListStore {
             unreachable!()
         };
         match &self.blocks[i] {
-            StoredBlock::Fixed(_, content) => content.as_slice(),
+            StoredBlock::Nonrelocatable(_, content) => content.as_slice(),
             StoredBlock::Relocatable(_, _, content) => content.as_slice(),
             _ => &[],
         }

@@ -39,7 +39,7 @@ fn look(entry: &StoredBlock) -> Seen
 {
     match entry {
         StoredBlock::Free(n) => Seen::Free(*n),
-        StoredBlock::Fixed(_, content) => Seen::Fixed(content.len() as u32),
+        StoredBlock::Nonrelocatable(_, content) => Seen::Nonrelocatable(content.len() as u32),
         StoredBlock::Masters => Seen::Masters,
         StoredBlock::Relocatable(slot, flags, content) => {
             Seen::Relocatable(*slot, *flags, content.len() as u32)

@@ -35,9 +35,9 @@ fn resized_entry(
 {
     match entry {
         StoredBlock::Free(n) => Ok(StoredBlock::Free(*n)),
-        StoredBlock::Fixed(place, content) => {
+        StoredBlock::Nonrelocatable(place, content) => {
             let content = resized_bytes(alloc, content, bytes)?;
-            Ok(StoredBlock::Fixed(*place, content))
+            Ok(StoredBlock::Nonrelocatable(*place, content))
         }
         StoredBlock::Masters => Ok(StoredBlock::Masters),
         StoredBlock::Relocatable(slot, flags, content) => {

@@ -21,7 +21,7 @@ pub enum Sparing {
 #[derive(Clone, Copy, Debug, PartialEq, Eq)]
 pub enum Seen {
     Free(u32),
-    Fixed(u32),
+    Nonrelocatable(u32),
     Masters,
     Relocatable(u32, Flags, u32),
 }

@@ -5,7 +5,7 @@ ghost use Rattle.std.specs.Prelude.{length, take, replicate, is_some, IsTrue, Is
 ghost use Rattle.std.specs.Prelude.{IsErr, MatchOption};
 ghost use Rattle.std.specs.Option.{option_map};
 ghost use Rattle.mac_words.specs.Size.{padded};
-ghost use Rattle.block_store.specs.Block.{Block, Free, Fixed, Masters, Relocatable, is_fixed, size, count, sizes};
+ghost use Rattle.block_store.specs.Block.{Block, Free, Nonrelocatable, Masters, Relocatable, is_nonrelocatable, size, count, sizes};
 ghost use Rattle.block_store.specs.Block.{free_sum, is_room, is_relocatable, is_masters, no_flags, content_of};
 ghost use Rattle.block_store.specs.Block.{with_content, resized, tidy};
 ghost use Rattle.windows.specs.Writes.{written};
@@ -180,10 +180,10 @@ pub trait BlockStore {
         ensures host { IsErr result → IsTrue TAKES_HOST };
 
     /// Puts a new nonrelocatable block of `size` bytes 0 at the lower end of the free block at a place.
-    fn carve_fixed(&mut self, place: u32, size: u32) -> Result<(), AllocError>
+    fn carve_nonrelocatable(&mut self, place: u32, size: u32) -> Result<(), AllocError>
         requires { IsSomeAnd (spot_at place (zone self.old)) (λ s. IsTrue (is_room (padded size) s.here)) }
         ensures ok { OnOk result (IfSome (spot_at place (zone self.old)) (λ s.
-            zone self.new ≡ filled (Fixed place (replicate size 0)) s)) }
+            zone self.new ≡ filled (Nonrelocatable place (replicate size 0)) s)) }
         ensures rest { IsRest (rest self.old) (rest self.new) }
         ensures err { OnErr result (zone self.new ≡ zone self.old) }
         ensures host { IsErr result → IsTrue TAKES_HOST };
@@ -207,8 +207,8 @@ pub trait BlockStore {
 
     /// Makes the nonrelocatable block at a place a free block.
     fn free_at(&mut self, place: u32)
-        requires { IsSomeAnd (spot_at place (zone self.old)) (λ s. is_fixed place s.here ≡ true) }
-        ensures zone { zone self.new ≡ tidy (freed (is_fixed place) (zone self.old)) }
+        requires { IsSomeAnd (spot_at place (zone self.old)) (λ s. is_nonrelocatable place s.here ≡ true) }
+        ensures zone { zone self.new ≡ tidy (freed (is_nonrelocatable place) (zone self.old)) }
         ensures rest { IsRest (rest self.old) (rest self.new) };
 
     /// Makes the block to which a handle's master pointer leads a free block; does nothing for an empty handle.

@@ -30,7 +30,7 @@ pub fn size_of_seen(block: Seen) -> u32
 {
     match block {
         Seen::Free(n) => n,
-        Seen::Fixed(n) => padded_size(n as usize),
+        Seen::Nonrelocatable(n) => padded_size(n as usize),
         Seen::Masters => MASTERS_SIZE,
         Seen::Relocatable(_, _, n) => padded_size(n as usize),
     }

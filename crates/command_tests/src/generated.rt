@@ -1,6 +1,7 @@
 //! Scripts and jobs that a generator makes, run over lists and in the bytes of a region.
 
 ghost use Rattle.std.specs.Prelude.{◌≡◌, ◌≤◌, ◌%◌};
+ghost use Rattle.block_store.specs.declared.measures.TheConstants.{GREATEST_ZONE, LEAST_ZONE};
 
 use crate::chances::{Chance, some_calls};
 use crate::jobs::{add, empty_job, is_run_alike};
@@ -15,8 +16,8 @@ use std::test::Fail;
 /// Runs a script to its end in a partition of `size` bytes that is kept in lists, and returns the transcript.
 fn run_in_lists(alloc: Global, size: u32, script: &Script) -> Result<Vec<u8>, AllocError>
     requires even { size % 16 ≡ 0 }
-    requires low { 512 ≤ size }
-    requires high { size ≤ 134217728 }
+    requires low { LEAST_ZONE ≤ size }
+    requires high { size ≤ GREATEST_ZONE }
 {
     let steps = script.steps().len() + 1;
     let given = give_alone(alloc, size, own_resources(alloc)?, script, steps, false)?;
@@ -27,8 +28,8 @@ fn run_in_lists(alloc: Global, size: u32, script: &Script) -> Result<Vec<u8>, Al
 /// bytes then are a zone whose number of free bytes is the number that the last call of the script returns.
 fn leaves_alike(rt: &impl Abort, alloc: Global, size: u32, script: &Script) -> Result<(), Fail>
     requires even { size % 16 ≡ 0 }
-    requires low { 512 ≤ size }
-    requires high { size ≤ 134217728 }
+    requires low { LEAST_ZONE ≤ size }
+    requires high { size ≤ GREATEST_ZONE }
 {
     let told = run_in_lists(alloc, size, script)?;
     let region = used_region(alloc, size)?;

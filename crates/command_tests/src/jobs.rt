@@ -5,7 +5,7 @@ ghost use Rattle.std.specs.Prelude.{◌≡◌, IfOk};
 use crate::zones::used_region;
 use applications::Unwatched;
 use arrayvec::ArrayVec;
-use block_store::ListZones;
+use block_store::{GREATEST_ZONE, LEAST_ZONE, ListZones};
 use desk::{App, AppOutcome, Job, Launched, Outcome, RunFault, run, run_with};
 use fork_format::{Content, Group, Ref, write_fork};
 use mac_words::{Attrs, Label, OsType};
@@ -125,7 +125,7 @@ fn is_same_end(one: &Result<Outcome, RunFault>, other: &Result<Outcome, RunFault
 /// Reports whether a job leaves the same outcome over lists and in the bytes of a region.
 pub fn is_run_alike(alloc: Global, job: &Job) -> Result<bool, Fail> {
     let memory = job.memory;
-    if memory % 16 != 0 || memory < 512 || 134_217_728 < memory || 64 < job.apps.len() {
+    if memory % 16 != 0 || memory < LEAST_ZONE || GREATEST_ZONE < memory || 64 < job.apps.len() {
         return Err(Fail::new("no job"));
     }
     let zones = ListZones::new(alloc, memory)?;

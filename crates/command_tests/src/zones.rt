@@ -2,6 +2,7 @@
 //! and on no store.
 
 ghost use Rattle.std.specs.Prelude.{◌≡◌, ◌%◌, ◌≤◌, [], IfOk, length};
+ghost use Rattle.block_store.specs.declared.measures.TheConstants.{GREATEST_ZONE, LEAST_ZONE};
 
 use raw_region::Region;
 use std::alloc::{AllocError, Global};
@@ -12,7 +13,7 @@ use std::test::Fail;
 pub fn used_region(alloc: Global, len: u32) -> Result<Region, AllocError>
     requires even { len % 16 ≡ 0 }
     requires low { 16 ≤ len }
-    requires high { len ≤ 134217728 }
+    requires high { len ≤ GREATEST_ZONE }
     ensures home { IfOk result (λ r. r.out ≡ []) }
     ensures length { IfOk result (λ r. length r.bytes ≡ len) }
 {
@@ -27,7 +28,7 @@ pub fn used_region(alloc: Global, len: u32) -> Result<Region, AllocError>
 pub fn image_of(alloc: Global, mut region: Region) -> Result<Vec<u8>, AllocError>
     requires home { region.out ≡ [] }
     requires even { length region.bytes % 16 ≡ 0 }
-    requires low { 512 ≤ length region.bytes }
+    requires low { LEAST_ZONE ≤ length region.bytes }
 {
     let len = region.len();
     let part = region.cut(0, len);

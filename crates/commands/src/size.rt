@@ -5,6 +5,7 @@ ghost use Rattle.std.specs.List.{list_all};
 ghost use Rattle.std.specs.Option.{option_map};
 ghost use Rattle.std.specs.Char.{is_ascii_digit};
 ghost use Rattle.commands.specs.Size.{partition_size, within_limits};
+ghost use Rattle.commands.specs.declared.size.TheConstants.{SMALLEST, LARGEST};
 
 /// The least number of bytes of a partition.
 const SMALLEST: u32 = 512;
@@ -17,8 +18,8 @@ const LARGEST: u32 = 134_217_728;
 pub struct PartitionSize {
     pub bytes: u32,
     ghost even: { bytes % 16 ≡ 0 },
-    ghost low: { 512 ≤ bytes },
-    ghost high: { bytes ≤ 134217728 },
+    ghost low: { SMALLEST ≤ bytes },
+    ghost high: { bytes ≤ LARGEST },
 }
 
 fn has_digits_only(text: &str) -> bool

@@ -5,6 +5,7 @@ use Rattle.std.specs.Int.{cast_unsigned, w16}
 use Rattle.byteorder.specs.Endian.{big_bytes}
 use Rattle.fork_format.specs.Content.{Ref, Group, Content, refs_of}
 use Rattle.fork_format.specs.Fork.{kept, map_kept}
+use Rattle.fork_format.specs.Limits.{most_data, most_offset, no_name, most_name_offset, most_datum_offset}
 
 -- The one fork that is written for a content (its canonical fork), and the contents that can be written.
 -- More Macintosh Toolbox, chapter 1, "Resource File Format".
@@ -24,7 +25,7 @@ name r = name_or_none r.name
 
 -- The offset of a name; FFFF where there is no name.
 abbrev pub name_offset : Option (List ℕ) → ℕ → ℕ
-name_offset None at = 65535
+name_offset None at = no_name
 name_offset (Some name) at = at
 
 -- A reference of 12 bytes, whose stored data and name stand at these offsets.
@@ -132,7 +133,7 @@ are_distinct (n ∷ ns) = list_all (λ m. not (m == n)) ns && are_distinct ns
 -- The content can be written as a resource fork.
 abbrev pub fits : Content → Bool
 fits c =
-    list_all has_refs c.groups && are_distinct (map (λ g. g.kind) c.groups) && nat_le (length c.groups) 65535
-    && all_within 65535 (list_starts c.groups) && nat_le (names_offset c.groups) 65535
-    && all_within 65534 (name_starts 0 (refs_of c.groups))
-    && all_within 16777215 (data_starts (refs_of c.groups)) && nat_le (length (data_of c.groups)) 134217728
+    list_all has_refs c.groups && are_distinct (map (λ g. g.kind) c.groups) && nat_le (length c.groups) most_offset
+    && all_within most_offset (list_starts c.groups) && nat_le (names_offset c.groups) most_offset
+    && all_within most_name_offset (name_starts 0 (refs_of c.groups))
+    && all_within most_datum_offset (data_starts (refs_of c.groups)) && nat_le (length (data_of c.groups)) most_data

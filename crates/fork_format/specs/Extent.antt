@@ -5,15 +5,16 @@ use Rattle.fork_format.specs.declared.fit.Starts.{Starts}
 use Rattle.fork_format.specs.declared.fit.Extents.{Extents}
 use Rattle.fork_format.specs.Content.{Ref, Group}
 use Rattle.fork_format.specs.Canonical.{datum, name, data_of, names_of, names_offset}
+use Rattle.fork_format.specs.Limits.{most_data, most_offset, most_name_offset, most_datum_offset}
 
 -- A name, where there is one, may begin at the offset.
 abbrev pub is_name_low : ℕ → Option (List ℕ) → Bool
 is_name_low at None = true
-is_name_low at (Some name) = nat_le at 65534
+is_name_low at (Some name) = nat_le at most_name_offset
 
 -- A resource's stored data and name may begin at these offsets, and the stored data ends within the limit.
 abbrev pub is_low : Starts → Ref → Bool
-is_low s r = nat_le s.datum 16777215 && is_name_low s.name r.name && nat_le (s.datum + length (datum r)) 134217728
+is_low s r = nat_le s.datum most_datum_offset && is_name_low s.name r.name && nat_le (s.datum + length (datum r)) most_data
 
 -- Where the stored data and the name of the next resource begin.
 abbrev pub next : Starts → Ref → Starts
@@ -37,7 +38,7 @@ refs_end at (g ∷ groups) = if nat_le 1 (length g.refs) then refs_end (at + 12 
 
 -- The length of the stored data fits its four bytes.
 abbrev pub is_short : Ref → Bool
-is_short r = nat_le (length r.datum) 134217728
+is_short r = nat_le (length r.datum) most_data
 
 -- The lengths of the stored data of a group's resources fit their four bytes.
 abbrev pub are_short : Group → Bool
@@ -48,6 +49,6 @@ pub record AreExtents (e : Extents) (groups : List Group) : Type 0 where
   pub names_at : 28 + e.refs_end ≡ names_offset groups
   pub data_len : e.data_len ≡ length (data_of groups)
   pub names_len : e.names_len ≡ length (names_of groups)
-  pub low : 28 + e.refs_end ≤ 65535
-  pub small : e.data_len ≤ 134217728
+  pub low : 28 + e.refs_end ≤ most_offset
+  pub small : e.data_len ≤ most_data
   pub short : e.names_len ≤ 65790

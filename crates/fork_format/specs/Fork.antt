@@ -5,6 +5,7 @@ use Rattle.std.specs.Int.{cast_signed, w16}
 use Rattle.byteorder.specs.Endian.{big_number}
 use Rattle.mac_words.specs.Attributes.{unchanged}
 use Rattle.fork_format.specs.Content.{Ref, Group, Content, joined}
+use Rattle.fork_format.specs.Limits.{most_data, most_references, no_name}
 
 -- What bytes spell. Each part of a resource fork is given by its offset into the whole bytes, and a read past the end
 -- of the bytes is 0.
@@ -65,7 +66,7 @@ ref_places type bytes = offsets (type_list bytes + number 2 (type + 6) bytes) 12
 
 -- Where the name of the reference at an offset stands; FFFF in the fork stands for no name.
 abbrev pub name_place : ℕ → List ℕ → Option ℕ
-name_place ref bytes = if number 2 (ref + 2) bytes == 65535 then None else Some
+name_place ref bytes = if number 2 (ref + 2) bytes == no_name then None else Some
     (name_list bytes + number 2 (ref + 2) bytes)
 
 -- The name at a place: its length, then its bytes.
@@ -170,8 +171,8 @@ all_data bytes = sum_by (type_size bytes) (type_places bytes)
 -- See decision 126 (the limits of a fork that is read stand in its grammar).
 abbrev pub is_fork : List ℕ → Bool
 is_fork bytes =
-    parts_fit bytes && types_fit bytes && nat_le (all_refs bytes) 65536
-    && list_all (refs_fit bytes) (type_places bytes) && nat_le (all_data bytes) 134217728
+    parts_fit bytes && types_fit bytes && nat_le (all_refs bytes) most_references
+    && list_all (refs_fit bytes) (type_places bytes) && nat_le (all_data bytes) most_data
 
 -- The bytes spell the content c: the bytes spell a content, and their parts say c.
 -- See decision 125 (what bytes spell is a test and a content).

@@ -1,3 +1,4 @@
+pub mod Limits
 pub mod Content
 pub mod Fork
 pub mod Canonical

@@ -5,7 +5,7 @@ use Rattle.mac_words.specs.Size.{phys}
 use Rattle.mac_words.specs.declared.code.OsErr.{OsErr}
 use Rattle.mac_words.specs.declared.code.TheConstants.OsErr.{NO_ERR, NIL_HANDLE, WRONG_ZONE, MEM_FULL, LOCKED, PROFILE}
 use Rattle.block_store.specs.declared.flags.Flags.{Flags}
-use Rattle.block_store.specs.Block.{Block, Free, Fixed, Masters, Relocatable, free_sum, is_mover, is_relocatable}
+use Rattle.block_store.specs.Block.{Block, Free, Nonrelocatable, Masters, Relocatable, free_sum, is_mover, is_relocatable}
 use Rattle.block_store.specs.Block.{content_of, with_content, tidy}
 use Rattle.windows.specs.Writes.{written}
 use Rattle.block_store.specs.Run.{change_run, has, high}
@@ -132,7 +132,7 @@ set_handle_size handle n s =
 -- A block with its flags changed.
 abbrev pub flagged : (Flags → Flags) → Block → Block
 flagged change (Free n) = Free n
-flagged change (Fixed id content) = Fixed id content
+flagged change (Nonrelocatable id content) = Nonrelocatable id content
 flagged change Masters = Masters
 flagged change (Relocatable id flags content) = Relocatable id (change flags) content
 

@@ -1,6 +1,6 @@
 use Rattle.std.specs.Prelude.{◌≡◌, ◌≤◌, ℕ, ◌/◌, ◌%◌, ◌==◌, not, ◌&&◌, Bool, false, Option, Some, List}
 use Rattle.std.specs.Option.{option_map}
-use Rattle.block_store.specs.Block.{Block, Free, Fixed, Masters, Relocatable, sizes, count, is_relocatable}
+use Rattle.block_store.specs.Block.{Block, Free, Nonrelocatable, Masters, Relocatable, sizes, count, is_relocatable}
 use Rattle.block_store.specs.Room.{spot}
 use Rattle.heap_calls.specs.State.{Memory}
 use Rattle.heap_calls.specs.Asked.{Asked, DisposeHandle, HUnlock, HSetState, answered}
@@ -10,7 +10,7 @@ use Rattle.heap_calls.specs.Asked.{Asked, DisposeHandle, HUnlock, HSetState, ans
 -- Whether a block is the locked block of the handle h.
 abbrev pub is_locked : ℕ → Block → Bool
 is_locked h (Free n) = false
-is_locked h (Fixed id content) = false
+is_locked h (Nonrelocatable id content) = false
 is_locked h Masters = false
 is_locked h (Relocatable id flags content) = id == h && flags.locked
 

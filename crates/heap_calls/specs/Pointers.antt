@@ -4,7 +4,7 @@ use Rattle.std.specs.Option.{option_map, ok_or}
 use Rattle.mac_words.specs.Size.{phys}
 use Rattle.mac_words.specs.declared.code.OsErr.{OsErr}
 use Rattle.mac_words.specs.declared.code.TheConstants.OsErr.{NIL_HANDLE, WRONG_ZONE, MEM_FULL}
-use Rattle.block_store.specs.Block.{Block, Free, Fixed, is_fixed, content_of, tidy, sizes}
+use Rattle.block_store.specs.Block.{Block, Free, Nonrelocatable, is_nonrelocatable, content_of, tidy, sizes}
 use Rattle.block_store.specs.Run.{change_run, has_free, low}
 use Rattle.block_store.specs.Room.{Spot, spot, put_at_base, room}
 use Rattle.block_store.specs.Grow.{freed, grow}
@@ -22,7 +22,7 @@ abbrev pub pointed : ℕ → Option Meaning → State → Result Held OsErr
 pointed p None s = Err NIL_HANDLE
 pointed p (Some (Handle role)) s = Err WRONG_ZONE
 pointed p (Some Pointer) s = ok_or (option_map (λ (at : Spot). let held : Held = record { number = p; at = at } in
-    held) (spot (is_fixed p) s.zone)) NIL_HANDLE
+    held) (spot (is_nonrelocatable p) s.zone)) NIL_HANDLE
 pointed p (Some Disposed) s = Err WRONG_ZONE
 
 -- The block of the pointer that a name is bound to; -109 (nilHandleErr) where the name is unbound.
@@ -37,14 +37,14 @@ on_pointer pointer s answer = for_found (pointed_at pointer s) s answer
 -- NewPtr: a new pointer to a nonrelocatable block of n bytes, all 0, at the base of a run; -108 (memFullErr) where
 -- there is no room or no block can have that size.
 abbrev pub new_pointer : ℕ → State → Answer ℕ
-new_pointer n s = if is_some (phys n) then given Pointer (room (put_at_base (Fixed (length s.names) (replicate n 0)))
+new_pointer n s = if is_some (phys n) then given Pointer (room (put_at_base (Nonrelocatable (length s.names) (replicate n 0)))
     nothing s.zone) s else refused MEM_FULL s
 
 -- DisposePtr: disposes of a pointer and its block.
 abbrev pub dispose_pointer : Option ℕ → State → Answer (Unit {0})
 dispose_pointer pointer s = on_pointer pointer s (λ held. (
   Ok tt,
-  record { zone = tidy (freed (is_fixed held.number) s.zone); names = slice_set s.names held.number Disposed },
+  record { zone = tidy (freed (is_nonrelocatable held.number) s.zone); names = slice_set s.names held.number Disposed },
 ))
 
 -- GetPtrSize: the logical size of a pointer's block, in bytes.
@@ -55,7 +55,7 @@ get_pointer_size pointer s = on_pointer pointer s (λ held. (Ok (length (content
 -- room or no block can have that size.
 abbrev pub set_pointer_size : Option ℕ → ℕ → State → Answer (Unit {0})
 set_pointer_size pointer n s = on_pointer pointer s (λ held. if is_some (phys n)
-    then rebuilt (grow (is_fixed held.number) nothing n s.zone) s else refused MEM_FULL s)
+    then rebuilt (grow (is_nonrelocatable held.number) nothing n s.zone) s else refused MEM_FULL s)
 
 -- ShowPtr: the bytes of a pointer's block.
 abbrev pub show_pointer : Option ℕ → State → Answer (List ℕ)

@@ -2,7 +2,7 @@ use Rattle.std.specs.Prelude.{ℕ, ◌+◌, ◌-◌, ◌/◌, ◌%◌, ◌==◌,
 use Rattle.std.specs.Prelude.{replicate, is_some, if◌then◌else◌}
 use Rattle.mac_words.specs.Size.{phys}
 use Rattle.mac_words.specs.declared.code.TheConstants.OsErr.{MEM_FULL, PURGED}
-use Rattle.block_store.specs.Block.{Block, Free, Fixed, Masters, Relocatable, free_sum, is_mover, is_relocatable}
+use Rattle.block_store.specs.Block.{Block, Free, Nonrelocatable, Masters, Relocatable, free_sum, is_mover, is_relocatable}
 use Rattle.block_store.specs.Block.{no_flags, tidy}
 use Rattle.block_store.specs.Run.{runs}
 use Rattle.block_store.specs.Room.{Spot, spot, put_in_place, room, purge, count_of}
@@ -33,7 +33,7 @@ is_resource SystemResource = true
 
 abbrev pub block_bits : Block → ℕ
 block_bits (Free n) = 0
-block_bits (Fixed id content) = 0
+block_bits (Nonrelocatable id content) = 0
 block_bits Masters = 0
 block_bits (Relocatable id flags content) = bit 128 flags.locked + bit 64 flags.purgeable
 

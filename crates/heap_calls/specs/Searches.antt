@@ -2,7 +2,7 @@ use Rattle.std.specs.Prelude.{ℕ, ◌+◌, zero, suc, Bool, true, false, ◌||�
 use Rattle.std.specs.Prelude.{◌∷◌, length, replicate, is_some, nat_lt, nat_le, if◌then◌else◌}
 use Rattle.mac_words.specs.Size.{phys}
 use Rattle.mac_words.specs.declared.code.OsErr.{OsErr}
-use Rattle.block_store.specs.Block.{Block, Fixed, Masters, Relocatable, size, is_mover, is_relocatable, is_fixed}
+use Rattle.block_store.specs.Block.{Block, Nonrelocatable, Masters, Relocatable, size, is_mover, is_relocatable, is_nonrelocatable}
 use Rattle.block_store.specs.Block.{no_flags, resized, content_of}
 use Rattle.block_store.specs.Run.{has_free, segments, runs}
 use Rattle.block_store.specs.Room.{Spot, spot, put_at_base, put_in_place, purge, count_of}
@@ -53,7 +53,7 @@ more_masters_searches s = room_searches (put_at_base Masters) nothing s.zone
 
 -- The searches of NewPtr.
 abbrev pub new_pointer_searches : ℕ → State → ℕ
-new_pointer_searches n s = if is_some (phys n) then room_searches (put_at_base (Fixed (length s.names) (replicate n 0)))
+new_pointer_searches n s = if is_some (phys n) then room_searches (put_at_base (Nonrelocatable (length s.names) (replicate n 0)))
     nothing s.zone else 0
 
 -- The searches of ReserveMem.
@@ -98,7 +98,7 @@ set_handle_size_searches handle n s = found_searches (look_up handle s)
 -- The searches of SetPtrSize.
 abbrev pub set_pointer_size_searches : Option ℕ → ℕ → State → ℕ
 set_pointer_size_searches pointer n s = found_searches (pointed_at pointer s)
-    (λ held. size_searches (is_fixed held.number) nothing n s.zone)
+    (λ held. size_searches (is_nonrelocatable held.number) nothing n s.zone)
 
 -- The searches of ReallocateHandle.
 abbrev pub reallocate_handle_searches : Option ℕ → ℕ → State → ℕ

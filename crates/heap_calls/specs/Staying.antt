@@ -1,7 +1,7 @@
 use Rattle.std.specs.Prelude.{◌≡◌, ◌≤◌, ◌<◌, ℕ, ◌+◌, ◌*◌, not, ◌&&◌, List, length, if◌then◌else◌}
 use Rattle.mac_words.specs.Size.{padded}
 use Rattle.block_store.specs.declared.measures.TheConstants.{MASTERS_SIZE}
-use Rattle.block_store.specs.Block.{Block, Free, Fixed, Masters, Relocatable, count, total, sizes, free_sum, is_masters}
+use Rattle.block_store.specs.Block.{Block, Free, Nonrelocatable, Masters, Relocatable, count, total, sizes, free_sum, is_masters}
 use Rattle.heap_calls.specs.State.{Memory}
 use Rattle.heap_calls.specs.Purging.{purged_all}
 use Rattle.mac_words.specs.Told.{Refused}
@@ -19,7 +19,7 @@ ease zone = free_sum (purged_all zone)
 -- The bytes of a block that is not free, may not be purged and holds no master pointers; 0 for another block.
 abbrev pub staying_of : Block → ℕ
 staying_of (Free n) = 0
-staying_of (Fixed id content) = padded (length content)
+staying_of (Nonrelocatable id content) = padded (length content)
 staying_of Masters = 0
 staying_of (Relocatable id flags content) = if not flags.locked && flags.purgeable then 0 else padded (length content)
 

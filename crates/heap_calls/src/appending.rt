@@ -16,7 +16,7 @@ ghost use Rattle.heap_calls.specs.Inner.Given.{IsAnswer, KeepsNames};
 ghost use Rattle.heap_calls.specs.Inner.Growing.{Spares, Stays, fitted};
 ghost use Rattle.heap_calls.specs.Inner.GrowingInPlace.{made_zone};
 ghost use Rattle.heap_calls.specs.Moves.{size_moves, hand_and_hand_moves, pointer_and_hand_moves};
-ghost use Rattle.heap_calls.specs.Inner.Numbered.{KeepsFixed};
+ghost use Rattle.heap_calls.specs.Inner.Numbered.{KeepsNonrelocatable};
 ghost use Rattle.heap_calls.specs.Inner.Packed.{Packs};
 ghost use Rattle.heap_calls.specs.Searches.{size_searches, hand_and_hand_searches, pointer_and_hand_searches};
 ghost use Rattle.block_store.specs.declared.measures.TheConstants.{GREATEST_ZONE};
@@ -142,7 +142,7 @@ fn lengthen<S: BlockStore>(
     ensures full { IfOk result (λ grown. grown.done ≡ false → S.zone store.new ≡ S.zone store.old) }
     ensures searches { IfOk result (λ grown. grown.searches ≡ size_searches (is_relocatable slot) (spared sparing)
         (length_of slot (S.zone store.old) + more) (S.zone store.old)) }
-    ensures fixed { KeepsFixed (S.zone store.old) (S.zone store.new) }
+    ensures nonrelocatable { KeepsNonrelocatable (S.zone store.old) (S.zone store.new) }
     ensures rest { KeepsSlots (S.rest store.old) (S.rest store.new) }
     ensures moves { Packs (size_moves (is_relocatable slot) (spared sparing)
         (length_of slot (S.zone store.old) + more) (S.zone store.old)) (S.rest store.old) (S.rest store.new) }
@@ -203,7 +203,7 @@ fn append_bytes<S: BlockStore>(
     ensures full { IfOk result (λ grown. grown.done ≡ false → S.zone store.new ≡ S.zone store.old) }
     ensures searches { IfOk result (λ grown. grown.searches ≡ size_searches (is_relocatable slot) (is_relocatable slot)
         (length_of slot (S.zone store.old) + length bytes.now) (S.zone store.old)) }
-    ensures fixed { KeepsFixed (S.zone store.old) (S.zone store.new) }
+    ensures nonrelocatable { KeepsNonrelocatable (S.zone store.old) (S.zone store.new) }
     ensures rest { KeepsSlots (S.rest store.old) (S.rest store.new) }
     ensures moves { Packs (size_moves (is_relocatable slot) (is_relocatable slot)
         (length_of slot (S.zone store.old) + length bytes.now) (S.zone store.old)) (S.rest store.old)
@@ -236,7 +236,7 @@ fn append_block<S: BlockStore>(
     ensures full { IfOk result (λ grown. grown.done ≡ false → S.zone store.new ≡ S.zone store.old) }
     ensures searches { IfOk result (λ grown. grown.searches ≡ size_searches (is_relocatable slot)
         (spared (Sparing.Two source slot)) (length_of slot (S.zone store.old) + more) (S.zone store.old)) }
-    ensures fixed { KeepsFixed (S.zone store.old) (S.zone store.new) }
+    ensures nonrelocatable { KeepsNonrelocatable (S.zone store.old) (S.zone store.new) }
     ensures rest { KeepsSlots (S.rest store.old) (S.rest store.new) }
     ensures moves { Packs (size_moves (is_relocatable slot) (spared (Sparing.Two source slot))
         (length_of slot (S.zone store.old) + more) (S.zone store.old)) (S.rest store.old) (S.rest store.new) }

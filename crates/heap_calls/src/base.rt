@@ -8,7 +8,7 @@ ghost use Rattle.block_store.specs.Run.{run_spot, has_free};
 ghost use Rattle.heap_calls.specs.Inner.SearchLaws.{base-ends, base-stays};
 ghost use Rattle.block_store.proofs.Purged.Rising.{run-rises};
 ghost use Rattle.heap_calls.specs.Inner.Base.{IsBaseAt, base, base_searches};
-ghost use Rattle.heap_calls.specs.Inner.Numbered.{KeepsFixed};
+ghost use Rattle.heap_calls.specs.Inner.Numbered.{KeepsNonrelocatable};
 ghost use Rattle.heap_calls.specs.Inner.NewSlot.{HasMore, IsMade, TakesSlot, zone_searches};
 ghost use Rattle.heap_calls.specs.Inner.Packed.{PacksNone};
 ghost use Rattle.block_store.specs.declared.measures.TheConstants.{GREATEST_ZONE};
@@ -93,7 +93,7 @@ pub fn make_base<S: BlockStore>(
     ensures none { IfOk result (λ r. MatchOption r.place (S.zone store.new ≡ S.zone store.old) (λ _. Unit {0})) }
     ensures searches { IfOk result (λ r. r.searches ≡ base_searches bytes sparing (S.zone store.old)) }
     ensures few { IfOk result (λ r. r.searches ≤ 134217729) }
-    ensures fixed { KeepsFixed (S.zone store.old) (S.zone store.new) }
+    ensures nonrelocatable { KeepsNonrelocatable (S.zone store.old) (S.zone store.new) }
     ensures rest { IsRest (S.rest store.old) (S.rest store.new) }
     ensures host { IsErr result → IsTrue S.TAKES_HOST }
 {
@@ -119,7 +119,7 @@ pub fn make_base<S: BlockStore>(
 pub fn make_masters<S: BlockStore>(store: &mut S, sparing: Sparing) -> Result<Room, AllocError>
     ensures made { IfOk result (λ r. IsMade sparing (S.zone store.old) (S.rest store.old) r.place (S.zone store.new)
         (S.rest store.new)) }
-    ensures fixed { KeepsFixed (S.zone store.old) (S.zone store.new) }
+    ensures nonrelocatable { KeepsNonrelocatable (S.zone store.old) (S.zone store.new) }
     ensures kept { OnErr result (HasMore (S.rest store.old) (S.rest store.new)) }
     ensures searches { IfOk result (λ r. r.searches ≡ base_searches MASTERS_SIZE sparing (S.zone store.old)) }
     ensures few { IfOk result (λ r. r.searches ≤ 134217729) }
@@ -145,7 +145,7 @@ pub struct Taken {
 pub fn make_slot<S: BlockStore>(store: &mut S, sparing: Sparing) -> Result<Taken, AllocError>
     ensures slot { IfOk result (λ r. TakesSlot sparing (S.zone store.old) (S.rest store.old) r.slot (S.zone store.new)
         (S.rest store.new)) }
-    ensures fixed { KeepsFixed (S.zone store.old) (S.zone store.new) }
+    ensures nonrelocatable { KeepsNonrelocatable (S.zone store.old) (S.zone store.new) }
     ensures kept { OnErr result (HasMore (S.rest store.old) (S.rest store.new)) }
     ensures searches { IfOk result (λ r. r.searches ≡ zone_searches sparing (S.rest store.old).unused
         (S.zone store.old)) }

@@ -14,7 +14,7 @@ ghost use Rattle.heap_calls.specs.Copying.{hand_to_hand};
 ghost use Rattle.heap_calls.specs.Inner.NewBlock.{new_searches};
 ghost use Rattle.heap_calls.specs.Inner.NewSlot.{HasMore};
 ghost use Rattle.heap_calls.specs.Moves.{hand_to_hand_moves};
-ghost use Rattle.heap_calls.specs.Inner.Numbered.{KeepsFixed};
+ghost use Rattle.heap_calls.specs.Inner.Numbered.{KeepsNonrelocatable};
 ghost use Rattle.heap_calls.specs.Inner.Packed.{Packs, new_moves};
 ghost use Rattle.heap_calls.specs.Searches.{hand_to_hand_searches};
 
@@ -76,7 +76,7 @@ fn copy_block<S: BlockStore>(store: &mut S, source: u32, size: u32) -> Result<Ta
         (λ s. length (content_of s.here) ≡ size) }
     ensures answer { IfOk result (λ r. IsCopy source size (S.zone store.old) (S.rest store.old) r.slot
         (S.zone store.new) (S.rest store.new)) }
-    ensures fixed { KeepsFixed (S.zone store.old) (S.zone store.new) }
+    ensures nonrelocatable { KeepsNonrelocatable (S.zone store.old) (S.zone store.new) }
     ensures kept { OnErr result (HasMore (S.rest store.old) (S.rest store.new)) }
     ensures searches { IfOk result (λ r. r.searches ≡ new_searches (One source) size (S.rest store.old).unused
         (S.zone store.old)) }

@@ -4,7 +4,7 @@ ghost use Rattle.std.specs.Prelude.{◌≡◌, ◌≢◌, IsTrue, IsErr};
 ghost use Rattle.heap_calls.specs.Busy.{barred, change_barred, unless};
 ghost use Rattle.heap_calls.specs.Inner.Given.{IsAnswer, KeepsNames};
 ghost use Rattle.heap_calls.specs.Asked.{packing};
-ghost use Rattle.heap_calls.specs.Inner.Numbered.{Agrees, KeepsFixed};
+ghost use Rattle.heap_calls.specs.Inner.Numbered.{Agrees, KeepsNonrelocatable};
 ghost use Rattle.heap_calls.specs.Answer.{noting, silent, searching, moving};
 ghost use Rattle.heap_calls.specs.Purging.{empty_handle, reallocate_handle};
 ghost use Rattle.heap_calls.specs.Searches.{reallocate_handle_searches};
@@ -112,7 +112,7 @@ pub fn renew_block<S: BlockStore>(store: &mut S, slot: u32, size: u32) -> Result
     requires { IsTrue (is_used ((S.rest store.old).slots slot)) }
     ensures answer { IsRenewed slot size (S.zone store.old) (S.rest store.old) result (S.zone store.new)
         (S.rest store.new) }
-    ensures fixed { KeepsFixed (S.zone store.old) (S.zone store.new) }
+    ensures nonrelocatable { KeepsNonrelocatable (S.zone store.old) (S.zone store.new) }
     ensures moves { Packs (renewed_moves slot size (S.zone store.old)) (S.rest store.old) (S.rest store.new) }
     ensures host { IsErr result → IsTrue S.TAKES_HOST }
 {

@@ -11,7 +11,7 @@ ghost use Rattle.heap_calls.specs.Inner.Filling.{owned_by, wanted_as, IsNext};
 ghost use Rattle.heap_calls.specs.Inner.Loose.{IsRenewed, renewed_moves};
 ghost use Rattle.heap_calls.specs.Inner.NewBlock.{IsNewBlock, new_searches};
 ghost use Rattle.heap_calls.specs.Inner.NewSlot.{HasMore};
-ghost use Rattle.heap_calls.specs.Inner.Numbered.{Agrees, KeepsFixed, memory_of};
+ghost use Rattle.heap_calls.specs.Inner.Numbered.{Agrees, KeepsNonrelocatable, memory_of};
 ghost use Rattle.heap_calls.specs.Inner.Packed.{Packs, new_moves};
 ghost use Rattle.block_store.specs.Block.{is_relocatable};
 ghost use Rattle.block_store.specs.Rest.{IsRest};
@@ -155,7 +155,7 @@ fn size_of(bytes: &[u8]) -> u32
 fn fill_new<S: BlockStore>(store: &mut S, slot: u32, bytes: &[u8], flags: Flags)
     requires { IsFresh slot (length bytes.now) (S.zone store.old) }
     ensures zone { IsReplaced slot flags bytes.now (S.zone store.old) (S.zone store.new) }
-    ensures fixed { KeepsFixed (S.zone store.old) (S.zone store.new) }
+    ensures nonrelocatable { KeepsNonrelocatable (S.zone store.old) (S.zone store.new) }
     ensures rest { IsRest (S.rest store.old) (S.rest store.new) }
 {
     let Some(place) = store.place_of(slot) else {
@@ -172,7 +172,7 @@ fn new_block_for<S: BlockStore>(store: &mut S, bytes: &[u8]) -> Result<Taken, Al
     ensures answer { IfOk result (λ r. IsNewBlock Nothing (length bytes.now) (S.zone store.old) (S.rest store.old)
         r.slot (S.zone store.new) (S.rest store.new)) }
     ensures kept { OnErr result (HasMore (S.rest store.old) (S.rest store.new)) }
-    ensures fixed { KeepsFixed (S.zone store.old) (S.zone store.new) }
+    ensures nonrelocatable { KeepsNonrelocatable (S.zone store.old) (S.zone store.new) }
     ensures searches { IfOk result (λ r. r.searches ≡ new_searches Nothing (length bytes.now)
         (S.rest store.old).unused (S.zone store.old)) }
     ensures moves { IfOk result (λ _. Packs (new_moves Nothing (length bytes.now) (S.rest store.old).unused
@@ -194,7 +194,7 @@ pub fn fill_block<S: BlockStore>(
     ensures answer { IfOk result (λ r. IsFilling flags bytes.now (S.zone store.old) (S.rest store.old) r.slot
         (S.zone store.new) (S.rest store.new)) }
     ensures kept { OnErr result (HasMore (S.rest store.old) (S.rest store.new)) }
-    ensures fixed { KeepsFixed (S.zone store.old) (S.zone store.new) }
+    ensures nonrelocatable { KeepsNonrelocatable (S.zone store.old) (S.zone store.new) }
     ensures searches { IfOk result (λ r. r.searches ≡ new_searches Nothing (length bytes.now)
         (S.rest store.old).unused (S.zone store.old)) }
     ensures moves { IfOk result (λ _. Packs (new_moves Nothing (length bytes.now) (S.rest store.old).unused
@@ -219,7 +219,7 @@ fn renew_block_for<S: BlockStore>(
     requires { IsTrue (is_used ((S.rest store.old).slots slot)) }
     ensures answer { IsRenewed slot (length bytes.now) (S.zone store.old) (S.rest store.old) result
         (S.zone store.new) (S.rest store.new) }
-    ensures fixed { KeepsFixed (S.zone store.old) (S.zone store.new) }
+    ensures nonrelocatable { KeepsNonrelocatable (S.zone store.old) (S.zone store.new) }
     ensures moves { Packs (renewed_moves slot (length bytes.now) (S.zone store.old)) (S.rest store.old)
         (S.rest store.new) }
     ensures host { IsErr result → IsTrue S.TAKES_HOST }
@@ -240,7 +240,7 @@ fn refill_block<S: BlockStore>(
     requires none { has (is_relocatable slot) (S.zone store.old) ≡ false }
     ensures answer { IsRefilled slot flags bytes.now (S.zone store.old) (S.rest store.old) result (S.zone store.new)
         (S.rest store.new) }
-    ensures fixed { KeepsFixed (S.zone store.old) (S.zone store.new) }
+    ensures nonrelocatable { KeepsNonrelocatable (S.zone store.old) (S.zone store.new) }
     ensures moves { Packs (refilled_moves slot (length bytes.now) (S.zone store.old)) (S.rest store.old)
         (S.rest store.new) }
     ensures host { IsErr result → IsTrue S.TAKES_HOST }

@@ -15,7 +15,7 @@ ghost use Rattle.heap_calls.specs.Inner.GrowingInPlace.{made_zone};
 ghost use Rattle.heap_calls.specs.Moves.{place_moves, grow_moves, room_moves};
 ghost use Rattle.heap_calls.specs.Inner.SearchLaws.{growth-rises, growth-ends, growth-stays};
 ghost use Rattle.heap_calls.specs.Inner.Least.{CanGrow};
-ghost use Rattle.heap_calls.specs.Inner.Numbered.{KeepsFixed};
+ghost use Rattle.heap_calls.specs.Inner.Numbered.{KeepsNonrelocatable};
 ghost use Rattle.heap_calls.specs.Inner.Packed.{Packs};
 ghost use Rattle.heap_calls.specs.Searches.{room_searches};
 ghost use Rattle.block_store.specs.declared.measures.TheConstants.{GREATEST_ZONE};
@@ -172,7 +172,7 @@ pub fn find_growth<S: BlockStore>(
 fn grow_up<S: BlockStore>(store: &mut S, number: u32, size: u32) -> Result<(), AllocError>
     requires { CanGrowUp (is_relocatable number) size (S.zone store.old) }
     ensures ok { OnOk result (GrewUp (is_relocatable number) size (S.zone store.old) (S.zone store.new)) }
-    ensures fixed { KeepsFixed (S.zone store.old) (S.zone store.new) }
+    ensures nonrelocatable { KeepsNonrelocatable (S.zone store.old) (S.zone store.new) }
     ensures rest { IsRest (S.rest store.old) (S.rest store.new) }
     ensures host { IsErr result → IsTrue S.TAKES_HOST }
 {
@@ -188,7 +188,7 @@ fn pack_placement<S: BlockStore>(store: &mut S, bytes: u32, placement: Placement
     requires found { FindsPlacement bytes (S.zone store.old) (Some placement) }
     ensures place { IsAt (place bytes (S.zone store.old)) (S.zone store.new) (Some result) }
     ensures blocks { SameBlocks (S.zone store.old) (S.zone store.new) }
-    ensures fixed { KeepsFixed (S.zone store.old) (S.zone store.new) }
+    ensures nonrelocatable { KeepsNonrelocatable (S.zone store.old) (S.zone store.new) }
     ensures rest { KeepsSlots (S.rest store.old) (S.rest store.new) }
     ensures moves { Packs (place_moves bytes (S.zone store.old)) (S.rest store.old) (S.rest store.new) }
 {
@@ -217,7 +217,7 @@ fn grow_away<S: BlockStore>(
         (S.zone store.old) (Some (Growth.Away placement)) }
     ensures ok { OnOk result (grow_mover (is_relocatable number)
         (grown size (spot (is_relocatable number) (S.zone store.old))) (S.zone store.old) ≡ Some (S.zone store.new)) }
-    ensures fixed { KeepsFixed (S.zone store.old) (S.zone store.new) }
+    ensures nonrelocatable { KeepsNonrelocatable (S.zone store.old) (S.zone store.new) }
     ensures rest { KeepsSlots (S.rest store.old) (S.rest store.new) }
     ensures moves { Packs (grow_moves (is_relocatable number) (grown size
         (spot (is_relocatable number) (S.zone store.old))) (S.zone store.old)) (S.rest store.old) (S.rest store.new) }
@@ -239,7 +239,7 @@ fn grow_as_last<S: BlockStore>(
         (S.zone store.old) (Some (Growth.Last run)) }
     ensures ok { OnOk result (grow_mover (is_relocatable number)
         (grown size (spot (is_relocatable number) (S.zone store.old))) (S.zone store.old) ≡ Some (S.zone store.new)) }
-    ensures fixed { KeepsFixed (S.zone store.old) (S.zone store.new) }
+    ensures nonrelocatable { KeepsNonrelocatable (S.zone store.old) (S.zone store.new) }
     ensures rest { KeepsSlots (S.rest store.old) (S.rest store.new) }
     ensures moves { Packs (grow_moves (is_relocatable number) (grown size
         (spot (is_relocatable number) (S.zone store.old))) (S.zone store.old)) (S.rest store.old) (S.rest store.new) }
@@ -266,7 +266,7 @@ fn carry_out<S: BlockStore>(
         (S.zone store.old) (Some growth) }
     ensures ok { OnOk result (grow_mover (is_relocatable number)
         (grown size (spot (is_relocatable number) (S.zone store.old))) (S.zone store.old) ≡ Some (S.zone store.new)) }
-    ensures fixed { KeepsFixed (S.zone store.old) (S.zone store.new) }
+    ensures nonrelocatable { KeepsNonrelocatable (S.zone store.old) (S.zone store.new) }
     ensures rest { KeepsSlots (S.rest store.old) (S.rest store.new) }
     ensures moves { Packs (grow_moves (is_relocatable number) (grown size
         (spot (is_relocatable number) (S.zone store.old))) (S.zone store.old)) (S.rest store.old) (S.rest store.new) }
@@ -310,7 +310,7 @@ pub fn grow_movable<S: BlockStore>(
     ensures searches { IfOk result (λ grown. IfSome (spot (is_relocatable slot) (S.zone store.old)) (λ s.
         grown.searches ≡ room_searches (grow_mover (is_relocatable slot) (resized bytes s.here)) (spared sparing)
         (S.zone store.old))) }
-    ensures fixed { KeepsFixed (S.zone store.old) (S.zone store.new) }
+    ensures nonrelocatable { KeepsNonrelocatable (S.zone store.old) (S.zone store.new) }
     ensures rest { KeepsSlots (S.rest store.old) (S.rest store.new) }
     ensures moves { IfSome (spot (is_relocatable slot) (S.zone store.old)) (λ s.
         Packs (room_moves (grow_mover (is_relocatable slot) (resized bytes s.here))

@@ -7,13 +7,13 @@ ghost use Rattle.block_store.specs.Block.{size, sizes, resized};
 ghost use Rattle.block_store.specs.Find.{IsEdge};
 ghost use Rattle.block_store.specs.Run.{in_run, has_free, segments};
 ghost use Rattle.block_store.specs.Room.{spot_at, purge, count_of};
-ghost use Rattle.block_store.specs.Grow.{grow_fixed};
+ghost use Rattle.block_store.specs.Grow.{grow_nonrelocatable};
 ghost use Rattle.block_store.specs.Sparing.{spared};
 ghost use Rattle.block_store.specs.Rest.{IsRest};
 ghost use Rattle.heap_calls.specs.Inner.GrowingInPlace.{made_zone, enough, seen_size, room_at, FindsPurges, pushed_up};
 ghost use Rattle.heap_calls.specs.Inner.SearchLaws.{above-rises, above-ends};
 ghost use Rattle.heap_calls.specs.Inner.Least.{IsMost, enough_above};
-ghost use Rattle.heap_calls.specs.Inner.Numbered.{KeepsFixed};
+ghost use Rattle.heap_calls.specs.Inner.Numbered.{KeepsNonrelocatable};
 ghost use Rattle.heap_calls.specs.Searches.{room_searches, in_place_searches};
 ghost use Rattle.block_store.specs.declared.measures.TheConstants.{GREATEST_ZONE};
 
@@ -51,11 +51,11 @@ pub fn grow_in_place<S: BlockStore>(
     requires grows { IsSomeAnd (spot_at place (S.zone store.old)) (λ s. size s.here < size (resized bytes s.here)) }
     requires fits { IsSome (physical_size bytes) }
     ensures zone { IfOk result (λ grown. IfSome (spot_at place (S.zone store.old))
-        (λ s. grow_fixed (spared sparing) (resized bytes s.here) s ≡ made_zone grown.done (S.zone store.new))) }
+        (λ s. grow_nonrelocatable (spared sparing) (resized bytes s.here) s ≡ made_zone grown.done (S.zone store.new))) }
     ensures none { IfOk result (λ grown. grown.done ≡ false → S.zone store.new ≡ S.zone store.old) }
     ensures searches { IfOk result (λ grown. IfSome (spot_at place (S.zone store.old))
         (λ s. grown.searches ≡ in_place_searches (spared sparing) (resized bytes s.here) s)) }
-    ensures fixed { KeepsFixed (S.zone store.old) (S.zone store.new) }
+    ensures nonrelocatable { KeepsNonrelocatable (S.zone store.old) (S.zone store.new) }
     ensures rest { IsRest (S.rest store.old) (S.rest store.new) }
     ensures host { IsErr result → IsTrue S.TAKES_HOST }
 {
@@ -102,7 +102,7 @@ fn seen_bytes(seen: Seen) -> u32
 {
     match seen {
         Seen::Free(bytes) => bytes,
-        Seen::Fixed(bytes) => padded_size(bytes),
+        Seen::Nonrelocatable(bytes) => padded_size(bytes),
         Seen::Masters => MASTERS_SIZE,
         Seen::Relocatable(_, _, bytes) => padded_size(bytes),
     }
@@ -225,7 +225,7 @@ fn push_up<S: BlockStore>(
     requires some { 0 < bytes }
     ensures zone { OnOk result (IfSome (spot_at place (S.zone store.old))
         (λ s. S.zone store.new ≡ s.below ++ s.here ∷ pushed_up bytes purges (spared sparing) s.above)) }
-    ensures fixed { KeepsFixed (S.zone store.old) (S.zone store.new) }
+    ensures nonrelocatable { KeepsNonrelocatable (S.zone store.old) (S.zone store.new) }
     ensures rest { IsRest (S.rest store.old) (S.rest store.new) }
     ensures host { IsErr result → IsTrue S.TAKES_HOST }
 {

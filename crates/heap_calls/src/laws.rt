@@ -49,7 +49,7 @@ pub fn a_call_searches_few_times()
 /// The zone of each heap has a master pointer block; none of its free blocks has a size of 0 bytes, and no two of them
 /// are neighbours. So each try of a call on a heap makes at most one more search for room than there are blocks at its
 /// start.
-pub fn a_heap_looks_few_times<S: BlockStore>(heap: &Heap<S>)
+pub fn a_heap_searches_few_times<S: BlockStore>(heap: &Heap<S>)
     ensures masters { 0 < count is_masters heap.now.heap.zone }
     ensures tidied { tidy heap.now.heap.zone ≡ heap.now.heap.zone }
     ensures searches { (asked : Asked) → SearchesFew asked heap.now }

@@ -1,6 +1,6 @@
 //! New relocatable blocks.
 
-ghost use Rattle.heap_calls.specs.Inner.Numbered.{KeepsFixed};
+ghost use Rattle.heap_calls.specs.Inner.Numbered.{KeepsNonrelocatable};
 ghost use Rattle.std.specs.Prelude.{◌≡◌, ◌≤◌, false, IfOk, OnErr, IsErr, IsTrue};
 ghost use Rattle.block_store.specs.Block.{is_relocatable};
 ghost use Rattle.block_store.specs.Rest.{KeepsSlots};
@@ -32,7 +32,7 @@ fn add_block<S: BlockStore>(
         (S.zone store.new) (S.rest store.new)) }
     ensures kept { OnErr result (KeepsSlots (given_back slot (S.rest store.old)) (S.rest store.new)) }
     ensures searches { IfOk result (λ r. r.searches ≡ place_searches sparing size (S.zone store.old)) }
-    ensures fixed { KeepsFixed (S.zone store.old) (S.zone store.new) }
+    ensures nonrelocatable { KeepsNonrelocatable (S.zone store.old) (S.zone store.new) }
     ensures few { IfOk result (λ r. r.searches ≤ 134217729) }
     ensures moves { Packs (content_moves sparing size (S.zone store.old)) (S.rest store.old) (S.rest store.new) }
     ensures host { IsErr result → IsTrue S.TAKES_HOST }
@@ -69,7 +69,7 @@ pub fn new_block<S: BlockStore>(
     ensures answer { IfOk result (λ r. IsNewBlock sparing size (S.zone store.old) (S.rest store.old) r.slot
         (S.zone store.new) (S.rest store.new)) }
     ensures kept { OnErr result (HasMore (S.rest store.old) (S.rest store.new)) }
-    ensures fixed { KeepsFixed (S.zone store.old) (S.zone store.new) }
+    ensures nonrelocatable { KeepsNonrelocatable (S.zone store.old) (S.zone store.new) }
     ensures searches { IfOk result (λ r. r.searches ≡ new_searches sparing size (S.rest store.old).unused
         (S.zone store.old)) }
     ensures moves { IfOk result (λ _. Packs (new_moves sparing size (S.rest store.old).unused (S.zone store.old))

@@ -1,7 +1,7 @@
 //! The size of a pointer's block.
 
 ghost use Rattle.std.specs.Prelude.{◌≡◌, Some, false, IfOk, IsErr, IsTrue};
-ghost use Rattle.block_store.specs.Block.{is_fixed};
+ghost use Rattle.block_store.specs.Block.{is_nonrelocatable};
 ghost use Rattle.block_store.specs.Find.{FindsLowest};
 ghost use Rattle.block_store.specs.Rest.{IsRest};
 ghost use Rattle.heap_calls.specs.Asked.{seeking};
@@ -10,7 +10,7 @@ ghost use Rattle.heap_calls.specs.Answer.{nothing, noting, searching, silent};
 ghost use Rattle.heap_calls.specs.Inner.Given.{IsAnswer, KeepsMoves};
 ghost use Rattle.heap_calls.specs.Inner.Growing.{fitted};
 ghost use Rattle.heap_calls.specs.Inner.GrowingInPlace.{made_zone};
-ghost use Rattle.heap_calls.specs.Inner.Numbered.{KeepsFixed};
+ghost use Rattle.heap_calls.specs.Inner.Numbered.{KeepsNonrelocatable};
 ghost use Rattle.heap_calls.specs.Pointers.{set_pointer_size};
 ghost use Rattle.heap_calls.specs.Searches.{size_searches, set_pointer_size_searches};
 
@@ -52,21 +52,25 @@ impl<S: BlockStore> Heap<S> {
         ensures lies { self.new.window ≡ self.old.window }
     {
         let target = target_of(&self.names, pointer)?;
-        let grown = fit_fixed(&mut self.store, target.place, size)?;
+        let grown = fit_nonrelocatable(&mut self.store, target.place, size)?;
         self.account(grown)
     }
 }
 
 /// Changes the logical size of the nonrelocatable block at `place` to `size` bytes: the block is cut, or grows, where
 /// it stands.
-fn fit_fixed<S: BlockStore>(store: &mut S, place: u32, size: u32) -> Result<Grown, AllocError>
-    requires { FindsLowest (is_fixed place) (S.zone store.old) (Some place) }
-    ensures zone { IfOk result (λ grown. fitted (is_fixed place) nothing size (S.zone store.old)
+fn fit_nonrelocatable<S: BlockStore>(
+    store: &mut S,
+    place: u32,
+    size: u32,
+) -> Result<Grown, AllocError>
+    requires { FindsLowest (is_nonrelocatable place) (S.zone store.old) (Some place) }
+    ensures zone { IfOk result (λ grown. fitted (is_nonrelocatable place) nothing size (S.zone store.old)
         ≡ made_zone grown.done (S.zone store.new)) }
     ensures full { IfOk result (λ grown. grown.done ≡ false → S.zone store.new ≡ S.zone store.old) }
-    ensures searches { IfOk result (λ grown. grown.searches ≡ size_searches (is_fixed place) nothing size
+    ensures searches { IfOk result (λ grown. grown.searches ≡ size_searches (is_nonrelocatable place) nothing size
         (S.zone store.old)) }
-    ensures fixed { KeepsFixed (S.zone store.old) (S.zone store.new) }
+    ensures nonrelocatable { KeepsNonrelocatable (S.zone store.old) (S.zone store.new) }
     ensures rest { IsRest (S.rest store.old) (S.rest store.new) }
     ensures host { IsErr result → IsTrue S.TAKES_HOST }
 {

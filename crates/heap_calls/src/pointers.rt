@@ -5,12 +5,12 @@ ghost use Rattle.block_store.specs.Rest.{IsRest};
 ghost use Rattle.heap_calls.specs.Busy.{pointer_barred, unless, unless_silent};
 ghost use Rattle.heap_calls.specs.Inner.Given.{IsAnswer, IsShown, KeepsMoves};
 ghost use Rattle.heap_calls.specs.Answer.{noting, searching, silent};
-ghost use Rattle.heap_calls.specs.Inner.NewPointer.{IsNewFixed, fixed_searches};
+ghost use Rattle.heap_calls.specs.Inner.NewPointer.{IsNewNonrelocatable, nonrelocatable_searches};
 ghost use Rattle.heap_calls.specs.Searches.{new_pointer_searches};
 ghost use Rattle.heap_calls.specs.Pointers.{new_pointer, dispose_pointer, get_pointer_size, show_pointer, put_pointer};
 ghost use Rattle.heap_calls.specs.Pointers.{block_named};
 ghost use Rattle.heap_calls.specs.Inner.Pointing.{FindsHeld};
-ghost use Rattle.heap_calls.specs.Inner.Numbered.{Agrees, KeepsFixed, state_of};
+ghost use Rattle.heap_calls.specs.Inner.Numbered.{Agrees, KeepsNonrelocatable, state_of};
 
 use crate::anchor::{Anchor, target_of};
 use crate::base::make_base;
@@ -105,7 +105,7 @@ impl<S: BlockStore> Heap<S> {
         ensures lies { self.new.window ≡ self.old.window }
     {
         self.names.reserve(1)?;
-        let room = add_fixed(&mut self.store, size)?;
+        let room = add_nonrelocatable(&mut self.store, size)?;
         self.log.count(room.searches);
         let Some(place) = room.place else {
             return Err(Refusal::Code(OsErr::MEM_FULL));
@@ -186,10 +186,10 @@ pub(crate) fn find_named<S: BlockStore>(
 /// place of the block.
 ///
 /// *Inside Macintosh: Memory*, chapter 1, "Memory Reservation".
-fn add_fixed<S: BlockStore>(store: &mut S, size: u32) -> Result<Room, AllocError>
-    ensures put { IfOk result (λ r. IsNewFixed size (S.zone store.old) r.place (S.zone store.new)) }
-    ensures searches { IfOk result (λ r. r.searches ≡ fixed_searches size (S.zone store.old)) }
-    ensures fixed { OnErr result (KeepsFixed (S.zone store.old) (S.zone store.new)) }
+fn add_nonrelocatable<S: BlockStore>(store: &mut S, size: u32) -> Result<Room, AllocError>
+    ensures put { IfOk result (λ r. IsNewNonrelocatable size (S.zone store.old) r.place (S.zone store.new)) }
+    ensures searches { IfOk result (λ r. r.searches ≡ nonrelocatable_searches size (S.zone store.old)) }
+    ensures nonrelocatable { OnErr result (KeepsNonrelocatable (S.zone store.old) (S.zone store.new)) }
     ensures rest { IsRest (S.rest store.old) (S.rest store.new) }
     ensures host { IsErr result → IsTrue S.TAKES_HOST }
 {
@@ -201,7 +201,7 @@ fn add_fixed<S: BlockStore>(store: &mut S, size: u32) -> Result<Room, AllocError
     };
     let room = make_base(store, bytes, Sparing::Nothing)?;
     if let Some(place) = room.place {
-        store.carve_fixed(place, size)?;
+        store.carve_nonrelocatable(place, size)?;
     }
     Ok(room)
 }

@@ -7,7 +7,7 @@ ghost use Rattle.block_store.specs.Room.{place};
 ghost use Rattle.block_store.specs.Sparing.{purged, most_purges};
 ghost use Rattle.block_store.specs.Rest.{KeepsSlots};
 ghost use Rattle.heap_calls.specs.Moves.{place_moves};
-ghost use Rattle.heap_calls.specs.Inner.Numbered.{KeepsFixed};
+ghost use Rattle.heap_calls.specs.Inner.Numbered.{KeepsNonrelocatable};
 ghost use Rattle.heap_calls.specs.Inner.Packed.{Packs, placement_moves};
 ghost use Rattle.heap_calls.specs.Inner.SearchLaws.{placement-ends, placement-stays};
 ghost use Rattle.block_store.proofs.Purged.Growing.{place-rises};
@@ -138,7 +138,7 @@ fn take_placement<S: BlockStore>(
     ensures place { IsAt (place bytes (purged purges sparing (S.zone store.old))) (S.zone store.new) (Some result) }
     ensures kept { (number : ℕ) → has (is_relocatable number) (S.zone store.old) ≡ false
         → has (is_relocatable number) (S.zone store.new) ≡ false }
-    ensures fixed { KeepsFixed (S.zone store.old) (S.zone store.new) }
+    ensures nonrelocatable { KeepsNonrelocatable (S.zone store.old) (S.zone store.new) }
     ensures rest { KeepsSlots (S.rest store.old) (S.rest store.new) }
     ensures moves { Packs (place_moves bytes (purged purges sparing (S.zone store.old))) (S.rest store.old)
         (S.rest store.new) }
@@ -164,7 +164,7 @@ pub fn make_room<S: BlockStore>(store: &mut S, bytes: u32, sparing: Sparing) -> 
     ensures none { MatchOption result.place (S.zone store.new ≡ S.zone store.old) (λ _. Unit {0}) }
     ensures kept { (number : ℕ) → has (is_relocatable number) (S.zone store.old) ≡ false
         → has (is_relocatable number) (S.zone store.new) ≡ false }
-    ensures fixed { KeepsFixed (S.zone store.old) (S.zone store.new) }
+    ensures nonrelocatable { KeepsNonrelocatable (S.zone store.old) (S.zone store.new) }
     ensures searches { result.searches ≡ placement_searches bytes sparing (S.zone store.old) }
     ensures few { result.searches ≤ 134217729 }
     ensures rest { KeepsSlots (S.rest store.old) (S.rest store.new) }

@@ -10,7 +10,7 @@ ghost use Rattle.heap_calls.specs.Busy.{change_barred, unless};
 ghost use Rattle.heap_calls.specs.Asked.{packing};
 ghost use Rattle.heap_calls.specs.Inner.Reaching.{sized_reply};
 ghost use Rattle.heap_calls.specs.Inner.GrowingInPlace.{made_zone};
-ghost use Rattle.heap_calls.specs.Inner.Numbered.{KeepsFixed};
+ghost use Rattle.heap_calls.specs.Inner.Numbered.{KeepsNonrelocatable};
 ghost use Rattle.heap_calls.specs.Inner.Given.{IsAnswer, KeepsNames};
 ghost use Rattle.heap_calls.specs.Answer.{set_handle_size, silent, searching, moving};
 ghost use Rattle.heap_calls.specs.Moves.{size_moves, set_handle_size_moves};
@@ -100,7 +100,7 @@ pub fn fit_block<S: BlockStore>(
     ensures full { IfOk result (λ grown. grown.done ≡ false → S.zone store.new ≡ S.zone store.old) }
     ensures searches { IfOk result (λ grown. grown.searches ≡ size_searches (is_relocatable slot) (spared sparing) size
         (S.zone store.old)) }
-    ensures fixed { KeepsFixed (S.zone store.old) (S.zone store.new) }
+    ensures nonrelocatable { KeepsNonrelocatable (S.zone store.old) (S.zone store.new) }
     ensures rest { KeepsSlots (S.rest store.old) (S.rest store.new) }
     ensures moves { Packs (size_moves (is_relocatable slot) (spared sparing) size (S.zone store.old)) (S.rest store.old)
         (S.rest store.new) }
@@ -133,7 +133,7 @@ fn resize_block<S: BlockStore>(
     ensures full { IfOk result (λ grown. grown.done ≡ false → S.zone store.new ≡ S.zone store.old) }
     ensures searches { IfOk result (λ grown. grown.searches ≡ size_searches (is_relocatable slot) (spared sparing) size
         (S.zone store.old)) }
-    ensures fixed { KeepsFixed (S.zone store.old) (S.zone store.new) }
+    ensures nonrelocatable { KeepsNonrelocatable (S.zone store.old) (S.zone store.new) }
     ensures rest { KeepsSlots (S.rest store.old) (S.rest store.new) }
     ensures moves { Packs (size_moves (is_relocatable slot) (spared sparing) size (S.zone store.old)) (S.rest store.old)
         (S.rest store.new) }

@@ -8,7 +8,7 @@ use Rattle.heap_words.specs.Words.{word, word_at, header}
 use Rattle.heap_words.specs.Headers.{header_bytes, tag_number}
 use Rattle.heap_words.specs.declared.header.Header.{Header}
 use Rattle.heap_words.specs.declared.header.Tag.{Tag}
-use Rattle.heap_words.specs.declared.header.Tag.TheVariants.{Free, Fixed, Masters, Relocatable}
+use Rattle.heap_words.specs.declared.header.Tag.TheVariants.{Free, Nonrelocatable, Masters, Relocatable}
 use Rattle.heap_words.proofs.Words.{length-word, read_back}
 
 pub length-header : (a b c d : ℕ) → length (header a b c d) ≡ 16
@@ -88,20 +88,20 @@ module _ (at : ℕ) (h : Header) (xs : List ℕ) (inside : at + 16 ≤ length xs
 
 pub tag_low : (t : Tag) → tag_number t < 4
 tag_low Free = omega arith
-tag_low Fixed = omega arith
+tag_low Nonrelocatable = omega arith
 tag_low Masters = omega arith
 tag_low Relocatable = omega arith
 
 tag_at : ℕ → Tag
 tag_at zero = Free
-tag_at (suc zero) = Fixed
+tag_at (suc zero) = Nonrelocatable
 tag_at (suc (suc zero)) = Masters
 tag_at (suc (suc (suc n))) = Relocatable
 
 tag_back : (t : Tag) → tag_at (tag_number t) ≡ t
 unfolding tag_at
 tag_back Free = refl
-tag_back Fixed = refl
+tag_back Nonrelocatable = refl
 tag_back Masters = refl
 tag_back Relocatable = refl
 

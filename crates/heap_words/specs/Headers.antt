@@ -3,13 +3,13 @@
 use Rattle.std.specs.Prelude.{ℕ, ◌+◌, List}
 use Rattle.heap_words.specs.Words.{header}
 use Rattle.heap_words.specs.declared.header.Tag.{Tag}
-use Rattle.heap_words.specs.declared.header.Tag.TheVariants.{Free, Fixed, Masters, Relocatable}
+use Rattle.heap_words.specs.declared.header.Tag.TheVariants.{Free, Nonrelocatable, Masters, Relocatable}
 use Rattle.heap_words.specs.declared.header.Header.{Header}
 
 -- The number of a tag, which is added to the physical size, a multiple of 16.
 abbrev pub tag_number : Tag → ℕ
 tag_number Free = 0
-tag_number Fixed = 1
+tag_number Nonrelocatable = 1
 tag_number Masters = 2
 tag_number Relocatable = 3
 

@@ -17,7 +17,7 @@ pub enum Tag {
     /// A free block.
     Free,
     /// A nonrelocatable block.
-    Fixed,
+    Nonrelocatable,
     /// A master pointer block.
     Masters,
     /// A relocatable block.
@@ -43,7 +43,7 @@ fn tag_code(tag: Tag) -> u32
 {
     match tag {
         Tag::Free => 0,
-        Tag::Fixed => 1,
+        Tag::Nonrelocatable => 1,
         Tag::Masters => 2,
         Tag::Relocatable => 3,
     }
@@ -55,7 +55,7 @@ fn tag_of(code: u32) -> Tag
 {
     match code {
         0 => Tag::Free,
-        1 => Tag::Fixed,
+        1 => Tag::Nonrelocatable,
         2 => Tag::Masters,
         _ => Tag::Relocatable,
     }

@@ -26,7 +26,7 @@ fn a_block_is_carved_from_a_free_one(rt: HostRuntime) -> Result<(), Fail> {
     let mut store = ListStore::new(rt.alloc(), 1024)?;
     assert_eq!(rt; store.free_bytes(), 752);
     if let Some(place) = store.find_free(128, 0, Sparing::Nothing) {
-        store.carve_fixed(place, 100)?;
+        store.carve_nonrelocatable(place, 100)?;
     }
     assert_eq!(rt; store.free_bytes(), 624);
     Ok(())

@@ -15,12 +15,12 @@ use raw_region::Part;
 use std::alloc::AllocError;
 use std::marker::Model;
 use zone_bytes::{
-    Edges, Landmarks, PackedRun, SlotBlock, add_masters, block_of_slot, carve, carve_fixed,
-    changed_bound, content_at, falls_short, flag_at, free_block, free_slot, frees_one, given_at,
-    given_with, has_room_behind, hoist_block, kept_flags, make_fresh, mark_slot, move_bytes,
-    padded_size, purge_above, purge_from, purgeable_at, purgeable_left, put_bytes, raise_run,
-    read_header, read_word, resize_block, settle_run, size_at, slot_place, slot_resource,
-    walk_above, walk_from,
+    Edges, Landmarks, PackedRun, SlotBlock, add_masters, block_of_slot, carve,
+    carve_nonrelocatable, changed_bound, content_at, falls_short, flag_at, free_block, free_slot,
+    frees_one, given_at, given_with, has_room_behind, hoist_block, kept_flags, make_fresh,
+    mark_slot, move_bytes, padded_size, purge_above, purge_from, purgeable_at, purgeable_left,
+    put_bytes, raise_run, read_header, read_word, resize_block, settle_run, size_at, slot_place,
+    slot_resource, walk_above, walk_from,
 };
 
 /// A zone in the bytes of a part: each block begins with its header, and the slots lie in the master pointer blocks.
@@ -66,7 +66,7 @@ fn is_as_it_stands(purges: u32, sparing: Sparing) -> bool
 impl RawZone {
     ghost use Rattle.std.specs.Prelude.{◌≡◌, ◌≤◌, ◌%◌, ℕ, false, length, ◌+◌, IsSome, IfSome, ◌∷◌, ◌++◌, true, Some};
     ghost use Rattle.std.specs.Prelude.{IsTrue, IsSomeAnd};
-    ghost use Rattle.block_store.specs.Block.{fresh, sizes, tidy, Relocatable, content_of, is_fixed, is_relocatable};
+    ghost use Rattle.block_store.specs.Block.{fresh, sizes, tidy, Relocatable, content_of, is_nonrelocatable, is_relocatable};
     ghost use Rattle.block_store.specs.Slot.{is_used};
     ghost use Rattle.zone_bytes.specs.Laid.{LaysOut};
     ghost use Rattle.zone_bytes.specs.Purgeable.{purgeable_at};
@@ -191,7 +191,7 @@ impl RawZone {
 
     /// Makes the nonrelocatable block at a place the block of an empty handle's slot.
     fn adopt(&mut self, place: u32, number: u32, flags: Flags)
-        requires block { IsSomeAnd (spot_at place (zone_of self.old)) (λ s. is_fixed place s.here ≡ true) }
+        requires block { IsSomeAnd (spot_at place (zone_of self.old)) (λ s. is_nonrelocatable place s.here ≡ true) }
         requires used { IsTrue (is_used ((rest_of self.old).slots number)) }
         requires no_block { has (is_relocatable number) (zone_of self.old) ≡ false }
         ensures zone { IfSome (spot_at place (zone_of self.old)) (λ s.
@@ -376,9 +376,9 @@ impl BlockStore for RawZone {
         Ok(())
     }
 
-    fn carve_fixed(&mut self, place: u32, size: u32) -> Result<(), AllocError> {
+    fn carve_nonrelocatable(&mut self, place: u32, size: u32) -> Result<(), AllocError> {
         let free = size_at(&self.part, place);
-        carve_fixed(&mut self.part, place, size);
+        carve_nonrelocatable(&mut self.part, place, size);
         self.free -= padded_size(size);
         self.marks.note(&self.part, place, place + free);
         Ok(())
@@ -419,7 +419,7 @@ impl BlockStore for RawZone {
     }
 
     fn move_to(&mut self, place: u32, number: u32, bytes: u32) -> Result<(), AllocError> {
-        self.carve_fixed(place, bytes)?;
+        self.carve_nonrelocatable(place, bytes)?;
         let old = self.block_of(number);
         self.copy(old.place, old.length.min(bytes), place, 0);
         self.release(number);

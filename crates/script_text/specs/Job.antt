@@ -17,7 +17,7 @@ use Rattle.script_text.specs.declared.job_word.TheConstants.{JOB_WORDS}
 use Rattle.script_text.specs.Reading.{◌>>=◌}
 use Rattle.script_text.specs.Token.{place, is_blank, after_blanks}
 use Rattle.script_text.specs.Argument.{Label, Size, File as FileKind, Path, Value, Letters, Number, Raw, arguments}
-use Rattle.script_text.specs.Script.{at_line}
+use Rattle.script_text.specs.Script.{at_line, longest_line}
 
 -- Jobs.
 
@@ -84,9 +84,16 @@ may_follow above (File app name path) =
     nat_lt app (length (app_names above))
     && (nat_lt (length (given_names app above)) 255 && not (has_name name (file_names app above)))
 
+-- The least and the greatest number of bytes of a memory.
+abbrev pub least_memory : ℕ
+least_memory = 512
+
+abbrev pub greatest_memory : ℕ
+greatest_memory = 134217728
+
 -- Whether a job may have a memory of n bytes: 512 to 134217728, a multiple of 16.
 abbrev pub is_memory : ℕ → Bool
-is_memory n = nat_le 512 n && nat_le n 134217728 && n % 16 == 0
+is_memory n = nat_le least_memory n && nat_le n greatest_memory && n % 16 == 0
 
 -- The text of a job.
 
@@ -209,7 +216,7 @@ with_text above (c ∷ rest) =
 
 -- One more line, or its fault; a line that is too long has that fault before any other.
 unfoldable pub with_line : Above → List ℕ → Result Above FaultKind
-with_line above line = if nat_lt 65535 (length line) then Err LongLine else with_text above (after_blanks line)
+with_line above line = if nat_lt longest_line (length line) then Err LongLine else with_text above (after_blanks line)
 
 -- All lines, from the n-th on, or the first faulty one.
 abbrev pub with_lines : ℕ → Above → List (List ℕ) → Result Above (ℕ × FaultKind)

@@ -2,14 +2,14 @@ use Rattle.std.specs.Prelude.{◌≡◌, ◌≤◌, ◌%◌, ℕ, nat_lt, Bool, 
 use Rattle.std.specs.List.{list_all, IsDistinct}
 use Rattle.script_text.specs.declared.job.Event.{Event}
 use Rattle.script_text.specs.declared.job.Event.TheVariants as event
-use Rattle.script_text.specs.Job.{Input, app_names, file_names, may_follow}
+use Rattle.script_text.specs.Job.{Input, app_names, file_names, may_follow, least_memory, greatest_memory}
 
 -- What holds of every job that is read.
 
 -- A memory has 512 to 134217728 bytes, a multiple of 16.
 pub record IsMemory (n : ℕ) : Type 0 where
-  pub least : 512 ≤ n
-  pub most : n ≤ 134217728
+  pub least : least_memory ≤ n
+  pub most : n ≤ greatest_memory
   pub multiple : n % 16 ≡ 0
 
 -- Whether each input may follow those above it.

@@ -134,9 +134,13 @@ with_text n above (c ∷ rest) =
     if c == 35 then Ok above
     else with_token n above (take (place is_blank (c ∷ rest)) (c ∷ rest)) (drop (place is_blank (c ∷ rest)) (c ∷ rest))
 
+-- The greatest number of bytes of a line.
+abbrev pub longest_line : ℕ
+longest_line = 65535
+
 -- One more line, the n-th, or its fault; a line that is too long has that fault before any other.
 unfoldable pub read_at : ℕ → Above → List ℕ → Result Above FaultKind
-read_at n above line = if nat_lt 65535 (length line) then Err LongLine else with_text n above (after_blanks line)
+read_at n above line = if nat_lt longest_line (length line) then Err LongLine else with_text n above (after_blanks line)
 
 -- A fault with the number of its line.
 abbrev pub at_line : {A B : Type 0} → ℕ → Result A FaultKind → (A → Result B (ℕ × FaultKind)) → Result B (ℕ × FaultKind)

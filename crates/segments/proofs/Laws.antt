@@ -20,8 +20,8 @@ use Rattle.heap_calls.specs.Path.{put_reads}
 use Rattle.heap_calls.specs.Asked.{told_as}
 use Rattle.heap_calls.proofs.Promises.Knowing.{Known}
 use Rattle.heap_calls.proofs.Promises.FewSearches.{unsearched}
-use Rattle.heap_calls.proofs.Steps.Segments.{held-known, loosened-known, held-locked, loosened-locked, held-fixed}
-use Rattle.heap_calls.proofs.Steps.Segments.{loosened-fixed, held-bytes, loosened-bytes, held-has, loosened-has}
+use Rattle.heap_calls.proofs.Steps.Segments.{held-known, loosened-known, held-locked, loosened-locked, held-nonrelocatable}
+use Rattle.heap_calls.proofs.Steps.Segments.{loosened-nonrelocatable, held-bytes, loosened-bytes, held-has, loosened-has}
 use Rattle.heap_calls.proofs.Steps.Segments.{held-masters, loosened-masters, held-roles, loosened-roles}
 use Rattle.res_calls.specs.Fetch.{Managers, Reads, Fetched}
 use Rattle.res_calls.specs.Fetch as fetching
@@ -29,7 +29,7 @@ use Rattle.res_calls.specs.Own.{own_datum, own_handle, fetch_own}
 use Rattle.res_calls.specs.Owning.{Owns}
 use Rattle.res_calls.specs.Sound.{Sound}
 use Rattle.res_calls.specs.Rows.{bars, with_memory}
-use Rattle.res_calls.proofs.Walks.Own.{own-known, own-locked, own-fixed, own-purgeable, own-bytes, own-masters}
+use Rattle.res_calls.proofs.Walks.Own.{own-known, own-locked, own-nonrelocatable, own-purgeable, own-bytes, own-masters}
 use Rattle.res_calls.proofs.Walks.Own.{own-searches, own-fits, own-no_more, own-busy, own-code, own-window, own-files}
 use Rattle.res_calls.proofs.Walks.Own.{own-elsewhere, own-owns, own-sound, own-unread, own-refused}
 use Rattle.res_calls.proofs.Walks.Place.{moved, answer_moved}
@@ -154,14 +154,14 @@ served-locked c p bytes known h place keeps is =
     (own-locked code_type n p.managers bytes known h place is))
     c (λ k same. loosened-locked k h (sym (same h) ∙ keeps) p.managers.memory.heap ∙ is)
 
-pub served-fixed : (c : SegmentCall) (p : Program) (bytes : ℕ → List ℕ) → Known p.managers.memory.heap bytes
+pub served-nonrelocatable : (c : SegmentCall) (p : Program) (bytes : ℕ → List ℕ) → Known p.managers.memory.heap bytes
     → (q place : ℕ) → pointer_place q p.managers.memory.heap.zone ≡ Some place
     → pointer_place q (served c p).after.managers.memory.heap.zone ≡ Some place
-served-fixed c p bytes known q place is =
+served-nonrelocatable c p bytes known q place is =
     served-goes (λ wants reads s. pointer_place q s.memory.heap.zone ≡ Some place) p is
-    (λ n wants full. own-fixed code_type n p.managers q place is)
-    (λ n k. held-fixed k (fetched n p).after.memory.heap q ∙ own-fixed code_type n p.managers q place is)
-    c (λ k same. loosened-fixed k p.managers.memory.heap q ∙ is)
+    (λ n wants full. own-nonrelocatable code_type n p.managers q place is)
+    (λ n k. held-nonrelocatable k (fetched n p).after.memory.heap q ∙ own-nonrelocatable code_type n p.managers q place is)
+    c (λ k same. loosened-nonrelocatable k p.managers.memory.heap q ∙ is)
 
 -- only blocks that may be purged are
 pub served-purgeable : (c : SegmentCall) (p : Program) (bytes : ℕ → List ℕ) → Known p.managers.memory.heap bytes

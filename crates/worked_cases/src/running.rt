@@ -1,11 +1,13 @@
 //! Cases over both stores of blocks: the store that keeps lists, and the store in the bytes of a region.
 
 ghost use Rattle.std.specs.Prelude.{◌≡◌, ◌%◌, ◌≤◌, [], IfOk, length};
+ghost use Rattle.block_store.specs.declared.measures.TheConstants.{GREATEST_ZONE, LEAST_ZONE};
 
 use crate::case::Case;
 use crate::forks::resources_of;
 use anyhow::{Result, ensure};
 use applications::{Given, Unwatched, give_alone};
+use block_store::{GREATEST_ZONE, LEAST_ZONE};
 use desk::give_in_region;
 use raw_region::Region;
 use res_calls::Resources;
@@ -23,8 +25,8 @@ pub struct Runs {
 /// Returns a region of `len` bytes, none of which is 0.
 fn used_region(alloc: Global, len: u32) -> Result<Region, AllocError>
     requires even { len % 16 ≡ 0 }
-    requires low { 512 ≤ len }
-    requires high { len ≤ 134217728 }
+    requires low { LEAST_ZONE ≤ len }
+    requires high { len ≤ GREATEST_ZONE }
     ensures home { IfOk result (λ r. r.out ≡ []) }
     ensures length { IfOk result (λ r. length r.bytes ≡ len) }
 {
@@ -39,8 +41,8 @@ fn used_region(alloc: Global, len: u32) -> Result<Region, AllocError>
 fn zone_of(alloc: Global, region: Region) -> Result<Vec<u8>, AllocError>
     requires home { region.out ≡ [] }
     requires even { length region.bytes % 16 ≡ 0 }
-    requires low { 512 ≤ length region.bytes }
-    requires high { length region.bytes ≤ 134217728 }
+    requires low { LEAST_ZONE ≤ length region.bytes }
+    requires high { length region.bytes ≤ GREATEST_ZONE }
 {
     let mut region = region;
     let len = region.len();
@@ -58,8 +60,8 @@ fn run_in_bytes(
     script: &Script,
 ) -> Result<(Given, Vec<u8>), AllocError>
     requires even { size % 16 ≡ 0 }
-    requires low { 512 ≤ size }
-    requires high { size ≤ 134217728 }
+    requires low { LEAST_ZONE ≤ size }
+    requires high { size ≤ GREATEST_ZONE }
 {
     let steps = script.steps().len() + 1;
     let region = used_region(alloc, size)?;
@@ -83,8 +85,8 @@ fn run_in_lists(
     script: &Script,
 ) -> Result<Given, AllocError>
     requires even { size % 16 ≡ 0 }
-    requires low { 512 ≤ size }
-    requires high { size ≤ 134217728 }
+    requires low { LEAST_ZONE ≤ size }
+    requires high { size ≤ GREATEST_ZONE }
 {
     let steps = script.steps().len() + 1;
     give_alone(alloc, size, resources, script, steps, false)
@@ -98,7 +100,7 @@ fn resources(alloc: Global, case: &Case) -> Result<Resources> {
 pub fn run_case(alloc: Global, case: &Case, script: &Script) -> Result<Runs> {
     let size = case.size;
     ensure!(
-        size % 16 == 0 && 512 <= size && size <= 134217728,
+        size % 16 == 0 && LEAST_ZONE <= size && size <= GREATEST_ZONE,
         "no size of a partition: {size}"
     );
     let in_lists = run_in_lists(alloc, resources(alloc, case)?, size, script)?;

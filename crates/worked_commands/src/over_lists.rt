@@ -5,7 +5,7 @@ use crate::comparing::compare_files;
 use crate::disk::Disk;
 use crate::parts::Part;
 use applications::Unwatched;
-use block_store::ListZones;
+use block_store::{GREATEST_ZONE, LEAST_ZONE, ListZones};
 use commands::{Output, gather, outputs_of};
 use desk::{Job, Outcome, run_with};
 use script_text::read_job;
@@ -24,7 +24,7 @@ fn job_at(alloc: Global, archive: &Archive, path: &str) -> Option<Job> {
 /// Returns what a job leaves whose zones are kept in lists, where the job runs.
 fn outcome_in_lists(alloc: Global, job: &Job) -> Option<Outcome> {
     let memory = job.memory;
-    if memory % 16 != 0 || memory < 512 || 134_217_728 < memory || 64 < job.apps.len() {
+    if memory % 16 != 0 || memory < LEAST_ZONE || GREATEST_ZONE < memory || 64 < job.apps.len() {
         return None;
     }
     let Ok(zones) = ListZones::new(alloc, memory) else {

@@ -6,6 +6,6 @@ pub mod Above
 pub mod Released
 pub mod ByName
 pub mod Handles
-pub mod FixedFreed
+pub mod NonrelocatableFreed
 pub mod Passing
 pub mod PurgeStarts

@@ -1,7 +1,7 @@
 pub mod Laid
 pub mod Standing
 pub mod Stretched
-pub mod FixedCarved
+pub mod NonrelocatableCarved
 pub mod Copied
 pub mod Sizes
 pub mod FreeTags

@@ -3,7 +3,7 @@ use Rattle.std.specs.Prelude.{ℕ, ◌+◌, ◌-◌, ◌%◌, zero, suc, List, [
 use Rattle.windows.specs.Writes.{piece}
 use Rattle.heap_words.specs.Words.{word_at}
 use Rattle.block_store.specs.declared.flags.Flags.{Flags}
-use Rattle.block_store.specs.Block.{Block, Free, Fixed, Masters, Relocatable, size}
+use Rattle.block_store.specs.Block.{Block, Free, Nonrelocatable, Masters, Relocatable, size}
 
 abbrev pub flags_of : ℕ → Flags
 flags_of n = record { locked = nat_le 128 n; purgeable = nat_le 64 (n % 128) }
@@ -11,7 +11,7 @@ flags_of n = record { locked = nat_le 128 n; purgeable = nat_le 64 (n % 128) }
 -- The block of a kind whose header is at the front of `xs`, at the place `o`.
 abbrev pub block_of_kind : ℕ → ℕ → ℕ → List ℕ → Block
 block_of_kind zero n o xs = Free n
-block_of_kind (suc zero) n o xs = Fixed o (piece 16 (word_at 4 xs) xs)
+block_of_kind (suc zero) n o xs = Nonrelocatable o (piece 16 (word_at 4 xs) xs)
 block_of_kind (suc (suc zero)) n o xs = Masters
 block_of_kind (suc (suc (suc k))) n o xs = Relocatable (word_at 8 xs) (flags_of (word_at 12 xs))
     (piece 16 (word_at 4 xs) xs)

@@ -3,6 +3,7 @@ use Rattle.std.specs.Prelude.{◌≡◌, ℕ, Bool, ◌+◌, ◌≤◌, List, []
 use Rattle.block_store.specs.Block.{Block, sizes}
 use Rattle.zone_bytes.specs.Layout.{Each}
 use Rattle.zone_bytes.specs.Settling.{InRun, Lies, HasSlots, SameOthers}
+use Rattle.block_store.specs.declared.measures.TheConstants.{GREATEST_ZONE}
 
 -- A block, those that follow it in its run, and what is below and above them.
 pub record Hoist : Type 0 where
@@ -29,7 +30,7 @@ pub record MayHoist (z : Hoist) (place stop : ℕ) : Type 0 where
   pub bottom : sizes z.below ≡ place
   pub top : place + sizes (z.block ∷ z.over) ≡ stop
   pub in_run : Each InRun (z.block ∷ z.over)
-  pub small : length z.bytes ≤ 134217728
+  pub small : length z.bytes ≤ GREATEST_ZONE
 
 pub record Hoisted (z : Hoist) (xs : List ℕ) : Type 0 where
   pub lies : Lies z.resource (hoisted z) xs

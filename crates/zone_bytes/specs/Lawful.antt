@@ -6,9 +6,10 @@ use Rattle.block_store.specs.Slot.{is_used}
 use Rattle.block_store.specs.Compact.{Aligned, Placed}
 use Rattle.zone_bytes.specs.Decode.{zone_in}
 use Rattle.zone_bytes.specs.Table.{Lays, slot_in, first_of}
+use Rattle.block_store.specs.declared.measures.TheConstants.{GREATEST_ZONE}
 
 pub record IsLawful (xs : List ℕ) : Type 0 where
-  pub small : sizes (zone_in xs) ≤ 134217728
+  pub small : sizes (zone_in xs) ≤ GREATEST_ZONE
   pub no_block : (number : ℕ) → is_used (slot_in xs number) ≡ false → has (is_relocatable number) (zone_in xs) ≡ false
   pub once : (number : ℕ) → count (is_relocatable number) (zone_in xs) ≤ 1
   pub tidied : tidy (zone_in xs) ≡ zone_in xs

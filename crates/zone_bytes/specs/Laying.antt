@@ -4,7 +4,8 @@ use Rattle.windows.specs.Writes.{written}
 use Rattle.heap_words.specs.Words.{word}
 use Rattle.heap_words.specs.Headers.{header_bytes}
 use Rattle.heap_words.specs.declared.header.Header.{Header}
-use Rattle.block_store.specs.Block.{Block, Free, Fixed, Masters, Relocatable, free_of}
+use Rattle.block_store.specs.Block.{Block, Free, Nonrelocatable, Masters, Relocatable, free_of}
+use Rattle.block_store.specs.declared.measures.TheConstants.{GREATEST_ZONE}
 
 -- The bytes in which those from `at` up to `top` are one free block, if there are any.
 abbrev pub left_over : ℕ → ℕ → List ℕ → List ℕ
@@ -24,7 +25,7 @@ laid header bottom top held xs = left_over (bottom + header.size) top (headed he
 pub record MayLay (header : Header) (bottom top held : ℕ) (xs : List ℕ) : Type 0 where
   pub even : (bottom % 16 ≡ 0) × (top % 16 ≡ 0) × (header.size % 16 ≡ 0)
   pub inside : top ≤ length xs
-  pub small : length xs ≤ 134217728
+  pub small : length xs ≤ GREATEST_ZONE
   pub room : bottom + header.size ≤ top
   pub whole : 16 + header.logical ≤ header.size
   pub fits : bottom + 16 + held ≤ top
@@ -38,6 +39,6 @@ free_first (b ∷ above) = free_of b
 abbrev pub past_free : List Block → List Block
 past_free [] = []
 past_free (Free n ∷ above) = above
-past_free (Fixed id content ∷ above) = Fixed id content ∷ above
+past_free (Nonrelocatable id content ∷ above) = Nonrelocatable id content ∷ above
 past_free (Masters ∷ above) = Masters ∷ above
 past_free (Relocatable id flags content ∷ above) = Relocatable id flags content ∷ above

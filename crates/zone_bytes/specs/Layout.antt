@@ -4,7 +4,7 @@ use Rattle.std.specs.Prelude.{drop}
 use Rattle.windows.specs.Writes.{piece}
 use Rattle.heap_words.specs.Words.{word, header}
 use Rattle.block_store.specs.declared.flags.Flags.{Flags}
-use Rattle.block_store.specs.Block.{Block, Free, Fixed, Masters, Relocatable, size}
+use Rattle.block_store.specs.Block.{Block, Free, Nonrelocatable, Masters, Relocatable, size}
 
 -- The number of a block's flags and its handle's resource flag: 128 for locked, 64 for purgeable, 32 for a resource.
 abbrev pub flag_word : Flags → Bool → ℕ
@@ -14,14 +14,14 @@ flag_word flags resource = (if flags.locked then 128 else 0) + (if flags.purgeab
 -- The number of a block's kind.
 abbrev pub kind : Block → ℕ
 kind (Free n) = 0
-kind (Fixed id content) = 1
+kind (Nonrelocatable id content) = 1
 kind Masters = 2
 kind (Relocatable slot flags content) = 3
 
 -- The bytes that a block begins with; its other bytes may have any values.
 unfoldable pub head_of : (ℕ → Bool) → Block → List ℕ
 head_of resource (Free n) = word n
-head_of resource (Fixed id content) = header (size (Fixed id content) + 1) (length content) 0 0 ++ content
+head_of resource (Nonrelocatable id content) = header (size (Nonrelocatable id content) + 1) (length content) 0 0 ++ content
 head_of resource Masters = header (272 + 2) 256 0 0
 head_of resource (Relocatable slot flags content) = header (size (Relocatable slot flags content) + 3)
     (length content) slot (flag_word flags (resource slot)) ++ content
@@ -42,7 +42,7 @@ Tiles head xs (b ∷ blocks) = Tile (head b) (size b) xs × Tiles head (drop (si
 -- The number `s` is the place of a slot of a master pointer block.
 abbrev pub IsSlotOf : Block → ℕ → Type 0
 IsSlotOf (Free n) s = ⊥
-IsSlotOf (Fixed id content) s = ⊥
+IsSlotOf (Nonrelocatable id content) s = ⊥
 IsSlotOf Masters s = (16 ≤ s) × (s + 4 ≤ 272) × (s % 4 ≡ 0)
 IsSlotOf (Relocatable slot flags content) s = ⊥
 
@@ -54,7 +54,7 @@ IsSlot s (b ∷ blocks) = IsSlotOf b s ⊎ ((size b ≤ s) × IsSlot (s - size b
 -- The slots that lead to blocks, as the blocks' headers name them.
 abbrev pub names_of : Block → List ℕ
 names_of (Free n) = []
-names_of (Fixed id content) = []
+names_of (Nonrelocatable id content) = []
 names_of Masters = []
 names_of (Relocatable slot flags content) = slot ∷ []
 
@@ -65,7 +65,7 @@ names (b ∷ blocks) = names_of b ++ names blocks
 -- The slot of a block at the place `o` leads to the block.
 abbrev pub LeadsTo : ℕ → Block → List ℕ → Type 0
 LeadsTo o (Free n) xs = Unit {0}
-LeadsTo o (Fixed id content) xs = Unit {0}
+LeadsTo o (Nonrelocatable id content) xs = Unit {0}
 LeadsTo o Masters xs = Unit {0}
 LeadsTo o (Relocatable slot flags content) xs = piece slot 4 xs ≡ word o
 
@@ -89,7 +89,7 @@ Pairs R (x ∷ xs) = Each (R x) xs × Pairs R xs
 -- The name of a nonrelocatable block is its place.
 abbrev pub IsPlaced : ℕ → Block → Type 0
 IsPlaced o (Free n) = Unit {0}
-IsPlaced o (Fixed id content) = id ≡ o
+IsPlaced o (Nonrelocatable id content) = id ≡ o
 IsPlaced o Masters = Unit {0}
 IsPlaced o (Relocatable slot flags content) = Unit {0}
 

@@ -3,6 +3,7 @@ use Rattle.std.specs.Prelude.{◌≡◌, ℕ, ◌+◌, ◌%◌, ◌≤◌, List,
 use Rattle.block_store.specs.Block.{Block, sizes}
 use Rattle.zone_bytes.specs.Layout.{head_of, Tiles, Leads, Each}
 use Rattle.zone_bytes.specs.Settling.{Lay, InRun, Lies, HasSlots, SameOthers}
+use Rattle.block_store.specs.declared.measures.TheConstants.{GREATEST_ZONE}
 
 -- The blocks lie in the bytes; the slots of the blocks of the run from `place` to `stop` may lead anywhere.
 pub record IsMoved (lay : Lay) (place stop : ℕ) : Type 0 where
@@ -11,7 +12,7 @@ pub record IsMoved (lay : Lay) (place stop : ℕ) : Type 0 where
   pub bottom : sizes lay.below ≡ place
   pub top : place + sizes lay.run ≡ stop
   pub in_run : Each InRun lay.run
-  pub small : length lay.bytes ≤ 134217728
+  pub small : length lay.bytes ≤ GREATEST_ZONE
   pub low : Leads 0 lay.below lay.bytes
   pub high : Leads stop lay.above lay.bytes
 

@@ -4,6 +4,7 @@ use Rattle.block_store.specs.Block.{Block, Free, free, free_sum, sizes, tidy}
 use Rattle.block_store.specs.Run.{low}
 use Rattle.zone_bytes.specs.Layout.{head_of, Tiles, Leads, Each}
 use Rattle.zone_bytes.specs.Settling.{Lay, InRun, Lies, HasSlots, IsRunFrom, SameOthers}
+use Rattle.block_store.specs.declared.measures.TheConstants.{GREATEST_ZONE}
 
 -- The relocatable blocks of a packed run, the number of free bytes that are to be below them, and the number of those
 -- that stay above them.
@@ -39,7 +40,7 @@ pub record MayRaise (z : Raise) (place top stop gap : ℕ) : Type 0 where
   pub some : 0 < gap
   pub even : gap % 16 ≡ 0
   pub in_run : Each InRun z.movers
-  pub small : length z.bytes ≤ 134217728
+  pub small : length z.bytes ≤ GREATEST_ZONE
 
 pub record Raised (z : Raise) (xs : List ℕ) : Type 0 where
   pub lies : Lies z.resource (raised z) xs

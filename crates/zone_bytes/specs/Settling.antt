@@ -5,6 +5,7 @@ use Rattle.windows.specs.Writes.{piece}
 use Rattle.block_store.specs.Block.{Block, free_of, free_sum, is_mover, size, sizes}
 use Rattle.block_store.specs.Run.{in_run, movers, settle}
 use Rattle.zone_bytes.specs.Layout.{head_of, Tiles, IsSlot, names, Leads, Apart, Each, Pairs}
+use Rattle.block_store.specs.declared.measures.TheConstants.{GREATEST_ZONE}
 
 -- The number of relocatable blocks of a run that move down when the run is packed and `gap` free bytes are below it.
 abbrev pub lowered_in_run_from : ℕ → List Block → ℕ
@@ -52,7 +53,7 @@ pub record IsRunFrom (lay : Lay) (place stop : ℕ) : Type 0 where
   pub bottom : sizes lay.below ≡ place
   pub top : place + sizes lay.run ≡ stop
   pub in_run : Each InRun lay.run
-  pub small : length lay.bytes ≤ 134217728
+  pub small : length lay.bytes ≤ GREATEST_ZONE
 
 -- The slots that lead to none of the blocks hold the words that they held before.
 abbrev pub SameOthers : List Block → List ℕ → List ℕ → Type 0

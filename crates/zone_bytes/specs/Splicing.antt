@@ -4,6 +4,7 @@ use Rattle.block_store.specs.Block.{Block, Free, no_flags, sizes}
 use Rattle.mac_words.specs.Size.{padded}
 use Rattle.zone_bytes.specs.Layout.{flag_word, names, Each, Apart, IsSlot}
 use Rattle.zone_bytes.specs.Settling.{Lies}
+use Rattle.block_store.specs.declared.measures.TheConstants.{GREATEST_ZONE}
 
 -- The bytes below `lo` and those from `hi` on keep their values.
 pub record SameOutside (lo hi : ℕ) (old new : List ℕ) : Type 0 where
@@ -25,7 +26,7 @@ pub record IsSplice (zone : Splice) (bottom top : ℕ) (xs : List ℕ) : Type 0 
   pub low : sizes zone.below ≡ bottom
   pub high : bottom + sizes zone.here ≡ top
   pub some : bottom < top
-  pub small : length xs ≤ 134217728
+  pub small : length xs ≤ GREATEST_ZONE
   pub slots : Each (λ s. IsSlot s (zone.below ++ (zone.here ++ zone.above))) (names zone.below) × Each
       (λ s. IsSlot s (zone.below ++ (zone.here ++ zone.above))) (names zone.above)
   pub no_masters : (s : ℕ) → IsSlot s zone.here → ⊥

@@ -7,12 +7,13 @@ use Rattle.block_store.specs.declared.sparing.Seen.TheVariants as see
 use Rattle.zone_bytes.specs.Layout.{names, Each, ArePlaced}
 use Rattle.zone_bytes.specs.Decode.{flags_of, blocks_in}
 use Rattle.zone_bytes.specs.Walking.{Walk}
+use Rattle.block_store.specs.declared.measures.TheConstants.{GREATEST_ZONE}
 
 -- The block that the words of a header describe: `n` is its physical size, `c` its logical size, `s` its slot, and `f`
 -- its flags.
 abbrev pub header_seen : ℕ → ℕ → ℕ → ℕ → ℕ → Seen
 header_seen zero n c s f = see.Free n
-header_seen (suc zero) n c s f = see.Fixed c
+header_seen (suc zero) n c s f = see.Nonrelocatable c
 header_seen (suc (suc zero)) n c s f = see.Masters
 header_seen (suc (suc (suc k))) n c s f = see.Relocatable s (flags_of f) c
 
@@ -27,7 +28,7 @@ pub record IsOnWay (at : ℕ) (xs : List ℕ) : Type 0 where
   pub walk : Walk resource at xs rest
   pub placed : ArePlaced at rest
   pub words : Each (λ s. s < 2 ^ 32) (names rest)
-  pub small : length xs ≤ 134217728
+  pub small : length xs ≤ GREATEST_ZONE
 
 -- A block with this description is from the place `at` to `end`.
 pub record Steps (at : ℕ) (block : Seen) (end : ℕ) (xs : List ℕ) : Type 0 where

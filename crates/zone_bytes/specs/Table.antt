@@ -8,6 +8,7 @@ use Rattle.block_store.specs.Slot.{Slot, NoSlot, Unused, Used, is_resource}
 use Rattle.zone_bytes.specs.Layout.{IsSlot, names, Apart, Each, Pairs, ArePlaced}
 use Rattle.zone_bytes.specs.Settling.{Lies, HasSlots}
 use Rattle.zone_bytes.specs.Decode.{zone_in}
+use Rattle.block_store.specs.declared.measures.TheConstants.{GREATEST_ZONE}
 
 -- The number `x` is in a list.
 abbrev pub Has : List ℕ → ℕ → Type 0
@@ -47,7 +48,7 @@ pub record Lays (xs : List ℕ) (blocks : List Block) (slots : ℕ → Slot) (un
   pub lies : Lies (λ s. is_resource (slots s)) blocks xs
   pub has_slots : HasSlots blocks
   pub placed : ArePlaced 0 blocks
-  pub small : length xs ≤ 134217728
+  pub small : length xs ≤ GREATEST_ZONE
   pub used : Each (λ s. IsUsed (slots s)) (names blocks)
   pub says : (s : ℕ) → Says blocks xs unused s (slots s)
   pub chain : Chain xs unused

@@ -3,7 +3,7 @@
 ghost use Rattle.std.specs.Prelude.{◌≡◌, ◌+◌, ◌%◌, ◌≤◌, ◌<◌, ◌∷◌, ℕ, List, length};
 ghost use Rattle.heap_words.specs.Words.{word_at};
 ghost use Rattle.block_store.specs.declared.flags.Flags.{Flags};
-ghost use Rattle.block_store.specs.Block.{Block, Fixed, Relocatable};
+ghost use Rattle.block_store.specs.Block.{Block, Nonrelocatable, Relocatable};
 ghost use Rattle.zone_bytes.specs.Stepping.{left_in, IsOnWay};
 ghost use Rattle.zone_bytes.specs.Adopting.{adopted, LeadsHere};
 ghost use Rattle.zone_bytes.specs.Beside.{KeepsPlace};
@@ -52,15 +52,15 @@ pub fn adopt(part: &mut Part, place: u32, slot: u32, flags: Flags)
     requires slot { (slot % 4 ≡ 0) × (slot + 4 ≤ length part.old.bytes) }
     ensures same { KeepsPlace part.old part.new }
     ensures bytes { (id : ℕ) (content : List ℕ) (above : List Block) →
-        left_in place part.old.bytes ≡ Fixed id content ∷ above →
+        left_in place part.old.bytes ≡ Nonrelocatable id content ∷ above →
         part.new.bytes ≡ adopted slot flags place content part.old.bytes }
 {
-    let fixed = read_header(part, place);
+    let nonrelocatable = read_header(part, place);
     let resource = kept_flags(part, slot);
     let named = Header {
-        size: fixed.size,
+        size: nonrelocatable.size,
         tag: Tag::Relocatable,
-        logical: fixed.logical,
+        logical: nonrelocatable.logical,
         slot,
         flags: flag_bits(flags) + resource,
     };

@@ -16,7 +16,7 @@ pub(crate) fn has_content(tag: Tag) -> bool
 {
     match tag {
         Tag::Free | Tag::Masters => false,
-        Tag::Fixed | Tag::Relocatable => true,
+        Tag::Nonrelocatable | Tag::Relocatable => true,
     }
 }
 

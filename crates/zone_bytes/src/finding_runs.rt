@@ -138,7 +138,7 @@ fn look_past(part: &Part, search: Search, at: u32, next: u32, bytes: u32) -> Sea
 
 /// Returns a number that is at least that of the free bytes of the run in which a search is.
 fn most_free(search: Search) -> u32
-    ensures { result ≡ most_free_of search ⊎ (result ≡ 4294967295) }
+    ensures { result ≡ most_free_of search ⊎ (result ≡ above_all) }
 {
     match search {
         Search::Known(scan) => scan.free,

@@ -54,7 +54,7 @@ pub use marking::{NextMark, change_marks, find_by_marks, lay_edges, lay_marks, m
 pub use mastering::add_masters;
 pub use measuring::{Measured, measure_up_to, room_between};
 pub use paging::LANDMARKS;
-pub use placing::{carve_fixed, lay_block, move_bytes, size_at};
+pub use placing::{carve_nonrelocatable, lay_block, move_bytes, size_at};
 pub use pointing::lead_run;
 pub use purgeable::{
     changed_bound, falls_short, frees_one, given_at, given_with, purgeable_at, purgeable_bytes_in,

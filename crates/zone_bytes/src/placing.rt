@@ -4,7 +4,7 @@ ghost use Rattle.std.specs.Prelude.{◌≡◌, ◌+◌, ◌≤◌, ◌<◌, ◌�
 ghost use Rattle.std.specs.Prelude.{take, drop};
 ghost use Rattle.mac_words.specs.Size.{padded};
 ghost use Rattle.windows.specs.Writes.{written};
-ghost use Rattle.block_store.specs.Block.{Block, Fixed, is_room, size};
+ghost use Rattle.block_store.specs.Block.{Block, Nonrelocatable, is_room, size};
 ghost use Rattle.block_store.specs.Room.{spot_at, filled};
 ghost use Rattle.zone_bytes.specs.Decode.{zone_in};
 ghost use Rattle.zone_bytes.specs.Table.{Lays, slot_in};
@@ -45,18 +45,18 @@ pub fn lay_block(part: &mut Part, bottom: u32, top: u32, header: Header, held: u
 }
 
 /// Puts a new nonrelocatable block of `size` bytes, all 0, at the lower end of the free block at `place`.
-pub fn carve_fixed(part: &mut Part, place: u32, size: u32)
+pub fn carve_nonrelocatable(part: &mut Part, place: u32, size: u32)
     requires sound { (first : ℕ) × (unused : ℕ) × IsSound part.old.bytes first unused }
     requires room { IsSomeAnd (spot_at place (zone_in part.old.bytes)) (λ s. IsTrue (is_room (padded size) s.here)) }
     ensures same { KeepsPlace part.old part.new }
     ensures lays { (first unused : ℕ) (i : IsSound part.old.bytes first unused) →
         IfSome (spot_at place (zone_in part.old.bytes)) (λ s.
-        Lays part.new.bytes (filled (Fixed place (replicate size 0)) s) (slot_in part.old.bytes) i.unused) }
+        Lays part.new.bytes (filled (Nonrelocatable place (replicate size 0)) s) (slot_in part.old.bytes) i.unused) }
 {
     let top = place + size_at(part, place);
     let header = Header {
         size: padded_size(size),
-        tag: Tag::Fixed,
+        tag: Tag::Nonrelocatable,
         logical: size,
         slot: 0,
         flags: 0,

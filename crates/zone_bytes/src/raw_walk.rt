@@ -20,7 +20,7 @@ pub fn seen_of(header: Header) -> Seen
     };
     match header.tag {
         Tag::Free => Seen::Free(header.size),
-        Tag::Fixed => Seen::Fixed(header.logical),
+        Tag::Nonrelocatable => Seen::Nonrelocatable(header.logical),
         Tag::Masters => Seen::Masters,
         Tag::Relocatable => Seen::Relocatable(header.slot, flags, header.logical),
     }

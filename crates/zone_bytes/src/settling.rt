@@ -57,7 +57,7 @@ fn is_in_run(header: Header) -> bool
 {
     match header.tag {
         Tag::Free => true,
-        Tag::Fixed | Tag::Masters => false,
+        Tag::Nonrelocatable | Tag::Masters => false,
         Tag::Relocatable => header.flags < 128,
     }
 }

@@ -8,7 +8,7 @@ use Rattle.std.proofs.lemmas.Bool.Decides.{Decides-eqb}
 use Rattle.mac_words.specs.Size.{padded}
 use Rattle.std.proofs.lemmas.Option.{same_Some}
 use Rattle.std.specs.Option.{IfSome, IsSome, IsSomeAnd}
-use Rattle.block_store.specs.Block.{Block, Free, Fixed, Masters, Relocatable, size, sizes, count, is_room, is_masters}
+use Rattle.block_store.specs.Block.{Block, Free, Nonrelocatable, Masters, Relocatable, size, sizes, count, is_room, is_masters}
 use Rattle.block_store.specs.Block.{is_relocatable, no_flags, tidy, with_content, content_of, resized}
 use Rattle.windows.specs.Writes.{written}
 use Rattle.block_store.specs.Run.{has}
@@ -46,7 +46,7 @@ pub record Lawful (slots : ℕ → Slot) (bytes all : ℕ) (zone : List Block) :
 
 pub not_masters : (p : ℕ) (b : Block) → is_room p b ≡ true → is_masters b ≡ false
 not_masters p (Free n) e = refl
-not_masters p (Fixed id content) e = refl
+not_masters p (Nonrelocatable id content) e = refl
 not_masters p Masters e = let f : false ≡ true = e in cc
 not_masters p (Relocatable id flags content) e = refl
 

@@ -9,8 +9,8 @@ use Rattle.std.proofs.lemmas.List.Elements.{filter-append}
 use Rattle.std.specs.Option.{option_map, IfSome, IsSome, IsSomeAnd}
 use Rattle.mac_words.specs.Size.{padded}
 use Rattle.windows.specs.Writes.{written}
-use Rattle.block_store.specs.Block.{Block, Free, Fixed, Masters, Relocatable, size, sizes, is_room, is_relocatable}
-use Rattle.block_store.specs.Block.{is_fixed, content_of, with_content, resized, resized_content, tidy, add}
+use Rattle.block_store.specs.Block.{Block, Free, Nonrelocatable, Masters, Relocatable, size, sizes, is_room, is_relocatable}
+use Rattle.block_store.specs.Block.{is_nonrelocatable, content_of, with_content, resized, resized_content, tidy, add}
 use Rattle.block_store.specs.Run.{has}
 use Rattle.block_store.specs.Room.{Spot, spot, spot_at, filled}
 use Rattle.block_store.specs.Grow.{freed}
@@ -27,7 +27,7 @@ use Rattle.block_store.proofs.Nonrelocatable.Placing.{spot_at-below}
 use Rattle.block_store.proofs.Purged.Sparing.{filter-tidy, here-same}
 use Rattle.block_store.proofs.Content.Resizing.{found-has, if_found, length-resized, less_or_more}
 
--- A block that moves in steps: a Fixed block at the place gets its bytes, the block goes, and the Fixed one takes
+-- A block that moves in steps: a nonrelocatable block at the place gets its bytes, the block goes, and the nonrelocatable one takes
 -- its name.
 
 sum : (n m : ℕ) → suc n + suc m ≡ suc (n + suc m)
@@ -46,7 +46,7 @@ add-twice (suc n) (suc m) [] = subst (λ k. add (Free k) [] ≡ Free k ∷ []) (
 add-twice (suc n) (suc m) (Free k ∷ bs) =
     subst (λ j. add (Free j) (Free k ∷ bs) ≡ Free (j + k) ∷ bs) (sym (sum n m)) refl
     ∙ (let z : suc n + suc m + k ≡ suc n + (suc m + k) = omega arith in ap (λ k. Free k ∷ bs) z)
-add-twice (suc n) (suc m) (Fixed id content ∷ bs) = other n m (Fixed id content) bs (λ k. refl)
+add-twice (suc n) (suc m) (Nonrelocatable id content ∷ bs) = other n m (Nonrelocatable id content) bs (λ k. refl)
 add-twice (suc n) (suc m) (Masters ∷ bs) = other n m Masters bs (λ k. refl)
 add-twice (suc n) (suc m) (Relocatable id flags content ∷ bs) = other n m (Relocatable id flags content) bs (λ k. refl)
 
@@ -80,7 +80,7 @@ room-at place p zone h = cases (spot_at place zone) refl h
       at = e ∙ ap (λ b. Some (record { below = s.below; here = b; above = s.above })) is;
       fits = room;
     }
-    free s e (Fixed id content) is room = absurd (false≢true room)
+    free s e (Nonrelocatable id content) is room = absurd (false≢true room)
     free s e Masters is room = absurd (false≢true room)
     free s e (Relocatable id flags content) is room = absurd (false≢true room)
 
@@ -96,9 +96,9 @@ seen-is number n flags (Free m) e = absurd (other e)
   where
     other : see.Free m ≡ see.Relocatable number flags n → ⊥
     other e = cc
-seen-is number n flags (Fixed id content) e = absurd (other e)
+seen-is number n flags (Nonrelocatable id content) e = absurd (other e)
   where
-    other : see.Fixed (length content) ≡ see.Relocatable number flags n → ⊥
+    other : see.Nonrelocatable (length content) ≡ see.Relocatable number flags n → ⊥
     other e = cc
 seen-is number n flags Masters e = absurd (other e)
   where
@@ -160,37 +160,37 @@ module _ (number place bytes : ℕ) (zone : List Block) (r : RoomAt place (padde
   abbrev upper : List Block
   upper = tidy (Free left ∷ r.above)
 
-  -- with a Fixed block at the place
+  -- with a nonrelocatable block at the place
   abbrev stood : List ℕ → List Block
-  stood content = lower ++ Fixed place content ∷ upper
+  stood content = lower ++ Nonrelocatable place content ∷ upper
 
   low : sizes r.below ≡ place
   low = spot_at-below place zone _ r.at
 
   stood-at : (content : List ℕ) → spot_at place (stood content)
-      ≡ Some (record { below = lower; here = Fixed place content; above = upper })
+      ≡ Some (record { below = lower; here = Nonrelocatable place content; above = upper })
   stood-at content =
-      let e = tidy-parted r.below (Fixed place content) (Free left ∷ r.above) refl in
-      let a = subst Apart e (apart-tidy (r.below ++ Fixed place content ∷ Free left ∷ r.above)) in
+      let e = tidy-parted r.below (Nonrelocatable place content) (Free left ∷ r.above) refl in
+      let a = subst Apart e (apart-tidy (r.below ++ Nonrelocatable place content ∷ Free left ∷ r.above)) in
       subst (λ n. spot_at n (stood content)
-      ≡ Some (record { below = lower; here = Fixed place content; above = upper }))
-      (total-tidy size (λ n m. refl) r.below ∙ low) (spot_at-parted lower (Fixed place content) upper a)
+      ≡ Some (record { below = lower; here = Nonrelocatable place content; above = upper }))
+      (total-tidy size (λ n m. refl) r.below ∙ low) (spot_at-parted lower (Nonrelocatable place content) upper a)
 
-  -- after the Fixed block was made
+  -- after the nonrelocatable block was made
   module _ (made : List Block) (is : IfSome (spot_at place zone) (λ s.
-      made ≡ filled (Fixed place (replicate bytes 0)) s)) where
-    made-filled : made ≡ tidy (r.below ++ Fixed place (replicate bytes 0) ∷ Free left ∷ r.above)
-    made-filled = subst (λ (o : Option Spot). IfSome o (λ s. made ≡ filled (Fixed place (replicate bytes 0)) s)) r.at is
-        ∙ ap (λ n. tidy (r.below ++ Fixed place (replicate bytes 0) ∷ Free (r.bytes - padded n) ∷ r.above))
+      made ≡ filled (Nonrelocatable place (replicate bytes 0)) s)) where
+    made-filled : made ≡ tidy (r.below ++ Nonrelocatable place (replicate bytes 0) ∷ Free left ∷ r.above)
+    made-filled = subst (λ (o : Option Spot). IfSome o (λ s. made ≡ filled (Nonrelocatable place (replicate bytes 0)) s)) r.at is
+        ∙ ap (λ n. tidy (r.below ++ Nonrelocatable place (replicate bytes 0) ∷ Free (r.bytes - padded n) ∷ r.above))
         (length-replicate bytes 0)
 
     made-is : made ≡ stood (replicate bytes 0)
-    made-is = made-filled ∙ tidy-parted r.below (Fixed place (replicate bytes 0)) (Free left ∷ r.above) refl
+    made-is = made-filled ∙ tidy-parted r.below (Nonrelocatable place (replicate bytes 0)) (Free left ∷ r.above) refl
 
     same-block : option_map (λ (s : Spot). s.here) (spot goes made) ≡ option_map (λ (s : Spot). s.here) (spot goes zone)
     same-block = here-same goes zone made (ap (filter goes) made-filled
-        ∙ filter-tidy goes (λ n. refl) (r.below ++ Fixed place (replicate bytes 0) ∷ Free left ∷ r.above)
-        ∙ filter-append goes r.below (Fixed place (replicate bytes 0) ∷ Free left ∷ r.above)
+        ∙ filter-tidy goes (λ n. refl) (r.below ++ Nonrelocatable place (replicate bytes 0) ∷ Free left ∷ r.above)
+        ∙ filter-append goes r.below (Nonrelocatable place (replicate bytes 0) ∷ Free left ∷ r.above)
         ∙ sym (filter-append goes r.below (Free r.bytes ∷ r.above)) ∙ ap (filter goes) (spot_at-is place zone _ r.at))
 
     -- the block that goes is still there
@@ -240,27 +240,27 @@ module _ (number place bytes : ℕ) (zone : List Block) (r : RoomAt place (padde
           abbrev over : List Block
           over = tidy (Free left ∷ freed goes r.above)
 
-          gone-is : gone ≡ under ++ Fixed place content ∷ over
+          gone-is : gone ≡ under ++ Nonrelocatable place content ∷ over
           gone-is =
               is_gone ∙ ap (λ l. tidy (freed goes l)) copied-is
-              ∙ ap tidy (map-append (λ b. cond (goes b) (Free (size b)) b) lower (Fixed place content ∷ upper))
-              ∙ tidy-parted (freed goes lower) (Fixed place content) (freed goes upper) refl
-              ∙ (λ i. freed-tidy number r.below i ++ Fixed place content ∷ freed-tidy number (Free left ∷ r.above) i)
+              ∙ ap tidy (map-append (λ b. cond (goes b) (Free (size b)) b) lower (Nonrelocatable place content ∷ upper))
+              ∙ tidy-parted (freed goes lower) (Nonrelocatable place content) (freed goes upper) refl
+              ∙ (λ i. freed-tidy number r.below i ++ Nonrelocatable place content ∷ freed-tidy number (Free left ∷ r.above) i)
 
-          gone-at : spot_at place gone ≡ Some (record { below = under; here = Fixed place content; above = over })
+          gone-at : spot_at place gone ≡ Some (record { below = under; here = Nonrelocatable place content; above = over })
           gone-at =
-              let e = tidy-parted (freed goes r.below) (Fixed place content) (Free left ∷ freed goes r.above) refl in
+              let e = tidy-parted (freed goes r.below) (Nonrelocatable place content) (Free left ∷ freed goes r.above) refl in
               let a = subst Apart e (apart-tidy (freed goes r.below
-              ++ Fixed place content ∷ Free left ∷ freed goes r.above)) in
+              ++ Nonrelocatable place content ∷ Free left ∷ freed goes r.above)) in
               ap (spot_at place) gone-is
-              ∙ subst (λ n. spot_at n (under ++ Fixed place content ∷ over)
-              ≡ Some (record { below = under; here = Fixed place content; above = over }))
+              ∙ subst (λ n. spot_at n (under ++ Nonrelocatable place content ∷ over)
+              ≡ Some (record { below = under; here = Nonrelocatable place content; above = over }))
               (total-tidy size (λ n m. refl) (freed goes r.below) ∙ size-freed goes r.below ∙ low)
-              (spot_at-parted under (Fixed place content) over a)
+              (spot_at-parted under (Nonrelocatable place content) over a)
 
-          -- the Fixed block stands at the place, and the slot leads to none
-          pub stands : IsSomeAnd (spot_at place gone) (λ s. is_fixed place s.here ≡ true)
-          stands = subst (λ (o : Option Spot). IsSomeAnd o (λ s. is_fixed place s.here ≡ true)) (sym gone-at)
+          -- the nonrelocatable block stands at the place, and the slot leads to none
+          pub stands : IsSomeAnd (spot_at place gone) (λ s. is_nonrelocatable place s.here ≡ true)
+          stands = subst (λ (o : Option Spot). IsSomeAnd o (λ s. is_nonrelocatable place s.here ≡ true)) (sym gone-at)
               (let e : (place == place) ≡ true = grind (arith, nat_tests) in e)
 
           pub no-block : has goes gone ≡ false

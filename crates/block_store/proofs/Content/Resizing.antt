@@ -8,7 +8,7 @@ use Rattle.std.proofs.lemmas.List.{length-map, map-append, take-map, drop-map, l
 use Rattle.std.proofs.lemmas.List.{length-replicate, take-append-drop}
 use Rattle.std.specs.Option.{option_map, IfSome, IsSome, IsSomeAnd}
 use Rattle.std.specs.Result.{OnOk}
-use Rattle.block_store.specs.Block.{Block, Free, Fixed, Masters, Relocatable, size, sizes, free, is_room}
+use Rattle.block_store.specs.Block.{Block, Free, Nonrelocatable, Masters, Relocatable, size, sizes, free, is_room}
 use Rattle.block_store.specs.Block.{is_relocatable, is_masters, resized, resized_content, content_of, with_content}
 use Rattle.block_store.specs.Block.{count, total, add, tidy}
 use Rattle.block_store.specs.Room.{Spot, spot, spot_at, raised}
@@ -329,7 +329,7 @@ length-resized n content = simp (length-append, length-take, length-replicate) (
 
 pub size-resized : (number n : ℕ) (b : Block) → is_relocatable number b ≡ true → size (resized n b) ≡ padded n
 size-resized number n (Free m) e = let f : false ≡ true = e in cc
-size-resized number n (Fixed id content) e = let f : false ≡ true = e in cc
+size-resized number n (Nonrelocatable id content) e = let f : false ≡ true = e in cc
 size-resized number n Masters e = let f : false ≡ true = e in cc
 size-resized number n (Relocatable id flags content) e = ap padded (length-resized n content)
 
@@ -346,19 +346,19 @@ size-slot number n bs new some is = cases (spot (is_relocatable number) bs) refl
 -- another size leaves what a block is
 pub is_relocatable-resized : (k n : ℕ) (b : Block) → is_relocatable k (resized n b) ≡ is_relocatable k b
 is_relocatable-resized k n (Free m) = refl
-is_relocatable-resized k n (Fixed id content) = refl
+is_relocatable-resized k n (Nonrelocatable id content) = refl
 is_relocatable-resized k n Masters = refl
 is_relocatable-resized k n (Relocatable id flags content) = refl
 
 pub is_masters-resized : (n : ℕ) (b : Block) → is_masters (resized n b) ≡ is_masters b
 is_masters-resized n (Free m) = refl
-is_masters-resized n (Fixed id content) = refl
+is_masters-resized n (Nonrelocatable id content) = refl
 is_masters-resized n Masters = refl
 is_masters-resized n (Relocatable id flags content) = refl
 
 resized-is : (n : ℕ) (b : Block) → with_content (resized_content n (content_of b)) b ≡ resized n b
 resized-is n (Free m) = refl
-resized-is n (Fixed id content) = refl
+resized-is n (Nonrelocatable id content) = refl
 resized-is n Masters = refl
 resized-is n (Relocatable id flags content) = refl
 
@@ -372,7 +372,7 @@ taken-is d (Free m ∷ rest) after e = cases (nat_le d m) refl e
         × (rest' : List Block) × (Free m ∷ rest ≡ Free m' ∷ rest') × (d ≤ m') × (free (m' - d) ++ rest' ≡ after)
     cases true fits e = (m, rest, refl, grind (arith, nat_tests), same_Some _ _ e)
     cases false fits e = absurd (none-some _ e)
-taken-is d (Fixed id content ∷ rest) after e = absurd (none-some _ e)
+taken-is d (Nonrelocatable id content ∷ rest) after e = absurd (none-some _ e)
 taken-is d (Masters ∷ rest) after e = absurd (none-some _ e)
 taken-is d (Relocatable id flags content ∷ rest) after e = absurd (none-some _ e)
 
@@ -425,7 +425,7 @@ count-grown test none new s zone same e = total-grown (λ (b : Block). cond (tes
 larger-stands : (n : ℕ) (b : Block) → size b < size (resized n b) → (bs : List Block)
     → add (resized n b) bs ≡ resized n b ∷ bs
 larger-stands n (Free m) more bs = absurd (let z : m < m = more in omega arith)
-larger-stands n (Fixed id content) more bs = refl
+larger-stands n (Nonrelocatable id content) more bs = refl
 larger-stands n Masters more bs = refl
 larger-stands n (Relocatable id flags content) more bs = refl
 
@@ -465,13 +465,13 @@ found-has test (b ∷ bs) s e none = cases (test b) (spot test bs) (or_parts (te
 -- a slot's block, by its number
 pub is_of : (number k : ℕ) (b : Block) → is_relocatable number b ≡ true → is_relocatable k b ≡ (number == k)
 is_of number k (Free m) e = let f : false ≡ true = e in cc
-is_of number k (Fixed id content) e = let f : false ≡ true = e in cc
+is_of number k (Nonrelocatable id content) e = let f : false ≡ true = e in cc
 is_of number k Masters e = let f : false ≡ true = e in cc
 is_of number k (Relocatable id flags content) e = ap (λ n. n == k) ((Decides-eqb id number).0 e)
 
 pub not_both : (number : ℕ) (b : Block) → is_relocatable number b ≡ true → is_masters b ≡ false
 not_both number (Free m) e = refl
-not_both number (Fixed id content) e = refl
+not_both number (Nonrelocatable id content) e = refl
 not_both number Masters e = let f : false ≡ true = e in cc
 not_both number (Relocatable id flags content) e = refl
 
@@ -487,7 +487,7 @@ freed-around number p s zone room whole =
   where
     one : (b : Block) → is_room p b ≡ true → cond (is_relocatable number b) (Free (size b)) b ≡ b
     one (Free m) e = refl
-    one (Fixed id content) e = let f : false ≡ true = e in cc
+    one (Nonrelocatable id content) e = let f : false ≡ true = e in cc
     one Masters e = let f : false ≡ true = e in cc
     one (Relocatable id flags content) e = let f : false ≡ true = e in cc
 
@@ -548,7 +548,7 @@ taken-grow_up new s is = cases (taken (growth new s) s.above) is
 
 size-of : (number : ℕ) (b : Block) → is_relocatable number b ≡ true → size b ≡ padded (length (content_of b))
 size-of number (Free m) e = let f : false ≡ true = e in cc
-size-of number (Fixed id content) e = refl
+size-of number (Nonrelocatable id content) e = refl
 size-of number Masters e = let f : false ≡ true = e in cc
 size-of number (Relocatable id flags content) e = refl
 

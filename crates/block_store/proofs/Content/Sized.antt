@@ -2,7 +2,7 @@
 use Rattle.std.proofs.Common.{◌≡◌, ℕ, ◌+◌, ◌-◌, ◌≤◌, ◌<◌, zero, suc, true, false, List, [], ◌∷◌, ◌++◌, length}
 use Rattle.std.proofs.Common.{refl, sym, ◌∙◌, ap, subst, arith, Some, Bool, cond}
 use Rattle.block_store.proofs.Zone.Tidy.{total-tidy}
-use Rattle.block_store.specs.Block.{Block, Free, Fixed, Masters, Relocatable, size, free, free_of, free_sum}
+use Rattle.block_store.specs.Block.{Block, Free, Nonrelocatable, Masters, Relocatable, size, free, free_of, free_sum}
 use Rattle.block_store.specs.Block.{add, tidy, total, count}
 use Rattle.block_store.specs.Room.{Spot, filled}
 use Rattle.block_store.specs.Grow.{grow_up, growth}
@@ -15,7 +15,7 @@ use Rattle.block_store.proofs.Content.Resizing.{grown-is}
 -- a block that isn't Free joins with none
 pub stands-solid : (b : Block) → is_free b ≡ false → (bs : List Block) → add b bs ≡ b ∷ bs
 stands-solid (Free n) e bs = let f : true ≡ false = e in cc
-stands-solid (Fixed id content) e bs = refl
+stands-solid (Nonrelocatable id content) e bs = refl
 stands-solid Masters e bs = refl
 stands-solid (Relocatable id flags content) e bs = refl
 
@@ -24,10 +24,10 @@ below-solid : (a b c : Block) → is_free c ≡ false → (bs cs : List Block) �
     → add a (c ∷ cs) ≡ a ∷ c ∷ cs
 below-solid (Free zero) b c e bs cs h = absurd (longer (Free zero) (b ∷ bs) h)
 below-solid (Free (suc n)) b (Free m) e bs cs h = let f : true ≡ false = e in cc
-below-solid (Free (suc n)) b (Fixed id content) e bs cs h = refl
+below-solid (Free (suc n)) b (Nonrelocatable id content) e bs cs h = refl
 below-solid (Free (suc n)) b Masters e bs cs h = refl
 below-solid (Free (suc n)) b (Relocatable id flags content) e bs cs h = refl
-below-solid (Fixed id content) b c e bs cs h = refl
+below-solid (Nonrelocatable id content) b c e bs cs h = refl
 below-solid Masters b c e bs cs h = refl
 below-solid (Relocatable id flags content) b c e bs cs h = refl
 
@@ -129,7 +129,7 @@ free_sum-sized below new k rest e =
 
     here : (b : Block) → is_free b ≡ false → (k : ℕ) → free_of b + free_sum (free k ++ rest) ≡ k + free_sum rest
     here (Free n) e k = let f : true ≡ false = e in cc
-    here (Fixed id content) e k = let z = left k in omega arith
+    here (Nonrelocatable id content) e k = let z = left k in omega arith
     here Masters e k = let z = left k in omega arith
     here (Relocatable id flags content) e k = let z = left k in omega arith
 
@@ -159,7 +159,7 @@ module _ (new : Block) (solid : is_free new ≡ false) (s : Spot) (n : ℕ) (her
 
   none-of : (b : Block) → is_free b ≡ false → free_of b ≡ 0
   none-of (Free n) e = let f : true ≡ false = e in cc
-  none-of (Fixed id content) e = refl
+  none-of (Nonrelocatable id content) e = refl
   none-of Masters e = refl
   none-of (Relocatable id flags content) e = refl
 

@@ -3,7 +3,7 @@ use Rattle.std.proofs.Common.{filter, length, refl, sym, ◌∙◌, ap, cond, su
 use Rattle.std.proofs.lemmas.Option.{none-some, same_Some}
 use Rattle.std.proofs.lemmas.Bool.Decides.{nat_tests}
 use Rattle.std.specs.Option.{option_map}
-use Rattle.block_store.specs.Block.{Block, Free, Fixed, Masters, Relocatable, size, sizes, free, free_sum, is_mover}
+use Rattle.block_store.specs.Block.{Block, Free, Nonrelocatable, Masters, Relocatable, size, sizes, free, free_sum, is_mover}
 use Rattle.block_store.specs.Block.{is_relocatable, add, tidy, content_of, with_content, resized}
 use Rattle.block_store.specs.Run.{RunSpot, in_run, run_at, with_run, movers, others, settle, low, high, has_free}
 use Rattle.block_store.specs.Room.{Spot, raised, spot_at, filled, may_be_purged, lowest_purged}
@@ -22,31 +22,31 @@ use Rattle.block_store.proofs.Zone.Listing.{size-freed}
 use Rattle.block_store.proofs.Zone.Spots.{size-content}
 use Rattle.block_store.proofs.Zone.Passing.{filter-keeps}
 
--- A Fixed block is named by its place, and stays so.
+-- A nonrelocatable block is named by its place, and stays so.
 
--- a block at a place: a Fixed one is named by it
+-- a block at a place: a nonrelocatable one is named by it
 abbrev pub StandsAt : ℕ → Block → Type 0
 StandsAt place (Free n) = Unit {0}
-StandsAt place (Fixed id content) = id ≡ place
+StandsAt place (Nonrelocatable id content) = id ≡ place
 StandsAt place Masters = Unit {0}
 StandsAt place (Relocatable id flags content) = Unit {0}
 
 pub placed-cons : (place : ℕ) (b : Block) (bs : List Block) → StandsAt place b → Placed (place + size b) bs
     → Placed place (b ∷ bs)
 placed-cons place (Free n) bs s p = p
-placed-cons place (Fixed id content) bs s p = (s, p)
+placed-cons place (Nonrelocatable id content) bs s p = (s, p)
 placed-cons place Masters bs s p = p
 placed-cons place (Relocatable id flags content) bs s p = p
 
 pub placed-here : (place : ℕ) (b : Block) (bs : List Block) → Placed place (b ∷ bs) → StandsAt place b
 placed-here place (Free n) bs p = tt
-placed-here place (Fixed id content) bs p = p.0
+placed-here place (Nonrelocatable id content) bs p = p.0
 placed-here place Masters bs p = tt
 placed-here place (Relocatable id flags content) bs p = tt
 
 pub placed-next : (place : ℕ) (b : Block) (bs : List Block) → Placed place (b ∷ bs) → Placed (place + size b) bs
 placed-next place (Free n) bs p = p
-placed-next place (Fixed id content) bs p = p.1
+placed-next place (Nonrelocatable id content) bs p = p.1
 placed-next place Masters bs p = p
 placed-next place (Relocatable id flags content) bs p = p
 
@@ -85,10 +85,10 @@ placed-add place (Free zero) bs s p = placed-at (place + 0) place bs (omega arit
 placed-add place (Free (suc n)) [] s p = tt
 placed-add place (Free (suc n)) (Free m ∷ bs) s p = placed-at (place + suc n + m) (place + (suc n + m)) bs (omega arith)
     p
-placed-add place (Free (suc n)) (Fixed id content ∷ bs) s p = p
+placed-add place (Free (suc n)) (Nonrelocatable id content ∷ bs) s p = p
 placed-add place (Free (suc n)) (Masters ∷ bs) s p = p
 placed-add place (Free (suc n)) (Relocatable id flags content ∷ bs) s p = p
-placed-add place (Fixed id content) bs s p = (s, p)
+placed-add place (Nonrelocatable id content) bs s p = (s, p)
 placed-add place Masters bs s p = p
 placed-add place (Relocatable id flags content) bs s p = p
 
@@ -162,7 +162,7 @@ placed-same place below above b c s same p =
 
 stands-content : (place : ℕ) (x : List ℕ) (b : Block) → StandsAt place b → StandsAt place (with_content x b)
 stands-content place x (Free n) s = s
-stands-content place x (Fixed id content) s = s
+stands-content place x (Nonrelocatable id content) s = s
 stands-content place x Masters s = s
 stands-content place x (Relocatable id flags content) s = s
 
@@ -176,13 +176,13 @@ placed-content place x below b above same p =
 
 stands-flags : (place : ℕ) (f : Flags) (b : Block) → StandsAt place b → StandsAt place (with_flags f b)
 stands-flags place f (Free n) s = s
-stands-flags place f (Fixed id content) s = s
+stands-flags place f (Nonrelocatable id content) s = s
 stands-flags place f Masters s = s
 stands-flags place f (Relocatable id flags content) s = s
 
 pub size-flags : (f : Flags) (b : Block) → size (with_flags f b) ≡ size b
 size-flags f (Free n) = refl
-size-flags f (Fixed id content) = refl
+size-flags f (Nonrelocatable id content) = refl
 size-flags f Masters = refl
 size-flags f (Relocatable id flags content) = refl
 
@@ -196,7 +196,7 @@ placed-flags place f below b above p =
 -- a slot's block stands anywhere
 pub stands-slot : (place number : ℕ) (b : Block) → is_relocatable number b ≡ true → StandsAt place b
 stands-slot place number (Free n) e = tt
-stands-slot place number (Fixed id content) e = let f : false ≡ true = e in cc
+stands-slot place number (Nonrelocatable id content) e = let f : false ≡ true = e in cc
 stands-slot place number Masters e = tt
 stands-slot place number (Relocatable id flags content) e = tt
 
@@ -250,7 +250,7 @@ placed-filled place new s stands fits p =
     (placed-cons here new (Free left ∷ s.above) stands (placed-at (here + size s.here) (here + size new + left) s.above
     (omega arith) (placed-next here s.here s.above rest))))
 
--- the same at the spot of a place, for a Fixed block of that place or one that isn't Fixed
+-- the same at the spot of a place, for a nonrelocatable block of that place or one that isn't nonrelocatable
 pub placed-filled_at : (place : ℕ) (zone : List Block) (new : Block) (s : Spot) → Placed 0 zone
     → spot_at place zone ≡ Some s → StandsAt place new → size new ≤ size s.here → Placed 0 (filled new s)
 placed-filled_at place zone new s p at stands fits = placed-filled 0 new s (stands-spot place zone s new at stands) fits
@@ -269,7 +269,7 @@ placed-moved place test s p =
     (placed-cons here s.here (freed test s.above) (placed-here here s.here s.above rest)
     (placed-freed (here + size s.here) test s.above (placed-next here s.here s.above rest))))
 
--- a block that isn't Fixed moved to a spot
+-- a block that isn't nonrelocatable moved to a spot
 pub placed-moved_filled : (place : ℕ) (test : Block → Bool) (new : Block) (s : Spot) → ((k : ℕ) → StandsAt k new)
     → size new ≤ size s.here → Placed place (s.below ++ s.here ∷ s.above)
     → Placed place (filled new (moved_away test s))
@@ -293,7 +293,7 @@ placed-taken place d (Free n ∷ above) rest p is = cases (nat_le d n) refl is
         let P : List Block → Type 0 = λ l. Placed (place + d) l in
         subst P (same_Some _ _ is) (cut (n - d) (omega arith))
     cases false le is = absurd (none-some _ is)
-placed-taken place d (Fixed id content ∷ above) rest p is = absurd (none-some _ is)
+placed-taken place d (Nonrelocatable id content ∷ above) rest p is = absurd (none-some _ is)
 placed-taken place d (Masters ∷ above) rest p is = absurd (none-some _ is)
 placed-taken place d (Relocatable id flags content ∷ above) rest p is = absurd (none-some _ is)
 
@@ -323,47 +323,47 @@ placed-grow_up place new s after stands more p is = cases (taken (growth new s) 
         (placed-taken (here + size s.here) (growth new s) s.above above
         (placed-next here s.here s.above (rest place s p)) same))))
 
--- blocks of which none is Fixed stand anywhere
+-- blocks of which none is nonrelocatable stand anywhere
 abbrev pub stands : Block → Bool
 stands (Free n) = false
-stands (Fixed id content) = true
+stands (Nonrelocatable id content) = true
 stands Masters = false
 stands (Relocatable id flags content) = false
 
-abbrev pub NoneFixed : List Block → Type 0
-NoneFixed [] = Unit {0}
-NoneFixed (b ∷ bs) = (stands b ≡ false) × NoneFixed bs
+abbrev pub NoneNonrelocatable : List Block → Type 0
+NoneNonrelocatable [] = Unit {0}
+NoneNonrelocatable (b ∷ bs) = (stands b ≡ false) × NoneNonrelocatable bs
 
-pub stands-none_fixed : (place : ℕ) (b : Block) → stands b ≡ false → StandsAt place b
-stands-none_fixed place (Free n) e = tt
-stands-none_fixed place (Fixed id content) e = let f : true ≡ false = e in cc
-stands-none_fixed place Masters e = tt
-stands-none_fixed place (Relocatable id flags content) e = tt
+pub stands-none_nonrelocatable : (place : ℕ) (b : Block) → stands b ≡ false → StandsAt place b
+stands-none_nonrelocatable place (Free n) e = tt
+stands-none_nonrelocatable place (Nonrelocatable id content) e = let f : true ≡ false = e in cc
+stands-none_nonrelocatable place Masters e = tt
+stands-none_nonrelocatable place (Relocatable id flags content) e = tt
 
-pub placed-none_fixed : (place : ℕ) (bs : List Block) → NoneFixed bs → Placed place bs
-placed-none_fixed place [] l = tt
-placed-none_fixed place (b ∷ bs) l = placed-cons place b bs (stands-none_fixed place b l.0)
-    (placed-none_fixed (place + size b) bs l.1)
+pub placed-none_nonrelocatable : (place : ℕ) (bs : List Block) → NoneNonrelocatable bs → Placed place bs
+placed-none_nonrelocatable place [] l = tt
+placed-none_nonrelocatable place (b ∷ bs) l = placed-cons place b bs (stands-none_nonrelocatable place b l.0)
+    (placed-none_nonrelocatable (place + size b) bs l.1)
 
-pub none_fixed-append : (below above : List Block) → NoneFixed below → NoneFixed above → NoneFixed (below ++ above)
-none_fixed-append [] above l m = m
-none_fixed-append (b ∷ below) above l m = (l.0, none_fixed-append below above l.1 m)
+pub none_nonrelocatable-append : (below above : List Block) → NoneNonrelocatable below → NoneNonrelocatable above → NoneNonrelocatable (below ++ above)
+none_nonrelocatable-append [] above l m = m
+none_nonrelocatable-append (b ∷ below) above l m = (l.0, none_nonrelocatable-append below above l.1 m)
 
-pub none_fixed-free : (n : ℕ) → NoneFixed (free n)
-none_fixed-free zero = tt
-none_fixed-free (suc n) = (refl, tt)
+pub none_nonrelocatable-free : (n : ℕ) → NoneNonrelocatable (free n)
+none_nonrelocatable-free zero = tt
+none_nonrelocatable-free (suc n) = (refl, tt)
 
-pub none_fixed-filter : (test : Block → Bool) (bs : List Block) → NoneFixed bs → NoneFixed (filter test bs)
-none_fixed-filter = filter-keeps NoneFixed tt (λ b bs l. l.1) (λ b bs cs l rest. (l.0, rest))
+pub none_nonrelocatable-filter : (test : Block → Bool) (bs : List Block) → NoneNonrelocatable bs → NoneNonrelocatable (filter test bs)
+none_nonrelocatable-filter = filter-keeps NoneNonrelocatable tt (λ b bs l. l.1) (λ b bs cs l rest. (l.0, rest))
 
--- a run has no Fixed block
-pub none_fixed-run : (run : List Block) → Loose run → NoneFixed run
-none_fixed-run [] i = tt
-none_fixed-run (b ∷ run) i = (one b i.0, none_fixed-run run i.1)
+-- a run has no nonrelocatable block
+pub none_nonrelocatable-run : (run : List Block) → Loose run → NoneNonrelocatable run
+none_nonrelocatable-run [] i = tt
+none_nonrelocatable-run (b ∷ run) i = (one b i.0, none_nonrelocatable-run run i.1)
   where
     one : (b : Block) → in_run b ≡ true → stands b ≡ false
     one (Free n) e = refl
-    one (Fixed id content) e = let f : false ≡ true = e in cc
+    one (Nonrelocatable id content) e = let f : false ≡ true = e in cc
     one Masters e = refl
     one (Relocatable id flags content) e = refl
 
@@ -375,7 +375,7 @@ sizes-free (suc n) = omega arith
 sizes-movers : (run : List Block) → Loose run → sizes (movers run) + free_sum run ≡ sizes run
 sizes-movers [] i = refl
 sizes-movers (Free n ∷ run) i = let r = sizes-movers run i.1 in omega arith
-sizes-movers (Fixed id content ∷ run) i = let f : false ≡ true = i.0 in cc
+sizes-movers (Nonrelocatable id content ∷ run) i = let f : false ≡ true = i.0 in cc
 sizes-movers (Masters ∷ run) i = let f : false ≡ true = i.0 in cc
 sizes-movers (Relocatable id flags content ∷ run) i = cases (not flags.locked) i.0 (sizes-movers run i.1)
   where
@@ -395,7 +395,7 @@ sizes-apart test none (Free n ∷ run) i = cases (test (Free n)) (none n) (sizes
         (cond t (Free n ∷ filter test run) (filter test run)) ≡ sizes (Free n ∷ run)
     cases true is r = let f : true ≡ false = is in cc
     cases false is r = omega (arith, r)
-sizes-apart test none (Fixed id content ∷ run) i = let f : false ≡ true = i.0 in cc
+sizes-apart test none (Nonrelocatable id content ∷ run) i = let f : false ≡ true = i.0 in cc
 sizes-apart test none (Masters ∷ run) i = let f : false ≡ true = i.0 in cc
 sizes-apart test none (Relocatable id flags content ∷ run) i =
     cases (not flags.locked) (test (Relocatable id flags content)) i.0 (sizes-apart test none run i.1)
@@ -442,38 +442,38 @@ sizes-low new run fits i =
       sizes-movers run i,
     )
 
-pub none_fixed-settle : (run : List Block) → Loose run → NoneFixed (settle run)
-none_fixed-settle run i = none_fixed-append (movers run) (free (free_sum run))
-    (none_fixed-filter is_mover run (none_fixed-run run i)) (none_fixed-free (free_sum run))
+pub none_nonrelocatable-settle : (run : List Block) → Loose run → NoneNonrelocatable (settle run)
+none_nonrelocatable-settle run i = none_nonrelocatable-append (movers run) (free (free_sum run))
+    (none_nonrelocatable-filter is_mover run (none_nonrelocatable-run run i)) (none_nonrelocatable-free (free_sum run))
 
-pub none_fixed-high : (test : Block → Bool) (run : List Block) → Loose run → NoneFixed (high test run)
-none_fixed-high test run i =
-    none_fixed-append (others test run ++ free (free_sum run)) (filter test run)
-    (none_fixed-append (others test run) (free (free_sum run))
-    (none_fixed-filter (λ b. is_mover b && not (test b)) run (none_fixed-run run i))
-    (none_fixed-free (free_sum run)))
-    (none_fixed-filter test run (none_fixed-run run i))
+pub none_nonrelocatable-high : (test : Block → Bool) (run : List Block) → Loose run → NoneNonrelocatable (high test run)
+none_nonrelocatable-high test run i =
+    none_nonrelocatable-append (others test run ++ free (free_sum run)) (filter test run)
+    (none_nonrelocatable-append (others test run) (free (free_sum run))
+    (none_nonrelocatable-filter (λ b. is_mover b && not (test b)) run (none_nonrelocatable-run run i))
+    (none_nonrelocatable-free (free_sum run)))
+    (none_nonrelocatable-filter test run (none_nonrelocatable-run run i))
 
-pub none_fixed-low : (new : Block) (run : List Block) → stands new ≡ false → Loose run → NoneFixed (low new run)
-none_fixed-low new run e i = (
+pub none_nonrelocatable-low : (new : Block) (run : List Block) → stands new ≡ false → Loose run → NoneNonrelocatable (low new run)
+none_nonrelocatable-low new run e i = (
   e,
-  none_fixed-append (movers run) (free (free_sum run - size new))
-      (none_fixed-filter is_mover run (none_fixed-run run i)) (none_fixed-free (free_sum run - size new)),
+  none_nonrelocatable-append (movers run) (free (free_sum run - size new))
+      (none_nonrelocatable-filter is_mover run (none_nonrelocatable-run run i)) (none_nonrelocatable-free (free_sum run - size new)),
 )
 
--- a run that is changed, of the same size, in which no block is Fixed
-pub placed-changed : (place : ℕ) (below run run' above : List Block) → sizes run' ≡ sizes run → NoneFixed run'
+-- a run that is changed, of the same size, in which no block is nonrelocatable
+pub placed-changed : (place : ℕ) (below run run' above : List Block) → sizes run' ≡ sizes run → NoneNonrelocatable run'
     → Placed place (below ++ (run ++ above)) → Placed place (below ++ run' ++ above)
 placed-changed place below run run' above same none p =
     let rest = placed-above place below (run ++ above) p in
     let here = place + sizes below in
     placed-append place (below ++ run') above
-    (placed-append place below run' (placed-below place below (run ++ above) p) (placed-none_fixed here run' none))
+    (placed-append place below run' (placed-below place below (run ++ above) p) (placed-none_nonrelocatable here run' none))
     (placed-at (here + sizes run) (place + sizes (below ++ run')) above (let z = total-append size below run' in
     omega arith) (placed-above here run above rest))
 
 pub placed-run : (change : List Block → List Block) (place : ℕ) (zone : List Block) (r : RunSpot)
-    → (Loose r.run → sizes (change r.run) ≡ sizes r.run) → (Loose r.run → NoneFixed (change r.run)) → Placed 0 zone
+    → (Loose r.run → sizes (change r.run) ≡ sizes r.run) → (Loose r.run → NoneNonrelocatable (change r.run)) → Placed 0 zone
     → run_at place zone ≡ Some r
     → Placed 0 (tidy (with_run change r))
 placed-run change place zone r same none p at =
@@ -484,25 +484,25 @@ placed-run change place zone r same none p at =
 
 pub placed-settled : (place : ℕ) (zone : List Block) (r : RunSpot) → Placed 0 zone → run_at place zone ≡ Some r
     → Placed 0 (tidy (with_run settle r))
-placed-settled place zone r p at = placed-run settle place zone r (sizes-settle r.run) (none_fixed-settle r.run) p at
+placed-settled place zone r p at = placed-run settle place zone r (sizes-settle r.run) (none_nonrelocatable-settle r.run) p at
 
 pub placed-hoisted : (place number : ℕ) (zone : List Block) (r : RunSpot) → Placed 0 zone → run_at place zone ≡ Some r
     → Placed 0 (tidy (with_run (high (is_relocatable number)) r))
 placed-hoisted place number zone r p at =
     placed-run (high (is_relocatable number)) place zone r (sizes-high (is_relocatable number) (λ n. refl) r.run)
-    (none_fixed-high (is_relocatable number) r.run) p at
+    (none_nonrelocatable-high (is_relocatable number) r.run) p at
 
 pub placed-risen : (place bytes : ℕ) (zone : List Block) (r : RunSpot) → has_free bytes r.run ≡ true → Placed 0 zone
     → run_at place zone ≡ Some r → Placed 0 (tidy (with_run (low (Free bytes)) r))
 placed-risen place bytes zone r room p at =
     let fits : bytes ≤ free_sum r.run = grind (arith, nat_tests) in
     placed-run (low (Free bytes)) place zone r (sizes-low (Free bytes) r.run fits)
-    (none_fixed-low (Free bytes) r.run refl) p at
+    (none_nonrelocatable-low (Free bytes) r.run refl) p at
 
 -- a block at another size
 pub stands-resized : (place n : ℕ) (b : Block) → StandsAt place b → StandsAt place (resized n b)
 stands-resized place n (Free m) s = s
-stands-resized place n (Fixed id content) s = s
+stands-resized place n (Nonrelocatable id content) s = s
 stands-resized place n Masters s = s
 stands-resized place n (Relocatable id flags content) s = s
 

@@ -4,7 +4,7 @@ use Rattle.std.proofs.Common.{unwrap_or}
 use Rattle.std.proofs.lemmas.Option.{none-some, same_Some}
 use Rattle.std.proofs.lemmas.Bool.{cond-true, cond-false, lt-ltb}
 use Rattle.std.specs.Option.{option_map, IfSome}
-use Rattle.block_store.specs.Block.{Block, Free, Fixed, Masters, Relocatable, size, sizes, free, add}
+use Rattle.block_store.specs.Block.{Block, Free, Nonrelocatable, Masters, Relocatable, size, sizes, free, add}
 use Rattle.block_store.specs.Block.{tidy}
 use Rattle.block_store.specs.declared.sparing.Sparing.TheVariants as sparing
 use Rattle.block_store.specs.Room.{Spot, spot, may_be_purged, lowest_purged}
@@ -66,10 +66,10 @@ place-add place test none (Free (suc n)) (Free m ∷ bs) =
     ∙ ap (λ k. place_from k test bs) (let z : place + (suc n + m) ≡ place + suc n + m = omega arith in z)
     ∙ sym (spot-above test place (Free (suc n)) (Free m ∷ bs) (none (suc n))
     ∙ spot-above test (place + suc n) (Free m) bs (none m))
-place-add place test none (Free (suc n)) (Fixed id content ∷ bs) = refl
+place-add place test none (Free (suc n)) (Nonrelocatable id content ∷ bs) = refl
 place-add place test none (Free (suc n)) (Masters ∷ bs) = refl
 place-add place test none (Free (suc n)) (Relocatable id flags content ∷ bs) = refl
-place-add place test none (Fixed id content) bs = refl
+place-add place test none (Nonrelocatable id content) bs = refl
 place-add place test none Masters bs = refl
 place-add place test none (Relocatable id flags content) bs = refl
 
@@ -133,7 +133,7 @@ next-is n k zone = sym (place-tidy 0 (may_be_purged (spared n)) (λ m. refl)
 abbrev pub top_free : List Block → ℕ
 top_free [] = 0
 top_free (Free n ∷ above) = n
-top_free (Fixed id content ∷ above) = 0
+top_free (Nonrelocatable id content ∷ above) = 0
 top_free (Masters ∷ above) = 0
 top_free (Relocatable id flags content ∷ above) = 0
 
@@ -141,13 +141,13 @@ top_free-add : (n : ℕ) (bs : List Block) → top_free (add (Free n) bs) ≡ n 
 top_free-add zero bs = let z : top_free bs ≡ 0 + top_free bs = omega arith in z
 top_free-add (suc n) [] = let z : suc n ≡ suc n + 0 = omega arith in z
 top_free-add (suc n) (Free m ∷ bs) = refl
-top_free-add (suc n) (Fixed id content ∷ bs) = let z : suc n ≡ suc n + 0 = omega arith in z
+top_free-add (suc n) (Nonrelocatable id content ∷ bs) = let z : suc n ≡ suc n + 0 = omega arith in z
 top_free-add (suc n) (Masters ∷ bs) = let z : suc n ≡ suc n + 0 = omega arith in z
 top_free-add (suc n) (Relocatable id flags content ∷ bs) = let z : suc n ≡ suc n + 0 = omega arith in z
 
 top_free-other : (b : Block) (bs : List Block) → is_free b ≡ false → top_free (add b bs) ≡ 0
 top_free-other (Free n) bs e = let f : true ≡ false = e in cc
-top_free-other (Fixed id content) bs e = refl
+top_free-other (Nonrelocatable id content) bs e = refl
 top_free-other Masters bs e = refl
 top_free-other (Relocatable id flags content) bs e = refl
 
@@ -186,7 +186,7 @@ taken-top d (Free n ∷ bs) apart = shown (nat_le d n) (free (n - d) ++ bs)
     shown : (t : Bool) (l : List Block) → is_some (cond t (Some l) None) ≡ t
     shown true l = refl
     shown false l = refl
-taken-top d (Fixed id content ∷ bs) apart = refl
+taken-top d (Nonrelocatable id content ∷ bs) apart = refl
 taken-top d (Masters ∷ bs) apart = refl
 taken-top d (Relocatable id flags content ∷ bs) apart = refl
 

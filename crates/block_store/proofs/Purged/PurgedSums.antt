@@ -1,6 +1,6 @@
 use Rattle.std.proofs.Common.{◌≡◌, ℕ, ◌+◌, ◌≤◌, zero, suc, List, [], ◌∷◌, length, refl}
 use Rattle.std.proofs.Common.{◌∙◌, ap, cond, arith, max, if◌then◌else◌}
-use Rattle.block_store.specs.Block.{Block, Free, Fixed, Masters, Relocatable, size, free_of, free_sum, add, tidy}
+use Rattle.block_store.specs.Block.{Block, Free, Nonrelocatable, Masters, Relocatable, size, free_of, free_sum, add, tidy}
 use Rattle.block_store.specs.declared.sparing.Sparing.{Sparing}
 use Rattle.block_store.specs.Room.{lowest_purged}
 use Rattle.block_store.specs.Sparing.{spared, opened, purged}
@@ -46,7 +46,7 @@ largest_stretch-tidy free (b ∷ bs) =
 top_free-largest : (bs : List Block) → top_free bs ≤ largest_free bs
 top_free-largest [] = omega arith
 top_free-largest (Free n ∷ bs) = omega arith
-top_free-largest (Fixed id content ∷ bs) = omega arith
+top_free-largest (Nonrelocatable id content ∷ bs) = omega arith
 top_free-largest (Masters ∷ bs) = omega arith
 top_free-largest (Relocatable id flags content ∷ bs) = omega arith
 
@@ -57,7 +57,7 @@ apart-top_free zero (Free m ∷ bs) e = absurd (let l : suc (length bs) ≡ suc 
     omega arith)
 apart-top_free (suc n) (Free m ∷ bs) e = absurd (let l : suc (length bs) ≡ suc (suc (length bs)) = ap length e in
     omega arith)
-apart-top_free n (Fixed id content ∷ bs) e = refl
+apart-top_free n (Nonrelocatable id content ∷ bs) e = refl
 apart-top_free n (Masters ∷ bs) e = refl
 apart-top_free n (Relocatable id flags content ∷ bs) e = refl
 
@@ -70,7 +70,7 @@ largest_stretch-apart free (Free n ∷ bs) apart = omega (
   largest_stretch-apart (free + n) bs apart.1,
   apart-top_free n bs apart.0,
 )
-largest_stretch-apart free (Fixed id content ∷ bs) apart = omega
+largest_stretch-apart free (Nonrelocatable id content ∷ bs) apart = omega
     (arith, largest_stretch-apart 0 bs apart.1, top_free-largest bs)
 largest_stretch-apart free (Masters ∷ bs) apart = omega (arith, largest_stretch-apart 0 bs apart.1, top_free-largest bs)
 largest_stretch-apart free (Relocatable id flags content ∷ bs) apart =

@@ -4,7 +4,7 @@ use Rattle.std.proofs.Common.{append_assoc, subst}
 use Rattle.std.proofs.lemmas.Option.{none-some, same_Some}
 use Rattle.std.proofs.lemmas.Bool.{cond-true, cond-false, lt-ltb}
 use Rattle.std.specs.Option.{option_map, IfSome, IsSome}
-use Rattle.block_store.specs.Block.{Block, Free, Fixed, Masters, Relocatable, size, sizes, total, count, is_masters}
+use Rattle.block_store.specs.Block.{Block, Free, Nonrelocatable, Masters, Relocatable, size, sizes, total, count, is_masters}
 use Rattle.block_store.specs.Block.{is_relocatable, tidy, add}
 use Rattle.block_store.specs.Room.{Spot, raised, spot_at, may_be_purged, lowest_purged}
 use Rattle.block_store.specs.Seen.{with_flags}
@@ -133,13 +133,13 @@ nth_spot-parts (suc i) (b ∷ bs) s e = cases (nth_spot i bs) (nth_spot-parts i 
 -- a block that is Free or is purged, among blocks of which the lowest are purged
 free_is : (b : Block) → is_free b ≡ true → b ≡ Free (size b)
 free_is (Free n) e = refl
-free_is (Fixed id content) e = let f : false ≡ true = e in cc
+free_is (Nonrelocatable id content) e = let f : false ≡ true = e in cc
 free_is Masters e = let f : false ≡ true = e in cc
 free_is (Relocatable id flags content) e = let f : false ≡ true = e in cc
 
 go-not_free : (sp : Block → Bool) (b : Block) → is_free b ≡ true → may_be_purged sp b ≡ false
 go-not_free sp (Free n) e = refl
-go-not_free sp (Fixed id content) e = refl
+go-not_free sp (Nonrelocatable id content) e = refl
 go-not_free sp Masters e = refl
 go-not_free sp (Relocatable id flags content) e = let f : false ≡ true = e in cc
 
@@ -245,7 +245,7 @@ count-lowest_purged test none (suc k) sp (b ∷ bs) = cases (may_be_purged sp b)
 
 go-not_masters : (sp : Block → Bool) (b : Block) → may_be_purged sp b ≡ true → is_masters b ≡ false
 go-not_masters sp (Free n) e = refl
-go-not_masters sp (Fixed id content) e = refl
+go-not_masters sp (Nonrelocatable id content) e = refl
 go-not_masters sp Masters e = let f : false ≡ true = e in cc
 go-not_masters sp (Relocatable id flags content) e = refl
 
@@ -361,10 +361,10 @@ below-flags (Free (suc n)) id old flags content [] above e = refl
 below-flags (Free (suc n)) id old flags content (Free m ∷ below) above e =
     absurd (let l : suc (length (below ++ Relocatable id old content ∷ above))
     ≡ suc (suc (length (below ++ Relocatable id old content ∷ above))) = ap length e in omega arith)
-below-flags (Free (suc n)) id old flags content (Fixed k x ∷ below) above e = refl
+below-flags (Free (suc n)) id old flags content (Nonrelocatable k x ∷ below) above e = refl
 below-flags (Free (suc n)) id old flags content (Masters ∷ below) above e = refl
 below-flags (Free (suc n)) id old flags content (Relocatable k f x ∷ below) above e = refl
-below-flags (Fixed k x) id old flags content below above e = refl
+below-flags (Nonrelocatable k x) id old flags content below above e = refl
 below-flags Masters id old flags content below above e = refl
 below-flags (Relocatable k f x) id old flags content below above e = refl
 
@@ -381,7 +381,7 @@ pub tidy-flags : (flags : Flags) (below : List Block) (b : Block) (above : List 
     → tidy (below ++ b ∷ above) ≡ below ++ b ∷ above → tidy (below ++ with_flags flags b ∷ above) ≡ below
     ++ with_flags flags b ∷ above
 tidy-flags flags below (Free n) above e = e
-tidy-flags flags below (Fixed id content) above e = e
+tidy-flags flags below (Nonrelocatable id content) above e = e
 tidy-flags flags below Masters above e = e
 tidy-flags flags below (Relocatable id old content) above e =
     tidy-apart (below ++ Relocatable id flags content ∷ above)
@@ -389,13 +389,13 @@ tidy-flags flags below (Relocatable id old content) above e =
 
 is_masters-flags : (flags : Flags) (b : Block) → is_masters (with_flags flags b) ≡ is_masters b
 is_masters-flags flags (Free n) = refl
-is_masters-flags flags (Fixed id content) = refl
+is_masters-flags flags (Nonrelocatable id content) = refl
 is_masters-flags flags Masters = refl
 is_masters-flags flags (Relocatable id old content) = refl
 
 is_relocatable-flags : (k : ℕ) (flags : Flags) (b : Block) → is_relocatable k (with_flags flags b) ≡ is_relocatable k b
 is_relocatable-flags k flags (Free n) = refl
-is_relocatable-flags k flags (Fixed id content) = refl
+is_relocatable-flags k flags (Nonrelocatable id content) = refl
 is_relocatable-flags k flags Masters = refl
 is_relocatable-flags k flags (Relocatable id old content) = refl
 

@@ -2,7 +2,7 @@ use Rattle.std.proofs.Common.{◌≡◌, ℕ, ◌+◌, ◌≤◌, zero, suc, Boo
 use Rattle.std.proofs.Common.{refl, sym, ◌∙◌, ap, cond, arith, Option, Some, None, is_some, nat_le, nat_lt}
 use Rattle.std.proofs.lemmas.Bool.{true≢false, and_parts, and_from, le-leb, leb-true, lt-ltb, ltb-true, cond-true, cond-false}
 use Rattle.mac_words.proofs.Plain.{is_some-map}
-use Rattle.block_store.specs.Block.{Block, Free, Fixed, Masters, Relocatable, size, is_purgeable, is_room, is_relocatable}
+use Rattle.block_store.specs.Block.{Block, Free, Nonrelocatable, Masters, Relocatable, size, is_purgeable, is_room, is_relocatable}
 use Rattle.block_store.specs.Block.{free_of, free_sum, tidy}
 use Rattle.block_store.specs.Run.{in_run, has, has_free, run_spot}
 use Rattle.block_store.specs.Room.{spot, place, may_be_purged, lowest_purged, purge, count_of}
@@ -47,7 +47,7 @@ lowest_purged-none (suc k) sp = refl
 -- a block that may go is of those that a run is made of, and isn't Free
 goes-in_run : (sp : Block → Bool) (b : Block) → may_be_purged sp b ≡ true → in_run b ≡ true
 goes-in_run sp (Free n) e = absurd (true≢false (sym e))
-goes-in_run sp (Fixed id content) e = absurd (true≢false (sym e))
+goes-in_run sp (Nonrelocatable id content) e = absurd (true≢false (sym e))
 goes-in_run sp Masters e = absurd (true≢false (sym e))
 goes-in_run sp (Relocatable id flags content) e =
     (and_parts (not flags.locked) flags.purgeable
@@ -55,13 +55,13 @@ goes-in_run sp (Relocatable id flags content) e =
 
 goes-not_free : (sp : Block → Bool) (b : Block) → may_be_purged sp b ≡ true → is_free b ≡ false
 goes-not_free sp (Free n) e = absurd (true≢false (sym e))
-goes-not_free sp (Fixed id content) e = refl
+goes-not_free sp (Nonrelocatable id content) e = refl
 goes-not_free sp Masters e = refl
 goes-not_free sp (Relocatable id flags content) e = refl
 
 free-within : (b : Block) → free_of b ≤ size b
 free-within (Free n) = omega arith
-free-within (Fixed id content) = omega arith
+free-within (Nonrelocatable id content) = omega arith
 free-within Masters = omega arith
 free-within (Relocatable id flags content) = omega arith
 
@@ -306,7 +306,7 @@ or-rises false false x has e = e
 met-rises : (w : Option ℕ) (met met' : Bool) (b : Block) → (met ≡ true → met' ≡ true) → met_after w met b ≡ true
     → met_after w met' b ≡ true
 met-rises w met met' (Free n) has e = has e
-met-rises w met met' (Fixed id content) has e = has e
+met-rises w met met' (Nonrelocatable id content) has e = has e
 met-rises w met met' Masters has e = has e
 met-rises w met met' (Relocatable id flags content) has e = or-rises met met' (is_number w id) has e
 
@@ -378,7 +378,7 @@ run-rises p n zone k m le is = suiting-rises None p n zone (λ b met e. same b m
 
     same : (b : Block) (met : Bool) → met_after None met b ≡ met
     same (Free n) met = refl
-    same (Fixed id content) met = refl
+    same (Nonrelocatable id content) met = refl
     same Masters met = refl
     same (Relocatable id flags content) met = none met
 
@@ -403,7 +403,7 @@ slot-rises number p n zone spares k m le is =
 
     same : (b : Block) (met : Bool) → may_be_purged (spared n) b ≡ true → met_after (Some number) met b ≡ met
     same (Free m) met e = refl
-    same (Fixed id content) met e = refl
+    same (Nonrelocatable id content) met e = refl
     same Masters met e = refl
     same (Relocatable id flags content) met e = other met (id == number)
         (λ is. gone (is_purgeable (Relocatable id flags content)) (spared n (Relocatable id flags content)) e

@@ -4,7 +4,7 @@ use Rattle.std.specs.Option.{option_map, option_or}
 use Rattle.std.specs.Prelude.{option_and_then}
 use Rattle.std.proofs.lemmas.Option.{none-some, same_Some}
 use Rattle.std.proofs.lemmas.List.Elements.{filter-append}
-use Rattle.block_store.specs.Block.{Block, Free, Fixed, Masters, Relocatable, size, free_sum, free, add, tidy, is_room}
+use Rattle.block_store.specs.Block.{Block, Free, Nonrelocatable, Masters, Relocatable, size, free_sum, free, add, tidy, is_room}
 use Rattle.block_store.specs.Block.{is_purgeable}
 use Rattle.block_store.specs.Run.{RunSpot, run_spot, with_run, change_run, has_free, settle, low, movers}
 use Rattle.block_store.specs.Room.{Spot, spot, raised, may_be_purged, lowest_purged, purge, count_of, room, place}
@@ -70,7 +70,7 @@ filter-free t none (suc n) = rw (none (suc n)) refl
 filter-movers : (t : Block → Bool) → NoFree t → (run : List Block) → Loose run → filter t (movers run) ≡ filter t run
 filter-movers t free [] r = refl
 filter-movers t free (Free n ∷ run) r = rw (free n) (filter-movers t free run r.1)
-filter-movers t free (Fixed id content ∷ run) r = let f : false ≡ true = r.0 in cc
+filter-movers t free (Nonrelocatable id content ∷ run) r = let f : false ≡ true = r.0 in cc
 filter-movers t free (Masters ∷ run) r = let f : false ≡ true = r.0 in cc
 filter-movers t free (Relocatable id flags content ∷ run) r =
     ap (λ u. filter t (cond u (Relocatable id flags content ∷ movers run) (movers run))) r.0
@@ -123,7 +123,7 @@ filter-base t none new fails zone after e =
 
 not_room : (t : Block → Bool) → NoFree t → (p : ℕ) (b : Block) → is_room p b ≡ true → t b ≡ false
 not_room t none p (Free n) e = none n
-not_room t none p (Fixed id content) e = let f : false ≡ true = e in cc
+not_room t none p (Nonrelocatable id content) e = let f : false ≡ true = e in cc
 not_room t none p Masters e = let f : false ≡ true = e in cc
 not_room t none p (Relocatable id flags content) e = let f : false ≡ true = e in cc
 

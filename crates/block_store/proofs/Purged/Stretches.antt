@@ -2,7 +2,7 @@ use Rattle.std.proofs.Common.{◌≡◌, ℕ, ◌+◌, ◌<◌, zero, suc, Bool,
 use Rattle.std.proofs.Common.{refl, sym, ◌∙◌, ap, cond, arith, Option, Some, None, nat_le}
 use Rattle.std.proofs.lemmas.Bool.{cond-true, lt-ltb}
 use Rattle.std.specs.Option.{option_map}
-use Rattle.block_store.specs.Block.{Block, Free, Fixed, Masters, Relocatable, size, sizes, is_room, is_relocatable, add}
+use Rattle.block_store.specs.Block.{Block, Free, Nonrelocatable, Masters, Relocatable, size, sizes, is_room, is_relocatable, add}
 use Rattle.block_store.specs.Block.{tidy}
 use Rattle.block_store.specs.Room.{Spot, raised, spot, may_be_purged, lowest_purged}
 use Rattle.block_store.specs.Sparing.{spared, opened, purged}
@@ -51,10 +51,10 @@ stretch-add p sp start free place (Free (suc n)) (Free m ∷ bs) =
     ap (λ k. stretch p sp 0 start k (place + (suc n + m)) bs) (let z : free + (suc n + m)
     ≡ free + suc n + m = omega arith in z) ∙ ap (λ k. stretch p sp 0 start (free + suc n + m) k bs)
     (let z : place + (suc n + m) ≡ place + suc n + m = omega arith in z)
-stretch-add p sp start free place (Free (suc n)) (Fixed id content ∷ bs) = refl
+stretch-add p sp start free place (Free (suc n)) (Nonrelocatable id content ∷ bs) = refl
 stretch-add p sp start free place (Free (suc n)) (Masters ∷ bs) = refl
 stretch-add p sp start free place (Free (suc n)) (Relocatable id flags content ∷ bs) = refl
-stretch-add p sp start free place (Fixed id content) bs = refl
+stretch-add p sp start free place (Nonrelocatable id content) bs = refl
 stretch-add p sp start free place Masters bs = refl
 stretch-add p sp start free place (Relocatable id flags content) bs = refl
 
@@ -72,7 +72,7 @@ stretch-tidy p sp start free place (b ∷ bs) =
 -- a block that isn't Free isn't room
 not_room : (p : ℕ) (b : Block) → is_free b ≡ false → is_room p b ≡ false
 not_room p (Free n) e = let f : true ≡ false = e in cc
-not_room p (Fixed id content) e = refl
+not_room p (Nonrelocatable id content) e = refl
 not_room p Masters e = refl
 not_room p (Relocatable id flags content) e = refl
 
@@ -83,8 +83,8 @@ enough-room p n some = rw (lt-ltb 0 (0 + n) (omega arith)) (ap (nat_le p) (let z
 pub stretch-apart : (p : ℕ) (sp : Block → Bool) (place : ℕ) (bs : List Block) → Apart bs
     → stretch p sp 0 place 0 place bs ≡ option_map (λ (s : Spot). place + sizes s.below) (spot (is_room p) bs)
 stretch-apart p sp place [] apart = refl
-stretch-apart p sp place (Fixed id content ∷ bs) apart = stretch-apart p sp (place + size (Fixed id content)) bs apart.1
-    ∙ sym (spot-above (is_room p) place (Fixed id content) bs refl)
+stretch-apart p sp place (Nonrelocatable id content ∷ bs) apart = stretch-apart p sp (place + size (Nonrelocatable id content)) bs apart.1
+    ∙ sym (spot-above (is_room p) place (Nonrelocatable id content) bs refl)
 stretch-apart p sp place (Masters ∷ bs) apart = stretch-apart p sp (place + 272) bs apart.1
     ∙ sym (spot-above (is_room p) place Masters bs refl)
 stretch-apart p sp place (Relocatable id flags content ∷ bs) apart =
@@ -116,9 +116,9 @@ stretch-apart p sp place (Free n ∷ bs) apart =
         joined : (n m : ℕ) (bs : List Block) → add (Free n) (Free m ∷ bs) ≡ Free n ∷ Free m ∷ bs → ⊥
         joined zero m bs e = let l : suc (length bs) ≡ suc (suc (length bs)) = ap length e in omega arith
         joined (suc n) m bs e = let l : suc (length bs) ≡ suc (suc (length bs)) = ap length e in omega arith
-    next (Fixed id content ∷ bs) rest e = ap (λ t. cond t (Some place)
-        (stretch p sp 0 (place + n + size (Fixed id content)) 0 (place + n + size (Fixed id content)) bs))
-        (enough-room p n (some (Fixed id content ∷ bs) e)) ∙ here (Fixed id content ∷ bs) (is_room p (Free n)) refl _
+    next (Nonrelocatable id content ∷ bs) rest e = ap (λ t. cond t (Some place)
+        (stretch p sp 0 (place + n + size (Nonrelocatable id content)) 0 (place + n + size (Nonrelocatable id content)) bs))
+        (enough-room p n (some (Nonrelocatable id content ∷ bs) e)) ∙ here (Nonrelocatable id content ∷ bs) (is_room p (Free n)) refl _
         rest
     next (Masters ∷ bs) rest e = ap (λ t. cond t (Some place) (stretch p sp 0 (place + n + 272) 0 (place + n + 272) bs))
         (enough-room p n (some (Masters ∷ bs) e)) ∙ here (Masters ∷ bs) (is_room p (Free n)) refl _ rest

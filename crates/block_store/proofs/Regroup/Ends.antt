@@ -4,7 +4,7 @@ use Rattle.std.proofs.Common.{List, [], ◌∷◌, ◌++◌, refl, sym, ◌∙�
 use Rattle.std.proofs.lemmas.Bool.{false≢true}
 use Rattle.std.proofs.lemmas.Option.{none-some, same_Some}
 use Rattle.std.specs.Option.{option_map}
-use Rattle.block_store.specs.Block.{Block, Free, Fixed, Masters, Relocatable, sizes, free_sum, free, tidy}
+use Rattle.block_store.specs.Block.{Block, Free, Nonrelocatable, Masters, Relocatable, sizes, free_sum, free, tidy}
 use Rattle.block_store.specs.Run.{in_run, Stretch, Segments, segments, joined, RunSpot, run_raised, run_from, run_at}
 use Rattle.block_store.specs.Run.{movers, settle}
 use Rattle.block_store.specs.Inner.Packing.{Loose}
@@ -107,14 +107,14 @@ apart-free : (n : ℕ) (above : List Block) → Stops above → Apart above → 
 apart-free zero above s a = a
 apart-free (suc n) [] s a = (refl, tt)
 apart-free (suc n) (Free m ∷ above) s a = absurd (false≢true (sym s))
-apart-free (suc n) (Fixed id content ∷ above) s a = (refl, a)
+apart-free (suc n) (Nonrelocatable id content ∷ above) s a = (refl, a)
 apart-free (suc n) (Masters ∷ above) s a = (refl, a)
 apart-free (suc n) (Relocatable id flags content ∷ above) s a = (refl, a)
 
 apart-movers : (run above : List Block) → Apart above → Apart (movers run ++ above)
 apart-movers [] above a = a
 apart-movers (Free n ∷ run) above a = apart-movers run above a
-apart-movers (Fixed id content ∷ run) above a = apart-movers run above a
+apart-movers (Nonrelocatable id content ∷ run) above a = apart-movers run above a
 apart-movers (Masters ∷ run) above a = apart-movers run above a
 apart-movers (Relocatable id flags content ∷ run) above a = cases flags.locked (apart-movers run above a)
   where

@@ -4,7 +4,7 @@ use Rattle.std.proofs.lemmas.Option.{none-some}
 use Rattle.std.proofs.lemmas.Bool.{le-leb, leb-true, lt-leb}
 use Rattle.std.specs.Option.{option_map, option_or}
 use Rattle.std.specs.Prelude.{option_and_then}
-use Rattle.block_store.specs.Block.{Block, Free, Fixed, Masters, Relocatable, free_sum, free, is_room, add, tidy}
+use Rattle.block_store.specs.Block.{Block, Free, Nonrelocatable, Masters, Relocatable, free_sum, free, is_room, add, tidy}
 use Rattle.block_store.specs.Run.{has, has_free, movers, settle, with_run, change_run, RunSpot}
 use Rattle.block_store.specs.Room.{Spot, spot, place}
 use Rattle.block_store.proofs.Zone.Tidy.{spot-passes}
@@ -29,10 +29,10 @@ room-add p pos (Free (suc n)) (Free m ∷ bs) e = cases (nat_le p (suc n)) (nat_
     cases false true at_t at_u e = rw (le-leb p (suc n + m) (omega (arith, leb-true p m at_u))) refl
     cases false false at_t at_u e = rw e (elim (nat_le p (suc n + m)) as (λ t. (t || true) ≡ true)
         [ true ↦ refl | false ↦ refl ])
-room-add p pos (Free (suc n)) (Fixed id content ∷ bs) e = e
+room-add p pos (Free (suc n)) (Nonrelocatable id content ∷ bs) e = e
 room-add p pos (Free (suc n)) (Masters ∷ bs) e = e
 room-add p pos (Free (suc n)) (Relocatable id flags content ∷ bs) e = e
-room-add p pos (Fixed id content) bs e = e
+room-add p pos (Nonrelocatable id content) bs e = e
 room-add p pos Masters bs e = e
 room-add p pos (Relocatable id flags content) bs e = e
 

@@ -6,7 +6,7 @@ use Rattle.std.proofs.lemmas.List.Elements.{filter-append}
 use Rattle.std.proofs.lemmas.Bool.{false≢true, cond-true, cond-false}
 use Rattle.std.proofs.lemmas.Bool.Decides.{eqb_tells, nat_tests}
 use Rattle.block_store.specs.declared.flags.Flags.{Flags}
-use Rattle.block_store.specs.Block.{Block, Free, Fixed, Masters, Relocatable, is_mover, is_relocatable, size, total}
+use Rattle.block_store.specs.Block.{Block, Free, Nonrelocatable, Masters, Relocatable, is_mover, is_relocatable, size, total}
 use Rattle.block_store.specs.Block.{count}
 use Rattle.block_store.specs.Block.{free, free_of, free_sum, sizes, add, tidy}
 use Rattle.block_store.specs.Run.{RunSpot, in_run, has, movers, settle, low, high, with_run, run_at}
@@ -24,7 +24,7 @@ use Rattle.block_store.proofs.Regroup.Regrouping.{apart-filter, all-filter}
 pub no-movers : (run : List Block) → sizes (movers run) ≡ 0 → movers run ≡ []
 no-movers [] e = refl
 no-movers (Free n ∷ run) e = no-movers run e
-no-movers (Fixed id content ∷ run) e = no-movers run e
+no-movers (Nonrelocatable id content ∷ run) e = no-movers run e
 no-movers (Masters ∷ run) e = no-movers run e
 no-movers (Relocatable id flags content ∷ run) e = cases flags.locked e (no-movers run)
   where
@@ -41,7 +41,7 @@ free-stands : (n : ℕ) (run above : List Block) → (movers run ≡ [] → ⊥)
     → add (Free (suc n)) (movers run ++ above) ≡ Free (suc n) ∷ (movers run ++ above)
 free-stands n [] above some = absurd (some refl)
 free-stands n (Free m ∷ run) above some = free-stands n run above some
-free-stands n (Fixed id content ∷ run) above some = free-stands n run above some
+free-stands n (Nonrelocatable id content ∷ run) above some = free-stands n run above some
 free-stands n (Masters ∷ run) above some = free-stands n run above some
 free-stands n (Relocatable id flags content ∷ run) above some = cases flags.locked some (free-stands n run above)
   where
@@ -72,8 +72,8 @@ add-both : (n m : ℕ) (bs : List Block) → add (Free (suc n)) (add (Free (suc 
 add-both n m [] = let e : suc n + suc m ≡ suc (n + suc m) = omega arith in ap (λ k. Free k ∷ []) e
 add-both n m (Free k ∷ bs) =
     let e : suc n + (suc m + k) ≡ suc (n + suc m) + k = omega arith in ap (λ j. Free j ∷ bs) e
-add-both n m (Fixed id content ∷ bs) =
-    let e : suc n + suc m ≡ suc (n + suc m) = omega arith in ap (λ k. Free k ∷ Fixed id content ∷ bs) e
+add-both n m (Nonrelocatable id content ∷ bs) =
+    let e : suc n + suc m ≡ suc (n + suc m) = omega arith in ap (λ k. Free k ∷ Nonrelocatable id content ∷ bs) e
 add-both n m (Masters ∷ bs) = let e : suc n + suc m ≡ suc (n + suc m) = omega arith in ap (λ k. Free k ∷ Masters ∷ bs) e
 add-both n m (Relocatable id flags content ∷ bs) =
     let e : suc n + suc m ≡ suc (n + suc m) = omega arith in ap (λ k. Free k ∷ Relocatable id flags content ∷ bs) e
@@ -117,7 +117,7 @@ run-of-more number b run p = record {
 pub run-of : (number : ℕ) (run : List Block) → has (is_relocatable number) run ≡ true → RunOf number run
 run-of number [] e = absurd (false≢true e)
 run-of number (Free n ∷ run) e = run-of-more number (Free n) run (run-of number run e)
-run-of number (Fixed id content ∷ run) e = run-of-more number (Fixed id content) run (run-of number run e)
+run-of number (Nonrelocatable id content ∷ run) e = run-of-more number (Nonrelocatable id content) run (run-of number run e)
 run-of number (Masters ∷ run) e = run-of-more number Masters run (run-of number run e)
 run-of number (Relocatable id flags content ∷ run) e = elim (eqb_tells id number) [
   | inl t ↦ record {

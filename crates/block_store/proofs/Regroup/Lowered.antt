@@ -5,7 +5,7 @@ use Rattle.std.proofs.lemmas.Bool.Decides.{Decides-eqb, nat_tests}
 use Rattle.std.proofs.lemmas.List.{append-nil}
 use Rattle.std.specs.Option.{option_map, IfSome}
 use Rattle.block_store.specs.declared.flags.Flags.{Flags}
-use Rattle.block_store.specs.Block.{Block, Free, Fixed, Masters, Relocatable, size, sizes, total, count, free, free_sum}
+use Rattle.block_store.specs.Block.{Block, Free, Nonrelocatable, Masters, Relocatable, size, sizes, total, count, free, free_sum}
 use Rattle.block_store.specs.Block.{is_mover, is_relocatable, add, tidy}
 use Rattle.block_store.specs.Run.{RunSpot, has, movers, settle, with_run, run_at}
 use Rattle.block_store.specs.Room.{Spot, raised, spot}
@@ -146,7 +146,7 @@ none-lower old new below below' (b ∷ bs) above above' c same =
     one : (b : Block) → Changed old new below below' (b ∷ bs ++ above) (b ∷ bs ++ above')
         → stands_lower old new b ≡ false
     one (Free n) c = refl
-    one (Fixed id content) c = refl
+    one (Nonrelocatable id content) c = refl
     one Masters c = refl
     one (Relocatable id flags content) c = stands-first old new below below' (bs ++ above) (bs ++ above') id flags
         content c ∙ grind (arith, nat_tests)
@@ -186,7 +186,7 @@ lowered-movers old new below below' (Free n ∷ run) above above' c loose filled
         → 0 + count (stands_lower old new) run ≡ cond t (0 + count is_mover run) (count is_mover run)
     cases true all = omega arith
     cases false all = omega arith
-lowered-movers old new below below' (Fixed id content ∷ run) above above' c loose filled less = let f : false ≡ true =
+lowered-movers old new below below' (Nonrelocatable id content ∷ run) above above' c loose filled less = let f : false ≡ true =
     loose.0 in cc
 lowered-movers old new below below' (Masters ∷ run) above above' c loose filled less = let f : false ≡ true = loose.0 in
     cc

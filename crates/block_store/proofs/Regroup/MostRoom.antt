@@ -5,7 +5,7 @@ use Rattle.std.proofs.lemmas.Bool.Decides.{nat_tests}
 use Rattle.std.specs.Prelude.{option_and_then}
 use Rattle.std.specs.Option.{option_map, option_or, IfSome, IsSome}
 use Rattle.mac_words.specs.Size.{phys, padded}
-use Rattle.block_store.specs.Block.{Block, Free, Fixed, Masters, Relocatable, free_of, free_sum, is_room, tidy, rename}
+use Rattle.block_store.specs.Block.{Block, Free, Nonrelocatable, Masters, Relocatable, free_of, free_sum, is_room, tidy, rename}
 use Rattle.block_store.specs.Run.{in_run, Stretch, Segments, segments, runs, joined, RunSpot, run_raised, lowest_run}
 use Rattle.block_store.specs.Run.{run_spot, with_run, change_run, has_free, settle}
 use Rattle.block_store.specs.Room.{Spot, raised, rename_spot, spot, place}
@@ -51,7 +51,7 @@ free-within (b ∷ above) = cases (in_run b) refl (segments above) (free-within 
   where
     barrier : (b : Block) → in_run b ≡ false → free_of b ≡ 0
     barrier (Free n) e = let f : true ≡ false = e in cc
-    barrier (Fixed id content) e = refl
+    barrier (Nonrelocatable id content) e = refl
     barrier Masters e = refl
     barrier (Relocatable id flags content) e = refl
 
@@ -71,7 +71,7 @@ room-none p (b ∷ zone) less =
   where
     small : (b : Block) → free_of b < p → is_room p b ≡ false
     small (Free n) less = lt-leb p n less
-    small (Fixed id content) less = refl
+    small (Nonrelocatable id content) less = refl
     small Masters less = refl
     small (Relocatable id flags content) less = refl
 

@@ -11,7 +11,7 @@ use Rattle.std.proofs.lemmas.Bool.{cond-true, cond-false, or_parts}
 use Rattle.std.specs.Option.{option_map, is_some, IfSome, IsSomeAnd, MatchOption}
 use Rattle.std.proofs.lemmas.Bool.Decides.{nat_tests}
 use Rattle.std.specs.Bool.{IsTrue}
-use Rattle.block_store.specs.Block.{Block, Free, Fixed, Masters, Relocatable, sizes, total, count, free, free_of}
+use Rattle.block_store.specs.Block.{Block, Free, Nonrelocatable, Masters, Relocatable, sizes, total, count, free, free_of}
 use Rattle.block_store.specs.Block.{free_sum, is_mover, is_relocatable, size, add, tidy}
 use Rattle.block_store.specs.Run.{in_run, segments, Segments, has, movers, others, settle, high, low, has_free}
 use Rattle.block_store.specs.Run.{RunSpot, with_run, run_at}
@@ -76,21 +76,21 @@ pub falls-free : (below : Bool) (b : Block) (above : List Block) → is_free b �
     → cond below (count is_mover (b ∷ above)) (lowered_in_run (b ∷ above)) ≡ count is_mover above
 falls-free true (Free n) above e = let z : 0 + count is_mover above ≡ count is_mover above = omega arith in z
 falls-free false (Free n) above e = refl
-falls-free below (Fixed id content) above e = let f : false ≡ true = e in cc
+falls-free below (Nonrelocatable id content) above e = let f : false ≡ true = e in cc
 falls-free below Masters above e = let f : false ≡ true = e in cc
 falls-free below (Relocatable id flags content) above e = let f : false ≡ true = e in cc
 
 pub falls-mover : (b : Block) (above : List Block) → is_free b ≡ false → in_run b ≡ true
     → count is_mover (b ∷ above) ≡ 1 + count is_mover above
 falls-mover (Free n) above e l = let f : true ≡ false = e in cc
-falls-mover (Fixed id content) above e l = let f : false ≡ true = l in cc
+falls-mover (Nonrelocatable id content) above e l = let f : false ≡ true = l in cc
 falls-mover Masters above e l = let f : false ≡ true = l in cc
 falls-mover (Relocatable id flags content) above e l = ap {B = ℕ} (λ (t : Bool). cond t 1 0 + count is_mover above) l
 
 pub falls-barrier : (b : Block) (above : List Block) → is_free b ≡ false → in_run b ≡ false
     → count is_mover (b ∷ above) ≡ count is_mover above
 falls-barrier (Free n) above e l = let f : true ≡ false = e in cc
-falls-barrier (Fixed id content) above e l = let z : 0 + count is_mover above ≡ count is_mover above = omega arith in z
+falls-barrier (Nonrelocatable id content) above e l = let z : 0 + count is_mover above ≡ count is_mover above = omega arith in z
 falls-barrier Masters above e l = let z : 0 + count is_mover above ≡ count is_mover above = omega arith in z
 falls-barrier (Relocatable id flags content) above e l = ap {B = ℕ} (λ (t : Bool). cond t 1 0 + count is_mover above) l
     ∙ (let z : 0 + count is_mover above ≡ count is_mover above = omega arith in z)
@@ -98,7 +98,7 @@ falls-barrier (Relocatable id flags content) above e l = ap {B = ℕ} (λ (t : B
 pub falls-later : (b : Block) (above : List Block) → is_free b ≡ false → lowered_in_run (b ∷ above) ≡ lowered_in_run
     above
 falls-later (Free n) above e = let f : true ≡ false = e in cc
-falls-later (Fixed id content) above e = refl
+falls-later (Nonrelocatable id content) above e = refl
 falls-later Masters above e = refl
 falls-later (Relocatable id flags content) above e = refl
 
@@ -129,10 +129,10 @@ pub fallen-barrier : (below below' : Bool) (falls falls' whole : ℕ) (b : Block
     → below' ≡ below → is_free b ≡ false → below ≡ true → in_run b ≡ false
     → falls + cond below (count is_mover (b ∷ above)) (lowered_in_run (b ∷ above)) ≡ whole
     → falls' + cond below' (count is_mover above) (lowered_in_run above) ≡ whole
-fallen-barrier below below' falls falls' whole b above same is other e fixed was =
+fallen-barrier below below' falls falls' whole b above same is other e nonrelocatable was =
     ap (λ n. n + cond below' (count is_mover above) (lowered_in_run above)) same
     ∙ ap (λ t. falls + cond t (count is_mover above) (lowered_in_run above)) (is ∙ e)
-    ∙ ap (λ n. falls + n) (sym (falls-barrier b above other fixed))
+    ∙ ap (λ n. falls + n) (sym (falls-barrier b above other nonrelocatable))
     ∙ ap (λ t. falls + cond t (count is_mover (b ∷ above)) (lowered_in_run (b ∷ above))) (sym e) ∙ was
 
 -- one below all Free ones
@@ -149,13 +149,13 @@ fallen-later below below' falls falls' whole b above same is other e was =
 -- an entry is cleared
 cleared-free : (b : Block) → is_free b ≡ true → cleared b ≡ Free 0
 cleared-free (Free n) e = refl
-cleared-free (Fixed id content) e = let f : false ≡ true = e in cc
+cleared-free (Nonrelocatable id content) e = let f : false ≡ true = e in cc
 cleared-free Masters e = let f : false ≡ true = e in cc
 cleared-free (Relocatable id flags content) e = let f : false ≡ true = e in cc
 
 cleared-other : (b : Block) → is_free b ≡ false → cleared b ≡ b
 cleared-other (Free n) e = let f : true ≡ false = e in cc
-cleared-other (Fixed id content) e = refl
+cleared-other (Nonrelocatable id content) e = refl
 cleared-other Masters e = refl
 cleared-other (Relocatable id flags content) e = refl
 
@@ -201,7 +201,7 @@ tidy-free (suc n) above = refl
 pub tidy-cleared : (run above : List Block) → Loose run → tidy (map cleared run ++ above) ≡ tidy (movers run ++ above)
 tidy-cleared [] above l = refl
 tidy-cleared (Free n ∷ run) above l = tidy-cleared run above l.1
-tidy-cleared (Fixed id content ∷ run) above l = let f : false ≡ true = l.0 in cc
+tidy-cleared (Nonrelocatable id content ∷ run) above l = let f : false ≡ true = l.0 in cc
 tidy-cleared (Masters ∷ run) above l = let f : false ≡ true = l.0 in cc
 tidy-cleared (Relocatable id flags content ∷ run) above l =
     ap (λ t. Relocatable id flags content ∷ t) (tidy-cleared run above l.1)
@@ -224,7 +224,7 @@ pub movers-without : (below above : List Block) (b : Block) → is_free b ≡ tr
     → movers (below ++ b ∷ above) ≡ movers (below ++ above)
 movers-without below above (Free n) e = filter-append is_mover below (Free n ∷ above)
     ∙ sym (filter-append is_mover below above)
-movers-without below above (Fixed id content) e = let f : false ≡ true = e in cc
+movers-without below above (Nonrelocatable id content) e = let f : false ≡ true = e in cc
 movers-without below above Masters e = let f : false ≡ true = e in cc
 movers-without below above (Relocatable id flags content) e = let f : false ≡ true = e in cc
 
@@ -243,7 +243,7 @@ tidy-packed run below above b left whole free-b loose top =
 pub movers-all : (run : List Block) → Loose run → has is_free run ≡ false → movers run ≡ run
 movers-all [] l e = refl
 movers-all (Free n ∷ run) l e = let f : true ≡ false = e in cc
-movers-all (Fixed id content ∷ run) l e = let f : false ≡ true = l.0 in cc
+movers-all (Nonrelocatable id content ∷ run) l e = let f : false ≡ true = l.0 in cc
 movers-all (Masters ∷ run) l e = let f : false ≡ true = l.0 in cc
 movers-all (Relocatable id flags content ∷ run) l e = cond-true (not flags.locked) _ _ l.0
     ∙ ap (λ k. Relocatable id flags content ∷ k) (movers-all run l.1 e)
@@ -251,7 +251,7 @@ movers-all (Relocatable id flags content ∷ run) l e = cond-true (not flags.loc
 pub free_sum-none : (run : List Block) → has is_free run ≡ false → free_sum run ≡ 0
 free_sum-none [] e = refl
 free_sum-none (Free n ∷ run) e = let f : true ≡ false = e in cc
-free_sum-none (Fixed id content ∷ run) e = let r = free_sum-none run e in omega arith
+free_sum-none (Nonrelocatable id content ∷ run) e = let r = free_sum-none run e in omega arith
 free_sum-none (Masters ∷ run) e = let r = free_sum-none run e in omega arith
 free_sum-none (Relocatable id flags content ∷ run) e = let r = free_sum-none run e in omega arith
 
@@ -381,7 +381,7 @@ others-one t b bs e = ap (λ u. cond (is_mover b && not u) (b ∷ others t bs) (
 
 free_of-relocatable : (k : ℕ) (b : Block) → is_relocatable k b ≡ true → free_of b ≡ 0
 free_of-relocatable k (Free n) e = let f : false ≡ true = e in cc
-free_of-relocatable k (Fixed id content) e = refl
+free_of-relocatable k (Nonrelocatable id content) e = refl
 free_of-relocatable k Masters e = refl
 free_of-relocatable k (Relocatable id flags content) e = refl
 
@@ -433,7 +433,7 @@ movers-total : (of : Block → ℕ) → Adds of → (run : List Block) → Loose
 movers-total of adds [] l = let z : of (Free (0 + 0)) ≡ of (Free 0) + of (Free 0) = adds 0 0 in omega arith
 movers-total of adds (Free n ∷ run) l = let r = movers-total of adds run l.1 in
     let a : of (Free (n + free_sum run)) ≡ of (Free n) + of (Free (free_sum run)) = adds n (free_sum run) in omega arith
-movers-total of adds (Fixed id content ∷ run) l = let f : false ≡ true = l.0 in cc
+movers-total of adds (Nonrelocatable id content ∷ run) l = let f : false ≡ true = l.0 in cc
 movers-total of adds (Masters ∷ run) l = let f : false ≡ true = l.0 in cc
 movers-total of adds (Relocatable id flags content ∷ run) l =
     let r = movers-total of adds run l.1 in
@@ -464,7 +464,7 @@ others-total : (of : Block → ℕ) (k : ℕ) (run : List Block) → Loose run
     → total of (others (is_relocatable k) run) + total of (filter (is_relocatable k) run) ≡ total of (movers run)
 others-total of k [] l = omega arith
 others-total of k (Free n ∷ run) l = others-total of k run l.1
-others-total of k (Fixed id content ∷ run) l = let f : false ≡ true = l.0 in cc
+others-total of k (Nonrelocatable id content ∷ run) l = let f : false ≡ true = l.0 in cc
 others-total of k (Masters ∷ run) l = let f : false ≡ true = l.0 in cc
 others-total of k (Relocatable id flags content ∷ run) l = cases (not flags.locked) l.0 (id == k)
     (others-total of k run l.1)

@@ -1,7 +1,7 @@
 use Rattle.std.proofs.Common.{◌≡◌, ℕ, zero, suc, Bool, true, false, List, [], ◌∷◌, ◌++◌, refl, sym, ◌∙◌, ap, cond}
 use Rattle.std.proofs.lemmas.List.{append-nil}
 use Rattle.std.proofs.lemmas.Bool.{cond-true, cond-false}
-use Rattle.block_store.specs.Block.{Block, Free, Fixed, Masters, Relocatable, free_sum, free, is_mover}
+use Rattle.block_store.specs.Block.{Block, Free, Nonrelocatable, Masters, Relocatable, free_sum, free, is_mover}
 use Rattle.block_store.specs.Run.{in_run, Stretch, Segments, put_below, segments, joined, movers, settle}
 use Rattle.block_store.specs.Inner.Packing.{Loose}
 
@@ -64,7 +64,7 @@ segments-joined run (p ∷ parts) r a =
 -- a settled run is a run
 mover-in : (b : Block) → is_mover b ≡ true → in_run b ≡ true
 mover-in (Free n) e = refl
-mover-in (Fixed id content) e = e
+mover-in (Nonrelocatable id content) e = e
 mover-in Masters e = e
 mover-in (Relocatable id flags content) e = e
 

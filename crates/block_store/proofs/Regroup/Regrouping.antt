@@ -4,7 +4,7 @@ use Rattle.std.proofs.lemmas.List.{append-nil}
 use Rattle.std.proofs.lemmas.Option.{none-some, same_Some}
 use Rattle.std.proofs.lemmas.Bool.{cond-true, cond-false}
 use Rattle.std.specs.Option.{option_map}
-use Rattle.block_store.specs.Block.{Block, Free, Fixed, Masters, Relocatable, sizes, free_sum, free, is_mover, add}
+use Rattle.block_store.specs.Block.{Block, Free, Nonrelocatable, Masters, Relocatable, sizes, free_sum, free, is_mover, add}
 use Rattle.block_store.specs.Block.{tidy}
 use Rattle.block_store.specs.Run.{in_run, others, high, settle, RunSpot, run_raised, run_from, run_at, segments}
 use Rattle.block_store.specs.Run.{Segments, joined, Stretch}
@@ -44,17 +44,17 @@ pub record IsRun (place : ℕ) (run : List Block) (parts : List Stretch) (r : Ru
 add-last : (b : Block) (l : List Block) → add b l ≡ b ∷ l → add b [] ≡ b ∷ []
 add-last (Free zero) l e = absurd (longer (Free zero) l e)
 add-last (Free (suc n)) l e = refl
-add-last (Fixed id content) l e = refl
+add-last (Nonrelocatable id content) l e = refl
 add-last Masters l e = refl
 add-last (Relocatable id flags content) l e = refl
 
 add-barrier : (b c : Block) (l : List Block) → in_run c ≡ false → add b [] ≡ b ∷ [] → add b (c ∷ l) ≡ b ∷ c ∷ l
 add-barrier (Free zero) c l out e = absurd (longer (Free zero) [] e)
 add-barrier (Free (suc n)) (Free k) l out e = let f : true ≡ false = out in cc
-add-barrier (Free (suc n)) (Fixed id content) l out e = refl
+add-barrier (Free (suc n)) (Nonrelocatable id content) l out e = refl
 add-barrier (Free (suc n)) Masters l out e = refl
 add-barrier (Free (suc n)) (Relocatable id flags content) l out e = refl
-add-barrier (Fixed id content) c l out e = refl
+add-barrier (Nonrelocatable id content) c l out e = refl
 add-barrier Masters c l out e = refl
 add-barrier (Relocatable id flags content) c l out e = refl
 
@@ -155,7 +155,7 @@ tidy-change place zone r e tidied run' a' =
 pub alone : (p : Block → Bool) → ((n : ℕ) → p (Free n) ≡ false) → (b : Block) (above : List Block) → p b ≡ true
     → add b above ≡ b ∷ above
 alone p none (Free n) above e = let f : true ≡ false = sym e ∙ none n in cc
-alone p none (Fixed id content) above e = refl
+alone p none (Nonrelocatable id content) above e = refl
 alone p none Masters above e = refl
 alone p none (Relocatable id flags content) above e = refl
 
@@ -176,7 +176,7 @@ add-filter n p none (b ∷ run) = cases (p b) refl (add-filter n p none run)
   where
     one : (b : Block) → p b ≡ true → (l : List Block) → add (Free (suc n)) (b ∷ l) ≡ Free (suc n) ∷ b ∷ l
     one (Free m) e l = let f : true ≡ false = sym e ∙ none m in cc
-    one (Fixed id content) e l = refl
+    one (Nonrelocatable id content) e l = refl
     one Masters e l = refl
     one (Relocatable id flags content) e l = refl
 

@@ -5,7 +5,7 @@ use Rattle.std.proofs.lemmas.Option.{none-some, same_Some}
 use Rattle.std.specs.Option.{option_map, IsSome, IfSome, IsSomeAnd}
 use Rattle.std.specs.Result.{OnOk, OnErr}
 use Rattle.std.specs.Bool.{IsTrue}
-use Rattle.block_store.specs.Block.{Block, Free, Fixed, Masters, Relocatable, size, sizes, total, count, free, free_sum}
+use Rattle.block_store.specs.Block.{Block, Free, Nonrelocatable, Masters, Relocatable, size, sizes, total, count, free, free_sum}
 use Rattle.block_store.specs.Block.{is_masters, is_relocatable, add, tidy}
 use Rattle.block_store.specs.Run.{RunSpot, has, has_free, movers, settle, low, high, with_run, run_at}
 use Rattle.block_store.specs.Room.{Spot, raised, spot}
@@ -141,7 +141,7 @@ reach-settle k more (Free n ∷ run) above l =
     ≡ more + n + free_sum run = omega arith in z) in
     let z : reach k (movers run ++ free (more + (n + free_sum run)) ++ above) ≤ more + (n + reach k (run ++ above)) =
     omega arith in z
-reach-settle k more (Fixed id content ∷ run) above l = let f : false ≡ true = l.0 in cc
+reach-settle k more (Nonrelocatable id content ∷ run) above l = let f : false ≡ true = l.0 in cc
 reach-settle k more (Masters ∷ run) above l = let f : false ≡ true = l.0 in cc
 reach-settle k more (Relocatable id flags content ∷ run) above l =
     let b = Relocatable id flags content in

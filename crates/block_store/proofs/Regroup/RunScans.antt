@@ -4,7 +4,7 @@ use Rattle.std.proofs.lemmas.Bool.{and_parts, and_from, le-leb, leb-true, cond-t
 use Rattle.std.proofs.lemmas.List.{append-nil}
 use Rattle.std.proofs.lemmas.List.Folds.{list_any-append}
 use Rattle.std.specs.Option.{option_map}
-use Rattle.block_store.specs.Block.{Block, Free, Fixed, Masters, Relocatable, is_relocatable, size, sizes, free_of}
+use Rattle.block_store.specs.Block.{Block, Free, Nonrelocatable, Masters, Relocatable, is_relocatable, size, sizes, free_of}
 use Rattle.block_store.specs.Block.{free_sum, add, tidy}
 use Rattle.block_store.specs.Run.{in_run, has, has_free, RunSpot, run_raised, lowest_run, run_spot, segments, Segments}
 use Rattle.block_store.specs.Run.{joined}
@@ -56,10 +56,10 @@ scan-add w p sp start free met place (Free (suc n)) (Free m ∷ bs) =
     (let z : free + (suc n + m) ≡ free + suc n + m = omega arith in z)
     ∙ ap (λ k. scan_runs w p sp 0 start (free + suc n + m) met k bs)
     (let z : place + (suc n + m) ≡ place + suc n + m = omega arith in z)
-scan-add w p sp start free met place (Free (suc n)) (Fixed id content ∷ bs) = refl
+scan-add w p sp start free met place (Free (suc n)) (Nonrelocatable id content ∷ bs) = refl
 scan-add w p sp start free met place (Free (suc n)) (Masters ∷ bs) = refl
 scan-add w p sp start free met place (Free (suc n)) (Relocatable id flags content ∷ bs) = refl
-scan-add w p sp start free met place (Fixed id content) bs = refl
+scan-add w p sp start free met place (Nonrelocatable id content) bs = refl
 scan-add w p sp start free met place Masters bs = refl
 scan-add w p sp start free met place (Relocatable id flags content) bs = refl
 
@@ -78,7 +78,7 @@ scan-tidy w p sp start free met place (b ∷ bs) =
 -- a run that has enough keeps it, whatever it has above
 met-kept : (w : Option ℕ) (met : Bool) (b : Block) → met ≡ true → met_after w met b ≡ true
 met-kept w met (Free n) e = e
-met-kept w met (Fixed id content) e = e
+met-kept w met (Nonrelocatable id content) e = e
 met-kept w met Masters e = e
 met-kept w met (Relocatable id flags content) e = ap (λ t. t || is_number w id) e
 
@@ -129,7 +129,7 @@ meets-more w met done b is = one b ∙ ap (λ t. any_run w || t) (sym (list_any-
   where
     one : (b : Block) → met_after w met b ≡ (any_run w || (has (is_wanted w) done || (is_wanted w b || false)))
     one (Free n) = is ∙ or-none (any_run w) (has (is_wanted w) done)
-    one (Fixed id content) = is ∙ or-none (any_run w) (has (is_wanted w) done)
+    one (Nonrelocatable id content) = is ∙ or-none (any_run w) (has (is_wanted w) done)
     one Masters = is ∙ or-none (any_run w) (has (is_wanted w) done)
     one (Relocatable id flags content) = ap (λ t. t || is_number w id) is
         ∙ or-one (any_run w) (has (is_wanted w) done) (is_number w id)
@@ -228,7 +228,7 @@ scan-is w p n k zone =
 -- the block of a slot, and any run
 wanted-is : (number : ℕ) (b : Block) → is_wanted (Some number) b ≡ is_relocatable number b
 wanted-is number (Free n) = refl
-wanted-is number (Fixed id content) = refl
+wanted-is number (Nonrelocatable id content) = refl
 wanted-is number Masters = refl
 wanted-is number (Relocatable id flags content) = refl
 

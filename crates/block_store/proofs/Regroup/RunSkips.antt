@@ -2,7 +2,7 @@
 use Rattle.std.proofs.Common.{◌≡◌, ℕ, zero, suc, ◌+◌, ◌≤◌, ◌<◌, Bool, true, false, not, ◌&&◌, ◌||◌, List, [], ◌∷◌, ◌++◌, refl, sym}
 use Rattle.std.proofs.Common.{◌∙◌, ap, cond, arith, Option, Some, None, nat_le}
 use Rattle.std.proofs.lemmas.Bool.{lt-leb}
-use Rattle.block_store.specs.Block.{Block, Free, Fixed, Masters, Relocatable, size, sizes, free_of, free_sum}
+use Rattle.block_store.specs.Block.{Block, Free, Nonrelocatable, Masters, Relocatable, size, sizes, free_of, free_sum}
 use Rattle.block_store.specs.Run.{in_run, has}
 use Rattle.block_store.specs.Inner.RunScan.{any_run, met_after, scan_runs}
 
@@ -93,7 +93,7 @@ module _ (w : Option ℕ) (p : ℕ) (sp : Block → Bool) where
 -- a run that need have no block has what it must have
 met-none : (met : Bool) (b : Block) → met_after None met b ≡ met
 met-none met (Free n) = refl
-met-none met (Fixed id content) = refl
+met-none met (Nonrelocatable id content) = refl
 met-none met Masters = refl
 met-none true (Relocatable id flags content) = refl
 met-none false (Relocatable id flags content) = refl

@@ -5,7 +5,7 @@ use Rattle.std.proofs.lemmas.Bool.{cond-true, cond-false}
 use Rattle.std.proofs.lemmas.Bool.Decides.{nat_tests}
 use Rattle.std.proofs.lemmas.List.{take_all, drop-map, length-drop}
 use Rattle.std.specs.Option.{option_map, IfSome}
-use Rattle.block_store.specs.Block.{Block, Free, Fixed, Masters, Relocatable, size, sizes}
+use Rattle.block_store.specs.Block.{Block, Free, Nonrelocatable, Masters, Relocatable, size, sizes}
 use Rattle.block_store.specs.Run.{in_run, RunSpot, run_raised, lowest_run, run_spot, run_from, run_at, segments}
 use Rattle.block_store.specs.Run.{Segments, Stretch, joined}
 use Rattle.block_store.specs.Room.{Spot, raised, spot_at}
@@ -23,7 +23,7 @@ Barred (p ∷ parts) = (0 < size p.barrier) × Barred parts
 
 pub barrier-size : (b : Block) → in_run b ≡ false → 0 < size b
 barrier-size (Free n) e = let f : true ≡ false = e in cc
-barrier-size (Fixed id content) e = omega arith
+barrier-size (Nonrelocatable id content) e = omega arith
 barrier-size Masters e = omega arith
 barrier-size (Relocatable id flags content) e = omega arith
 

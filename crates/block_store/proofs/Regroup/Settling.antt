@@ -5,7 +5,7 @@ use Rattle.std.proofs.lemmas.List.{append-nil, append_assoc}
 use Rattle.std.proofs.lemmas.Option.{none-some, same_Some}
 use Rattle.std.proofs.lemmas.Bool.Decides.{nat_tests}
 use Rattle.std.specs.Option.{option_map, IfSome}
-use Rattle.block_store.specs.Block.{Block, Free, Fixed, Masters, Relocatable, size, sizes, free_sum, free, is_mover}
+use Rattle.block_store.specs.Block.{Block, Free, Nonrelocatable, Masters, Relocatable, size, sizes, free_sum, free, is_mover}
 use Rattle.block_store.specs.Block.{add, tidy}
 use Rattle.block_store.specs.Run.{in_run, Stretch, Segments, segments, runs, joined, RunSpot, run_raised, run_at}
 use Rattle.block_store.specs.Run.{with_run, has, movers, settle}
@@ -69,7 +69,7 @@ with-settled (suc k) run (p ∷ parts) r e = cases (settled_spot k p.run parts) 
 -- blocks that join with no block above them
 mover-alone : (b : Block) (above : List Block) → is_mover b ≡ true → add b above ≡ b ∷ above
 mover-alone (Free n) above e = let f : false ≡ true = e in cc
-mover-alone (Fixed id content) above e = refl
+mover-alone (Nonrelocatable id content) above e = refl
 mover-alone Masters above e = refl
 mover-alone (Relocatable id flags content) above e = refl
 
@@ -86,7 +86,7 @@ apart-free : (n : ℕ) (b : Block) (above : List Block) → in_run b ≡ false �
     → Apart (free n ++ b ∷ above)
 apart-free zero b above e a = a
 apart-free (suc n) (Free m) above e a = let f : true ≡ false = e in cc
-apart-free (suc n) (Fixed id content) above e a = (refl, a)
+apart-free (suc n) (Nonrelocatable id content) above e a = (refl, a)
 apart-free (suc n) Masters above e a = (refl, a)
 apart-free (suc n) (Relocatable id flags content) above e a = (refl, a)
 
@@ -225,7 +225,7 @@ runs-few zone = let e : sizes (joined (segments zone).first (segments zone).rest
   where
     barrier-size : (b : Block) → in_run b ≡ false → 0 < size b
     barrier-size (Free n) e = let f : true ≡ false = e in cc
-    barrier-size (Fixed id content) e = omega arith
+    barrier-size (Nonrelocatable id content) e = omega arith
     barrier-size Masters e = omega arith
     barrier-size (Relocatable id flags content) e = omega arith
 

@@ -3,11 +3,11 @@ use Rattle.std.proofs.Common.{Some, None, nat_le}
 use Rattle.std.proofs.lemmas.List.{map-append}
 use Rattle.std.specs.Option.{option_map, option_or}
 use Rattle.std.specs.Prelude.{option_and_then}
-use Rattle.block_store.specs.Block.{Block, Free, Fixed, Masters, Relocatable, size, free_sum, free_of, free, rename}
+use Rattle.block_store.specs.Block.{Block, Free, Nonrelocatable, Masters, Relocatable, size, free_sum, free_of, free, rename}
 use Rattle.block_store.specs.Block.{rename_block, is_mover, resized}
 use Rattle.block_store.specs.Run.{Stretch, segments, joined, has_free, movers}
 use Rattle.block_store.specs.Room.{Spot, rename_spot, spot, filled, room}
-use Rattle.block_store.specs.Grow.{growth, grow_up, taken_low, grow_fixed, grow_mover, grow_at, grow}
+use Rattle.block_store.specs.Grow.{growth, grow_up, taken_low, grow_nonrelocatable, grow_mover, grow_at, grow}
 use Rattle.block_store.proofs.Renamed.Renaming.{size-rename, free_of-rename, is_mover-rename, total-rename}
 use Rattle.block_store.proofs.Renamed.Renaming.{filter-rename, free-rename, spot-rename, filled-rename, rename_stretch}
 use Rattle.block_store.proofs.Renamed.Renaming.{segments-rename, joined-rename, has_free-rename, room-rename}
@@ -17,7 +17,7 @@ use Rattle.block_store.proofs.Renamed.Renaming.{grow_up-rename, grow_mover-renam
 
 pub resized-rename : (f g : ℕ → ℕ) (n : ℕ) (b : Block) → resized n (rename_block f g b) ≡ rename_block f g (resized n b)
 resized-rename f g n (Free m) = refl
-resized-rename f g n (Fixed id content) = refl
+resized-rename f g n (Nonrelocatable id content) = refl
 resized-rename f g n Masters = refl
 resized-rename f g n (Relocatable id flags content) = refl
 
@@ -68,10 +68,10 @@ taken_low-rename f g p q same d above =
     cases None = refl
     cases (Some run) = ap Some (packed-rename f g d run (segments above).rest)
 
-pub grow_fixed-rename : (f g : ℕ → ℕ) (p q : Block → Bool) → ((b : Block) → p (rename_block f g b) ≡ q b)
+pub grow_nonrelocatable-rename : (f g : ℕ → ℕ) (p q : Block → Bool) → ((b : Block) → p (rename_block f g b) ≡ q b)
     → (new : Block) (s : Spot)
-    → grow_fixed p (rename_block f g new) (rename_spot f g s) ≡ option_map (rename f g) (grow_fixed q new s)
-grow_fixed-rename f g p q same new s =
+    → grow_nonrelocatable p (rename_block f g new) (rename_spot f g s) ≡ option_map (rename f g) (grow_nonrelocatable q new s)
+grow_nonrelocatable-rename f g p q same new s =
     ap (λ o. option_or o (option_map (λ above. rename f g s.below ++ rename_block f g new ∷ above)
     (taken_low (growth (rename_block f g new) (rename_spot f g s)) p (rename f g s.above))))
     (grow_up-rename f g new s)
@@ -103,15 +103,15 @@ grow_at-rename f g p q r t same spares new zone s =
     grown : Bool → Bool → Option (List Block)
     grown u v = cond u (Some (filled (rename_block f g new) (rename_spot f g s)))
         (cond v (room (grow_mover p (rename_block f g new)) r (rename f g zone))
-        (grow_fixed r (rename_block f g new) (rename_spot f g s)))
+        (grow_nonrelocatable r (rename_block f g new) (rename_spot f g s)))
 
     cases : (u v : Bool) → grown u v
         ≡ option_map (rename f g) (cond u (Some (filled new s)) (cond v (room (grow_mover q new) t zone)
-        (grow_fixed t new s)))
+        (grow_nonrelocatable t new s)))
     cases true v = ap Some (filled-rename f g new s)
     cases false true = room-rename f g r t (grow_mover p (rename_block f g new)) (grow_mover q new) spares
         (grow_mover-rename f g p q same new) zone
-    cases false false = grow_fixed-rename f g r t spares new s
+    cases false false = grow_nonrelocatable-rename f g r t spares new s
 
 pub grow-rename : (f g : ℕ → ℕ) (p q r t : Block → Bool) → ((b : Block) → p (rename_block f g b) ≡ q b)
     → ((b : Block) → r (rename_block f g b) ≡ t b) → (n : ℕ) (zone : List Block)

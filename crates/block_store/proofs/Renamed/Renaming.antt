@@ -3,7 +3,7 @@ use Rattle.std.proofs.Common.{ap, cond, map, Option, Some, None, filter}
 use Rattle.std.proofs.lemmas.List.{map-append}
 use Rattle.std.specs.Option.{option_map, option_or}
 use Rattle.std.specs.Prelude.{option_and_then}
-use Rattle.block_store.specs.Block.{Block, Free, Fixed, Masters, Relocatable, size, total, free_sum, free_of, rename}
+use Rattle.block_store.specs.Block.{Block, Free, Nonrelocatable, Masters, Relocatable, size, total, free_sum, free_of, rename}
 use Rattle.block_store.specs.Block.{rename_block, free, is_mover, is_room, is_purgeable, add, tidy}
 use Rattle.block_store.specs.Run.{settle, in_run, Stretch, Segments, segments, joined, RunSpot, run_raised, lowest_run}
 use Rattle.block_store.specs.Run.{run_spot, with_run, change_run, has_free, has, others}
@@ -14,25 +14,25 @@ use Rattle.block_store.specs.Grow.{growth, taken, grow_up, freed, move_away, gro
 -- renaming leaves what a block takes
 pub size-rename : (f g : ℕ → ℕ) (b : Block) → size (rename_block f g b) ≡ size b
 size-rename f g (Free n) = refl
-size-rename f g (Fixed id content) = refl
+size-rename f g (Nonrelocatable id content) = refl
 size-rename f g Masters = refl
 size-rename f g (Relocatable id flags content) = refl
 
 pub free_of-rename : (f g : ℕ → ℕ) (b : Block) → free_of (rename_block f g b) ≡ free_of b
 free_of-rename f g (Free n) = refl
-free_of-rename f g (Fixed id content) = refl
+free_of-rename f g (Nonrelocatable id content) = refl
 free_of-rename f g Masters = refl
 free_of-rename f g (Relocatable id flags content) = refl
 
 pub is_mover-rename : (f g : ℕ → ℕ) (b : Block) → is_mover (rename_block f g b) ≡ is_mover b
 is_mover-rename f g (Free n) = refl
-is_mover-rename f g (Fixed id content) = refl
+is_mover-rename f g (Nonrelocatable id content) = refl
 is_mover-rename f g Masters = refl
 is_mover-rename f g (Relocatable id flags content) = refl
 
 pub is_room-rename : (f g : ℕ → ℕ) (p : ℕ) (b : Block) → is_room p (rename_block f g b) ≡ is_room p b
 is_room-rename f g p (Free n) = refl
-is_room-rename f g p (Fixed id content) = refl
+is_room-rename f g p (Nonrelocatable id content) = refl
 is_room-rename f g p Masters = refl
 is_room-rename f g p (Relocatable id flags content) = refl
 
@@ -70,10 +70,10 @@ pub add-rename : (f g : ℕ → ℕ) (b : Block) (bs : List Block)
 add-rename f g (Free zero) bs = refl
 add-rename f g (Free (suc n)) [] = refl
 add-rename f g (Free (suc n)) (Free m ∷ bs) = refl
-add-rename f g (Free (suc n)) (Fixed id content ∷ bs) = refl
+add-rename f g (Free (suc n)) (Nonrelocatable id content ∷ bs) = refl
 add-rename f g (Free (suc n)) (Masters ∷ bs) = refl
 add-rename f g (Free (suc n)) (Relocatable id flags content ∷ bs) = refl
-add-rename f g (Fixed id content) bs = refl
+add-rename f g (Nonrelocatable id content) bs = refl
 add-rename f g Masters bs = refl
 add-rename f g (Relocatable id flags content) bs = refl
 
@@ -104,7 +104,7 @@ filled-rename f g new s = rw (size-rename f g new, size-rename f g s.here)
 
 pub in_run-rename : (f g : ℕ → ℕ) (b : Block) → in_run (rename_block f g b) ≡ in_run b
 in_run-rename f g (Free n) = refl
-in_run-rename f g (Fixed id content) = refl
+in_run-rename f g (Nonrelocatable id content) = refl
 in_run-rename f g Masters = refl
 in_run-rename f g (Relocatable id flags content) = refl
 
@@ -224,7 +224,7 @@ put_in_place-rename f g new bs = rw (size-rename f g new, place-rename f g (size
 
 pub is_purgeable-rename : (f g : ℕ → ℕ) (b : Block) → is_purgeable (rename_block f g b) ≡ is_purgeable b
 is_purgeable-rename f g (Free n) = refl
-is_purgeable-rename f g (Fixed id content) = refl
+is_purgeable-rename f g (Nonrelocatable id content) = refl
 is_purgeable-rename f g Masters = refl
 is_purgeable-rename f g (Relocatable id flags content) = refl
 

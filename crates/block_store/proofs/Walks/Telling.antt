@@ -1,7 +1,7 @@
 -- What a walk over blocks told.
 use Rattle.std.proofs.Common.{◌≡◌, ◌+◌, List, [], ◌∷◌, refl, sym, ◌∙◌, ap, arith, Option, Some, None}
 use Rattle.std.proofs.lemmas.Option.{none-some, same_Some}
-use Rattle.block_store.specs.Block.{Block, Free, Fixed, Masters, Relocatable, size, sizes}
+use Rattle.block_store.specs.Block.{Block, Free, Nonrelocatable, Masters, Relocatable, size, sizes}
 use Rattle.block_store.specs.Seen.{seen}
 use Rattle.block_store.specs.Walk.{Tells, seen_size}
 use Rattle.block_store.specs.declared.sparing.Seen.{Seen}
@@ -28,7 +28,7 @@ told-none (b ∷ above) after answer t e = absurd (none-some (seen b) (sym e ∙
 
 size-seen : (b : Block) → seen_size (seen b) ≡ size b
 size-seen (Free n) = refl
-size-seen (Fixed id content) = refl
+size-seen (Nonrelocatable id content) = refl
 size-seen Masters = refl
 size-seen (Relocatable id flags content) = refl
 

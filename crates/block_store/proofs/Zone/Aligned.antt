@@ -3,7 +3,7 @@ use Rattle.std.proofs.Common.{filter, length, refl, sym, ◌∙◌, ap, cond, su
 use Rattle.std.proofs.lemmas.Option.{none-some, same_Some}
 use Rattle.std.specs.Option.{option_map}
 use Rattle.mac_words.specs.Size.{padded}
-use Rattle.block_store.specs.Block.{Block, Free, Fixed, Masters, Relocatable, size, sizes, free, free_of, free_sum}
+use Rattle.block_store.specs.Block.{Block, Free, Nonrelocatable, Masters, Relocatable, size, sizes, free, free_of, free_sum}
 use Rattle.block_store.specs.Block.{is_room, is_mover, is_relocatable, add, tidy, with_content, resized}
 use Rattle.block_store.specs.Run.{RunSpot, run_at, with_run, movers, others, settle, low, high}
 use Rattle.block_store.specs.Room.{Spot, raised, spot_at, filled, may_be_purged, lowest_purged}
@@ -25,7 +25,7 @@ Sixteens b = free_of b % 16 ≡ 0
 
 pub size-sixteens : (b : Block) → Sixteens b → size b % 16 ≡ 0
 size-sixteens (Free n) e = e
-size-sixteens (Fixed id content) e = let z : padded (length content) % 16 ≡ 0 = omega arith in z
+size-sixteens (Nonrelocatable id content) e = let z : padded (length content) % 16 ≡ 0 = omega arith in z
 size-sixteens Masters e = refl
 size-sixteens (Relocatable id flags content) e = let z : padded (length content) % 16 ≡ 0 = omega arith in z
 
@@ -69,10 +69,10 @@ aligned-add (Free (suc n)) (Free m ∷ bs) e a = (
       let z : (suc n + m) % 16 ≡ 0 = omega arith in z,
   a.1,
 )
-aligned-add (Free (suc n)) (Fixed id content ∷ bs) e a = (e, a)
+aligned-add (Free (suc n)) (Nonrelocatable id content ∷ bs) e a = (e, a)
 aligned-add (Free (suc n)) (Masters ∷ bs) e a = (e, a)
 aligned-add (Free (suc n)) (Relocatable id flags content ∷ bs) e a = (e, a)
-aligned-add (Fixed id content) bs e a = (e, a)
+aligned-add (Nonrelocatable id content) bs e a = (e, a)
 aligned-add Masters bs e a = (e, a)
 aligned-add (Relocatable id flags content) bs e a = (e, a)
 
@@ -115,26 +115,26 @@ aligned-purged k n bs a = aligned-tidy _ (aligned-lowest_purged k (spared n) (op
 -- what a store's calls make of a block
 pub sixteens-content : (x : List ℕ) (b : Block) → Sixteens b → Sixteens (with_content x b)
 sixteens-content x (Free n) e = e
-sixteens-content x (Fixed id content) e = e
+sixteens-content x (Nonrelocatable id content) e = e
 sixteens-content x Masters e = e
 sixteens-content x (Relocatable id flags content) e = e
 
 pub sixteens-flags : (f : Flags) (b : Block) → Sixteens b → Sixteens (with_flags f b)
 sixteens-flags f (Free n) e = e
-sixteens-flags f (Fixed id content) e = e
+sixteens-flags f (Nonrelocatable id content) e = e
 sixteens-flags f Masters e = e
 sixteens-flags f (Relocatable id flags content) e = e
 
 -- a slot's block is no Free one
 pub sixteens-slot : (number : ℕ) (b : Block) → is_relocatable number b ≡ true → Sixteens b
 sixteens-slot number (Free n) e = let f : false ≡ true = e in cc
-sixteens-slot number (Fixed id content) e = refl
+sixteens-slot number (Nonrelocatable id content) e = refl
 sixteens-slot number Masters e = refl
 sixteens-slot number (Relocatable id flags content) e = refl
 
 pub sixteens-resized : (n : ℕ) (b : Block) → Sixteens b → Sixteens (resized n b)
 sixteens-resized n (Free m) e = e
-sixteens-resized n (Fixed id content) e = e
+sixteens-resized n (Nonrelocatable id content) e = e
 sixteens-resized n Masters e = e
 sixteens-resized n (Relocatable id flags content) e = e
 

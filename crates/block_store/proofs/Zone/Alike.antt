@@ -3,14 +3,14 @@ use Rattle.std.proofs.Common.{sym, ◌∙◌, ap, cond, arith, Option, Some, Non
 use Rattle.std.proofs.lemmas.Bool.{cond-true, cond-false, and_parts, leb-true}
 use Rattle.std.proofs.lemmas.Option.{option_and_then_some}
 use Rattle.std.specs.Option.{option_map, option_or}
-use Rattle.block_store.specs.Block.{Block, Free, Fixed, Masters, Relocatable, size, sizes, total, count, free, free_sum}
+use Rattle.block_store.specs.Block.{Block, Free, Nonrelocatable, Masters, Relocatable, size, sizes, total, count, free, free_sum}
 use Rattle.block_store.specs.Block.{is_mover, is_room, is_relocatable, add, tidy, resized}
 use Rattle.block_store.specs.Run.{in_run, Stretch, segments, joined, change_run, has, has_free, movers, others, settle}
 use Rattle.block_store.specs.Run.{high, low}
 use Rattle.block_store.specs.Room.{Spot, spot, raised, filled, place, put_in_place, put_at_base, lowest_purged, purge}
 use Rattle.block_store.specs.Room.{may_be_purged}
 use Rattle.block_store.specs.Room.{room}
-use Rattle.block_store.specs.Grow.{growth, taken, taken_low, grow_up, grow_fixed, freed, move_away, grow_last}
+use Rattle.block_store.specs.Grow.{growth, taken, taken_low, grow_up, grow_nonrelocatable, freed, move_away, grow_last}
 use Rattle.block_store.specs.Grow.{grow_mover, grow}
 use Rattle.block_store.specs.Compact.{settled_runs, settled}
 use Rattle.block_store.proofs.Zone.Tidy.{spot-is, spot-passes}
@@ -48,7 +48,7 @@ pub sizes-parted : (t : Block → Bool) → ((n : ℕ) → t (Free n) ≡ false)
 sizes-parted t never [] one = refl
 sizes-parted t never (Free n ∷ bs) one = let r = sizes-parted t never bs (omega arith) in
     let z : filter t (Free n ∷ bs) ≡ filter t bs = rw (never n) refl in omega (arith, ap sizes z)
-sizes-parted t never (Fixed id content ∷ bs) one = absurd (omega arith)
+sizes-parted t never (Nonrelocatable id content ∷ bs) one = absurd (omega arith)
 sizes-parted t never (Masters ∷ bs) one = absurd (omega arith)
 sizes-parted t never (Relocatable id flags content ∷ bs) one =
     cases flags.locked (t b) one (λ le. sizes-parted t never bs le)
@@ -67,7 +67,7 @@ sizes-parted t never (Relocatable id flags content ∷ bs) one =
 pub sizes-movers : (bs : List Block) → OneRun bs → sizes (movers bs) + free_sum bs ≡ sizes bs
 sizes-movers [] one = refl
 sizes-movers (Free n ∷ bs) one = let r = sizes-movers bs (omega arith) in omega arith
-sizes-movers (Fixed id content ∷ bs) one = absurd (omega arith)
+sizes-movers (Nonrelocatable id content ∷ bs) one = absurd (omega arith)
 sizes-movers (Masters ∷ bs) one = absurd (omega arith)
 sizes-movers (Relocatable id flags content ∷ bs) one = cases flags.locked one (λ le. sizes-movers bs le)
   where
@@ -217,10 +217,10 @@ module _ (seen : Block → Bool) (rigid : (b : Block) → in_run b ≡ true → 
       unseen (suc n) (Free m ∷ bs) ∙ ap (further (suc n)) (unseen m bs) ∙ further-twice (suc n) m (stands seen bs)
           ∙ sym (unseen (suc n + m) bs),
     )
-    alike-add (Free (suc n)) (Fixed id content ∷ bs) = (refl, refl)
+    alike-add (Free (suc n)) (Nonrelocatable id content ∷ bs) = (refl, refl)
     alike-add (Free (suc n)) (Masters ∷ bs) = (refl, refl)
     alike-add (Free (suc n)) (Relocatable id flags content ∷ bs) = (refl, refl)
-    alike-add (Fixed id content) bs = (refl, refl)
+    alike-add (Nonrelocatable id content) bs = (refl, refl)
     alike-add Masters bs = (refl, refl)
     alike-add (Relocatable id flags content) bs = (refl, refl)
 
@@ -232,7 +232,7 @@ module _ (seen : Block → Bool) (rigid : (b : Block) → in_run b ≡ true → 
     -- what may go isn't seen
     may_be_purged-unlocked : (sp : Block → Bool) (b : Block) → may_be_purged sp b ≡ true → seen b ≡ false
     may_be_purged-unlocked sp (Free n) e = rigid (Free n) refl
-    may_be_purged-unlocked sp (Fixed id content) e = let f : false ≡ true = e in cc
+    may_be_purged-unlocked sp (Nonrelocatable id content) e = let f : false ≡ true = e in cc
     may_be_purged-unlocked sp Masters e = let f : false ≡ true = e in cc
     may_be_purged-unlocked sp (Relocatable id flags content) e = rigid (Relocatable id flags content)
         (and_parts (not flags.locked) flags.purgeable (and_parts (not flags.locked && flags.purgeable)
@@ -344,7 +344,7 @@ module _ (seen : Block → Bool) (rigid : (b : Block) → in_run b ≡ true → 
     -- a Free block isn't seen
     pub room-parts : (p : ℕ) (b : Block) → is_room p b ≡ true → (seen b ≡ false) × (p ≤ size b)
     room-parts p (Free n) e = (rigid (Free n) refl, leb-true p n e)
-    room-parts p (Fixed id content) e = let f : false ≡ true = e in cc
+    room-parts p (Nonrelocatable id content) e = let f : false ≡ true = e in cc
     room-parts p Masters e = let f : false ≡ true = e in cc
     room-parts p (Relocatable id flags content) e = let f : false ≡ true = e in cc
 
@@ -485,7 +485,7 @@ module _ (seen : Block → Bool) (rigid : (b : Block) → in_run b ≡ true → 
 
     pub alike-stood : (sp : Block → Bool) (zone z : List Block) (s : Spot) (new : Block)
         → zone ≡ s.below ++ s.here ∷ s.above → seen s.here ≡ seen new → size s.here ≤ size new
-        → grow_fixed sp new s ≡ Some z → Alike seen zone z
+        → grow_nonrelocatable sp new s ≡ Some z → Alike seen zone z
     alike-stood sp zone z s new is lock less e = cases (or-some (grow_up new s) _ z e)
       where
         cases : (grow_up new s ≡ Some z) ⊎ (option_map (λ above. s.below ++ new ∷ above)
@@ -657,6 +657,6 @@ alike-grown seen rigid same_size test never sp n zone z movable e =
     alike-then seen rigid zone (purge j sp zone) z (alike-purged seen rigid j sp zone)
     (alike-moved seen rigid test never m.0 (resized n s.here) (sym (same_size n s.here)
     ∙ m.0 s.here (spot-passes test zone s found)) (purge j sp zone) z smaller (omega arith) e))
-    (λ s found more fixed e. alike-stood seen rigid sp zone z s (resized n s.here) (spot-is test zone s found)
+    (λ s found more nonrelocatable e. alike-stood seen rigid sp zone z s (resized n s.here) (spot-is test zone s found)
     (same_size n s.here) (omega arith) e)
     e

@@ -1,6 +1,6 @@
 use Rattle.std.proofs.Common.{◌≡◌, ℕ, ◌+◌, ◌<◌, zero, suc, true, false, List, [], ◌∷◌, ◌++◌, length, refl, ◌∙◌, ap}
 use Rattle.std.proofs.Common.{subst, arith}
-use Rattle.block_store.specs.Block.{Block, Free, Fixed, Masters, Relocatable, size, free, add, tidy, with_content}
+use Rattle.block_store.specs.Block.{Block, Free, Nonrelocatable, Masters, Relocatable, size, free, add, tidy, with_content}
 use Rattle.block_store.specs.Run.{in_run}
 
 -- each block stands apart from the next: it takes bytes, and isn't a Free one below a Free one
@@ -20,7 +20,7 @@ more-apart zero m some bs e = absurd (let z : 0 < 0 = some in omega arith)
 more-apart (suc k) m some [] e = refl
 more-apart (suc k) zero some (Free l ∷ bs) e = absurd (longer (Free zero) (Free l ∷ bs) e)
 more-apart (suc k) (suc m) some (Free l ∷ bs) e = absurd (two (Free (suc m + l)) (Free (suc m)) (Free l) bs e)
-more-apart (suc k) m some (Fixed id content ∷ bs) e = refl
+more-apart (suc k) m some (Nonrelocatable id content ∷ bs) e = refl
 more-apart (suc k) m some (Masters ∷ bs) e = refl
 more-apart (suc k) m some (Relocatable id flags content ∷ bs) e = refl
 
@@ -28,10 +28,10 @@ apart-add : (b : Block) (bs : List Block) → Apart bs → Apart (add b bs)
 apart-add (Free zero) bs a = a
 apart-add (Free (suc n)) [] a = (refl, tt)
 apart-add (Free (suc n)) (Free m ∷ bs) a = (more-apart (suc n + m) m (omega arith) bs a.0, a.1)
-apart-add (Free (suc n)) (Fixed id content ∷ bs) a = (refl, a)
+apart-add (Free (suc n)) (Nonrelocatable id content ∷ bs) a = (refl, a)
 apart-add (Free (suc n)) (Masters ∷ bs) a = (refl, a)
 apart-add (Free (suc n)) (Relocatable id flags content ∷ bs) a = (refl, a)
-apart-add (Fixed id content) bs a = (refl, a)
+apart-add (Nonrelocatable id content) bs a = (refl, a)
 apart-add Masters bs a = (refl, a)
 apart-add (Relocatable id flags content) bs a = (refl, a)
 
@@ -53,7 +53,7 @@ apart-tidied bs e = subst Apart e (apart-tidy bs)
 pub apart-size : (b : Block) (above : List Block) → add b above ≡ b ∷ above → 0 < size b
 apart-size (Free zero) above e = absurd (longer (Free zero) above e)
 apart-size (Free (suc n)) above e = omega arith
-apart-size (Fixed id content) above e = omega arith
+apart-size (Nonrelocatable id content) above e = omega arith
 apart-size Masters above e = omega arith
 apart-size (Relocatable id flags content) above e = omega arith
 
@@ -61,23 +61,23 @@ apart-size (Relocatable id flags content) above e = omega arith
 below-content : (x : List ℕ) (a b : Block) (above : List Block) → add a (b ∷ above) ≡ a ∷ b ∷ above
     → add a (with_content x b ∷ above) ≡ a ∷ with_content x b ∷ above
 below-content x a (Free n) above e = e
-below-content x (Free zero) (Fixed id content) above e = absurd (longer (Free zero) (Fixed id content ∷ above) e)
-below-content x (Free (suc n)) (Fixed id content) above e = refl
-below-content x (Fixed k old) (Fixed id content) above e = refl
-below-content x Masters (Fixed id content) above e = refl
-below-content x (Relocatable k flags old) (Fixed id content) above e = refl
+below-content x (Free zero) (Nonrelocatable id content) above e = absurd (longer (Free zero) (Nonrelocatable id content ∷ above) e)
+below-content x (Free (suc n)) (Nonrelocatable id content) above e = refl
+below-content x (Nonrelocatable k old) (Nonrelocatable id content) above e = refl
+below-content x Masters (Nonrelocatable id content) above e = refl
+below-content x (Relocatable k flags old) (Nonrelocatable id content) above e = refl
 below-content x a Masters above e = e
 below-content x (Free zero) (Relocatable id flags content) above e =
     absurd (longer (Free zero) (Relocatable id flags content ∷ above) e)
 below-content x (Free (suc n)) (Relocatable id flags content) above e = refl
-below-content x (Fixed k old) (Relocatable id flags content) above e = refl
+below-content x (Nonrelocatable k old) (Relocatable id flags content) above e = refl
 below-content x Masters (Relocatable id flags content) above e = refl
 below-content x (Relocatable k flags' old) (Relocatable id flags content) above e = refl
 
 here-content : (x : List ℕ) (b : Block) (above : List Block) → add b above ≡ b ∷ above
     → add (with_content x b) above ≡ with_content x b ∷ above
 here-content x (Free n) above e = e
-here-content x (Fixed id content) above e = refl
+here-content x (Nonrelocatable id content) above e = refl
 here-content x Masters above e = refl
 here-content x (Relocatable id flags content) above e = refl
 
@@ -85,10 +85,10 @@ here-content x (Relocatable id flags content) above e = refl
 pub apart-next : (c d : Block) (l m : List Block) → add c (d ∷ l) ≡ c ∷ d ∷ l → add c (d ∷ m) ≡ c ∷ d ∷ m
 apart-next (Free zero) d l m e = absurd (longer (Free zero) (d ∷ l) e)
 apart-next (Free (suc n)) (Free k) l m e = absurd (two (Free (suc n + k)) (Free (suc n)) (Free k) l e)
-apart-next (Free (suc n)) (Fixed id content) l m e = refl
+apart-next (Free (suc n)) (Nonrelocatable id content) l m e = refl
 apart-next (Free (suc n)) Masters l m e = refl
 apart-next (Free (suc n)) (Relocatable id flags content) l m e = refl
-apart-next (Fixed id content) d l m e = refl
+apart-next (Nonrelocatable id content) d l m e = refl
 apart-next Masters d l m e = refl
 apart-next (Relocatable id flags content) d l m e = refl
 
@@ -135,7 +135,7 @@ apart-shrunk (c ∷ d ∷ below) b m k above stands a = (
 -- a block that ends a run joins with none above it
 pub barrier-alone : (b : Block) (above : List Block) → in_run b ≡ false → add b above ≡ b ∷ above
 barrier-alone (Free n) above e = let f : true ≡ false = e in cc
-barrier-alone (Fixed id content) above e = refl
+barrier-alone (Nonrelocatable id content) above e = refl
 barrier-alone Masters above e = refl
 barrier-alone (Relocatable id flags content) above e = refl
 

@@ -2,7 +2,7 @@
 use Rattle.std.proofs.Common.{◌≡◌, ℕ, ◌+◌, ◌<◌, zero, suc, false, List, [], ◌∷◌, ◌++◌, refl, sym, ◌∙◌, ap}
 use Rattle.std.proofs.Common.{subst, arith, append_assoc}
 use Rattle.std.proofs.lemmas.Bool.{false≢true}
-use Rattle.block_store.specs.Block.{Block, Free, Fixed, Masters, Relocatable, free, add, tidy}
+use Rattle.block_store.specs.Block.{Block, Free, Nonrelocatable, Masters, Relocatable, free, add, tidy}
 use Rattle.block_store.specs.Inner.Stretch.{is_free}
 use Rattle.block_store.specs.Inner.Joining.{last_free, Closed}
 use Rattle.block_store.proofs.Zone.Apart.{Apart, longer, two, apart-next, apart-tidied, apart-tidy, tidy-apart}
@@ -13,8 +13,8 @@ add-twice : (g n : ℕ) (bs : List Block) → add (Free (suc g)) (add (Free (suc
 add-twice g n [] = let e : suc g + suc n ≡ suc (g + suc n) = omega arith in ap (λ k. Free k ∷ []) e
 add-twice g n (Free m ∷ bs) =
     let e : suc g + (suc n + m) ≡ suc (g + suc n) + m = omega arith in ap (λ k. Free k ∷ bs) e
-add-twice g n (Fixed id content ∷ bs) =
-    let e : suc g + suc n ≡ suc (g + suc n) = omega arith in ap (λ k. Free k ∷ Fixed id content ∷ bs) e
+add-twice g n (Nonrelocatable id content ∷ bs) =
+    let e : suc g + suc n ≡ suc (g + suc n) = omega arith in ap (λ k. Free k ∷ Nonrelocatable id content ∷ bs) e
 add-twice g n (Masters ∷ bs) =
     let e : suc g + suc n ≡ suc (g + suc n) = omega arith in ap (λ k. Free k ∷ Masters ∷ bs) e
 add-twice g n (Relocatable id flags content ∷ bs) =
@@ -36,7 +36,7 @@ joined-below below g n above =
 -- a block that isn't Free stands apart from any
 pub stands : (b : Block) → is_free b ≡ false → (bs : List Block) → add b bs ≡ b ∷ bs
 stands (Free n) e bs = absurd (false≢true (sym e))
-stands (Fixed id content) e bs = refl
+stands (Nonrelocatable id content) e bs = refl
 stands Masters e bs = refl
 stands (Relocatable id flags content) e bs = refl
 
@@ -55,7 +55,7 @@ closed-more (c ∷ d ∷ below) b e = closed-more (d ∷ below) b e
 free-one : (g : ℕ) (b : Block) → is_free b ≡ false → Apart (free g ++ b ∷ [])
 free-one zero b e = (stands b e [], tt)
 free-one (suc g) (Free n) e = absurd (false≢true (sym e))
-free-one (suc g) (Fixed id content) e = (refl, (refl, tt))
+free-one (suc g) (Nonrelocatable id content) e = (refl, (refl, tt))
 free-one (suc g) Masters e = (refl, (refl, tt))
 free-one (suc g) (Relocatable id flags content) e = (refl, (refl, tt))
 
@@ -97,7 +97,7 @@ pub record Ending (blocks : List Block) : Type 0 where
 not_free : (b : Block) (n : ℕ) (bs : List Block) → add b (Free n ∷ bs) ≡ b ∷ Free n ∷ bs → is_free b ≡ false
 not_free (Free zero) n bs e = absurd (longer (Free zero) (Free n ∷ bs) e)
 not_free (Free (suc k)) n bs e = absurd (two (Free (suc k + n)) (Free (suc k)) (Free n) bs e)
-not_free (Fixed id content) n bs e = refl
+not_free (Nonrelocatable id content) n bs e = refl
 not_free Masters n bs e = refl
 not_free (Relocatable id flags content) n bs e = refl
 
@@ -114,7 +114,7 @@ pub ending : (blocks : List Block) → Apart blocks → Ending blocks
 ending [] a = record { lower = []; is = refl; closed = tt; apart = tt }
 ending (Free zero ∷ []) a = absurd (longer (Free zero) [] a.0)
 ending (Free (suc n) ∷ []) a = record { lower = []; is = refl; closed = tt; apart = tt }
-ending (Fixed id content ∷ []) a = record { lower = Fixed id content ∷ []; is = refl; closed = refl; apart = a }
+ending (Nonrelocatable id content ∷ []) a = record { lower = Nonrelocatable id content ∷ []; is = refl; closed = refl; apart = a }
 ending (Masters ∷ []) a = record { lower = Masters ∷ []; is = refl; closed = refl; apart = a }
 ending (Relocatable id flags content ∷ []) a =
     record { lower = Relocatable id flags content ∷ []; is = refl; closed = refl; apart = a }
@@ -126,7 +126,7 @@ ending (b ∷ c ∷ blocks) a =
 alone : (b : Block) (bs : List Block) → add b bs ≡ b ∷ bs → add b [] ≡ b ∷ []
 alone (Free zero) bs e = absurd (longer (Free zero) bs e)
 alone (Free (suc n)) bs e = refl
-alone (Fixed id content) bs e = refl
+alone (Nonrelocatable id content) bs e = refl
 alone Masters bs e = refl
 alone (Relocatable id flags content) bs e = refl
 
@@ -148,7 +148,7 @@ pub add-other : (n : ℕ) (b : Block) (above : List Block) → 0 < n → is_free
     → add (Free n) (b ∷ above) ≡ Free n ∷ b ∷ above
 add-other zero b above some e = absurd (let z : 0 < 0 = some in omega arith)
 add-other (suc n) (Free m) above some e = absurd (false≢true (sym e))
-add-other (suc n) (Fixed id content) above some e = refl
+add-other (suc n) (Nonrelocatable id content) above some e = refl
 add-other (suc n) Masters above some e = refl
 add-other (suc n) (Relocatable id flags content) above some e = refl
 

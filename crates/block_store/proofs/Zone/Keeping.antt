@@ -9,7 +9,7 @@ use Rattle.block_store.specs.Run.{low, RunSpot}
 use Rattle.block_store.specs.Inner.Packing.{Loose}
 use Rattle.block_store.specs.Room.{Spot, spot, filled, place, put_in_place, put_at_base, lowest_purged, purge}
 use Rattle.block_store.specs.Room.{may_be_purged, room}
-use Rattle.block_store.specs.Grow.{growth, taken, taken_low, grow_up, grow_fixed, freed, move_away, grow_last}
+use Rattle.block_store.specs.Grow.{growth, taken, taken_low, grow_up, grow_nonrelocatable, freed, move_away, grow_last}
 use Rattle.block_store.specs.Grow.{grow_mover, grow}
 use Rattle.block_store.specs.Compact.{settled_runs, settled}
 use Rattle.block_store.proofs.Zone.Tidy.{total-tidy, spot-is, spot-passes}
@@ -462,7 +462,7 @@ module _ (of : Block → ℕ) (none : (n : ℕ) → of (Free n) ≡ 0) (test : B
         first s found (inr e) = second s (or-some (move_away test new zone) _ z e)
 
     stood : (sp : Block → Bool) (zone z : List Block) (s : Spot) (new : Block) → spot test zone ≡ Some s
-        → count test zone ≤ 1 → grow_fixed sp new s ≡ Some z → total of z ≤ of new + total (unless test of) zone
+        → count test zone ≤ 1 → grow_nonrelocatable sp new s ≡ Some z → total of z ≤ of new + total (unless test of) zone
     stood sp zone z s new found once e = cases (or-some (grow_up new s) _ z e)
       where
         cases : (grow_up new s ≡ Some z) ⊎ (option_map (λ above. s.below ++ new ∷ above)
@@ -487,7 +487,7 @@ module _ (of : Block → ℕ) (none : (n : ℕ) → of (Free n) ≡ 0) (test : B
         let p = purged-le (unless test of) (unless-free test of none) k sp zone in
         let m = moved-le (purge k sp zone) z (resized n s'.here) (omega arith) e in
         the s' found' (omega arith))
-        (λ s' found' more fixed e. the s' found' (stood sp zone z s' (resized n s'.here) found' once e))
+        (λ s' found' more nonrelocatable e. the s' found' (stood sp zone z s' (resized n s'.here) found' once e))
         e
       where
         the : (s' : Spot) → spot test zone ≡ Some s' → total of z ≤ of (resized n s'.here) + total (unless test of) zone

@@ -3,7 +3,7 @@ use Rattle.std.proofs.Common.{sym, ◌∙◌, ap, cond, arith, ◌⊎◌, inl, i
 use Rattle.std.proofs.lemmas.Bool.{cond-false, cases_eq, false_from_ne_true, or_parts}
 use Rattle.std.proofs.lemmas.Bool.Decides.{Decides-eqb}
 use Rattle.mac_words.specs.Size.{padded}
-use Rattle.block_store.specs.Block.{Block, Free, Fixed, Masters, Relocatable, size, sizes, total, count, tidy}
+use Rattle.block_store.specs.Block.{Block, Free, Nonrelocatable, Masters, Relocatable, size, sizes, total, count, tidy}
 use Rattle.block_store.specs.Block.{is_relocatable, is_masters, with_content}
 use Rattle.block_store.specs.Run.{has}
 use Rattle.block_store.specs.Grow.{freed}
@@ -94,7 +94,7 @@ masters-released number bs = total-tidy (λ (b : Block). cond (is_masters b) 1 0
   where
     one : (b : Block) → is_masters (cond (is_relocatable number b) (Free (size b)) b) ≡ is_masters b
     one (Free n) = refl
-    one (Fixed id content) = refl
+    one (Nonrelocatable id content) = refl
     one Masters = refl
     one (Relocatable id flags content) = elim (id == number) as
         (λ t. is_masters (cond t (Free (padded (length content))) (Relocatable id flags content)) ≡ false)
@@ -152,13 +152,13 @@ leads-carved slots number below above b new left zone same is used none leads k 
 -- another content leaves the counts
 pub is_relocatable-content : (k : ℕ) (x : List ℕ) (b : Block) → is_relocatable k (with_content x b) ≡ is_relocatable k b
 is_relocatable-content k x (Free n) = refl
-is_relocatable-content k x (Fixed id content) = refl
+is_relocatable-content k x (Nonrelocatable id content) = refl
 is_relocatable-content k x Masters = refl
 is_relocatable-content k x (Relocatable id flags content) = refl
 
 pub is_masters-content : (x : List ℕ) (b : Block) → is_masters (with_content x b) ≡ is_masters b
 is_masters-content x (Free n) = refl
-is_masters-content x (Fixed id content) = refl
+is_masters-content x (Nonrelocatable id content) = refl
 is_masters-content x Masters = refl
 is_masters-content x (Relocatable id flags content) = refl
 
@@ -186,6 +186,6 @@ masters-few (b ∷ bs) = let r = masters-few bs in let o = one b in omega arith
   where
     one : (b : Block) → 64 * cond (is_masters b) 1 0 ≤ size b
     one (Free n) = omega arith
-    one (Fixed id content) = omega arith
+    one (Nonrelocatable id content) = omega arith
     one Masters = omega arith
     one (Relocatable id flags content) = omega arith

@@ -6,7 +6,7 @@ use Rattle.std.proofs.lemmas.List.{take-append-drop}
 use Rattle.std.proofs.lemmas.Bool.{cond-true, cond-false}
 use Rattle.std.proofs.lemmas.Bool.Decides.{nat_tests}
 use Rattle.std.specs.Option.{option_map}
-use Rattle.block_store.specs.Block.{Block, Free, Fixed, Masters, Relocatable, size, sizes, free_sum, free_of, add, tidy}
+use Rattle.block_store.specs.Block.{Block, Free, Nonrelocatable, Masters, Relocatable, size, sizes, free_sum, free_of, add, tidy}
 use Rattle.block_store.specs.Block.{tidy_top}
 use Rattle.block_store.specs.Room.{Spot, spot, raised, spot_at}
 use Rattle.block_store.specs.declared.entries.StoredBlock.{StoredBlock}
@@ -116,7 +116,7 @@ nth_spot-at (suc i) (x ∷ bs) b above is = ap (option_map (raised x)) (nth_spot
 pub add-not_free : (e : StoredBlock) (above : List Block) → ((n : ℕ) → e ≡ entry.Free n → ⊥)
     → add (block_of e) above ≡ block_of e ∷ above
 add-not_free (entry.Free n) above never = absurd (never n refl)
-add-not_free (entry.Fixed place content) above never = refl
+add-not_free (entry.Nonrelocatable place content) above never = refl
 add-not_free entry.Masters above never = refl
 add-not_free (entry.Relocatable slot flags content) above never = refl
 
@@ -128,7 +128,7 @@ pub add-free_other : (n : ℕ) (e : StoredBlock) (above : List Block) → (n ≡
     → add (Free n) (block_of e ∷ above) ≡ Free n ∷ block_of e ∷ above
 add-free_other zero e above some never = absurd (some refl)
 add-free_other (suc n) (entry.Free m) above some never = absurd (never m refl)
-add-free_other (suc n) (entry.Fixed place content) above some never = refl
+add-free_other (suc n) (entry.Nonrelocatable place content) above some never = refl
 add-free_other (suc n) entry.Masters above some never = refl
 add-free_other (suc n) (entry.Relocatable slot flags content) above some never = refl
 
@@ -207,7 +207,7 @@ free-more es i e within is = ap free_sum (take-blocks es i e within is)
 
 pub free_of-le : (b : Block) → free_of b ≤ size b
 free_of-le (Free n) = omega arith
-free_of-le (Fixed id content) = omega arith
+free_of-le (Nonrelocatable id content) = omega arith
 free_of-le Masters = omega arith
 free_of-le (Relocatable id flags content) = omega arith
 
@@ -222,7 +222,7 @@ free-le es i e within is =
 
 pub free_of-not_free : (e : StoredBlock) → ((n : ℕ) → e ≡ entry.Free n → ⊥) → free_of (block_of e) ≡ 0
 free_of-not_free (entry.Free n) never = absurd (never n refl)
-free_of-not_free (entry.Fixed place content) never = refl
+free_of-not_free (entry.Nonrelocatable place content) never = refl
 free_of-not_free entry.Masters never = refl
 free_of-not_free (entry.Relocatable slot flags content) never = refl
 

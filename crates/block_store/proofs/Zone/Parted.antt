@@ -3,7 +3,7 @@ use Rattle.std.proofs.Common.{◌∙◌, ap, arith, Some, nat_le}
 use Rattle.std.proofs.lemmas.Bool.{cond-true, cond-false}
 use Rattle.std.proofs.lemmas.Bool.Decides.{nat_tests}
 use Rattle.std.specs.Option.{option_map}
-use Rattle.block_store.specs.Block.{Block, Free, Fixed, Masters, Relocatable, size, sizes, add, tidy}
+use Rattle.block_store.specs.Block.{Block, Free, Nonrelocatable, Masters, Relocatable, size, sizes, add, tidy}
 use Rattle.block_store.specs.Room.{raised, spot_at}
 use Rattle.block_store.specs.Inner.Stretch.{is_free}
 use Rattle.block_store.proofs.Zone.Apart.{Apart, apart-above, apart-next, apart-size, apart-tidied, longer, tidy-apart}
@@ -13,7 +13,7 @@ use Rattle.block_store.proofs.Zone.Apart.{Apart, apart-above, apart-next, apart-
 -- such a block joins with none above it
 add-solid : (b : Block) (bs : List Block) → is_free b ≡ false → add b bs ≡ b ∷ bs
 add-solid (Free n) bs e = let f : true ≡ false = e in cc
-add-solid (Fixed id content) bs e = refl
+add-solid (Nonrelocatable id content) bs e = refl
 add-solid Masters bs e = refl
 add-solid (Relocatable id flags content) bs e = refl
 
@@ -22,14 +22,14 @@ add-before : (c : Block) (below : List Block) (b : Block) (above : List Block) �
     → add c (below ++ b ∷ above) ≡ add c below ++ b ∷ above
 add-before (Free zero) below b above e = refl
 add-before (Free (suc n)) [] (Free m) above e = let f : true ≡ false = e in cc
-add-before (Free (suc n)) [] (Fixed id content) above e = refl
+add-before (Free (suc n)) [] (Nonrelocatable id content) above e = refl
 add-before (Free (suc n)) [] Masters above e = refl
 add-before (Free (suc n)) [] (Relocatable id flags content) above e = refl
 add-before (Free (suc n)) (Free m ∷ below) b above e = refl
-add-before (Free (suc n)) (Fixed id content ∷ below) b above e = refl
+add-before (Free (suc n)) (Nonrelocatable id content ∷ below) b above e = refl
 add-before (Free (suc n)) (Masters ∷ below) b above e = refl
 add-before (Free (suc n)) (Relocatable id flags content ∷ below) b above e = refl
-add-before (Fixed id content) below b above e = refl
+add-before (Nonrelocatable id content) below b above e = refl
 add-before Masters below b above e = refl
 add-before (Relocatable id flags content) below b above e = refl
 
@@ -48,7 +48,7 @@ apart-below (c ∷ []) above a = (alone c above a.0, tt)
     alone : (c : Block) (bs : List Block) → add c bs ≡ c ∷ bs → add c [] ≡ c ∷ []
     alone (Free zero) bs e = absurd (longer (Free zero) bs e)
     alone (Free (suc n)) bs e = refl
-    alone (Fixed id content) bs e = refl
+    alone (Nonrelocatable id content) bs e = refl
     alone Masters bs e = refl
     alone (Relocatable id flags content) bs e = refl
 apart-below (c ∷ d ∷ below) above a = (

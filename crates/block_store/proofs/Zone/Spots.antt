@@ -9,7 +9,7 @@ use Rattle.std.specs.Bool.{IsTrue}
 use Rattle.std.proofs.lemmas.List.{set_split, map-append, take-map, drop-map, length-append, length-take, length-drop}
 use Rattle.std.proofs.lemmas.List.{set-set}
 use Rattle.mac_words.specs.Size.{padded}
-use Rattle.block_store.specs.Block.{Block, Free, Fixed, Masters, Relocatable, size, sizes, is_room, content_of}
+use Rattle.block_store.specs.Block.{Block, Free, Nonrelocatable, Masters, Relocatable, size, sizes, is_room, content_of}
 use Rattle.block_store.specs.Block.{with_content, free}
 use Rattle.windows.specs.Writes.{written}
 use Rattle.block_store.specs.Room.{Spot, spot, raised, spot_at}
@@ -92,10 +92,10 @@ from_entry es es' place i e P same found is holds =
     subst (λ (o : Option Spot). IsSomeAnd o P) (spotted ∙ nth_spot-at i (blocks_of es) (block_of e)
     (drop (i + 1) (blocks_of es)) (drop-blocks es i e within is)) holds
 
-pub content-other : (e : StoredBlock) → ((p : ℕ) (v : _) → e ≡ entry.Fixed p v → ⊥)
+pub content-other : (e : StoredBlock) → ((p : ℕ) (v : _) → e ≡ entry.Nonrelocatable p v → ⊥)
     → ((n : ℕ) (f : Flags) (v : _) → e ≡ entry.Relocatable n f v → ⊥) → [] ≡ content_of (block_of e)
 content-other (entry.Free n) a b = refl
-content-other (entry.Fixed p v) a b = absurd (a p v refl)
+content-other (entry.Nonrelocatable p v) a b = absurd (a p v refl)
 content-other entry.Masters a b = refl
 content-other (entry.Relocatable n f v) a b = absurd (b n f v refl)
 
@@ -124,7 +124,7 @@ changed-at es now place i e seen left w f same found taken is made =
 
 pub size-content : (x : List ℕ) (b : Block) → length x ≡ length (content_of b) → size (with_content x b) ≡ size b
 size-content x (Free n) same = refl
-size-content x (Fixed id content) same = ap padded same
+size-content x (Nonrelocatable id content) same = ap padded same
 size-content x Masters same = refl
 size-content x (Relocatable id flags content) same = ap padded same
 
@@ -143,7 +143,7 @@ sizes-same below above b c same = omega (
 
 pub room-size : (p : ℕ) (b : Block) → is_room p b ≡ true → p ≤ size b
 room-size p (Free n) e = grind (arith, nat_tests)
-room-size p (Fixed id content) e = let f : false ≡ true = e in cc
+room-size p (Nonrelocatable id content) e = let f : false ≡ true = e in cc
 room-size p Masters e = let f : false ≡ true = e in cc
 room-size p (Relocatable id flags content) e = let f : false ≡ true = e in cc
 

@@ -3,13 +3,13 @@ use Rattle.std.proofs.Common.{sym, ap, cond, arith, Option, Some, filter, ◌⊎
 use Rattle.std.proofs.lemmas.Bool.{cond-true, and_parts}
 use Rattle.std.proofs.lemmas.Option.{option_and_then_some}
 use Rattle.std.specs.Option.{option_map, option_or}
-use Rattle.block_store.specs.Block.{Block, Free, Fixed, Masters, Relocatable, size, total, count, free, free_sum}
+use Rattle.block_store.specs.Block.{Block, Free, Nonrelocatable, Masters, Relocatable, size, total, count, free, free_sum}
 use Rattle.block_store.specs.Block.{is_mover, is_room, is_purgeable, resized, tidy}
 use Rattle.block_store.specs.Run.{in_run, Stretch, segments, joined, change_run, has_free, movers, others, settle}
 use Rattle.block_store.specs.Run.{high, low}
 use Rattle.block_store.specs.Room.{Spot, spot, filled, place, put_in_place, put_at_base, lowest_purged, purge}
 use Rattle.block_store.specs.Room.{may_be_purged, room}
-use Rattle.block_store.specs.Grow.{growth, taken, taken_low, grow_up, grow_fixed, move_away, grow_last}
+use Rattle.block_store.specs.Grow.{growth, taken, taken_low, grow_up, grow_nonrelocatable, move_away, grow_last}
 use Rattle.block_store.specs.Grow.{grow_mover, grow}
 use Rattle.block_store.specs.Compact.{settled_runs, settled}
 use Rattle.block_store.proofs.Zone.Tidy.{spot-is, spot-passes}
@@ -42,7 +42,7 @@ module _ (of : Block → ℕ) (none : (n : ℕ) → of (Free n) ≡ 0)
     movers-all : (run : List Block) → OneRun run → total of (movers run) ≡ total of run
     movers-all [] one = refl
     movers-all (Free n ∷ run) one = let r = movers-all run (omega arith) in omega (arith, none n)
-    movers-all (Fixed id content ∷ run) one = absurd (omega arith)
+    movers-all (Nonrelocatable id content ∷ run) one = absurd (omega arith)
     movers-all (Masters ∷ run) one = absurd (omega arith)
     movers-all (Relocatable id flags content ∷ run) one = cases flags.locked one (λ le. movers-all run le)
       where
@@ -66,7 +66,7 @@ module _ (of : Block → ℕ) (none : (n : ℕ) → of (Free n) ≡ 0)
             ≡ of (Free n) + total of run
         cases true r = omega arith
         cases false r = omega (arith, none n)
-    parted-all t (Fixed id content ∷ run) one = absurd (omega arith)
+    parted-all t (Nonrelocatable id content ∷ run) one = absurd (omega arith)
     parted-all t (Masters ∷ run) one = absurd (omega arith)
     parted-all t (Relocatable id flags content ∷ run) one = cases flags.locked (t b) one (λ le. parted-all t run le)
       where
@@ -143,7 +143,7 @@ module _ (of : Block → ℕ) (none : (n : ℕ) → of (Free n) ≡ 0)
       where
         here : (b : Block) → is_room p b ≡ true → of b ≡ 0
         here (Free n) e = none n
-        here (Fixed id content) e = let f : false ≡ true = e in cc
+        here (Nonrelocatable id content) e = let f : false ≡ true = e in cc
         here Masters e = let f : false ≡ true = e in cc
         here (Relocatable id flags content) e = let f : false ≡ true = e in cc
 
@@ -203,7 +203,7 @@ module _ (of : Block → ℕ) (none : (n : ℕ) → of (Free n) ≡ 0)
       where
         here : (b : Block) → is_room d b ≡ true → of b ≡ 0
         here (Free n) e = none n
-        here (Fixed id content) e = let f : false ≡ true = e in cc
+        here (Nonrelocatable id content) e = let f : false ≡ true = e in cc
         here Masters e = let f : false ≡ true = e in cc
         here (Relocatable id flags content) e = let f : false ≡ true = e in cc
 
@@ -283,7 +283,7 @@ module _ (of : Block → ℕ) (none : (n : ℕ) → of (Free n) ≡ 0) (goes : (
         ))
 
     stood-all : (sp : Block → Bool) (zone z : List Block) (s : Spot) (new : Block) → zone ≡ s.below ++ s.here ∷ s.above
-        → of s.here ≤ of new → grow_fixed sp new s ≡ Some z → total of zone ≤ total of z
+        → of s.here ≤ of new → grow_nonrelocatable sp new s ≡ Some z → total of zone ≤ total of z
     stood-all sp zone z s new is same e = cases (or-some (grow_up new s) _ z e)
       where
         cases : (grow_up new s ≡ Some z) ⊎ (option_map (λ above. s.below ++ new ∷ above)
@@ -377,6 +377,6 @@ grown-all of none goes sized test sp n zone z once e =
     let w = whole of none test zone s found (once s found mover) in
     let same = sized n s.here in
     omega arith)
-    (λ s found more fixed e. let same = sized n s.here in stood-all of none goes sp zone z s (resized n s.here)
+    (λ s found more nonrelocatable e. let same = sized n s.here in stood-all of none goes sp zone z s (resized n s.here)
     (spot-is test zone s found) (omega arith) e)
     e

@@ -1,6 +1,6 @@
 use Rattle.std.proofs.Common.{◌≡◌, ℕ, ◌+◌, zero, suc, Bool, true, false, ◌||◌, ◌==◌, List, [], ◌∷◌, ◌++◌, refl, sym}
 use Rattle.std.proofs.Common.{◌∙◌, ap, cond, arith, Option, Some, None}
-use Rattle.block_store.specs.Block.{Block, Free, Fixed, Masters, Relocatable, size, total, rename, add, tidy}
+use Rattle.block_store.specs.Block.{Block, Free, Nonrelocatable, Masters, Relocatable, size, total, rename, add, tidy}
 use Rattle.block_store.specs.Block.{is_relocatable}
 use Rattle.block_store.specs.Run.{has}
 use Rattle.block_store.specs.Room.{Spot, spot, raised}
@@ -20,10 +20,10 @@ pub add-joined : {A : Type 0} (of : List Block → A) → ((bs : List Block) →
 add-joined of none joined (Free zero) bs = sym (none bs)
 add-joined of none joined (Free (suc n)) [] = refl
 add-joined of none joined (Free (suc n)) (Free m ∷ bs) = joined (suc n) m bs
-add-joined of none joined (Free (suc n)) (Fixed id content ∷ bs) = refl
+add-joined of none joined (Free (suc n)) (Nonrelocatable id content ∷ bs) = refl
 add-joined of none joined (Free (suc n)) (Masters ∷ bs) = refl
 add-joined of none joined (Free (suc n)) (Relocatable id flags content ∷ bs) = refl
-add-joined of none joined (Fixed id content) bs = refl
+add-joined of none joined (Nonrelocatable id content) bs = refl
 add-joined of none joined Masters bs = refl
 add-joined of none joined (Relocatable id flags content) bs = refl
 
@@ -67,7 +67,7 @@ pub rename-unless : (f f' g : ℕ → ℕ) (id : ℕ) → ((k : ℕ) → (k == i
     → has (is_relocatable id) bs ≡ false → rename f' g bs ≡ rename f g bs
 rename-unless f f' g id same [] none = refl
 rename-unless f f' g id same (Free n ∷ bs) none = ap (λ l. Free n ∷ l) (rename-unless f f' g id same bs none)
-rename-unless f f' g id same (Fixed k content ∷ bs) none = ap (λ l. Fixed (g k) content ∷ l)
+rename-unless f f' g id same (Nonrelocatable k content ∷ bs) none = ap (λ l. Nonrelocatable (g k) content ∷ l)
     (rename-unless f f' g id same bs none)
 rename-unless f f' g id same (Masters ∷ bs) none = ap (λ l. Masters ∷ l) (rename-unless f f' g id same bs none)
 rename-unless f f' g id same (Relocatable k flags content ∷ bs) none =
@@ -75,8 +75,8 @@ rename-unless f f' g id same (Relocatable k flags content ∷ bs) none =
     rw (same k parts.0) (ap (λ l. Relocatable (f k) flags content ∷ l) (rename-unless f f' g id same bs parts.1))
 
 -- names of pointers that blocks don't have
-pub rename_fixed-unless : (f g g' : ℕ → ℕ) → ((k : ℕ) → g' k ≡ g k) → (bs : List Block) → rename f g' bs ≡ rename f g bs
-rename_fixed-unless f g g' same bs = ap (λ h. rename f h bs) (λ i k. same k i)
+pub rename_nonrelocatable-unless : (f g g' : ℕ → ℕ) → ((k : ℕ) → g' k ≡ g k) → (bs : List Block) → rename f g' bs ≡ rename f g bs
+rename_nonrelocatable-unless f g g' same bs = ap (λ h. rename f h bs) (λ i k. same k i)
 
 -- a spot is a way to see the zone
 pub spot-is : (test : Block → Bool) (bs : List Block) (s : Spot) → spot test bs ≡ Some s

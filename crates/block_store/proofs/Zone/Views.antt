@@ -14,7 +14,7 @@ use Rattle.block_store.proofs.Regroup.RunLists.{segments-loose, run_spot-parts}
 use Rattle.block_store.proofs.Regroup.RunSpots.{run_spot-passes}
 use Rattle.block_store.proofs.Plain.Trials.{least-found}
 use Rattle.block_store.specs.Inner.Packing.{Loose}
-use Rattle.block_store.specs.Grow.{taken, taken_low, grow_mover, grow_fixed, grow_at, grow}
+use Rattle.block_store.specs.Grow.{taken, taken_low, grow_mover, grow_nonrelocatable, grow_at, grow}
 use Rattle.block_store.specs.Compact.{beyond}
 
 -- What was found, as a way to see the zone it was found in.
@@ -103,23 +103,23 @@ pub grow-some : (test spared : Block → Bool) (n : ℕ) (zone z : List Block) (
     → ((s : Spot) (k : ℕ) → spot test zone ≡ Some s → size s.here < size (resized n s.here) → is_mover s.here ≡ true
     → grow_mover test (resized n s.here) (purge k spared zone) ≡ Some z → R)
     → ((s : Spot) → spot test zone ≡ Some s → size s.here < size (resized n s.here) → is_mover s.here ≡ false
-    → grow_fixed spared (resized n s.here) s ≡ Some z → R)
+    → grow_nonrelocatable spared (resized n s.here) s ≡ Some z → R)
     → grow test spared n zone ≡ Some z → R
-grow-some test spared n zone z R cut moved fixed e =
+grow-some test spared n zone z R cut moved nonrelocatable e =
     option_and_then_some (λ s. grow_at test spared (resized n s.here) zone s) (spot test zone) z e
     (λ s found is. by_size s found (nat_le (size (resized n s.here)) (size s.here)) refl is)
   where
     by_kind : (s : Spot) → spot test zone ≡ Some s → size s.here < size (resized n s.here) → (u : Bool)
         → is_mover s.here ≡ u
-        → cond u (room (grow_mover test (resized n s.here)) spared zone) (grow_fixed spared (resized n s.here) s)
+        → cond u (room (grow_mover test (resized n s.here)) spared zone) (grow_nonrelocatable spared (resized n s.here) s)
         ≡ Some z → R
     by_kind s found more true u is = let r = room-some (grow_mover test (resized n s.here)) spared zone z is in
         moved s r.0 found more u r.1
-    by_kind s found more false u is = fixed s found more u is
+    by_kind s found more false u is = nonrelocatable s found more u is
 
     by_size : (s : Spot) → spot test zone ≡ Some s → (t : Bool) → nat_le (size (resized n s.here)) (size s.here) ≡ t
         → cond t (Some (filled (resized n s.here) s)) (cond (is_mover s.here)
-        (room (grow_mover test (resized n s.here)) spared zone) (grow_fixed spared (resized n s.here) s)) ≡ Some z
+        (room (grow_mover test (resized n s.here)) spared zone) (grow_nonrelocatable spared (resized n s.here) s)) ≡ Some z
         → R
     by_size s found true t is = cut s found (leb-true (size (resized n s.here)) (size s.here) t)
         (sym (same_Some _ _ is))

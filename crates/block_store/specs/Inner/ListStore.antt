@@ -1,7 +1,7 @@
 use Rattle.std.specs.Prelude.{ℕ, Bool, true, false, Option, Some, None, List, [], ◌∷◌, map, slice_get, zero, suc}
 use Rattle.std.specs.Prelude.{if◌then◌else◌}
 use Rattle.std.specs.Option.{option_map}
-use Rattle.block_store.specs.Block.{Block, Free, Fixed, Masters, Relocatable, size}
+use Rattle.block_store.specs.Block.{Block, Free, Nonrelocatable, Masters, Relocatable, size}
 use Rattle.block_store.specs.Room.{Spot, raised}
 use Rattle.block_store.specs.Slot.{Slot, NoSlot, Unused, Used}
 use Rattle.block_store.specs.declared.entries.StoredBlock.{StoredBlock}
@@ -14,7 +14,7 @@ use Rattle.block_store.specs.declared.slots.SlotEntry.TheVariants as slot_entry
 -- The block that an entry stands for.
 abbrev pub block_of : StoredBlock → Block
 block_of (entry.Free n) = Free n
-block_of (entry.Fixed place content) = Fixed place content.items
+block_of (entry.Nonrelocatable place content) = Nonrelocatable place content.items
 block_of entry.Masters = Masters
 block_of (entry.Relocatable slot flags content) = Relocatable slot flags content.items
 

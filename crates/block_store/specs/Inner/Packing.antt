@@ -1,5 +1,5 @@
 use Rattle.std.specs.Prelude.{◌≡◌, ℕ, ◌-◌, true, List, [], ◌∷◌, ◌++◌, take, drop}
-use Rattle.block_store.specs.Block.{Block, Free, Fixed, Masters, Relocatable, free, free_sum}
+use Rattle.block_store.specs.Block.{Block, Free, Nonrelocatable, Masters, Relocatable, free, free_sum}
 use Rattle.block_store.specs.Run.{RunSpot, segments, in_run, movers}
 use Rattle.block_store.specs.Compact.{beyond}
 
@@ -13,7 +13,7 @@ Loose (b ∷ run) = (in_run b ≡ true) × Loose run
 -- The block, with its bytes taken where it is a free block.
 abbrev pub cleared : Block → Block
 cleared (Free n) = Free 0
-cleared (Fixed id content) = Fixed id content
+cleared (Nonrelocatable id content) = Nonrelocatable id content
 cleared Masters = Masters
 cleared (Relocatable id flags content) = Relocatable id flags content
 

@@ -1,6 +1,6 @@
 use Rattle.std.specs.Prelude.{ℕ, ◌+◌, zero, suc, Bool, true, false, ◌&&◌, ◌||◌, ◌==◌, Option, Some, None, List, [], ◌∷◌}
 use Rattle.std.specs.Prelude.{if◌then◌else◌, nat_le}
-use Rattle.block_store.specs.Block.{Block, Free, Fixed, Masters, Relocatable, size, free_of}
+use Rattle.block_store.specs.Block.{Block, Free, Nonrelocatable, Masters, Relocatable, size, free_of}
 use Rattle.block_store.specs.Run.{in_run, has, has_free}
 use Rattle.block_store.specs.Room.{may_be_purged}
 use Rattle.block_store.specs.declared.run_search.RunScan.{RunScan}
@@ -15,7 +15,7 @@ is_number (Some number) id = id == number
 -- The block is that of the given master pointer, which the run must have.
 abbrev pub is_wanted : Option ℕ → Block → Bool
 is_wanted number (Free n) = false
-is_wanted number (Fixed id content) = false
+is_wanted number (Nonrelocatable id content) = false
 is_wanted number Masters = false
 is_wanted number (Relocatable id flags content) = is_number number id
 
@@ -35,7 +35,7 @@ suits number p run = meets number run && has_free p run
 -- The run has the block that it must have, where `met` says this of the blocks before this one.
 abbrev pub met_after : Option ℕ → Bool → Block → Bool
 met_after number met (Free n) = met
-met_after number met (Fixed id content) = met
+met_after number met (Nonrelocatable id content) = met
 met_after number met Masters = met
 met_after number met (Relocatable id flags content) = met || is_number number id
 

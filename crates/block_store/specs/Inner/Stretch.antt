@@ -1,6 +1,6 @@
 use Rattle.std.specs.Prelude.{ℕ, ◌+◌, zero, suc, Bool, true, false, ◌&&◌, ◌||◌, ◌==◌, Option, Some, None, List, [], ◌∷◌}
 use Rattle.std.specs.Prelude.{if◌then◌else◌, nat_le, nat_lt}
-use Rattle.block_store.specs.Block.{Block, Free, Fixed, Masters, Relocatable, size, is_relocatable}
+use Rattle.block_store.specs.Block.{Block, Free, Nonrelocatable, Masters, Relocatable, size, is_relocatable}
 use Rattle.block_store.specs.Room.{may_be_purged}
 use Rattle.block_store.specs.declared.sparing.Sparing.{Sparing}
 use Rattle.block_store.specs.declared.sparing.Sparing.TheVariants as sparing
@@ -10,7 +10,7 @@ use Rattle.block_store.specs.declared.stretch.RoomScan.{RoomScan}
 
 abbrev pub is_free : Block → Bool
 is_free (Free n) = true
-is_free (Fixed id content) = false
+is_free (Nonrelocatable id content) = false
 is_free Masters = false
 is_free (Relocatable id flags content) = false
 

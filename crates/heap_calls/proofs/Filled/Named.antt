@@ -25,7 +25,7 @@ use Rattle.heap_calls.specs.Inside.{new_filled}
 use Rattle.heap_calls.specs.Inner.Filling.{IsFilled, IsFilling}
 use Rattle.heap_calls.specs.Inner.NewBlock.{IsNewBlock, HasNoRoom}
 use Rattle.heap_calls.specs.Inner.NewSlot.{zone_slotted}
-use Rattle.heap_calls.specs.Inner.Numbered.{state_of, name_of, handle_number, pointer_number, KeepsFixed, Agrees}
+use Rattle.heap_calls.specs.Inner.Numbered.{state_of, name_of, handle_number, pointer_number, KeepsNonrelocatable, Agrees}
 use Rattle.heap_calls.proofs.Numbering.Changing.{es', number-now, zone-kept, handle-given, agrees-now, agrees-kept}
 use Rattle.heap_calls.proofs.Numbering.Changing.{kept}
 use Rattle.heap_calls.proofs.NewBlocks.Naming.{Names}
@@ -82,7 +82,7 @@ module _ {before : List Block} (zone : List Block) (rest rest' : Rest) (es : Lis
             ∙ ap (option_map (rename f g)) done
 
 module _ (zone : List Block) (rest : Rest) (es : List Anchor) (masters : rest.all ≡ 64 * count is_masters zone)
-    (agrees : Agrees zone rest es) (zone' : List Block) (rest' : Rest) (fixed : KeepsFixed zone zone')
+    (agrees : Agrees zone rest es) (zone' : List Block) (rest' : Rest) (nonrelocatable : KeepsNonrelocatable zone zone')
     (flags : Flags) (x : List ℕ)
   where
     abbrev old : State
@@ -125,13 +125,13 @@ module _ (zone : List Block) (rest : Rest) (es : List Anchor) (masters : rest.al
     filled-refused (inl none) = (
       with_slot None none.0 ∙ ap (λ (t : State). refused {T = ℕ} MEM_FULL t)
           (sym (ap (λ z. state_of z rest'.slots es) none.1 ∙ state-kept zone rest rest' es none.2)),
-      agrees-kept zone zone' rest rest' es agrees fixed none.2,
+      agrees-kept zone zone' rest rest' es agrees nonrelocatable none.2,
       none.2.window,
     )
     filled-refused (inr only) = (
       with_slot (Some zone') only.0 ∙ no_block only.2.0 only.2.1 rest.slots
           ∙ ap (λ (t : State). refused {T = ℕ} MEM_FULL t) (sym (state-more zone' rest rest' es agrees only.1)),
-      agrees-more zone' rest rest' es agrees fixed only.1,
+      agrees-more zone' rest rest' es agrees nonrelocatable only.1,
       only.1.window,
     )
 
@@ -140,7 +140,7 @@ module _ (zone : List Block) (rest : Rest) (es : List Anchor) (masters : rest.al
       then_agrees =
           let q = p.put in
           agrees-now q.ready q.more p.mid es slot (agrees-more zone rest q.more es agrees (λ k. refl) q.has_more)
-          q.was q.slots.slots q.one q.slots.all q.none zone' fixed
+          q.was q.slots.slots q.one q.slots.all q.none zone' nonrelocatable
 
       filled-agrees : Agrees zone' rest' (with_handle es slot)
       filled-agrees = agrees-kept zone' zone' p.mid rest' (with_handle es slot) then_agrees (λ k. refl)

@@ -11,8 +11,8 @@ use Rattle.mac_words.specs.Size.{padded}
 use Rattle.windows.specs.Writes.{written}
 use Rattle.block_store.specs.declared.flags.Flags.{Flags}
 use Rattle.block_store.specs.declared.sparing.Sparing.{Sparing}
-use Rattle.block_store.specs.Block.{Block, Free, Fixed, Masters, Relocatable, size, count, add, tidy, is_relocatable}
-use Rattle.block_store.specs.Block.{is_fixed, no_flags, content_of, with_content}
+use Rattle.block_store.specs.Block.{Block, Free, Nonrelocatable, Masters, Relocatable, size, count, add, tidy, is_relocatable}
+use Rattle.block_store.specs.Block.{is_nonrelocatable, no_flags, content_of, with_content}
 use Rattle.block_store.specs.Seen.{with_flags}
 use Rattle.block_store.specs.Run.{has}
 use Rattle.block_store.specs.Room.{Spot, spot, spot_at, raised, filled, room, put_in_place}
@@ -26,11 +26,11 @@ use Rattle.block_store.proofs.Purged.Sparing.{filter-tidy, spot-lowest, lowest, 
 use Rattle.heap_calls.specs.Inner.Search.{placement}
 use Rattle.heap_calls.specs.Inner.NewBlock.{fresh_block, zone_with_block}
 use Rattle.heap_calls.specs.Inner.Filling.{IsFresh, IsReplaced}
-use Rattle.heap_calls.specs.Inner.Numbered.{KeepsFixed}
+use Rattle.heap_calls.specs.Inner.Numbered.{KeepsNonrelocatable}
 use Rattle.heap_calls.proofs.Numbering.Numbers.{leads_to-same}
-use Rattle.heap_calls.proofs.Numbering.Changing.{fixed-at}
+use Rattle.heap_calls.proofs.Numbering.Changing.{nonrelocatable-at}
 use Rattle.heap_calls.proofs.Room.Placements.{room-placement}
-use Rattle.heap_calls.proofs.Room.Staying.{fixed-spot, fixed-same, fixed-then}
+use Rattle.heap_calls.proofs.Room.Staying.{nonrelocatable-spot, nonrelocatable-same, nonrelocatable-then}
 
 -- A new block that gets flags and bytes of its own is as one that was put in its place with them.
 
@@ -43,7 +43,7 @@ add-replaced : (slot : ℕ) (flags : Flags) (x : List ℕ) (b : Block) (bs : Lis
 add-replaced slot flags x (Free zero) bs = refl
 add-replaced slot flags x (Free (suc n)) [] = refl
 add-replaced slot flags x (Free (suc n)) (Free m ∷ bs) = refl
-add-replaced slot flags x (Free (suc n)) (Fixed id content ∷ bs) = refl
+add-replaced slot flags x (Free (suc n)) (Nonrelocatable id content ∷ bs) = refl
 add-replaced slot flags x (Free (suc n)) (Masters ∷ bs) = refl
 add-replaced slot flags x (Free (suc n)) (Relocatable id old content ∷ bs) = cases (id == slot)
   where
@@ -53,7 +53,7 @@ add-replaced slot flags x (Free (suc n)) (Relocatable id old content ∷ bs) = c
         ∷ map (replaced slot flags x) bs
     cases true = refl
     cases false = refl
-add-replaced slot flags x (Fixed id content) bs = refl
+add-replaced slot flags x (Nonrelocatable id content) bs = refl
 add-replaced slot flags x Masters bs = refl
 add-replaced slot flags x (Relocatable id old content) bs = cases (id == slot)
   where
@@ -253,11 +253,11 @@ module _ (slot place : ℕ) (flags : Flags) (x : List ℕ) (zone zone1 : List Bl
                 ∷ s.above) in
                 subst P (sym found.1) both
 
-            pub fixed-replaced : KeepsFixed zone zone'
-            fixed-replaced =
+            pub nonrelocatable-replaced : KeepsNonrelocatable zone zone'
+            nonrelocatable-replaced =
                 let s = found.0 in
                 let now = s.below ++ Relocatable slot flags x ∷ s.above in
-                fixed-at place zone zone' s found.2
-                (fixed-then (s.below ++ s.here ∷ s.above) now zone'
-                (fixed-spot s.below s.above s.here (Relocatable slot flags x)
-                (λ p. sym (ap (is_fixed p) here))) (fixed-same now zone' both))
+                nonrelocatable-at place zone zone' s found.2
+                (nonrelocatable-then (s.below ++ s.here ∷ s.above) now zone'
+                (nonrelocatable-spot s.below s.above s.here (Relocatable slot flags x)
+                (λ p. sym (ap (is_nonrelocatable p) here))) (nonrelocatable-same now zone' both))

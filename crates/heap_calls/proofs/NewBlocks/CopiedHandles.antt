@@ -30,7 +30,7 @@ use Rattle.heap_calls.specs.Searches.{hand_to_hand_searches}
 use Rattle.heap_calls.specs.Inner.NewSlot.{zone_slotted, zone_searches}
 use Rattle.heap_calls.specs.Inner.NewBlock.{IsNewBlock, HasNoRoom, new_searches, ready_count, place_searches}
 use Rattle.heap_calls.specs.Inner.Numbered.{state_of, memory_of, name_of, handle_number, pointer_number, no_number}
-use Rattle.heap_calls.specs.Inner.Numbered.{KeepsFixed, Agrees}
+use Rattle.heap_calls.specs.Inner.Numbered.{KeepsNonrelocatable, Agrees}
 use Rattle.heap_calls.proofs.Numbering.Numbers.{is_relocatable-number}
 use Rattle.block_store.proofs.Zone.Tidy.{spot-passes}
 use Rattle.block_store.proofs.Plain.Options.{map-none}
@@ -241,7 +241,7 @@ module _ (zone : List Block) (rest : Rest) (es : List Anchor) (masters : rest.al
             ∙ sym (cond-true {A = ℕ} (is_some (phys n)) (placement_moves (padded n) (sparing.One source) z) 0
             (phys-fits n few))
 
-    module _ (zone' : List Block) (rest' : Rest) (fixed : KeepsFixed zone zone') where
+    module _ (zone' : List Block) (rest' : Rest) (nonrelocatable : KeepsNonrelocatable zone zone') where
       no_block : (slot : ℕ) → HasNoRoom (sparing.One source) slot n zone'
           → new_block (is_relocatable h) bytes (state_of zone' rest.slots es)
           ≡ (Err MEM_FULL, state_of zone' rest.slots es)
@@ -258,13 +258,13 @@ module _ (zone : List Block) (rest : Rest) (es : List Anchor) (masters : rest.al
       copy-none (inl none) = (
         with_slot None none.0 ∙ ap (λ (t : State). refused {T = ℕ} MEM_FULL t)
             (sym (ap (λ z. state_of z rest'.slots es) none.1 ∙ state-kept zone rest rest' es none.2)),
-        agrees-kept zone zone' rest rest' es agrees fixed none.2,
+        agrees-kept zone zone' rest rest' es agrees nonrelocatable none.2,
         none.2.window,
       )
       copy-none (inr only) = (
         with_slot (Some zone') only.0 ∙ no_block only.2.0 only.2.1
             ∙ ap (λ (t : State). refused {T = ℕ} MEM_FULL t) (sym (state-more zone' rest rest' es agrees only.1)),
-        agrees-more zone' rest rest' es agrees fixed only.1,
+        agrees-more zone' rest rest' es agrees nonrelocatable only.1,
         only.1.window,
       )
 
@@ -273,7 +273,7 @@ module _ (zone : List Block) (rest : Rest) (es : List Anchor) (masters : rest.al
         then_agrees =
             let q = p.put in
             agrees-now q.ready q.more p.mid es slot (agrees-more zone rest q.more es agrees (λ k. refl) q.has_more)
-            q.was q.slots.slots q.one q.slots.all q.none zone' fixed
+            q.was q.slots.slots q.one q.slots.all q.none zone' nonrelocatable
 
         pub copy-agrees : Agrees zone' rest' (with_handle es slot)
         copy-agrees = agrees-kept zone' zone' p.mid rest' (with_handle es slot) then_agrees (λ k. refl)

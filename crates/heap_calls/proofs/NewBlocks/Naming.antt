@@ -26,7 +26,7 @@ use Rattle.heap_calls.specs.Inner.NewSlot.{TakesSlot, IsMade}
 use Rattle.heap_calls.specs.Inner.Reaching.{sized_reply}
 use Rattle.heap_calls.specs.Inner.Base.{IsBaseAt, base}
 use Rattle.mac_words.specs.Size.{phys}
-use Rattle.heap_calls.specs.Inner.Numbered.{Agrees, KeepsFixed, no_number, state_of, memory_of}
+use Rattle.heap_calls.specs.Inner.Numbered.{Agrees, KeepsNonrelocatable, no_number, state_of, memory_of}
 use Rattle.heap_calls.specs.Inner.Packed.{Packs, new_moves}
 use Rattle.heap_calls.proofs.NewBlocks.NewHandles.{searched-done, new_handle-done, new_handle-refused, handle-agrees}
 use Rattle.heap_calls.proofs.NewBlocks.NewHandles.{handle-window}
@@ -116,26 +116,26 @@ served-looking row looks value zone zone' rest rest' es log done is ends n looke
     (served_answer done) is ends n looked refl same)
 
 module _ (zone : List Block) (rest : Rest) (es : List Anchor) (masters : rest.all ≡ 64 * count is_masters zone)
-    (agrees : Agrees zone rest es) (zone' : List Block) (rest' : Rest) (fixed : KeepsFixed zone zone')
+    (agrees : Agrees zone rest es) (zone' : List Block) (rest' : Rest) (nonrelocatable : KeepsNonrelocatable zone zone')
   where
     pub new-names : (n : ℕ) (slot : Option ℕ) → IsNewBlock sparing.Nothing n zone rest slot zone' rest'
         → Names (new_handle n) zone rest es slot zone' rest'
-    new-names n None h = let r = new_handle-refused zone rest es n masters agrees zone' rest' fixed h in
+    new-names n None h = let r = new_handle-refused zone rest es n masters agrees zone' rest' nonrelocatable h in
         record { answer = r.0; agrees = r.1; window = r.2 }
     new-names n (Some slot) p = record {
-      answer = new_handle-done zone rest es n masters agrees zone' rest' fixed slot p;
-      agrees = handle-agrees zone rest es n masters agrees zone' rest' fixed slot p;
-      window = handle-window zone rest es n masters agrees zone' rest' fixed slot p;
+      answer = new_handle-done zone rest es n masters agrees zone' rest' nonrelocatable slot p;
+      agrees = handle-agrees zone rest es n masters agrees zone' rest' nonrelocatable slot p;
+      window = handle-window zone rest es n masters agrees zone' rest' nonrelocatable slot p;
     }
 
     pub empty-names : (slot : Option ℕ) → TakesSlot sparing.Nothing zone rest slot zone' rest'
         → Names new_empty_handle zone rest es slot zone' rest'
-    empty-names None h = let r = empty-refused zone rest es masters agrees zone' rest' fixed h in
+    empty-names None h = let r = empty-refused zone rest es masters agrees zone' rest' nonrelocatable h in
         record { answer = r.0; agrees = r.1; window = r.2 }
     empty-names (Some slot) p = record {
-      answer = empty-done zone rest es masters agrees zone' rest' fixed slot p;
-      agrees = empty-agrees zone rest es masters agrees zone' rest' fixed slot p;
-      window = empty-window zone rest es masters agrees zone' rest' fixed slot p;
+      answer = empty-done zone rest es masters agrees zone' rest' nonrelocatable slot p;
+      agrees = empty-agrees zone rest es masters agrees zone' rest' nonrelocatable slot p;
+      window = empty-window zone rest es masters agrees zone' rest' nonrelocatable slot p;
     }
 
 -- the handle that is copied: its entry, and its block of n bytes
@@ -161,38 +161,38 @@ module _ (zone : List Block) (rest : Rest) (es : List Anchor) (masters : rest.al
     copied_moves-is = copy_moves-is zone rest es masters agrees handle f.number f.slot n k.is k.at k.small k.a k.block
         k.long k.few
 
-    pub copy-names : (zone' : List Block) (rest' : Rest) → KeepsFixed zone zone' → (slot : Option ℕ)
+    pub copy-names : (zone' : List Block) (rest' : Rest) → KeepsNonrelocatable zone zone' → (slot : Option ℕ)
         → IsCopy f.slot n zone rest slot zone' rest' → Names (hand_to_hand handle) zone rest es slot zone' rest'
-    copy-names zone' rest' fixed None h =
+    copy-names zone' rest' nonrelocatable None h =
         let r = copy-none zone rest es masters agrees handle f.number f.slot n k.is k.at k.small k.a k.block k.long
-        k.few zone' rest' fixed h in
+        k.few zone' rest' nonrelocatable h in
         record { answer = r.0; agrees = r.1; window = r.2 }
-    copy-names zone' rest' fixed (Some slot) p = record {
+    copy-names zone' rest' nonrelocatable (Some slot) p = record {
       answer = copied-done zone rest es masters agrees handle f.number f.slot n k.is k.at k.small k.a k.block k.long
-          k.few zone' rest' fixed slot p;
+          k.few zone' rest' nonrelocatable slot p;
       agrees = copy-agrees zone rest es masters agrees handle f.number f.slot n k.is k.at k.small k.a k.block k.long
-          k.few zone' rest' fixed slot p;
+          k.few zone' rest' nonrelocatable slot p;
       window = copy-window zone rest es masters agrees handle f.number f.slot n k.is k.at k.small k.a k.block k.long
-          k.few zone' rest' fixed slot p;
+          k.few zone' rest' nonrelocatable slot p;
     }
 
 -- MoreMasters and ReserveMem
 module _ (zone : List Block) (rest : Rest) (es : List Anchor) (masters : rest.all ≡ 64 * count is_masters zone)
-    (agrees : Agrees zone rest es) (zone' : List Block) (rest' : Rest) (fixed : KeepsFixed zone zone')
+    (agrees : Agrees zone rest es) (zone' : List Block) (rest' : Rest) (nonrelocatable : KeepsNonrelocatable zone zone')
   where
     pub masters-ends : (place : Option ℕ) → IsMade sparing.Nothing zone rest place zone' rest'
         → Ends add_masters zone rest es (served_answer (is_some place)) zone' rest' es
-    masters-ends None h = let r = masters-refused zone rest es masters agrees zone' rest' fixed h in
+    masters-ends None h = let r = masters-refused zone rest es masters agrees zone' rest' nonrelocatable h in
         record { answer = r.0; agrees = r.1; window = r.2 }
-    masters-ends (Some place) h = let r = masters-done zone rest es masters agrees zone' rest' fixed place h in
+    masters-ends (Some place) h = let r = masters-done zone rest es masters agrees zone' rest' nonrelocatable place h in
         record { answer = r.0; agrees = r.1; window = r.2 }
 
     pub reserve-ends : (n p : ℕ) → phys n ≡ Some p → IsRest rest rest' → (place : Option ℕ)
         → IsBaseAt p (base p sparing.Nothing zone) zone' place → (place ≡ None → zone' ≡ zone)
         → Ends (reserve_mem n) zone rest es (served_answer (is_some place)) zone' rest' es
     reserve-ends n p fits now None h same =
-        let r = reserve-none zone rest es masters agrees zone' rest' fixed n p fits now (same refl) h in
+        let r = reserve-none zone rest es masters agrees zone' rest' nonrelocatable n p fits now (same refl) h in
         record { answer = r.0; agrees = r.1; window = r.2 }
     reserve-ends n p fits now (Some place) h same =
-        let r = reserve-done zone rest es masters agrees zone' rest' fixed n p place fits now h in
+        let r = reserve-done zone rest es masters agrees zone' rest' nonrelocatable n p place fits now h in
         record { answer = r.0; agrees = r.1; window = r.2 }

@@ -35,7 +35,7 @@ use Rattle.heap_calls.specs.Searches.{room_searches, slot_searches, ready_search
 use Rattle.heap_calls.specs.Inner.Base.{base_searches}
 use Rattle.heap_calls.specs.Inner.NewSlot.{zone_with_masters, zone_slotted, zone_searches, HasMore}
 use Rattle.heap_calls.specs.Inner.NewBlock.{place_searches, ready_count, new_searches, HasNoRoom, IsPut, IsNewBlock}
-use Rattle.heap_calls.specs.Inner.Numbered.{state_of, memory_of, name_of, handle_number, pointer_number, KeepsFixed}
+use Rattle.heap_calls.specs.Inner.Numbered.{state_of, memory_of, name_of, handle_number, pointer_number, KeepsNonrelocatable}
 use Rattle.heap_calls.specs.Inner.Numbered.{Agrees}
 use Rattle.heap_calls.proofs.NewBlocks.NewSlots.{tries-map, searches-base}
 use Rattle.heap_calls.proofs.Numbering.Changing.{names-same, masters-rename, silent-done, es', agrees-now, block-given}
@@ -128,11 +128,11 @@ names-more rest more es agrees has = names-same rest.slots more.slots es
     (λ h s g at. has.slots s (agrees.used h s g at))
 
 pub agrees-more : {zone : List Block} (zone' : List Block) (rest more : Rest) (es : List Anchor) → Agrees zone rest es
-    → KeepsFixed zone zone' → HasMore rest more → Agrees zone' more es
-agrees-more zone' rest more es agrees fixed has = record {
+    → KeepsNonrelocatable zone zone' → HasMore rest more → Agrees zone' more es
+agrees-more zone' rest more es agrees nonrelocatable has = record {
   used = λ h s g at. ap is_used (has.slots s (agrees.used h s g at)) ∙ agrees.used h s g at;
   apart = agrees.apart;
-  pointed = λ h p at. fixed p ∙ agrees.pointed h p at;
+  pointed = λ h p at. nonrelocatable p ∙ agrees.pointed h p at;
   lone = agrees.lone;
   counted =
       let a = agrees.counted in
@@ -278,7 +278,7 @@ one-more es copy more slot same new = new ∙ ap (λ l. l ++ Handle slot false �
 -- NewHandle, where its block was put in its place
 module _ (zone : List Block) (rest : Rest) (es : List Anchor) (n : ℕ) (masters : rest.all ≡ 64 * count is_masters zone)
     (agrees : Agrees zone rest es)
-    (zone' : List Block) (rest' : Rest) (fixed : KeepsFixed zone zone')
+    (zone' : List Block) (rest' : Rest) (nonrelocatable : KeepsNonrelocatable zone zone')
   where
     abbrev old : State
     old = state_of zone rest.slots es
@@ -296,7 +296,7 @@ module _ (zone : List Block) (rest : Rest) (es : List Anchor) (n : ℕ) (masters
         → Agrees zone' rest' (with_handle es slot)
     handle-agrees slot p = agrees-now p.ready p.more rest' es slot
         (agrees-more zone rest p.more es agrees (λ k. refl) p.has_more) p.was p.slots.slots p.one p.slots.all p.none
-        zone' fixed
+        zone' nonrelocatable
 
     pub handle-window : (slot : ℕ) → IsPut sparing.Nothing n slot zone rest zone' rest' → rest'.window ≡ rest.window
     handle-window slot p = p.slots.window ∙ p.has_more.window
@@ -339,13 +339,13 @@ module _ (zone : List Block) (rest : Rest) (es : List Anchor) (n : ℕ) (masters
     new_handle-refused (inl none) = (
       with_slot None none.0 ∙ ap (λ (t : State). refused {T = ℕ} MEM_FULL t)
           (sym (ap (λ z. state_of z rest'.slots es) none.1 ∙ state-kept zone rest rest' es none.2)),
-      agrees-kept zone zone' rest rest' es agrees fixed none.2,
+      agrees-kept zone zone' rest rest' es agrees nonrelocatable none.2,
       none.2.window,
     )
     new_handle-refused (inr only) = (
       with_slot (Some zone') only.0 ∙ no_block only.2.0 only.2.1 rest.slots
           ∙ ap (λ (t : State). refused {T = ℕ} MEM_FULL t) (sym (state-more zone' rest rest' es agrees only.1)),
-      agrees-more zone' rest rest' es agrees fixed only.1,
+      agrees-more zone' rest rest' es agrees nonrelocatable only.1,
       only.1.window,
     )
 

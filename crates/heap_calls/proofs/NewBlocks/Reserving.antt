@@ -16,7 +16,7 @@ use Rattle.heap_calls.specs.Pointers.{add_masters, reserve_mem}
 use Rattle.heap_calls.specs.Searches.{new_empty_handle_searches, more_masters_searches, reserve_searches}
 use Rattle.heap_calls.specs.Inner.Base.{base, base_searches, IsBaseAt}
 use Rattle.heap_calls.specs.Inner.NewSlot.{zone_slotted, zone_searches, IsTaken, TakesSlot, IsMade}
-use Rattle.heap_calls.specs.Inner.Numbered.{state_of, handle_number, pointer_number, KeepsFixed, Agrees}
+use Rattle.heap_calls.specs.Inner.Numbered.{state_of, handle_number, pointer_number, KeepsNonrelocatable, Agrees}
 use Rattle.heap_calls.proofs.Numbering.Changing.{agrees-now, handle-empty, agrees-kept, kept}
 use Rattle.heap_calls.proofs.NewBlocks.NewSlots.{at_base, room-base}
 use Rattle.heap_calls.proofs.NewBlocks.NewHandles.{slotted-is, slot_searches-is, base-is, base_searches-is, agrees-more}
@@ -58,13 +58,13 @@ module _ (zone : List Block) (rest : Rest) (es : List Anchor) (masters : rest.al
   with_slot o is = ap (λ o. if_ready o old then_given) (slotted-is zone rest es masters agrees nothing sparing.Nothing
       (λ b. refl) refl ∙ ap (option_map (λ z. state_of z rest.slots es)) is)
 
-  module _ (zone' : List Block) (rest' : Rest) (fixed : KeepsFixed zone zone') where
+  module _ (zone' : List Block) (rest' : Rest) (nonrelocatable : KeepsNonrelocatable zone zone') where
     pub empty-refused : TakesSlot sparing.Nothing zone rest None zone' rest'
         → IsRefused new_empty_handle zone rest es zone' rest'
     empty-refused none = (
       with_slot None none.0 ∙ ap (λ (t : State). refused {T = ℕ} MEM_FULL t)
           (sym (ap (λ z. state_of z rest'.slots es) none.1 ∙ state-kept zone rest rest' es none.2)),
-      agrees-kept zone zone' rest rest' es agrees fixed none.2,
+      agrees-kept zone zone' rest rest' es agrees nonrelocatable none.2,
       none.2.window,
     )
 
@@ -80,7 +80,7 @@ module _ (zone : List Block) (rest : Rest) (es : List Anchor) (masters : rest.al
         → Agrees zone' rest' (with_handle es slot)
     empty-agrees slot t = agrees-now zone' t.more rest' es slot
         (agrees-more zone rest t.more es agrees (λ k. refl) t.has_more) t.was t.slots.slots t.one t.slots.all t.none
-        zone' fixed
+        zone' nonrelocatable
 
     pub empty-window : (slot : ℕ) → IsTaken sparing.Nothing slot zone rest zone' rest' → rest'.window ≡ rest.window
     empty-window slot t = t.slots.window ∙ t.has_more.window
@@ -96,7 +96,7 @@ module _ (zone : List Block) (rest : Rest) (es : List Anchor) (masters : rest.al
           ∙ ap (option_map (rename (handle_number es) (pointer_number es))) none.0)
           ∙ ap (λ (t : State). refused {T = Unit {0}} MEM_FULL t)
           (sym (ap (λ z. state_of z rest'.slots es) none.1 ∙ state-kept zone rest rest' es none.2)),
-      agrees-kept zone zone' rest rest' es agrees fixed none.2,
+      agrees-kept zone zone' rest rest' es agrees nonrelocatable none.2,
       none.2.window,
     )
 
@@ -106,7 +106,7 @@ module _ (zone : List Block) (rest : Rest) (es : List Anchor) (masters : rest.al
       ap rebuilt_with (base-is zone rest es masters agrees nothing sparing.Nothing (λ b. refl) refl Masters
           ∙ ap (option_map (rename (handle_number es) (pointer_number es))) made.0)
           ∙ ap (λ (t : State). (Ok tt, t)) (sym (state-more zone' rest rest' es agrees made.1)),
-      agrees-more zone' rest rest' es agrees fixed made.1,
+      agrees-more zone' rest rest' es agrees nonrelocatable made.1,
       made.1.window,
     )
 
@@ -122,7 +122,7 @@ module _ (zone : List Block) (rest : Rest) (es : List Anchor) (masters : rest.al
       reserved_in n p fits None (room-base (Free p) sparing.Nothing zone ∙ ap (option_map (at_base (Free p))) none)
           ∙ ap (λ (t : State). refused {T = Unit {0}} MEM_FULL t)
           (sym (ap (λ z. state_of z rest'.slots es) same ∙ state-kept zone rest rest' es (kept rest rest' now))),
-      agrees-kept zone zone' rest rest' es agrees fixed (kept rest rest' now),
+      agrees-kept zone zone' rest rest' es agrees nonrelocatable (kept rest rest' now),
       now.window,
     )
 
@@ -132,7 +132,7 @@ module _ (zone : List Block) (rest : Rest) (es : List Anchor) (masters : rest.al
       reserved_in n p fits (Some zone') (room-base (Free p) sparing.Nothing zone
           ∙ ap (option_map (at_base (Free p))) found.1 ∙ ap Some (sym found.2))
           ∙ ap (λ (t : State). (Ok tt, t)) (sym (state-kept zone' rest rest' es (kept rest rest' now))),
-      agrees-kept zone zone' rest rest' es agrees fixed (kept rest rest' now),
+      agrees-kept zone zone' rest rest' es agrees nonrelocatable (kept rest rest' now),
       now.window,
     )
 

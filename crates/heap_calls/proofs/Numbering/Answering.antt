@@ -6,7 +6,7 @@ use Rattle.std.specs.Option.{option_map, ok_or, IfSome}
 use Rattle.mac_words.specs.declared.code.OsErr.{OsErr}
 use Rattle.heap_calls.specs.declared.log.Log.{Log}
 use Rattle.mac_words.specs.declared.code.TheConstants.OsErr.{NIL_HANDLE, WRONG_ZONE}
-use Rattle.block_store.specs.Block.{Block, Free, Fixed, Masters, Relocatable, size, sizes, rename, rename_block}
+use Rattle.block_store.specs.Block.{Block, Free, Nonrelocatable, Masters, Relocatable, size, sizes, rename, rename_block}
 use Rattle.block_store.specs.Block.{is_relocatable, content_of, with_content}
 use Rattle.block_store.specs.Slot.{Slot}
 use Rattle.block_store.specs.Rest.{Rest}
@@ -89,14 +89,14 @@ look_up-refused zone slots es handle code e = ap (λ k. held_at k (state_of zone
 
 pub content_of-rename : (f g : ℕ → ℕ) (b : Block) → content_of (rename_block f g b) ≡ content_of b
 content_of-rename f g (Free n) = refl
-content_of-rename f g (Fixed id content) = refl
+content_of-rename f g (Nonrelocatable id content) = refl
 content_of-rename f g Masters = refl
 content_of-rename f g (Relocatable id flags content) = refl
 
 pub with_content-rename : (f g : ℕ → ℕ) (x : List ℕ) (b : Block)
     → with_content x (rename_block f g b) ≡ rename_block f g (with_content x b)
 with_content-rename f g x (Free n) = refl
-with_content-rename f g x (Fixed id content) = refl
+with_content-rename f g x (Nonrelocatable id content) = refl
 with_content-rename f g x Masters = refl
 with_content-rename f g x (Relocatable id flags content) = refl
 
@@ -114,7 +114,7 @@ place-small zone slot s is =
 
 pub header-fits : (slot : ℕ) (b : Block) → is_relocatable slot b ≡ true → length (content_of b) + 16 ≤ size b
 header-fits slot (Free n) e = cc
-header-fits slot (Fixed id content) e = cc
+header-fits slot (Nonrelocatable id content) e = cc
 header-fits slot Masters e = cc
 header-fits slot (Relocatable id flags content) e = omega arith
 

@@ -13,8 +13,8 @@ use Rattle.mac_words.specs.Size.{phys, padded}
 use Rattle.mac_words.specs.declared.code.OsErr.{OsErr}
 use Rattle.heap_calls.specs.declared.log.Log.{Log}
 use Rattle.mac_words.specs.declared.code.TheConstants.OsErr.{PROFILE}
-use Rattle.block_store.specs.Block.{Block, Free, Fixed, Masters, Relocatable, size, count, free_sum, free_of, rename}
-use Rattle.block_store.specs.Block.{rename_block, is_fixed, is_relocatable, is_room, content_of, with_content}
+use Rattle.block_store.specs.Block.{Block, Free, Nonrelocatable, Masters, Relocatable, size, count, free_sum, free_of, rename}
+use Rattle.block_store.specs.Block.{rename_block, is_nonrelocatable, is_relocatable, is_room, content_of, with_content}
 use Rattle.block_store.specs.Block.{is_masters, tidy, no_flags}
 use Rattle.windows.specs.Writes.{written}
 use Rattle.block_store.specs.Run.{has}
@@ -24,8 +24,8 @@ use Rattle.block_store.specs.Room.{Spot, spot_at, raised, rename_spot, filled, r
 use Rattle.block_store.specs.Grow.{freed}
 use Rattle.block_store.proofs.Renamed.Renaming.{total-rename, free_of-rename, freed-rename, tidy-rename, room-rename}
 use Rattle.block_store.proofs.Renamed.Renaming.{put_in_place-rename}
-use Rattle.block_store.proofs.Zone.Tidy.{rename-unless, rename_fixed-unless, has-released}
-use Rattle.block_store.proofs.Nonrelocatable.FixedCounts.{not_fixed-room}
+use Rattle.block_store.proofs.Zone.Tidy.{rename-unless, rename_nonrelocatable-unless, has-released}
+use Rattle.block_store.proofs.Nonrelocatable.Counts.{not_nonrelocatable-room}
 use Rattle.heap_calls.specs.State.{State, Memory, Meaning, Role, Plain, Resource, used_slots, all_slots, uses_slot}
 use Rattle.heap_calls.specs.State as names
 use Rattle.heap_calls.specs.Answer.{Answer, Held, given, refused, without, written_at, for_found}
@@ -33,9 +33,9 @@ use Rattle.heap_calls.specs.Answer.{silent}
 use Rattle.heap_calls.specs.declared.anchor.Anchor.{Anchor}
 use Rattle.heap_calls.specs.declared.anchor.Anchor.TheVariants.{Handle, Pointer, Disposed}
 use Rattle.heap_calls.specs.Inner.Numbered.{state_of, memory_of, name_of, handle_number, pointer_number, number_from}
-use Rattle.heap_calls.specs.Inner.Numbered.{leads_to, points_to, no_number, role_of, KeepsFixed, Agrees}
+use Rattle.heap_calls.specs.Inner.Numbered.{leads_to, points_to, no_number, role_of, KeepsNonrelocatable, Agrees}
 use Rattle.heap_calls.proofs.Numbering.Answering.{content_of-rename, with_content-rename, held}
-use Rattle.heap_calls.proofs.Room.Staying.{fixed-released, fixed-filled}
+use Rattle.heap_calls.proofs.Room.Staying.{nonrelocatable-released, nonrelocatable-filled}
 use Rattle.heap_calls.specs.Slots.{new_block}
 use Rattle.heap_calls.proofs.Numbering.Numbers.{is_relocatable-number, leads_to-same, leads_to-is, flipped}
 
@@ -119,7 +119,7 @@ masters-rename f g zone = total-rename f g masters_in masters_in same zone
   where
     same : (b : Block) → masters_in (rename_block f g b) ≡ masters_in b
     same (Free n) = refl
-    same (Fixed id content) = refl
+    same (Nonrelocatable id content) = refl
     same Masters = refl
     same (Relocatable id flags content) = refl
 
@@ -170,7 +170,7 @@ module _ {before : List Block} (zone : List Block) (rest rest' : Rest) (es : Lis
     pub zone-kept : rename (handle_number es') (pointer_number es') zone
         ≡ rename (handle_number es) (pointer_number es) zone
     zone-kept =
-        rename_fixed-unless (handle_number es') (pointer_number es) (pointer_number es')
+        rename_nonrelocatable-unless (handle_number es') (pointer_number es) (pointer_number es')
         (λ k. number_from-push 0 (points_to k) es (Handle slot false) refl) zone
         ∙ rename-unless (handle_number es) (handle_number es') (pointer_number es) slot
         (λ k e. number_from-push 0 (leads_to k) es (Handle slot false) (flipped slot k e)) zone none
@@ -182,8 +182,8 @@ module _ {before : List Block} (zone : List Block) (rest rest' : Rest) (es : Lis
         (names-same rest.slots rest'.slots es (λ h s g at. other-slot s (apart-from h s g at)))
         ∙ ap (λ t. map (name_of rest.slots) es ++ names.Handle (role_of t false) ∷ []) slot-now
 
-    pub agrees-now : (zone' : List Block) → KeepsFixed before zone' → Agrees zone' rest' es'
-    agrees-now zone' fixed = record {
+    pub agrees-now : (zone' : List Block) → KeepsNonrelocatable before zone' → Agrees zone' rest' es'
+    agrees-now zone' nonrelocatable = record {
       used = λ h s g at. elim (slice_get-push es (Handle slot false) h (Handle s g) at) [
         | inl found ↦ ap is_used (other-slot s (apart-from h s g found)) ∙ agrees.used h s g found
         | inr new ↦
@@ -198,7 +198,7 @@ module _ {before : List Block} (zone : List Block) (rest rest' : Rest) (es : Lis
         | inr new ↦ elim (slice_get-push es (Handle slot false) k (Handle s o) at')
             [ inl found' ↦ absurd (clash k s o found' (handle-same s slot g new.1)) | inr new' ↦ new.0 ∙ sym new'.0 ]
       ];
-      pointed = λ h p at. fixed p ∙ agrees.pointed h p (old h p at);
+      pointed = λ h p at. nonrelocatable p ∙ agrees.pointed h p (old h p at);
       lone = λ h k p at at'. agrees.lone h k p (old h p at) (old k p at');
       counted =
           let a = agrees.counted in
@@ -347,7 +347,7 @@ module _ (zone : List Block) (rest rest' : Rest) (es : List Anchor) (h slot : �
       used = λ k s g found. ap is_used (slots-left s (other-left k s g found).1)
           ∙ agrees.used k s g (other-left k s g found).0;
       apart = λ j k s g o a b. agrees.apart j k s g o (other-left j s g a).0 (other-left k s o b).0;
-      pointed = λ k p found. fixed-released slot zone p ∙ agrees.pointed k p (pointer-left k p found);
+      pointed = λ k p found. nonrelocatable-released slot zone p ∙ agrees.pointed k p (pointer-left k p found);
       lone = λ j k p a b. agrees.lone j k p (pointer-left j p a) (pointer-left k p b);
       counted =
           let a = agrees.counted in
@@ -370,7 +370,7 @@ module _ (zone : List Block) (rest rest' : Rest) (es : List Anchor) (h slot : �
             ap tidy (freed-rename (handle_number es) (pointer_number es) (is_relocatable h) (is_relocatable slot)
             (is_relocatable-number es h slot at agrees.apart small) zone)
             ∙ tidy-rename (handle_number es) (pointer_number es) (freed (is_relocatable slot) zone)
-            ∙ sym (rename_fixed-unless (handle_number left) (pointer_number es) (pointer_number left)
+            ∙ sym (rename_nonrelocatable-unless (handle_number left) (pointer_number es) (pointer_number left)
             (λ k. number_from-set 0 (points_to k) es h (Handle slot guarded) Disposed at refl refl)
             (tidy (freed (is_relocatable slot) zone))
             ∙ rename-unless (handle_number es) (handle_number left) (pointer_number es) slot
@@ -393,31 +393,31 @@ spot_at-is place (b ∷ above) s e = cases (place == 0) (nat_le (size b) place) 
     cases false true (Some s') rest e = ap (λ l. b ∷ l) (rest s' refl)
         ∙ ap (λ (s : Spot). s.below ++ s.here ∷ s.above) (same_Some _ _ e)
 
--- the Fixed blocks stay where a block is changed at the spot of a place
-pub fixed-at : (place : ℕ) (zone zone' : List Block) (s : Spot) → spot_at place zone ≡ Some s
-    → KeepsFixed (s.below ++ s.here ∷ s.above) zone' → KeepsFixed zone zone'
-fixed-at place zone zone' s at stays p = stays p ∙ ap (has (is_fixed p)) (sym (spot_at-is place zone s at))
+-- the nonrelocatable blocks stay where a block is changed at the spot of a place
+pub nonrelocatable-at : (place : ℕ) (zone zone' : List Block) (s : Spot) → spot_at place zone ≡ Some s
+    → KeepsNonrelocatable (s.below ++ s.here ∷ s.above) zone' → KeepsNonrelocatable zone zone'
+nonrelocatable-at place zone zone' s at stays p = stays p ∙ ap (has (is_nonrelocatable p)) (sym (spot_at-is place zone s at))
 
--- and where another block than a Fixed one is put there
-pub fixed-carved : (place n : ℕ) (zone after : List Block) (new : Block) → ((p : ℕ) → is_fixed p new ≡ false)
+-- and where another block than a nonrelocatable one is put there
+pub nonrelocatable-carved : (place n : ℕ) (zone after : List Block) (new : Block) → ((p : ℕ) → is_nonrelocatable p new ≡ false)
     → IsSomeAnd (spot_at place zone) (λ s. IsTrue (is_room n s.here))
-    → IfSome (spot_at place zone) (λ s. after ≡ filled new s) → KeepsFixed zone after
-fixed-carved place n zone after new none wide done = cases (spot_at place zone) refl wide done
+    → IfSome (spot_at place zone) (λ s. after ≡ filled new s) → KeepsNonrelocatable zone after
+nonrelocatable-carved place n zone after new none wide done = cases (spot_at place zone) refl wide done
   where
     cases : (o : Option Spot) → spot_at place zone ≡ o → IsSomeAnd o (λ s. IsTrue (is_room n s.here))
-        → IfSome o (λ s. after ≡ filled new s) → KeepsFixed zone after
+        → IfSome o (λ s. after ≡ filled new s) → KeepsNonrelocatable zone after
     cases None at wide done p = absurd wide
     cases (Some s) at wide done p =
-        ap (has (is_fixed p)) done ∙ fixed-at place zone (filled new s) s at
-        (fixed-filled new s (λ p. none p ∙ sym (not_fixed-room p n s.here wide))) p
+        ap (has (is_nonrelocatable p)) done ∙ nonrelocatable-at place zone (filled new s) s at
+        (nonrelocatable-filled new s (λ p. none p ∙ sym (not_nonrelocatable-room p n s.here wide))) p
 
 -- the store goes on with the same slots
 pub agrees-kept : (zone zone' : List Block) (rest rest' : Rest) (es : List Anchor) → Agrees zone rest es
-    → KeepsFixed zone zone' → KeepsSlots rest rest' → Agrees zone' rest' es
-agrees-kept zone zone' rest rest' es agrees fixed now = record {
+    → KeepsNonrelocatable zone zone' → KeepsSlots rest rest' → Agrees zone' rest' es
+agrees-kept zone zone' rest rest' es agrees nonrelocatable now = record {
   used = λ h s g at. ap is_used (now.slots s) ∙ agrees.used h s g at;
   apart = agrees.apart;
-  pointed = λ h p at. fixed p ∙ agrees.pointed h p at;
+  pointed = λ h p at. nonrelocatable p ∙ agrees.pointed h p at;
   lone = agrees.lone;
   counted =
       let a = agrees.counted in
@@ -450,8 +450,8 @@ pub unmoved-is : (rest rest' : Rest) → KeepsSlots rest rest' → IsRest rest (
 unmoved-is rest rest' now = as_many (record rest { moves = rest'.moves }) rest' rest.moves now
 
 pub agrees-same : (zone zone' : List Block) (rest rest' : Rest) (es : List Anchor) → Agrees zone rest es
-    → KeepsFixed zone zone' → IsRest rest rest' → Agrees zone' rest' es
-agrees-same zone zone' rest rest' es agrees fixed now = agrees-kept zone zone' rest rest' es agrees fixed
+    → KeepsNonrelocatable zone zone' → IsRest rest rest' → Agrees zone' rest' es
+agrees-same zone zone' rest rest' es agrees nonrelocatable now = agrees-kept zone zone' rest rest' es agrees nonrelocatable
     (kept rest rest' now)
 
 -- a heap over another zone and the same slots

@@ -8,7 +8,7 @@ use Rattle.std.specs.Bool.{IsTrue}
 use Rattle.heap_calls.specs.declared.log.Log.{Log}
 use Rattle.mac_words.specs.declared.code.TheConstants.OsErr.{NIL_HANDLE, LOCKED}
 use Rattle.block_store.specs.declared.flags.Flags.{Flags}
-use Rattle.block_store.specs.Block.{Block, Free, Fixed, Masters, Relocatable, free_of, free_sum, free, rename}
+use Rattle.block_store.specs.Block.{Block, Free, Nonrelocatable, Masters, Relocatable, free_of, free_sum, free, rename}
 use Rattle.block_store.specs.Block.{rename_block, is_relocatable, is_mover, tidy}
 use Rattle.block_store.specs.Run.{RunSpot, run_spot, run_at, change_run, with_run, has, has_free, others, high}
 use Rattle.block_store.specs.Seen.{seen, with_flags}
@@ -33,14 +33,14 @@ use Rattle.heap_calls.proofs.Numbering.Changing.{silent-kept, silent-refused}
 -- a block without flags has none to change
 pub flags-none : (change : Flags → Flags) (b : Block) → seen_flags (Some (seen b)) ≡ None → flagged change b ≡ b
 flags-none change (Free n) e = refl
-flags-none change (Fixed id content) e = refl
+flags-none change (Nonrelocatable id content) e = refl
 flags-none change Masters e = refl
 flags-none change (Relocatable id flags content) e = absurd (none-some _ (sym e))
 
 pub flags-some : (change : Flags → Flags) (flags : Flags) (b : Block) → seen_flags (Some (seen b)) ≡ Some flags
     → with_flags (change flags) b ≡ flagged change b
 flags-some change flags (Free n) e = refl
-flags-some change flags (Fixed id content) e = refl
+flags-some change flags (Nonrelocatable id content) e = refl
 flags-some change flags Masters e = refl
 flags-some change flags (Relocatable id old content) e = ap (λ f. Relocatable id (change f) content)
     (sym (same_Some _ _ e))
@@ -48,13 +48,13 @@ flags-some change flags (Relocatable id old content) e = ap (λ f. Relocatable i
 pub flagged-rename : (f g : ℕ → ℕ) (change : Flags → Flags) (b : Block)
     → flagged change (rename_block f g b) ≡ rename_block f g (flagged change b)
 flagged-rename f g change (Free n) = refl
-flagged-rename f g change (Fixed id content) = refl
+flagged-rename f g change (Nonrelocatable id content) = refl
 flagged-rename f g change Masters = refl
 flagged-rename f g change (Relocatable id flags content) = refl
 
 pub seen_mover-is : (b : Block) → seen_mover (Some (seen b)) ≡ is_mover b
 seen_mover-is (Free n) = refl
-seen_mover-is (Fixed id content) = refl
+seen_mover-is (Nonrelocatable id content) = refl
 seen_mover-is Masters = refl
 seen_mover-is (Relocatable id flags content) = refl
 

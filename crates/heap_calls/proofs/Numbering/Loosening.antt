@@ -5,7 +5,7 @@ use Rattle.std.specs.Option.{option_map}
 use Rattle.mac_words.specs.Size.{phys}
 use Rattle.mac_words.specs.declared.code.OsErr.{OsErr}
 use Rattle.mac_words.specs.declared.code.TheConstants.OsErr.{PURGED, MEM_FULL}
-use Rattle.block_store.specs.Block.{Block, Free, Fixed, Masters, Relocatable, size, rename, rename_block}
+use Rattle.block_store.specs.Block.{Block, Free, Nonrelocatable, Masters, Relocatable, size, rename, rename_block}
 use Rattle.block_store.specs.Block.{is_relocatable, is_mover, tidy}
 use Rattle.block_store.specs.Slot.{Slot}
 use Rattle.block_store.specs.Room.{Spot, spot, raised, rename_spot}
@@ -197,7 +197,7 @@ h_get_state-by handle s = found (handle_at handle s)
 pub block_bits-rename : (f g : ℕ → ℕ) (b : Block) → block_bits (rename_block f g b)
     ≡ bits_of (seen_flags (Some (seen b)))
 block_bits-rename f g (Free n) = refl
-block_bits-rename f g (Fixed id content) = refl
+block_bits-rename f g (Nonrelocatable id content) = refl
 block_bits-rename f g Masters = refl
 block_bits-rename f g (Relocatable id flags content) = refl
 

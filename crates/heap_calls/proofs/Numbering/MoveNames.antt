@@ -3,7 +3,7 @@ use Rattle.std.proofs.Common.{cond, map, replicate, Option, Some, None, is_some,
 use Rattle.std.proofs.lemmas.List.{length-map, length-replicate}
 use Rattle.std.specs.Option.{option_map}
 use Rattle.mac_words.specs.Size.{phys, padded}
-use Rattle.block_store.specs.Block.{Block, Free, Fixed, Masters, Relocatable, size, count, rename, rename_block}
+use Rattle.block_store.specs.Block.{Block, Free, Nonrelocatable, Masters, Relocatable, size, count, rename, rename_block}
 use Rattle.block_store.specs.Block.{is_mover, is_masters, is_room, no_flags, resized}
 use Rattle.block_store.specs.Run.{RunSpot, run_spot, runs, has, has_free, high}
 use Rattle.block_store.specs.Room.{Spot, rename_spot, spot, place, purge, put_in_place}
@@ -43,7 +43,7 @@ pub lowered_in_run-rename : (f g : ℕ → ℕ) (run : List Block) → lowered_i
 lowered_in_run-rename f g [] = refl
 lowered_in_run-rename f g (Free n ∷ run) = total-rename f g (λ (b : Block). cond {A = ℕ} (is_mover b) 1 0)
     (λ (b : Block). cond {A = ℕ} (is_mover b) 1 0) (λ b. rw (is_mover-rename f g b) refl) run
-lowered_in_run-rename f g (Fixed id content ∷ run) = lowered_in_run-rename f g run
+lowered_in_run-rename f g (Nonrelocatable id content ∷ run) = lowered_in_run-rename f g run
 lowered_in_run-rename f g (Masters ∷ run) = lowered_in_run-rename f g run
 lowered_in_run-rename f g (Relocatable id flags content ∷ run) = lowered_in_run-rename f g run
 

@@ -3,7 +3,7 @@ use Rattle.std.proofs.Common.{cond, arith, Some, slice_get}
 use Rattle.std.proofs.lemmas.Option.{none-some, same_Some}
 use Rattle.std.proofs.lemmas.Bool.{false≢true, cond-true, cond-false}
 use Rattle.std.proofs.lemmas.Bool.Decides.{same_from_decides, Decides-eqb, Decides-like}
-use Rattle.block_store.specs.Block.{Block, Free, Fixed, Masters, Relocatable, rename_block, is_relocatable}
+use Rattle.block_store.specs.Block.{Block, Free, Nonrelocatable, Masters, Relocatable, rename_block, is_relocatable}
 use Rattle.heap_calls.specs.declared.anchor.Anchor.{Anchor}
 use Rattle.heap_calls.specs.declared.anchor.Anchor.TheVariants.{Handle, Pointer, Disposed}
 use Rattle.heap_calls.specs.Inner.Numbered.{number_from, handle_number, pointer_number, leads_to, no_number}
@@ -88,7 +88,7 @@ pub is_relocatable-number : (es : List Anchor) (h slot : ℕ) {guarded : Bool}
     → slice_get es h ≡ Some (Handle slot guarded) → Apart es → h < no_number
     → (b : Block) → is_relocatable h (rename_block (handle_number es) (pointer_number es) b) ≡ is_relocatable slot b
 is_relocatable-number es h slot at apart small (Free n) = refl
-is_relocatable-number es h slot at apart small (Fixed id content) = refl
+is_relocatable-number es h slot at apart small (Nonrelocatable id content) = refl
 is_relocatable-number es h slot at apart small Masters = refl
 is_relocatable-number es h slot at apart small (Relocatable id flags content) =
     same_test (handle_number es id) h id slot (handle_number-only es h slot id at small)

@@ -9,8 +9,8 @@ use Rattle.std.proofs.lemmas.Bool.Decides.{Decides-eqb, nat_tests}
 use Rattle.std.specs.Option.{option_map, ok_or, IsSome, IfSome}
 use Rattle.mac_words.specs.declared.code.OsErr.{OsErr}
 use Rattle.mac_words.specs.declared.code.TheConstants.OsErr.{NIL_HANDLE, WRONG_ZONE}
-use Rattle.block_store.specs.Block.{Block, Free, Fixed, Masters, Relocatable, size, sizes, tidy, rename, rename_block}
-use Rattle.block_store.specs.Block.{is_fixed, content_of}
+use Rattle.block_store.specs.Block.{Block, Free, Nonrelocatable, Masters, Relocatable, size, sizes, tidy, rename, rename_block}
+use Rattle.block_store.specs.Block.{is_nonrelocatable, content_of}
 use Rattle.block_store.specs.Run.{has}
 use Rattle.block_store.specs.Compact.{Placed}
 use Rattle.block_store.specs.Slot.{Slot}
@@ -21,7 +21,7 @@ use Rattle.block_store.proofs.Zone.Apart.{Apart, apart-tidied, apart-size}
 use Rattle.block_store.proofs.Renamed.Renaming.{spot-rename, freed-rename, tidy-rename}
 use Rattle.block_store.proofs.Zone.Tidy.{has-tidy, has-freed, spot-passes, spot-is}
 use Rattle.block_store.proofs.Zone.Totals.{total-append}
-use Rattle.block_store.proofs.Nonrelocatable.FixedCounts.{not_fixed-other}
+use Rattle.block_store.proofs.Nonrelocatable.Counts.{not_nonrelocatable-other}
 use Rattle.heap_calls.specs.State.{State, Memory, Meaning, uses_slot}
 use Rattle.heap_calls.specs.State as names
 use Rattle.heap_calls.specs.Answer.{Held, look_up, for_found, silent}
@@ -39,29 +39,29 @@ use Rattle.heap_calls.proofs.Numbering.Answering.{held, at_place, content_of-ren
 use Rattle.heap_calls.proofs.Numbering.Numbers.{flipped, same_test, number_from-at, number_from-found, leads_to-same}
 use Rattle.heap_calls.proofs.Numbering.Changing.{number_from-set, names-same, state-left, without-other, handle-stays}
 use Rattle.heap_calls.proofs.Numbering.Changing.{pointer-stays, used-without}
-use Rattle.heap_calls.proofs.Room.Staying.{fixed-tidy, fixed-freed_other}
+use Rattle.heap_calls.proofs.Room.Staying.{nonrelocatable-tidy, nonrelocatable-freed_other}
 
 -- Pointers, by the places of their blocks.
 
--- where the Fixed block of a place is, seen in blocks that begin at a base
+-- where the nonrelocatable block of a place is, seen in blocks that begin at a base
 pub record IsThere (place base : ℕ) (zone : List Block) : Type 0 where
   pub s : Spot
-  pub found : spot (is_fixed place) zone ≡ Some s
+  pub found : spot (is_nonrelocatable place) zone ≡ Some s
   pub at : spot_at (place - base) zone ≡ Some s
   pub distance : base + sizes s.below ≡ place
 
-pub fixed-there : (place base : ℕ) (zone : List Block) → Placed base zone → Apart zone
-    → has (is_fixed place) zone ≡ true → IsThere place base zone
-fixed-there place base [] placed apart e = absurd (false≢true e)
-fixed-there place base (b ∷ above) placed apart e = start b placed (apart-size b above apart.0) e
-    (λ k placed e. fixed-there place k above placed apart.1 e)
+pub nonrelocatable-there : (place base : ℕ) (zone : List Block) → Placed base zone → Apart zone
+    → has (is_nonrelocatable place) zone ≡ true → IsThere place base zone
+nonrelocatable-there place base [] placed apart e = absurd (false≢true e)
+nonrelocatable-there place base (b ∷ above) placed apart e = start b placed (apart-size b above apart.0) e
+    (λ k placed e. nonrelocatable-there place k above placed apart.1 e)
   where
     -- the block is above the first one
-    further : (b : Block) → is_fixed place b ≡ false → 0 < size b → IsThere place (base + size b) above
+    further : (b : Block) → is_nonrelocatable place b ≡ false → 0 < size b → IsThere place (base + size b) above
         → IsThere place base (b ∷ above)
     further b other some r = record {
       s = raised b r.s;
-      found = cond-false (is_fixed place b) _ _ other ∙ ap (option_map (raised b)) r.found;
+      found = cond-false (is_nonrelocatable place b) _ _ other ∙ ap (option_map (raised b)) r.found;
       at =
           let d = r.distance in
           let first : (place - base == 0) ≡ false = grind (arith, nat_tests) in
@@ -73,23 +73,23 @@ fixed-there place base (b ∷ above) placed apart e = start b placed (apart-size
     }
 
     here : (id : ℕ) (content : List ℕ) → id ≡ base → (t : Bool) → (id == place) ≡ t
-        → (t ≡ false → IsThere place (base + size (Fixed id content)) above)
-        → IsThere place base (Fixed id content ∷ above)
+        → (t ≡ false → IsThere place (base + size (Nonrelocatable id content)) above)
+        → IsThere place base (Nonrelocatable id content ∷ above)
     here id content is true e rest = record {
-      s = record { below = []; here = Fixed id content; above = above };
+      s = record { below = []; here = Nonrelocatable id content; above = above };
       found = cond-true (id == place) _ _ e;
       at = let same : id ≡ place = (Decides-eqb id place).0 e in
           let z : (place - base == 0) ≡ true = grind (arith, nat_tests) in cond-true (place - base == 0) _ _ z;
       distance = let same : id ≡ place = (Decides-eqb id place).0 e in omega arith;
     }
-    here id content is false e rest = further (Fixed id content) e (omega arith) (rest refl)
+    here id content is false e rest = further (Nonrelocatable id content) e (omega arith) (rest refl)
 
-    start : (b : Block) → Placed base (b ∷ above) → 0 < size b → has (is_fixed place) (b ∷ above) ≡ true
-        → ((k : ℕ) → Placed k above → has (is_fixed place) above ≡ true → IsThere place k above)
+    start : (b : Block) → Placed base (b ∷ above) → 0 < size b → has (is_nonrelocatable place) (b ∷ above) ≡ true
+        → ((k : ℕ) → Placed k above → has (is_nonrelocatable place) above ≡ true → IsThere place k above)
         → IsThere place base (b ∷ above)
     start (Free n) placed some e rest = further (Free n) refl some (rest (base + n) placed e)
-    start (Fixed id content) placed some e rest = here id content placed.0 (id == place) refl
-        (λ f. rest (base + size (Fixed id content)) placed.1 (ap (λ t. t || has (is_fixed place) above) (sym f) ∙ e))
+    start (Nonrelocatable id content) placed some e rest = here id content placed.0 (id == place) refl
+        (λ f. rest (base + size (Nonrelocatable id content)) placed.1 (ap (λ t. t || has (is_nonrelocatable place) above) (sym f) ∙ e))
     start Masters placed some e rest = further Masters refl some (rest (base + 272) placed e)
     start (Relocatable id flags content) placed some e rest = further (Relocatable id flags content) refl some
         (rest (base + size (Relocatable id flags content)) placed e)
@@ -123,14 +123,14 @@ pointer_number-only es h place id at small is =
     place_from e = cc
 
 -- a block has a pointer's number where it has its place
-pub is_fixed-number : (es : List Anchor) (h place : ℕ) → slice_get es h ≡ Some (Pointer place) → Lone es → h < no_number
-    → (b : Block) → is_fixed h (rename_block (handle_number es) (pointer_number es) b) ≡ is_fixed place b
-is_fixed-number es h place at lone small (Free n) = refl
-is_fixed-number es h place at lone small (Fixed id content) =
+pub is_nonrelocatable-number : (es : List Anchor) (h place : ℕ) → slice_get es h ≡ Some (Pointer place) → Lone es → h < no_number
+    → (b : Block) → is_nonrelocatable h (rename_block (handle_number es) (pointer_number es) b) ≡ is_nonrelocatable place b
+is_nonrelocatable-number es h place at lone small (Free n) = refl
+is_nonrelocatable-number es h place at lone small (Nonrelocatable id content) =
     same_test (pointer_number es id) h id place (pointer_number-only es h place id at small)
     (λ e. ap (pointer_number es) e ∙ pointer_number-at es h place at lone)
-is_fixed-number es h place at lone small Masters = refl
-is_fixed-number es h place at lone small (Relocatable id flags content) = refl
+is_nonrelocatable-number es h place at lone small Masters = refl
+is_nonrelocatable-number es h place at lone small (Relocatable id flags content) = refl
 
 -- a pointer was found where the entry is its own
 target_at-ok : (p : ℕ) (o : Option Anchor) (t : Target) → target_at p o ≡ Ok t → (o ≡ Some (Pointer t.place))
@@ -169,16 +169,16 @@ pub record IsHeld (zone : List Block) (slots : ℕ → Slot) (es : List Anchor) 
     pub entry : slice_get es t.number ≡ Some (Pointer t.place)
     pub looked : pointed_at pointer (state_of zone slots es) ≡ Ok
         (held t.number (rename_spot (handle_number es) (pointer_number es) s))
-    pub found : spot (is_fixed t.place) zone ≡ Some s
+    pub found : spot (is_nonrelocatable t.place) zone ≡ Some s
     pub at : spot_at t.place zone ≡ Some s
     pub there : IsSome (spot_at t.place zone)
     pub distance : sizes s.below ≡ t.place
-    pub fixed : is_fixed t.place s.here ≡ true
+    pub nonrelocatable : is_nonrelocatable t.place s.here ≡ true
     pub few : t.place + 16 + length (content_of s.here) ≤ sizes zone
 
-header-fits : (place : ℕ) (b : Block) → is_fixed place b ≡ true → length (content_of b) + 16 ≤ size b
+header-fits : (place : ℕ) (b : Block) → is_nonrelocatable place b ≡ true → length (content_of b) + 16 ≤ size b
 header-fits place (Free n) e = absurd (false≢true e)
-header-fits place (Fixed id content) e = omega arith
+header-fits place (Nonrelocatable id content) e = omega arith
 header-fits place Masters e = absurd (false≢true e)
 header-fits place (Relocatable id flags content) e = absurd (false≢true e)
 
@@ -193,14 +193,14 @@ pub pointer-held : (zone : List Block) (rest : Rest) (es copy : List Anchor) (po
     → Ok t ≡ target_of pointer copy → IsHeld zone rest.slots es pointer t
 pointer-held zone rest es copy pointer t agrees placed tidied small same is =
     let e = target_of-ok pointer es t (target_in es copy pointer (Ok t) same is) in
-    let there = fixed-there t.place 0 zone placed (apart-tidied zone tidied) (agrees.pointed t.number t.place e.1) in
+    let there = nonrelocatable-there t.place 0 zone placed (apart-tidied zone tidied) (agrees.pointed t.number t.place e.1) in
     let at : spot_at t.place zone ≡ Some there.s = let same : t.place - 0 ≡ t.place = omega arith in
     ap (λ n. spot_at n zone) (sym same) ∙ there.at in
-    let fixed = spot-passes (is_fixed t.place) zone there.s there.found in
+    let nonrelocatable = spot-passes (is_nonrelocatable t.place) zone there.s there.found in
     let distance : sizes there.s.below ≡ t.place = let d = there.distance in omega arith in
-    let header = header-fits t.place there.s.here fixed in
+    let header = header-fits t.place there.s.here nonrelocatable in
     let whole : sizes zone ≡ sizes (there.s.below ++ there.s.here ∷ there.s.above) =
-    ap sizes (spot-is (is_fixed t.place) zone there.s there.found) in
+    ap sizes (spot-is (is_nonrelocatable t.place) zone there.s there.found) in
     let parts : sizes (there.s.below ++ there.s.here ∷ there.s.above)
     ≡ sizes there.s.below + sizes (there.s.here ∷ there.s.above) =
     total-append size there.s.below (there.s.here ∷ there.s.above) in
@@ -213,14 +213,14 @@ pointer-held zone rest es copy pointer t agrees placed tidied small same is =
           ∙ ap (λ o. pointed t.number o (state_of zone rest.slots es))
           (slice_get-map (name_of rest.slots) es t.number ∙ ap (option_map (name_of rest.slots)) e.1)
           ∙ ap (λ o. ok_or (option_map (held t.number) o) NIL_HANDLE)
-          (spot-rename (handle_number es) (pointer_number es) (is_fixed t.number) (is_fixed t.place)
-          (is_fixed-number es t.number t.place e.1 agrees.lone small) zone
+          (spot-rename (handle_number es) (pointer_number es) (is_nonrelocatable t.number) (is_nonrelocatable t.place)
+          (is_nonrelocatable-number es t.number t.place e.1 agrees.lone small) zone
           ∙ ap (option_map (rename_spot (handle_number es) (pointer_number es))) there.found);
       found = there.found;
       at = at;
       there = let P : Option Spot → Type 0 = λ o. IsSome o in subst P (sym at) refl;
       distance = distance;
-      fixed = fixed;
+      nonrelocatable = nonrelocatable;
       few = omega (arith, header, whole, parts, distance);
     }
 
@@ -293,13 +293,13 @@ bytes-told tell zone rest es log value pointer t bytes is there lent =
 
 -- other names of pointers than blocks have
 pub rename_pointer-unless : (f g g' : ℕ → ℕ) (id : ℕ) → ((k : ℕ) → (k == id) ≡ false → g' k ≡ g k) → (bs : List Block)
-    → has (is_fixed id) bs ≡ false → rename f g' bs ≡ rename f g bs
+    → has (is_nonrelocatable id) bs ≡ false → rename f g' bs ≡ rename f g bs
 rename_pointer-unless f g g' id same [] none = refl
 rename_pointer-unless f g g' id same (Free n ∷ bs) none = ap (λ l. Free n ∷ l)
     (rename_pointer-unless f g g' id same bs none)
-rename_pointer-unless f g g' id same (Fixed k content ∷ bs) none =
-    let parts = or_parts (k == id) (has (is_fixed id) bs) none in
-    rw (same k parts.0) (ap (λ l. Fixed (g k) content ∷ l) (rename_pointer-unless f g g' id same bs parts.1))
+rename_pointer-unless f g g' id same (Nonrelocatable k content ∷ bs) none =
+    let parts = or_parts (k == id) (has (is_nonrelocatable id) bs) none in
+    rw (same k parts.0) (ap (λ l. Nonrelocatable (g k) content ∷ l) (rename_pointer-unless f g g' id same bs parts.1))
 rename_pointer-unless f g g' id same (Masters ∷ bs) none = ap (λ l. Masters ∷ l)
     (rename_pointer-unless f g g' id same bs none)
 rename_pointer-unless f g g' id same (Relocatable k flags content ∷ bs) none =
@@ -331,12 +331,12 @@ module _ (zone : List Block) (rest rest' : Rest) (es : List Anchor) (h place : �
     names-left = names-same rest.slots rest'.slots left (λ k s g found. now.slots s)
         ∙ map-set (name_of rest.slots) es h Disposed
 
-    pub agrees-left : Agrees (tidy (freed (is_fixed place) zone)) rest' left
+    pub agrees-left : Agrees (tidy (freed (is_nonrelocatable place) zone)) rest' left
     agrees-left = record {
       used = λ k s g found. ap is_used (now.slots s) ∙ agrees.used k s g (handle-left k s g found);
       apart = λ j k s g o a b. agrees.apart j k s g o (handle-left j s g a) (handle-left k s o b);
-      pointed = λ k p found. fixed-tidy (freed (is_fixed place) zone) p
-          ∙ fixed-freed_other p (is_fixed place) (not_fixed-other p place (λ e. (pointer-left k p found).1 (sym e)))
+      pointed = λ k p found. nonrelocatable-tidy (freed (is_nonrelocatable place) zone) p
+          ∙ nonrelocatable-freed_other p (is_nonrelocatable place) (not_nonrelocatable-other p place (λ e. (pointer-left k p found).1 (sym e)))
           zone ∙ agrees.pointed k p (pointer-left k p found).0;
       lone = λ j k p a b. agrees.lone j k p (pointer-left j p a).0 (pointer-left k p b).0;
       counted =
@@ -351,33 +351,33 @@ module _ (zone : List Block) (rest rest' : Rest) (es : List Anchor) (h place : �
     pub dispose_pointer-done : (pointer : Option ℕ) (s : Spot)
         → pointed_at pointer (state_of zone rest.slots es) ≡ Ok (held h s)
         → dispose_pointer pointer (state_of zone rest.slots es) ≡
-        (Ok tt, state_of (tidy (freed (is_fixed place) zone)) rest'.slots left)
+        (Ok tt, state_of (tidy (freed (is_nonrelocatable place) zone)) rest'.slots left)
     dispose_pointer-done pointer s looked =
         ap (λ r. for_found r (state_of zone rest.slots es) (λ (held : Held). (
           Ok tt,
           record {
-            zone = tidy (freed (is_fixed held.number)
+            zone = tidy (freed (is_nonrelocatable held.number)
                 (rename (handle_number es) (pointer_number es) zone));
             names = slice_set (map (name_of rest.slots) es)
                 held.number names.Disposed;
           },
         ))) looked
-        ∙ ap (λ (s : State). (Ok tt, s)) (state-left (tidy (freed (is_fixed place) zone)) rest'.slots left _ _
+        ∙ ap (λ (s : State). (Ok tt, s)) (state-left (tidy (freed (is_nonrelocatable place) zone)) rest'.slots left _ _
         zone-left names-left)
       where
         zone' : List Block
-        zone' = tidy (freed (is_fixed place) zone)
+        zone' = tidy (freed (is_nonrelocatable place) zone)
 
-        none : has (is_fixed place) zone' ≡ false
-        none = has-tidy (is_fixed place) (λ n. refl) (freed (is_fixed place) zone)
-            ∙ has-freed (is_fixed place) (λ n. refl) zone
+        none : has (is_nonrelocatable place) zone' ≡ false
+        none = has-tidy (is_nonrelocatable place) (λ n. refl) (freed (is_nonrelocatable place) zone)
+            ∙ has-freed (is_nonrelocatable place) (λ n. refl) zone
 
-        zone-left : tidy (freed (is_fixed h) (rename (handle_number es) (pointer_number es) zone))
+        zone-left : tidy (freed (is_nonrelocatable h) (rename (handle_number es) (pointer_number es) zone))
             ≡ rename (handle_number left) (pointer_number left) zone'
         zone-left =
-            ap tidy (freed-rename (handle_number es) (pointer_number es) (is_fixed h) (is_fixed place)
-            (is_fixed-number es h place at agrees.lone small) zone)
-            ∙ tidy-rename (handle_number es) (pointer_number es) (freed (is_fixed place) zone)
+            ap tidy (freed-rename (handle_number es) (pointer_number es) (is_nonrelocatable h) (is_nonrelocatable place)
+            (is_nonrelocatable-number es h place at agrees.lone small) zone)
+            ∙ tidy-rename (handle_number es) (pointer_number es) (freed (is_nonrelocatable place) zone)
             ∙ sym (rename_slots-same (handle_number es) (handle_number left) (pointer_number left)
             (λ k. number_from-set 0 (leads_to k) es h (Pointer place) Disposed at refl refl) zone'
             ∙ rename_pointer-unless (handle_number es) (pointer_number es) (pointer_number left) place

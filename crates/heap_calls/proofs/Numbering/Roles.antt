@@ -8,7 +8,7 @@ use Rattle.std.proofs.lemmas.Bool.{cond-true, cond-false, false_from_ne_true}
 use Rattle.std.proofs.lemmas.Bool.Decides.{Decides-eqb}
 use Rattle.std.specs.Option.{option_map}
 use Rattle.mac_words.specs.declared.code.TheConstants.OsErr.{PROFILE}
-use Rattle.block_store.specs.Block.{Block, Free, Fixed, Masters, Relocatable, rename, is_relocatable}
+use Rattle.block_store.specs.Block.{Block, Free, Nonrelocatable, Masters, Relocatable, rename, is_relocatable}
 use Rattle.block_store.specs.Run.{has}
 use Rattle.block_store.specs.Room.{spot}
 use Rattle.block_store.specs.Find.{FindsLowest}
@@ -133,7 +133,7 @@ block-none zone slots es h e is small = over zone
     over : (zone : List Block) → has (is_relocatable h) (rename (handle_number es) (pointer_number es) zone) ≡ false
     over [] = refl
     over (Free n ∷ zone) = over zone
-    over (Fixed id content ∷ zone) = over zone
+    over (Nonrelocatable id content ∷ zone) = over zone
     over (Masters ∷ zone) = over zone
     over (Relocatable id flags content ∷ zone) =
         ap (λ t. t || has (is_relocatable h) (rename (handle_number es) (pointer_number es) zone))

@@ -10,8 +10,8 @@ use Rattle.mac_words.specs.Size.{phys, padded}
 use Rattle.mac_words.specs.declared.code.OsErr.{OsErr}
 use Rattle.mac_words.specs.declared.code.TheConstants.OsErr.{MEM_FULL, LOCKED, PROFILE, PURGED}
 use Rattle.block_store.specs.declared.flags.Flags.{Flags}
-use Rattle.block_store.specs.Block.{Block, Free, Fixed, Masters, Relocatable, size, sizes, total, count, is_mover}
-use Rattle.block_store.specs.Block.{is_relocatable, is_fixed, content_of, with_content, no_flags, tidy, resized}
+use Rattle.block_store.specs.Block.{Block, Free, Nonrelocatable, Masters, Relocatable, size, sizes, total, count, is_mover}
+use Rattle.block_store.specs.Block.{is_relocatable, is_nonrelocatable, content_of, with_content, no_flags, tidy, resized}
 use Rattle.block_store.specs.Block.{resized_content}
 use Rattle.windows.specs.Writes.{written}
 use Rattle.block_store.specs.Run.{in_run, change_run, has, high, runs}
@@ -67,7 +67,7 @@ LeavesFlags seen zone k change = (at : Spot) → spot (is_relocatable k) zone �
 -- a call that disposes of a block or changes its flags leaves what is seen
 abbrev pub Leaves : (Block → Bool) → List Block → Asked → Type 0
 Leaves seen zone (asked.DisposeHandle (Some k)) = (b : Block) → is_relocatable k b ≡ true → seen b ≡ false
-Leaves seen zone (asked.DisposePtr (Some p)) = (b : Block) → is_fixed p b ≡ true → seen b ≡ false
+Leaves seen zone (asked.DisposePtr (Some p)) = (b : Block) → is_nonrelocatable p b ≡ true → seen b ≡ false
 Leaves seen zone (asked.HLock (Some k)) = LeavesFlags seen zone k (λ f. record f { locked = true })
 Leaves seen zone (asked.HUnlock (Some k)) = LeavesFlags seen zone k (λ f. record f { locked = false })
 Leaves seen zone (asked.HPurge (Some k)) = LeavesFlags seen zone k (λ f. record f { purgeable = true })
@@ -84,20 +84,20 @@ LeavesLoose seen zone = (k : ℕ) → is_loose (spot (is_relocatable k) zone) �
 written-size : (i : ℕ) (x : List ℕ) (b : Block) → i + length x ≤ length (content_of b)
     → size b ≡ size (with_content (written i x (content_of b)) b)
 written-size i x (Free n) fits = refl
-written-size i x (Fixed id content) fits = ap padded (sym (length-written i x content fits))
+written-size i x (Nonrelocatable id content) fits = ap padded (sym (length-written i x content fits))
 written-size i x Masters fits = refl
 written-size i x (Relocatable id flags content) fits = ap padded (sym (length-written i x content fits))
 
 flagged-size : (change : Flags → Flags) (b : Block) → size b ≡ size (flagged change b)
 flagged-size change (Free n) = refl
-flagged-size change (Fixed id content) = refl
+flagged-size change (Nonrelocatable id content) = refl
 flagged-size change Masters = refl
 flagged-size change (Relocatable id flags content) = refl
 
 pub flagged-number : (change : Flags → Flags) (k : ℕ) (b : Block)
     → is_relocatable k (flagged change b) ≡ is_relocatable k b
 flagged-number change k (Free n) = refl
-flagged-number change k (Fixed id content) = refl
+flagged-number change k (Nonrelocatable id content) = refl
 flagged-number change k Masters = refl
 flagged-number change k (Relocatable id flags content) = refl
 
@@ -111,11 +111,11 @@ grown-fits : (k : ℕ) (sp : Block → Bool) (n : ℕ) (zone z : List Block) →
     → length (content_of at.here) ≡ n
 grown-fits k sp n zone z once e at found =
     grow-some (is_relocatable k) sp n zone z (length (content_of at.here) ≡ n) (λ s was small is. from s was)
-    (λ s j was more mover is. from s was) (λ s was more fixed is. from s was) e
+    (λ s j was more mover is. from s was) (λ s was more nonrelocatable is. from s was) e
   where
     fits : (b : Block) → is_relocatable k b ≡ true → misfit k n (resized n b) ≡ 0
     fits (Free m) passes = refl
-    fits (Fixed id content) passes = refl
+    fits (Nonrelocatable id content) passes = refl
     fits Masters passes = refl
     fits (Relocatable id flags content) passes = cond-false (id == k && not (length (resized_content n content) == n)) 1
         0 (rw (passes, (Decides-eqb (length (resized_content n content)) n).1 (length-resized n content)) refl)
@@ -322,16 +322,16 @@ module _ (seen : Block → Bool) (steady : Steady seen)
         (λ at found mover. (loose k (ap is_loose found ∙ mover), once k))
 
     -- a pointer's block at another size: it never moves
-    alike-sized_pointer : (p : ℕ) (n : ℕ) (zone z : List Block) → grow (is_fixed p) nothing n zone ≡ Some z
+    alike-sized_pointer : (p : ℕ) (n : ℕ) (zone z : List Block) → grow (is_nonrelocatable p) nothing n zone ≡ Some z
         → Alike seen zone z
     alike-sized_pointer p n zone z =
-        alike-grown seen rigid steady.sized (is_fixed p) (λ m. refl) nothing n zone z
+        alike-grown seen rigid steady.sized (is_nonrelocatable p) (λ m. refl) nothing n zone z
         (λ at found mover. let f : true ≡ false = sym mover ∙ stands_still at.here
-        (spot-passes (is_fixed p) zone at found) in cc)
+        (spot-passes (is_nonrelocatable p) zone at found) in cc)
       where
-        stands_still : (b : Block) → is_fixed p b ≡ true → is_mover b ≡ false
+        stands_still : (b : Block) → is_nonrelocatable p b ≡ true → is_mover b ≡ false
         stands_still (Free m) e = refl
-        stands_still (Fixed id content) e = refl
+        stands_still (Nonrelocatable id content) e = refl
         stands_still Masters e = refl
         stands_still (Relocatable id flags content) e = let f : false ≡ true = e in cc
 
@@ -374,7 +374,7 @@ module _ (seen : Block → Bool) (steady : Steady seen)
 
     -- each call
     pub alike-answered : (a : Asked) (m : Memory) → OneBlockEach m.heap.zone → LeavesLoose seen m.heap.zone
-        → ((x : List ℕ) → seen (Fixed (length m.heap.names) x) ≡ false) → Leaves seen m.heap.zone a
+        → ((x : List ℕ) → seen (Nonrelocatable (length m.heap.names) x) ≡ false) → Leaves seen m.heap.zone a
         → Alike seen m.heap.zone (answered a m).1.heap.zone
     alike-answered (asked.NewHandle n) m once loose new leaves =
         alike-ready nothing m.heap (λ ready. if is_some (phys n) then new_block nothing (replicate n 0) ready
@@ -500,11 +500,11 @@ module _ (seen : Block → Bool) (steady : Steady seen)
     alike-answered (asked.NewPtr n) m once loose new leaves = by_size (is_some (phys n))
       where
         made : Option (List Block)
-        made = room (put_at_base (Fixed (length m.heap.names) (replicate n 0))) nothing m.heap.zone
+        made = room (put_at_base (Nonrelocatable (length m.heap.names) (replicate n 0))) nothing m.heap.zone
 
         by_room : (o : Option (List Block)) → made ≡ o → Alike seen m.heap.zone (given names.Pointer o m.heap).1.zone
         by_room None e = same m.heap.zone
-        by_room (Some z) e = alike-base nothing (Fixed (length m.heap.names) (replicate n 0)) (new (replicate n 0))
+        by_room (Some z) e = alike-base nothing (Nonrelocatable (length m.heap.names) (replicate n 0)) (new (replicate n 0))
             m.heap.zone z e
 
         by_size : (t : Bool) → Alike seen m.heap.zone (cond t (given names.Pointer made m.heap)
@@ -516,25 +516,25 @@ module _ (seen : Block → Bool) (steady : Steady seen)
         alike-found (pointed_at (Some p) m.heap) m.heap (λ held. (
           Ok tt,
           record {
-            zone = tidy (freed (is_fixed held.number) m.heap.zone);
+            zone = tidy (freed (is_nonrelocatable held.number) m.heap.zone);
             names = slice_set m.heap.names
                 held.number names.Disposed;
           },
         ))
-        (λ held is. subst (λ (j : ℕ). Alike seen m.heap.zone (tidy (freed (is_fixed j) m.heap.zone)))
-        (sym (pointed_at-spot p m.heap held is).1) (alike-gone (is_fixed p) leaves m.heap.zone))
+        (λ held is. subst (λ (j : ℕ). Alike seen m.heap.zone (tidy (freed (is_nonrelocatable j) m.heap.zone)))
+        (sym (pointed_at-spot p m.heap held is).1) (alike-gone (is_nonrelocatable p) leaves m.heap.zone))
     alike-answered (asked.GetPtrSize pointer) m once loose new leaves =
         unmoved m.heap (answered (asked.GetPtrSize pointer) m).1.heap
         (found-same (pointed_at pointer m.heap) m.heap (λ held. (Ok (length (content_of held.at.here)), m.heap))
         (λ held. refl))
     alike-answered (asked.SetPtrSize pointer n) m once loose new leaves =
         alike-found (pointed_at pointer m.heap) m.heap (λ held. if is_some (phys n)
-        then rebuilt (grow (is_fixed held.number) nothing n m.heap.zone) m.heap else refused MEM_FULL m.heap)
+        then rebuilt (grow (is_nonrelocatable held.number) nothing n m.heap.zone) m.heap else refused MEM_FULL m.heap)
         (λ held is. by_size held.number (is_some (phys n)))
       where
         by_size : (j : ℕ) (t : Bool) → Alike seen m.heap.zone (cond t
-            (rebuilt (grow (is_fixed j) nothing n m.heap.zone) m.heap) (refused MEM_FULL m.heap)).1.zone
-        by_size j true = alike-rebuilt m.heap (grow (is_fixed j) nothing n m.heap.zone)
+            (rebuilt (grow (is_nonrelocatable j) nothing n m.heap.zone) m.heap) (refused MEM_FULL m.heap)).1.zone
+        by_size j true = alike-rebuilt m.heap (grow (is_nonrelocatable j) nothing n m.heap.zone)
             (λ zone e. alike-sized_pointer j n m.heap.zone zone e)
         by_size j false = same m.heap.zone
     alike-answered asked.FreeMem m once loose new leaves = same m.heap.zone
@@ -574,7 +574,7 @@ module _ (seen : Block → Bool) (steady : Steady seen)
     alike-answered (asked.PutPtr None i x) m once loose new leaves = same m.heap.zone
     alike-answered (asked.PutPtr (Some p) i x) m once loose new leaves =
         alike-found (pointed_at (Some p) m.heap) m.heap (λ held. written_at i x held.at m.heap)
-        (λ held is. alike-put_at (is_fixed p) i x m.heap held.at (pointed_at-spot p m.heap held is).0)
+        (λ held is. alike-put_at (is_nonrelocatable p) i x m.heap held.at (pointed_at-spot p m.heap held is).0)
     alike-answered (asked.ShowPtr pointer) m once loose new leaves =
         unmoved m.heap (answered (asked.ShowPtr pointer) m).1.heap
         (found-same (pointed_at pointer m.heap) m.heap (λ held. (Ok (content_of held.at.here), m.heap))

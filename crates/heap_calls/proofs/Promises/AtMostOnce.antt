@@ -1,6 +1,6 @@
 use Rattle.std.proofs.Common.{ℕ, ◌+◌, ◌≤◌, zero, suc, Bool, true, false, List, [], ◌∷◌, refl, cond, arith, map, length}
 use Rattle.mac_words.specs.Size.{phys}
-use Rattle.block_store.specs.Block.{Block, Free, Fixed, Masters, Relocatable, size, count, is_mover}
+use Rattle.block_store.specs.Block.{Block, Free, Nonrelocatable, Masters, Relocatable, size, count, is_mover}
 use Rattle.block_store.specs.Run.{in_run, Stretch, Segments, segments, runs}
 use Rattle.block_store.specs.Room.{may_be_purged, lowest_purged, purge}
 use Rattle.block_store.specs.Compact.{lowered_in_runs, runs_settled}
@@ -16,7 +16,7 @@ use Rattle.heap_calls.specs.Purging.{purged_all, purgeable}
 lowered_in_run-le : (run : List Block) → lowered_in_run run ≤ count is_mover run
 lowered_in_run-le [] = omega arith
 lowered_in_run-le (Free n ∷ run) = omega arith
-lowered_in_run-le (Fixed id content ∷ run) = omega (arith, lowered_in_run-le run)
+lowered_in_run-le (Nonrelocatable id content ∷ run) = omega (arith, lowered_in_run-le run)
 lowered_in_run-le (Masters ∷ run) = omega (arith, lowered_in_run-le run)
 lowered_in_run-le (Relocatable id flags content ∷ run) = omega (arith, lowered_in_run-le run)
 

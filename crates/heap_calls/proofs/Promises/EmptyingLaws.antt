@@ -10,8 +10,8 @@ use Rattle.mac_words.specs.Size.{phys}
 use Rattle.mac_words.specs.declared.code.OsErr.{OsErr}
 use Rattle.mac_words.specs.declared.code.TheConstants.OsErr.{MEM_FULL, LOCKED, PROFILE, PURGED}
 use Rattle.block_store.specs.declared.flags.Flags.{Flags}
-use Rattle.block_store.specs.Block.{Block, Free, Fixed, Masters, Relocatable, sizes, total, count, is_mover}
-use Rattle.block_store.specs.Block.{is_purgeable, is_masters, is_relocatable, is_fixed, content_of, with_content}
+use Rattle.block_store.specs.Block.{Block, Free, Nonrelocatable, Masters, Relocatable, sizes, total, count, is_mover}
+use Rattle.block_store.specs.Block.{is_purgeable, is_masters, is_relocatable, is_nonrelocatable, content_of, with_content}
 use Rattle.block_store.specs.Block.{no_flags, tidy, resized}
 use Rattle.windows.specs.Writes.{written}
 use Rattle.block_store.specs.Run.{has, runs}
@@ -61,7 +61,7 @@ abbrev pub Spares : (Block → ℕ) → Asked → Type 0
 Spares of (asked.DisposeHandle (Some k)) = Unseen of (is_relocatable k)
 Spares of (asked.EmptyHandle (Some k)) = Unseen of (is_relocatable k)
 Spares of (asked.ReallocateHandle (Some k) n) = Unseen of (is_relocatable k)
-Spares of (asked.DisposePtr (Some p)) = Unseen of (is_fixed p)
+Spares of (asked.DisposePtr (Some p)) = Unseen of (is_nonrelocatable p)
 Spares of (asked.HLock handle) = Rises of (λ f. record f { locked = true })
 Spares of (asked.HUnlock handle) = Rises of (λ f. record f { locked = false })
 Spares of (asked.HPurge handle) = Rises of (λ f. record f { purgeable = true })
@@ -350,12 +350,12 @@ module _ (of : Block → ℕ) (none : (n : ℕ) → of (Free n) ≡ 0) (goes : (
     of-answered (asked.NewPtr n) m once spares = by_size (is_some (phys n))
       where
         made : Option (List Block)
-        made = room (put_at_base (Fixed (length m.heap.names) (replicate n 0))) nothing m.heap.zone
+        made = room (put_at_base (Nonrelocatable (length m.heap.names) (replicate n 0))) nothing m.heap.zone
 
         by_room : (o : Option (List Block)) → made ≡ o → total of m.heap.zone ≤ total of
             (given names.Pointer o m.heap).1.zone
         by_room None e = omega arith
-        by_room (Some z) e = base-all of none goes (Fixed (length m.heap.names) (replicate n 0)) nothing m.heap.zone z e
+        by_room (Some z) e = base-all of none goes (Nonrelocatable (length m.heap.names) (replicate n 0)) nothing m.heap.zone z e
 
         by_size : (t : Bool) → total of m.heap.zone ≤ total of (cond t (given names.Pointer made m.heap)
             (refused MEM_FULL m.heap)).1.zone
@@ -366,35 +366,35 @@ module _ (of : Block → ℕ) (none : (n : ℕ) → of (Free n) ≡ 0) (goes : (
         of-found (pointed_at (Some p) m.heap) m.heap (λ held. (
           Ok tt,
           record {
-            zone = tidy (freed (is_fixed held.number) m.heap.zone);
+            zone = tidy (freed (is_nonrelocatable held.number) m.heap.zone);
             names = slice_set m.heap.names held.number
                 names.Disposed;
           },
         ))
-        (λ held is. subst (λ (j : ℕ). total of m.heap.zone ≤ total of (tidy (freed (is_fixed j) m.heap.zone)))
-        (sym (pointed_at-spot p m.heap held is).1) (of-gone (is_fixed p) spares m.heap.zone))
+        (λ held is. subst (λ (j : ℕ). total of m.heap.zone ≤ total of (tidy (freed (is_nonrelocatable j) m.heap.zone)))
+        (sym (pointed_at-spot p m.heap held is).1) (of-gone (is_nonrelocatable p) spares m.heap.zone))
     of-answered (asked.GetPtrSize pointer) m once spares =
         unmoved m.heap (answered (asked.GetPtrSize pointer) m).1.heap
         (found-same (pointed_at pointer m.heap) m.heap (λ held. (Ok (length (content_of held.at.here)), m.heap))
         (λ held. refl))
     of-answered (asked.SetPtrSize pointer n) m once spares =
         of-found (pointed_at pointer m.heap) m.heap (λ held. if is_some (phys n)
-        then rebuilt (grow (is_fixed held.number) nothing n m.heap.zone) m.heap else refused MEM_FULL m.heap)
+        then rebuilt (grow (is_nonrelocatable held.number) nothing n m.heap.zone) m.heap else refused MEM_FULL m.heap)
         (λ held is. by_size held.number (is_some (phys n)))
       where
-        still : (p : ℕ) (b : Block) (R : Type 0) → is_fixed p b ≡ true → is_mover b ≡ true → R
+        still : (p : ℕ) (b : Block) (R : Type 0) → is_nonrelocatable p b ≡ true → is_mover b ≡ true → R
         still p (Free k) R e mover = let f : false ≡ true = e in cc
-        still p (Fixed id content) R e mover = let f : false ≡ true = mover in cc
+        still p (Nonrelocatable id content) R e mover = let f : false ≡ true = mover in cc
         still p Masters R e mover = let f : false ≡ true = e in cc
         still p (Relocatable id flags content) R e mover = let f : false ≡ true = e in cc
 
         by_size : (j : ℕ) (t : Bool) → total of m.heap.zone ≤ total of
-            (cond t (rebuilt (grow (is_fixed j) nothing n m.heap.zone) m.heap) (refused MEM_FULL m.heap)).1.zone
+            (cond t (rebuilt (grow (is_nonrelocatable j) nothing n m.heap.zone) m.heap) (refused MEM_FULL m.heap)).1.zone
         by_size j true =
-            of-rebuilt m.heap (grow (is_fixed j) nothing n m.heap.zone)
-            (λ zone e. grown-all of none goes sized (is_fixed j) nothing n m.heap.zone zone
-            (λ s found mover. still j s.here (count (is_fixed j) m.heap.zone ≤ 1)
-            (spot-passes (is_fixed j) m.heap.zone s found) mover) e)
+            of-rebuilt m.heap (grow (is_nonrelocatable j) nothing n m.heap.zone)
+            (λ zone e. grown-all of none goes sized (is_nonrelocatable j) nothing n m.heap.zone zone
+            (λ s found mover. still j s.here (count (is_nonrelocatable j) m.heap.zone ≤ 1)
+            (spot-passes (is_nonrelocatable j) m.heap.zone s found) mover) e)
         by_size j false = omega arith
     of-answered asked.FreeMem m once spares = omega arith
     of-answered asked.MaxBlock m once spares = omega arith
@@ -431,7 +431,7 @@ module _ (of : Block → ℕ) (none : (n : ℕ) → of (Free n) ≡ 0) (goes : (
     of-answered (asked.PutPtr None i x) m once spares = omega arith
     of-answered (asked.PutPtr (Some p) i x) m once spares =
         of-found (pointed_at (Some p) m.heap) m.heap (λ held. written_at i x held.at m.heap)
-        (λ held is. of-put_at (is_fixed p) i x m.heap held.at (pointed_at-spot p m.heap held is).0)
+        (λ held is. of-put_at (is_nonrelocatable p) i x m.heap held.at (pointed_at-spot p m.heap held is).0)
     of-answered (asked.ShowPtr pointer) m once spares =
         unmoved m.heap (answered (asked.ShowPtr pointer) m).1.heap
         (found-same (pointed_at pointer m.heap) m.heap (λ held. (Ok (content_of held.at.here), m.heap))
@@ -457,13 +457,13 @@ stays-goes h b e = ap {B = ℕ} (λ (t : Bool). cond (is_relocatable h b && not 
 
 pub stays-sized : (h n : ℕ) (b : Block) → stays h b ≡ stays h (resized n b)
 stays-sized h n (Free m) = refl
-stays-sized h n (Fixed id content) = refl
+stays-sized h n (Nonrelocatable id content) = refl
 stays-sized h n Masters = refl
 stays-sized h n (Relocatable id flags content) = refl
 
 pub stays-filled : (h : ℕ) (x : List ℕ) (b : Block) → stays h b ≡ stays h (with_content x b)
 stays-filled h x (Free m) = refl
-stays-filled h x (Fixed id content) = refl
+stays-filled h x (Nonrelocatable id content) = refl
 stays-filled h x Masters = refl
 stays-filled h x (Relocatable id flags content) = refl
 
@@ -492,16 +492,16 @@ stays-all h (b ∷ bs) e = cases (is_relocatable h b) (is_purgeable b) e (λ e. 
 -- a block of another handle, or of a pointer
 pub stays-other : (h k : ℕ) → (k == h) ≡ false → Unseen (stays h) (is_relocatable k)
 stays-other h k other (Free n) e = refl
-stays-other h k other (Fixed id content) e = refl
+stays-other h k other (Nonrelocatable id content) e = refl
 stays-other h k other Masters e = refl
 stays-other h k other (Relocatable id flags content) e = cond-false
     ((id == h) && not (is_purgeable (Relocatable id flags content))) 1 0
     (ap (λ j. (j == h) && not (is_purgeable (Relocatable id flags content))) ((Decides-eqb id k).0 e)
     ∙ ap (λ t. t && not (is_purgeable (Relocatable id flags content))) other)
 
-stays-pointer : (h p : ℕ) → Unseen (stays h) (is_fixed p)
+stays-pointer : (h p : ℕ) → Unseen (stays h) (is_nonrelocatable p)
 stays-pointer h p (Free n) e = refl
-stays-pointer h p (Fixed id content) e = refl
+stays-pointer h p (Nonrelocatable id content) e = refl
 stays-pointer h p Masters e = refl
 stays-pointer h p (Relocatable id flags content) e = let f : false ≡ true = e in cc
 
@@ -509,7 +509,7 @@ stays-pointer h p (Relocatable id flags content) e = let f : false ≡ true = e 
 stays-rises : (h : ℕ) (change : Flags → Flags) → ((f : Flags) → (not (change f).locked && (change f).purgeable) ≡ false)
     → Rises (stays h) change
 stays-rises h change kept (Free n) = omega arith
-stays-rises h change kept (Fixed id content) = omega arith
+stays-rises h change kept (Nonrelocatable id content) = omega arith
 stays-rises h change kept Masters = omega arith
 stays-rises h change kept (Relocatable id flags content) =
     let z : stays h (Relocatable id (change flags) content) ≡ cond {A = ℕ} (id == h && true) 1 0 =
@@ -624,37 +624,37 @@ masters b = cond (is_masters b) 1 0
 
 pub masters-goes : (b : Block) → is_purgeable b ≡ true → masters b ≡ 0
 masters-goes (Free n) e = refl
-masters-goes (Fixed id content) e = refl
+masters-goes (Nonrelocatable id content) e = refl
 masters-goes Masters e = let f : false ≡ true = e in cc
 masters-goes (Relocatable id flags content) e = refl
 
 pub masters-sized : (n : ℕ) (b : Block) → masters b ≡ masters (resized n b)
 masters-sized n (Free m) = refl
-masters-sized n (Fixed id content) = refl
+masters-sized n (Nonrelocatable id content) = refl
 masters-sized n Masters = refl
 masters-sized n (Relocatable id flags content) = refl
 
 pub masters-filled : (x : List ℕ) (b : Block) → masters b ≡ masters (with_content x b)
 masters-filled x (Free m) = refl
-masters-filled x (Fixed id content) = refl
+masters-filled x (Nonrelocatable id content) = refl
 masters-filled x Masters = refl
 masters-filled x (Relocatable id flags content) = refl
 
 pub masters-handle : (k : ℕ) → Unseen masters (is_relocatable k)
 masters-handle k (Free n) e = refl
-masters-handle k (Fixed id content) e = refl
+masters-handle k (Nonrelocatable id content) e = refl
 masters-handle k Masters e = let f : false ≡ true = e in cc
 masters-handle k (Relocatable id flags content) e = refl
 
-masters-pointer : (p : ℕ) → Unseen masters (is_fixed p)
+masters-pointer : (p : ℕ) → Unseen masters (is_nonrelocatable p)
 masters-pointer p (Free n) e = refl
-masters-pointer p (Fixed id content) e = refl
+masters-pointer p (Nonrelocatable id content) e = refl
 masters-pointer p Masters e = let f : false ≡ true = e in cc
 masters-pointer p (Relocatable id flags content) e = refl
 
 masters-rises : (change : Flags → Flags) → Rises masters change
 masters-rises change (Free n) = omega arith
-masters-rises change (Fixed id content) = omega arith
+masters-rises change (Nonrelocatable id content) = omega arith
 masters-rises change Masters = omega arith
 masters-rises change (Relocatable id flags content) = omega arith
 

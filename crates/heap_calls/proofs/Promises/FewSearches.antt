@@ -5,8 +5,8 @@ use Rattle.std.specs.Option.{option_map, option_or}
 use Rattle.std.specs.Prelude.{is_some, if◌then◌else◌}
 use Rattle.mac_words.specs.Size.{phys}
 use Rattle.mac_words.specs.declared.code.OsErr.{OsErr}
-use Rattle.block_store.specs.Block.{Block, Free, Fixed, Masters, Relocatable, size, count, fresh, is_mover, is_masters}
-use Rattle.block_store.specs.Block.{is_relocatable, is_fixed, no_flags, content_of}
+use Rattle.block_store.specs.Block.{Block, Free, Nonrelocatable, Masters, Relocatable, size, count, fresh, is_mover, is_masters}
+use Rattle.block_store.specs.Block.{is_relocatable, is_nonrelocatable, no_flags, content_of}
 use Rattle.block_store.specs.Run.{Stretch, Segments, in_run, has_free, segments, runs}
 use Rattle.block_store.specs.Room.{Spot, spot, put_at_base, put_in_place, purge, lowest_purged, may_be_purged, count_of}
 use Rattle.block_store.specs.Room.{least, room}
@@ -74,7 +74,7 @@ count-length test (b ∷ bs) = cases (test b) (count-length test bs)
 goes-stays : (sp : Block → Bool) (bs : List Block) → count_of sp bs + count is_masters bs ≤ length bs
 goes-stays sp [] = omega arith
 goes-stays sp (Free n ∷ bs) = let r = goes-stays sp bs in omega arith
-goes-stays sp (Fixed id content ∷ bs) = let r = goes-stays sp bs in omega arith
+goes-stays sp (Nonrelocatable id content ∷ bs) = let r = goes-stays sp bs in omega arith
 goes-stays sp (Masters ∷ bs) = let r = goes-stays sp bs in omega arith
 goes-stays sp (Relocatable id flags content ∷ bs) = cases (may_be_purged sp (Relocatable id flags content))
     (goes-stays sp bs)
@@ -324,17 +324,17 @@ row_few (asked.PtrAndHand handle x) m masters =
 row_few (asked.NewPtr n) m masters =
     let s = m.heap in
     let few =
-    only-if (is_some (phys n)) (room_searches (put_at_base (Fixed (length s.names) (replicate n 0))) nothing s.zone)
+    only-if (is_some (phys n)) (room_searches (put_at_base (Nonrelocatable (length s.names) (replicate n 0))) nothing s.zone)
     (length s.zone + 1)
-    (let r = room-blocks (put_at_base (Fixed (length s.names) (replicate n 0))) nothing s.zone masters in omega arith)
+    (let r = room-blocks (put_at_base (Nonrelocatable (length s.names) (replicate n 0))) nothing s.zone masters in omega arith)
     in
     few
 row_few (asked.SetPtrSize pointer n) m masters =
     let zone = m.heap.zone in
     let few =
-    found-few (pointed_at pointer m.heap) (λ held. size_searches (is_fixed held.number) nothing n zone)
+    found-few (pointed_at pointer m.heap) (λ held. size_searches (is_nonrelocatable held.number) nothing n zone)
     (length zone + 1)
-    (λ held. size-few (is_fixed held.number) nothing n zone masters) in
+    (λ held. size-few (is_nonrelocatable held.number) nothing n zone masters) in
     few
 row_few (asked.CompactMem n) m masters = compact-few n m.heap
 row_few (asked.PurgeMem n) m masters =
@@ -392,7 +392,7 @@ no_run_has_a_block = refl
 
 -- packed runs are looked at too, and those with no Free block
 each_run_with_a_block : searches_in
-    (Masters ∷ Free 32 ∷ Masters ∷ Masters ∷ Relocatable 0 no_flags [] ∷ Fixed 0 [] ∷ []) ≡ 3
+    (Masters ∷ Free 32 ∷ Masters ∷ Masters ∷ Relocatable 0 no_flags [] ∷ Nonrelocatable 0 [] ∷ []) ≡ 3
 each_run_with_a_block = refl
 
 -- it ends where a block has room

@@ -10,8 +10,8 @@ use Rattle.std.specs.Prelude.{bytes_eq}
 use Rattle.mac_words.specs.declared.code.OsErr.{OsErr}
 use Rattle.mac_words.specs.declared.code.TheConstants.OsErr.{NIL_HANDLE}
 use Rattle.block_store.specs.declared.flags.Flags.{Flags}
-use Rattle.block_store.specs.Block.{Block, Free, Fixed, Masters, Relocatable, total, count, free, is_relocatable}
-use Rattle.block_store.specs.Block.{is_fixed, content_of}
+use Rattle.block_store.specs.Block.{Block, Free, Nonrelocatable, Masters, Relocatable, total, count, free, is_relocatable}
+use Rattle.block_store.specs.Block.{is_nonrelocatable, content_of}
 use Rattle.block_store.specs.Room.{Spot, spot}
 use Rattle.block_store.proofs.Zone.Tidy.{spot-is, spot-passes}
 use Rattle.block_store.proofs.Zone.Totals.{total-append, total-le}
@@ -55,7 +55,7 @@ pointer-only (Some names.Disposed) e = refl
 -- 1 for a block whose number stands for something else, or that doesn't hold its number's bytes
 abbrev pub strange : (ℕ → List ℕ) → List Meaning → Block → ℕ
 strange bytes ns (Free m) = 0
-strange bytes ns (Fixed id content) = cond (for_pointer (slice_get ns id) && bytes_eq content (bytes id)) 0 1
+strange bytes ns (Nonrelocatable id content) = cond (for_pointer (slice_get ns id) && bytes_eq content (bytes id)) 0 1
 strange bytes ns Masters = 0
 strange bytes ns (Relocatable id flags content) = cond (for_handle (slice_get ns id) && bytes_eq content (bytes id)) 0 1
 
@@ -63,7 +63,7 @@ strange bytes ns (Relocatable id flags content) = cond (for_handle (slice_get ns
 pub record Known (s : State) (bytes : ℕ → List ℕ) : Type 0 where
   pub blocks : total (strange bytes s.names) s.zone ≤ 0
   pub once : (h : ℕ) → count (is_relocatable h) s.zone ≤ 1
-  pub single : (p : ℕ) → count (is_fixed p) s.zone ≤ 1
+  pub single : (p : ℕ) → count (is_nonrelocatable p) s.zone ≤ 1
 
 -- a block that isn't strange
 plain-parts : (t : Bool) (content bytes : List ℕ) → cond {A = ℕ} (t && bytes_eq content bytes) 0 1 ≤ 0 → (t ≡ true)
@@ -104,7 +104,7 @@ look_up-spot h s k is = by_name (slice_get s.names h) is
 
 -- the block of a pointer
 pointed-spot : (p : ℕ) (o : Option Meaning) (s : State) (k : Held) → pointed p o s ≡ Ok k
-    → (spot (is_fixed p) s.zone ≡ Some k.at) × (k.number ≡ p)
+    → (spot (is_nonrelocatable p) s.zone ≡ Some k.at) × (k.number ≡ p)
 pointed-spot p o s k is = by_name o is
   where
     by_spot : (o : Option Spot) → ok_or {E = OsErr} (option_map
@@ -114,14 +114,14 @@ pointed-spot p o s k is = by_name o is
     by_spot (Some at) e = let same : (record { number = p; at = at }) ≡ k = cc in
         (ap (λ (x : Held). Some x.at) same, ap (λ (x : Held). x.number) (sym same))
 
-    by_name : (o : Option Meaning) → pointed p o s ≡ Ok k → (spot (is_fixed p) s.zone ≡ Some k.at) × (k.number ≡ p)
+    by_name : (o : Option Meaning) → pointed p o s ≡ Ok k → (spot (is_nonrelocatable p) s.zone ≡ Some k.at) × (k.number ≡ p)
     by_name None e = cc
     by_name (Some (names.Handle role)) e = cc
-    by_name (Some names.Pointer) e = by_spot (spot (is_fixed p) s.zone) e
+    by_name (Some names.Pointer) e = by_spot (spot (is_nonrelocatable p) s.zone) e
     by_name (Some names.Disposed) e = cc
 
 pub pointed_at-spot : (p : ℕ) (s : State) (k : Held) → pointed_at (Some p) s ≡ Ok k
-    → (spot (is_fixed p) s.zone ≡ Some k.at) × (k.number ≡ p)
+    → (spot (is_nonrelocatable p) s.zone ≡ Some k.at) × (k.number ≡ p)
 pointed_at-spot p s k is = pointed-spot p (slice_get s.names p) s k is
 
 -- what is below and above a block, and the block, come to no more than the zone
@@ -146,7 +146,7 @@ known-at s bytes known h at is =
     here : (b : Block) → is_relocatable h b ≡ true → strange bytes s.names b ≤ 0 → (flags : Flags)
         × (b ≡ Relocatable h flags (bytes h)) × (for_handle (slice_get s.names h) ≡ true)
     here (Free m) e le = let f : false ≡ true = e in cc
-    here (Fixed id content) e le = let f : false ≡ true = e in cc
+    here (Nonrelocatable id content) e le = let f : false ≡ true = e in cc
     here Masters e le = let f : false ≡ true = e in cc
     here (Relocatable id flags content) e le =
         let p = plain-parts (for_handle (slice_get s.names id)) content (bytes id) le in
@@ -159,21 +159,21 @@ known-at s bytes known h at is =
 
 -- the block of a pointer
 pub known-pointed : (s : State) (bytes : ℕ → List ℕ) → Known s bytes → (p : ℕ) (at : Spot)
-    → spot (is_fixed p) s.zone ≡ Some at → (at.here ≡ Fixed p (bytes p)) × (for_pointer (slice_get s.names p) ≡ true)
+    → spot (is_nonrelocatable p) s.zone ≡ Some at → (at.here ≡ Nonrelocatable p (bytes p)) × (for_pointer (slice_get s.names p) ≡ true)
 known-pointed s bytes known p at is =
-    let le = at-spot (strange bytes s.names) (is_fixed p) s.zone at is in
+    let le = at-spot (strange bytes s.names) (is_nonrelocatable p) s.zone at is in
     let none = known.blocks in
-    here at.here (spot-passes (is_fixed p) s.zone at is) (omega arith)
+    here at.here (spot-passes (is_nonrelocatable p) s.zone at is) (omega arith)
   where
-    here : (b : Block) → is_fixed p b ≡ true → strange bytes s.names b ≤ 0 → (b ≡ Fixed p (bytes p))
+    here : (b : Block) → is_nonrelocatable p b ≡ true → strange bytes s.names b ≤ 0 → (b ≡ Nonrelocatable p (bytes p))
         × (for_pointer (slice_get s.names p) ≡ true)
     here (Free m) e le = let f : false ≡ true = e in cc
     here Masters e le = let f : false ≡ true = e in cc
     here (Relocatable id flags content) e le = let f : false ≡ true = e in cc
-    here (Fixed id content) e le =
+    here (Nonrelocatable id content) e le =
         let q = plain-parts (for_pointer (slice_get s.names id)) content (bytes id) le in
         let same : id ≡ p = (Decides-eqb id p).0 e in (
-          ap (λ x. Fixed id x) q.1 ∙ ap (λ k. Fixed k (bytes k)) same,
+          ap (λ x. Nonrelocatable id x) q.1 ∙ ap (λ k. Nonrelocatable k (bytes k)) same,
           ap (λ k. for_pointer (slice_get s.names k))
               (sym same) ∙ q.0,
         )
@@ -267,9 +267,9 @@ strange-one t content bytes never = rw never refl
 module _ (bytes bytes' : ℕ → List ℕ) (ns ns' : List Meaning) (h : ℕ)
     (same : (k : ℕ) → (k == h) ≡ false → bytes' k ≡ bytes k) (stand : Stand h ns ns')
   where
-    kept-fixed : (id : ℕ) (content : List ℕ) → (id == h) ≡ false
-        → strange bytes' ns' (Fixed id content) ≤ strange bytes ns (Fixed id content)
-    kept-fixed id content e = kept-one for_pointer refl (slice_get ns id) (slice_get ns' id) (stand id e) content
+    kept-nonrelocatable : (id : ℕ) (content : List ℕ) → (id == h) ≡ false
+        → strange bytes' ns' (Nonrelocatable id content) ≤ strange bytes ns (Nonrelocatable id content)
+    kept-nonrelocatable id content e = kept-one for_pointer refl (slice_get ns id) (slice_get ns' id) (stand id e) content
         (bytes id) (bytes' id) (same id e)
 
     kept-relocatable : (id : ℕ) (flags : Flags) (content : List ℕ) → (id == h) ≡ false
@@ -281,15 +281,15 @@ module _ (bytes bytes' : ℕ → List ℕ) (ns ns' : List Meaning) (h : ℕ)
         → unless (is_relocatable h) (strange bytes' ns') b ≤ strange bytes ns b
     other-handles never (Free m) = omega arith
     other-handles never Masters = omega arith
-    other-handles never (Fixed id content) = cases (id == h) refl
+    other-handles never (Nonrelocatable id content) = cases (id == h) refl
       where
-        cases : (t : Bool) → (id == h) ≡ t → strange bytes' ns' (Fixed id content) ≤ strange bytes ns (Fixed id content)
+        cases : (t : Bool) → (id == h) ≡ t → strange bytes' ns' (Nonrelocatable id content) ≤ strange bytes ns (Nonrelocatable id content)
         cases true e =
             let eq : id ≡ h = (Decides-eqb id h).0 e in
             let z = strange-one (for_pointer (slice_get ns id)) content (bytes id)
             (ap (λ k. for_pointer (slice_get ns k)) eq ∙ never) in
             let l = at_most (for_pointer (slice_get ns' id) && bytes_eq content (bytes' id)) in omega arith
-        cases false e = kept-fixed id content e
+        cases false e = kept-nonrelocatable id content e
     other-handles never (Relocatable id flags content) = cases (id == h) refl
       where
         cases : (t : Bool) → (id == h) ≡ t → cond t 0 (strange bytes' ns' (Relocatable id flags content)) ≤ strange
@@ -298,7 +298,7 @@ module _ (bytes bytes' : ℕ → List ℕ) (ns ns' : List Meaning) (h : ℕ)
         cases false e = kept-relocatable id flags content e
 
     other-pointers : for_handle (slice_get ns h) ≡ false → (b : Block)
-        → unless (is_fixed h) (strange bytes' ns') b ≤ strange bytes ns b
+        → unless (is_nonrelocatable h) (strange bytes' ns') b ≤ strange bytes ns b
     other-pointers never (Free m) = omega arith
     other-pointers never Masters = omega arith
     other-pointers never (Relocatable id flags content) = cases (id == h) refl
@@ -311,12 +311,12 @@ module _ (bytes bytes' : ℕ → List ℕ) (ns ns' : List Meaning) (h : ℕ)
             (ap (λ k. for_handle (slice_get ns k)) eq ∙ never) in
             let l = at_most (for_handle (slice_get ns' id) && bytes_eq content (bytes' id)) in omega arith
         cases false e = kept-relocatable id flags content e
-    other-pointers never (Fixed id content) = cases (id == h) refl
+    other-pointers never (Nonrelocatable id content) = cases (id == h) refl
       where
-        cases : (t : Bool) → (id == h) ≡ t → cond t 0 (strange bytes' ns' (Fixed id content)) ≤ strange bytes ns
-            (Fixed id content)
+        cases : (t : Bool) → (id == h) ≡ t → cond t 0 (strange bytes' ns' (Nonrelocatable id content)) ≤ strange bytes ns
+            (Nonrelocatable id content)
         cases true e = omega arith
-        cases false e = kept-fixed id content e
+        cases false e = kept-nonrelocatable id content e
 
 -- one block at most in place of those that pass
 abbrev pub GivesWay : (Block → Bool) → Block → List Block → List Block → Type 0
@@ -326,7 +326,7 @@ known-changed : (s s' : State) (bytes bytes' : ℕ → List ℕ) (test : Block �
     → strange bytes' s'.names new ≡ 0 → ((b : Block) → unless test (strange bytes' s'.names) b ≤ strange bytes s.names
     b)
     → GivesWay test new s.zone s'.zone → ((k : ℕ) → count (is_relocatable k) s'.zone ≤ 1)
-    → ((k : ℕ) → count (is_fixed k) s'.zone ≤ 1) → Known s bytes → Known s' bytes'
+    → ((k : ℕ) → count (is_nonrelocatable k) s'.zone ≤ 1) → Known s bytes → Known s' bytes'
 known-changed s s' bytes bytes' test new plain others less once single known = record {
   blocks =
       let l = less (strange bytes' s'.names) (λ n. refl) in
@@ -339,7 +339,7 @@ known-changed s s' bytes bytes' test new plain others less once single known = r
 
 -- another block of a handle, or none, in place of its block
 pub handle-changed : (s s' : State) (bytes bytes' : ℕ → List ℕ) (h : ℕ) (new : Block) → strange bytes' s'.names new ≡ 0
-    → ((k : ℕ) → (k == h) ≡ false → is_relocatable k new ≡ false) → ((k : ℕ) → is_fixed k new ≡ false)
+    → ((k : ℕ) → (k == h) ≡ false → is_relocatable k new ≡ false) → ((k : ℕ) → is_nonrelocatable k new ≡ false)
     → for_pointer (slice_get s.names h) ≡ false → ((k : ℕ) → (k == h) ≡ false → bytes' k ≡ bytes k)
     → Stand h s.names s'.names
     → GivesWay (is_relocatable h) new s.zone s'.zone → Known s bytes → Known s' bytes'
@@ -347,38 +347,38 @@ handle-changed s s' bytes bytes' h new plain number kind never same stand less k
     known-changed s s' bytes bytes' (is_relocatable h) new plain
     (other-handles bytes bytes' s.names s'.names h same stand never) less
     (own-once is_relocatable h new s.zone s'.zone number (λ k. less (one (is_relocatable k)) (λ n. refl)) known.once)
-    (other-once is_fixed (is_relocatable h) new s.zone s'.zone kind (λ k. less (one (is_fixed k)) (λ n. refl))
+    (other-once is_nonrelocatable (is_relocatable h) new s.zone s'.zone kind (λ k. less (one (is_nonrelocatable k)) (λ n. refl))
     known.single) known
 
 -- another block of a pointer, or none, in place of its block
 pub pointer-changed : (s s' : State) (bytes bytes' : ℕ → List ℕ) (p : ℕ) (new : Block) → strange bytes' s'.names new ≡ 0
-    → ((k : ℕ) → (k == p) ≡ false → is_fixed k new ≡ false) → ((k : ℕ) → is_relocatable k new ≡ false)
+    → ((k : ℕ) → (k == p) ≡ false → is_nonrelocatable k new ≡ false) → ((k : ℕ) → is_relocatable k new ≡ false)
     → for_handle (slice_get s.names p) ≡ false → ((k : ℕ) → (k == p) ≡ false → bytes' k ≡ bytes k)
     → Stand p s.names s'.names
-    → GivesWay (is_fixed p) new s.zone s'.zone → Known s bytes → Known s' bytes'
+    → GivesWay (is_nonrelocatable p) new s.zone s'.zone → Known s bytes → Known s' bytes'
 pointer-changed s s' bytes bytes' p new plain number kind never same stand less known =
-    known-changed s s' bytes bytes' (is_fixed p) new plain (other-pointers bytes bytes' s.names s'.names p same stand
+    known-changed s s' bytes bytes' (is_nonrelocatable p) new plain (other-pointers bytes bytes' s.names s'.names p same stand
     never) less
-    (other-once is_relocatable (is_fixed p) new s.zone s'.zone kind (λ k. less (one (is_relocatable k)) (λ n. refl))
+    (other-once is_relocatable (is_nonrelocatable p) new s.zone s'.zone kind (λ k. less (one (is_relocatable k)) (λ n. refl))
     known.once)
-    (own-once is_fixed p new s.zone s'.zone number (λ k. less (one (is_fixed k)) (λ n. refl)) known.single) known
+    (own-once is_nonrelocatable p new s.zone s'.zone number (λ k. less (one (is_nonrelocatable k)) (λ n. refl)) known.single) known
 
 -- blocks that aren't more, but for one of no number; what was given stands
 pub known-more : (s s' : State) (bytes : ℕ → List ℕ) (new : Block) → strange bytes s'.names new ≡ 0
-    → ((k : ℕ) → is_relocatable k new ≡ false) → ((k : ℕ) → is_fixed k new ≡ false)
+    → ((k : ℕ) → is_relocatable k new ≡ false) → ((k : ℕ) → is_nonrelocatable k new ≡ false)
     → ((k : ℕ) (n : Meaning) → slice_get s.names k ≡ Some n → slice_get s'.names k ≡ Some n)
     → ((of : Block → ℕ) → SeesNoFree of → total of s'.zone ≤ of new + total of s.zone) → Known s bytes → Known s' bytes
-known-more s s' bytes new plain relocatable fixed stand less known =
+known-more s s' bytes new plain relocatable nonrelocatable stand less known =
     known-changed s s' bytes bytes (λ b. false) new plain each less
     (other-once is_relocatable (λ b. false) new s.zone s'.zone relocatable
     (λ k. less (one (is_relocatable k)) (λ n. refl)) known.once)
-    (other-once is_fixed (λ b. false) new s.zone s'.zone fixed (λ k. less (one (is_fixed k)) (λ n. refl)) known.single)
+    (other-once is_nonrelocatable (λ b. false) new s.zone s'.zone nonrelocatable (λ k. less (one (is_nonrelocatable k)) (λ n. refl)) known.single)
     known
   where
     each : (b : Block) → strange bytes s'.names b ≤ strange bytes s.names b
     each (Free m) = omega arith
     each Masters = omega arith
-    each (Fixed id content) = kept-one for_pointer refl (slice_get s.names id) (slice_get s'.names id) (stand id)
+    each (Nonrelocatable id content) = kept-one for_pointer refl (slice_get s.names id) (slice_get s'.names id) (stand id)
         content (bytes id) (bytes id) refl
     each (Relocatable id flags content) = kept-one for_handle refl (slice_get s.names id) (slice_get s'.names id)
         (stand id) content (bytes id) (bytes id) refl
@@ -399,7 +399,7 @@ none-handle s bytes known h never = let k = known.blocks in let l =
   where
     each : (b : Block) → one (is_relocatable h) b ≤ strange bytes s.names b
     each (Free m) = omega arith
-    each (Fixed id content) = omega arith
+    each (Nonrelocatable id content) = omega arith
     each Masters = omega arith
     each (Relocatable id flags content) = cases (id == h) refl
       where
@@ -411,17 +411,17 @@ none-handle s bytes known h never = let k = known.blocks in let l =
             (ap (λ k. for_handle (slice_get s.names k)) eq ∙ never) in omega arith
 
 pub none-pointer : (s : State) (bytes : ℕ → List ℕ) → Known s bytes → (p : ℕ)
-    → for_pointer (slice_get s.names p) ≡ false → count (is_fixed p) s.zone ≤ 0
+    → for_pointer (slice_get s.names p) ≡ false → count (is_nonrelocatable p) s.zone ≤ 0
 none-pointer s bytes known p never = let k = known.blocks in
-    let l = total-le (one (is_fixed p)) (strange bytes s.names) each s.zone in omega arith
+    let l = total-le (one (is_nonrelocatable p)) (strange bytes s.names) each s.zone in omega arith
   where
-    each : (b : Block) → one (is_fixed p) b ≤ strange bytes s.names b
+    each : (b : Block) → one (is_nonrelocatable p) b ≤ strange bytes s.names b
     each (Free m) = omega arith
     each (Relocatable id flags content) = omega arith
     each Masters = omega arith
-    each (Fixed id content) = cases (id == p) refl
+    each (Nonrelocatable id content) = cases (id == p) refl
       where
-        cases : (t : Bool) → (id == p) ≡ t → cond {A = ℕ} t 1 0 ≤ strange bytes s.names (Fixed id content)
+        cases : (t : Bool) → (id == p) ≡ t → cond {A = ℕ} t 1 0 ≤ strange bytes s.names (Nonrelocatable id content)
         cases false e = omega arith
         cases true e =
             let eq : id ≡ p = (Decides-eqb id p).0 e in
@@ -470,7 +470,7 @@ pub handle-plain : (bytes : ℕ → List ℕ) (ns : List Meaning) (h : ℕ) (fla
 handle-plain bytes ns h flags x sure same = plain-from (for_handle (slice_get ns h)) x (bytes h) sure same
 
 pub pointer-plain : (bytes : ℕ → List ℕ) (ns : List Meaning) (p : ℕ) (x : List ℕ) → for_pointer (slice_get ns p) ≡ true
-    → x ≡ bytes p → strange bytes ns (Fixed p x) ≡ 0
+    → x ≡ bytes p → strange bytes ns (Nonrelocatable p x) ≡ 0
 pointer-plain bytes ns p x sure same = plain-from (for_pointer (slice_get ns p)) x (bytes p) sure same
 
 -- in a fresh zone nothing was put
@@ -485,6 +485,6 @@ known-fresh n = record { blocks = rest (n - 272); once = λ h. none h (n - 272);
     none h zero = omega arith
     none h (suc m) = omega arith
 
-    never : (p m : ℕ) → count (is_fixed p) (Masters ∷ free m) ≤ 1
+    never : (p m : ℕ) → count (is_nonrelocatable p) (Masters ∷ free m) ≤ 1
     never p zero = omega arith
     never p (suc m) = omega arith

@@ -10,8 +10,8 @@ use Rattle.mac_words.specs.Size.{phys}
 use Rattle.mac_words.specs.declared.code.OsErr.{OsErr}
 use Rattle.mac_words.specs.declared.code.TheConstants.OsErr.{MEM_FULL, LOCKED}
 use Rattle.block_store.specs.declared.flags.Flags.{Flags}
-use Rattle.block_store.specs.Block.{Block, Free, Fixed, Masters, Relocatable, total, count, is_mover, is_relocatable}
-use Rattle.block_store.specs.Block.{is_fixed, content_of, with_content, no_flags, tidy, resized, resized_content}
+use Rattle.block_store.specs.Block.{Block, Free, Nonrelocatable, Masters, Relocatable, total, count, is_mover, is_relocatable}
+use Rattle.block_store.specs.Block.{is_nonrelocatable, content_of, with_content, no_flags, tidy, resized, resized_content}
 use Rattle.windows.specs.Writes.{written}
 use Rattle.block_store.specs.Run.{change_run, has, high}
 use Rattle.block_store.specs.Room.{Spot, spot, raised, put_at_base, put_in_place, room}
@@ -103,19 +103,19 @@ known-sparing s bytes known name =
 
 -- a new pointer's block
 pub known-new_pointer : (s : State) (bytes : ℕ → List ℕ) → Known s bytes → (x : List ℕ) (zone : List Block)
-    → room (put_at_base (Fixed (length s.names) x)) nothing s.zone ≡ Some zone
+    → room (put_at_base (Nonrelocatable (length s.names) x)) nothing s.zone ≡ Some zone
     → Known (record { zone = zone; names = s.names ++ names.Pointer ∷ [] }) (with_bytes (length s.names) x bytes)
 known-new_pointer s bytes known x zone is =
     pointer-changed s (record { zone = zone; names = s.names ++ names.Pointer ∷ [] }) bytes (with_bytes p x bytes) p
-    (Fixed p x)
+    (Nonrelocatable p x)
     (pointer-plain (with_bytes p x bytes) (s.names ++ names.Pointer ∷ []) p x
     (ap for_pointer (pushed s.names names.Pointer)) (sym (with-same p x bytes))) (flipped p) (λ k. refl)
     (ap for_handle (next-none s.names)) (with-other p x bytes) (λ k other n e. push-stands s.names names.Pointer k n e)
     (λ of none.
-    let l = base-le of none (Fixed p x) nothing s.zone zone is in
+    let l = base-le of none (Nonrelocatable p x) nothing s.zone zone is in
     omega (
       arith,
-      unless-none (is_fixed p) of s.zone (none-pointer s bytes known p
+      unless-none (is_nonrelocatable p) of s.zone (none-pointer s bytes known p
           (ap for_pointer (next-none s.names))),
     )) known
   where
@@ -138,12 +138,12 @@ known-disposed s bytes known h is =
 
 pub known-disposed_pointer : (s : State) (bytes : ℕ → List ℕ) → Known s bytes → (p : ℕ)
     → for_pointer (slice_get s.names p) ≡ true
-    → Known (record { zone = tidy (freed (is_fixed p) s.zone); names = slice_set s.names p names.Disposed }) bytes
+    → Known (record { zone = tidy (freed (is_nonrelocatable p) s.zone); names = slice_set s.names p names.Disposed }) bytes
 known-disposed_pointer s bytes known p is =
-    pointer-changed s (record { zone = tidy (freed (is_fixed p) s.zone); names = slice_set s.names p names.Disposed })
+    pointer-changed s (record { zone = tidy (freed (is_nonrelocatable p) s.zone); names = slice_set s.names p names.Disposed })
     bytes bytes p (Free 0) refl (λ k e. refl) (λ k. refl) (pointer-only (slice_get s.names p) is) (λ k e. refl)
     (set-stands s.names p names.Disposed)
-    (λ of none. omega (arith, none 0, tidied of none (freed (is_fixed p) s.zone), freed-is of none (is_fixed p) s.zone))
+    (λ of none. omega (arith, none 0, tidied of none (freed (is_nonrelocatable p) s.zone), freed-is of none (is_nonrelocatable p) s.zone))
     known
 
 -- a handle's block, or none, in place of what it had: then its bytes are those of that
@@ -160,11 +160,11 @@ known-replaced s zone bytes known h is bytes' same flags new eq less =
     (λ of none. let l = less of none in omega (arith, ap of eq)) known
 
 pub known-replaced_pointer : (s : State) (zone : List Block) (bytes : ℕ → List ℕ) → Known s bytes → (p : ℕ)
-    → for_pointer (slice_get s.names p) ≡ true → (x : List ℕ) (new : Block) → new ≡ Fixed p x
-    → ((of : Block → ℕ) → SeesNoFree of → total of zone ≤ of new + total (unless (is_fixed p) of) s.zone)
+    → for_pointer (slice_get s.names p) ≡ true → (x : List ℕ) (new : Block) → new ≡ Nonrelocatable p x
+    → ((of : Block → ℕ) → SeesNoFree of → total of zone ≤ of new + total (unless (is_nonrelocatable p) of) s.zone)
     → Known (record s { zone = zone }) (with_bytes p x bytes)
 known-replaced_pointer s zone bytes known p is x new eq less =
-    pointer-changed s (record s { zone = zone }) bytes (with_bytes p x bytes) p (Fixed p x)
+    pointer-changed s (record s { zone = zone }) bytes (with_bytes p x bytes) p (Nonrelocatable p x)
     (pointer-plain (with_bytes p x bytes) s.names p x is (sym (with-same p x bytes))) (flipped p) (λ k. refl)
     (pointer-only (slice_get s.names p) is) (with-other p x bytes) (λ k other n e. e)
     (λ of none. let l = less of none in omega (arith, ap of eq)) known
@@ -182,7 +182,7 @@ known-put s bytes known h i x at is bytes' same now =
     (λ of none. swapped-le of none (is_relocatable h) (λ n. refl) s.zone at new is (known.once h))
 
 pub known-put_pointer : (s : State) (bytes : ℕ → List ℕ) → Known s bytes → (p i : ℕ) (x : List ℕ) (at : Spot)
-    → spot (is_fixed p) s.zone ≡ Some at
+    → spot (is_nonrelocatable p) s.zone ≡ Some at
     → Known (record s { zone = at.below ++ with_content (written i x (content_of at.here)) at.here ∷ at.above })
     (with_bytes p (written i x (bytes p)) bytes)
 known-put_pointer s bytes known p i x at is =
@@ -190,7 +190,7 @@ known-put_pointer s bytes known p i x at is =
     let new : Block = with_content (written i x (content_of at.here)) at.here in
     known-replaced_pointer s (at.below ++ new ∷ at.above) bytes known p here.1 (written i x (bytes p)) new
     (ap (λ b. with_content (written i x (content_of b)) b) here.0)
-    (λ of none. swapped-le of none (is_fixed p) (λ n. refl) s.zone at new is (known.single p))
+    (λ of none. swapped-le of none (is_nonrelocatable p) (λ n. refl) s.zone at new is (known.single p))
 
 -- a block that grew or was cut
 pub known-grown : (s : State) (bytes : ℕ → List ℕ) → Known s bytes
@@ -205,13 +205,13 @@ known-grown s bytes known h n sp at zone is grew =
     (λ of none. grown-le of none (is_relocatable h) (λ n. refl) sp n s.zone zone at is (known.once h) grew)
 
 pub known-grown_pointer : (s : State) (bytes : ℕ → List ℕ) → Known s bytes → (p n : ℕ) (at : Spot) (zone : List Block)
-    → spot (is_fixed p) s.zone ≡ Some at → grow (is_fixed p) nothing n s.zone ≡ Some zone
+    → spot (is_nonrelocatable p) s.zone ≡ Some at → grow (is_nonrelocatable p) nothing n s.zone ≡ Some zone
     → Known (record s { zone = zone }) (with_bytes p (resized_content n (bytes p)) bytes)
 known-grown_pointer s bytes known p n at zone is grew =
     let here = known-pointed s bytes known p at is in
     known-replaced_pointer s zone bytes known p here.1 (resized_content n (bytes p)) (resized n at.here)
     (ap (resized n) here.0)
-    (λ of none. grown-le of none (is_fixed p) (λ n. refl) nothing n s.zone zone at is (known.single p) grew)
+    (λ of none. grown-le of none (is_nonrelocatable p) (λ n. refl) nothing n s.zone zone at is (known.single p) grew)
 
 -- an empty handle leaves the others
 pub known-emptied : (s : State) (bytes : ℕ → List ℕ) → Known s bytes → (h : ℕ)

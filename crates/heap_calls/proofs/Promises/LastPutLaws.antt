@@ -6,7 +6,7 @@ use Rattle.std.specs.Prelude.{is_some, if◌then◌else◌}
 use Rattle.mac_words.specs.Size.{phys}
 use Rattle.mac_words.specs.declared.code.OsErr.{OsErr}
 use Rattle.mac_words.specs.declared.code.TheConstants.OsErr.{MEM_FULL, PROFILE, PURGED}
-use Rattle.block_store.specs.Block.{Block, Fixed, Masters, sizes, total, is_mover, is_relocatable, is_fixed, content_of}
+use Rattle.block_store.specs.Block.{Block, Nonrelocatable, Masters, sizes, total, is_mover, is_relocatable, is_nonrelocatable, content_of}
 use Rattle.block_store.specs.Block.{with_content, tidy}
 use Rattle.windows.specs.Writes.{written}
 use Rattle.block_store.specs.Run.{runs}
@@ -364,7 +364,7 @@ step-known (asked.PtrAndHand (Some h) x) m bytes known = by_spot (look_up (Some 
 step-known (asked.NewPtr n) m bytes known = by_size (is_some (phys n))
   where
     made : Option (List Block)
-    made = room (put_at_base (Fixed (length m.heap.names) (replicate n 0))) nothing m.heap.zone
+    made = room (put_at_base (Nonrelocatable (length m.heap.names) (replicate n 0))) nothing m.heap.zone
 
     tells : Told → ℕ → List ℕ
     tells t = put_by (asked.NewPtr n) t bytes
@@ -385,9 +385,9 @@ step-known (asked.DisposePtr (Some p)) m bytes known = by_spot (pointed_at (Some
     s = m.heap
 
     answer : ℕ → Answer (Unit {0})
-    answer j = (Ok tt, record { zone = tidy (freed (is_fixed j) s.zone); names = slice_set s.names j names.Disposed })
+    answer j = (Ok tt, record { zone = tidy (freed (is_nonrelocatable j) s.zone); names = slice_set s.names j names.Disposed })
 
-    by_spot : (r : Result Held OsErr) → ((k : Held) → r ≡ Ok k → (spot (is_fixed p) s.zone ≡ Some k.at)
+    by_spot : (r : Result Held OsErr) → ((k : Held) → r ≡ Ok k → (spot (is_nonrelocatable p) s.zone ≡ Some k.at)
         × (k.number ≡ p)) → Known (for_found r s (λ k. answer k.number)).1 bytes
     by_spot (Err code) found = known
     by_spot (Ok k) found =
@@ -407,12 +407,12 @@ step-known (asked.SetPtrSize (Some p) n) m bytes known = by_spot (pointed_at (So
     tells t = put_by (asked.SetPtrSize (Some p) n) t bytes
 
     grew : ℕ → Option (List Block)
-    grew j = grow (is_fixed j) nothing n s.zone
+    grew j = grow (is_nonrelocatable j) nothing n s.zone
 
     answer : ℕ → Answer (Unit {0})
     answer j = if is_some (phys n) then rebuilt (grew j) s else refused MEM_FULL s
 
-    by_spot : (r : Result Held OsErr) → ((k : Held) → r ≡ Ok k → (spot (is_fixed p) s.zone ≡ Some k.at)
+    by_spot : (r : Result Held OsErr) → ((k : Held) → r ≡ Ok k → (spot (is_nonrelocatable p) s.zone ≡ Some k.at)
         × (k.number ≡ p)) → Known (for_found r s (λ k. answer k.number)).1
         (tells (done (for_found r s (λ k. answer k.number)).0))
     by_spot (Err code) found = known
@@ -454,7 +454,7 @@ step-known (asked.Show handle) m bytes known =
     (λ held. (Ok (content_of held.at.here), m.heap)) (λ held. refl))) known
 step-known (asked.PutPtr None i x) m bytes known = known
 step-known (asked.PutPtr (Some p) i x) m bytes known =
-    known-written_at m.heap bytes known (is_fixed p) i x (λ t. put_by (asked.PutPtr (Some p) i x) t bytes)
+    known-written_at m.heap bytes known (is_nonrelocatable p) i x (λ t. put_by (asked.PutPtr (Some p) i x) t bytes)
     (λ code. refl) (λ at found. known-put_pointer m.heap bytes known p i x at found) (pointed_at (Some p) m.heap)
     (λ k is. (pointed_at-spot p m.heap k is).0)
 step-known (asked.ShowPtr pointer) m bytes known =

@@ -4,8 +4,8 @@ use Rattle.std.proofs.lemmas.Bool.{cond-false, and_parts}
 use Rattle.std.proofs.lemmas.Bool.Decides.{Decides-eqb}
 use Rattle.std.proofs.lemmas.Option.{none-some}
 use Rattle.block_store.specs.declared.flags.Flags.{Flags}
-use Rattle.block_store.specs.Block.{Block, Free, Fixed, Masters, Relocatable, total, count, is_mover, is_relocatable}
-use Rattle.block_store.specs.Block.{is_fixed, with_content, resized}
+use Rattle.block_store.specs.Block.{Block, Free, Nonrelocatable, Masters, Relocatable, total, count, is_mover, is_relocatable}
+use Rattle.block_store.specs.Block.{is_nonrelocatable, with_content, resized}
 use Rattle.block_store.specs.Run.{in_run}
 use Rattle.block_store.specs.Room.{Spot, spot}
 use Rattle.block_store.proofs.Zone.Tidy.{spot-is, spot-passes}
@@ -30,7 +30,7 @@ steady-locked h = record { rigid = rigid; sized = sized; filled = filled; master
   where
     rigid : (b : Block) → in_run b ≡ true → is_locked h b ≡ false
     rigid (Free n) e = refl
-    rigid (Fixed id content) e = refl
+    rigid (Nonrelocatable id content) e = refl
     rigid Masters e = refl
     rigid (Relocatable id flags content) e = cases (id == h) flags.locked e
       where
@@ -41,13 +41,13 @@ steady-locked h = record { rigid = rigid; sized = sized; filled = filled; master
 
     sized : (n : ℕ) (b : Block) → is_locked h b ≡ is_locked h (resized n b)
     sized n (Free m) = refl
-    sized n (Fixed id content) = refl
+    sized n (Nonrelocatable id content) = refl
     sized n Masters = refl
     sized n (Relocatable id flags content) = refl
 
     filled : (x : List ℕ) (b : Block) → is_locked h b ≡ is_locked h (with_content x b)
     filled x (Free n) = refl
-    filled x (Fixed id content) = refl
+    filled x (Nonrelocatable id content) = refl
     filled x Masters = refl
     filled x (Relocatable id flags content) = refl
 
@@ -57,7 +57,7 @@ fewer h bs = total-le (locks (is_locked h)) (λ b. cond (is_relocatable h b) 1 0
   where
     each : (b : Block) → locks (is_locked h) b ≤ cond {A = ℕ} (is_relocatable h b) 1 0
     each (Free n) = omega arith
-    each (Fixed id content) = omega arith
+    each (Nonrelocatable id content) = omega arith
     each Masters = omega arith
     each (Relocatable id flags content) = cases (id == h) flags.locked
       where
@@ -93,14 +93,14 @@ locked-only h place zone s once found is = cases (is_locked h s.here) refl
 
 locked-stands : (h : ℕ) (b : Block) → is_locked h b ≡ true → is_mover b ≡ false
 locked-stands h (Free n) e = refl
-locked-stands h (Fixed id content) e = refl
+locked-stands h (Nonrelocatable id content) e = refl
 locked-stands h Masters e = refl
 locked-stands h (Relocatable id flags content) e = ap not (and_parts (id == h) flags.locked e).1
 
 -- a block of another handle
 pub other-unlocked : (h k : ℕ) → (k == h) ≡ false → (b : Block) → is_relocatable k b ≡ true → is_locked h b ≡ false
 other-unlocked h k other (Free n) e = refl
-other-unlocked h k other (Fixed id content) e = refl
+other-unlocked h k other (Nonrelocatable id content) e = refl
 other-unlocked h k other Masters e = refl
 other-unlocked h k other (Relocatable id flags content) e = ap (λ j. j == h && flags.locked) ((Decides-eqb id k).0 e)
     ∙ ap (λ t. t && flags.locked) other
@@ -153,7 +153,7 @@ flags-locked h place zone once is k change kept at found =
 still-locked : (h : ℕ) (change : Flags → Flags) → ((f : Flags) → f.locked ≡ true → (change f).locked ≡ true)
     → (b : Block) → is_locked h b ≡ true → is_locked h (flagged change b) ≡ true
 still-locked h change kept (Free n) e = e
-still-locked h change kept (Fixed id content) e = e
+still-locked h change kept (Nonrelocatable id content) e = e
 still-locked h change kept Masters e = e
 still-locked h change kept (Relocatable id flags content) e = let both = and_parts (id == h) flags.locked e in
     rw (both.0, kept flags both.1) refl
@@ -169,9 +169,9 @@ leaves-locked h place zone once is (asked.DisposeHandle (Some k)) keeps = other-
 leaves-locked h place zone once is (asked.DisposePtr None) keeps = tt
 leaves-locked h place zone once is (asked.DisposePtr (Some p)) keeps = unlocked
   where
-    unlocked : (b : Block) → is_fixed p b ≡ true → is_locked h b ≡ false
+    unlocked : (b : Block) → is_nonrelocatable p b ≡ true → is_locked h b ≡ false
     unlocked (Free n) e = refl
-    unlocked (Fixed id content) e = refl
+    unlocked (Nonrelocatable id content) e = refl
     unlocked Masters e = refl
     unlocked (Relocatable id flags content) e = let f : false ≡ true = e in cc
 leaves-locked h place zone once is (asked.HLock None) keeps = tt

@@ -7,7 +7,7 @@ use Rattle.mac_words.specs.Size.{phys}
 use Rattle.mac_words.specs.declared.code.OsErr.{OsErr}
 use Rattle.mac_words.specs.declared.code.TheConstants.OsErr.{NIL_HANDLE, MEM_FULL, LOCKED, PROFILE, PURGED}
 use Rattle.block_store.specs.declared.flags.Flags.{Flags}
-use Rattle.block_store.specs.Block.{Block, Fixed, Masters, Relocatable, is_mover, is_relocatable, is_fixed, content_of}
+use Rattle.block_store.specs.Block.{Block, Nonrelocatable, Masters, Relocatable, is_mover, is_relocatable, is_nonrelocatable, content_of}
 use Rattle.block_store.specs.Block.{with_content, no_flags, sizes, tidy, count}
 use Rattle.windows.specs.Writes.{written}
 use Rattle.block_store.specs.Room.{Spot, spot, put_in_place, put_at_base, room}
@@ -398,7 +398,7 @@ refused_leaves (asked.PtrAndHand handle x) m =
     (λ held. append-leaves (is_relocatable held.number) held.number (length (content_of held.at.here)) x m.heap))
     refl refl refl
 refused_leaves (asked.NewPtr n) m =
-    let made = room (put_at_base (Fixed (length m.heap.names) (replicate n 0))) nothing m.heap.zone in
+    let made = room (put_at_base (Nonrelocatable (length m.heap.names) (replicate n 0))) nothing m.heap.zone in
     noted Given given-tells (new_pointer n m.heap) m (answered (asked.NewPtr n) m).1 m.heap.zone
     (either-leaves (is_some (phys n)) m.heap.zone m.heap (given Pointer made m.heap) (refused MEM_FULL m.heap)
     (given-leaves Pointer made m.heap) (refused-leaves MEM_FULL m.heap)) refl refl refl
@@ -409,7 +409,7 @@ refused_leaves (asked.DisposePtr pointer) m =
     (λ held. done tt m.heap.zone m.heap (gone held.number))) refl refl refl
   where
     gone : ℕ → State
-    gone p = record { zone = tidy (freed (is_fixed p) m.heap.zone); names = slice_set m.heap.names p Disposed }
+    gone p = record { zone = tidy (freed (is_nonrelocatable p) m.heap.zone); names = slice_set m.heap.names p Disposed }
 refused_leaves (asked.GetPtrSize pointer) m =
     noted Number number-tells (get_pointer_size pointer m.heap) m (answered (asked.GetPtrSize pointer) m).1 m.heap.zone
     (found-leaves (pointed_at pointer m.heap) m.heap (λ held. (Ok (length (content_of held.at.here)), m.heap))
@@ -418,9 +418,9 @@ refused_leaves (asked.SetPtrSize pointer n) m =
     noted (λ _. Done) done-tells (set_pointer_size pointer n m.heap) m (answered (asked.SetPtrSize pointer n) m).1
     m.heap.zone
     (found-leaves (pointed_at pointer m.heap) m.heap
-    (λ held. cond (is_some (phys n)) (rebuilt (grow (is_fixed held.number) nothing n m.heap.zone) m.heap)
+    (λ held. cond (is_some (phys n)) (rebuilt (grow (is_nonrelocatable held.number) nothing n m.heap.zone) m.heap)
     (refused MEM_FULL m.heap))
-    (λ held. sized-leaves (grow (is_fixed held.number) nothing n m.heap.zone) n m.heap)) refl refl refl
+    (λ held. sized-leaves (grow (is_nonrelocatable held.number) nothing n m.heap.zone) n m.heap)) refl refl refl
 refused_leaves asked.FreeMem m = λ code e. cc
 refused_leaves asked.MaxBlock m = λ code e. cc
 refused_leaves asked.PurgeSpace m = λ code e. cc

@@ -1,6 +1,6 @@
 use Rattle.std.proofs.Common.{◌≡◌, ℕ, refl, sym, ◌∙◌, ap, List, Some, Result, Ok, Err, inl, inr}
 use Rattle.mac_words.specs.declared.code.OsErr.{OsErr}
-use Rattle.block_store.specs.Block.{is_relocatable, is_fixed, content_of}
+use Rattle.block_store.specs.Block.{is_relocatable, is_nonrelocatable, content_of}
 use Rattle.block_store.specs.Room.{spot}
 use Rattle.heap_calls.specs.State.{Memory}
 use Rattle.heap_calls.specs.Answer.{Held, look_up, for_found}
@@ -26,7 +26,7 @@ shows-known a m bytes known h shown (inl is) tells = cases (look_up (Some h) m.h
 shows-known a m bytes known h shown (inr is) tells = cases (pointed_at (Some h) m.heap) (pointed_at-spot h m.heap)
     (ap (λ (x : Asked). (answered x m).0) (sym is) ∙ tells)
   where
-    cases : (r : Result Held OsErr) → ((k : Held) → r ≡ Ok k → (spot (is_fixed h) m.heap.zone ≡ Some k.at)
+    cases : (r : Result Held OsErr) → ((k : Held) → r ≡ Ok k → (spot (is_nonrelocatable h) m.heap.zone ≡ Some k.at)
         × (k.number ≡ h))
         → told_as {T = List ℕ} Bytes (for_found {T = List ℕ} r m.heap
         (λ (k : Held). (Ok (content_of k.at.here), m.heap))).0 ≡ Bytes shown → shown ≡ bytes h

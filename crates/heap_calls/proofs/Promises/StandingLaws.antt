@@ -3,57 +3,57 @@ use Rattle.std.proofs.Common.{Some, None}
 use Rattle.std.proofs.lemmas.Bool.Decides.{Decides-eqb}
 use Rattle.std.proofs.lemmas.Option.{none-some}
 use Rattle.block_store.specs.declared.flags.Flags.{Flags}
-use Rattle.block_store.specs.Block.{Block, Free, Fixed, Masters, Relocatable, count, is_fixed, with_content, resized}
+use Rattle.block_store.specs.Block.{Block, Free, Nonrelocatable, Masters, Relocatable, count, is_nonrelocatable, with_content, resized}
 use Rattle.block_store.specs.Run.{in_run}
-use Rattle.block_store.proofs.Nonrelocatable.FixedCounts.{not_fixed-relocatable}
+use Rattle.block_store.proofs.Nonrelocatable.Counts.{not_nonrelocatable-relocatable}
 use Rattle.heap_calls.specs.State.{State, Memory}
 use Rattle.heap_calls.specs.Answer.{flagged}
 use Rattle.heap_calls.specs.Asked.{Asked, answered}
 use Rattle.heap_calls.specs.Asked as asked
 use Rattle.heap_calls.specs.Locked.{OneBlockEach}
-use Rattle.heap_calls.specs.Standing.{pointer_place, disposes, NextIsNew, StaysFixed}
+use Rattle.heap_calls.specs.Standing.{pointer_place, disposes, NextIsNew, StaysNonrelocatable}
 use Rattle.heap_calls.proofs.Promises.Knowing.{Known, for_pointer, none-pointer, next-none}
 use Rattle.block_store.proofs.Zone.Alike.{stands-is, stands-none}
 use Rattle.heap_calls.proofs.Promises.AlikeCalls.{Steady, Leaves, alike-answered}
 
 -- No call moves a pointer's block, unless it disposes of it.
 
-pub steady-fixed : (p : ℕ) → Steady (is_fixed p)
-steady-fixed p = record { rigid = rigid; sized = sized; filled = filled; masters = refl }
+pub steady-nonrelocatable : (p : ℕ) → Steady (is_nonrelocatable p)
+steady-nonrelocatable p = record { rigid = rigid; sized = sized; filled = filled; masters = refl }
   where
-    rigid : (b : Block) → in_run b ≡ true → is_fixed p b ≡ false
+    rigid : (b : Block) → in_run b ≡ true → is_nonrelocatable p b ≡ false
     rigid (Free n) e = refl
-    rigid (Fixed id content) e = let f : false ≡ true = e in cc
+    rigid (Nonrelocatable id content) e = let f : false ≡ true = e in cc
     rigid Masters e = refl
     rigid (Relocatable id flags content) e = refl
 
-    sized : (n : ℕ) (b : Block) → is_fixed p b ≡ is_fixed p (resized n b)
+    sized : (n : ℕ) (b : Block) → is_nonrelocatable p b ≡ is_nonrelocatable p (resized n b)
     sized n (Free m) = refl
-    sized n (Fixed id content) = refl
+    sized n (Nonrelocatable id content) = refl
     sized n Masters = refl
     sized n (Relocatable id flags content) = refl
 
-    filled : (x : List ℕ) (b : Block) → is_fixed p b ≡ is_fixed p (with_content x b)
+    filled : (x : List ℕ) (b : Block) → is_nonrelocatable p b ≡ is_nonrelocatable p (with_content x b)
     filled x (Free n) = refl
-    filled x (Fixed id content) = refl
+    filled x (Nonrelocatable id content) = refl
     filled x Masters = refl
     filled x (Relocatable id flags content) = refl
 
-pub flagged-fixed : (p : ℕ) (change : Flags → Flags) (b : Block) → is_fixed p b ≡ is_fixed p (flagged change b)
-flagged-fixed p change (Free n) = refl
-flagged-fixed p change (Fixed id content) = refl
-flagged-fixed p change Masters = refl
-flagged-fixed p change (Relocatable id flags content) = refl
+pub flagged-nonrelocatable : (p : ℕ) (change : Flags → Flags) (b : Block) → is_nonrelocatable p b ≡ is_nonrelocatable p (flagged change b)
+flagged-nonrelocatable p change (Free n) = refl
+flagged-nonrelocatable p change (Nonrelocatable id content) = refl
+flagged-nonrelocatable p change Masters = refl
+flagged-nonrelocatable p change (Relocatable id flags content) = refl
 
 -- the block of another pointer
-other-fixed : (p k : ℕ) → (k == p) ≡ false → (b : Block) → is_fixed k b ≡ true → is_fixed p b ≡ false
-other-fixed p k other (Free n) e = refl
-other-fixed p k other (Fixed id content) e = ap (λ j. j == p) ((Decides-eqb id k).0 e) ∙ other
-other-fixed p k other Masters e = refl
-other-fixed p k other (Relocatable id flags content) e = refl
+other-nonrelocatable : (p k : ℕ) → (k == p) ≡ false → (b : Block) → is_nonrelocatable k b ≡ true → is_nonrelocatable p b ≡ false
+other-nonrelocatable p k other (Free n) e = refl
+other-nonrelocatable p k other (Nonrelocatable id content) e = ap (λ j. j == p) ((Decides-eqb id k).0 e) ∙ other
+other-nonrelocatable p k other Masters e = refl
+other-nonrelocatable p k other (Relocatable id flags content) e = refl
 
 -- the block of the next number isn't that of a pointer with a place
-next-apart : (p place next : ℕ) (zone : List Block) → count (is_fixed next) zone ≤ 0 → pointer_place p zone ≡ Some place
+next-apart : (p place next : ℕ) (zone : List Block) → count (is_nonrelocatable next) zone ≤ 0 → pointer_place p zone ≡ Some place
     → (next == p) ≡ false
 next-apart p place next zone none is = cases (next == p) refl
   where
@@ -61,65 +61,65 @@ next-apart p place next zone none is = cases (next == p) refl
     cases false e = refl
     cases true e =
         let same : next ≡ p = (Decides-eqb next p).0 e in
-        let few = subst (λ (j : ℕ). count (is_fixed j) zone ≤ 0) same none in
-        absurd (none-some place (sym (stands-none (is_fixed p) zone few) ∙ sym (stands-is (is_fixed p) zone) ∙ is))
+        let few = subst (λ (j : ℕ). count (is_nonrelocatable j) zone ≤ 0) same none in
+        absurd (none-some place (sym (stands-none (is_nonrelocatable p) zone few) ∙ sym (stands-is (is_nonrelocatable p) zone) ∙ is))
 
-leaves-fixed : (p : ℕ) (zone : List Block) (a : Asked) → disposes p a ≡ false → Leaves (is_fixed p) zone a
-leaves-fixed p zone (asked.DisposeHandle None) keeps = tt
-leaves-fixed p zone (asked.DisposeHandle (Some k)) keeps = not_fixed-relocatable p k
-leaves-fixed p zone (asked.DisposePtr None) keeps = tt
-leaves-fixed p zone (asked.DisposePtr (Some k)) keeps = other-fixed p k keeps
-leaves-fixed p zone (asked.HLock None) keeps = tt
-leaves-fixed p zone (asked.HLock (Some k)) keeps = λ at found. flagged-fixed p (λ f. record f { locked = true }) at.here
-leaves-fixed p zone (asked.HUnlock None) keeps = tt
-leaves-fixed p zone (asked.HUnlock (Some k)) keeps = λ at found. flagged-fixed p (λ f. record f { locked = false })
+leaves-nonrelocatable : (p : ℕ) (zone : List Block) (a : Asked) → disposes p a ≡ false → Leaves (is_nonrelocatable p) zone a
+leaves-nonrelocatable p zone (asked.DisposeHandle None) keeps = tt
+leaves-nonrelocatable p zone (asked.DisposeHandle (Some k)) keeps = not_nonrelocatable-relocatable p k
+leaves-nonrelocatable p zone (asked.DisposePtr None) keeps = tt
+leaves-nonrelocatable p zone (asked.DisposePtr (Some k)) keeps = other-nonrelocatable p k keeps
+leaves-nonrelocatable p zone (asked.HLock None) keeps = tt
+leaves-nonrelocatable p zone (asked.HLock (Some k)) keeps = λ at found. flagged-nonrelocatable p (λ f. record f { locked = true }) at.here
+leaves-nonrelocatable p zone (asked.HUnlock None) keeps = tt
+leaves-nonrelocatable p zone (asked.HUnlock (Some k)) keeps = λ at found. flagged-nonrelocatable p (λ f. record f { locked = false })
     at.here
-leaves-fixed p zone (asked.HPurge None) keeps = tt
-leaves-fixed p zone (asked.HPurge (Some k)) keeps = λ at found. flagged-fixed p (λ f. record f { purgeable = true })
+leaves-nonrelocatable p zone (asked.HPurge None) keeps = tt
+leaves-nonrelocatable p zone (asked.HPurge (Some k)) keeps = λ at found. flagged-nonrelocatable p (λ f. record f { purgeable = true })
     at.here
-leaves-fixed p zone (asked.HNoPurge None) keeps = tt
-leaves-fixed p zone (asked.HNoPurge (Some k)) keeps = λ at found. flagged-fixed p (λ f. record f { purgeable = false })
+leaves-nonrelocatable p zone (asked.HNoPurge None) keeps = tt
+leaves-nonrelocatable p zone (asked.HNoPurge (Some k)) keeps = λ at found. flagged-nonrelocatable p (λ f. record f { purgeable = false })
     at.here
-leaves-fixed p zone (asked.HSetState None byte) keeps = tt
-leaves-fixed p zone (asked.HSetState (Some k) byte) keeps = λ at found. flagged-fixed p
+leaves-nonrelocatable p zone (asked.HSetState None byte) keeps = tt
+leaves-nonrelocatable p zone (asked.HSetState (Some k) byte) keeps = λ at found. flagged-nonrelocatable p
     (λ f. record { locked = byte / 128 % 2 == 1; purgeable = byte / 64 % 2 == 1 }) at.here
-leaves-fixed p zone (asked.NewHandle n) keeps = tt
-leaves-fixed p zone asked.NewEmptyHandle keeps = tt
-leaves-fixed p zone (asked.GetHandleSize handle) keeps = tt
-leaves-fixed p zone (asked.SetHandleSize handle n) keeps = tt
-leaves-fixed p zone (asked.ReallocateHandle handle n) keeps = tt
-leaves-fixed p zone (asked.EmptyHandle handle) keeps = tt
-leaves-fixed p zone (asked.HGetState handle) keeps = tt
-leaves-fixed p zone (asked.MoveHHi handle) keeps = tt
-leaves-fixed p zone (asked.HLockHi handle) keeps = tt
-leaves-fixed p zone (asked.HandToHand handle) keeps = tt
-leaves-fixed p zone (asked.HandAndHand from to) keeps = tt
-leaves-fixed p zone (asked.PtrAndHand handle x) keeps = tt
-leaves-fixed p zone (asked.NewPtr n) keeps = tt
-leaves-fixed p zone (asked.GetPtrSize pointer) keeps = tt
-leaves-fixed p zone (asked.SetPtrSize pointer n) keeps = tt
-leaves-fixed p zone asked.FreeMem keeps = tt
-leaves-fixed p zone asked.MaxBlock keeps = tt
-leaves-fixed p zone asked.PurgeSpace keeps = tt
-leaves-fixed p zone (asked.CompactMem n) keeps = tt
-leaves-fixed p zone (asked.PurgeMem n) keeps = tt
-leaves-fixed p zone asked.MaxMem keeps = tt
-leaves-fixed p zone (asked.ReserveMem n) keeps = tt
-leaves-fixed p zone asked.MoreMasters keeps = tt
-leaves-fixed p zone asked.MemError keeps = tt
-leaves-fixed p zone (asked.Put handle i x) keeps = tt
-leaves-fixed p zone (asked.Show handle) keeps = tt
-leaves-fixed p zone (asked.PutPtr pointer i x) keeps = tt
-leaves-fixed p zone (asked.ShowPtr pointer) keeps = tt
-leaves-fixed p zone (asked.Where name) keeps = tt
+leaves-nonrelocatable p zone (asked.NewHandle n) keeps = tt
+leaves-nonrelocatable p zone asked.NewEmptyHandle keeps = tt
+leaves-nonrelocatable p zone (asked.GetHandleSize handle) keeps = tt
+leaves-nonrelocatable p zone (asked.SetHandleSize handle n) keeps = tt
+leaves-nonrelocatable p zone (asked.ReallocateHandle handle n) keeps = tt
+leaves-nonrelocatable p zone (asked.EmptyHandle handle) keeps = tt
+leaves-nonrelocatable p zone (asked.HGetState handle) keeps = tt
+leaves-nonrelocatable p zone (asked.MoveHHi handle) keeps = tt
+leaves-nonrelocatable p zone (asked.HLockHi handle) keeps = tt
+leaves-nonrelocatable p zone (asked.HandToHand handle) keeps = tt
+leaves-nonrelocatable p zone (asked.HandAndHand from to) keeps = tt
+leaves-nonrelocatable p zone (asked.PtrAndHand handle x) keeps = tt
+leaves-nonrelocatable p zone (asked.NewPtr n) keeps = tt
+leaves-nonrelocatable p zone (asked.GetPtrSize pointer) keeps = tt
+leaves-nonrelocatable p zone (asked.SetPtrSize pointer n) keeps = tt
+leaves-nonrelocatable p zone asked.FreeMem keeps = tt
+leaves-nonrelocatable p zone asked.MaxBlock keeps = tt
+leaves-nonrelocatable p zone asked.PurgeSpace keeps = tt
+leaves-nonrelocatable p zone (asked.CompactMem n) keeps = tt
+leaves-nonrelocatable p zone (asked.PurgeMem n) keeps = tt
+leaves-nonrelocatable p zone asked.MaxMem keeps = tt
+leaves-nonrelocatable p zone (asked.ReserveMem n) keeps = tt
+leaves-nonrelocatable p zone asked.MoreMasters keeps = tt
+leaves-nonrelocatable p zone asked.MemError keeps = tt
+leaves-nonrelocatable p zone (asked.Put handle i x) keeps = tt
+leaves-nonrelocatable p zone (asked.Show handle) keeps = tt
+leaves-nonrelocatable p zone (asked.PutPtr pointer i x) keeps = tt
+leaves-nonrelocatable p zone (asked.ShowPtr pointer) keeps = tt
+leaves-nonrelocatable p zone (asked.Where name) keeps = tt
 
-pub stays-fixed : (a : Asked) (m : Memory) → OneBlockEach m.heap.zone → NextIsNew m.heap → StaysFixed a m
-stays-fixed a m once new p place keeps is =
+pub stays-nonrelocatable : (a : Asked) (m : Memory) → OneBlockEach m.heap.zone → NextIsNew m.heap → StaysNonrelocatable a m
+stays-nonrelocatable a m once new p place keeps is =
     let zone = m.heap.zone in
     let z = (answered a m).1.heap.zone in
-    let alike = alike-answered (is_fixed p) (steady-fixed p) a m once (λ k loose. not_fixed-relocatable p k)
-    (λ x. next-apart p place (length m.heap.names) zone new is) (leaves-fixed p zone a keeps) in
-    stands-is (is_fixed p) z ∙ sym alike.1 ∙ sym (stands-is (is_fixed p) zone) ∙ is
+    let alike = alike-answered (is_nonrelocatable p) (steady-nonrelocatable p) a m once (λ k loose. not_nonrelocatable-relocatable p k)
+    (λ x. next-apart p place (length m.heap.names) zone new is) (leaves-nonrelocatable p zone a keeps) in
+    stands-is (is_nonrelocatable p) z ∙ sym alike.1 ∙ sym (stands-is (is_nonrelocatable p) zone) ∙ is
 
 -- the next number is new where each block is known
 pub next-new : (s : State) (bytes : ℕ → List ℕ) → Known s bytes → NextIsNew s

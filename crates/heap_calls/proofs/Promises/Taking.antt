@@ -7,7 +7,7 @@ use Rattle.std.proofs.lemmas.Bool.Decides.{Decides-eqb}
 use Rattle.mac_words.specs.declared.code.OsErr.{OsErr}
 use Rattle.mac_words.specs.Told.{Told, Done}
 use Rattle.block_store.specs.declared.flags.Flags.{Flags}
-use Rattle.block_store.specs.Block.{Block, Free, Fixed, Masters, Relocatable, sizes, total, count, is_relocatable, is_fixed}
+use Rattle.block_store.specs.Block.{Block, Free, Nonrelocatable, Masters, Relocatable, sizes, total, count, is_relocatable, is_nonrelocatable}
 use Rattle.block_store.specs.Block.{tidy}
 use Rattle.block_store.specs.Room.{Spot, spot}
 use Rattle.block_store.specs.Grow.{freed}
@@ -24,7 +24,7 @@ use Rattle.heap_calls.specs.Standing.{pointer_place, disposes, NextIsNew}
 use Rattle.heap_calls.proofs.Promises.Knowing.{look_up-spot, pointed_at-spot}
 use Rattle.heap_calls.proofs.Promises.LastPutLaws.{handle_at-name}
 use Rattle.heap_calls.proofs.Promises.LockedLaws.{fewer, stays-locked}
-use Rattle.heap_calls.proofs.Promises.StandingLaws.{stays-fixed}
+use Rattle.heap_calls.proofs.Promises.StandingLaws.{stays-nonrelocatable}
 
 -- A call that takes a locked block or a pointer's block away is done, and leaves none.
 
@@ -70,7 +70,7 @@ gone-none seen test free_unseen others zone =
 -- the locked block of a handle is one of its blocks
 locked-own : (h : ℕ) (b : Block) → is_relocatable h b ≡ false → is_locked h b ≡ false
 locked-own h (Free n) e = refl
-locked-own h (Fixed id content) e = refl
+locked-own h (Nonrelocatable id content) e = refl
 locked-own h Masters e = refl
 locked-own h (Relocatable id flags content) e = ap (λ (t : Bool). t && flags.locked) e
 
@@ -80,8 +80,8 @@ gone-few h = freed-none (is_locked h) (is_relocatable h) (λ n. refl) (locked-ow
 disposed-none : (h : ℕ) (zone : List Block) → locked_place h (tidy (freed (is_relocatable h) zone)) ≡ None
 disposed-none h = gone-none (is_locked h) (is_relocatable h) (λ n. refl) (locked-own h)
 
-pointer-none : (p : ℕ) (zone : List Block) → pointer_place p (tidy (freed (is_fixed p) zone)) ≡ None
-pointer-none p = gone-none (is_fixed p) (is_fixed p) (λ n. refl) (λ b e. e)
+pointer-none : (p : ℕ) (zone : List Block) → pointer_place p (tidy (freed (is_nonrelocatable p) zone)) ≡ None
+pointer-none p = gone-none (is_nonrelocatable p) (is_nonrelocatable p) (λ n. refl) (λ b e. e)
 
 -- a handle's only block is unlocked
 unlocked-none : (h : ℕ) (zone : List Block) (at : Spot) → count (is_relocatable h) zone ≤ 1
@@ -99,7 +99,7 @@ unlocked-none h zone at once found change opens =
   where
     open_now : (b : Block) → is_locked h (flagged change b) ≡ false
     open_now (Free n) = refl
-    open_now (Fixed id content) = refl
+    open_now (Nonrelocatable id content) = refl
     open_now Masters = refl
     open_now (Relocatable id flags content) =
         ap (λ (t : Bool). (id == h) && t) (opens flags) ∙ none (id == h)
@@ -156,19 +156,19 @@ drops-or p place s is = by_held (pointed_at (Some p) s) (λ held e. (pointed_at-
         → StaysOr true place (done (for_found {T = Unit {0}} r s (λ held. (
           Ok tt,
           record {
-            zone = tidy (freed (is_fixed held.number) s.zone);
+            zone = tidy (freed (is_nonrelocatable held.number) s.zone);
             names = slice_set s.names held.number Disposed;
           },
         ))).0) (pointer_place p (for_found {T = Unit {0}} r s (λ held. (
           Ok tt,
           record {
-            zone = tidy (freed (is_fixed held.number) s.zone);
+            zone = tidy (freed (is_nonrelocatable held.number) s.zone);
             names = slice_set s.names held.number Disposed;
           },
         ))).1.zone)
     by_held (Err code) found = inl is
     by_held (Ok held) found = inr (
-      subst (λ (j : ℕ). pointer_place p (tidy (freed (is_fixed j) s.zone)) ≡ None) (sym (found held refl))
+      subst (λ (j : ℕ). pointer_place p (tidy (freed (is_nonrelocatable j) s.zone)) ≡ None) (sym (found held refl))
           (pointer-none p s.zone),
       refl,
       refl,
@@ -231,4 +231,4 @@ stays-or-dropped a m once new p place is = by_call (disposes p a) refl
     by_call : (t : Bool) → disposes p a ≡ t
         → StaysOr t place (answered a m).0 (pointer_place p (answered a m).1.heap.zone)
     by_call true e = dropping a m p place e is
-    by_call false e = inl (stays-fixed a m once new p place e is)
+    by_call false e = inl (stays-nonrelocatable a m once new p place e is)

@@ -7,7 +7,7 @@ use Rattle.std.specs.Option.{option_map, IfSome, IsSomeAnd}
 use Rattle.std.specs.Bool.{IsTrue}
 use Rattle.block_store.specs.Find.{FindsLowestRun}
 use Rattle.heap_calls.proofs.Room.Searching.{at_run}
-use Rattle.block_store.specs.Block.{Block, Free, Fixed, Masters, Relocatable, size, sizes, free_sum, free_of, free}
+use Rattle.block_store.specs.Block.{Block, Free, Nonrelocatable, Masters, Relocatable, size, sizes, free_sum, free_of, free}
 use Rattle.block_store.specs.Block.{is_room, add, tidy}
 use Rattle.block_store.specs.Run.{has, has_free, in_run, movers, low, with_run, RunSpot, run_raised, lowest_run}
 use Rattle.block_store.specs.Run.{run_spot, run_at, segments, joined, Stretch}
@@ -25,7 +25,7 @@ both n m zero e bs = absurd (omega (arith, e))
 both n m (suc k) e [] = ap (λ j. Free j ∷ []) (sym e)
 both n m (suc k) e (Free l ∷ bs) = ap (λ j. Free j ∷ bs) (let z : suc n + (suc m + l) ≡ suc k + l = omega (arith, e) in
     z)
-both n m (suc k) e (Fixed id content ∷ bs) = ap (λ j. Free j ∷ Fixed id content ∷ bs) (sym e)
+both n m (suc k) e (Nonrelocatable id content ∷ bs) = ap (λ j. Free j ∷ Nonrelocatable id content ∷ bs) (sym e)
 both n m (suc k) e (Masters ∷ bs) = ap (λ j. Free j ∷ Masters ∷ bs) (sym e)
 both n m (suc k) e (Relocatable id flags content ∷ bs) = ap (λ j. Free j ∷ Relocatable id flags content ∷ bs) (sym e)
 
@@ -38,10 +38,10 @@ tidy-add : (b : Block) (bs above : List Block) → tidy (add b bs ++ above) ≡ 
 tidy-add (Free zero) bs above = refl
 tidy-add (Free (suc n)) [] above = refl
 tidy-add (Free (suc n)) (Free m ∷ bs) above = sym (add-add (suc n) m (tidy (bs ++ above)))
-tidy-add (Free (suc n)) (Fixed id content ∷ bs) above = refl
+tidy-add (Free (suc n)) (Nonrelocatable id content ∷ bs) above = refl
 tidy-add (Free (suc n)) (Masters ∷ bs) above = refl
 tidy-add (Free (suc n)) (Relocatable id flags content ∷ bs) above = refl
-tidy-add (Fixed id content) bs above = refl
+tidy-add (Nonrelocatable id content) bs above = refl
 tidy-add Masters bs above = refl
 tidy-add (Relocatable id flags content) bs above = refl
 
@@ -65,10 +65,10 @@ add-front : (b : Block) (bs above : List Block) → has ends_run bs ≡ true →
 add-front (Free zero) bs above e = refl
 add-front (Free (suc n)) [] above e = let f : false ≡ true = e in cc
 add-front (Free (suc n)) (Free m ∷ bs) above e = refl
-add-front (Free (suc n)) (Fixed id content ∷ bs) above e = refl
+add-front (Free (suc n)) (Nonrelocatable id content ∷ bs) above e = refl
 add-front (Free (suc n)) (Masters ∷ bs) above e = refl
 add-front (Free (suc n)) (Relocatable id flags content ∷ bs) above e = refl
-add-front (Fixed id content) bs above e = refl
+add-front (Nonrelocatable id content) bs above e = refl
 add-front Masters bs above e = refl
 add-front (Relocatable id flags content) bs above e = refl
 
@@ -120,10 +120,10 @@ solid-add : (b : Block) (bs : List Block) → Solid bs → Solid (add b bs)
 solid-add (Free zero) bs s = s
 solid-add (Free (suc n)) [] s = (omega arith, tt)
 solid-add (Free (suc n)) (Free m ∷ bs) s = (omega arith, s.1)
-solid-add (Free (suc n)) (Fixed id content ∷ bs) s = (omega arith, s)
+solid-add (Free (suc n)) (Nonrelocatable id content ∷ bs) s = (omega arith, s)
 solid-add (Free (suc n)) (Masters ∷ bs) s = (omega arith, s)
 solid-add (Free (suc n)) (Relocatable id flags content ∷ bs) s = (omega arith, s)
-solid-add (Fixed id content) bs s = (omega arith, s)
+solid-add (Nonrelocatable id content) bs s = (omega arith, s)
 solid-add Masters bs s = (omega arith, s)
 solid-add (Relocatable id flags content) bs s = (omega arith, s)
 
@@ -156,7 +156,7 @@ low-is new p r e closed =
 
 not_free-alone : (new : Block) (above : List Block) → 0 < size new → free_of new ≡ 0 → add new above ≡ new ∷ above
 not_free-alone (Free n) above pos e = absurd (let z : n ≡ 0 = e in let w : 0 < n = pos in omega arith)
-not_free-alone (Fixed id content) above pos e = refl
+not_free-alone (Nonrelocatable id content) above pos e = refl
 not_free-alone Masters above pos e = refl
 not_free-alone (Relocatable id flags content) above pos e = refl
 
@@ -210,9 +210,9 @@ low-filled (suc n) r pos closed = by_top (tidy (upper (suc n) r)) (tidy-tidy (up
     by_top (Free m ∷ above) tidied is =
         base (Free (p + m)) above (Free m ∷ above) (whole (Free m ∷ above) is) is (le-leb p (p + m) (omega arith))
         (ap (λ k. add (Free k) (tidy above)) (let z : p + m - p ≡ m = omega arith in z) ∙ tidied)
-    by_top (Fixed id content ∷ above) tidied is =
-        base (Free p) (Fixed id content ∷ above) (Fixed id content ∷ above) (whole (Fixed id content ∷ above) is) is
-        same (ap (λ k. add (Free k) (tidy (Fixed id content ∷ above))) none ∙ tidied)
+    by_top (Nonrelocatable id content ∷ above) tidied is =
+        base (Free p) (Nonrelocatable id content ∷ above) (Nonrelocatable id content ∷ above) (whole (Nonrelocatable id content ∷ above) is) is
+        same (ap (λ k. add (Free k) (tidy (Nonrelocatable id content ∷ above))) none ∙ tidied)
     by_top (Masters ∷ above) tidied is =
         base (Free p) (Masters ∷ above) (Masters ∷ above) (whole (Masters ∷ above) is) is same
         (ap (λ k. add (Free k) (tidy (Masters ∷ above))) none ∙ tidied)

@@ -3,7 +3,7 @@ use Rattle.std.proofs.Common.{refl, sym, ◌∙◌, ap, subst, cond, arith, Opti
 use Rattle.std.proofs.lemmas.Option.{none-some}
 use Rattle.std.specs.Option.{option_map, IfSome}
 use Rattle.mac_words.specs.Size.{padded}
-use Rattle.block_store.specs.Block.{Block, Free, Fixed, Masters, Relocatable, size, sizes, count, is_room, tidy}
+use Rattle.block_store.specs.Block.{Block, Free, Nonrelocatable, Masters, Relocatable, size, sizes, count, is_room, tidy}
 use Rattle.block_store.specs.Block.{is_relocatable}
 use Rattle.block_store.specs.Run.{has, has_free, settle, with_run, RunSpot, run_spot, run_at}
 use Rattle.block_store.specs.Room.{Spot, raised, spot, place, may_be_purged, lowest_purged, purge, count_of}
@@ -79,7 +79,7 @@ count-le t bs = total-le (λ (b : Block). cond (may_be_purged t b) 1 0) size one
   where
     one : (b : Block) → cond (may_be_purged t b) 1 0 ≤ size b
     one (Free n) = omega arith
-    one (Fixed id content) = omega arith
+    one (Nonrelocatable id content) = omega arith
     one Masters = omega arith
     one (Relocatable id flags content) = elim (may_be_purged t (Relocatable id flags content)) as
         (λ m. cond m 1 0 ≤ padded (length content)) [ true ↦ omega arith | false ↦ omega arith ]

@@ -6,7 +6,7 @@ use Rattle.std.proofs.lemmas.Option.{none-some, same_Some}
 use Rattle.std.proofs.lemmas.Bool.{le-leb, cond-true, cond-false}
 use Rattle.std.proofs.lemmas.Bool.Decides.{nat_tests}
 use Rattle.std.specs.Option.{option_map}
-use Rattle.block_store.specs.Block.{Block, Free, Fixed, Masters, Relocatable, size, sizes, tidy, rename}
+use Rattle.block_store.specs.Block.{Block, Free, Nonrelocatable, Masters, Relocatable, size, sizes, tidy, rename}
 use Rattle.block_store.specs.Run.{in_run, Stretch, RunSpot, run_raised, runs, segments, settle}
 use Rattle.block_store.specs.Room.{Spot, raised, spot_at}
 use Rattle.block_store.specs.Seen.{seen}
@@ -59,7 +59,7 @@ solid-below (b ∷ below) above s = (s.0, solid-below below above s.1)
 
 seen_in_run-is : (b : Block) → seen_in_run (Some (seen b)) ≡ in_run b
 seen_in_run-is (Free n) = refl
-seen_in_run-is (Fixed id content) = refl
+seen_in_run-is (Nonrelocatable id content) = refl
 seen_in_run-is Masters = refl
 seen_in_run-is (Relocatable id flags content) = refl
 

@@ -9,7 +9,7 @@ use Rattle.std.specs.Option.{option_map, IsSome, IfSome, IsSomeAnd}
 use Rattle.mac_words.specs.Size.{phys}
 use Rattle.mac_words.specs.declared.code.OsErr.{OsErr}
 use Rattle.mac_words.specs.declared.code.TheConstants.OsErr.{MEM_FULL}
-use Rattle.block_store.specs.Block.{Block, Free, Fixed, Masters, Relocatable, size, sizes, count, rename, rename_block}
+use Rattle.block_store.specs.Block.{Block, Free, Nonrelocatable, Masters, Relocatable, size, sizes, count, rename, rename_block}
 use Rattle.block_store.specs.Block.{is_relocatable, resized, resized_content, content_of, with_content}
 use Rattle.windows.specs.Writes.{written}
 use Rattle.block_store.specs.Room.{Spot, rename_spot, spot, spot_at}
@@ -37,7 +37,7 @@ use Rattle.heap_calls.proofs.Numbering.Looking.{fitted-rename}
 -- a block holds no more bytes than it takes
 content-fits : (b : Block) → length (content_of b) ≤ size b
 content-fits (Free n) = omega arith
-content-fits (Fixed id content) = omega arith
+content-fits (Nonrelocatable id content) = omega arith
 content-fits Masters = omega arith
 content-fits (Relocatable id flags content) = omega arith
 
@@ -50,7 +50,7 @@ take-whole (suc n) (x ∷ c) le = ap (λ l. x ∷ l) (take-whole n c (let f : su
 content-resized : (slot n : ℕ) (b : Block) → is_relocatable slot b ≡ true
     → content_of (resized n b) ≡ resized_content n (content_of b)
 content-resized slot n (Free m) e = let f : false ≡ true = e in cc
-content-resized slot n (Fixed id content) e = refl
+content-resized slot n (Nonrelocatable id content) e = refl
 content-resized slot n Masters e = let f : false ≡ true = e in cc
 content-resized slot n (Relocatable id flags content) e = refl
 

@@ -10,7 +10,7 @@ use Rattle.std.specs.List.{find}
 use Rattle.std.specs.Option.{option_map, option_or, IfSome, IsSome, IsSomeAnd}
 use Rattle.std.specs.Bool.{IsTrue}
 use Rattle.mac_words.specs.Size.{padded, phys}
-use Rattle.block_store.specs.Block.{Block, Free, Fixed, Masters, Relocatable, size, count, free_sum, free_of, free}
+use Rattle.block_store.specs.Block.{Block, Free, Nonrelocatable, Masters, Relocatable, size, count, free_sum, free_of, free}
 use Rattle.block_store.specs.Block.{is_mover, is_room, is_relocatable, tidy, resized}
 use Rattle.block_store.specs.Run.{has, has_free, movers, others, high, settle, with_run, RunSpot, run_spot, run_at}
 use Rattle.block_store.specs.Room.{Spot, raised, spot, spot_at, place, filled, room}
@@ -47,7 +47,7 @@ find-settle : (t : Block → Bool) → ((n : ℕ) → t (Free n) ≡ false) → 
     → find t (movers run) ≡ find t run
 find-settle t none [] all = refl
 find-settle t none (Free n ∷ run) all = find-settle t none run all.1 ∙ sym (cond-false (t (Free n)) _ _ (none n))
-find-settle t none (Fixed id content ∷ run) all = let f : false ≡ true = all.0 in cc
+find-settle t none (Nonrelocatable id content ∷ run) all = let f : false ≡ true = all.0 in cc
 find-settle t none (Masters ∷ run) all = let f : false ≡ true = all.0 in cc
 find-settle t none (Relocatable id flags content ∷ run) all =
     cases (not flags.locked) all.0 (find-settle t none run all.1)
@@ -123,7 +123,7 @@ movers-filter : (number : ℕ) (run : List Block) → Loose run → movers (filt
     ≡ filter (is_relocatable number) run
 movers-filter number [] all = refl
 movers-filter number (Free n ∷ run) all = movers-filter number run all.1
-movers-filter number (Fixed id content ∷ run) all = movers-filter number run all.1
+movers-filter number (Nonrelocatable id content ∷ run) all = movers-filter number run all.1
 movers-filter number (Masters ∷ run) all = movers-filter number run all.1
 movers-filter number (Relocatable id flags content ∷ run) all = cases (id == number) (movers-filter number run all.1)
   where
@@ -141,7 +141,7 @@ free_sum-filter p none (b ∷ run) = cases (p b) refl (free_sum-filter p none ru
   where
     one : (b : Block) → p b ≡ true → free_of b ≡ 0
     one (Free n) e = let f : true ≡ false = sym e ∙ none n in cc
-    one (Fixed id content) e = refl
+    one (Nonrelocatable id content) e = refl
     one Masters e = refl
     one (Relocatable id flags content) e = refl
 

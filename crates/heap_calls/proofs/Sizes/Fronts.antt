@@ -6,11 +6,11 @@ use Rattle.std.proofs.lemmas.Option.{none-some, same_Some, option_and_then_some}
 use Rattle.std.proofs.lemmas.List.Folds.{find-append}
 use Rattle.std.specs.List.{find}
 use Rattle.std.specs.Option.{option_map, option_or}
-use Rattle.block_store.specs.Block.{Block, Free, Fixed, Masters, Relocatable, size, total, count, free, free_sum}
+use Rattle.block_store.specs.Block.{Block, Free, Nonrelocatable, Masters, Relocatable, size, total, count, free, free_sum}
 use Rattle.block_store.specs.Block.{is_mover, is_room, is_relocatable, resized, tidy}
 use Rattle.block_store.specs.Run.{in_run, change_run, has, has_free, movers, others, settle}
 use Rattle.block_store.specs.Room.{Spot, raised, spot, filled, place, lowest_purged, purge}
-use Rattle.block_store.specs.Grow.{growth, taken, taken_low, grow_up, grow_fixed, freed, move_away, grow_last}
+use Rattle.block_store.specs.Grow.{growth, taken, taken_low, grow_up, grow_nonrelocatable, freed, move_away, grow_last}
 use Rattle.block_store.specs.Grow.{grow_mover, grow}
 use Rattle.block_store.proofs.Zone.Leading.{none-count}
 use Rattle.block_store.proofs.Zone.Tidy.{spot-is, spot-passes, has-freed}
@@ -53,7 +53,7 @@ find-below t (b ∷ bs) s e = cases (t b) refl (spot t bs) (λ s e. find-below t
 
 find-room : (t : Block → Bool) → ((n : ℕ) → t (Free n) ≡ false) → (p : ℕ) (b : Block) → is_room p b ≡ true → t b ≡ false
 find-room t never p (Free n) e = never n
-find-room t never p (Fixed id content) e = let f : false ≡ true = e in cc
+find-room t never p (Nonrelocatable id content) e = let f : false ≡ true = e in cc
 find-room t never p Masters e = let f : false ≡ true = e in cc
 find-room t never p (Relocatable id flags content) e = let f : false ≡ true = e in cc
 
@@ -84,7 +84,7 @@ module _ (t : Block → Bool) (never : (n : ℕ) → t (Free n) ≡ false)
 
     mover : (b : Block) → t b ≡ true → ends b ≡ 0 → is_mover b ≡ true
     mover (Free n) e z = let f : true ≡ false = sym e ∙ never n in cc
-    mover (Fixed id content) e z = absurd (let f : 1 ≡ 0 = z in omega arith)
+    mover (Nonrelocatable id content) e z = absurd (let f : 1 ≡ 0 = z in omega arith)
     mover Masters e z = absurd (let f : 1 ≡ 0 = z in omega arith)
     mover (Relocatable id flags content) e z = cases (not flags.locked) z
       where
@@ -176,7 +176,7 @@ module _ (test t sp : Block → Bool) (never : (n : ℕ) → t (Free n) ≡ fals
         (λ above took is. ap (find t) (sym is) ∙ swapped zone above s found
         (taken-find t never (growth new s) s.above above took))
 
-    still-other : (zone z : List Block) (s : Spot) → spot test zone ≡ Some s → grow_fixed sp new s ≡ Some z
+    still-other : (zone z : List Block) (s : Spot) → spot test zone ≡ Some s → grow_nonrelocatable sp new s ≡ Some z
         → find t z ≡ find t zone
     still-other zone z s found e = cases (or-some (grow_up new s) _ z e)
       where
@@ -273,7 +273,7 @@ module _ (test sp : Block → Bool) (never : (n : ℕ) → test (Free n) ≡ fal
         map-some (λ above. s.below ++ new ∷ above) (taken (growth new s) s.above) z (find test z ≡ Some new) e
         (λ above took is. ap (find test) (sym is) ∙ past s.below above (find-below test zone s found))
 
-    still-own : (zone z : List Block) (s : Spot) → spot test zone ≡ Some s → grow_fixed sp new s ≡ Some z
+    still-own : (zone z : List Block) (s : Spot) → spot test zone ≡ Some s → grow_nonrelocatable sp new s ≡ Some z
         → find test z ≡ Some new
     still-own zone z s found e = cases (or-some (grow_up new s) _ z e)
       where
@@ -333,7 +333,7 @@ module _ (test sp : Block → Bool) (never : (n : ℕ) → test (Free n) ≡ fal
 other-name : (slot other : ℕ) → (other == slot) ≡ false → (b : Block) → is_relocatable slot b ≡ true
     → is_relocatable other b ≡ false
 other-name slot other e (Free m) is = refl
-other-name slot other e (Fixed id content) is = refl
+other-name slot other e (Nonrelocatable id content) is = refl
 other-name slot other e Masters is = refl
 other-name slot other e (Relocatable id flags content) is =
     false_from_ne_true (id == other) (λ same.
@@ -355,7 +355,7 @@ module _ (slot n : ℕ) (sp : Block → Bool) (zone z : List Block) (grew : grow
         let c = purged-le (λ (b : Block). cond {A = ℕ} (test b) 1 0) (counts-free test (λ m. refl)) k sp zone in
         moved-own test sp (λ m. refl) (resized n s'.here) (passes s' found') (purge k sp zone) z (omega arith) e
         ∙ ap Some (the s' found'))
-        (λ s' found' more fixed e. still-own test sp (λ m. refl) (resized n s'.here) (passes s' found') zone z s' found'
+        (λ s' found' more nonrelocatable e. still-own test sp (λ m. refl) (resized n s'.here) (passes s' found') zone z s' found'
         e ∙ ap Some (the s' found'))
         grew
       where
@@ -377,7 +377,7 @@ module _ (slot n : ℕ) (sp : Block → Bool) (zone z : List Block) (grew : grow
         (passes s found) zone s found)
         (λ s k found more mover e. moved-other test t sp (λ m. refl) apart spares (resized n s.here) (passes s found)
         (purge k sp zone) z e ∙ purged-find t (λ m. refl) sp spares k zone)
-        (λ s found more fixed e. still-other test t sp (λ m. refl) apart spares (resized n s.here) (passes s found) zone
+        (λ s found more nonrelocatable e. still-other test t sp (λ m. refl) apart spares (resized n s.here) (passes s found) zone
         z s found e)
         grew ∙ sym (spot-find t zone)
       where

@@ -12,12 +12,12 @@ use Rattle.block_store.proofs.Plain.Trials.{least_or_last-le}
 use Rattle.heap_calls.specs.Inner.Least.{IsMost, enough_above}
 use Rattle.heap_calls.specs.Searches.{room_searches, in_place_searches}
 use Rattle.mac_words.specs.Size.{padded, phys}
-use Rattle.block_store.specs.Block.{Block, Free, Fixed, Masters, Relocatable, size, sizes, free_sum, free_of, free}
+use Rattle.block_store.specs.Block.{Block, Free, Nonrelocatable, Masters, Relocatable, size, sizes, free_sum, free_of, free}
 use Rattle.block_store.specs.Block.{is_room, add, tidy, resized}
 use Rattle.block_store.specs.Run.{has, has_free, in_run, movers, low, with_run, RunSpot, run_raised, run_at, run_from}
 use Rattle.block_store.specs.Run.{segments, Segments, joined, Stretch}
 use Rattle.block_store.specs.Room.{Spot, raised, spot_at, room, may_be_purged, lowest_purged, purge, count_of}
-use Rattle.block_store.specs.Grow.{growth, taken, grow_up, taken_low, grow_fixed}
+use Rattle.block_store.specs.Grow.{growth, taken, grow_up, taken_low, grow_nonrelocatable}
 use Rattle.block_store.specs.Compact.{beyond, least_or_last}
 use Rattle.block_store.specs.Sparing.{spared}
 use Rattle.block_store.specs.declared.sparing.Sparing.{Sparing}
@@ -275,7 +275,7 @@ Ended (b ∷ above) = in_run b ≡ false
 free-alone : (n : ℕ) (above : List Block) → Ended above → add (Free (suc n)) above ≡ Free (suc n) ∷ above
 free-alone n [] e = refl
 free-alone n (Free m ∷ above) e = let f : true ≡ false = e in cc
-free-alone n (Fixed id content ∷ above) e = refl
+free-alone n (Nonrelocatable id content ∷ above) e = refl
 free-alone n (Masters ∷ above) e = refl
 free-alone n (Relocatable id flags content ∷ above) e = refl
 
@@ -283,10 +283,10 @@ add-front : (b : Block) (xs above : List Block) → Ended above → add b (xs ++
 add-front (Free zero) xs above e = refl
 add-front (Free (suc n)) [] above e = free-alone n above e
 add-front (Free (suc n)) (Free m ∷ xs) above e = refl
-add-front (Free (suc n)) (Fixed id content ∷ xs) above e = refl
+add-front (Free (suc n)) (Nonrelocatable id content ∷ xs) above e = refl
 add-front (Free (suc n)) (Masters ∷ xs) above e = refl
 add-front (Free (suc n)) (Relocatable id flags content ∷ xs) above e = refl
-add-front (Fixed id content) xs above e = refl
+add-front (Nonrelocatable id content) xs above e = refl
 add-front Masters xs above e = refl
 add-front (Relocatable id flags content) xs above e = refl
 
@@ -339,7 +339,7 @@ tidy-movers : (run : List Block) (n : ℕ) → tidy (movers run ++ free n) ≡ m
 tidy-movers [] zero = refl
 tidy-movers [] (suc n) = refl
 tidy-movers (Free m ∷ run) n = tidy-movers run n
-tidy-movers (Fixed id content ∷ run) n = tidy-movers run n
+tidy-movers (Nonrelocatable id content ∷ run) n = tidy-movers run n
 tidy-movers (Masters ∷ run) n = tidy-movers run n
 tidy-movers (Relocatable id flags content ∷ run) n = cases (not flags.locked) (tidy-movers run n)
   where
@@ -369,7 +369,7 @@ taken-added (suc d) pos above a = cases above a
         cond-true (nat_le (suc d) (suc d + m)) _ _ (le-leb (suc d) (suc d + m) (omega arith))
         ∙ ap (λ n. Some (free n ++ above)) (let z : suc d + m - suc d ≡ m = omega arith in z)
         ∙ ap Some (some m above pos)
-    cases (Fixed id content ∷ above) a = all (suc d) (Fixed id content ∷ above) refl
+    cases (Nonrelocatable id content ∷ above) a = all (suc d) (Nonrelocatable id content ∷ above) refl
     cases (Masters ∷ above) a = all (suc d) (Masters ∷ above) refl
     cases (Relocatable id flags content ∷ above) a = all (suc d) (Relocatable id flags content ∷ above) refl
 
@@ -454,7 +454,7 @@ some_if o s P e p = let Q : Option Spot → Type 0 = λ o. IfSome o P in subst Q
 -- a block as it is seen
 pub seen_size-is : (b : Block) → seen_size (seen b) ≡ size b
 seen_size-is (Free n) = refl
-seen_size-is (Fixed id content) = refl
+seen_size-is (Nonrelocatable id content) = refl
 seen_size-is Masters = refl
 seen_size-is (Relocatable id flags content) = refl
 
@@ -559,7 +559,7 @@ has_free-purged d k sp run = ap (nat_le d) (total-tidy free_of (λ n m. refl) (l
 -- a block that grows comes to the size that is wanted
 pub resized-size : (n : ℕ) (b : Block) → size b < size (resized n b) → size (resized n b) ≡ padded n
 resized-size n (Free m) less = absurd (let z : m < m = less in omega arith)
-resized-size n (Fixed id content) less = ap padded (length-resized n content)
+resized-size n (Nonrelocatable id content) less = ap padded (length-resized n content)
 resized-size n Masters less = absurd (let z : 272 < 272 = less in omega arith)
 resized-size n (Relocatable id flags content) less = ap padded (length-resized n content)
 
@@ -569,7 +569,7 @@ up-allowed new s e = is_some-map (λ above. s.below ++ new ∷ above) (taken (gr
 
 pub grown-up : (sp : Block → Bool) (new : Block) (s : Spot) (zone' : List Block)
     → is_some (taken (growth new s) s.above) ≡ true → IfSome (grow_up new s) (λ after. zone' ≡ after)
-    → grow_fixed sp new s ≡ Some zone'
+    → grow_nonrelocatable sp new s ≡ Some zone'
 grown-up sp new s zone' e h = cases (grow_up new s) (up-allowed new s e) h
   where
     cases : (o : Option (List Block)) → is_some o ≡ true → IfSome o (λ after. zone' ≡ after)
@@ -582,7 +582,7 @@ no-up : (new : Block) (s : Spot) → is_some (taken (growth new s) s.above) ≡ 
 no-up new s e = ap (option_map (λ above. s.below ++ new ∷ above)) (not_some (taken (growth new s) s.above) e)
 
 pub grown-none : (sp : Block → Bool) (new : Block) (s : Spot) → is_some (taken (growth new s) s.above) ≡ false
-    → room (enough (growth new s)) sp (segments s.above).first ≡ None → grow_fixed sp new s ≡ None
+    → room (enough (growth new s)) sp (segments s.above).first ≡ None → grow_nonrelocatable sp new s ≡ None
 grown-none sp new s e none =
     ap (λ o. option_or o (option_map (λ above. s.below ++ new ∷ above) (taken_low (growth new s) sp s.above)))
     (no-up new s e)
@@ -608,7 +608,7 @@ module _ (place : ℕ) (zone : List Block) (tidied : tidy zone ≡ zone) (s : Sp
 
   pub grown-pushed : (zone' : List Block) → is_some (taken (growth new s) s.above) ≡ false
       → room (enough (growth new s)) sp (segments s.above).first ≡ Some (purge k sp (segments s.above).first)
-      → IfSome (grow_up new (pushed (growth new s) k sp s)) (λ after. zone' ≡ after) → grow_fixed sp new s ≡ Some zone'
+      → IfSome (grow_up new (pushed (growth new s) k sp s)) (λ after. zone' ≡ after) → grow_nonrelocatable sp new s ≡ Some zone'
   grown-pushed zone' e found h =
       let Q : Option (List Block) → Type 0 = λ o. IfSome o (λ after. zone' ≡ after) in
       let is : zone' ≡ s.below ++ new ∷ above_taken (growth new s) (purge k sp (segments s.above).first)

@@ -5,7 +5,7 @@ use Rattle.std.specs.Option.{IfSome}
 use Rattle.std.specs.Result.{IfOk}
 use Rattle.mac_words.specs.Size.{phys, padded}
 use Rattle.mac_words.specs.declared.code.TheConstants.OsErr.{MEM_FULL}
-use Rattle.block_store.specs.Block.{Block, Free, Fixed, Masters, Relocatable, size, is_fixed, is_mover, resized}
+use Rattle.block_store.specs.Block.{Block, Free, Nonrelocatable, Masters, Relocatable, size, is_nonrelocatable, is_mover, resized}
 use Rattle.block_store.specs.Block.{rename, rename_block}
 use Rattle.block_store.specs.Run.{in_run}
 use Rattle.block_store.specs.Room.{Spot, spot_at}
@@ -29,34 +29,34 @@ use Rattle.heap_calls.specs.Inner.Reaching.{sized_reply}
 use Rattle.heap_calls.specs.declared.anchor.Target.{Target}
 use Rattle.heap_calls.proofs.Numbering.Answering.{at_place}
 use Rattle.heap_calls.proofs.Numbering.Changing.{phys-some}
-use Rattle.heap_calls.proofs.Numbering.Pointing.{Lone, IsHeld, is_fixed-number, pointed_at-refused}
+use Rattle.heap_calls.proofs.Numbering.Pointing.{Lone, IsHeld, is_nonrelocatable-number, pointed_at-refused}
 use Rattle.heap_calls.proofs.Numbering.Rebuilding.{not-looked, rebuilt-reply}
 use Rattle.heap_calls.proofs.Numbering.Looking.{size_searches-rename, fitted-rename}
 
 -- The size of a pointer's block.
 
--- a Fixed block stands where it is
-pub stands : (place : ℕ) (b : Block) → is_fixed place b ≡ true → (is_mover b ≡ false) × (in_run b ≡ false)
+-- a nonrelocatable block stands where it is
+pub stands : (place : ℕ) (b : Block) → is_nonrelocatable place b ≡ true → (is_mover b ≡ false) × (in_run b ≡ false)
 stands place (Free n) e = let f : false ≡ true = e in cc
-stands place (Fixed id content) e = (refl, refl)
+stands place (Nonrelocatable id content) e = (refl, refl)
 stands place Masters e = let f : false ≡ true = e in cc
 stands place (Relocatable id flags content) e = let f : false ≡ true = e in cc
 
 -- what it takes at n bytes
-pub fixed-size : (place n : ℕ) (b : Block) → is_fixed place b ≡ true → size (resized n b) ≡ padded n
-fixed-size place n (Free m) e = let f : false ≡ true = e in cc
-fixed-size place n (Fixed id content) e = ap padded (length-append (take n content) (replicate (n - length content) 0)
+pub nonrelocatable-size : (place n : ℕ) (b : Block) → is_nonrelocatable place b ≡ true → size (resized n b) ≡ padded n
+nonrelocatable-size place n (Free m) e = let f : false ≡ true = e in cc
+nonrelocatable-size place n (Nonrelocatable id content) e = ap padded (length-append (take n content) (replicate (n - length content) 0)
     ∙ omega (arith, length-take n content, length-replicate {A = ℕ} (n - length content) 0))
-fixed-size place n Masters e = let f : false ≡ true = e in cc
-fixed-size place n (Relocatable id flags content) e = let f : false ≡ true = e in cc
+nonrelocatable-size place n Masters e = let f : false ≡ true = e in cc
+nonrelocatable-size place n (Relocatable id flags content) e = let f : false ≡ true = e in cc
 
 -- the sizes that are compared
 pub sizes-are : (place n bytes taken : ℕ) (zone : List Block) (s : Spot) → spot_at place zone ≡ Some s
-    → is_fixed place s.here ≡ true → phys n ≡ Some bytes → IfSome (spot_at place zone) (λ s. taken ≡ size s.here)
+    → is_nonrelocatable place s.here ≡ true → phys n ≡ Some bytes → IfSome (spot_at place zone) (λ s. taken ≡ size s.here)
     → (bytes ≡ size (resized n s.here)) × (taken ≡ size s.here)
-sizes-are place n bytes taken zone s at fixed fits takes = (
+sizes-are place n bytes taken zone s at nonrelocatable fits takes = (
   (phys-some n bytes fits).1
-      ∙ sym (fixed-size place n s.here fixed),
+      ∙ sym (nonrelocatable-size place n s.here nonrelocatable),
   at_place place zone s (λ s. taken ≡ size s.here) at takes,
 )
 
@@ -69,14 +69,14 @@ fitted-done test sp n zone zone' (Ok grown) fits done = ap (λ t. cond t (grow t
 
 -- what SetPtrSize answers
 pub set_pointer_size-row : (pointer : Option ℕ) (n : ℕ) (s : State) (k : Held) → pointed_at pointer s ≡ Ok k
-    → set_pointer_size pointer n s ≡ rebuilt (fitted (is_fixed k.number) nothing n s.zone) s
+    → set_pointer_size pointer n s ≡ rebuilt (fitted (is_nonrelocatable k.number) nothing n s.zone) s
 set_pointer_size-row pointer n s k found =
     ap (λ r. for_found r s (λ (held : Held). cond (is_some (phys n))
-    (rebuilt (grow (is_fixed held.number) nothing n s.zone) s) (refused MEM_FULL s))) found
+    (rebuilt (grow (is_nonrelocatable held.number) nothing n s.zone) s) (refused MEM_FULL s))) found
     ∙ cases (is_some (phys n))
   where
-    cases : (t : Bool) → cond t (rebuilt (grow (is_fixed k.number) nothing n s.zone) s) (refused MEM_FULL s)
-        ≡ rebuilt (cond t (grow (is_fixed k.number) nothing n s.zone) None) s
+    cases : (t : Bool) → cond t (rebuilt (grow (is_nonrelocatable k.number) nothing n s.zone) s) (refused MEM_FULL s)
+        ≡ rebuilt (cond t (grow (is_nonrelocatable k.number) nothing n s.zone) None) s
     cases true = refl
     cases false = refl
 
@@ -84,21 +84,21 @@ set_pointer_size-row pointer n s k found =
 pub set_pointer_size-done : (value : Memory) (zone zone' : List Block) (rest rest' : Rest) (es : List Anchor)
     (log : Log) (pointer : Option ℕ) (t : Target) (n searches : ℕ) (done : Bool) → memory_of zone rest es log ≡ value
     → IsHeld zone rest.slots es pointer t → Lone es → t.number < no_number → IsRest rest rest'
-    → searches ≡ size_searches (is_fixed t.place) nothing n zone
-    → fitted (is_fixed t.place) nothing n zone ≡ made_zone done zone' → (done ≡ false → zone' ≡ zone)
+    → searches ≡ size_searches (is_nonrelocatable t.place) nothing n zone
+    → fitted (is_nonrelocatable t.place) nothing n zone ≡ made_zone done zone' → (done ≡ false → zone' ≡ zone)
     → IsAnswer (searching (set_pointer_size_searches pointer n value.heap) (silent (set_pointer_size pointer n) value))
     (sized_reply done) (memory_of zone' rest' es (record log { searches = counted log.searches searches }))
 set_pointer_size-done value zone zone' rest rest' es log pointer t n searches done is there lone small now looks made
     full =
     rebuilt-reply value zone rest es log is (set_pointer_size pointer n) (set_pointer_size_searches pointer n) zone'
     rest' now searches
-    (ap (λ r. found_searches r (λ (k : Held). size_searches (is_fixed k.number) nothing n (rename f g zone)))
-    there.looked ∙ size_searches-rename f g nothing nothing (λ b. refl) (is_fixed t.number) (is_fixed t.place) same n
+    (ap (λ r. found_searches r (λ (k : Held). size_searches (is_nonrelocatable k.number) nothing n (rename f g zone)))
+    there.looked ∙ size_searches-rename f g nothing nothing (λ b. refl) (is_nonrelocatable t.number) (is_nonrelocatable t.place) same n
     zone ∙ sym looks)
-    done (fitted (is_fixed t.place) nothing n zone)
+    done (fitted (is_nonrelocatable t.place) nothing n zone)
     (set_pointer_size-row pointer n (state_of zone rest.slots es) _ there.looked
     ∙ ap (λ o. rebuilt o (state_of zone rest.slots es))
-    (fitted-rename f g nothing nothing (λ b. refl) (is_fixed t.number) (is_fixed t.place) same n zone))
+    (fitted-rename f g nothing nothing (λ b. refl) (is_nonrelocatable t.number) (is_nonrelocatable t.place) same n zone))
     made full
   where
     f : ℕ → ℕ
@@ -107,8 +107,8 @@ set_pointer_size-done value zone zone' rest rest' es log pointer t n searches do
     g : ℕ → ℕ
     g = pointer_number es
 
-    same : (b : Block) → is_fixed t.number (rename_block f g b) ≡ is_fixed t.place b
-    same = is_fixed-number es t.number t.place there.entry lone small
+    same : (b : Block) → is_nonrelocatable t.number (rename_block f g b) ≡ is_nonrelocatable t.place b
+    same = is_nonrelocatable-number es t.number t.place there.entry lone small
 
 -- what it answers for a name that is no pointer's
 pub no_pointer : (value : Memory) (zone : List Block) (rest : Rest) (es : List Anchor) (log : Log) (e : Refusal)
@@ -120,6 +120,6 @@ no_pointer value zone rest es log (Code code) pointer n is found =
     let none = pointed_at-refused zone rest.slots es pointer code found in
     not-looked value zone rest es log is (set_pointer_size pointer n) (set_pointer_size_searches pointer n) code
     (ap (λ r. for_found r s (λ (held : Held). cond (is_some (phys n))
-    (rebuilt (grow (is_fixed held.number) nothing n s.zone) s) (refused MEM_FULL s))) none)
-    (ap (λ r. found_searches r (λ (held : Held). size_searches (is_fixed held.number) nothing n s.zone)) none)
+    (rebuilt (grow (is_nonrelocatable held.number) nothing n s.zone) s) (refused MEM_FULL s))) none)
+    (ap (λ r. found_searches r (λ (held : Held). size_searches (is_nonrelocatable held.number) nothing n s.zone)) none)
 no_pointer value zone rest es log HostMemory pointer n is found = tt

@@ -4,10 +4,10 @@ use Rattle.std.proofs.lemmas.Bool.{cond-true, cond-false, lt-leb}
 use Rattle.std.specs.Option.{option_map, IfSome}
 use Rattle.std.specs.Result.{IfOk}
 use Rattle.mac_words.specs.Size.{phys, padded}
-use Rattle.block_store.specs.Block.{Block, Free, Fixed, Masters, Relocatable, size, is_relocatable, is_mover, resized}
+use Rattle.block_store.specs.Block.{Block, Free, Nonrelocatable, Masters, Relocatable, size, is_relocatable, is_mover, resized}
 use Rattle.block_store.specs.Run.{in_run}
 use Rattle.block_store.specs.Room.{Spot, spot, spot_at}
-use Rattle.block_store.specs.Grow.{grow_mover, grow_fixed, grow}
+use Rattle.block_store.specs.Grow.{grow_mover, grow_nonrelocatable, grow}
 use Rattle.block_store.specs.Find.{FindsLowest}
 use Rattle.block_store.specs.Seen.{seen}
 use Rattle.block_store.specs.declared.sparing.Seen.{Seen}
@@ -38,13 +38,13 @@ stands-still number zone at o t found is told not_mover =
   where
     one : (b : Block) → is_relocatable number b ≡ true → is_mover b ≡ seen_mover (Some (seen b))
     one (Free m) e = refl
-    one (Fixed id content) e = refl
+    one (Nonrelocatable id content) e = refl
     one Masters e = refl
     one (Relocatable id flags content) e = refl
 
     two : (b : Block) → is_relocatable number b ≡ true → in_run b ≡ is_mover b
     two (Free m) e = let f : false ≡ true = e in cc
-    two (Fixed id content) e = refl
+    two (Nonrelocatable id content) e = refl
     two Masters e = refl
     two (Relocatable id flags content) e = refl
 
@@ -64,7 +64,7 @@ moves number zone at o t found is told mover =
 -- a locked block that grows where it stands
 pub grown-still : (t sp : Block → Bool) (n : ℕ) (zone : List Block) (answer : Option (List Block)) (s : Spot)
     → spot t zone ≡ Some s → is_mover s.here ≡ false → size s.here < size (resized n s.here)
-    → grow_fixed sp (resized n s.here) s ≡ answer → grow t sp n zone ≡ answer
+    → grow_nonrelocatable sp (resized n s.here) s ≡ answer → grow t sp n zone ≡ answer
 grown-still t sp n zone answer s found still more is =
     rw found (cond-false _ _ _ (lt-leb (size (resized n s.here)) (size s.here) more) ∙ cond-false _ _ _ still ∙ is)
 
@@ -129,9 +129,9 @@ is-to-fit number n bytes taken zone s found fits takes less =
 -- what growth where it stands came to
 pub grown-done : {E : Type 0} (t sp : Block → Bool) (n at : ℕ) (zone zone' : List Block) (r : Result Grown E) (s : Spot)
     → spot t zone ≡ Some s → spot_at at zone ≡ Some s → is_mover s.here ≡ false → size s.here < size (resized n s.here)
-    → IfOk r (λ g. IfSome (spot_at at zone) (λ s. grow_fixed sp (resized n s.here) s ≡ made_zone g.done zone'))
+    → IfOk r (λ g. IfSome (spot_at at zone) (λ s. grow_nonrelocatable sp (resized n s.here) s ≡ made_zone g.done zone'))
     → IfOk r (λ g. grow t sp n zone ≡ made_zone g.done zone')
 grown-done t sp n at zone zone' (Err e) s found stands still more is = tt
 grown-done t sp n at zone zone' (Ok g) s found stands still more is =
     grown-still t sp n zone (made_zone g.done zone') s found still more
-    (at_place at zone s (λ s. grow_fixed sp (resized n s.here) s ≡ made_zone g.done zone') stands is)
+    (at_place at zone s (λ s. grow_nonrelocatable sp (resized n s.here) s ≡ made_zone g.done zone') stands is)

@@ -2,7 +2,7 @@ use Rattle.std.proofs.Common.{◌≡◌, ℕ, ◌≤◌, zero, suc, Bool, true, 
 use Rattle.std.proofs.Common.{◌∙◌, ap, subst, cond, arith, Option, Some, slice_get, slice_set}
 use Rattle.std.specs.Prelude.{bytes_eq}
 use Rattle.block_store.specs.declared.flags.Flags.{Flags}
-use Rattle.block_store.specs.Block.{Block, Free, Fixed, Masters, Relocatable, is_relocatable}
+use Rattle.block_store.specs.Block.{Block, Free, Nonrelocatable, Masters, Relocatable, is_relocatable}
 use Rattle.block_store.proofs.Zone.Keeping.{unless-none, room-le}
 use Rattle.block_store.proofs.Zone.Leading.{count-none}
 use Rattle.block_store.proofs.Zone.Totals.{total-le}
@@ -69,8 +69,8 @@ known-cast s bytes known h role other is = record {
     each : (b : Block) → strange bytes ns b ≤ strange bytes s.names b
     each (Free m) = omega arith
     each Masters = omega arith
-    each (Fixed id content) =
-        let z : strange bytes ns (Fixed id content) ≡ strange bytes s.names (Fixed id content) =
+    each (Nonrelocatable id content) =
+        let z : strange bytes ns (Nonrelocatable id content) ≡ strange bytes s.names (Nonrelocatable id content) =
         ap {B = ℕ} (λ (t : Bool). cond (t && bytes_eq content (bytes id)) 0 1)
         (same-kind for_pointer (λ a b. refl) s.names h role other is id) in omega arith
     each (Relocatable id flags content) =

@@ -5,8 +5,8 @@ use Rattle.std.specs.Prelude.{is_some}
 use Rattle.mac_words.specs.declared.code.OsErr.{OsErr}
 use Rattle.mac_words.specs.declared.code.TheConstants.OsErr.{NIL_HANDLE, LOCKED}
 use Rattle.block_store.specs.declared.flags.Flags.{Flags}
-use Rattle.block_store.specs.Block.{Block, Free, Fixed, Masters, Relocatable, sizes, total, count, is_mover, is_masters}
-use Rattle.block_store.specs.Block.{is_relocatable, is_purgeable, is_fixed}
+use Rattle.block_store.specs.Block.{Block, Free, Nonrelocatable, Masters, Relocatable, sizes, total, count, is_mover, is_masters}
+use Rattle.block_store.specs.Block.{is_relocatable, is_purgeable, is_nonrelocatable}
 use Rattle.block_store.specs.Run.{has}
 use Rattle.block_store.specs.Room.{Spot, spot}
 use Rattle.block_store.specs.Rest.{Site}
@@ -15,7 +15,7 @@ use Rattle.block_store.proofs.Zone.Totals.{total-append}
 use Rattle.block_store.proofs.Zone.Passing.{has-append, has-count}
 use Rattle.block_store.proofs.Zone.Keeping.{SeesNoFree, apart}
 use Rattle.block_store.proofs.Zone.Alike.{Alike, alike-then, stands-is, stands-none, locks}
-use Rattle.block_store.proofs.Nonrelocatable.FixedCounts.{has-counts, not_fixed-relocatable}
+use Rattle.block_store.proofs.Nonrelocatable.Counts.{has-counts, not_nonrelocatable-relocatable}
 use Rattle.block_store.proofs.Regroup.Settling.{has-spot}
 use Rattle.heap_calls.specs.State.{State, Memory, Meaning, Handle, Pointer, Disposed}
 use Rattle.heap_calls.specs.Answer.{Answer, Held, refused, known_as, held_at, look_up, for_found, flagged, change_flags}
@@ -30,7 +30,7 @@ use Rattle.heap_calls.proofs.Promises.KnownChanges.{known-flags, hoisted-le, hoi
 use Rattle.heap_calls.proofs.Promises.AlikeCalls.{Steady, LeavesFlags, never, steady-never, alike-flags}
 use Rattle.heap_calls.proofs.Promises.AlikeCalls.{alike-locked_high, flagged-number}
 use Rattle.heap_calls.proofs.Promises.LockedLaws.{steady-locked, loose-unlocked, other-flags, fewer}
-use Rattle.heap_calls.proofs.Promises.StandingLaws.{steady-fixed, flagged-fixed}
+use Rattle.heap_calls.proofs.Promises.StandingLaws.{steady-nonrelocatable, flagged-nonrelocatable}
 use Rattle.heap_calls.proofs.Promises.EmptyingLaws.{masters}
 use Rattle.heap_calls.proofs.Steps.Place.{Rests}
 use Rattle.heap_calls.proofs.Tries.Elsewhere.{elsewhere}
@@ -142,15 +142,15 @@ loosened-locked h k other s =
     (alike-loosened (is_locked k) (steady-locked k) h (other-flags k h other) s)
 
 -- a pointer's block is where it was
-pub held-fixed : (h : ℕ) (s : State) (p : ℕ) → pointer_place p (held_high h s).zone ≡ pointer_place p s.zone
-held-fixed h s p =
-    same-place (is_fixed p) s.zone (held_high h s).zone
-    (alike-locked_high (is_fixed p) (steady-fixed p) h s (λ k loose b is. not_fixed-relocatable p k b is))
+pub held-nonrelocatable : (h : ℕ) (s : State) (p : ℕ) → pointer_place p (held_high h s).zone ≡ pointer_place p s.zone
+held-nonrelocatable h s p =
+    same-place (is_nonrelocatable p) s.zone (held_high h s).zone
+    (alike-locked_high (is_nonrelocatable p) (steady-nonrelocatable p) h s (λ k loose b is. not_nonrelocatable-relocatable p k b is))
 
-pub loosened-fixed : (h : ℕ) (s : State) (p : ℕ) → pointer_place p (loosened h s).zone ≡ pointer_place p s.zone
-loosened-fixed h s p =
-    same-place (is_fixed p) s.zone (loosened h s).zone
-    (alike-loosened (is_fixed p) (steady-fixed p) h (λ zone change at found. flagged-fixed p change at.here) s)
+pub loosened-nonrelocatable : (h : ℕ) (s : State) (p : ℕ) → pointer_place p (loosened h s).zone ≡ pointer_place p s.zone
+loosened-nonrelocatable h s p =
+    same-place (is_nonrelocatable p) s.zone (loosened h s).zone
+    (alike-loosened (is_nonrelocatable p) (steady-nonrelocatable p) h (λ zone change at found. flagged-nonrelocatable p change at.here) s)
 
 -- a zone has as many bytes as it had
 pub held-bytes : (h : ℕ) (s : State) → sizes (held_high h s).zone ≡ sizes s.zone
@@ -197,7 +197,7 @@ one-flags k change b = ap {B = ℕ} (λ (t : Bool). cond t 1 0) (flagged-number 
 
 masters-flags : (change : Flags → Flags) (b : Block) → masters (flagged change b) ≡ masters b
 masters-flags change (Free n) = refl
-masters-flags change (Fixed id content) = refl
+masters-flags change (Nonrelocatable id content) = refl
 masters-flags change Masters = refl
 masters-flags change (Relocatable id flags content) = refl
 
@@ -304,13 +304,13 @@ has-place h zone there = mapped (spot (is_locked h) zone) ∙ sym (has-spot (is_
 -- a block that is locked, and one that isn't a mover
 locked-now : (h : ℕ) (b : Block) → is_relocatable h b ≡ true → is_locked h (flagged locking b) ≡ true
 locked-now h (Free n) is = is
-locked-now h (Fixed id content) is = is
+locked-now h (Nonrelocatable id content) is = is
 locked-now h Masters is = is
 locked-now h (Relocatable id flags content) is = rw is refl
 
 locked-already : (h : ℕ) (b : Block) → is_relocatable h b ≡ true → is_mover b ≡ false → is_locked h b ≡ true
 locked-already h (Free n) is stands = is
-locked-already h (Fixed id content) is stands = is
+locked-already h (Nonrelocatable id content) is stands = is
 locked-already h Masters is stands = is
 locked-already h (Relocatable id flags content) is stands = cases flags.locked stands
   where
@@ -346,7 +346,7 @@ held-is_locked h s bytes known there =
 -- a block that isn't locked
 unlocked-now : (h : ℕ) (b : Block) → locks (is_locked h) (flagged unlocking b) ≡ 0
 unlocked-now h (Free n) = refl
-unlocked-now h (Fixed id content) = refl
+unlocked-now h (Nonrelocatable id content) = refl
 unlocked-now h Masters = refl
 unlocked-now h (Relocatable id flags content) = cases (id == h)
   where
@@ -373,7 +373,7 @@ none-locked h s bytes known there =
 -- nor is one once it is purgeable too
 purging-locks : (h : ℕ) (b : Block) → locks (is_locked h) (flagged purging b) ≡ locks (is_locked h) b
 purging-locks h (Free n) = refl
-purging-locks h (Fixed id content) = refl
+purging-locks h (Nonrelocatable id content) = refl
 purging-locks h Masters = refl
 purging-locks h (Relocatable id flags content) = refl
 
@@ -401,7 +401,7 @@ loosened-none h s bytes known there =
 purgeable-now : (h : ℕ) (b : Block) → is_relocatable h b ≡ true → locks (is_locked h) b ≤ 0
     → (is_relocatable h (flagged purging b) && is_purgeable (flagged purging b)) ≡ true
 purgeable-now h (Free n) is open_now = is
-purgeable-now h (Fixed id content) is open_now = is
+purgeable-now h (Nonrelocatable id content) is open_now = is
 purgeable-now h Masters is open_now = is
 purgeable-now h (Relocatable id flags content) is open_now = cases (id == h) is flags.locked open_now
   where

@@ -3,11 +3,11 @@ use Rattle.std.proofs.Common.{subst, arith, Some}
 use Rattle.std.proofs.lemmas.Bool.{or_parts}
 use Rattle.std.proofs.lemmas.Bool.Decides.{Decides-eqb}
 use Rattle.block_store.specs.declared.flags.Flags.{Flags}
-use Rattle.block_store.specs.Block.{Block, Relocatable, sizes, count, is_relocatable, is_fixed}
+use Rattle.block_store.specs.Block.{Block, Relocatable, sizes, count, is_relocatable, is_nonrelocatable}
 use Rattle.block_store.specs.Room.{put_in_place, room}
 use Rattle.block_store.proofs.Zone.Leading.{count-none}
 use Rattle.block_store.proofs.Zone.Alike.{Alike, alike-refl, alike-then, alike-put, alike-room, stands-is}
-use Rattle.block_store.proofs.Nonrelocatable.FixedCounts.{not_fixed-relocatable}
+use Rattle.block_store.proofs.Nonrelocatable.Counts.{not_nonrelocatable-relocatable}
 use Rattle.heap_calls.specs.State.{State, Memory, Meaning}
 use Rattle.heap_calls.specs.Answer.{nothing}
 use Rattle.heap_calls.specs.Inside.{has_block}
@@ -18,7 +18,7 @@ use Rattle.heap_calls.specs.Path.{step_disposes, steps_dispose}
 use Rattle.heap_calls.proofs.Promises.Knowing.{Known, for_handle, none-handle, next-none}
 use Rattle.heap_calls.proofs.Promises.AlikeCalls.{Steady, never, steady-never, alike-slotted, alike-gone}
 use Rattle.heap_calls.proofs.Promises.LockedLaws.{steady-locked, fewer, some-locked, other-unlocked}
-use Rattle.heap_calls.proofs.Promises.StandingLaws.{steady-fixed}
+use Rattle.heap_calls.proofs.Promises.StandingLaws.{steady-nonrelocatable}
 use Rattle.heap_calls.proofs.Steps.Ways.{Goes, step-goes, slotted-names}
 use Rattle.heap_calls.proofs.Steps.Knowledge.{step-known}
 
@@ -105,24 +105,24 @@ steps-locked (step ∷ steps) m bytes known h place keeps is =
     steps-locked steps (stepped step m) (put_reads (read_by step m) bytes) (step-known step m bytes known) h place
     both.1 (step-locked step m bytes known h place both.0 is)
 
-unseen-fixed : (p : ℕ) (step : Step) (s : State) → Unseen (is_fixed p) step s
-unseen-fixed p (NewFilled role flags x) s = refl
-unseen-fixed p (NewEmpty role) s = tt
-unseen-fixed p (Refill k flags x) s = λ none. refl
-unseen-fixed p (Release k) s = not_fixed-relocatable p k
-unseen-fixed p (Cast change k) s = tt
+unseen-nonrelocatable : (p : ℕ) (step : Step) (s : State) → Unseen (is_nonrelocatable p) step s
+unseen-nonrelocatable p (NewFilled role flags x) s = refl
+unseen-nonrelocatable p (NewEmpty role) s = tt
+unseen-nonrelocatable p (Refill k flags x) s = λ none. refl
+unseen-nonrelocatable p (Release k) s = not_nonrelocatable-relocatable p k
+unseen-nonrelocatable p (Cast change k) s = tt
 
 -- no step moves a pointer's block, or lets it go
-pub step-fixed : (step : Step) (m : Memory) (p : ℕ)
+pub step-nonrelocatable : (step : Step) (m : Memory) (p : ℕ)
     → pointer_place p (stepped step m).heap.zone ≡ pointer_place p m.heap.zone
-step-fixed step m p =
-    let alike = alike-stepped (is_fixed p) (steady-fixed p) step m (unseen-fixed p step m.heap) in
-    stands-is (is_fixed p) (stepped step m).heap.zone ∙ sym alike.1 ∙ sym (stands-is (is_fixed p) m.heap.zone)
+step-nonrelocatable step m p =
+    let alike = alike-stepped (is_nonrelocatable p) (steady-nonrelocatable p) step m (unseen-nonrelocatable p step m.heap) in
+    stands-is (is_nonrelocatable p) (stepped step m).heap.zone ∙ sym alike.1 ∙ sym (stands-is (is_nonrelocatable p) m.heap.zone)
 
-pub steps-fixed : (steps : List Step) (m : Memory) (p : ℕ)
+pub steps-nonrelocatable : (steps : List Step) (m : Memory) (p : ℕ)
     → pointer_place p (walk steps m).heap.zone ≡ pointer_place p m.heap.zone
-steps-fixed [] m p = refl
-steps-fixed (step ∷ steps) m p = steps-fixed steps (stepped step m) p ∙ step-fixed step m p
+steps-nonrelocatable [] m p = refl
+steps-nonrelocatable (step ∷ steps) m p = steps-nonrelocatable steps (stepped step m) p ∙ step-nonrelocatable step m p
 
 unseen-never : (step : Step) (s : State) → Unseen never step s
 unseen-never (NewFilled role flags x) s = refl

@@ -20,7 +20,7 @@ use Rattle.heap_calls.proofs.Promises.Knowing.{Known}
 use Rattle.heap_calls.proofs.Promises.LastPutLaws.{step-known}
 use Rattle.heap_calls.proofs.Promises.ShowingLaws.{shows-known}
 use Rattle.heap_calls.proofs.Promises.LockedLaws.{stays-locked}
-use Rattle.heap_calls.proofs.Promises.StandingLaws.{stays-fixed}
+use Rattle.heap_calls.proofs.Promises.StandingLaws.{stays-nonrelocatable}
 use Rattle.heap_calls.proofs.Promises.EmptyingLaws.{only-purgeable-go, masters-kept}
 use Rattle.heap_calls.proofs.Promises.FewSearches.{searches_few, unsearched}
 use Rattle.heap_calls.proofs.Promises.RefusedCalls.{refused_leaves}
@@ -85,11 +85,11 @@ served-locked a m once h place keeps is =
     (λ why kept. is)
 
 -- a pointer's block stays where it is, unless the call disposes of it
-pub served-fixed : (a : Asked) (m : Memory) → OneBlockEach m.heap.zone → NextIsNew m.heap → (p place : ℕ)
+pub served-nonrelocatable : (a : Asked) (m : Memory) → OneBlockEach m.heap.zone → NextIsNew m.heap → (p place : ℕ)
     → disposes p a ≡ false → pointer_place p m.heap.zone ≡ Some place
     → pointer_place p (served a m).1.heap.zone ≡ Some place
-served-fixed a m once new p place keeps is =
-    served-holds (λ t n. pointer_place p n.heap.zone ≡ Some place) a m (stays-fixed a m once new p place keeps is)
+served-nonrelocatable a m once new p place keeps is =
+    served-holds (λ t n. pointer_place p n.heap.zone ≡ Some place) a m (stays-nonrelocatable a m once new p place keeps is)
     (λ why kept. is)
 
 -- a handle's block that goes might be purged, unless the call let it go

@@ -1,7 +1,7 @@
 use Rattle.std.proofs.Common.{◌≡◌, ℕ, ◌+◌, ◌*◌, ◌%◌, ◌≤◌, ◌<◌, zero, suc, Bool, true, false, not, ◌&&◌, List, [], ◌∷◌}
 use Rattle.std.proofs.Common.{length, refl, ◌∙◌, ap, cond, arith}
 use Rattle.mac_words.specs.Size.{padded}
-use Rattle.block_store.specs.Block.{Block, Free, Fixed, Masters, Relocatable, size, sizes, total, count, free_of}
+use Rattle.block_store.specs.Block.{Block, Free, Nonrelocatable, Masters, Relocatable, size, sizes, total, count, free_of}
 use Rattle.block_store.specs.Block.{free_sum, is_purgeable, is_masters}
 use Rattle.block_store.specs.Room.{lowest_purged, may_be_purged, count_of}
 use Rattle.block_store.proofs.Zone.Tidy.{total-tidy}
@@ -20,7 +20,7 @@ goes_of b = cond (may_be_purged nothing b) (size b) 0
 -- a block is Free, or stays, or has master pointers, or may be purged
 one-part : (b : Block) → free_of b + staying_of b + 272 * masters b + goes_of b ≡ size b
 one-part (Free n) = omega arith
-one-part (Fixed id content) = omega arith
+one-part (Nonrelocatable id content) = omega arith
 one-part Masters = refl
 one-part (Relocatable id flags content) = cases (not flags.locked && flags.purgeable)
   where
@@ -59,7 +59,7 @@ none-left (suc k) (b ∷ bs) few =
 -- a block that may be purged doesn't stay
 staying-goes : (b : Block) → is_purgeable b ≡ true → staying_of b ≡ 0
 staying-goes (Free n) e = refl
-staying-goes (Fixed id content) e = let f : false ≡ true = e in cc
+staying-goes (Nonrelocatable id content) e = let f : false ≡ true = e in cc
 staying-goes Masters e = refl
 staying-goes (Relocatable id flags content) e = ap {B = ℕ} (λ (t : Bool). cond t 0 (padded (length content))) e
 
@@ -93,7 +93,7 @@ sixteens-stay (b ∷ zone) = let one = each b in let rest = sixteens-stay zone i
 
     each : (b : Block) → staying_of b % 16 ≡ 0
     each (Free n) = refl
-    each (Fixed id content) = either false (length content)
+    each (Nonrelocatable id content) = either false (length content)
     each Masters = refl
     each (Relocatable id flags content) = either (not flags.locked && flags.purgeable) (length content)
 

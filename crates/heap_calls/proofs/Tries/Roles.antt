@@ -8,7 +8,7 @@ use Rattle.mac_words.specs.Size.{phys}
 use Rattle.mac_words.specs.declared.code.OsErr.{OsErr}
 use Rattle.mac_words.specs.declared.code.TheConstants.OsErr.{NIL_HANDLE, MEM_FULL, LOCKED, PROFILE, PURGED}
 use Rattle.block_store.specs.declared.flags.Flags.{Flags}
-use Rattle.block_store.specs.Block.{Block, Fixed, Masters, Relocatable, is_mover, is_relocatable, is_fixed, content_of}
+use Rattle.block_store.specs.Block.{Block, Nonrelocatable, Masters, Relocatable, is_mover, is_relocatable, is_nonrelocatable, content_of}
 use Rattle.block_store.specs.Block.{with_content, no_flags, tidy}
 use Rattle.windows.specs.Writes.{written}
 use Rattle.block_store.specs.Room.{Spot, spot, put_in_place, put_at_base, room}
@@ -252,7 +252,7 @@ unpointed-keeps None s = same-keeps s
 unpointed-keeps (Some p) s = by_name (slice_get s.names p) refl
   where
     gone : ℕ → State
-    gone k = record { zone = tidy (freed (is_fixed k) s.zone); names = slice_set s.names k Disposed }
+    gone k = record { zone = tidy (freed (is_nonrelocatable k) s.zone); names = slice_set s.names k Disposed }
 
     by_spot : slice_get s.names p ≡ Some Pointer → (o : Option Spot)
         → Keeps s (for_found {T = Unit {0}} (ok_or {E = OsErr} (option_map
@@ -265,7 +265,7 @@ unpointed-keeps (Some p) s = by_name (slice_get s.names p) refl
         → Keeps s (for_found {T = Unit {0}} (pointed p o s) s (λ held. (Ok tt, gone held.number))).1
     by_name None is h = refl
     by_name (Some (Handle role)) is h = refl
-    by_name (Some Pointer) is h = by_spot is (spot (is_fixed p) s.zone) h
+    by_name (Some Pointer) is h = by_spot is (spot (is_nonrelocatable p) s.zone) h
     by_name (Some Disposed) is h = refl
 
 -- each call's row
@@ -299,14 +299,14 @@ row-keeps (asked.PtrAndHand handle x) m =
     found-keeps (look_up handle m.heap) m.heap _
     (λ held. append-keeps (is_relocatable held.number) held.number (length (content_of held.at.here)) x m.heap)
 row-keeps (asked.NewPtr n) m =
-    let made = room (put_at_base (Fixed (length m.heap.names) (replicate n 0))) nothing m.heap.zone in
+    let made = room (put_at_base (Nonrelocatable (length m.heap.names) (replicate n 0))) nothing m.heap.zone in
     either-keeps (is_some (phys n)) m.heap (given Pointer made m.heap) (refused MEM_FULL m.heap)
     (given-keeps Pointer refl made m.heap) (same-keeps m.heap)
 row-keeps (asked.DisposePtr pointer) m = unpointed-keeps pointer m.heap
 row-keeps (asked.GetPtrSize pointer) m = found-keeps {T = ℕ} (pointed_at pointer m.heap) m.heap _ (λ held h. refl)
 row-keeps (asked.SetPtrSize pointer n) m =
     found-keeps (pointed_at pointer m.heap) m.heap _
-    (λ held. sized-keeps (grow (is_fixed held.number) nothing n m.heap.zone) n m.heap)
+    (λ held. sized-keeps (grow (is_nonrelocatable held.number) nothing n m.heap.zone) n m.heap)
 row-keeps asked.FreeMem m = same-keeps m.heap
 row-keeps asked.MaxBlock m = same-keeps m.heap
 row-keeps asked.PurgeSpace m = same-keeps m.heap

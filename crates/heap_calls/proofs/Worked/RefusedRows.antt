@@ -1,7 +1,7 @@
 use Rattle.std.proofs.Common.{◌≡◌, ℕ, true, false, zero, suc, [], ◌∷◌, replicate, refl, Some, Err}
 use Rattle.mac_words.specs.declared.code.TheConstants.OsErr.{NO_ERR, MEM_FULL, NIL_HANDLE, PROFILE}
 use Rattle.block_store.specs.declared.flags.Flags.{Flags}
-use Rattle.block_store.specs.Block.{Free, Fixed, Masters, Relocatable, is_relocatable}
+use Rattle.block_store.specs.Block.{Free, Nonrelocatable, Masters, Relocatable, is_relocatable}
 use Rattle.block_store.specs.Run.{has}
 use Rattle.heap_calls.specs.State.{State, Handle, Pointer, Plain, fresh_heap}
 use Rattle.heap_calls.specs.Answer.{put, show}
@@ -48,7 +48,7 @@ purgeable = record { locked = false; purgeable = true }
 -- the block of handle 0, which may be purged, below that of pointer 1
 abbrev heap : State
 heap = record {
-  zone = Masters ∷ Relocatable 0 purgeable (replicate 8 0) ∷ Fixed 1 (replicate 8 0) ∷ [];
+  zone = Masters ∷ Relocatable 0 purgeable (replicate 8 0) ∷ Nonrelocatable 1 (replicate 8 0) ∷ [];
   names = Handle Plain ∷ Pointer ∷ [];
 }
 
@@ -56,7 +56,7 @@ heap = record {
 too-much : (purge_mem 100 heap).0 ≡ Err MEM_FULL
 too-much = refl
 
-purged-left : zone_left (PurgeMem 100) heap ≡ Masters ∷ Free 32 ∷ Fixed 1 (replicate 8 0) ∷ []
+purged-left : zone_left (PurgeMem 100) heap ≡ Masters ∷ Free 32 ∷ Nonrelocatable 1 (replicate 8 0) ∷ []
 purged-left = refl
 
 -- a refused Put leaves MemError's code

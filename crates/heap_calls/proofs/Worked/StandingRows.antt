@@ -1,5 +1,5 @@
 use Rattle.std.proofs.Common.{◌≡◌, true, [], ◌∷◌, replicate, refl, Some, None}
-use Rattle.block_store.specs.Block.{Free, Fixed, Masters, Relocatable, no_flags}
+use Rattle.block_store.specs.Block.{Free, Nonrelocatable, Masters, Relocatable, no_flags}
 use Rattle.heap_calls.specs.State.{State, Handle, Pointer, Plain}
 use Rattle.heap_calls.specs.Pointers.{new_pointer, dispose_pointer, set_pointer_size}
 use Rattle.heap_calls.specs.Purging.{max_mem}
@@ -11,7 +11,7 @@ use Rattle.heap_calls.specs.Asked.{DisposePtr}
 -- pointer 1 stands above the block of handle 0 and 64 Free bytes
 abbrev heap : State
 heap = record {
-  zone = Masters ∷ Relocatable 0 no_flags (replicate 8 0) ∷ Free 64 ∷ Fixed 1 (replicate 8 0) ∷ Free 64 ∷ [];
+  zone = Masters ∷ Relocatable 0 no_flags (replicate 8 0) ∷ Free 64 ∷ Nonrelocatable 1 (replicate 8 0) ∷ Free 64 ∷ [];
   names = Handle Plain ∷ Pointer ∷ [];
 }
 

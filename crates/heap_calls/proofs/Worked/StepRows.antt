@@ -1,7 +1,7 @@
 use Rattle.std.proofs.Common.{◌≡◌, true, false, List, [], ◌∷◌, ◌++◌, replicate, refl, Some}
 use Rattle.mac_words.specs.declared.code.TheConstants.OsErr.{NO_ERR, MEM_FULL}
 use Rattle.block_store.specs.declared.flags.Flags.{Flags}
-use Rattle.block_store.specs.Block.{Free, Fixed, Masters, Relocatable, no_flags}
+use Rattle.block_store.specs.Block.{Free, Nonrelocatable, Masters, Relocatable, no_flags}
 use Rattle.block_store.specs.Rest.{Site}
 use Rattle.heap_calls.specs.State.{State, Memory, Handle, Pointer, Disposed, Plain, Resource, SystemResource}
 use Rattle.heap_calls.specs.Busy.{idle}
@@ -22,7 +22,7 @@ locked = record { locked = true; purgeable = false }
 -- handle 0 has a purgeable block, pointer 1 one below 64 Free bytes
 abbrev heap : State
 heap = record {
-  zone = Masters ∷ Relocatable 0 purgeable (7 ∷ 7 ∷ []) ∷ Fixed 1 (9 ∷ []) ∷ Free 64 ∷ [];
+  zone = Masters ∷ Relocatable 0 purgeable (7 ∷ 7 ∷ []) ∷ Nonrelocatable 1 (9 ∷ []) ∷ Free 64 ∷ [];
   names = Handle Plain ∷ Pointer ∷ [];
 }
 
@@ -39,7 +39,7 @@ abbrev fetch : Step
 fetch = NewFilled Resource purgeable (1 ∷ 2 ∷ 3 ∷ [])
 
 fetched-heap : (window : Site) → (stepped fetch (at window)).heap ≡ record {
-  zone = Masters ∷ Relocatable 0 purgeable (7 ∷ 7 ∷ []) ∷ Fixed 1 (9 ∷ [])
+  zone = Masters ∷ Relocatable 0 purgeable (7 ∷ 7 ∷ []) ∷ Nonrelocatable 1 (9 ∷ [])
       ∷ Relocatable 2 purgeable (1 ∷ 2 ∷ 3 ∷ []) ∷ Free 32 ∷ [];
   names = Handle Plain ∷ Pointer ∷ Handle Resource ∷ [];
 }
@@ -70,7 +70,7 @@ large-unread window = refl
 -- a purgeable block gives way where no other has room
 narrow-heap : (window : Site) → (walk (NewFilled Resource no_flags (replicate 40 5) ∷ fetch ∷ []) (at window)).heap
     ≡ record {
-      zone = Masters ∷ Relocatable 3 purgeable (1 ∷ 2 ∷ 3 ∷ []) ∷ Fixed 1 (9 ∷ [])
+      zone = Masters ∷ Relocatable 3 purgeable (1 ∷ 2 ∷ 3 ∷ []) ∷ Nonrelocatable 1 (9 ∷ [])
           ∷ Relocatable 2 no_flags (replicate 40 5) ∷ [];
       names = Handle Plain ∷ Pointer ∷ Handle Resource ∷ Handle Resource ∷ [];
     }
@@ -85,7 +85,7 @@ abbrev path : List Step
 path = NewEmpty SystemResource ∷ Refill 2 locked (4 ∷ 5 ∷ []) ∷ []
 
 filled-heap : (window : Site) → (walk path (at window)).heap ≡ record {
-  zone = Masters ∷ Relocatable 0 purgeable (7 ∷ 7 ∷ []) ∷ Fixed 1 (9 ∷ [])
+  zone = Masters ∷ Relocatable 0 purgeable (7 ∷ 7 ∷ []) ∷ Nonrelocatable 1 (9 ∷ [])
       ∷ Relocatable 2 locked (4 ∷ 5 ∷ []) ∷ Free 32 ∷ [];
   names = Handle Plain ∷ Pointer ∷ Handle SystemResource ∷ [];
 }

@@ -79,7 +79,7 @@ FindsBlock zone slots es handle (Err HostMemory) = ⊥
 abbrev pub seen_flags : Option Seen → Option Flags
 seen_flags None = None
 seen_flags (Some (see.Free n)) = None
-seen_flags (Some (see.Fixed n)) = None
+seen_flags (Some (see.Nonrelocatable n)) = None
 seen_flags (Some see.Masters) = None
 seen_flags (Some (see.Relocatable slot flags n)) = Some flags
 
@@ -87,7 +87,7 @@ seen_flags (Some (see.Relocatable slot flags n)) = Some flags
 abbrev pub seen_mover : Option Seen → Bool
 seen_mover None = false
 seen_mover (Some (see.Free n)) = false
-seen_mover (Some (see.Fixed n)) = false
+seen_mover (Some (see.Nonrelocatable n)) = false
 seen_mover (Some see.Masters) = false
 seen_mover (Some (see.Relocatable slot flags n)) = not flags.locked
 
@@ -95,6 +95,6 @@ seen_mover (Some (see.Relocatable slot flags n)) = not flags.locked
 abbrev pub seen_in_run : Option Seen → Bool
 seen_in_run None = false
 seen_in_run (Some (see.Free n)) = true
-seen_in_run (Some (see.Fixed n)) = false
+seen_in_run (Some (see.Nonrelocatable n)) = false
 seen_in_run (Some see.Masters) = false
 seen_in_run (Some (see.Relocatable slot flags n)) = not flags.locked

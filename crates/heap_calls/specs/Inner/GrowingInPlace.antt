@@ -15,7 +15,7 @@ made_zone true zone = Some zone
 -- The physical size of a block, as it is seen.
 abbrev pub seen_size : Seen → ℕ
 seen_size (see.Free n) = n
-seen_size (see.Fixed n) = padded n
+seen_size (see.Nonrelocatable n) = padded n
 seen_size see.Masters = MASTERS_SIZE
 seen_size (see.Relocatable slot flags n) = padded n
 

@@ -3,7 +3,7 @@ use Rattle.std.proofs.Common.{Option, Some, None, Result, Ok, Err}
 use Rattle.std.proofs.lemmas.Bool.{and_parts, and_from, or_parts, eqb-true}
 use Rattle.std.specs.List.{list_all}
 use Rattle.mac_words.specs.declared.code.OsErr.{OsErr}
-use Rattle.block_store.specs.Block.{Block, Free, Fixed, Masters, Relocatable, is_relocatable, size}
+use Rattle.block_store.specs.Block.{Block, Free, Nonrelocatable, Masters, Relocatable, is_relocatable, size}
 use Rattle.block_store.specs.Grow.{freed}
 use Rattle.block_store.specs.Run.{has}
 use Rattle.block_store.specs.Block.{tidy}
@@ -38,7 +38,7 @@ freed-other : (h k : ℕ) → (k == h) ≡ false → (blocks : List Block)
     → has (is_relocatable h) (freed (is_relocatable k) blocks) ≡ has (is_relocatable h) blocks
 freed-other h k other [] = refl
 freed-other h k other (Free n ∷ blocks) = freed-other h k other blocks
-freed-other h k other (Fixed id content ∷ blocks) = freed-other h k other blocks
+freed-other h k other (Nonrelocatable id content ∷ blocks) = freed-other h k other blocks
 freed-other h k other (Masters ∷ blocks) = freed-other h k other blocks
 freed-other h k other (Relocatable id flags content ∷ blocks) =
     by_number (id == k) refl (freed-other h k other blocks)

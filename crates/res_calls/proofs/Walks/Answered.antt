@@ -11,7 +11,7 @@ use Rattle.heap_calls.specs.Emptying.{has_purgeable}
 use Rattle.heap_calls.specs.Path.{Step, walk, put_reads, steps_dispose}
 use Rattle.heap_calls.proofs.Promises.Knowing.{Known}
 use Rattle.heap_calls.proofs.Steps.Knowledge.{steps-known}
-use Rattle.heap_calls.proofs.Steps.Standstill.{steps-locked, steps-fixed, steps-bytes}
+use Rattle.heap_calls.proofs.Steps.Standstill.{steps-locked, steps-nonrelocatable, steps-bytes}
 use Rattle.heap_calls.proofs.Steps.Survival.{steps-masters, steps-purgeable}
 use Rattle.heap_calls.proofs.Steps.FewSearches.{steps-fits}
 use Rattle.heap_calls.proofs.Steps.Place.{steps-busy, steps-code, steps-window}
@@ -43,11 +43,11 @@ goes-locked steps s a bytes goes known h place keeps is =
     of-goes (λ m. locked_place h m.heap.zone ≡ Some place) steps s a goes
     (steps-locked steps s.memory bytes known h place keeps is)
 
-pub goes-fixed : {T : Type 0} {w : Bool} (steps : List Step) (s : Managers) (a : Answer T)
+pub goes-nonrelocatable : {T : Type 0} {w : Bool} (steps : List Step) (s : Managers) (a : Answer T)
     → Goes w steps s a → (p place : ℕ) → pointer_place p s.memory.heap.zone ≡ Some place
     → pointer_place p a.after.memory.heap.zone ≡ Some place
-goes-fixed steps s a goes p place is = of-goes (λ m. pointer_place p m.heap.zone ≡ Some place) steps s a goes
-    (steps-fixed steps s.memory p ∙ is)
+goes-nonrelocatable steps s a goes p place is = of-goes (λ m. pointer_place p m.heap.zone ≡ Some place) steps s a goes
+    (steps-nonrelocatable steps s.memory p ∙ is)
 
 -- only blocks that may be purged are
 pub goes-purgeable : {T : Type 0} {w : Bool} (steps : List Step) (s : Managers) (a : Answer T)

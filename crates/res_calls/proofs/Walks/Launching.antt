@@ -9,7 +9,7 @@ use Rattle.heap_calls.specs.Emptying.{has_purgeable}
 use Rattle.heap_calls.specs.Path.{Step, walk, reads, put_reads, steps_dispose}
 use Rattle.heap_calls.proofs.Promises.Knowing.{Known}
 use Rattle.heap_calls.proofs.Steps.Knowledge.{steps-known}
-use Rattle.heap_calls.proofs.Steps.Standstill.{steps-locked, steps-fixed, steps-bytes}
+use Rattle.heap_calls.proofs.Steps.Standstill.{steps-locked, steps-nonrelocatable, steps-bytes}
 use Rattle.heap_calls.proofs.Steps.Survival.{steps-masters, steps-purgeable}
 use Rattle.heap_calls.proofs.Steps.FewSearches.{steps-fits}
 use Rattle.heap_calls.proofs.Steps.Place.{steps-busy, steps-code, steps-window}
@@ -74,10 +74,10 @@ pub preloaded-locked : (s : Managers) (bytes : ℕ → List ℕ) → Known s.mem
 preloaded-locked s bytes known h place is = of-launch (λ m. locked_place h m.heap.zone ≡ Some place) s
     (steps-locked (launch_steps s) s.memory bytes known h place (launch-lets s h) is)
 
-pub preloaded-fixed : (s : Managers) (p place : ℕ) → pointer_place p s.memory.heap.zone ≡ Some place
+pub preloaded-nonrelocatable : (s : Managers) (p place : ℕ) → pointer_place p s.memory.heap.zone ≡ Some place
     → pointer_place p (preloaded s).0.memory.heap.zone ≡ Some place
-preloaded-fixed s p place is = of-launch (λ m. pointer_place p m.heap.zone ≡ Some place) s
-    (steps-fixed (launch_steps s) s.memory p ∙ is)
+preloaded-nonrelocatable s p place is = of-launch (λ m. pointer_place p m.heap.zone ≡ Some place) s
+    (steps-nonrelocatable (launch_steps s) s.memory p ∙ is)
 
 pub preloaded-purgeable : (s : Managers) (h : ℕ) → has (is_relocatable h) s.memory.heap.zone ≡ true
     → has (is_relocatable h) (preloaded s).0.memory.heap.zone ≡ false

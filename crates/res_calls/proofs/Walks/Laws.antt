@@ -16,7 +16,7 @@ use Rattle.heap_calls.specs.Path.{Step, NewFilled, NewEmpty, Refill, Release, Ca
 use Rattle.heap_calls.specs.Path.{left_zone}
 use Rattle.heap_calls.proofs.Promises.Knowing.{Known}
 use Rattle.heap_calls.proofs.Steps.Knowledge.{steps-known}
-use Rattle.heap_calls.proofs.Steps.Standstill.{steps-locked, steps-fixed, steps-bytes}
+use Rattle.heap_calls.proofs.Steps.Standstill.{steps-locked, steps-nonrelocatable, steps-bytes}
 use Rattle.heap_calls.proofs.Steps.Survival.{steps-masters, steps-purgeable}
 use Rattle.heap_calls.proofs.Steps.Refusals.{step-refused, step-no_more}
 use Rattle.heap_calls.proofs.Steps.FewSearches.{steps-fits}
@@ -68,11 +68,11 @@ pub served-locked : (a : ResourceAsked) (s : Managers) (bytes : ℕ → List ℕ
 served-locked a s bytes known h place keeps is = of-walk (λ m. locked_place h m.heap.zone ≡ Some place) a s
     (steps-locked (steps_of a s) s.memory bytes known h place (lets-walk h a s keeps) is)
 
-pub served-fixed : (a : ResourceAsked) (s : Managers) (bytes : ℕ → List ℕ) → Known s.memory.heap bytes
+pub served-nonrelocatable : (a : ResourceAsked) (s : Managers) (bytes : ℕ → List ℕ) → Known s.memory.heap bytes
     → (p place : ℕ) → pointer_place p s.memory.heap.zone ≡ Some place
     → pointer_place p (served a s).after.memory.heap.zone ≡ Some place
-served-fixed a s bytes known p place is = of-walk (λ m. pointer_place p m.heap.zone ≡ Some place) a s
-    (steps-fixed (steps_of a s) s.memory p ∙ is)
+served-nonrelocatable a s bytes known p place is = of-walk (λ m. pointer_place p m.heap.zone ≡ Some place) a s
+    (steps-nonrelocatable (steps_of a s) s.memory p ∙ is)
 
 -- only blocks that may be purged are
 pub served-purgeable : (a : ResourceAsked) (s : Managers) (bytes : ℕ → List ℕ) → Known s.memory.heap bytes

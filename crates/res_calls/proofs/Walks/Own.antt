@@ -70,11 +70,11 @@ own-locked kind id s bytes known h place is =
     goes.goes-locked (own_steps kind id s.resources) s (fetch_own kind id s) bytes (own-goes kind id s) known h place
     (own-lets kind id s.resources h) is
 
-pub own-fixed : (kind : ℕ) (id : ℤ) (s : Managers) (p place : ℕ)
+pub own-nonrelocatable : (kind : ℕ) (id : ℤ) (s : Managers) (p place : ℕ)
     → pointer_place p s.memory.heap.zone ≡ Some place
     → pointer_place p (fetch_own kind id s).after.memory.heap.zone ≡ Some place
-own-fixed kind id s p place is =
-    goes.goes-fixed (own_steps kind id s.resources) s (fetch_own kind id s) (own-goes kind id s) p place is
+own-nonrelocatable kind id s p place is =
+    goes.goes-nonrelocatable (own_steps kind id s.resources) s (fetch_own kind id s) (own-goes kind id s) p place is
 
 -- only blocks that may be purged are
 pub own-purgeable : (kind : ℕ) (id : ℤ) (s : Managers) (h : ℕ)

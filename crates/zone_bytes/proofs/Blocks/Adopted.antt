@@ -1,4 +1,4 @@
--- A Fixed block that becomes the block of a slot.
+-- A nonrelocatable block that becomes the block of a slot.
 use Rattle.std.proofs.Common.{◌≡◌, ℕ, Bool, true, false, IsTrue, ◌==◌, ◌+◌, ◌-◌, ◌%◌, ◌<◌, ◌≤◌}
 use Rattle.std.proofs.Common.{inl, inr, Some, List, [], ◌∷◌, ◌++◌, length, take, drop, sym, refl}
 use Rattle.std.proofs.Common.{ap, ◌∙◌, subst, arith}
@@ -11,8 +11,8 @@ use Rattle.heap_words.proofs.Words.{length-word, read_back}
 use Rattle.heap_words.proofs.Headers.{length-header}
 use Rattle.block_store.specs.declared.flags.Flags.{Flags}
 use Rattle.block_store.specs.declared.sparing.Seen.TheVariants as see
-use Rattle.block_store.specs.Block.{Block, Free, Fixed, Masters, Relocatable, size, sizes, count, is_relocatable}
-use Rattle.block_store.specs.Block.{is_fixed, is_masters, tidy, free_of, free_sum}
+use Rattle.block_store.specs.Block.{Block, Free, Nonrelocatable, Masters, Relocatable, size, sizes, count, is_relocatable}
+use Rattle.block_store.specs.Block.{is_nonrelocatable, is_masters, tidy, free_of, free_sum}
 use Rattle.block_store.specs.Run.{has}
 use Rattle.block_store.specs.Slot.{Used, is_used, is_resource}
 use Rattle.block_store.specs.Room.{Spot, spot_at}
@@ -51,14 +51,14 @@ use Rattle.zone_bytes.proofs.Blocks.Carves.{clear, outside, slot-kept}
 use Rattle.zone_bytes.proofs.Blocks.Carved.{pairs-put, has-put, has-mine, each-put, emptied-small}
 use Rattle.zone_bytes.proofs.Laws.Lawful.{Made, made}
 
--- the length that the header of a Fixed block tells
+-- the length that the header of a nonrelocatable block tells
 pub length-at : (at : ℕ) (xs : List ℕ) → IsOnWay at xs → (id : ℕ) (content : List ℕ) (above : List Block)
-    → left_in at xs ≡ Fixed id content ∷ above → word_at (at + 4) xs ≡ length content
+    → left_in at xs ≡ Nonrelocatable id content ∷ above → word_at (at + 4) xs ≡ length content
 length-at at xs w id content above e =
     let v = subst (Walk w.resource at xs) (sym (left-is at xs w) ∙ e) w.walk in
-    same (word_at (at + 4) xs) (length content) (told-is w.resource at xs w.small (Fixed id content) v.high.0 tt)
+    same (word_at (at + 4) xs) (length content) (told-is w.resource at xs w.small (Nonrelocatable id content) v.high.0 tt)
   where
-    same : (a b : ℕ) → see.Fixed a ≡ see.Fixed b → a ≡ b
+    same : (a b : ℕ) → see.Nonrelocatable a ≡ see.Nonrelocatable b → a ≡ b
     same a b e = cc
 
 -- a header in place of another
@@ -93,12 +93,12 @@ flag-of true w e = ap (λ v. v == 18) e
 flag-of false w e = ap (λ v. v == 18) e
 
 module _ (xs : List ℕ) (first count : ℕ) (i : IsSound xs first count) (below : List Block) (id : ℕ) (content : List ℕ)
-    (above : List Block) (whole : zone_in xs ≡ below ++ Fixed id content ∷ above) (place : ℕ)
+    (above : List Block) (whole : zone_in xs ≡ below ++ Nonrelocatable id content ∷ above) (place : ℕ)
     (low : sizes below ≡ place)
     (number : ℕ) (flags : Flags) (used : IsTrue (is_used (slot_in xs number)))
     (none : has (is_relocatable number) (zone_in xs) ≡ false) where
   abbrev old : Block
-  old = Fixed id content
+  old = Nonrelocatable id content
 
   abbrev pub new : Block
   new = Relocatable number flags content
@@ -285,34 +285,34 @@ module _ (xs : List ℕ) (first count : ℕ) (i : IsSound xs first count) (below
 -- the blocks of master pointers, and the Free bytes, stay
 pub masters-adopted : (below : List Block) (id number : ℕ) (flags : Flags) (content : List ℕ) (above : List Block)
     → count is_masters (below ++ Relocatable number flags content ∷ above)
-    ≡ count is_masters (below ++ Fixed id content ∷ above)
+    ≡ count is_masters (below ++ Nonrelocatable id content ∷ above)
 masters-adopted below id number flags content above =
-    masters-same below above (Fixed id content) (Relocatable number flags content) refl
+    masters-same below above (Nonrelocatable id content) (Relocatable number flags content) refl
 
 pub free-adopted : (below : List Block) (id number : ℕ) (flags : Flags) (content : List ℕ) (above : List Block)
-    → free_sum (below ++ Relocatable number flags content ∷ above) ≡ free_sum (below ++ Fixed id content ∷ above)
+    → free_sum (below ++ Relocatable number flags content ∷ above) ≡ free_sum (below ++ Nonrelocatable id content ∷ above)
 free-adopted below id number flags content above =
-    total-same free_of below above (Fixed id content) (Relocatable number flags content) refl
+    total-same free_of below above (Nonrelocatable id content) (Relocatable number flags content) refl
 
--- the Fixed block at a place
-pub record FixedAt (xs : List ℕ) (place : ℕ) : Type 0 where
+-- the nonrelocatable block at a place
+pub record NonrelocatableAt (xs : List ℕ) (place : ℕ) : Type 0 where
   pub s : Spot
   pub id : ℕ
   pub content : List ℕ
   pub is : spot_at place (zone_in xs) ≡ Some s
-  pub here : s.here ≡ Fixed id content
-  pub whole : zone_in xs ≡ s.below ++ Fixed id content ∷ s.above
+  pub here : s.here ≡ Nonrelocatable id content
+  pub whole : zone_in xs ≡ s.below ++ Nonrelocatable id content ∷ s.above
   pub low : sizes s.below ≡ place
 
-pub fixed-at : (xs : List ℕ) (place : ℕ) → IsSomeAnd (spot_at place (zone_in xs)) (λ s. is_fixed place s.here ≡ true)
-    → FixedAt xs place
-fixed-at xs place h = let a = the-spot (spot_at place (zone_in xs)) (λ s. is_fixed place s.here ≡ true) h in
+pub nonrelocatable-at : (xs : List ℕ) (place : ℕ) → IsSomeAnd (spot_at place (zone_in xs)) (λ s. is_nonrelocatable place s.here ≡ true)
+    → NonrelocatableAt xs place
+nonrelocatable-at xs place h = let a = the-spot (spot_at place (zone_in xs)) (λ s. is_nonrelocatable place s.here ≡ true) h in
     of a.0 a.1 a.0.here refl a.2
   where
-    of : (s : Spot) → spot_at place (zone_in xs) ≡ Some s → (b : Block) → s.here ≡ b → is_fixed place b ≡ true
-        → FixedAt xs place
+    of : (s : Spot) → spot_at place (zone_in xs) ≡ Some s → (b : Block) → s.here ≡ b → is_nonrelocatable place b ≡ true
+        → NonrelocatableAt xs place
     of s e (Free n) is f = absurd (false≢true f)
-    of s e (Fixed id content) is f = record {
+    of s e (Nonrelocatable id content) is f = record {
       s = s;
       id = id;
       content = content;
@@ -324,7 +324,7 @@ fixed-at xs place h = let a = the-spot (spot_at place (zone_in xs)) (λ s. is_fi
     of s e Masters is f = absurd (false≢true f)
     of s e (Relocatable slot flags content) is f = absurd (false≢true f)
 
-module _ (xs : List ℕ) (first count : ℕ) (i : IsSound xs first count) (place : ℕ) (a : FixedAt xs place) (number : ℕ)
+module _ (xs : List ℕ) (first count : ℕ) (i : IsSound xs first count) (place : ℕ) (a : NonrelocatableAt xs place) (number : ℕ)
     (flags : Flags) (used : IsTrue (is_used (slot_in xs number)))
     (none : has (is_relocatable number) (zone_in xs) ≡ false) where
   pub adopt-reads-in : (number % 4 ≡ 0) × (number + 4 ≤ length xs)
@@ -332,7 +332,7 @@ module _ (xs : List ℕ) (first count : ℕ) (i : IsSound xs first count) (place
       used none
 
   pub adopted-at : (after : List ℕ) → ((id : ℕ) (content : List ℕ) (above : List Block)
-      → left_in place xs ≡ Fixed id content ∷ above → after ≡ adopted number flags place content xs)
+      → left_in place xs ≡ Nonrelocatable id content ∷ above → after ≡ adopted number flags place content xs)
       → Made after first count (a.s.below ++ Relocatable number flags a.content ∷ a.s.above) (slot_in xs)
   adopted-at after bytes =
       let e = bytes a.id a.content a.s.above (left-at xs first count i place a.s a.is

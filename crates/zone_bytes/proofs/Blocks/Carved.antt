@@ -9,7 +9,7 @@ use Rattle.mac_words.specs.Size.{padded}
 use Rattle.windows.specs.Writes.{piece}
 use Rattle.heap_words.specs.Words.{word, word_at}
 use Rattle.heap_words.proofs.Words.{read_back}
-use Rattle.block_store.specs.Block.{Block, Free, Fixed, Masters, Relocatable, size, sizes, count, is_relocatable}
+use Rattle.block_store.specs.Block.{Block, Free, Nonrelocatable, Masters, Relocatable, size, sizes, count, is_relocatable}
 use Rattle.block_store.specs.Block.{is_masters, is_room, no_flags, free, add, tidy, free_of, free_sum}
 use Rattle.block_store.specs.Run.{has}
 use Rattle.block_store.specs.Room.{Spot, spot_at}
@@ -55,7 +55,7 @@ swap : (slot : ℕ) (content : List ℕ) (c : Block) (n : ℕ) (bs cs : List Blo
     → add c (Relocatable slot no_flags content ∷ cs) ≡ c ∷ Relocatable slot no_flags content ∷ cs
 swap slot content (Free zero) n bs cs e = absurd (let l = ap length e in omega arith)
 swap slot content (Free (suc m)) n bs cs e = refl
-swap slot content (Fixed id held) n bs cs e = refl
+swap slot content (Nonrelocatable id held) n bs cs e = refl
 swap slot content Masters n bs cs e = refl
 swap slot content (Relocatable id flags held) n bs cs e = refl
 
@@ -282,7 +282,7 @@ pub record FreeAt (xs : List ℕ) (place size : ℕ) : Type 0 where
 
 free-of : (p : ℕ) (b : Block) → IsTrue (is_room p b) → (n : ℕ) × (b ≡ Free n) × (p ≤ n)
 free-of p (Free n) h = (n, refl, le-back p n h)
-free-of p (Fixed id content) h = absurd (false≢true h)
+free-of p (Nonrelocatable id content) h = absurd (false≢true h)
 free-of p Masters h = absurd (false≢true h)
 free-of p (Relocatable id flags content) h = absurd (false≢true h)
 

@@ -5,7 +5,7 @@ use Rattle.std.proofs.lemmas.Bool.{false≢true}
 use Rattle.std.proofs.lemmas.List.{length-take-le, length-drop}
 use Rattle.windows.specs.Writes.{piece}
 use Rattle.heap_words.specs.Words.{word}
-use Rattle.block_store.specs.Block.{Block, Free, Fixed, Masters, Relocatable, size, sizes, tidy, count, is_masters}
+use Rattle.block_store.specs.Block.{Block, Free, Nonrelocatable, Masters, Relocatable, size, sizes, tidy, count, is_masters}
 use Rattle.block_store.specs.Block.{total}
 use Rattle.block_store.proofs.Zone.Totals.{total-append}
 use Rattle.zone_bytes.specs.Layout.{head_of, Tile, Tiles, IsSlot, names, names_of, LeadsTo, Each, IsPlaced}
@@ -25,19 +25,19 @@ use Rattle.block_store.specs.Slot.{is_resource}
 -- where a slot leads hangs on the block's names alone
 pub leads-each : (o : ℕ) (b : Block) (xs : List ℕ) → LeadsTo o b xs → Each (λ s. piece s 4 xs ≡ word o) (names_of b)
 leads-each o (Free n) xs l = tt
-leads-each o (Fixed id content) xs l = tt
+leads-each o (Nonrelocatable id content) xs l = tt
 leads-each o Masters xs l = tt
 leads-each o (Relocatable slot flags content) xs l = (l, tt)
 
 pub each-leads : (o : ℕ) (b : Block) (xs : List ℕ) → Each (λ s. piece s 4 xs ≡ word o) (names_of b) → LeadsTo o b xs
 each-leads o (Free n) xs e = tt
-each-leads o (Fixed id content) xs e = tt
+each-leads o (Nonrelocatable id content) xs e = tt
 each-leads o Masters xs e = tt
 each-leads o (Relocatable slot flags content) xs e = e.0
 
 pub no-slots : (b : Block) → is_masters b ≡ false → (s : ℕ) → IsSlot s (b ∷ []) → ⊥
 no-slots (Free n) m s i = elim i [ inl k ↦ k | inr k ↦ k.1 ]
-no-slots (Fixed id content) m s i = elim i [ inl k ↦ k | inr k ↦ k.1 ]
+no-slots (Nonrelocatable id content) m s i = elim i [ inl k ↦ k | inr k ↦ k.1 ]
 no-slots Masters m s i = absurd (false≢true (sym m))
 no-slots (Relocatable slot flags content) m s i = elim i [ inl k ↦ k | inr k ↦ k.1 ]
 

@@ -6,7 +6,7 @@ use Rattle.windows.proofs.Pieces.{length-written, take-written_above, drop-writt
 use Rattle.heap_words.specs.Words.{word, word_at, header}
 use Rattle.heap_words.proofs.Words.{length-word, read_back}
 use Rattle.block_store.specs.declared.flags.Flags.{Flags}
-use Rattle.block_store.specs.Block.{Block, Free, Fixed, Masters, Relocatable, size, sizes, tidy, count, is_masters}
+use Rattle.block_store.specs.Block.{Block, Free, Nonrelocatable, Masters, Relocatable, size, sizes, tidy, count, is_masters}
 use Rattle.block_store.specs.Block.{free_of, free_sum}
 use Rattle.block_store.specs.Seen.{with_flags}
 use Rattle.block_store.proofs.Purged.Purges.{tidy-flags}
@@ -109,7 +109,7 @@ module _ (xs : List ℕ) (first count : ℕ) (i : IsSound xs first count) (place
       → Made (flagged flags place xs) first count (below ++ with_flags flags here ∷ above) (slot_in xs)
   unfolding head_of
   flagged-made below (Free n) above whole low = other below (Free n) above whole low refl
-  flagged-made below (Fixed id content) above whole low = other below (Fixed id content) above whole low refl
+  flagged-made below (Nonrelocatable id content) above whole low = other below (Nonrelocatable id content) above whole low refl
   flagged-made below Masters above whole low = other below Masters above whole low refl
   flagged-made below (Relocatable slot old content) above whole low =
       let here : Block = Relocatable slot old content in
@@ -146,7 +146,7 @@ module _ (xs : List ℕ) (first count : ℕ) (i : IsSound xs first count) (place
 pub masters-flagged : (flags : Flags) (below : List Block) (b : Block) (above : List Block)
     → count is_masters (below ++ with_flags flags b ∷ above) ≡ count is_masters (below ++ b ∷ above)
 masters-flagged flags below (Free n) above = refl
-masters-flagged flags below (Fixed id content) above = refl
+masters-flagged flags below (Nonrelocatable id content) above = refl
 masters-flagged flags below Masters above = refl
 masters-flagged flags below (Relocatable slot old content) above = masters-same below above
     (Relocatable slot old content) (Relocatable slot flags content) refl
@@ -155,7 +155,7 @@ masters-flagged flags below (Relocatable slot old content) above = masters-same 
 pub free-flagged : (flags : Flags) (below : List Block) (b : Block) (above : List Block)
     → free_sum (below ++ with_flags flags b ∷ above) ≡ free_sum (below ++ b ∷ above)
 free-flagged flags below (Free n) above = refl
-free-flagged flags below (Fixed id content) above = refl
+free-flagged flags below (Nonrelocatable id content) above = refl
 free-flagged flags below Masters above = refl
 free-flagged flags below (Relocatable slot old content) above = total-same free_of below above
     (Relocatable slot old content) (Relocatable slot flags content) refl

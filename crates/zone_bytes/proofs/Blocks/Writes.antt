@@ -8,7 +8,7 @@ use Rattle.windows.proofs.Pieces.{written-same, length-written, take-written_abo
 use Rattle.heap_words.specs.Words.{header}
 use Rattle.heap_words.proofs.Headers.{length-header}
 use Rattle.mac_words.specs.Size.{padded}
-use Rattle.block_store.specs.Block.{Block, Free, Fixed, Masters, Relocatable, size, sizes, tidy, count, is_masters}
+use Rattle.block_store.specs.Block.{Block, Free, Nonrelocatable, Masters, Relocatable, size, sizes, tidy, count, is_masters}
 use Rattle.block_store.specs.Block.{content_of, with_content, free_of, free_sum}
 use Rattle.block_store.proofs.Zone.Apart.{tidy-content}
 use Rattle.zone_bytes.specs.Layout.{flag_word, head_of, Tile, Tiles, IsPlaced, ArePlaced}
@@ -65,7 +65,7 @@ tile-written h0 content x n from ys l w t =
 
 pub content-room : (b : Block) → 16 ≤ size b → 16 + length (content_of b) ≤ size b
 content-room (Free n) h = h
-content-room (Fixed id content) h = omega arith
+content-room (Nonrelocatable id content) h = omega arith
 content-room Masters h = omega arith
 content-room (Relocatable slot flags content) h = omega arith
 
@@ -116,16 +116,16 @@ module _ (xs : List ℕ) (first count : ℕ) (i : IsSound xs first count) (place
   unfolding head_of
   written-in below (Free n) above whole low w = nothing below (Free n) above whole low w
   written-in below Masters above whole low w = nothing below Masters above whole low w
-  written-in below (Fixed id content) above whole low w =
-      let t = tile below (Fixed id content) above whole low in
-      let z = size (Fixed id content) in
+  written-in below (Nonrelocatable id content) above whole low w =
+      let t = tile below (Nonrelocatable id content) above whole low in
+      let z = size (Nonrelocatable id content) in
       let h0 = header (z + 1) (length content) 0 0 in
       let l = length-head (z + 1) (length content) 0 0 content in
       let f = t.fits in let r = t.room in let d = length-drop place xs in let m = t.some in
       let k = length-written from x content w in
       let same = outside-written place (place + z) xs xs (place + 16 + from) x (omega arith) (omega (arith, l, r, w))
       (outside-same place (place + z) xs (omega arith) (omega (arith, f, d, m))) in
-      let now : Block = Fixed id (written from x content) in
+      let now : Block = Nonrelocatable id (written from x content) in
       let e : size now ≡ z = ap padded k in
       let up : drop place new ≡ written (16 + from) x (drop place xs) =
       drop-written_below (place + 16 + from) x xs place (omega arith) (omega (arith, f, d, m, l, r, w))
@@ -136,9 +136,9 @@ module _ (xs : List ℕ) (first count : ℕ) (i : IsSound xs first count) (place
       subst (λ ys. Tile (header (size now + 1) (length (written from x content)) 0 0 ++ written from x content)
       (size now) ys) (sym up)
       (rw (e, k) t1) in
-      here-made xs first count i below (Fixed id content) above whole place low refl
-      (omega (arith, m)) now new same t2 e refl refl (placed below (Fixed id content) above whole low)
-      (tidy-content (written from x content) below (Fixed id content) above (sym (ap tidy whole) ∙ i.tidied ∙ whole))
+      here-made xs first count i below (Nonrelocatable id content) above whole place low refl
+      (omega (arith, m)) now new same t2 e refl refl (placed below (Nonrelocatable id content) above whole low)
+      (tidy-content (written from x content) below (Nonrelocatable id content) above (sym (ap tidy whole) ∙ i.tidied ∙ whole))
   written-in below (Relocatable slot flags content) above whole low w =
       let t = tile below (Relocatable slot flags content) above whole low in
       let z = size (Relocatable slot flags content) in
@@ -175,7 +175,7 @@ module _ (xs : List ℕ) (first count : ℕ) (i : IsSound xs first count) (place
 pub masters-kept : (x : List ℕ) (below : List Block) (b : Block) (above : List Block)
     → count is_masters (below ++ with_content x b ∷ above) ≡ count is_masters (below ++ b ∷ above)
 masters-kept x below (Free n) above = refl
-masters-kept x below (Fixed id content) above = masters-same below above (Fixed id content) (Fixed id x) refl
+masters-kept x below (Nonrelocatable id content) above = masters-same below above (Nonrelocatable id content) (Nonrelocatable id x) refl
 masters-kept x below Masters above = refl
 masters-kept x below (Relocatable slot flags content) above = masters-same below above
     (Relocatable slot flags content) (Relocatable slot flags x) refl
@@ -184,7 +184,7 @@ masters-kept x below (Relocatable slot flags content) above = masters-same below
 pub free-kept : (x : List ℕ) (below : List Block) (b : Block) (above : List Block)
     → free_sum (below ++ with_content x b ∷ above) ≡ free_sum (below ++ b ∷ above)
 free-kept x below (Free n) above = refl
-free-kept x below (Fixed id content) above = total-same free_of below above (Fixed id content) (Fixed id x) refl
+free-kept x below (Nonrelocatable id content) above = total-same free_of below above (Nonrelocatable id content) (Nonrelocatable id x) refl
 free-kept x below Masters above = refl
 free-kept x below (Relocatable slot flags content) above = total-same free_of below above
     (Relocatable slot flags content) (Relocatable slot flags x) refl

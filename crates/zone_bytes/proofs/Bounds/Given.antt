@@ -2,7 +2,7 @@
 use Rattle.std.proofs.Common.{◌≡◌, ℕ, zero, suc, ◌+◌, ◌-◌, ◌≤◌, ◌<◌, ◌^◌, Bool, true, false, not, cond, Option, Some, None}
 use Rattle.std.proofs.Common.{List, [], ◌∷◌, ◌++◌, refl, ap, arith}
 use Rattle.std.proofs.lemmas.Bool.{and_parts, cond-true}
-use Rattle.block_store.specs.Block.{Block, Free, Fixed, Masters, Relocatable, size, sizes, total, free_of, free_sum}
+use Rattle.block_store.specs.Block.{Block, Free, Nonrelocatable, Masters, Relocatable, size, sizes, total, free_of, free_sum}
 use Rattle.block_store.specs.Block.{is_purgeable, fresh, tidy}
 use Rattle.block_store.specs.Grow.{freed, growth, taken, grow_up}
 use Rattle.block_store.specs.Room.{Spot, spot, filled, may_be_purged, lowest_purged}
@@ -73,7 +73,7 @@ given-lowest_purged (suc k) sp (b ∷ zone) = cases (may_be_purged sp b) refl (g
   where
     gives : (b : Block) → is_purgeable b ≡ true → (free_of b ≡ 0) × (purgeable_of b ≡ size b)
     gives (Free n) p = let f : false ≡ true = p in cc
-    gives (Fixed id content) p = let f : false ≡ true = p in cc
+    gives (Nonrelocatable id content) p = let f : false ≡ true = p in cc
     gives Masters p = let f : false ≡ true = p in cc
     gives (Relocatable id flags content) p = (refl, ap (λ t. cond t (size (Relocatable id flags content)) 0) p)
 

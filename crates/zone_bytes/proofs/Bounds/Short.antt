@@ -3,7 +3,7 @@ use Rattle.std.proofs.Common.{◌≡◌, ℕ, ◌+◌, ◌≤◌, ◌<◌, Bool,
 use Rattle.std.proofs.Common.{◌∷◌, ◌++◌, length, refl, ap, arith}
 use Rattle.std.proofs.lemmas.Bool.Decides.{nat_tests}
 use Rattle.mac_words.specs.Size.{padded}
-use Rattle.block_store.specs.Block.{Block, Free, Fixed, Masters, Relocatable, count, free_of, free_sum, is_room}
+use Rattle.block_store.specs.Block.{Block, Free, Nonrelocatable, Masters, Relocatable, count, free_of, free_sum, is_room}
 use Rattle.block_store.specs.Block.{is_relocatable}
 use Rattle.block_store.specs.Run.{RunSpot, run_spot}
 use Rattle.block_store.specs.Room.{Spot, spot, may_be_purged, lowest_purged}
@@ -39,7 +39,7 @@ no-room p zone short = cases (spot (is_room p) zone) refl
   where
     means : (b : Block) → is_room p b ≡ true → p ≤ free_of b
     means (Free n) r = grind (arith, nat_tests)
-    means (Fixed id content) r = let f : false ≡ true = r in cc
+    means (Nonrelocatable id content) r = let f : false ≡ true = r in cc
     means Masters r = let f : false ≡ true = r in cc
     means (Relocatable id flags content) r = let f : false ≡ true = r in cc
 
@@ -85,7 +85,7 @@ given-opened (sparing.Freed slot) zone =
 -- each block that may go would give something
 one-gives : (sp : Block → Bool) (b : Block) → cond {A = ℕ} (may_be_purged sp b) 1 0 ≤ purgeable_of b
 one-gives sp (Free n) = omega arith
-one-gives sp (Fixed id content) = omega arith
+one-gives sp (Nonrelocatable id content) = omega arith
 one-gives sp Masters = omega arith
 one-gives sp (Relocatable id flags content) = cases (not flags.locked && flags.purgeable) (not (sp (Relocatable id flags
     content)))

@@ -1,7 +1,7 @@
 -- Free bytes that are made one with a Free block above them.
 use Rattle.std.proofs.Common.{◌≡◌, ℕ, false, ◌+◌, ◌-◌, ◌<◌, ◌≤◌, List, [], ◌∷◌, ◌++◌, length, sym, refl, ap, ◌∙◌}
 use Rattle.std.proofs.Common.{subst, arith, append_assoc}
-use Rattle.block_store.specs.Block.{Block, Free, Fixed, Masters, Relocatable, size, sizes, free, add, is_masters}
+use Rattle.block_store.specs.Block.{Block, Free, Nonrelocatable, Masters, Relocatable, size, sizes, free, add, is_masters}
 use Rattle.block_store.specs.Inner.Stretch.{is_free}
 use Rattle.block_store.proofs.Zone.Joining.{add-alone, add-free, add-other}
 use Rattle.zone_bytes.specs.Layout.{kind}
@@ -14,13 +14,13 @@ use Rattle.zone_bytes.proofs.Joined.Ways.{inside, Read, read}
 
 pub free-is : (b : Block) → kind b ≡ 0 → b ≡ Free (size b)
 free-is (Free n) k = refl
-free-is (Fixed id content) k = absurd (let z : 1 ≡ 0 = k in omega (arith, z))
+free-is (Nonrelocatable id content) k = absurd (let z : 1 ≡ 0 = k in omega (arith, z))
 free-is Masters k = absurd (let z : 2 ≡ 0 = k in omega (arith, z))
 free-is (Relocatable slot flags content) k = absurd (let z : 3 ≡ 0 = k in omega (arith, z))
 
 pub not_free-is : (b : Block) → 0 < kind b → is_free b ≡ false
 not_free-is (Free n) k = absurd (let z : 0 < 0 = k in omega (arith, z))
-not_free-is (Fixed id content) k = refl
+not_free-is (Nonrelocatable id content) k = refl
 not_free-is Masters k = refl
 not_free-is (Relocatable slot flags content) k = refl
 

@@ -2,7 +2,7 @@
 use Rattle.std.proofs.Common.{◌≡◌, ℕ, inl, inr, ◌+◌, ◌-◌, ◌%◌, ◌<◌, ◌≤◌, List, [], ◌∷◌, ◌++◌, length, sym, refl, ap, ◌∙◌, subst}
 use Rattle.std.proofs.Common.{arith}
 use Rattle.heap_words.specs.Words.{word_at}
-use Rattle.block_store.specs.Block.{Block, Free, Fixed, Masters, Relocatable, size, sizes, free_of}
+use Rattle.block_store.specs.Block.{Block, Free, Nonrelocatable, Masters, Relocatable, size, sizes, free_of}
 use Rattle.block_store.specs.Inner.Joining.{last_free}
 use Rattle.zone_bytes.specs.Layout.{kind}
 use Rattle.zone_bytes.specs.Walking.{Walk}
@@ -90,13 +90,13 @@ some-block at xs w b blocks e = next w.rest w.walk (sym (left-is at xs w) ∙ e)
 
 free-kind : (b : Block) → kind b ≡ 0 → free_of b ≡ size b
 free-kind (Free n) k = refl
-free-kind (Fixed id content) k = absurd (let z : 1 ≡ 0 = k in omega (arith, z))
+free-kind (Nonrelocatable id content) k = absurd (let z : 1 ≡ 0 = k in omega (arith, z))
 free-kind Masters k = absurd (let z : 2 ≡ 0 = k in omega (arith, z))
 free-kind (Relocatable slot flags content) k = absurd (let z : 3 ≡ 0 = k in omega (arith, z))
 
 free-other : (b : Block) → 0 < kind b → free_of b ≡ 0
 free-other (Free n) k = absurd (let z : 0 < 0 = k in omega (arith, z))
-free-other (Fixed id content) k = refl
+free-other (Nonrelocatable id content) k = refl
 free-other Masters k = refl
 free-other (Relocatable slot flags content) k = refl
 

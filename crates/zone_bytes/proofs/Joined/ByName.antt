@@ -7,7 +7,7 @@ use Rattle.windows.specs.Writes.{piece}
 use Rattle.heap_words.specs.Words.{word, word_at}
 use Rattle.heap_words.proofs.Words.{read_back}
 use Rattle.block_store.specs.declared.flags.Flags.{Flags}
-use Rattle.block_store.specs.Block.{Block, Free, Fixed, Masters, Relocatable, size, sizes, tidy, free_of, free_sum}
+use Rattle.block_store.specs.Block.{Block, Free, Nonrelocatable, Masters, Relocatable, size, sizes, tidy, free_of, free_sum}
 use Rattle.block_store.specs.Block.{is_relocatable}
 use Rattle.block_store.specs.Grow.{freed}
 use Rattle.block_store.specs.Slot.{is_resource}
@@ -46,8 +46,8 @@ named : (o slot : ℕ) (blocks : List Block) (xs : List ℕ) → Leads o blocks 
     → Named o slot blocks xs
 named o slot [] xs l h = absurd h
 named o slot (Free n ∷ blocks) xs l h = named-more o slot (Free n) blocks xs (named (o + n) slot blocks xs l.1 h)
-named o slot (Fixed id content ∷ blocks) xs l h =
-    named-more o slot (Fixed id content) blocks xs (named (o + size (Fixed id content)) slot blocks xs l.1 h)
+named o slot (Nonrelocatable id content ∷ blocks) xs l h =
+    named-more o slot (Nonrelocatable id content) blocks xs (named (o + size (Nonrelocatable id content)) slot blocks xs l.1 h)
 named o slot (Masters ∷ blocks) xs l h = named-more o slot Masters blocks xs (named (o + 272) slot blocks xs l.1 h)
 named o slot (Relocatable id flags content ∷ blocks) xs l (inl e) = record {
   below = [];
@@ -66,7 +66,7 @@ pub freed-none : (slot : ℕ) (blocks : List Block) → Each (Apart slot) (names
     → freed (is_relocatable slot) blocks ≡ blocks
 freed-none slot [] a = refl
 freed-none slot (Free n ∷ blocks) a = ap (λ k. Free n ∷ k) (freed-none slot blocks a)
-freed-none slot (Fixed id content ∷ blocks) a = ap (λ k. Fixed id content ∷ k) (freed-none slot blocks a)
+freed-none slot (Nonrelocatable id content ∷ blocks) a = ap (λ k. Nonrelocatable id content ∷ k) (freed-none slot blocks a)
 freed-none slot (Masters ∷ blocks) a = ap (λ k. Masters ∷ k) (freed-none slot blocks a)
 freed-none slot (Relocatable id flags content ∷ blocks) a = elim (eqb_tells id slot) [
   | inl t ↦ absurd (apart-other slot id a.0 (sym t.1))

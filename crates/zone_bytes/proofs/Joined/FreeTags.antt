@@ -4,17 +4,17 @@ use Rattle.std.proofs.lemmas.Bool.{false≢true}
 use denote.Enum.Bare.{sameb}
 use Rattle.heap_words.specs.contracts.header.Tag.{the_type}
 use Rattle.heap_words.specs.declared.header.Tag.{Tag}
-use Rattle.heap_words.specs.declared.header.Tag.TheVariants.{Free, Fixed, Masters, Relocatable}
+use Rattle.heap_words.specs.declared.header.Tag.TheVariants.{Free, Nonrelocatable, Masters, Relocatable}
 use Rattle.heap_words.specs.Headers.{tag_number}
 
 pub free-true : (t : Tag) → true ≡ sameb the_type t Free → tag_number t ≡ 0
 free-true Free h = refl
-free-true Fixed h = absurd (false≢true (sym h))
+free-true Nonrelocatable h = absurd (false≢true (sym h))
 free-true Masters h = absurd (false≢true (sym h))
 free-true Relocatable h = absurd (false≢true (sym h))
 
 pub free-false : (t : Tag) → false ≡ sameb the_type t Free → 0 < tag_number t
 free-false Free h = absurd (false≢true h)
-free-false Fixed h = omega arith
+free-false Nonrelocatable h = omega arith
 free-false Masters h = omega arith
 free-false Relocatable h = omega arith

@@ -6,7 +6,7 @@ use Rattle.windows.proofs.Pieces.{length-written, piece-written}
 use Rattle.heap_words.specs.Words.{word, word_at}
 use Rattle.heap_words.proofs.Words.{length-word, read_back}
 use Rattle.block_store.specs.declared.flags.Flags.{Flags}
-use Rattle.block_store.specs.Block.{Block, Free, Fixed, Masters, Relocatable, size, sizes, free}
+use Rattle.block_store.specs.Block.{Block, Free, Nonrelocatable, Masters, Relocatable, size, sizes, free}
 use Rattle.block_store.specs.Slot.{Slot, NoSlot, Unused, Used, is_resource}
 use Rattle.zone_bytes.specs.Layout.{kind, flag_word, head_of, Tile, IsSlot, names, names_of, Apart, Each, Pairs}
 use Rattle.zone_bytes.specs.Layout.{ArePlaced}
@@ -134,7 +134,7 @@ module _ (f : Freeing) (start at : ℕ) (xs : List ℕ) (m : MayFree f start at 
     where
       of-kind : (b : Block) → f.here ≡ b → kind b ≡ 3 → Led
       of-kind (Free n) e k = absurd (let q : 0 ≡ 3 = k in omega (arith, q))
-      of-kind (Fixed id content) e k = absurd (let q : 1 ≡ 3 = k in omega (arith, q))
+      of-kind (Nonrelocatable id content) e k = absurd (let q : 1 ≡ 3 = k in omega (arith, q))
       of-kind Masters e k = absurd (let q : 2 ≡ 3 = k in omega (arith, q))
       of-kind (Relocatable slot flags content) e k = led-by slot flags content e
 
@@ -282,6 +282,6 @@ module _ (f : Freeing) (start at : ℕ) (xs : List ℕ) (m : MayFree f start at 
     where
       of-kind : (b : Block) → kind b < 3 → names_of b ≡ []
       of-kind (Free n) k = refl
-      of-kind (Fixed id content) k = refl
+      of-kind (Nonrelocatable id content) k = refl
       of-kind Masters k = refl
       of-kind (Relocatable slot flags content) k = absurd (let q : 3 < 3 = k in omega (arith, q))

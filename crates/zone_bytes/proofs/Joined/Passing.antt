@@ -4,7 +4,7 @@ use Rattle.std.proofs.Common.{None, List, [], ◌∷◌, ◌++◌, length, sym, 
 use Rattle.std.proofs.lemmas.List.{append-nil}
 use Rattle.std.proofs.lemmas.Option.{none-some}
 use Rattle.heap_words.specs.Words.{word_at}
-use Rattle.block_store.specs.Block.{Block, Free, Fixed, Masters, Relocatable, size, sizes, free, free_of, free_sum}
+use Rattle.block_store.specs.Block.{Block, Free, Nonrelocatable, Masters, Relocatable, size, sizes, free, free_of, free_sum}
 use Rattle.block_store.specs.Block.{tidy, is_masters}
 use Rattle.block_store.specs.Room.{lowest_purged}
 use Rattle.block_store.specs.Seen.{seen}
@@ -44,7 +44,7 @@ opened-masters (sparing.Freed slot) = refl
 past-plain : (n : Sparing) (k l : ℕ) (b : Block) → left_past (spared n) k (opened_block n b) ≡ Some l
     → is_masters b ≡ false
 past-plain n k l (Free m) e = refl
-past-plain n k l (Fixed id content) e = refl
+past-plain n k l (Nonrelocatable id content) e = refl
 past-plain n k l Masters e =
     absurd (none-some l (sym (ap (left_past (spared n) k) (opened-masters n) ∙ past-none (spared n) k) ∙ e))
 past-plain n k l (Relocatable slot flags content) e = refl
@@ -67,7 +67,7 @@ sum-free (suc n) = omega arith
 -- the bytes that become Free with a block
 more-free : (b : Block) (m : ℕ) → m ≡ cond (kind b == 0) 0 (size b) → free_of b + m ≡ size b
 more-free (Free n) m e = let f : m ≡ 0 = e in omega (arith, f)
-more-free (Fixed id content) m e = let f : m ≡ size (Fixed id content) = e in omega (arith, f)
+more-free (Nonrelocatable id content) m e = let f : m ≡ size (Nonrelocatable id content) = e in omega (arith, f)
 more-free Masters m e = let f : m ≡ 272 = e in omega (arith, f)
 more-free (Relocatable slot flags content) m e = let f : m ≡ size (Relocatable slot flags content) = e in
     omega (arith, f)

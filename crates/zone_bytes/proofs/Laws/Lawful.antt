@@ -4,7 +4,7 @@ use Rattle.std.proofs.Common.{sym, refl, ap, ◌∙◌, subst, arith}
 use Rattle.std.proofs.lemmas.Bool.{false≢true}
 use Rattle.std.proofs.lemmas.Bool.Decides.{eqb_tells}
 use Rattle.mac_words.specs.Size.{padded}
-use Rattle.block_store.specs.Block.{Block, Free, Fixed, Masters, Relocatable, size, sizes, free_sum, count}
+use Rattle.block_store.specs.Block.{Block, Free, Nonrelocatable, Masters, Relocatable, size, sizes, free_sum, count}
 use Rattle.block_store.specs.Block.{is_masters, is_relocatable, tidy}
 use Rattle.block_store.specs.Run.{has}
 use Rattle.block_store.specs.Slot.{Slot, NoSlot, Unused, Used, is_used}
@@ -30,7 +30,7 @@ pub none-named : (slots : ℕ → Slot) (blocks : List Block) → Each (λ s. Is
     → is_used (slots number) ≡ false → has (is_relocatable number) blocks ≡ false
 none-named slots [] u number e = refl
 none-named slots (Free n ∷ blocks) u number e = none-named slots blocks u number e
-none-named slots (Fixed id content ∷ blocks) u number e = none-named slots blocks u number e
+none-named slots (Nonrelocatable id content ∷ blocks) u number e = none-named slots blocks u number e
 none-named slots (Masters ∷ blocks) u number e = none-named slots blocks u number e
 none-named slots (Relocatable slot flags content ∷ blocks) u number e = elim (eqb_tells slot number) [
   | inl t ↦ absurd (not-used (slots slot) u.0 (ap (λ k. is_used (slots k)) t.1 ∙ e))
@@ -42,7 +42,7 @@ pub count-apart : (number : ℕ) (blocks : List Block) → Each (Apart number) (
     → count (is_relocatable number) blocks ≡ 0
 count-apart number [] a = refl
 count-apart number (Free n ∷ blocks) a = let z = count-apart number blocks a in omega (arith, z)
-count-apart number (Fixed id content ∷ blocks) a = let z = count-apart number blocks a in omega (arith, z)
+count-apart number (Nonrelocatable id content ∷ blocks) a = let z = count-apart number blocks a in omega (arith, z)
 count-apart number (Masters ∷ blocks) a = let z = count-apart number blocks a in omega (arith, z)
 count-apart number (Relocatable slot flags content ∷ blocks) a = elim (eqb_tells slot number) [
   | inl t ↦ absurd (far a.0 t.1)
@@ -58,7 +58,7 @@ pub counted-once : (number : ℕ) (blocks : List Block) → Pairs Apart (names b
     → count (is_relocatable number) blocks ≤ 1
 counted-once number [] p = omega arith
 counted-once number (Free n ∷ blocks) p = let z = counted-once number blocks p in omega (arith, z)
-counted-once number (Fixed id content ∷ blocks) p = let z = counted-once number blocks p in omega (arith, z)
+counted-once number (Nonrelocatable id content ∷ blocks) p = let z = counted-once number blocks p in omega (arith, z)
 counted-once number (Masters ∷ blocks) p = let z = counted-once number blocks p in omega (arith, z)
 counted-once number (Relocatable slot flags content ∷ blocks) p = elim (eqb_tells slot number) [
   | inl t ↦
@@ -74,8 +74,8 @@ counted-once number (Relocatable slot flags content ∷ blocks) p = elim (eqb_te
 pub aligned-tiles : (head : Block → List ℕ) (xs : List ℕ) (blocks : List Block) → Tiles head xs blocks → Aligned blocks
 aligned-tiles head xs [] t = tt
 aligned-tiles head xs (Free n ∷ blocks) t = (t.0.whole, aligned-tiles head (drop n xs) blocks t.1)
-aligned-tiles head xs (Fixed id content ∷ blocks) t =
-    (refl, aligned-tiles head (drop (size (Fixed id content)) xs) blocks t.1)
+aligned-tiles head xs (Nonrelocatable id content ∷ blocks) t =
+    (refl, aligned-tiles head (drop (size (Nonrelocatable id content)) xs) blocks t.1)
 aligned-tiles head xs (Masters ∷ blocks) t = (refl, aligned-tiles head (drop 272 xs) blocks t.1)
 aligned-tiles head xs (Relocatable slot flags content ∷ blocks) t =
     (refl, aligned-tiles head (drop (size (Relocatable slot flags content)) xs) blocks t.1)
@@ -83,7 +83,7 @@ aligned-tiles head xs (Relocatable slot flags content ∷ blocks) t =
 pub placed-of : (o : ℕ) (blocks : List Block) → ArePlaced o blocks → Placed o blocks
 placed-of o [] p = tt
 placed-of o (Free n ∷ blocks) p = placed-of (o + n) blocks p.1
-placed-of o (Fixed id content ∷ blocks) p = (p.0, placed-of (o + padded (length content)) blocks p.1)
+placed-of o (Nonrelocatable id content ∷ blocks) p = (p.0, placed-of (o + padded (length content)) blocks p.1)
 placed-of o (Masters ∷ blocks) p = placed-of (o + 272) blocks p.1
 placed-of o (Relocatable slot flags content ∷ blocks) p = placed-of (o + padded (length content)) blocks p.1
 

@@ -4,7 +4,7 @@ use Rattle.std.proofs.Common.{◌++◌, nat_le, nat_lt, refl, sym, ap, ◌∙◌
 use Rattle.std.proofs.lemmas.Bool.{le-leb, lt-leb, lt-ltb, le-ltb, leb-true, ltb-false, and_parts}
 use Rattle.std.proofs.lemmas.List.{append-nil}
 use Rattle.std.proofs.lemmas.List.Folds.{list_any-append}
-use Rattle.block_store.specs.Block.{Block, Free, Fixed, Masters, Relocatable, size, sizes, free_of, free_sum}
+use Rattle.block_store.specs.Block.{Block, Free, Nonrelocatable, Masters, Relocatable, size, sizes, free_of, free_sum}
 use Rattle.block_store.specs.Run.{has}
 use Rattle.block_store.proofs.Zone.Totals.{total-append}
 use Rattle.zone_bytes.specs.Marks.{AtEach, IsTally, between, ends_run}
@@ -42,7 +42,7 @@ alike-append a b c d x y = record {
 -- a block of no bytes ends no run
 empty-run : (b : Block) → size b ≤ 0 → ends_run b ≡ false
 empty-run (Free n) l = refl
-empty-run (Fixed id content) l = absurd (omega (arith, l))
+empty-run (Nonrelocatable id content) l = absurd (omega (arith, l))
 empty-run Masters l = absurd (omega (arith, l))
 empty-run (Relocatable id flags content) l = absurd (omega (arith, l))
 

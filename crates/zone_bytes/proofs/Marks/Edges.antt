@@ -4,7 +4,7 @@ use Rattle.std.proofs.Common.{◌∷◌, ◌++◌, length, take, drop, get_or, s
 use Rattle.std.proofs.lemmas.Bool.{leb-true, le-ltb, false≢true}
 use Rattle.std.proofs.lemmas.Bool.Decides.{eqb_tells}
 use Rattle.std.proofs.lemmas.List.{get_or-set_same, get_or-set_other, drop_more}
-use Rattle.block_store.specs.Block.{Block, Free, Fixed, Masters, Relocatable, size, sizes, free_of}
+use Rattle.block_store.specs.Block.{Block, Free, Nonrelocatable, Masters, Relocatable, size, sizes, free_of}
 use Rattle.block_store.specs.Run.{has}
 use Rattle.zone_bytes.specs.Layout.{Each}
 use Rattle.zone_bytes.specs.Edges.{Starts, AreEdges, IsMover, ByEdges, IsBare, AreLaid}
@@ -59,13 +59,13 @@ edges-next e now place base blocks p c l s a n u = subst (λ k. Starts (get_or k
 -- blocks that may move have no Free byte and end no run
 mover-free : (b : Block) → IsMover b → free_of b ≡ 0
 mover-free (Free n) m = absurd (false≢true m)
-mover-free (Fixed id content) m = refl
+mover-free (Nonrelocatable id content) m = refl
 mover-free Masters m = refl
 mover-free (Relocatable id flags content) m = refl
 
 mover-runs : (b : Block) → IsMover b → ends_run b ≡ false
 mover-runs (Free n) m = refl
-mover-runs (Fixed id content) m = absurd (false≢true m)
+mover-runs (Nonrelocatable id content) m = absurd (false≢true m)
 mover-runs Masters m = absurd (false≢true m)
 mover-runs (Relocatable id flags content) m = ap not m
 

@@ -1,7 +1,7 @@
 -- Landmarks where a block changes in place, and where one is put into a Free block.
 use Rattle.std.proofs.Common.{◌≡◌, ℕ, ◌+◌, ◌-◌, ◌≤◌, ◌<◌, inl, inr, List, [], ◌∷◌, ◌++◌, sym, refl, ap, ◌∙◌, subst, arith}
 use Rattle.std.proofs.Common.{zero, suc, append_assoc, Bool, true, false, ◌&&◌, ◌||◌, cond, nat_le, nat_lt}
-use Rattle.block_store.specs.Block.{Block, Free, Fixed, Masters, Relocatable, size, sizes, free, free_of, free_sum, add}
+use Rattle.block_store.specs.Block.{Block, Free, Nonrelocatable, Masters, Relocatable, size, sizes, free, free_of, free_sum, add}
 use Rattle.block_store.specs.Run.{has}
 use Rattle.zone_bytes.specs.Laying.{free_first}
 use Rattle.zone_bytes.specs.Marks.{AtEach, AtMost, Became, Begins, AreMarks, Replaced, between, ends_run, next_of}
@@ -140,7 +140,7 @@ joined-replaced lower g here above start top (suc n) old new was is e some low u
           high = omega (arith, a, f, e, up);
           span = omega (arith, a, f, e);
         }
-    joined (Fixed id content ∷ rest) was is up = alone (Fixed id content ∷ rest) was is (omega (arith, up))
+    joined (Nonrelocatable id content ∷ rest) was is up = alone (Nonrelocatable id content ∷ rest) was is (omega (arith, up))
     joined (Masters ∷ rest) was is up = alone (Masters ∷ rest) was is (omega (arith, up))
     joined (Relocatable id flags content ∷ rest) was is up =
         alone (Relocatable id flags content ∷ rest) was is (omega (arith, up))
@@ -148,6 +148,6 @@ joined-replaced lower g here above start top (suc n) old new was is e some low u
 pub first-small : (above : List Block) → free_first above ≤ sizes above
 first-small [] = omega arith
 first-small (Free m ∷ rest) = omega arith
-first-small (Fixed id content ∷ rest) = omega arith
+first-small (Nonrelocatable id content ∷ rest) = omega arith
 first-small (Masters ∷ rest) = omega arith
 first-small (Relocatable id flags content ∷ rest) = omega arith

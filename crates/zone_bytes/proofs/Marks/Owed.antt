@@ -5,7 +5,7 @@ use Rattle.mac_words.specs.Size.{padded}
 use Rattle.windows.specs.Writes.{written}
 use Rattle.windows.proofs.Pieces.{length-written}
 use Rattle.block_store.specs.declared.flags.Flags.{Flags}
-use Rattle.block_store.specs.Block.{Block, Free, Fixed, Masters, Relocatable, size, free, free_of}
+use Rattle.block_store.specs.Block.{Block, Free, Nonrelocatable, Masters, Relocatable, size, free, free_of}
 use Rattle.block_store.specs.Block.{content_of, is_purgeable, with_content}
 use Rattle.block_store.specs.Inner.Stretch.{is_free}
 use Rattle.block_store.specs.Room.{filled}
@@ -20,32 +20,32 @@ use Rattle.zone_bytes.specs.Marks.{Replaced, ends_run}
 use Rattle.zone_bytes.specs.Purgeable.{purgeable_of, purgeable_sum}
 use Rattle.zone_bytes.specs.declared.keeping.Landmarks.{Landmarks}
 use Rattle.zone_bytes.proofs.Marks.Keeping.{marks-same, carved-replaced}
-use Rattle.zone_bytes.proofs.Placed.FixedCarved.{Roomy}
+use Rattle.zone_bytes.proofs.Placed.NonrelocatableCarved.{Roomy}
 
 -- a block whose content is another of as many bytes
 free-content : (x : List ℕ) (b : Block) → free_of (with_content x b) ≡ free_of b
 free-content x (Free n) = refl
-free-content x (Fixed id content) = refl
+free-content x (Nonrelocatable id content) = refl
 free-content x Masters = refl
 free-content x (Relocatable id flags content) = refl
 
 ends-content : (x : List ℕ) (b : Block) → ends_run (with_content x b) ≡ ends_run b
 ends-content x (Free n) = refl
-ends-content x (Fixed id content) = refl
+ends-content x (Nonrelocatable id content) = refl
 ends-content x Masters = refl
 ends-content x (Relocatable id flags content) = refl
 
 -- a block with other flags
 pub size-flags : (flags : Flags) (b : Block) → size (with_flags flags b) ≡ size b
 size-flags flags (Free n) = refl
-size-flags flags (Fixed id content) = refl
+size-flags flags (Nonrelocatable id content) = refl
 size-flags flags Masters = refl
 size-flags flags (Relocatable id old content) = refl
 
 purgeable-content : (x : List ℕ) (b : Block) → length x ≡ length (content_of b)
     → purgeable_of (with_content x b) ≡ purgeable_of b
 purgeable-content x (Free n) e = refl
-purgeable-content x (Fixed id content) e = refl
+purgeable-content x (Nonrelocatable id content) e = refl
 purgeable-content x Masters e = refl
 purgeable-content x (Relocatable id flags content) e =
     ap (λ n. cond {A = ℕ} (is_purgeable (Relocatable id flags content)) (padded n) 0) e

@@ -4,7 +4,7 @@ use Rattle.std.proofs.Common.{subst, arith, cond, zero, suc, ◌*◌, length, dr
 use Rattle.std.proofs.lemmas.List.{drop_more, drop_all}
 use Rattle.std.specs.Option.{option_map, IfSome, MatchOption}
 use Rattle.std.proofs.lemmas.Bool.Decides.{leb_tells}
-use Rattle.block_store.specs.Block.{Block, Free, Fixed, Masters, Relocatable, size, sizes, is_room, free_of}
+use Rattle.block_store.specs.Block.{Block, Free, Nonrelocatable, Masters, Relocatable, size, sizes, is_room, free_of}
 use Rattle.block_store.specs.Room.{Spot, spot, spot_at, raised}
 use Rattle.block_store.specs.Find.{FindsLowest}
 use Rattle.block_store.proofs.Zone.Apart.{Apart, apart-tidied, apart-size}
@@ -32,7 +32,7 @@ bound-room most bytes lo hi x blocks l e = at-map (AtMost most lo hi) (NoRoom by
   where
     low : (b : Block) → free_of b ≤ most → is_room bytes b ≡ false
     low (Free n) f = grind (arith, f, l)
-    low (Fixed id content) f = refl
+    low (Nonrelocatable id content) f = refl
     low Masters f = refl
     low (Relocatable slot flags content) f = refl
 

@@ -2,7 +2,7 @@
 use Rattle.std.proofs.Common.{◌≡◌, ℕ, Bool, true, false, not, cond, ◌==◌, ◌+◌, ◌%◌, ◌<◌, ◌≤◌, List, ◌∷◌, length, drop}
 use Rattle.std.proofs.Common.{sym, refl, ap, ◌∙◌, subst, arith, nat_le}
 use Rattle.heap_words.specs.Words.{word_at}
-use Rattle.block_store.specs.Block.{Block, Free, Fixed, Masters, Relocatable, size, free_of, is_room}
+use Rattle.block_store.specs.Block.{Block, Free, Nonrelocatable, Masters, Relocatable, size, free_of, is_room}
 use Rattle.block_store.specs.declared.sparing.Seen.{Seen}
 use Rattle.zone_bytes.specs.Layout.{kind, head_of, Tile}
 use Rattle.zone_bytes.specs.Settling.{runs_on}
@@ -39,7 +39,7 @@ free-told b n t k z = ap (λ j. cond (j == 0) n 0) k ∙ of-kind b z
   where
     of-kind : (b : Block) → n ≡ size b → cond (kind b == 0) n 0 ≡ free_of b
     of-kind (Free m) z = z
-    of-kind (Fixed id content) z = refl
+    of-kind (Nonrelocatable id content) z = refl
     of-kind Masters z = refl
     of-kind (Relocatable slot flags content) z = refl
 
@@ -66,7 +66,7 @@ span-made at xs w l n t e h k free f barrier b =
 -- a block that isn't room by its Free bytes
 pub room-free : (p : ℕ) (b : Block) → 0 < free_of b → p ≤ free_of b → is_room p b ≡ true
 room-free p (Free n) s l = grind arith
-room-free p (Fixed id content) s l = absurd (omega (arith, s))
+room-free p (Nonrelocatable id content) s l = absurd (omega (arith, s))
 room-free p Masters s l = absurd (omega (arith, s))
 room-free p (Relocatable slot flags content) s l = absurd (omega (arith, s))
 
@@ -87,12 +87,12 @@ no-room p (Free n) s f = none (nat_le p n) refl
     none : (v : _) → nat_le p n ≡ v → nat_le p n ≡ false
     none true e = absurd (f s (grind (arith, e)))
     none false e = e
-no-room p (Fixed id content) s f = refl
+no-room p (Nonrelocatable id content) s f = refl
 no-room p Masters s f = refl
 no-room p (Relocatable slot flags content) s f = refl
 
 pub free-size : (b : Block) → free_of b ≤ size b
 free-size (Free n) = omega arith
-free-size (Fixed id content) = omega arith
+free-size (Nonrelocatable id content) = omega arith
 free-size Masters = omega arith
 free-size (Relocatable slot flags content) = omega arith

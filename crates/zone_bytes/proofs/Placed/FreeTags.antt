@@ -7,7 +7,7 @@ use Rattle.heap_words.specs.declared.header.Tag.{Tag}
 use Rattle.heap_words.specs.declared.header.Tag.TheVariants as tag
 use Rattle.heap_words.specs.Headers.{tag_number}
 use Rattle.heap_words.specs.Words.{word_at}
-use Rattle.block_store.specs.Block.{Block, Free, Fixed, Masters, Relocatable, size, free_of}
+use Rattle.block_store.specs.Block.{Block, Free, Nonrelocatable, Masters, Relocatable, size, free_of}
 use Rattle.zone_bytes.specs.Layout.{kind}
 use Rattle.zone_bytes.specs.Stepping.{left_in, IsOnWay}
 use Rattle.zone_bytes.specs.Walking.{Walk}
@@ -18,13 +18,13 @@ use Rattle.zone_bytes.proofs.Places.HeaderTells.{here-on, size-at}
 
 pub free-true : (t : Tag) → true ≡ sameb the_type t tag.Free → tag_number t ≡ 0
 free-true tag.Free h = refl
-free-true tag.Fixed h = absurd (false≢true (sym h))
+free-true tag.Nonrelocatable h = absurd (false≢true (sym h))
 free-true tag.Masters h = absurd (false≢true (sym h))
 free-true tag.Relocatable h = absurd (false≢true (sym h))
 
 pub free-false : (t : Tag) → false ≡ sameb the_type t tag.Free → 0 < tag_number t
 free-false tag.Free h = absurd (false≢true h)
-free-false tag.Fixed h = omega arith
+free-false tag.Nonrelocatable h = omega arith
 free-false tag.Masters h = omega arith
 free-false tag.Relocatable h = omega arith
 
@@ -46,7 +46,7 @@ module _ (at : ℕ) (xs : List ℕ) (w : IsOnWay at xs) where
       where
         free : (b : Block) → kind b ≡ 0 → size b ≡ free_of b
         free (Free n) k = refl
-        free (Fixed id content) k = absurd (omega (arith, k))
+        free (Nonrelocatable id content) k = absurd (omega (arith, k))
         free Masters k = absurd (omega (arith, k))
         free (Relocatable slot flags content) k = absurd (omega (arith, k))
 
@@ -57,6 +57,6 @@ module _ (at : ℕ) (xs : List ℕ) (w : IsOnWay at xs) where
       where
         other : (b : Block) → 0 < kind b → 0 ≡ free_of b
         other (Free n) k = absurd (omega (arith, k))
-        other (Fixed id content) k = refl
+        other (Nonrelocatable id content) k = refl
         other Masters k = refl
         other (Relocatable slot flags content) k = refl

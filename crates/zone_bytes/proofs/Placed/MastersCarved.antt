@@ -24,7 +24,7 @@ use Rattle.zone_bytes.specs.Mastering.{slots_at, with_slots, Thread}
 use Rattle.zone_bytes.proofs.SlotTable.Taking.{first-small}
 use Rattle.zone_bytes.proofs.Laws.Lawful.{Made, made}
 use Rattle.zone_bytes.proofs.Places.Options.{if-spot, one-spot}
-use Rattle.zone_bytes.proofs.Placed.FixedCarved.{Roomy}
+use Rattle.zone_bytes.proofs.Placed.NonrelocatableCarved.{Roomy}
 use Rattle.zone_bytes.proofs.Placed.Laid.{laid-outside, laid-left, laid-first}
 use Rattle.zone_bytes.proofs.Placed.MoreSlots.{outside-within, piece-low, lays-masters, kept-slot}
 

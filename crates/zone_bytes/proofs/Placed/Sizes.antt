@@ -12,7 +12,7 @@ use Rattle.heap_words.specs.Words.{word, word_at, header}
 use Rattle.heap_words.specs.Headers.{header_bytes, tag_number}
 use Rattle.heap_words.specs.declared.header.Header.{Header}
 use Rattle.heap_words.proofs.Words.{read_back}
-use Rattle.block_store.specs.Block.{Block, Free, Fixed, Masters, Relocatable, size, sizes, free, free_of, free_sum}
+use Rattle.block_store.specs.Block.{Block, Free, Nonrelocatable, Masters, Relocatable, size, sizes, free, free_of, free_sum}
 use Rattle.block_store.specs.Block.{is_masters, is_room}
 use Rattle.block_store.specs.Block.{content_of, resized, resized_content, tidy}
 use Rattle.block_store.specs.Room.{Spot, spot_at, filled}
@@ -50,7 +50,7 @@ pub headed-above : (above : List Block) → Apart above → Heading above (free_
 headed-above [] a = record { is = refl; unjoined = refl }
 headed-above (Free zero ∷ above) a = absurd (longer (Free zero) above a.0)
 headed-above (Free (suc n) ∷ above) a = record { is = refl; unjoined = unjoined-above (suc n) above a }
-headed-above (Fixed id content ∷ above) a = record { is = refl; unjoined = refl }
+headed-above (Nonrelocatable id content ∷ above) a = record { is = refl; unjoined = refl }
 headed-above (Masters ∷ above) a = record { is = refl; unjoined = refl }
 headed-above (Relocatable id flags content ∷ above) a = record { is = refl; unjoined = refl }
 
@@ -64,13 +64,13 @@ free-whole at xs w =
         → (free_first rest % 16 ≡ 0) × (at + free_first rest ≤ length xs)
     go [] v = let u = v.up in (refl, omega (arith, u))
     go (Free n ∷ rest) v = let u = v.up in (v.high.0.whole, omega (arith, u))
-    go (Fixed id content ∷ rest) v = let u = v.up in (refl, omega (arith, u))
+    go (Nonrelocatable id content ∷ rest) v = let u = v.up in (refl, omega (arith, u))
     go (Masters ∷ rest) v = let u = v.up in (refl, omega (arith, u))
     go (Relocatable id flags content ∷ rest) v = let u = v.up in (refl, omega (arith, u))
 
 free-part : (b : Block) → free_of b ≤ size b
 free-part (Free n) = omega arith
-free-part (Fixed id content) = omega arith
+free-part (Nonrelocatable id content) = omega arith
 free-part Masters = omega arith
 free-part (Relocatable id flags content) = omega arith
 
@@ -89,7 +89,7 @@ pub record Same (n place : ℕ) (b : Block) : Type 0 where
 
 pub same-of : (n place : ℕ) (b : Block) → Holds b → Same n place b
 same-of n place (Free m) k = absurd (false≢true k)
-same-of n place (Fixed id content) k =
+same-of n place (Nonrelocatable id content) k =
     record {
       no_masters = refl;
       held = refl;
@@ -116,7 +116,7 @@ same-of n place (Relocatable id flags content) k =
 -- a block that holds none has one size
 pub unsized : (n : ℕ) (b : Block) → (kind b % 2 == 1) ≡ false → resized n b ≡ b
 unsized n (Free m) k = refl
-unsized n (Fixed id content) k = absurd (false≢true (sym k))
+unsized n (Nonrelocatable id content) k = absurd (false≢true (sym k))
 unsized n Masters k = refl
 unsized n (Relocatable id flags content) k = absurd (false≢true (sym k))
 
@@ -129,8 +129,8 @@ module _ (resource : ℕ → Bool) (n at : ℕ) (xs : List ℕ) (small : length 
       ≡ head_of resource (resized n b))
   unfolding head_of
   sized-head (Free m) t w k = absurd (false≢true k)
-  sized-head (Fixed id content) t w k =
-      let z = size (Fixed id content) in
+  sized-head (Nonrelocatable id content) t w k =
+      let z = size (Nonrelocatable id content) in
       let q = says z (z + 1) (length content) 0 0 content (drop at xs) t in
       let l = length-head (z + 1) (length content) 0 0 content in
       let f = t.fits in let r = t.room in let d = length-drop at xs in
@@ -191,7 +191,7 @@ room-fits xs place n s at (inr more) small =
   where
     roomy-size : (d : ℕ) (b : Block) → is_room d b ≡ true → d ≤ size b
     roomy-size d (Free n) r = grind (arith, nat_tests)
-    roomy-size d (Fixed id content) r = absurd (false≢true r)
+    roomy-size d (Nonrelocatable id content) r = absurd (false≢true r)
     roomy-size d Masters r = absurd (false≢true r)
     roomy-size d (Relocatable id flags content) r = absurd (false≢true r)
 

@@ -4,7 +4,7 @@ use Rattle.std.proofs.Common.{sym, ap, ◌∙◌}
 use Rattle.std.proofs.Common.{subst, arith}
 use Rattle.std.proofs.lemmas.List.{drop-drop}
 use Rattle.windows.specs.Writes.{piece}
-use Rattle.block_store.specs.Block.{Block, Free, Fixed, Masters, Relocatable, size, sizes, content_of, tidy}
+use Rattle.block_store.specs.Block.{Block, Free, Nonrelocatable, Masters, Relocatable, size, sizes, content_of, tidy}
 use Rattle.block_store.specs.Room.{Spot, spot_at}
 use Rattle.block_store.specs.Slot.{is_resource}
 use Rattle.block_store.proofs.Zone.Apart.{Apart, apart-tidied}
@@ -96,8 +96,8 @@ pub held-piece : (resource : ℕ → Bool) (b : Block) (at : ℕ) (xs : List ℕ
     → piece (at + 16) (length (content_of b)) xs ≡ content_of b
 unfolding head_of
 held-piece resource (Free n) at xs t = refl
-held-piece resource (Fixed id content) at xs t =
-    let z = size (Fixed id content) in
+held-piece resource (Nonrelocatable id content) at xs t =
+    let z = size (Nonrelocatable id content) in
     ap (take (length content)) (sym (drop-drop 16 at xs))
     ∙ (says z (z + 1) (length content) 0 0 content (drop at xs) t).3
 held-piece resource Masters at xs t = refl

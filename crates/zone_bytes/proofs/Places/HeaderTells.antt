@@ -6,7 +6,7 @@ use Rattle.std.proofs.lemmas.List.{length-drop, drop-drop}
 use Rattle.windows.specs.Writes.{piece}
 use Rattle.heap_words.specs.Words.{word_at}
 use Rattle.heap_words.proofs.Words.{read_back}
-use Rattle.block_store.specs.Block.{Block, Free, Fixed, Masters, Relocatable, size, content_of}
+use Rattle.block_store.specs.Block.{Block, Free, Nonrelocatable, Masters, Relocatable, size, content_of}
 use Rattle.zone_bytes.specs.Layout.{kind, flag_word, head_of, Tile}
 use Rattle.zone_bytes.specs.Walking.{Walk}
 use Rattle.zone_bytes.specs.Stepping.{left_in, IsOnWay}
@@ -25,8 +25,8 @@ module _ (resource : ℕ → Bool) (at : ℕ) (xs : List ℕ) (small : length xs
       → Contained at xs b
   unfolding head_of
   contained (Free n) t k = absurd (false≢true k)
-  contained (Fixed id content) t k =
-      let z = size (Fixed id content) in
+  contained (Nonrelocatable id content) t k =
+      let z = size (Nonrelocatable id content) in
       let q = says z (z + 1) (length content) 0 0 content (drop at xs) t in
       let l = length-head (z + 1) (length content) 0 0 content in
       let f = t.fits in let r = t.room in let d = length-drop at xs in
@@ -51,7 +51,7 @@ module _ (resource : ℕ → Bool) (at : ℕ) (xs : List ℕ) (small : length xs
 
 pub empty : (b : Block) → (kind b % 2 == 1) ≡ false → content_of b ≡ []
 empty (Free n) k = refl
-empty (Fixed id content) k = absurd (false≢true (sym k))
+empty (Nonrelocatable id content) k = absurd (false≢true (sym k))
 empty Masters k = refl
 empty (Relocatable slot flags content) k = absurd (false≢true (sym k))
 

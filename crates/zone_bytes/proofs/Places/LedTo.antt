@@ -6,7 +6,7 @@ use Rattle.std.proofs.lemmas.Bool.Decides.{eqb_tells}
 use Rattle.heap_words.specs.Words.{word, word_at}
 use Rattle.heap_words.proofs.Words.{read_back}
 use Rattle.block_store.specs.declared.flags.Flags.{Flags}
-use Rattle.block_store.specs.Block.{Block, Free, Fixed, Masters, Relocatable, sizes, is_relocatable}
+use Rattle.block_store.specs.Block.{Block, Free, Nonrelocatable, Masters, Relocatable, sizes, is_relocatable}
 use Rattle.block_store.specs.Room.{Spot, spot, spot_at}
 use Rattle.block_store.specs.Find.{FindsLowest}
 use Rattle.block_store.specs.Seen.{seen}
@@ -28,7 +28,7 @@ use Rattle.zone_bytes.proofs.Places.AtPlace.{way-at, left-at, inside}
 named : (number : ℕ) (b : Block) → is_relocatable number b ≡ true → (flags : Flags) × (content : List ℕ)
     × (b ≡ Relocatable number flags content)
 named number (Free n) e = absurd (false≢true e)
-named number (Fixed id content) e = absurd (false≢true e)
+named number (Nonrelocatable id content) e = absurd (false≢true e)
 named number Masters e = absurd (false≢true e)
 named number (Relocatable id flags content) e = elim (eqb_tells id number) [
   | inl t ↦ (flags, content, ap (λ k. Relocatable k flags content) t.1)

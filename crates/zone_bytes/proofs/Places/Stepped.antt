@@ -7,7 +7,7 @@ use Rattle.heap_words.specs.Words.{word_at}
 use Rattle.heap_words.proofs.Words.{read_back}
 use Rattle.block_store.specs.declared.sparing.Seen.{Seen}
 use Rattle.block_store.specs.declared.sparing.Seen.TheVariants as see
-use Rattle.block_store.specs.Block.{Block, Free, Fixed, Masters, Relocatable, size}
+use Rattle.block_store.specs.Block.{Block, Free, Nonrelocatable, Masters, Relocatable, size}
 use Rattle.block_store.specs.Seen.{seen}
 use Rattle.block_store.specs.Walk.{Tells}
 use Rattle.zone_bytes.specs.Layout.{kind, flag_word, head_of, Tile, Tiles, names, names_of, Each, ArePlaced}
@@ -30,12 +30,12 @@ module _ (resource : ℕ → Bool) (at : ℕ) (xs : List ℕ) (small : length xs
       → header_seen (kind b) (size b) (word_at (at + 4) xs) (word_at (at + 8) xs) (word_at (at + 12) xs) ≡ seen b
   unfolding head_of
   told-is (Free n) t w = refl
-  told-is (Fixed id content) t w =
-      let z = size (Fixed id content) in
+  told-is (Nonrelocatable id content) t w =
+      let z = size (Nonrelocatable id content) in
       let q = says z (z + 1) (length content) 0 0 content (drop at xs) t in
       let l = length-head (z + 1) (length content) 0 0 content in
       let f = t.fits in let r = t.room in let d = length-drop at xs in
-      ap see.Fixed (read_back (at + 4) (length content) xs (omega (arith, f, r, l, d, small)) (word-at at 4 xs ∙ q.0))
+      ap see.Nonrelocatable (read_back (at + 4) (length content) xs (omega (arith, f, r, l, d, small)) (word-at at 4 xs ∙ q.0))
   told-is Masters t w = refl
   told-is (Relocatable slot flags content) t w =
       let z = size (Relocatable slot flags content) in

@@ -4,7 +4,7 @@ use Rattle.std.proofs.Common.{List, [], ◌∷◌, length, drop, sym, refl, ap, 
 use Rattle.std.proofs.lemmas.List.{length-drop, drop-drop}
 use Rattle.std.proofs.lemmas.Bool.Decides.{nat_tests}
 use Rattle.heap_words.specs.Words.{word_at}
-use Rattle.block_store.specs.Block.{Block, Free, Fixed, Masters, Relocatable, size, is_room, free_of, sizes, free_sum}
+use Rattle.block_store.specs.Block.{Block, Free, Nonrelocatable, Masters, Relocatable, size, is_room, free_of, sizes, free_sum}
 use Rattle.zone_bytes.specs.Layout.{kind, head_of, Tiles}
 use Rattle.zone_bytes.specs.Walking.{lowest, Walk}
 use Rattle.zone_bytes.proofs.Tiles.Tiling.{length-tiles}
@@ -22,13 +22,13 @@ pub record Step (resource : ℕ → Bool) (at : ℕ) (xs : List ℕ) (rest : Lis
 
 pub free-of : (b : Block) → free_of b ≡ cond (kind b == 0) (size b) 0
 free-of (Free n) = refl
-free-of (Fixed id content) = refl
+free-of (Nonrelocatable id content) = refl
 free-of Masters = refl
 free-of (Relocatable slot flags content) = refl
 
 pub room-of : (p : ℕ) (b : Block) → is_room p b ≡ ((kind b == 0) && nat_le p (size b))
 room-of p (Free n) = refl
-room-of p (Fixed id content) = refl
+room-of p (Nonrelocatable id content) = refl
 room-of p Masters = refl
 room-of p (Relocatable slot flags content) = refl
 
@@ -117,7 +117,7 @@ free-none at xs resource (b ∷ rest) w l = let u = w.up in let s = w.high.0.som
 pub free_span-le : (blocks : List Block) → free_sum blocks ≤ sizes blocks
 free_span-le [] = omega arith
 free_span-le (Free n ∷ blocks) = omega (arith, free_span-le blocks)
-free_span-le (Fixed id content ∷ blocks) = omega (arith, free_span-le blocks)
+free_span-le (Nonrelocatable id content ∷ blocks) = omega (arith, free_span-le blocks)
 free_span-le (Masters ∷ blocks) = omega (arith, free_span-le blocks)
 free_span-le (Relocatable slot flags content ∷ blocks) = omega (arith, free_span-le blocks)
 

@@ -5,7 +5,7 @@ use Rattle.std.proofs.lemmas.List.{drop-drop}
 use Rattle.heap_words.specs.Words.{word_at}
 use Rattle.heap_words.proofs.Words.{read_back}
 use Rattle.block_store.specs.declared.flags.Flags.{Flags}
-use Rattle.block_store.specs.Block.{Block, Free, Fixed, Masters, Relocatable, size}
+use Rattle.block_store.specs.Block.{Block, Free, Nonrelocatable, Masters, Relocatable, size}
 use Rattle.block_store.specs.Run.{in_run}
 use Rattle.zone_bytes.specs.Layout.{kind, flag_word, head_of, Tile}
 use Rattle.zone_bytes.specs.Settling.{runs_on}
@@ -49,7 +49,7 @@ module _ (resource : ℕ → Bool) (xs : List ℕ) (from : ℕ) (small : length 
     where
       of-kind : (b : Block) → Tile (head_of resource b) (size b) (drop from xs) → runs_on (kind b) f ≡ in_run b
       of-kind (Free m) t = refl
-      of-kind (Fixed id content) t = refl
+      of-kind (Nonrelocatable id content) t = refl
       of-kind Masters t = refl
       of-kind (Relocatable slot flags content) t = ap (λ j. nat_lt j 128) (v ∙ flags-read slot flags content t)
           ∙ unlocked flags (resource slot)

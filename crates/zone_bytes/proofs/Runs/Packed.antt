@@ -10,7 +10,7 @@ use Rattle.heap_words.proofs.Headers.{length-header}
 use Rattle.windows.proofs.Pieces.{length-written, take-written_at, take-written_below, take-written_above}
 use Rattle.windows.proofs.Pieces.{drop-written_above, drop-written_below, piece-written}
 use Rattle.block_store.specs.declared.flags.Flags.{Flags}
-use Rattle.block_store.specs.Block.{Block, Free, Fixed, Masters, Relocatable, size, is_mover, sizes}
+use Rattle.block_store.specs.Block.{Block, Free, Nonrelocatable, Masters, Relocatable, size, is_mover, sizes}
 use Rattle.block_store.specs.Run.{movers}
 use Rattle.zone_bytes.specs.Layout.{head_of, Tiles, IsSlot, names, Leads, Apart, Each, Pairs}
 use Rattle.zone_bytes.specs.Settling.{lowered_in_run_from, Lay, InRun, IsRunFrom, SameOthers, PackingAt, Packing}
@@ -27,7 +27,7 @@ length-masters resource = length-header 274 256 0 0
 pub run-no_slot : (s : ℕ) (run : List Block) → Each InRun run → IsSlot s run → ⊥
 run-no_slot s [] h i = i
 run-no_slot s (Free n ∷ run) h (inl i) = i
-run-no_slot s (Fixed id content ∷ run) h (inl i) = i
+run-no_slot s (Nonrelocatable id content ∷ run) h (inl i) = i
 run-no_slot s (Masters ∷ run) h (inl i) = false≢true h.0
 run-no_slot s (Relocatable slot flags content ∷ run) h (inl i) = i
 run-no_slot s (b ∷ run) h (inr i) = run-no_slot (s - size b) run h.1 i.1
@@ -45,7 +45,7 @@ pub slot-even : (head : Block → List ℕ) (xs : List ℕ) (s : ℕ) (blocks : 
     → IsSlot s blocks → s % 4 ≡ 0
 slot-even head xs s [] t i = absurd i
 slot-even head xs s (Free n ∷ blocks) t (inl i) = absurd i
-slot-even head xs s (Fixed id content ∷ blocks) t (inl i) = absurd i
+slot-even head xs s (Nonrelocatable id content ∷ blocks) t (inl i) = absurd i
 slot-even head xs s (Relocatable slot flags content ∷ blocks) t (inl i) = absurd i
 slot-even head xs s (Masters ∷ blocks) t (inl i) = i.2
 slot-even head xs s (b ∷ blocks) t (inr i) =

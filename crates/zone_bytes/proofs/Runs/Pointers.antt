@@ -8,7 +8,7 @@ use Rattle.heap_words.specs.Words.{word, word_at}
 use Rattle.heap_words.proofs.Words.{length-word}
 use Rattle.windows.proofs.Pieces.{length-written, piece-written}
 use Rattle.block_store.specs.declared.flags.Flags.{Flags}
-use Rattle.block_store.specs.Block.{Block, Free, Fixed, Masters, Relocatable, size, sizes}
+use Rattle.block_store.specs.Block.{Block, Free, Nonrelocatable, Masters, Relocatable, size, sizes}
 use Rattle.zone_bytes.specs.Layout.{head_of, Tile, Tiles, IsSlot, names, Leads, Apart, Each, Pairs}
 use Rattle.zone_bytes.specs.Settling.{Lay}
 use Rattle.zone_bytes.specs.Pointing.{IsMoved, PointingAt, Pointing, Pointed}
@@ -215,7 +215,7 @@ module _ (lay : Lay) (place stop : ℕ) (r : IsMoved lay place stop) (from : ℕ
             subst (λ j. PointingAt lay stop (from + j) xs (done ++ Free m ∷ []) rest) (sym same.0)
             (point-free lay place stop r from xs done m rest q);
       }
-  point-free-at done (Fixed id content ∷ rest) q l n t e w k = absurd (false≢true q.in_run.0)
+  point-free-at done (Nonrelocatable id content ∷ rest) q l n t e w k = absurd (false≢true q.in_run.0)
   point-free-at done (Masters ∷ rest) q l n t e w k = absurd (false≢true q.in_run.0)
   point-free-at done (Relocatable slot flags content ∷ rest) q l n t e w k =
       let b : Block = Relocatable slot flags content in
@@ -238,7 +238,7 @@ module _ (lay : Lay) (place stop : ℕ) (r : IsMoved lay place stop) (from : ℕ
       let f = first-reads lay.resource xs from i.1 (Free m) h in
       let same = same_parts n t m 0 (e ∙ f) w h.whole (omega (arith, k)) (omega arith) in
       absurd (let j = same.1 in omega (arith, j, k))
-  point-slot-at done (Fixed id content ∷ rest) q l n t s e w k v = absurd (false≢true q.in_run.0)
+  point-slot-at done (Nonrelocatable id content ∷ rest) q l n t s e w k v = absurd (false≢true q.in_run.0)
   point-slot-at done (Masters ∷ rest) q l n t s e w k v = absurd (false≢true q.in_run.0)
   point-slot-at done (Relocatable slot flags content ∷ rest) q l n t s e w k v =
       let b : Block = Relocatable slot flags content in

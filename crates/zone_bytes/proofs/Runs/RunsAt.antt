@@ -4,7 +4,7 @@ use Rattle.std.proofs.Common.{None, List, [], ◌∷◌, ◌++◌, take, drop, s
 use Rattle.std.proofs.lemmas.Bool.{false≢true, lt-ltb}
 use Rattle.std.proofs.lemmas.Option.{same_Some}
 use Rattle.std.specs.Option.{IsSome, IfSome}
-use Rattle.block_store.specs.Block.{Block, Free, Fixed, Masters, Relocatable, size, sizes, count, is_mover, free_of}
+use Rattle.block_store.specs.Block.{Block, Free, Nonrelocatable, Masters, Relocatable, size, sizes, count, is_mover, free_of}
 use Rattle.block_store.specs.Run.{RunSpot, run_at, settle}
 use Rattle.block_store.specs.Inner.Packing.{Loose}
 use Rattle.block_store.specs.Rest.{lowered_in_run}
@@ -62,7 +62,7 @@ module _ (head : Block → List ℕ) where
   lowered-lowered_in_run xs [] t e = refl
   lowered-lowered_in_run xs (Free n ∷ run) t e = let s = t.0.some in let l =
       lowered-all (0 + n) run (omega (arith, s)) in omega (arith, l)
-  lowered-lowered_in_run xs (Fixed id content ∷ run) t e = absurd (false≢true e.0)
+  lowered-lowered_in_run xs (Nonrelocatable id content ∷ run) t e = absurd (false≢true e.0)
   lowered-lowered_in_run xs (Masters ∷ run) t e = absurd (false≢true e.0)
   lowered-lowered_in_run xs (Relocatable id flags content ∷ run) t e =
       let l = lowered-lowered_in_run (drop (size (Relocatable id flags content)) xs) run t.1 e.1 in

@@ -8,7 +8,7 @@ use Rattle.windows.specs.Writes.{written, piece}
 use Rattle.heap_words.specs.Words.{word, word_at}
 use Rattle.heap_words.proofs.Words.{length-word}
 use Rattle.windows.proofs.Pieces.{length-written, take-written_below, drop-written_above, piece-written}
-use Rattle.block_store.specs.Block.{Block, Free, Fixed, Masters, Relocatable, size, is_mover, free, free_of, free_sum}
+use Rattle.block_store.specs.Block.{Block, Free, Nonrelocatable, Masters, Relocatable, size, is_mover, free, free_of, free_sum}
 use Rattle.block_store.specs.Block.{sizes}
 use Rattle.block_store.specs.Run.{movers, settle}
 use Rattle.block_store.proofs.Zone.Spots.{free-some}
@@ -158,7 +158,7 @@ module _ (lay : Lay) (place stop : ℕ) (r : IsRunFrom lay place stop) (gap from
         },
         refl,
       )
-  next-free-at gone moved (Fixed id content ∷ rest) s o q l n t e w k = absurd (false≢true q.in_run.0)
+  next-free-at gone moved (Nonrelocatable id content ∷ rest) s o q l n t e w k = absurd (false≢true q.in_run.0)
   next-free-at gone moved (Masters ∷ rest) s o q l n t e w k = absurd (false≢true q.in_run.0)
   next-free-at gone moved (Relocatable slot flags content ∷ rest) s o q l n t e w k =
       let i = stop-inside q.kept in
@@ -180,7 +180,7 @@ module _ (lay : Lay) (place stop : ℕ) (r : IsRunFrom lay place stop) (gap from
       let f = first-reads lay.resource xs from i.1 (Free m) q.high.0 in
       let same = same_parts n t m 0 (e ∙ f) w q.high.0.whole (omega (arith, k)) (omega arith) in
       absurd (let j = same.1 in omega (arith, j, k))
-  next-mover-at gone moved (Fixed id content ∷ rest) j o q l n t s e w k v = absurd (false≢true q.in_run.0)
+  next-mover-at gone moved (Nonrelocatable id content ∷ rest) j o q l n t s e w k v = absurd (false≢true q.in_run.0)
   next-mover-at gone moved (Masters ∷ rest) j o q l n t s e w k v = absurd (false≢true q.in_run.0)
   next-mover-at gone moved (Relocatable slot flags content ∷ rest) j o q l n t s e w k v =
       let b : Block = Relocatable slot flags content in

@@ -11,7 +11,7 @@ use Rattle.windows.specs.Writes.{piece}
 use Rattle.heap_words.specs.Words.{word, word_at}
 use Rattle.heap_words.proofs.Words.{read_back}
 use Rattle.block_store.specs.declared.flags.Flags.{Flags}
-use Rattle.block_store.specs.Block.{Block, Free, Fixed, Masters, Relocatable, size, sizes, is_relocatable}
+use Rattle.block_store.specs.Block.{Block, Free, Nonrelocatable, Masters, Relocatable, size, sizes, is_relocatable}
 use Rattle.block_store.specs.Room.{Spot, spot, raised}
 use Rattle.block_store.specs.Slot.{Slot, NoSlot, Unused, Used, is_used, is_resource}
 use Rattle.zone_bytes.specs.Layout.{flag_word, head_of, Tile, Tiles, IsSlot, names, Leads, Apart, Each}
@@ -63,8 +63,8 @@ pub has-block : (xs : List ℕ) (o : ℕ) (blocks : List Block) (s : ℕ) → Le
     → HasBlock xs o blocks s
 has-block xs o [] s l h = absurd h
 has-block xs o (Free n ∷ blocks) s l h = behind xs o (Free n) blocks s refl (has-block xs (o + n) blocks s l.1 h)
-has-block xs o (Fixed id content ∷ blocks) s l h =
-    behind xs o (Fixed id content) blocks s refl (has-block xs (o + size (Fixed id content)) blocks s l.1 h)
+has-block xs o (Nonrelocatable id content ∷ blocks) s l h =
+    behind xs o (Nonrelocatable id content) blocks s refl (has-block xs (o + size (Nonrelocatable id content)) blocks s l.1 h)
 has-block xs o (Masters ∷ blocks) s l h = behind xs o Masters blocks s refl (has-block xs (o + 272) blocks s l.1 h)
 has-block xs o (Relocatable id flags content ∷ blocks) s l h = elim (eqb_tells id s) [
   | inl t ↦ subst (λ k. HasBlock xs o (Relocatable k flags content ∷ blocks) s) (sym t.1) (record {
@@ -89,7 +89,7 @@ has-block xs o (Relocatable id flags content ∷ blocks) s l h = elim (eqb_tells
 no-spot : (s : ℕ) (blocks : List Block) → Each (Apart s) (names blocks) → spot (is_relocatable s) blocks ≡ None
 no-spot s [] a = refl
 no-spot s (Free n ∷ blocks) a = ap (option_map (raised (Free n))) (no-spot s blocks a)
-no-spot s (Fixed id content ∷ blocks) a = ap (option_map (raised (Fixed id content))) (no-spot s blocks a)
+no-spot s (Nonrelocatable id content ∷ blocks) a = ap (option_map (raised (Nonrelocatable id content))) (no-spot s blocks a)
 no-spot s (Masters ∷ blocks) a = ap (option_map (raised Masters)) (no-spot s blocks a)
 no-spot s (Relocatable id flags content ∷ blocks) a = elim (eqb_tells id s) [
   | inl t ↦ absurd (apart-other s id a.0 (sym t.1))

@@ -5,7 +5,7 @@ use Rattle.std.proofs.lemmas.Bool.{false≢true}
 use Rattle.std.proofs.lemmas.Bool.Decides.{eqb_tells}
 use Rattle.std.proofs.lemmas.Map.Steps.{length-le_from_distinct_below}
 use Rattle.std.specs.List.{IsDistinct, AllByRecursion, list_any}
-use Rattle.block_store.specs.Block.{Block, Free, Fixed, Masters, Relocatable, is_relocatable}
+use Rattle.block_store.specs.Block.{Block, Free, Nonrelocatable, Masters, Relocatable, is_relocatable}
 use Rattle.block_store.specs.Run.{has}
 use Rattle.block_store.specs.Slot.{Slot, NoSlot, Unused, Used, set_slot, is_used}
 use Rattle.zone_bytes.specs.Decode.{zone_in}
@@ -84,7 +84,7 @@ module _ (xs : List ℕ) (first count : ℕ) (i : IsSound xs first count) (slot 
   no-name : (blocks : List Block) → has (is_relocatable slot) blocks ≡ false → Each (λ t. slot ≡ t → ⊥) (names blocks)
   no-name [] e = tt
   no-name (Free n ∷ blocks) e = no-name blocks e
-  no-name (Fixed id content ∷ blocks) e = no-name blocks e
+  no-name (Nonrelocatable id content ∷ blocks) e = no-name blocks e
   no-name (Masters ∷ blocks) e = no-name blocks e
   no-name (Relocatable id flags content ∷ blocks) e = elim (eqb_tells id slot) [
     | inl t ↦ absurd (false≢true (sym e ∙ ap (λ v. v || has (is_relocatable slot) blocks) t.0))

@@ -7,7 +7,7 @@ use Rattle.windows.specs.Writes.{written}
 use Rattle.heap_words.specs.Words.{word, header}
 use Rattle.heap_words.proofs.Words.{length-word}
 use Rattle.windows.proofs.Pieces.{length-written}
-use Rattle.block_store.specs.Block.{Block, Free, Fixed, Masters, Relocatable, size}
+use Rattle.block_store.specs.Block.{Block, Free, Nonrelocatable, Masters, Relocatable, size}
 use Rattle.block_store.specs.Slot.{Slot, NoSlot, Unused, Used, set_slot, is_resource}
 use Rattle.zone_bytes.specs.Layout.{head_of, flag_word, Tile, Tiles, IsSlot, names, names_of, Apart, Each, Pairs}
 use Rattle.zone_bytes.specs.Settling.{Lies}
@@ -41,7 +41,7 @@ apart-clear s n t (inr h) = inl h
 head-agree : (f g : ℕ → Bool) (b : Block) → Each (λ s. f s ≡ g s) (names_of b) → head_of f b ≡ head_of g b
 unfolding head_of
 head-agree f g (Free n) e = refl
-head-agree f g (Fixed id content) e = refl
+head-agree f g (Nonrelocatable id content) e = refl
 head-agree f g Masters e = refl
 head-agree f g (Relocatable slot flags content) e = ap
     (λ r. header (size (Relocatable slot flags content) + 3) (length content) slot (flag_word flags r) ++ content) e.0

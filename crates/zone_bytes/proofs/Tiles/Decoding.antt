@@ -6,7 +6,7 @@ use Rattle.windows.specs.Writes.{piece}
 use Rattle.heap_words.specs.Words.{word, word_at, header}
 use Rattle.heap_words.proofs.Words.{read_back}
 use Rattle.block_store.specs.declared.flags.Flags.{Flags}
-use Rattle.block_store.specs.Block.{Block, Free, Fixed, Masters, Relocatable, size}
+use Rattle.block_store.specs.Block.{Block, Free, Nonrelocatable, Masters, Relocatable, size}
 use Rattle.zone_bytes.specs.Layout.{kind, flag_word, head_of, Tile, Tiles, names, names_of, Each, IsPlaced, ArePlaced}
 use Rattle.zone_bytes.specs.Decode.{flags_of, block_of_kind, block_in, blocks_in, zone_in}
 use Rattle.zone_bytes.proofs.Tiles.Leading.{each-left, each-right}
@@ -89,12 +89,12 @@ module _ (resource : ℕ → Bool) where
       of-kind : (b : Block) → IsPlaced o b → Each (λ s. s < 2 ^ 32) (names_of b)
           → Tile (head_of resource b) (size b) ys → block_of_kind (kind b) (size b) o ys ≡ b
       of-kind (Free m) p n t = refl
-      of-kind (Fixed id content) p n t =
-          let q = says (size (Fixed id content)) (size (Fixed id content) + 1) (length content) 0 0 content ys t in
-          let f = content-fits (Fixed id content) ys t in
-          let l = length-head (size (Fixed id content) + 1) (length content) 0 0 content in
+      of-kind (Nonrelocatable id content) p n t =
+          let q = says (size (Nonrelocatable id content)) (size (Nonrelocatable id content) + 1) (length content) 0 0 content ys t in
+          let f = content-fits (Nonrelocatable id content) ys t in
+          let l = length-head (size (Nonrelocatable id content) + 1) (length content) 0 0 content in
           let c = read_back 4 (length content) ys (omega (arith, f, l, s)) q.0 in
-          (λ i. Fixed o (piece 16 (c i) ys)) ∙ (λ i. Fixed (sym p i) (q.3 i))
+          (λ i. Nonrelocatable o (piece 16 (c i) ys)) ∙ (λ i. Nonrelocatable (sym p i) (q.3 i))
       of-kind Masters p n t = refl
       of-kind (Relocatable slot flags content) p n t =
           let z = size (Relocatable slot flags content) in

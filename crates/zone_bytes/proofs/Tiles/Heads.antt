@@ -7,7 +7,7 @@ use Rattle.heap_words.specs.Words.{word, word_at, header}
 use Rattle.heap_words.proofs.Words.{length-word, read_back}
 use Rattle.heap_words.proofs.Headers.{length-header}
 use Rattle.block_store.specs.declared.flags.Flags.{Flags}
-use Rattle.block_store.specs.Block.{Block, Free, Fixed, Masters, Relocatable, size}
+use Rattle.block_store.specs.Block.{Block, Free, Nonrelocatable, Masters, Relocatable, size}
 use Rattle.zone_bytes.specs.Layout.{kind, flag_word, head_of, Tile}
 
 -- the pieces of what a block begins with
@@ -32,7 +32,7 @@ length-head a b c d content = omega (arith, length-append (header a b c d) conte
 
 pub kind-small : (b : Block) → kind b ≤ 3
 kind-small (Free n) = omega arith
-kind-small (Fixed id content) = omega arith
+kind-small (Nonrelocatable id content) = omega arith
 kind-small Masters = omega arith
 kind-small (Relocatable slot flags content) = omega arith
 
@@ -43,10 +43,10 @@ module _ (resource : ℕ → Bool) (ys : List ℕ) where
       let l = length-word n in
       let e : n + 0 ≡ n = omega arith in
       tile-piece (word n) n ys t 0 4 (omega (arith, l)) ∙ take_all 4 (word n) (omega (arith, l)) ∙ sym (ap word e)
-  first-word (Fixed id content) t =
-      let h = length-head (size (Fixed id content) + 1) (length content) 0 0 content in
-      tile-piece (head_of resource (Fixed id content)) (size (Fixed id content)) ys t 0 4 (omega (arith, h))
-      ∙ (header-pieces (size (Fixed id content) + 1) (length content) 0 0 content).0
+  first-word (Nonrelocatable id content) t =
+      let h = length-head (size (Nonrelocatable id content) + 1) (length content) 0 0 content in
+      tile-piece (head_of resource (Nonrelocatable id content)) (size (Nonrelocatable id content)) ys t 0 4 (omega (arith, h))
+      ∙ (header-pieces (size (Nonrelocatable id content) + 1) (length content) 0 0 content).0
   first-word Masters t =
       tile-piece (head_of resource Masters) 272 ys t 0 4 (omega (arith, length-header 274 256 0 0)) ∙ masters-first
   first-word (Relocatable slot flags content) t =

@@ -4,7 +4,7 @@ use Rattle.std.proofs.Common.{subst, arith}
 use Rattle.std.proofs.lemmas.List.{append-nil}
 use Rattle.std.proofs.lemmas.Bool.{false≢true}
 use Rattle.windows.specs.Writes.{piece}
-use Rattle.block_store.specs.Block.{Block, Free, Fixed, Masters, Relocatable, size, free, free_sum, sizes}
+use Rattle.block_store.specs.Block.{Block, Free, Nonrelocatable, Masters, Relocatable, size, free, free_sum, sizes}
 use Rattle.block_store.specs.Run.{movers, settle}
 use Rattle.block_store.specs.Slot.{Slot, NoSlot, Unused, Used, is_resource}
 use Rattle.zone_bytes.specs.Layout.{IsSlot, names, Apart, Each, ArePlaced}
@@ -69,7 +69,7 @@ module _ (xs new : List ℕ) (blocks now : List Block) (slots : ℕ → Slot) (u
 pub names-movers : (run : List Block) → Each InRun run → names (movers run) ≡ names run
 names-movers [] h = refl
 names-movers (Free n ∷ run) h = names-movers run h.1
-names-movers (Fixed id content ∷ run) h = absurd (false≢true h.0)
+names-movers (Nonrelocatable id content ∷ run) h = absurd (false≢true h.0)
 names-movers (Masters ∷ run) h = absurd (false≢true h.0)
 names-movers (Relocatable slot flags content ∷ run) h = ap names (movers-more (Relocatable slot flags content) run h.0)
     ∙ ap (λ k. slot ∷ k) (names-movers run h.1)
@@ -85,7 +85,7 @@ span-free (suc n) = omega arith
 pub span-movers : (run : List Block) → Each InRun run → sizes (movers run) + free_sum run ≡ sizes run
 span-movers [] h = refl
 span-movers (Free n ∷ run) h = omega (arith, span-movers run h.1)
-span-movers (Fixed id content ∷ run) h = absurd (false≢true h.0)
+span-movers (Nonrelocatable id content ∷ run) h = absurd (false≢true h.0)
 span-movers (Masters ∷ run) h = absurd (false≢true h.0)
 span-movers (Relocatable slot flags content ∷ run) h =
     let e = ap sizes (movers-more (Relocatable slot flags content) run h.0) in
@@ -106,7 +106,7 @@ span-settle run h =
 pub each-movers : (run : List Block) → Each InRun run → Each InRun (movers run)
 each-movers [] h = tt
 each-movers (Free n ∷ run) h = each-movers run h.1
-each-movers (Fixed id content ∷ run) h = absurd (false≢true h.0)
+each-movers (Nonrelocatable id content ∷ run) h = absurd (false≢true h.0)
 each-movers (Masters ∷ run) h = absurd (false≢true h.0)
 each-movers (Relocatable slot flags content ∷ run) h = subst (λ k. Each InRun k)
     (sym (movers-more (Relocatable slot flags content) run h.0)) (h.0, each-movers run h.1)
@@ -152,7 +152,7 @@ placed-right o (b ∷ ls) ms h =
 pub placed-run : (o : ℕ) (run : List Block) → Each InRun run → ArePlaced o run
 placed-run o [] h = tt
 placed-run o (Free n ∷ run) h = (tt, placed-run (o + n) run h.1)
-placed-run o (Fixed id content ∷ run) h = absurd (false≢true h.0)
+placed-run o (Nonrelocatable id content ∷ run) h = absurd (false≢true h.0)
 placed-run o (Masters ∷ run) h = absurd (false≢true h.0)
 placed-run o (Relocatable slot flags content ∷ run) h =
     (tt, placed-run (o + size (Relocatable slot flags content)) run h.1)

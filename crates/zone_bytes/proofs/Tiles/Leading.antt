@@ -3,7 +3,7 @@ use Rattle.std.proofs.Common.{◌≡◌, ℕ, ◌+◌, ◌≤◌, ◌⊎◌, inl
 use Rattle.std.proofs.Common.{arith, append_assoc}
 use Rattle.windows.specs.Writes.{written, piece}
 use Rattle.windows.proofs.Pieces.{piece-written_below, piece-written_above}
-use Rattle.block_store.specs.Block.{Block, Free, Fixed, Masters, Relocatable, size, sizes}
+use Rattle.block_store.specs.Block.{Block, Free, Nonrelocatable, Masters, Relocatable, size, sizes}
 use Rattle.zone_bytes.specs.Layout.{names, names_of, Leads, Apart, Each, Pairs}
 
 module _ {A : Type 0} (P : A → Type 0) where
@@ -72,8 +72,8 @@ pub leads-written : (at : ℕ) (ys xs : List ℕ) (o : ℕ) (blocks : List Block
     → Each (Clear at (length ys)) (names blocks) → Leads o blocks xs → Leads o blocks (written at ys xs)
 leads-written at ys xs o [] l c h = tt
 leads-written at ys xs o (Free n ∷ blocks) l c h = (tt, leads-written at ys xs (o + n) blocks l c h.1)
-leads-written at ys xs o (Fixed id content ∷ blocks) l c h =
-    (tt, leads-written at ys xs (o + size (Fixed id content)) blocks l c h.1)
+leads-written at ys xs o (Nonrelocatable id content ∷ blocks) l c h =
+    (tt, leads-written at ys xs (o + size (Nonrelocatable id content)) blocks l c h.1)
 leads-written at ys xs o (Masters ∷ blocks) l c h = (tt, leads-written at ys xs (o + 272) blocks l c h.1)
 leads-written at ys xs o (Relocatable slot flags content ∷ blocks) l c h = (
   piece-clear at ys xs slot l c.0

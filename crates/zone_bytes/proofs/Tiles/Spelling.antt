@@ -9,7 +9,7 @@ use Rattle.windows.specs.Writes.{piece}
 use Rattle.heap_words.specs.Words.{word, word_at}
 use Rattle.heap_words.proofs.Words.{read_back}
 use Rattle.block_store.specs.declared.flags.Flags.{Flags}
-use Rattle.block_store.specs.Block.{Block, Free, Fixed, Masters, Relocatable, size, is_masters}
+use Rattle.block_store.specs.Block.{Block, Free, Nonrelocatable, Masters, Relocatable, size, is_masters}
 use Rattle.block_store.specs.Slot.{Slot, NoSlot, Unused, Used, is_resource}
 use Rattle.zone_bytes.specs.Layout.{flag_word, head_of, Tiles, IsSlot, names, Leads, Each}
 use Rattle.zone_bytes.specs.Decode.{zone_in}
@@ -33,7 +33,7 @@ or-right false w e = e
 pub is_slot-true : (s : ℕ) (blocks : List Block) → IsSlot s blocks → is_slot s blocks ≡ true
 is_slot-true s [] i = absurd i
 is_slot-true s (Free n ∷ blocks) (inl i) = absurd i
-is_slot-true s (Fixed id content ∷ blocks) (inl i) = absurd i
+is_slot-true s (Nonrelocatable id content ∷ blocks) (inl i) = absurd i
 is_slot-true s (Relocatable slot flags content ∷ blocks) (inl i) = absurd i
 is_slot-true s (Masters ∷ blocks) (inl i) = or-true (nat_le 16 s && (nat_le (s + 4) 272 && (s % 4 == 0)))
     (nat_le 272 s && is_slot (s - 272) blocks) (test-true s i.0 i.1 i.2)
@@ -69,9 +69,9 @@ pub is_slot-back : (s : ℕ) (blocks : List Block) → is_slot s blocks ≡ true
 is_slot-back s [] e = absurd (false≢true e)
 is_slot-back s (Free n ∷ blocks) e = let p = and-split (nat_le n s) (is_slot (s - n) blocks) e in
     inr (le-back n s p.0, is_slot-back (s - n) blocks p.1)
-is_slot-back s (Fixed id content ∷ blocks) e =
-    let p = and-split (nat_le (size (Fixed id content)) s) (is_slot (s - size (Fixed id content)) blocks) e in
-    inr (le-back (size (Fixed id content)) s p.0, is_slot-back (s - size (Fixed id content)) blocks p.1)
+is_slot-back s (Nonrelocatable id content ∷ blocks) e =
+    let p = and-split (nat_le (size (Nonrelocatable id content)) s) (is_slot (s - size (Nonrelocatable id content)) blocks) e in
+    inr (le-back (size (Nonrelocatable id content)) s p.0, is_slot-back (s - size (Nonrelocatable id content)) blocks p.1)
 is_slot-back s (Relocatable slot flags content ∷ blocks) e =
     let p = and-split (nat_le (size (Relocatable slot flags content)) s)
     (is_slot (s - size (Relocatable slot flags content)) blocks) e in
@@ -130,10 +130,10 @@ module _ (resource : ℕ → Bool) (xs : List ℕ) (small : length xs ≤ 134217
   named-word o (Free n ∷ blocks) e t l h = let w = t.0.whole in
       named-word (o + n) blocks (omega (arith, e, w))
       (subst (λ k. Tiles (head_of resource) k blocks) (drop-drop n o xs) t.1) l.1 h
-  named-word o (Fixed id content ∷ blocks) e t l h =
+  named-word o (Nonrelocatable id content ∷ blocks) e t l h =
       let w = t.0.whole in
-      named-word (o + size (Fixed id content)) blocks (omega (arith, e, w))
-      (subst (λ k. Tiles (head_of resource) k blocks) (drop-drop (size (Fixed id content)) o xs) t.1) l.1 h
+      named-word (o + size (Nonrelocatable id content)) blocks (omega (arith, e, w))
+      (subst (λ k. Tiles (head_of resource) k blocks) (drop-drop (size (Nonrelocatable id content)) o xs) t.1) l.1 h
   named-word o (Masters ∷ blocks) e t l h = named-word (o + 272) blocks (omega (arith, e))
       (subst (λ k. Tiles (head_of resource) k blocks) (drop-drop 272 o xs) t.1) l.1 h
   named-word o (Relocatable slot flags content ∷ blocks) e t l (inr h) =

@@ -4,7 +4,7 @@ use Rattle.std.proofs.Common.{◌∙◌, subst, arith}
 use Rattle.std.proofs.lemmas.List.{take-take, drop-drop, drop-take, take-append-drop}
 use Rattle.windows.specs.Writes.{written, piece}
 use Rattle.windows.proofs.Pieces.{length-written, take-written_below, drop-written_above}
-use Rattle.block_store.specs.Block.{Block, Free, Fixed, Masters, Relocatable, size, sizes}
+use Rattle.block_store.specs.Block.{Block, Free, Nonrelocatable, Masters, Relocatable, size, sizes}
 use Rattle.zone_bytes.specs.Layout.{Tiles, names, names_of, LeadsTo, Leads, Each}
 use Rattle.zone_bytes.specs.Splicing.{SameOutside}
 use Rattle.zone_bytes.proofs.Tiles.Tiling.{tiles-append, tiles-split}
@@ -51,7 +51,7 @@ leads-outside lo hi old new o (b ∷ blocks) s c h = (
   where
     leads-one : (b : Block) → Each (Clear lo (hi - lo)) (names_of b) → LeadsTo o b old → LeadsTo o b new
     leads-one (Free n) c h = tt
-    leads-one (Fixed id content) c h = tt
+    leads-one (Nonrelocatable id content) c h = tt
     leads-one Masters c h = tt
     leads-one (Relocatable slot flags content) c h = piece-outside lo hi old new slot s c.0 ∙ h
 

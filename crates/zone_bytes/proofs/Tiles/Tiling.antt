@@ -5,7 +5,7 @@ use Rattle.std.proofs.lemmas.List.{length-take-le, length-drop, take-append-le, 
 use Rattle.std.proofs.lemmas.List.{drop-take, drop_all}
 use Rattle.windows.specs.Writes.{written}
 use Rattle.windows.proofs.Pieces.{length-written, take-written_below, drop-written_above, drop-written_below}
-use Rattle.block_store.specs.Block.{Block, Free, Fixed, Masters, Relocatable, size, sizes}
+use Rattle.block_store.specs.Block.{Block, Free, Nonrelocatable, Masters, Relocatable, size, sizes}
 use Rattle.zone_bytes.specs.Layout.{Tile, Tiles, IsSlot}
 
 pub span-append : (ls ms : List Block) → sizes (ls ++ ms) ≡ sizes ls + sizes ms
@@ -16,7 +16,7 @@ span-append (b ∷ ls) ms = omega (arith, span-append ls ms)
 pub slot-inside : (s : ℕ) (blocks : List Block) → IsSlot s blocks → s + 4 ≤ sizes blocks
 slot-inside s [] i = absurd i
 slot-inside s (Free n ∷ blocks) (inl i) = absurd i
-slot-inside s (Fixed id content ∷ blocks) (inl i) = absurd i
+slot-inside s (Nonrelocatable id content ∷ blocks) (inl i) = absurd i
 slot-inside s (Relocatable slot flags content ∷ blocks) (inl i) = absurd i
 slot-inside s (Masters ∷ blocks) (inl i) = omega (arith, i)
 slot-inside s (b ∷ blocks) (inr i) = omega (arith, i.0, slot-inside (s - size b) blocks i.1)
@@ -112,7 +112,7 @@ module _ (head : Block → List ℕ) where
       → IsSlot s blocks → Tiles head xs blocks → Tiles head (written s w xs) blocks
   tiles-slot m xs w s [] e i t = absurd i
   tiles-slot m xs w s (Free n ∷ blocks) e (inl i) t = absurd i
-  tiles-slot m xs w s (Fixed id content ∷ blocks) e (inl i) t = absurd i
+  tiles-slot m xs w s (Nonrelocatable id content ∷ blocks) e (inl i) t = absurd i
   tiles-slot m xs w s (Relocatable slot flags content ∷ blocks) e (inl i) t = absurd i
   tiles-slot m xs w s (Masters ∷ blocks) e (inl i) t =
       let f = t.0.fits in

@@ -6,7 +6,7 @@ use Rattle.block_store.specs.declared.sparing.Sparing.TheVariants as sparing
 use Rattle.heap_calls.specs.Inner.Appending.{behind, bytes_of, length_of}
 use Rattle.heap_calls.specs.Inner.GrowingInPlace.{made_zone}
 use Rattle.heap_calls.proofs.Sizes.Behind.{HasRoom, room-made, lengthened-is}
-use Rattle.heap_calls.proofs.Sizes.Steady.{fixed-longer}
+use Rattle.heap_calls.proofs.Sizes.Steady.{nonrelocatable-longer}
 use Rattle.heap_calls.proofs.appending.append_block.Given.{Over}
 use Rattle.heap_calls.proofs.appending.append_block.Goals.{In_ok-grown}
 use Rattle.heap_calls.proofs.appending.append_block.Goals as goal
@@ -52,8 +52,8 @@ returns-else-grown-clause-zone g c =
     c.in_ok-grown.ensures.zone
     (rw c.if-grown.false refl)
 
-pub returns-then-grown-clause-fixed : goal.returns-then-grown-clause-fixed
-returns-then-grown-clause-fixed g c =
-    fixed-longer c.args.slot c.length_at-len.result _ (g.S.BlockStore.zone c.args.store.now)
+pub returns-then-grown-clause-nonrelocatable : goal.returns-then-grown-clause-nonrelocatable
+returns-then-grown-clause-nonrelocatable g c =
+    nonrelocatable-longer c.args.slot c.length_at-len.result _ (g.S.BlockStore.zone c.args.store.now)
     (g.S.BlockStore.zone c.lengthen.new.store) (g.S.BlockStore.zone c.copy_behind.new.store)
-    c.lengthen.ensures.fixed c.copy_behind.ensures.zone
+    c.lengthen.ensures.nonrelocatable c.copy_behind.ensures.zone

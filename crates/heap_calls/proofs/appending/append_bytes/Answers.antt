@@ -1,6 +1,6 @@
 use Rattle.block_store.specs.Block.{is_relocatable}
 use Rattle.heap_calls.proofs.Sizes.Behind.{longer-fits}
-use Rattle.heap_calls.proofs.Sizes.Steady.{fixed-longer}
+use Rattle.heap_calls.proofs.Sizes.Steady.{nonrelocatable-longer}
 use Rattle.heap_calls.proofs.appending.append_bytes.Goals as goal
 
 pub write_behind-requires : goal.write_behind-requires
@@ -10,8 +10,8 @@ write_behind-requires g c =
     c.in_ok-grown.grown.done (g.S.BlockStore.zone c.lengthen.new.store) c.if-grown.true c.in_ok-grown.ensures.zone
     c.requires.found.0 c.requires.found.1 (g.met.S.BlockStore.once store c.args.slot))
 
-pub returns-then-grown-clause-fixed : goal.returns-then-grown-clause-fixed
-returns-then-grown-clause-fixed g c =
-    fixed-longer c.args.slot c.length_at-len.result c.args.bytes.now (g.S.BlockStore.zone c.args.store.now)
+pub returns-then-grown-clause-nonrelocatable : goal.returns-then-grown-clause-nonrelocatable
+returns-then-grown-clause-nonrelocatable g c =
+    nonrelocatable-longer c.args.slot c.length_at-len.result c.args.bytes.now (g.S.BlockStore.zone c.args.store.now)
     (g.S.BlockStore.zone c.lengthen.new.store) (g.S.BlockStore.zone c.write_behind.new.store)
-    c.lengthen.ensures.fixed c.write_behind.ensures.zone
+    c.lengthen.ensures.nonrelocatable c.write_behind.ensures.zone

@@ -1,9 +1,9 @@
 use Rattle.std.proofs.Common.{◌≡◌, Some, ℕ, Option, sym, ap, subst}
 use Rattle.std.proofs.Common.{◌∙◌}
-use Rattle.block_store.specs.Block.{Free, is_fixed, tidy}
+use Rattle.block_store.specs.Block.{Free, is_nonrelocatable, tidy}
 use Rattle.block_store.specs.Run.{has, has_free, low, with_run}
 use Rattle.heap_calls.proofs.Room.Searching.{at_run}
-use Rattle.heap_calls.proofs.Room.Staying.{fixed-purged, fixed-run, none-low}
+use Rattle.heap_calls.proofs.Room.Staying.{nonrelocatable-purged, nonrelocatable-run, none-low}
 use Rattle.block_store.specs.Find.{FindsLowestRun}
 use Rattle.block_store.specs.Sparing.{purged}
 use Rattle.heap_calls.specs.Inner.Base.{IsBaseAt}
@@ -27,19 +27,19 @@ returns-clause-place g c =
     (base-found c.args.bytes c.in-Some.run' zone (g.S.BlockStore.zone c.purge.new.self) after c.requires.positive
     c.purge.ensures.zone (subst P c.in-Some.is c.find_base-found.ensures.found) c.in_ok-raise.ensures.ok)
 
-pub returns-in_err-raise-clause-fixed : goal.returns-in_err-raise-clause-fixed
-returns-in_err-raise-clause-fixed g c place =
-    ap (has (is_fixed place)) (c.in_err-raise.ensures.err ∙ c.purge.ensures.zone)
-    ∙ fixed-purged c.find_base-found.result.purges c.args.sparing (g.S.BlockStore.zone c.args.store.now) place
+pub returns-in_err-raise-clause-nonrelocatable : goal.returns-in_err-raise-clause-nonrelocatable
+returns-in_err-raise-clause-nonrelocatable g c place =
+    ap (has (is_nonrelocatable place)) (c.in_err-raise.ensures.err ∙ c.purge.ensures.zone)
+    ∙ nonrelocatable-purged c.find_base-found.result.purges c.args.sparing (g.S.BlockStore.zone c.args.store.now) place
 
-pub returns-clause-fixed : goal.returns-clause-fixed
-returns-clause-fixed g c place =
+pub returns-clause-nonrelocatable : goal.returns-clause-nonrelocatable
+returns-clause-nonrelocatable g c place =
     let zone = purged c.find_base-found.result.purges c.args.sparing (g.S.BlockStore.zone c.args.store.now) in
     let P : Option ℕ → Type 0 = λ o. FindsLowestRun (has_free c.args.bytes) zone o in
     let after = g.S.BlockStore.zone c.raise.new.self in
     let found : P (Some c.in-Some.run') = subst P c.in-Some.is c.find_base-found.ensures.found in
     let raised = at_run c.in-Some.run' zone (g.S.BlockStore.zone c.purge.new.self) found.0
     (λ r. after ≡ tidy (with_run (low (Free c.args.bytes)) r)) c.purge.ensures.zone found.2 c.in_ok-raise.ensures.ok in
-    ap (has (is_fixed place)) raised ∙ fixed-run (low (Free c.args.bytes)) (none-low c.args.bytes)
+    ap (has (is_nonrelocatable place)) raised ∙ nonrelocatable-run (low (Free c.args.bytes)) (none-low c.args.bytes)
     (has_free c.args.bytes) zone found.0 found.1 place
-    ∙ fixed-purged c.find_base-found.result.purges c.args.sparing (g.S.BlockStore.zone c.args.store.now) place
+    ∙ nonrelocatable-purged c.find_base-found.result.purges c.args.sparing (g.S.BlockStore.zone c.args.store.now) place

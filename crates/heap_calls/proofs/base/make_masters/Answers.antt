@@ -1,7 +1,7 @@
 use Rattle.std.proofs.Common.{ap, ◌∙◌, refl}
-use Rattle.block_store.specs.Block.{Masters, is_fixed}
+use Rattle.block_store.specs.Block.{Masters, is_nonrelocatable}
 use Rattle.block_store.specs.Run.{has}
-use Rattle.heap_calls.proofs.Numbering.Changing.{fixed-carved}
+use Rattle.heap_calls.proofs.Numbering.Changing.{nonrelocatable-carved}
 use Rattle.heap_calls.proofs.NewBlocks.NewSlots.{masters-none, masters-some, made-some, made-none, base-wide}
 use Rattle.heap_calls.proofs.Room.Placements.{at_none}
 use Rattle.heap_calls.proofs.base.make_masters.Goals as goal
@@ -29,13 +29,13 @@ returns-in_default-clause-made g c =
     (masters-none c.args.sparing zone zone' room c.in_default.is c.in_ok-room.ensures.place)
     (at_none room _ _ c.in_default.is c.in_ok-room.ensures.none) c.in_ok-room.ensures.rest
 
-pub returns-in_err-add_masters-clause-fixed : goal.returns-in_err-add_masters-clause-fixed
-returns-in_err-add_masters-clause-fixed g c place =
-    ap (has (is_fixed place)) c.in_err-add_masters.ensures.err ∙ c.make_base.ensures.fixed place
+pub returns-in_err-add_masters-clause-nonrelocatable : goal.returns-in_err-add_masters-clause-nonrelocatable
+returns-in_err-add_masters-clause-nonrelocatable g c place =
+    ap (has (is_nonrelocatable place)) c.in_err-add_masters.ensures.err ∙ c.make_base.ensures.nonrelocatable place
 
-pub returns-in_ok-add_masters-clause-fixed : goal.returns-in_ok-add_masters-clause-fixed
-returns-in_ok-add_masters-clause-fixed g c place =
+pub returns-in_ok-add_masters-clause-nonrelocatable : goal.returns-in_ok-add_masters-clause-nonrelocatable
+returns-in_ok-add_masters-clause-nonrelocatable g c place =
     let zone1 = g.S.BlockStore.zone c.make_base.new.store in
     let wide = base-wide 272 _ zone1 c.in_ok-room.room.place c.in-Some.place c.in-Some.is c.in_ok-room.ensures.place in
-    fixed-carved c.in-Some.place 272 zone1 (g.S.BlockStore.zone c.add_masters.new.self) Masters (λ p. refl) wide
-    c.in_ok-add_masters.ensures.ok place ∙ c.make_base.ensures.fixed place
+    nonrelocatable-carved c.in-Some.place 272 zone1 (g.S.BlockStore.zone c.add_masters.new.self) Masters (λ p. refl) wide
+    c.in_ok-add_masters.ensures.ok place ∙ c.make_base.ensures.nonrelocatable place

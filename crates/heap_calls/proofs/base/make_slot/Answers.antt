@@ -1,5 +1,5 @@
 use Rattle.std.proofs.Common.{ap, ◌∙◌}
-use Rattle.block_store.specs.Block.{is_fixed}
+use Rattle.block_store.specs.Block.{is_nonrelocatable}
 use Rattle.block_store.specs.Run.{has}
 use Rattle.heap_calls.proofs.NewBlocks.NewSlots.{slot-none}
 use Rattle.heap_calls.proofs.base.make_slot.Goals as goal
@@ -13,10 +13,10 @@ returns-in_default-place-clause-slot g c =
     (g.S.BlockStore.rest c.make_masters.new.store)
     c.in_ok-room.room.place c.in_default-place.is before.none before.zone before.same c.in_ok-room.ensures.made
 
-pub returns-in_err-room-clause-fixed : goal.returns-in_err-room-clause-fixed
-returns-in_err-room-clause-fixed g c place = c.make_masters.ensures.fixed place
-    ∙ ap (has (is_fixed place)) c.take_slot.ensures.zone
+pub returns-in_err-room-clause-nonrelocatable : goal.returns-in_err-room-clause-nonrelocatable
+returns-in_err-room-clause-nonrelocatable g c place = c.make_masters.ensures.nonrelocatable place
+    ∙ ap (has (is_nonrelocatable place)) c.take_slot.ensures.zone
 
-pub returns-clause-fixed : goal.returns-clause-fixed
-returns-clause-fixed g c place = ap (has (is_fixed place)) c.take_slot-2.ensures.zone
-    ∙ c.make_masters.ensures.fixed place ∙ ap (has (is_fixed place)) c.take_slot.ensures.zone
+pub returns-clause-nonrelocatable : goal.returns-clause-nonrelocatable
+returns-clause-nonrelocatable g c place = ap (has (is_nonrelocatable place)) c.take_slot-2.ensures.zone
+    ∙ c.make_masters.ensures.nonrelocatable place ∙ ap (has (is_nonrelocatable place)) c.take_slot.ensures.zone

@@ -1,8 +1,8 @@
 use Rattle.std.proofs.Common.{ℕ, Option, Some, sym, subst}
 use Rattle.heap_calls.specs.Inner.Copied.{IsCopy}
 use Rattle.heap_calls.proofs.NewBlocks.Copies.{source-there, new-there, may-read, may-write, copy-done}
-use Rattle.heap_calls.proofs.Room.Staying.{fixed-then}
-use Rattle.heap_calls.proofs.Sizes.Steady.{fixed-copied}
+use Rattle.heap_calls.proofs.Room.Staying.{nonrelocatable-then}
+use Rattle.heap_calls.proofs.Sizes.Steady.{nonrelocatable-copied}
 use Rattle.heap_calls.proofs.copying.copy_block.Goals as goal
 
 pub unreachable-requires : goal.unreachable-requires
@@ -53,10 +53,10 @@ returns-clause-answer g c =
     c.copy.ensures.zone c.copy.ensures.rest in
     subst P (sym c.in-Some.is) done
 
-pub returns-clause-fixed : goal.returns-clause-fixed
-returns-clause-fixed g c =
+pub returns-clause-nonrelocatable : goal.returns-clause-nonrelocatable
+returns-clause-nonrelocatable g c =
     let zone1 = g.S.BlockStore.zone c.new_block.new.store in
     let zone' = g.S.BlockStore.zone c.copy.new.self in
-    fixed-then (g.S.BlockStore.zone c.args.store.now) zone1 zone' c.new_block.ensures.fixed
-    (fixed-copied c.args.source c.in-Some.slot c.in-Some-place_of.from c.in-Some-place_of-2.to c.args.size 0 zone1 zone'
+    nonrelocatable-then (g.S.BlockStore.zone c.args.store.now) zone1 zone' c.new_block.ensures.nonrelocatable
+    (nonrelocatable-copied c.args.source c.in-Some.slot c.in-Some-place_of.from c.in-Some-place_of-2.to c.args.size 0 zone1 zone'
     c.in-Some-place_of.ensures c.in-Some-place_of-2.ensures c.copy.ensures.zone)

@@ -5,10 +5,10 @@ use Rattle.heap_calls.proofs.Room.Placements.{at_none}
 use Rattle.heap_calls.proofs.NewBlocks.Renewing.{renewed_searches-is, renewed-none, renew-room, renew-gone}
 use Rattle.heap_calls.proofs.NewBlocks.Renewing.{renewed-some}
 use Rattle.mac_words.specs.Size.{padded}
-use Rattle.block_store.specs.Block.{is_fixed}
+use Rattle.block_store.specs.Block.{is_nonrelocatable}
 use Rattle.block_store.specs.Run.{has}
 use Rattle.heap_calls.specs.Inner.NewBlock.{fresh_block}
-use Rattle.heap_calls.proofs.Numbering.Changing.{fixed-carved}
+use Rattle.heap_calls.proofs.Numbering.Changing.{nonrelocatable-carved}
 use Rattle.std.proofs.lemmas.Bool.{cond-false}
 use Rattle.block_store.specs.Rest.{counted}
 use Rattle.heap_calls.specs.Inner.Loose.{renewed_moves}
@@ -73,19 +73,19 @@ returns-clause-answer g c =
       };
     }
 
-pub returns-in_err-carve-clause-fixed : goal.returns-in_err-carve-clause-fixed
-returns-in_err-carve-clause-fixed g c place = ap (has (is_fixed place)) c.in_err-carve.ensures.err
-    ∙ c.make_room-room.ensures.fixed place
+pub returns-in_err-carve-clause-nonrelocatable : goal.returns-in_err-carve-clause-nonrelocatable
+returns-in_err-carve-clause-nonrelocatable g c place = ap (has (is_nonrelocatable place)) c.in_err-carve.ensures.err
+    ∙ c.make_room-room.ensures.nonrelocatable place
 
-pub returns-clause-fixed : goal.returns-clause-fixed
-returns-clause-fixed g c place =
+pub returns-clause-nonrelocatable : goal.returns-clause-nonrelocatable
+returns-clause-nonrelocatable g c place =
     let wide = renew-room c.args.slot (g.S.BlockStore.zone c.args.store.now) c.args.size c.in-Some.bytes
     (sym c.phys.ensures ∙ c.in-Some.is) (g.S.BlockStore.zone c.make_room-room.new.store)
     c.make_room-room.result.place c.in-Some-place.place c.in-Some-place.is c.make_room-room.ensures.place in
-    fixed-carved c.in-Some-place.place (padded c.args.size) (g.S.BlockStore.zone c.make_room-room.new.store)
+    nonrelocatable-carved c.in-Some-place.place (padded c.args.size) (g.S.BlockStore.zone c.make_room-room.new.store)
     (g.S.BlockStore.zone c.carve.new.self) (fresh_block c.args.slot c.args.size) (λ p. refl) wide
     c.in_ok-carve.ensures.ok place
-    ∙ c.make_room-room.ensures.fixed place
+    ∙ c.make_room-room.ensures.nonrelocatable place
 
 pub returns-in_default-clause-moves : goal.returns-in_default-clause-moves
 returns-in_default-clause-moves g c =

@@ -16,7 +16,7 @@ use Rattle.heap_calls.proofs.filling.add_resource.Goals.{After-count}
 use Rattle.heap_calls.proofs.filling.add_resource.Goals as goal
 
 pub returns-in_err-made-clause-agrees : goal.returns-in_err-made-clause-agrees
-returns-in_err-made-clause-agrees g c = agrees-more _ _ _ _ c.requires.agrees c.fill_block.ensures.fixed
+returns-in_err-made-clause-agrees g c = agrees-more _ _ _ _ c.requires.agrees c.fill_block.ensures.nonrelocatable
     c.in_err-made.ensures.kept
 
 made : (g : Over) (c : After-count g) (o : Option ℕ) → c.in_ok-made.made.slot ≡ o
@@ -28,7 +28,7 @@ made g c o is =
     (g.S.BlockStore.zone c.args.store.now) (g.S.BlockStore.rest c.args.store.now) c.args.names.now.items o
     (g.S.BlockStore.zone c.fill_block.new.store) (g.S.BlockStore.rest c.fill_block.new.store) in
     subst P is (filled-names _ _ _ (g.met.S.BlockStore.masters c.args.store.now) c.requires.agrees _ _
-    c.fill_block.ensures.fixed c.args.flags c.args.bytes.now c.in_ok-made.made.slot c.in_ok-made.ensures.answer)
+    c.fill_block.ensures.nonrelocatable c.args.flags c.args.bytes.now c.in_ok-made.made.slot c.in_ok-made.ensures.answer)
 
 -- the answer, with no role as yet
 plain : (g : Over) (c : After-count g) (o : Option ℕ) → c.in_ok-made.made.slot ≡ o

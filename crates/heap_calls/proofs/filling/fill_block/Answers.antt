@@ -3,7 +3,7 @@ use Rattle.block_store.specs.declared.sparing.Sparing.TheVariants as sparing
 use Rattle.heap_calls.specs.Inner.NewBlock.{IsPut, IsNewBlock}
 use Rattle.heap_calls.specs.Inner.Filling.{IsFilling}
 use Rattle.heap_calls.proofs.Filled.Replaced.{new-fresh, put-replaced}
-use Rattle.heap_calls.proofs.Room.Staying.{fixed-then}
+use Rattle.heap_calls.proofs.Room.Staying.{nonrelocatable-then}
 use Rattle.heap_calls.proofs.filling.fill_block.Given.{Over}
 use Rattle.heap_calls.proofs.filling.fill_block.Goals.{In-Some}
 use Rattle.heap_calls.proofs.filling.fill_block.Goals as goal
@@ -46,7 +46,7 @@ returns-clause-answer g c =
     } in
     subst P (sym c.in-Some.is) done
 
-pub returns-clause-fixed : goal.returns-clause-fixed
-returns-clause-fixed g c =
-    fixed-then (g.S.BlockStore.zone c.args.store.now) (g.S.BlockStore.zone c.new_block_for.new.store)
-    (g.S.BlockStore.zone c.fill_new.new.store) c.new_block_for.ensures.fixed c.fill_new.ensures.fixed
+pub returns-clause-nonrelocatable : goal.returns-clause-nonrelocatable
+returns-clause-nonrelocatable g c =
+    nonrelocatable-then (g.S.BlockStore.zone c.args.store.now) (g.S.BlockStore.zone c.new_block_for.new.store)
+    (g.S.BlockStore.zone c.fill_new.new.store) c.new_block_for.ensures.nonrelocatable c.fill_new.ensures.nonrelocatable

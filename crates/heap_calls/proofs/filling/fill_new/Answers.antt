@@ -1,7 +1,7 @@
 use Rattle.std.proofs.Common.{◌≡◌, length}
 use Rattle.block_store.proofs.Zone.Edges.{used-some}
 use Rattle.heap_calls.specs.Inner.NewBlock.{fresh_block}
-use Rattle.heap_calls.proofs.Filled.Replaced.{may-flag, is-replaced, fixed-replaced}
+use Rattle.heap_calls.proofs.Filled.Replaced.{may-flag, is-replaced, nonrelocatable-replaced}
 use Rattle.heap_calls.proofs.filling.fill_new.Goals as goal
 
 pub place_of-requires : goal.place_of-requires
@@ -22,8 +22,8 @@ returns-clause-zone g c =
     (g.S.BlockStore.zone c.write.new.self) c.requires c.in-Some.ensures c.write.ensures.zone
     (g.S.BlockStore.zone c.set_flags.new.self) c.set_flags.ensures.zone
 
-pub returns-clause-fixed : goal.returns-clause-fixed
-returns-clause-fixed g c =
-    fixed-replaced c.args.slot c.in-Some.place c.args.flags c.args.bytes.now (g.S.BlockStore.zone c.args.store.now)
+pub returns-clause-nonrelocatable : goal.returns-clause-nonrelocatable
+returns-clause-nonrelocatable g c =
+    nonrelocatable-replaced c.args.slot c.in-Some.place c.args.flags c.args.bytes.now (g.S.BlockStore.zone c.args.store.now)
     (g.S.BlockStore.zone c.write.new.self) c.requires c.in-Some.ensures c.write.ensures.zone
     (g.S.BlockStore.zone c.set_flags.new.self) c.set_flags.ensures.zone

@@ -6,7 +6,7 @@ use Rattle.heap_calls.specs.Inner.Loose.{renewed}
 use Rattle.heap_calls.proofs.Filled.Refilled.{refilled_searches-is, refilled_moves-is, not-refilled, renewed-fresh}
 use Rattle.heap_calls.proofs.Filled.Refilled.{refilled-done}
 use Rattle.heap_calls.proofs.Room.Placements.{at_none}
-use Rattle.heap_calls.proofs.Room.Staying.{fixed-then}
+use Rattle.heap_calls.proofs.Room.Staying.{nonrelocatable-then}
 use Rattle.heap_calls.proofs.filling.refill_block.Given.{Over}
 use Rattle.heap_calls.proofs.filling.refill_block.Goals.{In-Some}
 use Rattle.heap_calls.proofs.filling.refill_block.Goals as goal
@@ -89,7 +89,7 @@ returns-clause-answer g c =
       };
     }
 
-pub returns-clause-fixed : goal.returns-clause-fixed
-returns-clause-fixed g c =
-    fixed-then (g.S.BlockStore.zone c.args.store.now) (g.S.BlockStore.zone c.renew_block_for.new.store)
-    (g.S.BlockStore.zone c.fill_new.new.store) c.renew_block_for.ensures.fixed c.fill_new.ensures.fixed
+pub returns-clause-nonrelocatable : goal.returns-clause-nonrelocatable
+returns-clause-nonrelocatable g c =
+    nonrelocatable-then (g.S.BlockStore.zone c.args.store.now) (g.S.BlockStore.zone c.renew_block_for.new.store)
+    (g.S.BlockStore.zone c.fill_new.new.store) c.renew_block_for.ensures.nonrelocatable c.fill_new.ensures.nonrelocatable

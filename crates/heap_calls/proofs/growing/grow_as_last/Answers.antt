@@ -2,8 +2,8 @@ use Rattle.std.proofs.lemmas.Result.{on_ok_weaker}
 use Rattle.heap_calls.proofs.Sizes.Carrying.{is-last, last-allowed, last-runs, last-grows, last-grown, rest-last}
 use Rattle.block_store.specs.Block.{is_relocatable}
 use Rattle.block_store.specs.Run.{run_at, high, settle}
-use Rattle.heap_calls.proofs.Room.Staying.{fixed-then, none-high, none-settle}
-use Rattle.heap_calls.proofs.Sizes.Steady.{fixed-changed_at, some_of}
+use Rattle.heap_calls.proofs.Room.Staying.{nonrelocatable-then, none-high, none-settle}
+use Rattle.heap_calls.proofs.Sizes.Steady.{nonrelocatable-changed_at, some_of}
 use Rattle.heap_calls.proofs.Room.MoveCounts.{last-moves}
 use Rattle.heap_calls.proofs.growing.grow_as_last.Goals as goal
 
@@ -55,8 +55,8 @@ returns-clause-rest g c =
     (g.S.BlockStore.rest c.grow_up.new.store) (run_at c.args.run zone1) there c.hoist.ensures.rest
     c.settle.ensures.rest c.grow_up.ensures.rest
 
-pub returns-clause-fixed : goal.returns-clause-fixed
-returns-clause-fixed g c =
+pub returns-clause-nonrelocatable : goal.returns-clause-nonrelocatable
+returns-clause-nonrelocatable g c =
     let store = c.args.store.now in
     let zone = g.S.BlockStore.zone store in
     let zone1 = g.S.BlockStore.zone c.hoist.new.self in
@@ -64,11 +64,11 @@ returns-clause-fixed g c =
     let last = is-last c.args.number c.args.size zone c.args.run c.requires.block c.requires.found in
     let there = last-runs c.args.number c.args.size zone zone1 c.args.run last (g.met.S.BlockStore.tidied store)
     (g.met.S.BlockStore.once store c.args.number) c.hoist.ensures.zone in
-    fixed-then zone zone1 (g.S.BlockStore.zone c.grow_up.new.store)
-    (fixed-changed_at (high (is_relocatable c.args.number)) (none-high (is_relocatable c.args.number)) c.args.run zone
+    nonrelocatable-then zone zone1 (g.S.BlockStore.zone c.grow_up.new.store)
+    (nonrelocatable-changed_at (high (is_relocatable c.args.number)) (none-high (is_relocatable c.args.number)) c.args.run zone
     zone1 (some_of (run_at c.args.run zone) _ (last-allowed c.args.number c.args.size zone c.args.run last))
-    c.hoist.ensures.zone) (fixed-then zone1 zone2 (g.S.BlockStore.zone c.grow_up.new.store)
-    (fixed-changed_at settle none-settle c.args.run zone1 zone2 there c.settle.ensures.zone) c.grow_up.ensures.fixed)
+    c.hoist.ensures.zone) (nonrelocatable-then zone1 zone2 (g.S.BlockStore.zone c.grow_up.new.store)
+    (nonrelocatable-changed_at settle none-settle c.args.run zone1 zone2 there c.settle.ensures.zone) c.grow_up.ensures.nonrelocatable)
 
 pub returns-clause-moves : goal.returns-clause-moves
 returns-clause-moves g c =

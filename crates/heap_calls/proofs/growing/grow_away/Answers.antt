@@ -1,6 +1,6 @@
 use Rattle.std.proofs.lemmas.Result.{on_ok_weaker}
 use Rattle.heap_calls.proofs.Sizes.Carrying.{away-room, away-block, away-done}
-use Rattle.heap_calls.proofs.Sizes.Steady.{fixed-carried}
+use Rattle.heap_calls.proofs.Sizes.Steady.{nonrelocatable-carried}
 use Rattle.std.proofs.Common.{Some, sym, ◌∙◌, ap}
 use Rattle.block_store.specs.Block.{is_relocatable}
 use Rattle.block_store.specs.Rest.{counted}
@@ -32,12 +32,12 @@ returns-clause-ok g c =
     packed.ensures.place packed.ensures.blocks (g.S.BlockStore.zone c.move_to.new.self))
     c.move_to.ensures.ok
 
-pub returns-clause-fixed : goal.returns-clause-fixed
-returns-clause-fixed g c =
+pub returns-clause-nonrelocatable : goal.returns-clause-nonrelocatable
+returns-clause-nonrelocatable g c =
     let packed = c.pack_placement-place in
-    fixed-carried c.move_to.result c.args.number c.args.size (g.S.BlockStore.zone c.args.store.now)
+    nonrelocatable-carried c.move_to.result c.args.number c.args.size (g.S.BlockStore.zone c.args.store.now)
     (g.S.BlockStore.zone packed.new.store) (g.S.BlockStore.zone c.move_to.new.self) (returns-clause-ok g c)
-    packed.ensures.fixed c.move_to.ensures.err
+    packed.ensures.nonrelocatable c.move_to.ensures.err
 
 pub returns-clause-moves : goal.returns-clause-moves
 returns-clause-moves g c =

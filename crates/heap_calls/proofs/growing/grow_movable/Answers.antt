@@ -4,7 +4,7 @@ use Rattle.heap_calls.specs.Moves.{room_moves}
 use Rattle.block_store.specs.Grow.{grow_mover}
 use Rattle.block_store.specs.Block.{resized}
 use Rattle.std.proofs.Common.{◌≡◌, ◌+◌, Some, None, sym, ◌∙◌, ap, subst, Option, List, refl}
-use Rattle.block_store.specs.Block.{Block, is_relocatable, is_fixed, size as size_of}
+use Rattle.block_store.specs.Block.{Block, is_relocatable, is_nonrelocatable, size as size_of}
 use Rattle.block_store.specs.Run.{has}
 use Rattle.block_store.specs.Room.{spot}
 use Rattle.mac_words.specs.Size.{phys as physical_size}
@@ -13,7 +13,7 @@ use Rattle.heap_calls.specs.Inner.Growing.{FindsGrowth, grown}
 use Rattle.heap_calls.specs.declared.growing.Growth.{Growth}
 use Rattle.heap_calls.proofs.Sizes.Carrying.{purged-grown, purged-grows, grown-zone, grown-searches, grown-size}
 use Rattle.heap_calls.proofs.Sizes.Carrying.{carried}
-use Rattle.heap_calls.proofs.Room.Staying.{fixed-purged}
+use Rattle.heap_calls.proofs.Room.Staying.{nonrelocatable-purged}
 use Rattle.block_store.specs.Rest.{counted}
 use Rattle.heap_calls.specs.Moves.{grow_moves}
 use Rattle.heap_calls.proofs.Room.MoveCounts.{packs-none, packs-after, no-growth, grown-moves}
@@ -79,15 +79,15 @@ returns-clause-searches g c =
     grown-searches c.args.sparing c.args.slot c.args.bytes (g.S.BlockStore.zone c.args.store.now) c.requires.stays
     (c.find_growth-found.result.purges + 1) c.find_growth-found.ensures.searches
 
-pub returns-in_err-carry_out-clause-fixed : goal.returns-in_err-carry_out-clause-fixed
-returns-in_err-carry_out-clause-fixed g c place =
-    c.carry_out.ensures.fixed place ∙ ap (has (is_fixed place)) c.purge.ensures.zone
-    ∙ fixed-purged c.find_growth-found.result.purges c.args.sparing (g.S.BlockStore.zone c.args.store.now) place
+pub returns-in_err-carry_out-clause-nonrelocatable : goal.returns-in_err-carry_out-clause-nonrelocatable
+returns-in_err-carry_out-clause-nonrelocatable g c place =
+    c.carry_out.ensures.nonrelocatable place ∙ ap (has (is_nonrelocatable place)) c.purge.ensures.zone
+    ∙ nonrelocatable-purged c.find_growth-found.result.purges c.args.sparing (g.S.BlockStore.zone c.args.store.now) place
 
-pub returns-clause-fixed : goal.returns-clause-fixed
-returns-clause-fixed g c place =
-    c.carry_out.ensures.fixed place ∙ ap (has (is_fixed place)) c.purge.ensures.zone
-    ∙ fixed-purged c.find_growth-found.result.purges c.args.sparing (g.S.BlockStore.zone c.args.store.now) place
+pub returns-clause-nonrelocatable : goal.returns-clause-nonrelocatable
+returns-clause-nonrelocatable g c place =
+    c.carry_out.ensures.nonrelocatable place ∙ ap (has (is_nonrelocatable place)) c.purge.ensures.zone
+    ∙ nonrelocatable-purged c.find_growth-found.result.purges c.args.sparing (g.S.BlockStore.zone c.args.store.now) place
 
 pub returns-in_default-growth-clause-moves : goal.returns-in_default-growth-clause-moves
 returns-in_default-growth-clause-moves g c =

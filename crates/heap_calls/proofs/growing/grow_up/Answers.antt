@@ -1,7 +1,7 @@
 use Rattle.std.proofs.Common.{ap, is_some}
 use Rattle.block_store.specs.Block.{is_relocatable}
 use Rattle.block_store.proofs.Zone.Edges.{used-there}
-use Rattle.heap_calls.proofs.Sizes.Steady.{fixed-grown_up}
+use Rattle.heap_calls.proofs.Sizes.Steady.{nonrelocatable-grown_up}
 use Rattle.heap_calls.proofs.growing.grow_up.Goals as goal
 
 pub place_of-requires : goal.place_of-requires
@@ -10,8 +10,8 @@ place_of-requires g c =
     used-there (g.S.BlockStore.rest store).slots (g.S.BlockStore.zone store) c.args.number
     (g.met.S.BlockStore.no_block store c.args.number) (ap is_some c.requires.1)
 
-pub returns-clause-fixed : goal.returns-clause-fixed
-returns-clause-fixed g c =
-    fixed-grown_up c.resize.result (is_relocatable c.args.number) c.args.size c.in-Some.place
+pub returns-clause-nonrelocatable : goal.returns-clause-nonrelocatable
+returns-clause-nonrelocatable g c =
+    nonrelocatable-grown_up c.resize.result (is_relocatable c.args.number) c.args.size c.in-Some.place
     (g.S.BlockStore.zone c.args.store.now) (g.S.BlockStore.zone c.resize.new.self) c.requires c.in-Some.ensures
     c.resize.ensures.grown c.resize.ensures.err

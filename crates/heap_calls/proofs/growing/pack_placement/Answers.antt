@@ -1,5 +1,5 @@
 use Rattle.std.proofs.Common.{◌≡◌, Some, sym, ◌∙◌, ap, subst, refl}
-use Rattle.block_store.specs.Block.{is_room, is_fixed, tidy}
+use Rattle.block_store.specs.Block.{is_room, is_nonrelocatable, tidy}
 use Rattle.block_store.specs.Room.{spot}
 use Rattle.block_store.specs.Run.{has, settle, with_run}
 use Rattle.heap_calls.specs.Inner.Search.{FindsPlacement}
@@ -8,7 +8,7 @@ use Rattle.heap_calls.specs.declared.search.Placement.{Placement}
 use Rattle.heap_calls.specs.declared.search.Placement.TheVariants as see
 use Rattle.heap_calls.proofs.Room.Searching.{room-found, at_run}
 use Rattle.heap_calls.proofs.Sizes.Carrying.{settle-blocks}
-use Rattle.heap_calls.proofs.Room.Staying.{fixed-run_at, none-settle}
+use Rattle.heap_calls.proofs.Room.Staying.{nonrelocatable-run_at, none-settle}
 use Rattle.block_store.specs.Rest.{IsRest, with_moves, lowered_in_run}
 use Rattle.heap_calls.specs.Moves.{place_moves}
 use Rattle.heap_calls.proofs.Room.MoveCounts.{packs-none, packs-run, at-free, at-packed}
@@ -47,11 +47,11 @@ returns-clause-blocks g c =
     λ number. ap (block_of number) (packed g at) ∙ settle-blocks c.in-Run.run' (g.S.BlockStore.zone c.args.store.now)
     r.0 r.2 number
 
-pub returns-clause-fixed : goal.returns-clause-fixed
-returns-clause-fixed g c place =
-    let at = (goal.at.returns-clause-fixed g c).After-settle in
+pub returns-clause-nonrelocatable : goal.returns-clause-nonrelocatable
+returns-clause-nonrelocatable g c place =
+    let at = (goal.at.returns-clause-nonrelocatable g c).After-settle in
     let r = (found g at).1 in
-    ap (has (is_fixed place)) (packed g at) ∙ fixed-run_at settle none-settle c.in-Run.run'
+    ap (has (is_nonrelocatable place)) (packed g at) ∙ nonrelocatable-run_at settle none-settle c.in-Run.run'
     (g.S.BlockStore.zone c.args.store.now) r.0 r.2 place
 
 pub returns-in-Free-clause-moves : goal.returns-in-Free-clause-moves

@@ -4,20 +4,20 @@ use Rattle.std.specs.Option.{IfSome, IsSome}
 use Rattle.block_store.specs.Block.{Block, size, resized}
 use Rattle.block_store.specs.Run.{segments}
 use Rattle.block_store.specs.Room.{Spot, spot_at}
-use Rattle.block_store.specs.Grow.{grow_up, grow_fixed, growth}
+use Rattle.block_store.specs.Grow.{grow_up, grow_nonrelocatable, growth}
 use Rattle.block_store.specs.Sparing.{spared}
 use Rattle.heap_calls.specs.Inner.GrowingInPlace.{FindsPurges, enough, pushed_up}
 use Rattle.heap_calls.specs.Searches.{room_searches, in_place_searches}
 use Rattle.heap_calls.proofs.Sizes.GrowingInPlace.{searches-up, searches-run, Grows, grows, spot_if, some_if, spot_and}
 use Rattle.heap_calls.proofs.Sizes.GrowingInPlace.{spot-small, up-allowed, grown-up, grown-none, pushed, pushed-allowed}
 use Rattle.heap_calls.proofs.Sizes.GrowingInPlace.{grown-pushed, spot_at-above, phys-fits}
-use Rattle.block_store.specs.Block.{is_fixed}
+use Rattle.block_store.specs.Block.{is_nonrelocatable}
 use Rattle.block_store.specs.Run.{has}
 use Rattle.block_store.proofs.Plain.Options.{some_and}
 use Rattle.block_store.proofs.Zone.Edges.{edge-behind}
 use Rattle.block_store.specs.Find.{IsEdge}
-use Rattle.heap_calls.proofs.Numbering.Changing.{fixed-at}
-use Rattle.heap_calls.proofs.Room.Staying.{fixed-grow_fixed, alike-resized}
+use Rattle.heap_calls.proofs.Numbering.Changing.{nonrelocatable-at}
+use Rattle.heap_calls.proofs.Room.Staying.{nonrelocatable-grow_nonrelocatable, alike-resized}
 use Rattle.heap_calls.proofs.growing_in_place.grow_in_place.Goals as goal
 
 pub padded_size-wanted-requires : goal.padded_size-wanted-requires
@@ -64,7 +64,7 @@ returns-then-has_room_at-clause-zone g c =
     let P : Spot → Type 0 = λ s. size s.here < size (resized c.args.bytes s.here)
     → IfSome (grow_up (resized c.args.bytes s.here) s) (λ after. zone' ≡ after) in
     let done : P k.s = spot_if (spot_at c.args.place zone) k.s P k.at c.in_ok-resize.ensures.grown in
-    some_if (spot_at c.args.place zone) k.s (λ s. grow_fixed sp (resized c.args.bytes s.here) s ≡ Some zone') k.at
+    some_if (spot_at c.args.place zone) k.s (λ s. grow_nonrelocatable sp (resized c.args.bytes s.here) s ≡ Some zone') k.at
     (grown-up sp (resized c.args.bytes k.s.here) k.s zone' (sym k.up_is ∙ c.if-has_room_at.true) (done k.less))
 
 pub returns-in_default-clause-zone : goal.returns-in_default-clause-zone
@@ -80,7 +80,7 @@ returns-in_default-clause-zone g c =
     (λ s. FindsPurges (c.padded_size-wanted.result - c.bytes_at-taken.result) sp (segments s.above).first None) k.at
     (subst F c.in_default.is c.least_purges-fewest.ensures.found) in
     let P : ℕ → Type 0 = λ d. FindsPurges d sp (segments k.s.above).first None in
-    some_if (spot_at c.args.place zone) k.s (λ s. grow_fixed sp (resized c.args.bytes s.here) s ≡ None) k.at
+    some_if (spot_at c.args.place zone) k.s (λ s. grow_nonrelocatable sp (resized c.args.bytes s.here) s ≡ None) k.at
     (grown-none sp (resized c.args.bytes k.s.here) k.s (sym k.up_is ∙ c.if-has_room_at.false) (subst P k.more_is none))
 
 -- the spot after the run above was packed upward
@@ -133,7 +133,7 @@ returns-clause-zone g c =
     let found : Q (growth new k.s) = subst Q k.more_is
     (spot_if (spot_at c.args.place zone) k.s (λ s. FindsPurges more sp (segments s.above).first
     (Some c.in-Some.purges)) k.at (subst F c.in-Some.is c.least_purges-fewest.ensures.found)) in
-    some_if (spot_at c.args.place zone) k.s (λ s. grow_fixed sp (resized c.args.bytes s.here) s ≡ Some after) k.at
+    some_if (spot_at c.args.place zone) k.s (λ s. grow_nonrelocatable sp (resized c.args.bytes s.here) s ≡ Some after) k.at
     (grown-pushed c.args.place zone (g.met.S.BlockStore.tidied c.args.store.now) k.s k.at k.ends c.in-Some.purges sp new
     k.less after (sym k.up_is ∙ c.if-has_room_at.false) found.2 (done k.less))
 
@@ -179,8 +179,8 @@ returns-clause-searches g c =
     searched c.args.place zone c.args.bytes more c.has_room_at.result k (spared c.args.sparing)
     c.least_purges-fewest.result.searches c.if-has_room_at.false c.least_purges-fewest.ensures.searches
 
-pub returns-then-has_room_at-clause-fixed : goal.returns-then-has_room_at-clause-fixed
-returns-then-has_room_at-clause-fixed g c place =
+pub returns-then-has_room_at-clause-nonrelocatable : goal.returns-then-has_room_at-clause-nonrelocatable
+returns-then-has_room_at-clause-nonrelocatable g c place =
     let zone = g.S.BlockStore.zone c.args.store.now in
     let zone' = g.S.BlockStore.zone c.resize.new.self in
     let sp = spared c.args.sparing in
@@ -188,16 +188,16 @@ returns-then-has_room_at-clause-fixed g c place =
     c.has_room_at.result c.requires.still c.requires.grows c.bytes_at-taken.ensures c.padded_size-wanted.ensures
     c.has_room_at.ensures in
     let grown = spot_if (spot_at c.args.place zone) k.s
-    (λ s. grow_fixed sp (resized c.args.bytes s.here) s ≡ Some zone') k.at (returns-then-has_room_at-clause-zone g c) in
-    fixed-at c.args.place zone zone' k.s k.at (fixed-grow_fixed sp (resized c.args.bytes k.s.here) k.s zone'
+    (λ s. grow_nonrelocatable sp (resized c.args.bytes s.here) s ≡ Some zone') k.at (returns-then-has_room_at-clause-zone g c) in
+    nonrelocatable-at c.args.place zone zone' k.s k.at (nonrelocatable-grow_nonrelocatable sp (resized c.args.bytes k.s.here) k.s zone'
     (alike-resized c.args.bytes k.s.here) grown) place
 
-pub returns-in_err-resize-2-clause-fixed : goal.returns-in_err-resize-2-clause-fixed
-returns-in_err-resize-2-clause-fixed g c place = ap (has (is_fixed place)) c.in_err-resize-2.ensures.err
-    ∙ c.push_up.ensures.fixed place
+pub returns-in_err-resize-2-clause-nonrelocatable : goal.returns-in_err-resize-2-clause-nonrelocatable
+returns-in_err-resize-2-clause-nonrelocatable g c place = ap (has (is_nonrelocatable place)) c.in_err-resize-2.ensures.err
+    ∙ c.push_up.ensures.nonrelocatable place
 
-pub returns-clause-fixed : goal.returns-clause-fixed
-returns-clause-fixed g c place =
+pub returns-clause-nonrelocatable : goal.returns-clause-nonrelocatable
+returns-clause-nonrelocatable g c place =
     let zone = g.S.BlockStore.zone c.args.store.now in
     let zone' = g.S.BlockStore.zone c.resize-2.new.self in
     let sp = spared c.args.sparing in
@@ -205,6 +205,6 @@ returns-clause-fixed g c place =
     c.has_room_at.result c.requires.still c.requires.grows c.bytes_at-taken.ensures c.padded_size-wanted.ensures
     c.has_room_at.ensures in
     let grown = spot_if (spot_at c.args.place zone) k.s
-    (λ s. grow_fixed sp (resized c.args.bytes s.here) s ≡ Some zone') k.at (returns-clause-zone g c) in
-    fixed-at c.args.place zone zone' k.s k.at (fixed-grow_fixed sp (resized c.args.bytes k.s.here) k.s zone'
+    (λ s. grow_nonrelocatable sp (resized c.args.bytes s.here) s ≡ Some zone') k.at (returns-clause-zone g c) in
+    nonrelocatable-at c.args.place zone zone' k.s k.at (nonrelocatable-grow_nonrelocatable sp (resized c.args.bytes k.s.here) k.s zone'
     (alike-resized c.args.bytes k.s.here) grown) place

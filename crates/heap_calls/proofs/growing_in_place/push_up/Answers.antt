@@ -1,14 +1,14 @@
 use Rattle.std.proofs.Common.{ap, ◌∙◌, ◌≡◌, ◌+◌, sym, arith, ◌++◌, ◌∷◌}
 use Rattle.std.proofs.lemmas.Result.{on_ok_weaker}
 use Rattle.std.specs.Option.{IfSome}
-use Rattle.block_store.specs.Block.{Free, is_fixed, tidy}
+use Rattle.block_store.specs.Block.{Free, is_nonrelocatable, tidy}
 use Rattle.block_store.specs.Run.{has, run_at, with_run, low}
 use Rattle.block_store.specs.Room.{spot_at}
 use Rattle.block_store.specs.Sparing.{spared}
 use Rattle.heap_calls.specs.Inner.GrowingInPlace.{pushed_up}
 use Rattle.heap_calls.proofs.Sizes.GrowingInPlace.{PurgedAbove, purged_above, spot-small}
 use Rattle.heap_calls.proofs.Numbering.Changing.{spot_at-is}
-use Rattle.heap_calls.proofs.Room.Staying.{fixed-raised, fixed-above_emptied}
+use Rattle.heap_calls.proofs.Room.Staying.{nonrelocatable-raised, nonrelocatable-above_emptied}
 use Rattle.heap_calls.proofs.growing_in_place.push_up.Given.{Over}
 use Rattle.heap_calls.proofs.growing_in_place.push_up.Goals.{After-purge_after}
 use Rattle.heap_calls.proofs.growing_in_place.push_up.Goals as goal
@@ -45,12 +45,12 @@ returns-clause-zone g c =
     c.raise.result
     ((above g (goal.at.returns-clause-zone g c).After-purge_after).raised after) c.raise.ensures.ok
 
-pub returns-clause-fixed : goal.returns-clause-fixed
-returns-clause-fixed g c place =
-    let above = above g (goal.at.returns-clause-fixed g c).After-purge_after in
+pub returns-clause-nonrelocatable : goal.returns-clause-nonrelocatable
+returns-clause-nonrelocatable g c place =
+    let above = above g (goal.at.returns-clause-nonrelocatable g c).After-purge_after in
     let s = above.s in
-    fixed-raised c.raise.result (c.args.place + c.args.taken) c.args.bytes (g.S.BlockStore.zone c.purge_after.new.self)
+    nonrelocatable-raised c.raise.result (c.args.place + c.args.taken) c.args.bytes (g.S.BlockStore.zone c.purge_after.new.self)
     (g.S.BlockStore.zone c.raise.new.self) above.allowed c.raise.ensures.ok c.raise.ensures.err place
-    ∙ ap (has (is_fixed place)) above.left ∙ fixed-above_emptied s.below s.here s.above c.args.purges
+    ∙ ap (has (is_nonrelocatable place)) above.left ∙ nonrelocatable-above_emptied s.below s.here s.above c.args.purges
     (spared c.args.sparing) place
-    ∙ ap (has (is_fixed place)) (sym (spot_at-is c.args.place (g.S.BlockStore.zone c.args.store.now) s above.at))
+    ∙ ap (has (is_nonrelocatable place)) (sym (spot_at-is c.args.place (g.S.BlockStore.zone c.args.store.now) s above.at))

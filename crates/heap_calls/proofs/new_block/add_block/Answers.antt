@@ -1,10 +1,10 @@
 use Rattle.std.proofs.Common.{Some, None, ℕ, Option, sym, ◌∙◌, ap, subst, inr, refl, is_some}
 use Rattle.mac_words.specs.Size.{padded}
-use Rattle.block_store.specs.Block.{is_relocatable, is_fixed}
+use Rattle.block_store.specs.Block.{is_relocatable, is_nonrelocatable}
 use Rattle.block_store.specs.Run.{has}
 use Rattle.block_store.specs.Rest.{KeepsSlots}
 use Rattle.heap_calls.specs.Inner.NewBlock.{IsAdded, fresh_block}
-use Rattle.heap_calls.proofs.Numbering.Changing.{phys-some, fixed-carved}
+use Rattle.heap_calls.proofs.Numbering.Changing.{phys-some, nonrelocatable-carved}
 use Rattle.heap_calls.proofs.Room.Placements.{no_placement-no_room, carve-room, carved-put, at_none, kept-back}
 use Rattle.std.proofs.lemmas.Bool.{cond-false}
 use Rattle.block_store.specs.Rest.{counted}
@@ -70,22 +70,22 @@ returns-in-Ok-clause-added g c =
     ) in
     subst P (sym c.in-Some-place.is) done
 
-pub returns-in-Ok-clause-fixed : goal.returns-in-Ok-clause-fixed
-returns-in-Ok-clause-fixed g c place =
+pub returns-in-Ok-clause-nonrelocatable : goal.returns-in-Ok-clause-nonrelocatable
+returns-in-Ok-clause-nonrelocatable g c place =
     let room = c.make_room-room in
     let fits = phys-some c.args.size c.in-Some.bytes (sym c.phys.ensures ∙ c.in-Some.is) in
     let wide = carve-room c.args.size c.in-Some.bytes fits.1 c.args.sparing (g.S.BlockStore.zone c.args.store.now)
     (g.S.BlockStore.zone room.new.store) room.result.place c.in-Some-place.place c.in-Some-place.is
     room.ensures.place in
-    fixed-carved c.in-Some-place.place (padded c.args.size) (g.S.BlockStore.zone room.new.store)
+    nonrelocatable-carved c.in-Some-place.place (padded c.args.size) (g.S.BlockStore.zone room.new.store)
     (g.S.BlockStore.zone c.carve.new.self) (fresh_block c.args.slot c.args.size) (λ p. refl) wide c.in-Ok.ensures.ok
     place
-    ∙ room.ensures.fixed place
+    ∙ room.ensures.nonrelocatable place
 
-pub returns-in-Err-clause-fixed : goal.returns-in-Err-clause-fixed
-returns-in-Err-clause-fixed g c place =
-    ap (has (is_fixed place)) (c.give_slot-in-Err.ensures.zone ∙ c.in-Err.ensures.err)
-    ∙ c.make_room-room.ensures.fixed place
+pub returns-in-Err-clause-nonrelocatable : goal.returns-in-Err-clause-nonrelocatable
+returns-in-Err-clause-nonrelocatable g c place =
+    ap (has (is_nonrelocatable place)) (c.give_slot-in-Err.ensures.zone ∙ c.in-Err.ensures.err)
+    ∙ c.make_room-room.ensures.nonrelocatable place
 
 pub returns-in_default-clause-moves : goal.returns-in_default-clause-moves
 returns-in_default-clause-moves g c =

@@ -19,14 +19,14 @@ returns-in_default-place-clause-answer g c =
     c.in_ok-taken.taken.slot c.in_ok-room.room.place c.in-Some.is c.in_default-place.is c.in_ok-taken.ensures.slot
     c.in_ok-room.ensures.added)
 
-pub returns-in_err-room-clause-fixed : goal.returns-in_err-room-clause-fixed
-returns-in_err-room-clause-fixed g c place = c.add_block.ensures.fixed place ∙ c.make_slot.ensures.fixed place
+pub returns-in_err-room-clause-nonrelocatable : goal.returns-in_err-room-clause-nonrelocatable
+returns-in_err-room-clause-nonrelocatable g c place = c.add_block.ensures.nonrelocatable place ∙ c.make_slot.ensures.nonrelocatable place
 
-pub returns-in_default-place-clause-fixed : goal.returns-in_default-place-clause-fixed
-returns-in_default-place-clause-fixed g c place = c.add_block.ensures.fixed place ∙ c.make_slot.ensures.fixed place
+pub returns-in_default-place-clause-nonrelocatable : goal.returns-in_default-place-clause-nonrelocatable
+returns-in_default-place-clause-nonrelocatable g c place = c.add_block.ensures.nonrelocatable place ∙ c.make_slot.ensures.nonrelocatable place
 
-pub returns-clause-fixed : goal.returns-clause-fixed
-returns-clause-fixed g c place = c.add_block.ensures.fixed place ∙ c.make_slot.ensures.fixed place
+pub returns-clause-nonrelocatable : goal.returns-clause-nonrelocatable
+returns-clause-nonrelocatable g c place = c.add_block.ensures.nonrelocatable place ∙ c.make_slot.ensures.nonrelocatable place
 
 pub returns-in_default-clause-moves : goal.returns-in_default-clause-moves
 returns-in_default-clause-moves g c =

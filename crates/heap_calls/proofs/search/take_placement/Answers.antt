@@ -1,10 +1,10 @@
 use Rattle.std.proofs.Common.{◌≡◌, Some, sym, ◌∙◌, ap, subst, refl}
-use Rattle.block_store.specs.Block.{is_room, tidy, is_relocatable, is_fixed}
+use Rattle.block_store.specs.Block.{is_room, tidy, is_relocatable, is_nonrelocatable}
 use Rattle.block_store.specs.Room.{spot}
 use Rattle.block_store.specs.Run.{settle, with_run, has, has_free}
 use Rattle.block_store.proofs.Zone.Absence.{none-purged, none-settled}
 use Rattle.block_store.specs.Sparing.{purged}
-use Rattle.heap_calls.proofs.Room.Staying.{fixed-purged, fixed-run, none-settle}
+use Rattle.heap_calls.proofs.Room.Staying.{nonrelocatable-purged, nonrelocatable-run, none-settle}
 use Rattle.heap_calls.specs.Inner.Search.{FindsPlacement}
 use Rattle.heap_calls.specs.declared.search.Placement.{Placement}
 use Rattle.heap_calls.specs.declared.search.Placement.TheVariants as see
@@ -54,17 +54,17 @@ returns-in-Some-clause-kept g c number none =
     (none-purged (is_relocatable number) (λ n. refl) c.args.purges c.args.sparing (g.S.BlockStore.zone c.args.store.now)
     none)
 
-pub returns-in-Free-clause-fixed : goal.returns-in-Free-clause-fixed
-returns-in-Free-clause-fixed g c place =
-    ap (has (is_fixed place)) c.purge.ensures.zone ∙ fixed-purged c.args.purges c.args.sparing
+pub returns-in-Free-clause-nonrelocatable : goal.returns-in-Free-clause-nonrelocatable
+returns-in-Free-clause-nonrelocatable g c place =
+    ap (has (is_nonrelocatable place)) c.purge.ensures.zone ∙ nonrelocatable-purged c.args.purges c.args.sparing
     (g.S.BlockStore.zone c.args.store.now) place
 
-pub returns-in-Some-clause-fixed : goal.returns-in-Some-clause-fixed
-returns-in-Some-clause-fixed g c place =
+pub returns-in-Some-clause-nonrelocatable : goal.returns-in-Some-clause-nonrelocatable
+returns-in-Some-clause-nonrelocatable g c place =
     let zone = purged c.args.purges c.args.sparing (g.S.BlockStore.zone c.args.store.now) in
-    let k = settled g (goal.at.returns-in-Some-clause-fixed g c).After-settle in
-    ap (has (is_fixed place)) k.2 ∙ fixed-run settle none-settle (has_free c.args.bytes) zone k.0 k.1 place
-    ∙ fixed-purged c.args.purges c.args.sparing (g.S.BlockStore.zone c.args.store.now) place
+    let k = settled g (goal.at.returns-in-Some-clause-nonrelocatable g c).After-settle in
+    ap (has (is_nonrelocatable place)) k.2 ∙ nonrelocatable-run settle none-settle (has_free c.args.bytes) zone k.0 k.1 place
+    ∙ nonrelocatable-purged c.args.purges c.args.sparing (g.S.BlockStore.zone c.args.store.now) place
 
 pub returns-in-Free-clause-moves : goal.returns-in-Free-clause-moves
 returns-in-Free-clause-moves g c =

@@ -1,14 +1,14 @@
 use Rattle.std.proofs.Common.{◌≡◌, ◌<◌, ◌≤◌, Some, sym, ◌∙◌, ap, subst, Option, Bool, Result, Ok, Err, arith}
 use Rattle.std.specs.Option.{IsSomeAnd}
-use Rattle.block_store.specs.Block.{is_relocatable, is_fixed, resized, size as size_of}
+use Rattle.block_store.specs.Block.{is_relocatable, is_nonrelocatable, resized, size as size_of}
 use Rattle.block_store.specs.Sparing.{spared}
 use Rattle.block_store.specs.Run.{has, in_run}
 use Rattle.block_store.specs.Room.{Spot, filled}
 use Rattle.heap_calls.proofs.Numbering.Answering.{at_place}
 use Rattle.heap_calls.proofs.Sizes.Resizing.{stands-still, moves, searches-still, searches-moved, is-to-grow, is-to-fit}
 use Rattle.heap_calls.proofs.Sizes.Resizing.{grown-done}
-use Rattle.heap_calls.proofs.Numbering.Changing.{fixed-at}
-use Rattle.heap_calls.proofs.Room.Staying.{fixed-filled, alike-resized}
+use Rattle.heap_calls.proofs.Numbering.Changing.{nonrelocatable-at}
+use Rattle.heap_calls.proofs.Room.Staying.{nonrelocatable-filled, alike-resized}
 use Rattle.heap_calls.specs.Moves.{size_moves}
 use Rattle.heap_calls.proofs.Room.MoveCounts.{packs-none, cut-moves, still-moves, moved-moves}
 use Rattle.heap_calls.proofs.sizing.resize_block.Goals as goal
@@ -63,8 +63,8 @@ returns-then-can_move-clause-searches g c =
     k.2
     c.requires.fits more c.grow_movable.ensures.searches
 
-pub returns-then-bytes-bytes_of-clause-fixed : goal.returns-then-bytes-bytes_of-clause-fixed
-returns-then-bytes-bytes_of-clause-fixed g c =
+pub returns-then-bytes-bytes_of-clause-nonrelocatable : goal.returns-then-bytes-bytes_of-clause-nonrelocatable
+returns-then-bytes-bytes_of-clause-nonrelocatable g c =
     let zone = g.S.BlockStore.zone c.args.store.now in
     let s = c.requires.found.0 in
     let zone' = g.S.BlockStore.zone c.resize.new.self in
@@ -73,8 +73,8 @@ returns-then-bytes-bytes_of-clause-fixed g c =
     (sym c.phys.ensures ∙ c.in-Some.is) c.bytes_of.ensures c.if-bytes-bytes_of.true in
     let done = at_place c.args.place zone s (λ s. size_of (resized c.args.size s.here) ≤ size_of s.here → zone'
     ≡ filled (resized c.args.size s.here) s) c.requires.found.2 c.in_ok-resize.ensures.cut in
-    λ place. ap (has (is_fixed place)) (done less) ∙ fixed-at c.args.place zone (filled new s) s c.requires.found.2
-    (fixed-filled new s (alike-resized c.args.size s.here)) place
+    λ place. ap (has (is_nonrelocatable place)) (done less) ∙ nonrelocatable-at c.args.place zone (filled new s) s c.requires.found.2
+    (nonrelocatable-filled new s (alike-resized c.args.size s.here)) place
 
 pub returns-in_err-resize-clause-moves : goal.returns-in_err-resize-clause-moves
 returns-in_err-resize-clause-moves g c =

@@ -2,7 +2,7 @@ use Rattle.std.proofs.Common.{◌≡◌, ◌+◌, ◌==◌, ◌∙◌, ap, cond,
 use Rattle.heap_words.specs.Headers.{tag_number}
 use Rattle.heap_words.specs.Words.{word, word_at, header}
 use Rattle.windows.specs.Writes.{written}
-use Rattle.block_store.specs.Block.{Fixed}
+use Rattle.block_store.specs.Block.{Nonrelocatable}
 use Rattle.zone_bytes.specs.Layout.{flag_word}
 use Rattle.zone_bytes.proofs.Tiles.Tags.{tag-small}
 use Rattle.zone_bytes.proofs.Places.Stepped.{next-header}
@@ -10,12 +10,12 @@ use Rattle.zone_bytes.proofs.Places.HeaderTells.{size-at}
 use Rattle.zone_bytes.proofs.Blocks.Adopted.{length-at}
 use Rattle.zone_bytes.proofs.adopting.adopt.Goals as goal
 
-pub read_header-fixed-requires-clause-within : goal.read_header-fixed-requires-clause-within
-read_header-fixed-requires-clause-within c =
+pub read_header-nonrelocatable-requires-clause-within : goal.read_header-nonrelocatable-requires-clause-within
+read_header-nonrelocatable-requires-clause-within c =
     let n = next-header c.args.place c.args.part.now.bytes c.requires.way c.requires.some in (n.even, n.fits)
 
-pub read_header-fixed-requires-clause-tag : goal.read_header-fixed-requires-clause-tag
-read_header-fixed-requires-clause-tag c =
+pub read_header-nonrelocatable-requires-clause-tag : goal.read_header-nonrelocatable-requires-clause-tag
+read_header-nonrelocatable-requires-clause-tag c =
     (next-header c.args.place c.args.part.now.bytes c.requires.way c.requires.some).tag
 
 pub write_header-requires-clause-within : goal.write_header-requires-clause-within
@@ -26,10 +26,10 @@ pub returns-clause-bytes : goal.returns-clause-bytes
 returns-clause-bytes c id content above e =
     let a = c.args in
     let xs = a.part.now.bytes in
-    let h = c.read_header-fixed.result in
-    let t = c.read_header-fixed.ensures in
+    let h = c.read_header-nonrelocatable.result in
+    let t = c.read_header-nonrelocatable.ensures in
     let size = size-at a.place xs c.requires.way c.requires.some h.size (tag_number h.tag) t.first t.size
-    (tag-small h.tag) (Fixed id content) above e in
+    (tag-small h.tag) (Nonrelocatable id content) above e in
     let long = t.logical ∙ length-at a.place xs c.requires.way id content above e in
     let is : ℕ = cond (word_at a.slot xs == 18) 32 0 in
     let flags : c.flag_bits.result + c.kept_flags-resource.result ≡ flag_word a.flags (word_at a.slot xs == 18) =

@@ -1,6 +1,6 @@
 use Rattle.std.proofs.Common.{◌+◌, ap, subst, arith}
 use Rattle.zone_bytes.specs.Splicing.{SameOutside}
-use Rattle.zone_bytes.proofs.Placed.FixedCarved.{roomy}
+use Rattle.zone_bytes.proofs.Placed.NonrelocatableCarved.{roomy}
 use Rattle.zone_bytes.proofs.Placed.MastersCarved.{first-fits, may-master, masters-inside, masters-lays-if}
 use Rattle.zone_bytes.proofs.mastering.add_masters.Goals as goal
 

@@ -1,7 +1,7 @@
 use Rattle.std.proofs.Common.{ap}
 use Rattle.std.proofs.lemmas.Result.{on_err_weaker}
 use Rattle.block_store.specs.Inner.ListStore.{blocks_of}
-use Rattle.block_store.proofs.Nonrelocatable.FixedBlocks.{lawful-masters, slots-more}
+use Rattle.block_store.proofs.Nonrelocatable.Blocks.{lawful-masters, slots-more}
 use Rattle.block_store.proofs.list_store.ListStoreBlockStore.add_masters.Goals as goal
 
 pub invariant_of-self : goal.invariant_of-self

@@ -4,10 +4,10 @@ use Rattle.block_store.specs.Inner.ListStore.{block_of}
 use Rattle.block_store.proofs.Zone.Spots.{at_entry, content-other}
 use Rattle.block_store.proofs.list_store.ListStoreBlockStore.bytes.Goals as goal
 
-pub returns-in-Fixed : goal.returns-in-Fixed
-returns-in-Fixed c = at_entry c.args.self.now.blocks.items _ c.args.place c.in-Some.i c.index.result.now
+pub returns-in-Nonrelocatable : goal.returns-in-Nonrelocatable
+returns-in-Nonrelocatable c = at_entry c.args.self.now.blocks.items _ c.args.place c.in-Some.i c.index.result.now
     (λ s. c.as_slice.result.now ≡ content_of s.here) c.deref.ensures.value c.in-Some.ensures c.index.ensures
-    (c.as_slice.ensures.value ∙ ap (λ e. content_of (block_of e)) (sym c.in-Fixed.is))
+    (c.as_slice.ensures.value ∙ ap (λ e. content_of (block_of e)) (sym c.in-Nonrelocatable.is))
 
 pub returns-in-Relocatable : goal.returns-in-Relocatable
 returns-in-Relocatable c = at_entry c.args.self.now.blocks.items _ c.args.place c.in-Some.i c.index.result.now
@@ -18,4 +18,4 @@ returns-in-Relocatable c = at_entry c.args.self.now.blocks.items _ c.args.place 
 pub returns-in_default-index : goal.returns-in_default-index
 returns-in_default-index c = at_entry c.args.self.now.blocks.items _ c.args.place c.in-Some.i c.index.result.now
     (λ s. [] ≡ content_of s.here) c.deref.ensures.value c.in-Some.ensures c.index.ensures
-    (content-other c.index.result.now c.in_default-index.not-Fixed c.in_default-index.not-Relocatable)
+    (content-other c.index.result.now c.in_default-index.not-Nonrelocatable c.in_default-index.not-Relocatable)

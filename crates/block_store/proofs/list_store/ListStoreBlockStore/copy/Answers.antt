@@ -1,6 +1,6 @@
 use Rattle.std.proofs.Common.{length}
 use Rattle.block_store.specs.Inner.ListStore.{blocks_of, slots_of}
-use Rattle.block_store.proofs.Nonrelocatable.FixedBlocks.{lawful-copied}
+use Rattle.block_store.proofs.Nonrelocatable.Blocks.{lawful-copied}
 use Rattle.block_store.proofs.list_store.ListStoreBlockStore.copy.Goals as goal
 
 pub invariant_of-self : goal.invariant_of-self

@@ -1,12 +1,12 @@
 use Rattle.std.proofs.Common.{length}
 use Rattle.block_store.specs.Inner.ListStore.{blocks_of, slots_of}
-use Rattle.block_store.proofs.Nonrelocatable.FixedBlocks.{lawful-unfixed}
+use Rattle.block_store.proofs.Nonrelocatable.Blocks.{lawful-nonrelocatable_freed}
 use Rattle.block_store.proofs.list_store.ListStoreBlockStore.free_at.Goals as goal
 
 pub invariant_of-self : goal.invariant_of-self
 invariant_of-self c =
     let self = c.args.self.now in
-    let lawful = lawful-unfixed (slots_of self.slots.items) self.bytes (length self.slots.items)
+    let lawful = lawful-nonrelocatable_freed (slots_of self.slots.items) self.bytes (length self.slots.items)
     (blocks_of self.blocks.items) (blocks_of c.free_place.new.entries.items) c.args.place (record {
       covered = self.covered;
       masters = self.masters;

@@ -13,7 +13,7 @@ pub invariant_of-self : goal.invariant_of-self
 invariant_of-self g c =
     let a = c.self.inside in
     agrees-more (g.S.BlockStore.zone c.make_masters.new.store) (g.S.BlockStore.rest a.store)
-    (g.S.BlockStore.rest c.make_masters.new.store) a.names.items c.self.invariant c.make_masters.ensures.fixed
+    (g.S.BlockStore.rest c.make_masters.new.store) a.names.items c.self.invariant c.make_masters.ensures.nonrelocatable
     c.in_err-room.ensures.kept
 
 pub returns-in_err-room-clause-kept : goal.returns-in_err-room-clause-kept
@@ -29,7 +29,7 @@ made : (g : Over) (c : In_ok-room g) → Ends add_masters (g.S.BlockStore.zone c
     (served_answer (is_some c.in_ok-room.room.place)) (g.S.BlockStore.zone c.make_masters.new.store)
     (g.S.BlockStore.rest c.make_masters.new.store) c.self.inside.names.items
 made g c = masters-ends _ _ _ (g.met.S.BlockStore.masters c.self.inside.store) c.self.invariant _ _
-    c.make_masters.ensures.fixed c.in_ok-room.room.place c.in_ok-room.ensures.made
+    c.make_masters.ensures.nonrelocatable c.in_ok-room.room.place c.in_ok-room.ensures.made
 
 pub invariant_of-self-2 : goal.invariant_of-self-2
 invariant_of-self-2 g c = (made g (goal.at.invariant_of-self-2 g c).In_ok-room).agrees

@@ -28,7 +28,7 @@ returns-in_err-source-clause-answer g c =
     c.args.from _ c.deref.ensures.value c.in_err-source.ensures (hand-none c.args.from c.args.to _))
 
 pub invariant_of-self : goal.invariant_of-self
-invariant_of-self g c = agrees-kept _ _ _ _ _ c.self.invariant c.append_block.ensures.fixed c.append_block.ensures.rest
+invariant_of-self g c = agrees-kept _ _ _ _ _ c.self.invariant c.append_block.ensures.nonrelocatable c.append_block.ensures.rest
 
 pub returns-in_err-held-clause-answer : goal.returns-in_err-held-clause-answer
 returns-in_err-held-clause-answer g c =
@@ -58,5 +58,5 @@ returns-clause-answer g c =
     c.in_ok-grown.ensures.full c.append_block.ensures.moves)
 
 pub invariant_of-self-2 : goal.invariant_of-self-2
-invariant_of-self-2 g c = agrees-kept _ _ _ _ _ c.self.invariant c.append_block.ensures.fixed
+invariant_of-self-2 g c = agrees-kept _ _ _ _ _ c.self.invariant c.append_block.ensures.nonrelocatable
     c.append_block.ensures.rest

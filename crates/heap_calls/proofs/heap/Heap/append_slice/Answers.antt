@@ -21,7 +21,7 @@ returns-in_err-held-clause-answer g c =
     c.args.handle _ c.deref.ensures.value c.in_err-held.ensures (slice-none c.args.handle x _))
 
 pub invariant_of-self : goal.invariant_of-self
-invariant_of-self g c = agrees-kept _ _ _ _ _ c.self.invariant c.append_bytes.ensures.fixed c.append_bytes.ensures.rest
+invariant_of-self g c = agrees-kept _ _ _ _ _ c.self.invariant c.append_bytes.ensures.nonrelocatable c.append_bytes.ensures.rest
 
 pub returns-clause-answer : goal.returns-clause-answer
 returns-clause-answer g c =
@@ -38,5 +38,5 @@ returns-clause-answer g c =
     c.in_ok-grown.ensures.full c.append_bytes.ensures.moves)
 
 pub invariant_of-self-2 : goal.invariant_of-self-2
-invariant_of-self-2 g c = agrees-kept _ _ _ _ _ c.self.invariant c.append_bytes.ensures.fixed
+invariant_of-self-2 g c = agrees-kept _ _ _ _ _ c.self.invariant c.append_bytes.ensures.nonrelocatable
     c.append_bytes.ensures.rest

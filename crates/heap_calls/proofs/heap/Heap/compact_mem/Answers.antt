@@ -10,7 +10,7 @@ use Rattle.heap_calls.specs.Inner.Numbered.{memory_of, handle_number, pointer_nu
 use Rattle.heap_calls.proofs.Numbering.Changing.{agrees-kept, unmoved, unmoved-is}
 use Rattle.heap_calls.proofs.Room.MoveCounts.{moving-done}
 use Rattle.heap_calls.proofs.Numbering.MoveNames.{settled_falls-rename}
-use Rattle.heap_calls.proofs.Room.Staying.{fixed-settled, fixed-same, fixed-then}
+use Rattle.heap_calls.proofs.Room.Staying.{nonrelocatable-settled, nonrelocatable-same, nonrelocatable-then}
 use Rattle.heap_calls.proofs.Numbering.Largest.{compact_mem-done, settled_stretches-rename}
 use Rattle.heap_calls.proofs.Numbering.PurgeTrials.{searching-done, runs_settled-few}
 use Rattle.heap_calls.proofs.Room.Stretches.{stretches-le}
@@ -63,5 +63,5 @@ invariant_of-self g c =
     let zone' = g.S.BlockStore.zone c.compact-stretches.new.store in
     agrees-kept zone zone' (g.S.BlockStore.rest a.store) (g.S.BlockStore.rest c.compact-stretches.new.store)
     a.names.items c.self.invariant
-    (fixed-then zone (compacted c.phys.result zone) zone' (fixed-settled (runs_settled c.phys.result zone) zone)
-    (fixed-same (compacted c.phys.result zone) zone' c.compact-stretches.ensures.zone)) c.compact-stretches.ensures.rest
+    (nonrelocatable-then zone (compacted c.phys.result zone) zone' (nonrelocatable-settled (runs_settled c.phys.result zone) zone)
+    (nonrelocatable-same (compacted c.phys.result zone) zone' c.compact-stretches.ensures.zone)) c.compact-stretches.ensures.rest

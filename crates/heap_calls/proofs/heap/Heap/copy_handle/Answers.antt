@@ -74,7 +74,7 @@ made : (g : Over) (c : In_ok-made g) → Copied (g.S.BlockStore.zone c.self.insi
     (g.S.BlockStore.zone c.copy_block.new.store) (g.S.BlockStore.rest c.copy_block.new.store)
 made g c from =
     copy-names _ _ _ (g.met.S.BlockStore.masters c.self.inside.store) c.self.invariant c.args.handle c.in_ok-found.found
-    _ from _ _ c.copy_block.ensures.fixed c.in_ok-made.made.slot c.in_ok-made.ensures.answer
+    _ from _ _ c.copy_block.ensures.nonrelocatable c.in_ok-made.made.slot c.in_ok-made.ensures.answer
 
 pub overflow_cast-size : goal.overflow_cast-size
 overflow_cast-size g c = let few = (source g c).few in omega arith
@@ -90,7 +90,7 @@ returns-in_err-made-clause-kept g c host =
 
 pub invariant_of-self-in_err-made : goal.invariant_of-self-in_err-made
 invariant_of-self-in_err-made g c = rw c.in_ok-reserve.ensures.items
-    (agrees-more _ _ _ _ c.self.invariant c.copy_block.ensures.fixed c.in_err-made.ensures.kept)
+    (agrees-more _ _ _ _ c.self.invariant c.copy_block.ensures.nonrelocatable c.in_err-made.ensures.kept)
 
 pub returns-clause-answer : goal.returns-clause-answer
 returns-clause-answer g c =

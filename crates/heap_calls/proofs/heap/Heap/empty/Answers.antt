@@ -4,7 +4,7 @@ use Rattle.heap_calls.proofs.Numbering.Loosening.{loose_in, not_emptied, empty_h
 use Rattle.block_store.specs.Block.{tidy, is_relocatable}
 use Rattle.block_store.specs.Grow.{freed}
 use Rattle.heap_calls.proofs.Numbering.Changing.{agrees-same}
-use Rattle.heap_calls.proofs.Room.Staying.{fixed-released, fixed-same, fixed-then}
+use Rattle.heap_calls.proofs.Room.Staying.{nonrelocatable-released, nonrelocatable-same, nonrelocatable-then}
 use Rattle.heap_calls.proofs.heap.Heap.empty.Goals as goal
 
 pub returns-in_err-slot-clause-answer : goal.returns-in_err-slot-clause-answer
@@ -35,5 +35,5 @@ invariant_of-self g c =
     let left = tidy (freed (is_relocatable c.in_ok-slot.slot) zone) in
     agrees-same zone zone' (g.S.BlockStore.rest a.store) (g.S.BlockStore.rest c.release.new.self) a.names.items
     c.self.invariant
-    (fixed-then zone left zone' (fixed-released c.in_ok-slot.slot zone) (fixed-same left zone' c.release.ensures.zone))
+    (nonrelocatable-then zone left zone' (nonrelocatable-released c.in_ok-slot.slot zone) (nonrelocatable-same left zone' c.release.ensures.zone))
     c.release.ensures.rest

@@ -16,7 +16,7 @@ returns-in_err-reserve-clause-host g c host = inr (rw c.reserve.ensures.items c.
 
 pub invariant_of-self-in_err-made : goal.invariant_of-self-in_err-made
 invariant_of-self-in_err-made g c = rw c.in_ok-reserve.ensures.items
-    (agrees-more _ _ _ _ c.self.invariant c.fill_block.ensures.fixed c.in_err-made.ensures.kept)
+    (agrees-more _ _ _ _ c.self.invariant c.fill_block.ensures.nonrelocatable c.in_err-made.ensures.kept)
 
 pub returns-in_err-made-clause-kept : goal.returns-in_err-made-clause-kept
 returns-in_err-made-clause-kept g c host =
@@ -28,7 +28,7 @@ made : (g : Over) (c : In_ok-made g) → Names (new_filled Plain c.args.flags c.
     (g.S.BlockStore.zone c.self.inside.store) (g.S.BlockStore.rest c.self.inside.store) c.self.inside.names.items
     c.in_ok-made.made.slot (g.S.BlockStore.zone c.fill_block.new.store) (g.S.BlockStore.rest c.fill_block.new.store)
 made g c = filled-names _ _ _ (g.met.S.BlockStore.masters c.self.inside.store) c.self.invariant _ _
-    c.fill_block.ensures.fixed c.args.flags c.args.bytes.now c.in_ok-made.made.slot c.in_ok-made.ensures.answer
+    c.fill_block.ensures.nonrelocatable c.args.flags c.args.bytes.now c.in_ok-made.made.slot c.in_ok-made.ensures.answer
 
 pub invariant_of-self-2 : goal.invariant_of-self-2
 invariant_of-self-2 g c = rw (c.name_handle.ensures.entered, c.in_ok-reserve.ensures.items)

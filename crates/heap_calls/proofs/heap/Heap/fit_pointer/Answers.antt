@@ -25,31 +25,31 @@ returns-in_err-target-clause-answer g c =
     a.log e c.args.pointer c.args.size c.self.view_is
     (target_in a.names.items _ c.args.pointer (Err e) c.deref.ensures.value c.in_err-target.ensures))
 
-pub fit_fixed-requires : goal.fit_fixed-requires
-fit_fixed-requires g c =
-    let there = target g (goal.at.fit_fixed-requires g c).In_ok-target in
+pub fit_nonrelocatable-requires : goal.fit_nonrelocatable-requires
+fit_nonrelocatable-requires g c =
+    let there = target g (goal.at.fit_nonrelocatable-requires g c).In_ok-target in
     (there.s, there.found, there.at, there.distance)
 
 pub invariant_of-self : goal.invariant_of-self
 invariant_of-self g c =
     let a = c.self.inside in
-    agrees-same (g.S.BlockStore.zone a.store) (g.S.BlockStore.zone c.fit_fixed.new.store) (g.S.BlockStore.rest a.store)
-    (g.S.BlockStore.rest c.fit_fixed.new.store) a.names.items c.self.invariant c.fit_fixed.ensures.fixed
-    c.fit_fixed.ensures.rest
+    agrees-same (g.S.BlockStore.zone a.store) (g.S.BlockStore.zone c.fit_nonrelocatable.new.store) (g.S.BlockStore.rest a.store)
+    (g.S.BlockStore.rest c.fit_nonrelocatable.new.store) a.names.items c.self.invariant c.fit_nonrelocatable.ensures.nonrelocatable
+    c.fit_nonrelocatable.ensures.rest
 
 pub invariant_of-self-2 : goal.invariant_of-self-2
 invariant_of-self-2 g c =
     let a = c.self.inside in
-    agrees-same (g.S.BlockStore.zone a.store) (g.S.BlockStore.zone c.fit_fixed.new.store) (g.S.BlockStore.rest a.store)
-    (g.S.BlockStore.rest c.fit_fixed.new.store) a.names.items c.self.invariant c.fit_fixed.ensures.fixed
-    c.fit_fixed.ensures.rest
+    agrees-same (g.S.BlockStore.zone a.store) (g.S.BlockStore.zone c.fit_nonrelocatable.new.store) (g.S.BlockStore.rest a.store)
+    (g.S.BlockStore.rest c.fit_nonrelocatable.new.store) a.names.items c.self.invariant c.fit_nonrelocatable.ensures.nonrelocatable
+    c.fit_nonrelocatable.ensures.rest
 
 pub returns-clause-answer : goal.returns-clause-answer
 returns-clause-answer g c =
     let a = c.self.inside in
     rw (c.account.ensures.reply, c.account.ensures.counted)
-    (set_pointer_size-done c.args.self.now (g.S.BlockStore.zone a.store) (g.S.BlockStore.zone c.fit_fixed.new.store)
-    (g.S.BlockStore.rest a.store) (g.S.BlockStore.rest c.fit_fixed.new.store) a.names.items a.log c.args.pointer
+    (set_pointer_size-done c.args.self.now (g.S.BlockStore.zone a.store) (g.S.BlockStore.zone c.fit_nonrelocatable.new.store)
+    (g.S.BlockStore.rest a.store) (g.S.BlockStore.rest c.fit_nonrelocatable.new.store) a.names.items a.log c.args.pointer
     c.in_ok-target.target c.args.size c.in_ok-grown.grown.searches c.in_ok-grown.grown.done c.self.view_is
     (target g (goal.at.returns-clause-answer g c).In_ok-target) c.self.invariant.lone (omega arith)
-    c.fit_fixed.ensures.rest c.in_ok-grown.ensures.searches c.in_ok-grown.ensures.zone c.in_ok-grown.ensures.full)
+    c.fit_nonrelocatable.ensures.rest c.in_ok-grown.ensures.searches c.in_ok-grown.ensures.zone c.in_ok-grown.ensures.full)

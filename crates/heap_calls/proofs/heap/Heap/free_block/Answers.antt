@@ -1,7 +1,7 @@
 use Rattle.std.proofs.Common.{◌≡◌, true, sym, ◌∙◌, ap, subst, arith, Option, List, Ok, slice_set}
 use Rattle.std.proofs.lemmas.Option.{slice_get_within}
 use Rattle.std.specs.Option.{IsSomeAnd}
-use Rattle.block_store.specs.Block.{Block, is_fixed}
+use Rattle.block_store.specs.Block.{Block, is_nonrelocatable}
 use Rattle.block_store.specs.Room.{Spot}
 use Rattle.heap_calls.specs.Inner.Numbered.{state_of, Agrees}
 use Rattle.heap_calls.specs.Pointers.{dispose_pointer}
@@ -24,8 +24,8 @@ target g c =
 pub free_at-requires : goal.free_at-requires
 free_at-requires g c =
     let there = target g (goal.at.free_at-requires g c).In_ok-target in
-    let P : Option Spot → Type 0 = λ o. IsSomeAnd o (λ s. is_fixed c.in_ok-target.target.place s.here ≡ true) in
-    subst P (sym there.at) there.fixed
+    let P : Option Spot → Type 0 = λ o. IsSomeAnd o (λ s. is_nonrelocatable c.in_ok-target.target.place s.here ≡ true) in
+    subst P (sym there.at) there.nonrelocatable
 
 pub index_mut-requires : goal.index_mut-requires
 index_mut-requires g c =

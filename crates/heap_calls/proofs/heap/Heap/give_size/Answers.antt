@@ -33,7 +33,7 @@ returns-clause-answer g c =
     c.in_ok-grown.ensures.full c.fit_block.ensures.moves)
 
 pub invariant_of-self : goal.invariant_of-self
-invariant_of-self g c = agrees-kept _ _ _ _ _ c.self.invariant c.fit_block.ensures.fixed c.fit_block.ensures.rest
+invariant_of-self g c = agrees-kept _ _ _ _ _ c.self.invariant c.fit_block.ensures.nonrelocatable c.fit_block.ensures.rest
 
 pub invariant_of-self-2 : goal.invariant_of-self-2
-invariant_of-self-2 g c = agrees-kept _ _ _ _ _ c.self.invariant c.fit_block.ensures.fixed c.fit_block.ensures.rest
+invariant_of-self-2 g c = agrees-kept _ _ _ _ _ c.self.invariant c.fit_block.ensures.nonrelocatable c.fit_block.ensures.rest

@@ -16,7 +16,7 @@ named : (g : Over) (c : In_ok-taken g) → Names new_empty_handle (g.S.BlockStor
     (g.S.BlockStore.rest c.self.inside.store) c.self.inside.names.items c.in_ok-taken.taken.slot
     (g.S.BlockStore.zone c.make_slot.new.store) (g.S.BlockStore.rest c.make_slot.new.store)
 named g c = empty-names _ _ _ (g.met.S.BlockStore.masters c.self.inside.store) c.self.invariant _ _
-    c.make_slot.ensures.fixed c.in_ok-taken.taken.slot c.in_ok-taken.ensures.slot
+    c.make_slot.ensures.nonrelocatable c.in_ok-taken.taken.slot c.in_ok-taken.ensures.slot
 
 pub returns-in_err-taken-clause-kept : goal.returns-in_err-taken-clause-kept
 returns-in_err-taken-clause-kept g c host =
@@ -42,4 +42,4 @@ invariant_of-self-2 g c = rw (c.name_handle.ensures.entered, c.in_ok-reserve.ens
 
 pub invariant_of-self-in_err-taken : goal.invariant_of-self-in_err-taken
 invariant_of-self-in_err-taken g c = rw c.in_ok-reserve.ensures.items
-    (agrees-more _ _ _ _ c.self.invariant c.make_slot.ensures.fixed c.in_err-taken.ensures.kept)
+    (agrees-more _ _ _ _ c.self.invariant c.make_slot.ensures.nonrelocatable c.in_err-taken.ensures.kept)

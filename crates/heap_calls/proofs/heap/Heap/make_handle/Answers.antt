@@ -14,7 +14,7 @@ returns-in_err-reserve-clause-host g c host = inr (rw c.reserve.ensures.items c.
 
 pub invariant_of-self-in_err-made : goal.invariant_of-self-in_err-made
 invariant_of-self-in_err-made g c = rw c.in_ok-reserve.ensures.items
-    (agrees-more _ _ _ _ c.self.invariant c.new_block.ensures.fixed c.in_err-made.ensures.kept)
+    (agrees-more _ _ _ _ c.self.invariant c.new_block.ensures.nonrelocatable c.in_err-made.ensures.kept)
 
 pub returns-in_err-made-clause-kept : goal.returns-in_err-made-clause-kept
 returns-in_err-made-clause-kept g c host =
@@ -26,7 +26,7 @@ made : (g : Over) (c : In_ok-made g) → Names (new_handle c.args.size) (g.S.Blo
     (g.S.BlockStore.rest c.self.inside.store) c.self.inside.names.items c.in_ok-made.made.slot
     (g.S.BlockStore.zone c.new_block.new.store) (g.S.BlockStore.rest c.new_block.new.store)
 made g c = new-names _ _ _ (g.met.S.BlockStore.masters c.self.inside.store) c.self.invariant _ _
-    c.new_block.ensures.fixed c.args.size c.in_ok-made.made.slot c.in_ok-made.ensures.answer
+    c.new_block.ensures.nonrelocatable c.args.size c.in_ok-made.made.slot c.in_ok-made.ensures.answer
 
 pub invariant_of-self-2 : goal.invariant_of-self-2
 invariant_of-self-2 g c = rw (c.name_handle.ensures.entered, c.in_ok-reserve.ensures.items)

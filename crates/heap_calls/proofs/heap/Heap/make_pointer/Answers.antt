@@ -6,7 +6,7 @@ use Rattle.heap_calls.specs.declared.anchor.Anchor.{Anchor}
 use Rattle.heap_calls.specs.declared.anchor.Anchor.TheVariants.{Pointer}
 use Rattle.heap_calls.specs.Pointers.{new_pointer}
 use Rattle.heap_calls.specs.Searches.{new_pointer_searches}
-use Rattle.heap_calls.specs.Inner.NewPointer.{IsNewFixed}
+use Rattle.heap_calls.specs.Inner.NewPointer.{IsNewNonrelocatable}
 use Rattle.heap_calls.specs.Inner.Numbered.{state_of, memory_of}
 use Rattle.heap_calls.proofs.NewBlocks.NewHandles.{searched-done}
 use Rattle.heap_calls.proofs.Numbering.Changing.{agrees-same, kept, memory-same}
@@ -24,24 +24,24 @@ returns-in_default-clause-answer g c =
     let a = c.self.inside in
     let zone = g.S.BlockStore.zone a.store in
     let rest = g.S.BlockStore.rest a.store in
-    let zone' = g.S.BlockStore.zone c.add_fixed.new.store in
-    let rest' = g.S.BlockStore.rest c.add_fixed.new.store in
+    let zone' = g.S.BlockStore.zone c.add_nonrelocatable.new.store in
+    let rest' = g.S.BlockStore.rest c.add_nonrelocatable.new.store in
     let es = a.names.items in
-    let P : Option ℕ → Type 0 = λ o. IsNewFixed c.args.size zone o zone' in
+    let P : Option ℕ → Type 0 = λ o. IsNewNonrelocatable c.args.size zone o zone' in
     let none : P None = subst P c.in_default.is c.in_ok-room.ensures.put in
     searched-done (new_pointer c.args.size) (new_pointer_searches c.args.size) c.args.self.now zone zone rest rest es es
     a.log c.count.new.self (Err MEM_FULL) c.in_ok-room.room.searches c.self.view_is
     (new_pointer-refused c.args.size zone rest es none.1) refl refl
     (c.in_ok-room.ensures.searches ∙ sym (new_pointer_searches-is c.args.size zone rest es)) c.count.ensures
     ∙ ap (λ (m : Memory). (Err MEM_FULL, m))
-    (sym (memory-same zone rest rest' es c.count.new.self c.add_fixed.ensures.rest)
+    (sym (memory-same zone rest rest' es c.count.new.self c.add_nonrelocatable.ensures.rest)
     ∙ ap (λ z. memory_of z rest' es c.count.new.self) (sym none.0)
     ∙ ap (λ (l : List Anchor). memory_of zone' rest' l c.count.new.self)
     (sym {A = List Anchor} c.in_ok-reserve.ensures.items))
 
 pub invariant_of-self-in_err-room : goal.invariant_of-self-in_err-room
 invariant_of-self-in_err-room g c = rw c.in_ok-reserve.ensures.items
-    (agrees-same _ _ _ _ _ c.self.invariant c.in_err-room.ensures.fixed c.add_fixed.ensures.rest)
+    (agrees-same _ _ _ _ _ c.self.invariant c.in_err-room.ensures.nonrelocatable c.add_nonrelocatable.ensures.rest)
 
 -- the entries with the new pointer
 entered : (g : Over) (c : After-push_reserved g) → c.push_reserved.new.self.items ≡ c.self.inside.names.items
@@ -50,15 +50,15 @@ entered g c = c.push_reserved.ensures.items ∙ ap (λ l. l ++ Pointer c.in-Some
 
 pub invariant_of-self-2 : goal.invariant_of-self-2
 invariant_of-self-2 g c = rw (entered g (goal.at.invariant_of-self-2 g c).After-push_reserved)
-    (agrees-more _ _ _ _ _ c.args.size c.in-Some.place c.self.invariant (kept _ _ c.add_fixed.ensures.rest)
+    (agrees-more _ _ _ _ _ c.args.size c.in-Some.place c.self.invariant (kept _ _ c.add_nonrelocatable.ensures.rest)
     (rw c.in-Some.is at c.in_ok-room.ensures.put))
 
 pub returns-clause-answer : goal.returns-clause-answer
 returns-clause-answer g c =
-    let zone' = g.S.BlockStore.zone c.add_fixed.new.store in
-    let rest' = g.S.BlockStore.rest c.add_fixed.new.store in
+    let zone' = g.S.BlockStore.zone c.add_nonrelocatable.new.store in
+    let rest' = g.S.BlockStore.rest c.add_nonrelocatable.new.store in
     let a = c.self.inside in
-    let P : Option ℕ → Type 0 = λ o. IsNewFixed c.args.size (g.S.BlockStore.zone a.store) o zone' in
+    let P : Option ℕ → Type 0 = λ o. IsNewNonrelocatable c.args.size (g.S.BlockStore.zone a.store) o zone' in
     let put : P (Some c.in-Some.place) = subst P c.in-Some.is c.in_ok-room.ensures.put in
     let es' = a.names.items ++ Pointer c.in-Some.place ∷ [] in
     let n : length a.names.items ≡ c.len-number.result = omega arith in
@@ -66,9 +66,9 @@ returns-clause-answer g c =
     (g.S.BlockStore.zone a.store) zone' (g.S.BlockStore.rest a.store) rest' a.names.items es' a.log c.count.new.self
     (Ok c.len-number.result) c.in_ok-room.room.searches c.self.view_is
     (new_pointer-done (g.S.BlockStore.zone a.store) zone' (g.S.BlockStore.rest a.store) rest' a.names.items c.args.size
-    c.in-Some.place c.self.invariant (kept (g.S.BlockStore.rest a.store) rest' c.add_fixed.ensures.rest) put
+    c.in-Some.place c.self.invariant (kept (g.S.BlockStore.rest a.store) rest' c.add_nonrelocatable.ensures.rest) put
     ∙ ap (λ (k : ℕ). (Ok k, state_of zone' rest'.slots es')) n)
-    c.add_fixed.ensures.rest.window c.add_fixed.ensures.rest.moves
+    c.add_nonrelocatable.ensures.rest.window c.add_nonrelocatable.ensures.rest.moves
     (c.in_ok-room.ensures.searches ∙ sym (new_pointer_searches-is c.args.size (g.S.BlockStore.zone a.store)
     (g.S.BlockStore.rest a.store) a.names.items)) c.count.ensures
     ∙ ap (λ (l : List Anchor). (Ok c.len-number.result, memory_of zone' rest' l c.count.new.self))

@@ -13,7 +13,7 @@ use Rattle.block_store.specs.declared.sparing.Sparing.TheVariants as sparing
 use Rattle.heap_calls.proofs.Numbering.Changing.{agrees-kept, unmoved}
 use Rattle.heap_calls.proofs.Room.MoveCounts.{moving-done}
 use Rattle.heap_calls.proofs.Numbering.MoveNames.{purged_moves-rename}
-use Rattle.heap_calls.proofs.Room.Staying.{fixed-purged, fixed-settled, fixed-same, fixed-then}
+use Rattle.heap_calls.proofs.Room.Staying.{nonrelocatable-purged, nonrelocatable-settled, nonrelocatable-same, nonrelocatable-then}
 use Rattle.block_store.specs.Rest.{KeepsSlots}
 use Rattle.heap_calls.proofs.Numbering.Changing.{unmoved-is}
 use Rattle.heap_calls.proofs.heap.Heap.max_mem.Given.{Over}
@@ -66,8 +66,8 @@ invariant_of-self g c =
     let zone' = g.S.BlockStore.zone c.compact.new.store in
     let purges = c.purgeable-purges.result in
     agrees-kept zone zone' (g.S.BlockStore.rest a.store) (g.S.BlockStore.rest c.compact.new.store) a.names.items
-    c.self.invariant (fixed-then zone all zone' (fixed-then zone (purged purges sparing.Nothing zone) all
-    (fixed-purged purges sparing.Nothing zone) (fixed-same (purged purges sparing.Nothing zone) all
-    c.purge.ensures.zone)) (fixed-then all (compacted None all) zone' (fixed-settled (runs_settled None all) all)
-    (fixed-same (compacted None all) zone' c.compact.ensures.zone)))
+    c.self.invariant (nonrelocatable-then zone all zone' (nonrelocatable-then zone (purged purges sparing.Nothing zone) all
+    (nonrelocatable-purged purges sparing.Nothing zone) (nonrelocatable-same (purged purges sparing.Nothing zone) all
+    c.purge.ensures.zone)) (nonrelocatable-then all (compacted None all) zone' (nonrelocatable-settled (runs_settled None all) all)
+    (nonrelocatable-same (compacted None all) zone' c.compact.ensures.zone)))
     (kept g (goal.at.invariant_of-self g c).After-compact)

@@ -5,7 +5,7 @@ use Rattle.heap_calls.specs.Inner.Given.{seen_mover}
 use Rattle.heap_calls.specs.declared.anchor.Anchor.TheVariants.{Handle}
 use Rattle.heap_calls.proofs.Numbering.Changing.{agrees-same}
 use Rattle.heap_calls.proofs.Room.Searching.{at_run}
-use Rattle.heap_calls.proofs.Room.Staying.{fixed-run, fixed-same, fixed-then, none-high}
+use Rattle.heap_calls.proofs.Room.Staying.{nonrelocatable-run, nonrelocatable-same, nonrelocatable-then, none-high}
 use Rattle.heap_calls.proofs.Numbering.Hoisting.{seen-at, seen_mover-is, rest-same, run-found, hoist-allowed}
 use Rattle.heap_calls.proofs.Numbering.Hoisting.{hoisted-done, hoisted-none, move_h_hi-emptied, move_h_hi-locked}
 use Rattle.heap_calls.proofs.Numbering.Hoisting.{move_h_hi-done}
@@ -91,8 +91,8 @@ invariant_of-self g c =
     c.hoist.ensures.zone in
     agrees-same zone zone' (g.S.BlockStore.rest a.store) (g.S.BlockStore.rest c.hoist.new.self) a.names.items
     c.self.invariant
-    (fixed-then zone now zone' (fixed-run (high (is_relocatable slot)) (none-high (is_relocatable slot))
-    (has (is_relocatable slot)) zone found.0 found.1) (fixed-same now zone' done)) c.hoist.ensures.rest
+    (nonrelocatable-then zone now zone' (nonrelocatable-run (high (is_relocatable slot)) (none-high (is_relocatable slot))
+    (has (is_relocatable slot)) zone found.0 found.1) (nonrelocatable-same now zone' done)) c.hoist.ensures.rest
 
 pub returns-clause-answer : goal.returns-clause-answer
 returns-clause-answer g c =

@@ -9,7 +9,7 @@ use Rattle.heap_calls.proofs.Numbering.PurgeTrials.{purge_mem_searches-is}
 use Rattle.block_store.specs.Sparing.{purged}
 use Rattle.block_store.specs.declared.sparing.Sparing.TheVariants as sparing
 use Rattle.heap_calls.proofs.Numbering.Changing.{agrees-same}
-use Rattle.heap_calls.proofs.Room.Staying.{fixed-purged, fixed-same, fixed-then}
+use Rattle.heap_calls.proofs.Room.Staying.{nonrelocatable-purged, nonrelocatable-same, nonrelocatable-then}
 use Rattle.block_store.specs.Rest.{counted}
 use Rattle.heap_calls.proofs.NewBlocks.Naming.{is-served}
 use Rattle.heap_calls.proofs.heap.Heap.purge_for.Goals as goal
@@ -52,5 +52,5 @@ invariant_of-self g c =
     let purges = c.purges_for-purges.result in
     agrees-same zone zone' (g.S.BlockStore.rest a.store) (g.S.BlockStore.rest c.purge.new.self) a.names.items
     c.self.invariant
-    (fixed-then zone (purged purges sparing.Nothing zone) zone' (fixed-purged purges sparing.Nothing zone)
-    (fixed-same (purged purges sparing.Nothing zone) zone' c.purge.ensures.zone)) c.purge.ensures.rest
+    (nonrelocatable-then zone (purged purges sparing.Nothing zone) zone' (nonrelocatable-purged purges sparing.Nothing zone)
+    (nonrelocatable-same (purged purges sparing.Nothing zone) zone' c.purge.ensures.zone)) c.purge.ensures.rest

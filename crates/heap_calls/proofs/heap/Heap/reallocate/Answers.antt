@@ -60,11 +60,11 @@ invariant_of-self g c =
     let a = c.self.inside in
     agrees-kept (g.S.BlockStore.zone a.store) (g.S.BlockStore.zone c.renew_block.new.store)
     (g.S.BlockStore.rest a.store) (g.S.BlockStore.rest c.renew_block.new.store) a.names.items c.self.invariant
-    c.renew_block.ensures.fixed c.in_err-room.ensures.answer
+    c.renew_block.ensures.nonrelocatable c.in_err-room.ensures.answer
 
 pub invariant_of-self-2 : goal.invariant_of-self-2
 invariant_of-self-2 g c =
     let a = c.self.inside in
     agrees-kept (g.S.BlockStore.zone a.store) (g.S.BlockStore.zone c.renew_block.new.store)
     (g.S.BlockStore.rest a.store) (g.S.BlockStore.rest c.renew_block.new.store) a.names.items c.self.invariant
-    c.renew_block.ensures.fixed c.in_ok-room.ensures.answer.slots
+    c.renew_block.ensures.nonrelocatable c.in_ok-room.ensures.answer.slots

@@ -38,14 +38,14 @@ invariant_of-self g c =
     let a = c.self.inside in
     agrees-kept (g.S.BlockStore.zone a.store) (g.S.BlockStore.zone c.refill_block.new.store)
     (g.S.BlockStore.rest a.store) (g.S.BlockStore.rest c.refill_block.new.store) a.names.items c.self.invariant
-    c.refill_block.ensures.fixed c.in_err-room.ensures.answer
+    c.refill_block.ensures.nonrelocatable c.in_err-room.ensures.answer
 
 pub invariant_of-self-2 : goal.invariant_of-self-2
 invariant_of-self-2 g c =
     let a = c.self.inside in
     agrees-kept (g.S.BlockStore.zone a.store) (g.S.BlockStore.zone c.refill_block.new.store)
     (g.S.BlockStore.rest a.store) (g.S.BlockStore.rest c.refill_block.new.store) a.names.items c.self.invariant
-    c.refill_block.ensures.fixed c.in_ok-room.ensures.answer.slots
+    c.refill_block.ensures.nonrelocatable c.in_ok-room.ensures.answer.slots
 
 pub returns-clause-answer : goal.returns-clause-answer
 returns-clause-answer g c =

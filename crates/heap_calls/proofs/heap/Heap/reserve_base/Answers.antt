@@ -21,7 +21,7 @@ reserved : (g : Over) (c : In_ok-room g) → Ends (reserve_mem c.args.size) (g.S
     (g.S.BlockStore.rest c.make_base.new.store) c.self.inside.names.items
 reserved g c =
     let now = c.in_ok-room.ensures in
-    reserve-ends _ _ _ (g.met.S.BlockStore.masters c.self.inside.store) c.self.invariant _ _ c.make_base.ensures.fixed
+    reserve-ends _ _ _ (g.met.S.BlockStore.masters c.self.inside.store) c.self.invariant _ _ c.make_base.ensures.nonrelocatable
     c.args.size c.in-Some.bytes (sym c.phys.ensures ∙ c.in-Some.is) now.rest c.in_ok-room.room.place now.place
     (λ none. at_none c.in_ok-room.room.place _ _ none now.none)
 
@@ -38,7 +38,7 @@ returns-clause-answer g c =
     c.in-Some.bytes (sym c.phys.ensures ∙ c.in-Some.is))) now.rest.moves)
 
 pub invariant_of-self : goal.invariant_of-self
-invariant_of-self g c = agrees-same _ _ _ _ _ c.self.invariant c.make_base.ensures.fixed c.make_base.ensures.rest
+invariant_of-self g c = agrees-same _ _ _ _ _ c.self.invariant c.make_base.ensures.nonrelocatable c.make_base.ensures.rest
 
 pub invariant_of-self-2 : goal.invariant_of-self-2
-invariant_of-self-2 g c = agrees-same _ _ _ _ _ c.self.invariant c.make_base.ensures.fixed c.make_base.ensures.rest
+invariant_of-self-2 g c = agrees-same _ _ _ _ _ c.self.invariant c.make_base.ensures.nonrelocatable c.make_base.ensures.rest

@@ -7,8 +7,8 @@ use Rattle.heap_calls.specs.Answer.{flagged}
 use Rattle.heap_calls.specs.Inner.Given.{seen_flags}
 use Rattle.heap_calls.specs.Inner.Loose.{flags_with}
 use Rattle.heap_calls.proofs.Numbering.Answering.{refused_for, found_in, at_place}
-use Rattle.heap_calls.proofs.Numbering.Changing.{spot_at-is, fixed-at, agrees-same}
-use Rattle.heap_calls.proofs.Room.Staying.{fixed-spot, alike-flags, fixed-same, fixed-then}
+use Rattle.heap_calls.proofs.Numbering.Changing.{spot_at-is, nonrelocatable-at, agrees-same}
+use Rattle.heap_calls.proofs.Room.Staying.{nonrelocatable-spot, alike-flags, nonrelocatable-same, nonrelocatable-then}
 use Rattle.heap_calls.proofs.Numbering.Hoisting.{flags-none, flags-some, seen-at, rest-same, change_flags-done}
 use Rattle.heap_calls.proofs.heap.Heap.set_flags.Goals as goal
 
@@ -81,6 +81,6 @@ invariant_of-self g c =
     let done = at_place c.in_ok-place.place zone s (λ s. zone' ≡ s.below ++ with_flags flags s.here ∷ s.above) found.3
     c.set_flags.ensures.zone in
     agrees-same zone zone' rest (g.S.BlockStore.rest c.set_flags.new.self) a.names.items c.self.invariant
-    (fixed-then zone now zone' (fixed-at c.in_ok-place.place zone now s found.3
-    (fixed-spot s.below s.above s.here (with_flags flags s.here) (alike-flags flags s.here)))
-    (fixed-same now zone' done)) c.set_flags.ensures.rest
+    (nonrelocatable-then zone now zone' (nonrelocatable-at c.in_ok-place.place zone now s found.3
+    (nonrelocatable-spot s.below s.above s.here (with_flags flags s.here) (alike-flags flags s.here)))
+    (nonrelocatable-same now zone' done)) c.set_flags.ensures.rest

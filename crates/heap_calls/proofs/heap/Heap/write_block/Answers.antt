@@ -4,8 +4,8 @@ use Rattle.block_store.specs.Block.{content_of, with_content}
 use Rattle.windows.specs.Writes.{written}
 use Rattle.heap_calls.specs.Answer.{written_at, look_up}
 use Rattle.heap_calls.proofs.Numbering.Answering.{refused_for, found_in, at_place}
-use Rattle.heap_calls.proofs.Numbering.Changing.{written-done, written-outside, agrees-same, fixed-at}
-use Rattle.heap_calls.proofs.Room.Staying.{fixed-spot, alike-content, fixed-same, fixed-then}
+use Rattle.heap_calls.proofs.Numbering.Changing.{written-done, written-outside, agrees-same, nonrelocatable-at}
+use Rattle.heap_calls.proofs.Room.Staying.{nonrelocatable-spot, alike-content, nonrelocatable-same, nonrelocatable-then}
 use Rattle.heap_calls.proofs.heap.Heap.write_block.Goals as goal
 use Rattle.heap_calls.proofs.heap.Heap.write_block.Goals.{then-bytes-len-via-then-bytes-len}
 use Rattle.heap_calls.proofs.heap.Heap.write_block.Goals.{then-bytes-len-via-else-bytes-len+then-from-len}
@@ -50,9 +50,9 @@ invariant_of-self g c =
     ++ with_content (written c.args.from c.args.bytes.now (content_of s.here)) s.here ∷ s.above) found.3
     c.write.ensures.zone in
     agrees-same zone zone' rest (g.S.BlockStore.rest c.write.new.self) a.names.items c.self.invariant
-    (fixed-then zone now zone' (fixed-at c.in_ok-place.place zone now s found.3
-    (fixed-spot s.below s.above s.here (with_content content s.here) (alike-content content s.here)))
-    (fixed-same now zone' done)) c.write.ensures.rest
+    (nonrelocatable-then zone now zone' (nonrelocatable-at c.in_ok-place.place zone now s found.3
+    (nonrelocatable-spot s.below s.above s.here (with_content content s.here) (alike-content content s.here)))
+    (nonrelocatable-same now zone' done)) c.write.ensures.rest
 
 pub returns-clause-answer : goal.returns-clause-answer
 returns-clause-answer g c =

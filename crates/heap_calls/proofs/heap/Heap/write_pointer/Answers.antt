@@ -5,8 +5,8 @@ use Rattle.windows.specs.Writes.{written}
 use Rattle.block_store.specs.Room.{Spot}
 use Rattle.heap_calls.specs.Pointers.{pointed_at}
 use Rattle.heap_calls.proofs.Numbering.Answering.{at_place}
-use Rattle.heap_calls.proofs.Numbering.Changing.{written-done, written-outside, agrees-same, fixed-at}
-use Rattle.heap_calls.proofs.Room.Staying.{fixed-spot, alike-content, fixed-same, fixed-then}
+use Rattle.heap_calls.proofs.Numbering.Changing.{written-done, written-outside, agrees-same, nonrelocatable-at}
+use Rattle.heap_calls.proofs.Room.Staying.{nonrelocatable-spot, alike-content, nonrelocatable-same, nonrelocatable-then}
 use Rattle.heap_calls.proofs.Numbering.Pointing.{IsHeld, pointer-held}
 use Rattle.heap_calls.proofs.heap.Heap.write_pointer.Given.{Over}
 use Rattle.heap_calls.proofs.heap.Heap.write_pointer.Goals.{In_ok-target}
@@ -65,9 +65,9 @@ invariant_of-self g c =
     (λ s. zone' ≡ s.below ++ with_content (written c.args.from c.args.bytes.now (content_of s.here)) s.here
     ∷ s.above) there.at c.write.ensures.zone in
     agrees-same zone zone' (g.S.BlockStore.rest a.store) (g.S.BlockStore.rest c.write.new.self) a.names.items
-    c.self.invariant (fixed-then zone now zone' (fixed-at c.in_ok-target.target.place zone now s there.at
-    (fixed-spot s.below s.above s.here (with_content content s.here) (alike-content content s.here)))
-    (fixed-same now zone' done)) c.write.ensures.rest
+    c.self.invariant (nonrelocatable-then zone now zone' (nonrelocatable-at c.in_ok-target.target.place zone now s there.at
+    (nonrelocatable-spot s.below s.above s.here (with_content content s.here) (alike-content content s.here)))
+    (nonrelocatable-same now zone' done)) c.write.ensures.rest
 
 pub returns-clause-answer : goal.returns-clause-answer
 returns-clause-answer g c =

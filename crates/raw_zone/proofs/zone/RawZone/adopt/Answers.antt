@@ -1,6 +1,6 @@
 use Rattle.std.proofs.Common.{◌≡◌, ◌≤◌, ◌∙◌, ◌++◌, ◌∷◌, true, false, ℕ, IsTrue, refl, ap, sym, subst, arith}
 use Rattle.std.specs.Option.{IfSome, IsSomeAnd}
-use Rattle.block_store.specs.Block.{Fixed, Relocatable, is_fixed, is_relocatable, is_masters, content_of, count, free_sum}
+use Rattle.block_store.specs.Block.{Nonrelocatable, Relocatable, is_nonrelocatable, is_relocatable, is_masters, content_of, count, free_sum}
 use Rattle.block_store.specs.Block.{size}
 use Rattle.block_store.specs.Run.{has}
 use Rattle.block_store.specs.Room.{spot_at}
@@ -15,7 +15,7 @@ use Rattle.raw_zone.specs.Parted.{zone_of, rest_of}
 use Rattle.zone_bytes.proofs.Places.AtPlace.{low, way-at, left-at, inside, some-here}
 use Rattle.zone_bytes.proofs.Places.Options.{if-spot, one-spot}
 use Rattle.zone_bytes.proofs.Laws.Lawful.{Made, rest-made, kept-made}
-use Rattle.zone_bytes.proofs.Blocks.Adopted.{FixedAt, fixed-at, adopt-reads-in, adopted-at, masters-adopted}
+use Rattle.zone_bytes.proofs.Blocks.Adopted.{NonrelocatableAt, nonrelocatable-at, adopt-reads-in, adopted-at, masters-adopted}
 use Rattle.zone_bytes.proofs.Blocks.Adopted.{free-adopted}
 use Rattle.zone_bytes.proofs.Marks.Owed.{with-marks}
 use Rattle.zone_bytes.specs.Purgeable.{purgeable_sum}
@@ -25,17 +25,17 @@ use Rattle.raw_zone.proofs.zone.RawZone.adopt.Goals.{After-adopt}
 
 -- what is asked, of the zone inside
 record Asked (z : Held) (place number : ℕ) : Type 0 where
-  fixed : FixedAt z.part.bytes place
+  nonrelocatable : NonrelocatableAt z.part.bytes place
   used : IsTrue (is_used ((rest_of z).slots number))
   no_block : has (is_relocatable number) (zone_of z) ≡ false
 
 asked : (z view : Held) (place number : ℕ) → z ≡ view
-    → IsSomeAnd (spot_at place (zone_of view)) (λ s. is_fixed place s.here ≡ true)
+    → IsSomeAnd (spot_at place (zone_of view)) (λ s. is_nonrelocatable place s.here ≡ true)
     → IsTrue (is_used ((rest_of view).slots number)) → has (is_relocatable number) (zone_of view) ≡ false
     → Asked z place number
 asked z view place number e block used none = record {
-  fixed = fixed-at z.part.bytes place
-      (subst (λ v. IsSomeAnd (spot_at place (zone_of v)) (λ s. is_fixed place s.here ≡ true)) (sym e) block);
+  nonrelocatable = nonrelocatable-at z.part.bytes place
+      (subst (λ v. IsSomeAnd (spot_at place (zone_of v)) (λ s. is_nonrelocatable place s.here ≡ true)) (sym e) block);
   used = subst (λ v. IsTrue (is_used ((rest_of v).slots number))) (sym e) used;
   no_block = subst (λ v. has (is_relocatable number) (zone_of v) ≡ false) (sym e) none;
 }
@@ -44,14 +44,14 @@ pub size_at-requires-clause-way : goal.size_at-requires-clause-way
 size_at-requires-clause-way c =
     let i = c.self.inside in
     let q = c.requires in
-    let a = (asked (held i) c.args.self.now c.args.place c.args.number c.self.view_is q.block q.used q.no_block).fixed in
+    let a = (asked (held i) c.args.self.now c.args.place c.args.number c.self.view_is q.block q.used q.no_block).nonrelocatable in
     way-at i.part.bytes i.first i.unused c.self.invariant.sound c.args.place a.s a.is
 
 pub size_at-requires-clause-some : goal.size_at-requires-clause-some
 size_at-requires-clause-some c =
     let i = c.self.inside in
     let q = c.requires in
-    let a = (asked (held i) c.args.self.now c.args.place c.args.number c.self.view_is q.block q.used q.no_block).fixed in
+    let a = (asked (held i) c.args.self.now c.args.place c.args.number c.self.view_is q.block q.used q.no_block).nonrelocatable in
     let n = inside i.part.bytes i.first i.unused c.self.invariant.sound c.args.place a.s a.is in
     let m = some-here i.part.bytes i.first i.unused c.self.invariant.sound c.args.place a.s a.is in
     omega (arith, n, m)
@@ -61,7 +61,7 @@ adopt-requires-clause-way c =
     let i = c.self.inside in
     let q = c.requires in
     let asks = asked (held i) c.args.self.now c.args.place c.args.number c.self.view_is q.block q.used q.no_block in
-    let a = asks.fixed in
+    let a = asks.nonrelocatable in
     way-at i.part.bytes i.first i.unused c.self.invariant.sound c.args.place a.s a.is
 
 pub adopt-requires-clause-some : goal.adopt-requires-clause-some
@@ -69,7 +69,7 @@ adopt-requires-clause-some c =
     let i = c.self.inside in
     let q = c.requires in
     let asks = asked (held i) c.args.self.now c.args.place c.args.number c.self.view_is q.block q.used q.no_block in
-    let a = asks.fixed in
+    let a = asks.nonrelocatable in
     let n = inside i.part.bytes i.first i.unused c.self.invariant.sound c.args.place a.s a.is in
     let m = some-here i.part.bytes i.first i.unused c.self.invariant.sound c.args.place a.s a.is in
     omega (arith, n, m)
@@ -79,7 +79,7 @@ adopt-requires-clause-slot c =
     let i = c.self.inside in
     let q = c.requires in
     let a = asked (held i) c.args.self.now c.args.place c.args.number c.self.view_is q.block q.used q.no_block in
-    adopt-reads-in i.part.bytes i.first i.unused c.self.invariant.sound c.args.place a.fixed c.args.number c.args.flags
+    adopt-reads-in i.part.bytes i.first i.unused c.self.invariant.sound c.args.place a.nonrelocatable c.args.number c.args.flags
     a.used a.no_block
 
 pub invariant_of-self-inside : goal.invariant_of-self-inside
@@ -87,20 +87,20 @@ invariant_of-self-inside c =
     let i = c.self.inside in
     let q = c.requires in
     let a = asked (held i) c.args.self.now c.args.place c.args.number c.self.view_is q.block q.used q.no_block in (
-      (adopted-at i.part.bytes i.first i.unused c.self.invariant.sound c.args.place a.fixed c.args.number c.args.flags
+      (adopted-at i.part.bytes i.first i.unused c.self.invariant.sound c.args.place a.nonrelocatable c.args.number c.args.flags
           a.used a.no_block c.adopt.new.part.bytes c.adopt.ensures.bytes).lawful,
       tt,
     )
 
-done : (c : After-adopt) → (a : FixedAt c.self.inside.part.bytes c.args.place)
+done : (c : After-adopt) → (a : NonrelocatableAt c.self.inside.part.bytes c.args.place)
     × Made c.adopt.new.part.bytes c.self.inside.first c.self.inside.unused
     (a.s.below ++ Relocatable c.args.number c.args.flags a.content ∷ a.s.above) (slot_in c.self.inside.part.bytes)
 done c =
     let i = c.self.inside in
     let q = c.requires in
     let a = asked (held i) c.args.self.now c.args.place c.args.number c.self.view_is q.block q.used q.no_block in (
-      a.fixed,
-      adopted-at i.part.bytes i.first i.unused c.self.invariant.sound c.args.place a.fixed c.args.number c.args.flags
+      a.nonrelocatable,
+      adopted-at i.part.bytes i.first i.unused c.self.invariant.sound c.args.place a.nonrelocatable c.args.number c.args.flags
           a.used a.no_block c.adopt.new.part.bytes c.adopt.ensures.bytes,
     )
 
@@ -119,7 +119,7 @@ note_block-requires-clause-marks c =
       zone_in i.part.bytes,
       record {
         below = a.s.below;
-        here = Fixed a.id a.content;
+        here = Nonrelocatable a.id a.content;
         there = Relocatable c.args.number c.args.flags a.content;
         above = a.s.above;
         was = a.whole;
@@ -139,7 +139,7 @@ invariant_of-self c =
     a.is) in
     let h = ap size a.here in
     let g = c.given_with-given.ensures (Relocatable c.args.number c.args.flags a.content) (omega (arith, y, h)) in
-    let p = given-became a.s.below (Fixed a.id a.content) (Relocatable c.args.number c.args.flags a.content) a.s.above
+    let p = given-became a.s.below (Nonrelocatable a.id a.content) (Relocatable c.args.number c.args.flags a.content) a.s.above
     (zone_in c.self.inside.part.bytes) a.whole in
     let s = given-small _ c.self.inside.first c.self.inside.unused d.1.sound in
     let t = ap purgeable_sum d.1.zone in

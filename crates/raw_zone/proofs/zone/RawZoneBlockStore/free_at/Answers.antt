@@ -1,6 +1,6 @@
 use Rattle.std.proofs.Common.{◌≡◌, true, Some, sym, ap, ◌∙◌, subst, arith}
 use Rattle.std.specs.Option.{IsSomeAnd}
-use Rattle.block_store.specs.Block.{is_fixed, tidy}
+use Rattle.block_store.specs.Block.{is_nonrelocatable, tidy}
 use Rattle.block_store.specs.Grow.{freed}
 use Rattle.block_store.specs.Rest.{IsRest}
 use Rattle.block_store.specs.Room.{Spot, spot_at}
@@ -8,7 +8,7 @@ use Rattle.zone_bytes.specs.Beside.{rest_in}
 use Rattle.zone_bytes.specs.Decode.{zone_in}
 use Rattle.zone_bytes.proofs.Places.Options.{the-spot}
 use Rattle.zone_bytes.proofs.Joined.Handles.{Gained, gained-fits, gained-kept, gained-rest}
-use Rattle.zone_bytes.proofs.Joined.FixedFreed.{standing, may-free_fixed, fixed-gained, freed-is}
+use Rattle.zone_bytes.proofs.Joined.NonrelocatableFreed.{standing, may-free_nonrelocatable, nonrelocatable-gained, freed-is}
 use Rattle.zone_bytes.specs.Marked.{AreOf}
 use Rattle.zone_bytes.proofs.Places.AtPlace.{whole}
 use Rattle.raw_zone.specs.Parted.{zone_of, rest_of}
@@ -18,13 +18,13 @@ use Rattle.zone_bytes.proofs.Bounds.Given.{given-freed}
 use Rattle.raw_zone.proofs.zone.RawZoneBlockStore.free_at.Goals as goal
 use Rattle.raw_zone.proofs.zone.RawZoneBlockStore.free_at.Goals.{After-self, After-free_block-freed}
 
--- the Fixed block
+-- the nonrelocatable block
 here : (c : goal.After-self)
-    → (s : Spot) × (spot_at c.args.place (zone_in c.self.inside.part.bytes) ≡ Some s) × (is_fixed c.args.place
+    → (s : Spot) × (spot_at c.args.place (zone_in c.self.inside.part.bytes) ≡ Some s) × (is_nonrelocatable c.args.place
     s.here ≡ true)
 here c =
-    the-spot (spot_at c.args.place (zone_in c.self.inside.part.bytes)) (λ s. is_fixed c.args.place s.here ≡ true)
-    (subst (λ v. IsSomeAnd (spot_at c.args.place (zone_of v)) (λ s. is_fixed c.args.place s.here ≡ true))
+    the-spot (spot_at c.args.place (zone_in c.self.inside.part.bytes)) (λ s. is_nonrelocatable c.args.place s.here ≡ true)
+    (subst (λ v. IsSomeAnd (spot_at c.args.place (zone_of v)) (λ s. is_nonrelocatable c.args.place s.here ≡ true))
     (sym c.self.view_is) c.requires)
 
 pub free_block-freed-requires : goal.free_block-freed-requires
@@ -33,26 +33,26 @@ free_block-freed-requires c =
     let s = c.self.invariant.sound in
     let a = here (goal.at.free_block-freed-requires c).After-self in (
       standing n.part.bytes n.first n.unused s c.args.place a.0 a.1 a.2,
-      may-free_fixed n.part.bytes n.first n.unused
+      may-free_nonrelocatable n.part.bytes n.first n.unused
           s c.args.place a.0 a.1 a.2,
       subst (AreOf n.marks) (whole n.part.bytes n.first n.unused s c.args.place a.0 a.1) c.self.invariant.marked,
     )
 
 there : (c : After-free_block-freed)
-    → (s : Spot) × (spot_at c.args.place (zone_in c.self.inside.part.bytes) ≡ Some s) × (is_fixed c.args.place
+    → (s : Spot) × (spot_at c.args.place (zone_in c.self.inside.part.bytes) ≡ Some s) × (is_nonrelocatable c.args.place
     s.here ≡ true)
 there c =
-    the-spot (spot_at c.args.place (zone_in c.self.inside.part.bytes)) (λ s. is_fixed c.args.place s.here ≡ true)
-    (subst (λ v. IsSomeAnd (spot_at c.args.place (zone_of v)) (λ s. is_fixed c.args.place s.here ≡ true))
+    the-spot (spot_at c.args.place (zone_in c.self.inside.part.bytes)) (λ s. is_nonrelocatable c.args.place s.here ≡ true)
+    (subst (λ v. IsSomeAnd (spot_at c.args.place (zone_of v)) (λ s. is_nonrelocatable c.args.place s.here ≡ true))
     (sym c.self.view_is) c.requires)
 
 done : (c : After-free_block-freed)
     → Gained c.self.inside.part.bytes c.free_block-freed.new.part.bytes c.self.inside.first c.self.inside.unused
-    c.free_block-freed.result.bytes (tidy (freed (is_fixed c.args.place) (zone_in c.self.inside.part.bytes)))
+    c.free_block-freed.result.bytes (tidy (freed (is_nonrelocatable c.args.place) (zone_in c.self.inside.part.bytes)))
 done c =
     let n = c.self.inside in
     let a = there c in
-    fixed-gained n.part.bytes n.first n.unused c.self.invariant.sound c.args.place a.0 a.1 a.2
+    nonrelocatable-gained n.part.bytes n.first n.unused c.self.invariant.sound c.args.place a.0 a.1 a.2
     c.free_block-freed.new.part.bytes c.free_block-freed.result.bytes c.free_block-freed.ensures.lays c.free_block-freed.ensures.bytes
 
 pub overflow_add-self : goal.overflow_add-self
@@ -68,14 +68,14 @@ pub invariant_of-self : goal.invariant_of-self
 invariant_of-self c =
     let d = done (goal.at.invariant_of-self c).After-free_block-freed in
     let z = ap purgeable_sum d.made.zone in
-    let g = given-freed (is_fixed c.args.place) (zone_in c.self.inside.part.bytes) in
+    let g = given-freed (is_nonrelocatable c.args.place) (zone_in c.self.inside.part.bytes) in
     let b = c.self.invariant.bound in
     with-marks _ _ _ _ _ _ (gained-kept _ _ _ _ _ _ d c.self.inside.free c.self.invariant.free_is) c.note.ensures
     (omega (arith, z, g, b))
 
 pub returns-clause-zone : goal.returns-clause-zone
 returns-clause-zone c = (done (goal.at.returns-clause-zone c).After-free_block-freed).made.zone
-    ∙ ap (λ v. tidy (freed (is_fixed c.args.place) (zone_of v))) c.self.view_is
+    ∙ ap (λ v. tidy (freed (is_nonrelocatable c.args.place) (zone_of v))) c.self.view_is
 
 pub returns-clause-rest : goal.returns-clause-rest
 returns-clause-rest c =
@@ -101,6 +101,6 @@ note-requires-clause-marks c =
           ((done (goal.at.note-requires-clause-marks c).After-free_block-freed).made.zone
           ∙ ap tidy (freed-is n.part.bytes n.first n.unused s c.args.place a.0 a.1 a.2))
           (c.free_block-freed.ensures.replaced (standing n.part.bytes n.first n.unused s c.args.place a.0 a.1 a.2)
-          (may-free_fixed n.part.bytes n.first n.unused s c.args.place a.0 a.1 a.2)),
+          (may-free_nonrelocatable n.part.bytes n.first n.unused s c.args.place a.0 a.1 a.2)),
       c.self.invariant.marked,
     )

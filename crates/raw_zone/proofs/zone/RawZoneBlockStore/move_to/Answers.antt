@@ -22,20 +22,20 @@ pub block_of-old-requires : goal.block_of-old-requires
 block_of-old-requires c =
     let a = c.args in
     still a.number a.place a.bytes (zone_of a.self.now) (room a.self.now a.place a.bytes c.requires.room)
-    (zone_of c.carve_fixed.new.self) c.in_ok-carve_fixed.ensures.ok c.requires.block
+    (zone_of c.carve_nonrelocatable.new.self) c.in_ok-carve_nonrelocatable.ensures.ok c.requires.block
 
 pub copy-requires-clause-within : goal.copy-requires-clause-within
 copy-requires-clause-within c =
     let a = c.args in
     let old = c.block_of-old.result in
     copies-to a.number a.place a.bytes (zone_of a.self.now) (room a.self.now a.place a.bytes c.requires.room)
-    (zone_of c.carve_fixed.new.self) c.in_ok-carve_fixed.ensures.ok old.place old.length old.flags
+    (zone_of c.carve_nonrelocatable.new.self) c.in_ok-carve_nonrelocatable.ensures.ok old.place old.length old.flags
     c.block_of-old.ensures.place c.block_of-old.ensures.block c.min.result c.min.ensures
 
 pub release-requires : goal.release-requires
 release-requires c =
     let n = c.args.number in
-    subst (λ st. IsTrue (is_used st)) (sym (c.copy.ensures.rest.slots n ∙ c.carve_fixed.ensures.rest.slots n))
+    subst (λ st. IsTrue (is_used st)) (sym (c.copy.ensures.rest.slots n ∙ c.carve_nonrelocatable.ensures.rest.slots n))
     (used c.args.self.now n c.requires.block)
 
 pub adopt-requires-clause-block : goal.adopt-requires-clause-block
@@ -43,7 +43,7 @@ adopt-requires-clause-block c =
     let a = c.args in
     let old = c.block_of-old.result in
     stands a.number a.place a.bytes (zone_of a.self.now) (room a.self.now a.place a.bytes c.requires.room)
-    (zone_of c.carve_fixed.new.self) c.in_ok-carve_fixed.ensures.ok old.place old.length old.flags
+    (zone_of c.carve_nonrelocatable.new.self) c.in_ok-carve_nonrelocatable.ensures.ok old.place old.length old.flags
     c.block_of-old.ensures.place c.block_of-old.ensures.block c.min.result c.min.ensures (zone_of c.copy.new.self)
     c.copy.ensures.zone (zone_of c.release.new.self) c.release.ensures.zone
 
@@ -51,7 +51,7 @@ pub adopt-requires-clause-used : goal.adopt-requires-clause-used
 adopt-requires-clause-used c =
     let n = c.args.number in
     subst (λ st. IsTrue (is_used st))
-    (sym (c.release.ensures.rest.slots n ∙ c.copy.ensures.rest.slots n ∙ c.carve_fixed.ensures.rest.slots n))
+    (sym (c.release.ensures.rest.slots n ∙ c.copy.ensures.rest.slots n ∙ c.carve_nonrelocatable.ensures.rest.slots n))
     (used c.args.self.now n c.requires.block)
 
 pub adopt-requires-clause-no_block : goal.adopt-requires-clause-no_block
@@ -59,7 +59,7 @@ adopt-requires-clause-no_block c =
     let a = c.args in
     let old = c.block_of-old.result in
     no-block a.number a.place a.bytes (zone_of a.self.now) (room a.self.now a.place a.bytes c.requires.room)
-    (zone_of c.carve_fixed.new.self) c.in_ok-carve_fixed.ensures.ok old.place old.length old.flags
+    (zone_of c.carve_nonrelocatable.new.self) c.in_ok-carve_nonrelocatable.ensures.ok old.place old.length old.flags
     c.block_of-old.ensures.place c.block_of-old.ensures.block c.min.result c.min.ensures (zone_of c.copy.new.self)
     c.copy.ensures.zone (zone_of c.release.new.self) c.release.ensures.zone
 
@@ -68,7 +68,7 @@ returns-clause-ok c =
     let a = c.args in
     let old = c.block_of-old.result in
     moved a.number a.place a.bytes (zone_of a.self.now) (room a.self.now a.place a.bytes c.requires.room)
-    (zone_of c.carve_fixed.new.self) c.in_ok-carve_fixed.ensures.ok old.place old.length old.flags
+    (zone_of c.carve_nonrelocatable.new.self) c.in_ok-carve_nonrelocatable.ensures.ok old.place old.length old.flags
     c.block_of-old.ensures.place c.block_of-old.ensures.block c.min.result c.min.ensures (zone_of c.copy.new.self)
     c.copy.ensures.zone (zone_of c.release.new.self) c.release.ensures.zone (zone_of c.adopt.new.self)
     c.adopt.ensures.zone

@@ -4,8 +4,8 @@ use Rattle.std.proofs.lemmas.List.{length-replicate, length-take-le}
 use Rattle.std.specs.Result.{OnOk, OnErr}
 use Rattle.std.specs.Option.{IfSome, IsSomeAnd}
 use Rattle.mac_words.specs.Size.{padded}
-use Rattle.block_store.specs.Block.{Block, Free, Fixed, Masters, Relocatable, size, sizes, count, is_room, is_masters}
-use Rattle.block_store.specs.Block.{is_relocatable, is_fixed, tidy, with_content, content_of}
+use Rattle.block_store.specs.Block.{Block, Free, Nonrelocatable, Masters, Relocatable, size, sizes, count, is_room, is_masters}
+use Rattle.block_store.specs.Block.{is_relocatable, is_nonrelocatable, tidy, with_content, content_of}
 use Rattle.windows.specs.Writes.{written}
 use Rattle.block_store.specs.Room.{spot_at, filled}
 use Rattle.block_store.specs.Grow.{freed}
@@ -25,7 +25,7 @@ use Rattle.block_store.proofs.Content.Filling.{Lawful, not_masters, lawful-writt
 use Rattle.block_store.proofs.Purged.Purges.{lawful-fewer}
 use Rattle.block_store.proofs.Plain.Options.{the_some}
 
--- Fixed blocks, and new blocks of master pointers.
+-- nonrelocatable blocks, and new blocks of master pointers.
 
 -- a new block that isn't relocatable, where each slot of a handle stays one
 pub lawful-stood : (slots slots' : ℕ → Slot) (bytes all all' : ℕ) (zone zone' : List Block) (place : ℕ) (new : Block)
@@ -69,19 +69,19 @@ lawful-stood slots slots' bytes all all' zone zone' place new lawful other more 
     slots_more b n m e f old = let x : cond {A = ℕ} (is_masters b) 1 0 ≡ 0 = ap {B = ℕ} (λ (t : Bool). cond t 1 0) f in
         omega arith
 
--- a new Fixed block, or the host had no memory for it
-pub lawful-fixed : {T E : Type 0} (r : Result T E) (slots : ℕ → Slot) (bytes all : ℕ) (zone zone' : List Block)
+-- a new nonrelocatable block, or the host had no memory for it
+pub lawful-nonrelocatable : {T E : Type 0} (r : Result T E) (slots : ℕ → Slot) (bytes all : ℕ) (zone zone' : List Block)
     (place n : ℕ) (content : List ℕ) → Lawful slots bytes all zone → content ≡ replicate n 0
     → IsSomeAnd (spot_at place zone) (λ s. is_room (padded n) s.here ≡ true)
-    → OnOk r (IfSome (spot_at place zone) (λ s. zone' ≡ filled (Fixed place content) s)) → OnErr r (zone' ≡ zone)
+    → OnOk r (IfSome (spot_at place zone) (λ s. zone' ≡ filled (Nonrelocatable place content) s)) → OnErr r (zone' ≡ zone)
     → Lawful slots bytes all zone'
-lawful-fixed (Ok x) slots bytes all zone zone' place n content lawful zeros room ok err =
+lawful-nonrelocatable (Ok x) slots bytes all zone zone' place n content lawful zeros room ok err =
     let size-new : padded n ≡ padded (length content) = ap padded
     (sym (ap length zeros ∙ length-replicate {A = ℕ} n 0)) in
-    lawful-stood slots slots bytes all all zone zone' place (Fixed place content) lawful (λ k. refl) (omega arith)
+    lawful-stood slots slots bytes all all zone zone' place (Nonrelocatable place content) lawful (λ k. refl) (omega arith)
     (λ k unused. unused) refl refl (subst (λ k. IsSomeAnd (spot_at place zone) (λ s. is_room k s.here ≡ true))
     size-new room) ok
-lawful-fixed (Err e) slots bytes all zone zone' place n content lawful zeros room ok err =
+lawful-nonrelocatable (Err e) slots bytes all zone zone' place n content lawful zeros room ok err =
     subst (Lawful slots bytes all) (sym err) lawful
 
 -- slots with unused ones after them
@@ -121,26 +121,26 @@ lawful-masters (Err e) slots slots' bytes zone zone' place lawful more same room
     let P : List SlotEntry → Type 0 = λ l. Lawful (slots_of l) bytes (length l) zone' in
     subst P (sym same) (subst (Lawful (slots_of slots) bytes (length slots)) (sym err) lawful)
 
--- a Fixed block becomes Free
-masters-freed : (place : ℕ) (bs : List Block) → count is_masters (freed (is_fixed place) bs) ≡ count is_masters bs
+-- a nonrelocatable block becomes Free
+masters-freed : (place : ℕ) (bs : List Block) → count is_masters (freed (is_nonrelocatable place) bs) ≡ count is_masters bs
 masters-freed place [] = refl
 masters-freed place (b ∷ bs) = rw (one b, masters-freed place bs) refl
   where
-    one : (b : Block) → is_masters (cond (is_fixed place b) (Free (size b)) b) ≡ is_masters b
+    one : (b : Block) → is_masters (cond (is_nonrelocatable place b) (Free (size b)) b) ≡ is_masters b
     one (Free n) = refl
-    one (Fixed id content) = elim (id == place) as (λ t. is_masters
-        (cond t (Free (padded (length content))) (Fixed id content)) ≡ false) [ true ↦ refl | false ↦ refl ]
+    one (Nonrelocatable id content) = elim (id == place) as (λ t. is_masters
+        (cond t (Free (padded (length content))) (Nonrelocatable id content)) ≡ false) [ true ↦ refl | false ↦ refl ]
     one Masters = refl
     one (Relocatable id flags content) = refl
 
-pub lawful-unfixed : (slots : ℕ → Slot) (bytes all : ℕ) (zone zone' : List Block) (place : ℕ)
-    → Lawful slots bytes all zone → zone' ≡ tidy (freed (is_fixed place) zone) → Lawful slots bytes all zone'
-lawful-unfixed slots bytes all zone zone' place lawful after =
-    let fewer = freed (is_fixed place) zone in
-    lawful-fewer slots bytes all zone fewer zone' lawful (size-freed (is_fixed place) zone) (masters-freed place zone)
-    (λ k. count-freed (is_relocatable k) (is_fixed place) (λ n. refl) zone)
-    (aligned-freed (is_fixed place) zone lawful.aligned)
-    after (placed-tidy 0 fewer (placed-freed 0 (is_fixed place) zone lawful.placed))
+pub lawful-nonrelocatable_freed : (slots : ℕ → Slot) (bytes all : ℕ) (zone zone' : List Block) (place : ℕ)
+    → Lawful slots bytes all zone → zone' ≡ tidy (freed (is_nonrelocatable place) zone) → Lawful slots bytes all zone'
+lawful-nonrelocatable_freed slots bytes all zone zone' place lawful after =
+    let fewer = freed (is_nonrelocatable place) zone in
+    lawful-fewer slots bytes all zone fewer zone' lawful (size-freed (is_nonrelocatable place) zone) (masters-freed place zone)
+    (λ k. count-freed (is_relocatable k) (is_nonrelocatable place) (λ n. refl) zone)
+    (aligned-freed (is_nonrelocatable place) zone lawful.aligned)
+    after (placed-tidy 0 fewer (placed-freed 0 (is_nonrelocatable place) zone lawful.placed))
 
 -- the first bytes of a block in another
 pub lawful-copied : (slots : ℕ → Slot) (bytes all : ℕ) (zone zone' : List Block) (source n place from : ℕ)

@@ -3,7 +3,7 @@
 ghost use Rattle.std.specs.Prelude.{◌≡◌, ◌+◌, ◌<◌, ◌^◌, ◌++◌, take, drop, ◌≤◌, vec_len, replicate, IsTrue, IfSome};
 ghost use Rattle.std.specs.Prelude.{IsSomeAnd, OnOk, OnErr};
 ghost use Rattle.std.specs.Vec.{vec_capacity};
-ghost use Rattle.block_store.specs.Block.{Masters, sizes, is_fixed, is_room, tidy};
+ghost use Rattle.block_store.specs.Block.{Masters, sizes, is_nonrelocatable, is_room, tidy};
 ghost use Rattle.block_store.specs.Room.{spot_at, filled};
 ghost use Rattle.block_store.specs.Grow.{freed};
 ghost use Rattle.block_store.specs.Inner.ListStore.{block_of, blocks_of, freed_first};
@@ -15,11 +15,11 @@ use crate::slots::SlotEntry;
 use std::alloc::AllocError;
 
 /// Reports whether an entry is the nonrelocatable block of a place.
-fn is_fixed_at(entry: &StoredBlock, place: u32) -> bool
-    ensures { result ≡ is_fixed place (block_of entry.now) }
+fn is_nonrelocatable_at(entry: &StoredBlock, place: u32) -> bool
+    ensures { result ≡ is_nonrelocatable place (block_of entry.now) }
 {
     match entry {
-        StoredBlock::Fixed(own, _) => *own == place,
+        StoredBlock::Nonrelocatable(own, _) => *own == place,
         _ => false,
     }
 }
@@ -29,19 +29,19 @@ fn free_if(entries: &mut Vec<StoredBlock>, i: usize, place: u32)
     requires within { i < vec_len entries.old }
     requires fits { sizes (blocks_of entries.old.items) < 2 ^ 32 }
     ensures { blocks_of entries.new.items
-        ≡ take i (blocks_of entries.old.items) ++ freed_first (is_fixed place) (drop i (blocks_of entries.old.items)) }
+        ≡ take i (blocks_of entries.old.items) ++ freed_first (is_nonrelocatable place) (drop i (blocks_of entries.old.items)) }
 {
     let entry = &entries[i];
-    if is_fixed_at(entry, place) {
+    if is_nonrelocatable_at(entry, place) {
         let bytes = entry_size(entry);
         entries[i] = StoredBlock::Free(bytes);
     }
 }
 
 /// Makes the nonrelocatable blocks of a place free blocks.
-fn free_fixed(entries: &mut Vec<StoredBlock>, place: u32)
+fn free_nonrelocatable(entries: &mut Vec<StoredBlock>, place: u32)
     requires { sizes (blocks_of entries.old.items) < 2 ^ 32 }
-    ensures { blocks_of entries.new.items ≡ freed (is_fixed place) (blocks_of entries.old.items) }
+    ensures { blocks_of entries.new.items ≡ freed (is_nonrelocatable place) (blocks_of entries.old.items) }
 {
     for i in 0..entries.len() {
         free_if(entries, i, place);
@@ -51,9 +51,9 @@ fn free_fixed(entries: &mut Vec<StoredBlock>, place: u32)
 /// Makes the nonrelocatable block at a place a free block, and joins it with its free neighbours.
 pub fn free_place(entries: &mut Vec<StoredBlock>, place: u32)
     requires { sizes (blocks_of entries.old.items) < 2 ^ 32 }
-    ensures { blocks_of entries.new.items ≡ tidy (freed (is_fixed place) (blocks_of entries.old.items)) }
+    ensures { blocks_of entries.new.items ≡ tidy (freed (is_nonrelocatable place) (blocks_of entries.old.items)) }
 {
-    free_fixed(entries, place);
+    free_nonrelocatable(entries, place);
     tidy_entries(entries);
 }
 

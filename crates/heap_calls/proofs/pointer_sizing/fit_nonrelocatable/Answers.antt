@@ -1,46 +1,46 @@
 use Rattle.std.proofs.Common.{◌≡◌, ◌<◌, ◌≤◌, false, sym, ◌∙◌, ap, arith}
-use Rattle.block_store.specs.Block.{is_fixed, size, resized}
+use Rattle.block_store.specs.Block.{is_nonrelocatable, size, resized}
 use Rattle.block_store.specs.Run.{has, in_run}
 use Rattle.block_store.specs.Room.{spot_at, filled}
 use Rattle.block_store.proofs.Zone.Tidy.{spot-passes}
 use Rattle.heap_calls.specs.Answer.{nothing}
 use Rattle.heap_calls.proofs.Numbering.Answering.{at_place}
-use Rattle.heap_calls.proofs.Numbering.Changing.{phys-some, fixed-at}
+use Rattle.heap_calls.proofs.Numbering.Changing.{phys-some, nonrelocatable-at}
 use Rattle.heap_calls.proofs.Sizes.GrowingInPlace.{spot_and}
-use Rattle.heap_calls.proofs.Room.Staying.{fixed-filled, alike-resized}
+use Rattle.heap_calls.proofs.Room.Staying.{nonrelocatable-filled, alike-resized}
 use Rattle.heap_calls.proofs.Sizes.Resizing.{grown-done, searches-still}
 use Rattle.heap_calls.proofs.Sizes.PointerSizes.{stands, sizes-are, fitted-done}
-use Rattle.heap_calls.proofs.pointer_sizing.fit_fixed.Goals as goal
+use Rattle.heap_calls.proofs.pointer_sizing.fit_nonrelocatable.Goals as goal
 
-pub returns-then-bytes-bytes_at-clause-fixed : goal.returns-then-bytes-bytes_at-clause-fixed
-returns-then-bytes-bytes_at-clause-fixed g c place =
+pub returns-then-bytes-bytes_at-clause-nonrelocatable : goal.returns-then-bytes-bytes_at-clause-nonrelocatable
+returns-then-bytes-bytes_at-clause-nonrelocatable g c place =
     let zone = g.S.BlockStore.zone c.args.store.now in
     let s = c.requires.0 in
-    let fixed = spot-passes (is_fixed c.args.place) zone s c.requires.1 in
-    let sizes = sizes-are c.args.place c.args.size c.in-Some.bytes c.bytes_at.result zone s c.requires.2 fixed
+    let nonrelocatable = spot-passes (is_nonrelocatable c.args.place) zone s c.requires.1 in
+    let sizes = sizes-are c.args.place c.args.size c.in-Some.bytes c.bytes_at.result zone s c.requires.2 nonrelocatable
     (sym c.phys.ensures ∙ c.in-Some.is) c.bytes_at.ensures in
     let zone' = g.S.BlockStore.zone c.resize.new.self in
     let new = resized c.args.size s.here in
     let less : size new ≤ size s.here = omega (arith, sizes.0, sizes.1, c.if-bytes-bytes_at.true) in
     let done = at_place c.args.place zone s (λ s. size (resized c.args.size s.here) ≤ size s.here → zone'
     ≡ filled (resized c.args.size s.here) s) c.requires.2 c.in_ok-resize.ensures.cut in
-    ap (has (is_fixed place)) (done less) ∙ fixed-at c.args.place zone (filled new s) s c.requires.2
-    (fixed-filled new s (alike-resized c.args.size s.here)) place
+    ap (has (is_nonrelocatable place)) (done less) ∙ nonrelocatable-at c.args.place zone (filled new s) s c.requires.2
+    (nonrelocatable-filled new s (alike-resized c.args.size s.here)) place
 
 pub grow_in_place-requires-clause-still : goal.grow_in_place-requires-clause-still
 grow_in_place-requires-clause-still g c =
     let zone = g.S.BlockStore.zone c.args.store.now in
     let s = c.requires.0 in
-    let fixed = spot-passes (is_fixed c.args.place) zone s c.requires.1 in
+    let nonrelocatable = spot-passes (is_nonrelocatable c.args.place) zone s c.requires.1 in
     spot_and (spot_at c.args.place zone) s (λ s. in_run s.here ≡ false) c.requires.2
-    (stands c.args.place s.here fixed).1
+    (stands c.args.place s.here nonrelocatable).1
 
 pub grow_in_place-requires-clause-grows : goal.grow_in_place-requires-clause-grows
 grow_in_place-requires-clause-grows g c =
     let zone = g.S.BlockStore.zone c.args.store.now in
     let s = c.requires.0 in
-    let fixed = spot-passes (is_fixed c.args.place) zone s c.requires.1 in
-    let sizes = sizes-are c.args.place c.args.size c.in-Some.bytes c.bytes_at.result zone s c.requires.2 fixed
+    let nonrelocatable = spot-passes (is_nonrelocatable c.args.place) zone s c.requires.1 in
+    let sizes = sizes-are c.args.place c.args.size c.in-Some.bytes c.bytes_at.result zone s c.requires.2 nonrelocatable
     (sym c.phys.ensures ∙ c.in-Some.is) c.bytes_at.ensures in
     spot_and (spot_at c.args.place zone) s (λ s. size s.here < size (resized c.args.size s.here)) c.requires.2
     (omega (arith, sizes.0, sizes.1, c.if-bytes-bytes_at.false))
@@ -49,24 +49,24 @@ pub returns-clause-zone : goal.returns-clause-zone
 returns-clause-zone g c =
     let zone = g.S.BlockStore.zone c.args.store.now in
     let s = c.requires.0 in
-    let fixed = spot-passes (is_fixed c.args.place) zone s c.requires.1 in
-    let sizes = sizes-are c.args.place c.args.size c.in-Some.bytes c.bytes_at.result zone s c.requires.2 fixed
+    let nonrelocatable = spot-passes (is_nonrelocatable c.args.place) zone s c.requires.1 in
+    let sizes = sizes-are c.args.place c.args.size c.in-Some.bytes c.bytes_at.result zone s c.requires.2 nonrelocatable
     (sym c.phys.ensures ∙ c.in-Some.is) c.bytes_at.ensures in
     let zone' = g.S.BlockStore.zone c.grow_in_place.new.store in
     let fits = phys-some c.args.size c.in-Some.bytes (sym c.phys.ensures ∙ c.in-Some.is) in
-    fitted-done (is_fixed c.args.place) nothing c.args.size zone zone' c.grow_in_place.result fits.0
-    (grown-done (is_fixed c.args.place) nothing c.args.size c.args.place zone zone' c.grow_in_place.result s
-    c.requires.1 c.requires.2 (stands c.args.place s.here fixed).0
+    fitted-done (is_nonrelocatable c.args.place) nothing c.args.size zone zone' c.grow_in_place.result fits.0
+    (grown-done (is_nonrelocatable c.args.place) nothing c.args.size c.args.place zone zone' c.grow_in_place.result s
+    c.requires.1 c.requires.2 (stands c.args.place s.here nonrelocatable).0
     (omega (arith, sizes.0, sizes.1, c.if-bytes-bytes_at.false)) c.grow_in_place.ensures.zone)
 
 pub returns-clause-searches : goal.returns-clause-searches
 returns-clause-searches g c =
     let zone = g.S.BlockStore.zone c.args.store.now in
     let s = c.requires.0 in
-    let fixed = spot-passes (is_fixed c.args.place) zone s c.requires.1 in
-    let sizes = sizes-are c.args.place c.args.size c.in-Some.bytes c.bytes_at.result zone s c.requires.2 fixed
+    let nonrelocatable = spot-passes (is_nonrelocatable c.args.place) zone s c.requires.1 in
+    let sizes = sizes-are c.args.place c.args.size c.in-Some.bytes c.bytes_at.result zone s c.requires.2 nonrelocatable
     (sym c.phys.ensures ∙ c.in-Some.is) c.bytes_at.ensures in
     let fits = phys-some c.args.size c.in-Some.bytes (sym c.phys.ensures ∙ c.in-Some.is) in
-    searches-still (is_fixed c.args.place) nothing c.args.size c.args.place zone c.grow_in_place.result s c.requires.1
-    c.requires.2 (stands c.args.place s.here fixed).0 fits.0
+    searches-still (is_nonrelocatable c.args.place) nothing c.args.size c.args.place zone c.grow_in_place.result s c.requires.1
+    c.requires.2 (stands c.args.place s.here nonrelocatable).0 fits.0
     (omega (arith, sizes.0, sizes.1, c.if-bytes-bytes_at.false)) c.grow_in_place.ensures.searches

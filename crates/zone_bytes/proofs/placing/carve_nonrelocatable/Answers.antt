@@ -1,8 +1,8 @@
 use Rattle.std.proofs.Common.{◌+◌, ap, arith}
 use Rattle.mac_words.specs.Size.{padded}
 use Rattle.block_store.specs.Block.{size}
-use Rattle.zone_bytes.proofs.Placed.FixedCarved.{roomy, may-lay, fixed-lays-if}
-use Rattle.zone_bytes.proofs.placing.carve_fixed.Goals as goal
+use Rattle.zone_bytes.proofs.Placed.NonrelocatableCarved.{roomy, may-lay, nonrelocatable-lays-if}
+use Rattle.zone_bytes.proofs.placing.carve_nonrelocatable.Goals as goal
 
 pub size_at-requires-clause-way : goal.size_at-requires-clause-way
 size_at-requires-clause-way c =
@@ -50,6 +50,6 @@ returns-clause-lays c = λ first unused i.
     (padded c.args.size) c.requires.sound.2 c.requires.room in
     let n = c.size_at.ensures r.s.here r.s.above r.at.left in
     rw c.lay_block.ensures.bytes
-    (fixed-lays-if c.args.part.now.bytes c.args.place c.args.size
+    (nonrelocatable-lays-if c.args.part.now.bytes c.args.place c.args.size
     (c.args.place + c.size_at.result) c.padded_size.result r (ap
     (λ k. c.args.place + k) n) c.padded_size.ensures first unused i)

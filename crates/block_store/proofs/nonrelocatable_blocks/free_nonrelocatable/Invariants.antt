@@ -1,10 +1,10 @@
 use Rattle.std.proofs.Common.{◌≡◌, ◌++◌, take, drop}
 use Rattle.block_store.specs.Grow.{freed}
-use Rattle.block_store.specs.Block.{is_fixed}
+use Rattle.block_store.specs.Block.{is_nonrelocatable}
 use Rattle.block_store.specs.Inner.ListStore.{blocks_of}
-use Rattle.block_store.proofs.fixed.free_fixed.Given as goal
+use Rattle.block_store.proofs.nonrelocatable_blocks.free_nonrelocatable.Given as goal
 
 -- those so far are freed, the others as they were
 abbrev pub invariant-loop-i : goal.invariant-loop-i
-invariant-loop-i l = blocks_of l.entries.items ≡ freed (is_fixed l.place) (take l.i (blocks_of l.initial.entries.items))
+invariant-loop-i l = blocks_of l.entries.items ≡ freed (is_nonrelocatable l.place) (take l.i (blocks_of l.initial.entries.items))
     ++ drop l.i (blocks_of l.initial.entries.items)

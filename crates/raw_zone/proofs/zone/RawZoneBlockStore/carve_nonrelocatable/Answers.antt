@@ -2,7 +2,7 @@ use Rattle.std.proofs.Common.{◌≡◌, ℕ, IsTrue, refl, ap, sym, subst, arit
 use Rattle.std.proofs.lemmas.List.{length-replicate}
 use Rattle.std.specs.Option.{IfSome, IsSomeAnd}
 use Rattle.mac_words.specs.Size.{padded}
-use Rattle.block_store.specs.Block.{Fixed, is_room, size, free_sum}
+use Rattle.block_store.specs.Block.{Nonrelocatable, is_room, size, free_sum}
 use Rattle.block_store.specs.Room.{spot_at, filled}
 use Rattle.block_store.specs.Rest.{IsRest}
 use Rattle.zone_bytes.specs.Decode.{zone_in}
@@ -10,14 +10,14 @@ use Rattle.zone_bytes.specs.Table.{slot_in}
 use Rattle.zone_bytes.specs.Beside.{rest_in}
 use Rattle.zone_bytes.proofs.Laws.Lawful.{Made, rest-made, kept-made}
 use Rattle.zone_bytes.proofs.Places.Options.{the-if}
-use Rattle.zone_bytes.proofs.Placed.FixedCarved.{Roomy, roomy, fixed-made, fixed-free, fixed-masters, fixed-zone}
-use Rattle.zone_bytes.proofs.Placed.FixedCarved.{free-roomy}
+use Rattle.zone_bytes.proofs.Placed.NonrelocatableCarved.{Roomy, roomy, nonrelocatable-made, nonrelocatable-free, nonrelocatable-masters, nonrelocatable-zone}
+use Rattle.zone_bytes.proofs.Placed.NonrelocatableCarved.{free-roomy}
 use Rattle.zone_bytes.proofs.Marks.Owed.{with-marks, filled-replaced}
 use Rattle.raw_zone.specs.Parted.{zone_of, rest_of}
 use Rattle.zone_bytes.specs.Purgeable.{purgeable_sum}
 use Rattle.zone_bytes.proofs.Bounds.Given.{given-put}
-use Rattle.raw_zone.proofs.zone.RawZoneBlockStore.carve_fixed.Goals as goal
-use Rattle.raw_zone.proofs.zone.RawZoneBlockStore.carve_fixed.Goals.{After-self, After-carve_fixed}
+use Rattle.raw_zone.proofs.zone.RawZoneBlockStore.carve_nonrelocatable.Goals as goal
+use Rattle.raw_zone.proofs.zone.RawZoneBlockStore.carve_nonrelocatable.Goals.{After-self, After-carve_nonrelocatable}
 
 -- the Free block at the place
 here : (c : After-self) → Roomy c.self.inside.part.bytes c.args.place (padded c.args.size)
@@ -37,21 +37,21 @@ size_at-free-requires-clause-some c =
     let g = r.at.some in
     omega (arith, i, g)
 
-there : (c : After-carve_fixed) → Roomy c.self.inside.part.bytes c.args.place (padded c.args.size)
+there : (c : After-carve_nonrelocatable) → Roomy c.self.inside.part.bytes c.args.place (padded c.args.size)
 there c =
     roomy c.self.inside.part.bytes c.self.inside.first c.self.inside.unused c.args.place (padded c.args.size)
     c.self.invariant.sound
     (subst (λ v. IsSomeAnd (spot_at c.args.place (zone_of v)) (λ s. IsTrue (is_room (padded c.args.size) s.here)))
     (sym c.self.view_is) c.requires)
 
-done : (c : After-carve_fixed) → Made c.carve_fixed.new.part.bytes c.self.inside.first c.self.inside.unused
-    (filled (Fixed c.args.place (replicate c.args.size 0)) (there c).s) (slot_in c.self.inside.part.bytes)
+done : (c : After-carve_nonrelocatable) → Made c.carve_nonrelocatable.new.part.bytes c.self.inside.first c.self.inside.unused
+    (filled (Nonrelocatable c.args.place (replicate c.args.size 0)) (there c).s) (slot_in c.self.inside.part.bytes)
 done c =
     let r = there c in
-    fixed-made c.self.inside.part.bytes c.carve_fixed.new.part.bytes c.self.inside.first c.self.inside.unused
+    nonrelocatable-made c.self.inside.part.bytes c.carve_nonrelocatable.new.part.bytes c.self.inside.first c.self.inside.unused
     c.args.place
     c.args.size c.self.invariant.sound r
-    (the-if _ _ r.s r.is (c.carve_fixed.ensures.lays c.self.inside.first c.self.inside.unused c.self.invariant.sound))
+    (the-if _ _ r.s r.is (c.carve_nonrelocatable.ensures.lays c.self.inside.first c.self.inside.unused c.self.invariant.sound))
 
 pub padded_size-requires : goal.padded_size-requires
 padded_size-requires c =
@@ -64,28 +64,28 @@ padded_size-requires c =
 
 pub overflow_sub-self : goal.overflow_sub-self
 overflow_sub-self c =
-    let r = there (goal.at.overflow_sub-self c).After-carve_fixed in
+    let r = there (goal.at.overflow_sub-self c).After-carve_nonrelocatable in
     let q = free-roomy c.self.inside.part.bytes c.args.place (padded c.args.size) r in
     let f = c.self.invariant.free_is in
     let p = c.padded_size.ensures in
     omega (arith, q, f, p)
 
 pub invariant_of-self-inside : goal.invariant_of-self-inside
-invariant_of-self-inside c = ((done (goal.at.invariant_of-self-inside c).After-carve_fixed).lawful, tt)
+invariant_of-self-inside c = ((done (goal.at.invariant_of-self-inside c).After-carve_nonrelocatable).lawful, tt)
 
 pub invariant_of-self : goal.invariant_of-self
 invariant_of-self c =
-    let r = there (goal.at.invariant_of-self c).After-carve_fixed in
-    let m = done (goal.at.invariant_of-self c).After-carve_fixed in
-    let q = fixed-free c.self.inside.part.bytes c.carve_fixed.new.part.bytes c.self.inside.first c.self.inside.unused
+    let r = there (goal.at.invariant_of-self c).After-carve_nonrelocatable in
+    let m = done (goal.at.invariant_of-self c).After-carve_nonrelocatable in
+    let q = nonrelocatable-free c.self.inside.part.bytes c.carve_nonrelocatable.new.part.bytes c.self.inside.first c.self.inside.unused
     c.args.place
     c.args.size c.self.invariant.sound r
-    (the-if _ _ r.s r.is (c.carve_fixed.ensures.lays c.self.inside.first c.self.inside.unused
+    (the-if _ _ r.s r.is (c.carve_nonrelocatable.ensures.lays c.self.inside.first c.self.inside.unused
     c.self.invariant.sound)) in
     let z = ap free_sum m.zone in
     let f = c.self.invariant.free_is in
     let p = c.padded_size.ensures in
-    let g = given-put (Fixed c.args.place (replicate c.args.size 0)) refl r.s (zone_in c.self.inside.part.bytes) r.at.whole in
+    let g = given-put (Nonrelocatable c.args.place (replicate c.args.size 0)) refl r.s (zone_in c.self.inside.part.bytes) r.at.whole in
     let y = ap purgeable_sum m.zone in
     let b = c.self.invariant.bound in
     with-marks _ _ _ _ _ _ (kept-made _ _ _ _ _ _ m (omega (arith, q, z, f, p))) c.note.ensures
@@ -93,33 +93,33 @@ invariant_of-self c =
 
 pub returns-clause-ok : goal.returns-clause-ok
 returns-clause-ok c =
-    subst (λ v. IfSome (spot_at c.args.place (zone_of v)) (λ s. zone_in c.carve_fixed.new.part.bytes ≡ filled
-    (Fixed c.args.place (replicate c.args.size 0)) s))
+    subst (λ v. IfSome (spot_at c.args.place (zone_of v)) (λ s. zone_in c.carve_nonrelocatable.new.part.bytes ≡ filled
+    (Nonrelocatable c.args.place (replicate c.args.size 0)) s))
     c.self.view_is
-    (fixed-zone c.self.inside.part.bytes c.carve_fixed.new.part.bytes c.self.inside.first c.self.inside.unused
+    (nonrelocatable-zone c.self.inside.part.bytes c.carve_nonrelocatable.new.part.bytes c.self.inside.first c.self.inside.unused
     c.args.place
-    c.args.size c.self.invariant.sound (there (goal.at.returns-clause-ok c).After-carve_fixed)
-    (the-if _ _ (there (goal.at.returns-clause-ok c).After-carve_fixed).s (there
-    (goal.at.returns-clause-ok c).After-carve_fixed).is
-    (c.carve_fixed.ensures.lays c.self.inside.first c.self.inside.unused c.self.invariant.sound)))
+    c.args.size c.self.invariant.sound (there (goal.at.returns-clause-ok c).After-carve_nonrelocatable)
+    (the-if _ _ (there (goal.at.returns-clause-ok c).After-carve_nonrelocatable).s (there
+    (goal.at.returns-clause-ok c).After-carve_nonrelocatable).is
+    (c.carve_nonrelocatable.ensures.lays c.self.inside.first c.self.inside.unused c.self.invariant.sound)))
 
 pub returns-clause-rest : goal.returns-clause-rest
 returns-clause-rest c =
-    subst (λ v. IsRest (rest_of v) (rest_in c.carve_fixed.new.part c.self.inside.unused c.self.inside.moves))
+    subst (λ v. IsRest (rest_of v) (rest_in c.carve_nonrelocatable.new.part c.self.inside.unused c.self.inside.moves))
     c.self.view_is
-    (rest-made c.self.inside.part c.carve_fixed.new.part (slot_in c.self.inside.part.bytes) c.self.inside.unused
-    c.self.inside.moves (done (goal.at.returns-clause-rest c).After-carve_fixed).slots
-    (fixed-masters c.self.inside.part.bytes c.carve_fixed.new.part.bytes c.self.inside.first c.self.inside.unused
+    (rest-made c.self.inside.part c.carve_nonrelocatable.new.part (slot_in c.self.inside.part.bytes) c.self.inside.unused
+    c.self.inside.moves (done (goal.at.returns-clause-rest c).After-carve_nonrelocatable).slots
+    (nonrelocatable-masters c.self.inside.part.bytes c.carve_nonrelocatable.new.part.bytes c.self.inside.first c.self.inside.unused
     c.args.place
-    c.args.size c.self.invariant.sound (there (goal.at.returns-clause-rest c).After-carve_fixed)
-    (the-if _ _ (there (goal.at.returns-clause-rest c).After-carve_fixed).s (there
-    (goal.at.returns-clause-rest c).After-carve_fixed).is
-    (c.carve_fixed.ensures.lays c.self.inside.first c.self.inside.unused c.self.invariant.sound)))
-    c.carve_fixed.ensures.same)
+    c.args.size c.self.invariant.sound (there (goal.at.returns-clause-rest c).After-carve_nonrelocatable)
+    (the-if _ _ (there (goal.at.returns-clause-rest c).After-carve_nonrelocatable).s (there
+    (goal.at.returns-clause-rest c).After-carve_nonrelocatable).is
+    (c.carve_nonrelocatable.ensures.lays c.self.inside.first c.self.inside.unused c.self.invariant.sound)))
+    c.carve_nonrelocatable.ensures.same)
 
 pub overflow_add-place : goal.overflow_add-place
 overflow_add-place c =
-    let r = there (goal.at.overflow_add-place c).After-carve_fixed in
+    let r = there (goal.at.overflow_add-place c).After-carve_nonrelocatable in
     let n = c.size_at-free.ensures r.s.here r.s.above r.at.left in
     let i = r.at.inside in
     let m = r.at.small in
@@ -129,17 +129,17 @@ pub note-requires-clause-sound : goal.note-requires-clause-sound
 note-requires-clause-sound c = (
   c.self.inside.first,
   c.self.inside.unused,
-  (done (goal.at.note-requires-clause-sound c).After-carve_fixed).sound,
+  (done (goal.at.note-requires-clause-sound c).After-carve_nonrelocatable).sound,
 )
 
 pub note-requires-clause-marks : goal.note-requires-clause-marks
 note-requires-clause-marks c =
-    let a = (goal.at.note-requires-clause-marks c).After-carve_fixed in
+    let a = (goal.at.note-requires-clause-marks c).After-carve_nonrelocatable in
     let r = there a in
     let l = ap padded (length-replicate {A = ℕ} c.args.size 0) in (
       zone_in c.self.inside.part.bytes,
       filled-replaced c.self.inside.part.bytes c.args.place (padded c.args.size) r
-          (Fixed c.args.place (replicate c.args.size 0)) refl (omega (arith, l)) c.size_at-free.result
-          (c.size_at-free.ensures r.s.here r.s.above r.at.left) (zone_in c.carve_fixed.new.part.bytes) (done a).zone,
+          (Nonrelocatable c.args.place (replicate c.args.size 0)) refl (omega (arith, l)) c.size_at-free.result
+          (c.size_at-free.ensures r.s.here r.s.above r.at.left) (zone_in c.carve_nonrelocatable.new.part.bytes) (done a).zone,
       c.self.invariant.marked,
     )

@@ -5,7 +5,7 @@ use Rattle.heap_calls.specs.State.{Memory}
 use Rattle.heap_calls.specs.Inner.Numbered.{handle_number, pointer_number}
 use Rattle.heap_calls.proofs.Numbering.Changing.{some-masters}
 use Rattle.heap_calls.proofs.Tries.Counting.{try_few}
-use Rattle.heap_calls.proofs.laws.a_heap_looks_few_times.Goals as goal
+use Rattle.heap_calls.proofs.laws.a_heap_searches_few_times.Goals as goal
 
 pub returns-clause-masters : goal.returns-clause-masters
 returns-clause-masters g c =

@@ -1,13 +1,13 @@
 use Rattle.std.proofs.Common.{length, ap}
 use Rattle.std.proofs.lemmas.Result.{on_err_weaker}
 use Rattle.block_store.specs.Inner.ListStore.{blocks_of, slots_of}
-use Rattle.block_store.proofs.Nonrelocatable.FixedBlocks.{lawful-fixed}
-use Rattle.block_store.proofs.list_store.ListStoreBlockStore.carve_fixed.Goals as goal
+use Rattle.block_store.proofs.Nonrelocatable.Blocks.{lawful-nonrelocatable}
+use Rattle.block_store.proofs.list_store.ListStoreBlockStore.carve_nonrelocatable.Goals as goal
 
 pub invariant_of-self : goal.invariant_of-self
 invariant_of-self c =
     let self = c.args.self.now in
-    let lawful = lawful-fixed c.fill.result (slots_of self.slots.items) self.bytes (length self.slots.items)
+    let lawful = lawful-nonrelocatable c.fill.result (slots_of self.slots.items) self.bytes (length self.slots.items)
     (blocks_of self.blocks.items) (blocks_of c.fill.new.entries.items) c.args.place c.args.size
     c.in_ok-content.content.items (record {
       covered = self.covered;

@@ -1,4 +1,4 @@
--- A new Fixed block at the lower end of a Free one.
+-- A new nonrelocatable block at the lower end of a Free one.
 use Rattle.std.proofs.Common.{◌≡◌, ℕ, ◌+◌, ◌-◌, ◌≤◌, IsTrue, Some, List, [], ◌∷◌, ◌++◌, length, replicate}
 use Rattle.std.proofs.Common.{refl, sym, ap, ◌∙◌, subst, arith}
 use Rattle.std.proofs.lemmas.Bool.{false≢true}
@@ -10,7 +10,7 @@ use Rattle.heap_words.specs.Words.{header}
 use Rattle.heap_words.specs.Headers.{header_bytes}
 use Rattle.heap_words.specs.declared.header.Header.{Header}
 use Rattle.heap_words.specs.declared.header.Tag.TheVariants as tag
-use Rattle.block_store.specs.Block.{Block, Free, Fixed, Masters, Relocatable, size, sizes, free, free_of, free_sum}
+use Rattle.block_store.specs.Block.{Block, Free, Nonrelocatable, Masters, Relocatable, size, sizes, free, free_of, free_sum}
 use Rattle.block_store.specs.Block.{count, is_masters}
 use Rattle.block_store.specs.Block.{is_room, resized_content, tidy}
 use Rattle.block_store.specs.Room.{Spot, spot_at, filled}
@@ -63,7 +63,7 @@ roomy xs first count place need i h =
   where
     free-of : (b : Block) → IsTrue (is_room need b) → (n : ℕ) × (b ≡ Free n) × (need ≤ n)
     free-of (Free n) h = (n, refl, le-back need n h)
-    free-of (Fixed id content) h = absurd (false≢true h)
+    free-of (Nonrelocatable id content) h = absurd (false≢true h)
     free-of Masters h = absurd (false≢true h)
     free-of (Relocatable id flags content) h = absurd (false≢true h)
 
@@ -78,10 +78,10 @@ free-roomy xs place need r =
 module _ (xs : List ℕ) (place n top z : ℕ) (r : Roomy xs place (padded n)) (t : top ≡ place + size r.s.here)
     (pz : z ≡ padded n) where
   abbrev head : Header
-  head = record { size = z; tag = tag.Fixed; logical = n; slot = 0; flags = 0 }
+  head = record { size = z; tag = tag.Nonrelocatable; logical = n; slot = 0; flags = 0 }
 
   abbrev new : Block
-  new = Fixed place (replicate n 0)
+  new = Nonrelocatable place (replicate n 0)
 
   size-new : size new ≡ padded n
   size-new = ap padded (length-replicate {A = ℕ} n 0)
@@ -115,8 +115,8 @@ module _ (xs : List ℕ) (place n top z : ℕ) (r : Roomy xs place (padded n)) (
       ap (λ q. header (z + 1) n 0 0 ++ q) c ∙ (λ j. header (b j + 1) (sym l j) 0 0 ++ replicate n 0)
 
   module _ (first count : ℕ) (i : IsSound xs first count) where
-    pub fixed-lays : Lays (laid head place top 0 xs) (filled new r.s) (slot_in xs) i.unused
-    fixed-lays =
+    pub nonrelocatable-lays : Lays (laid head place top 0 xs) (filled new r.s) (slot_in xs) i.unused
+    nonrelocatable-lays =
         let a = r.at in
         let g = a.some in
         let l = ap size r.here in
@@ -134,12 +134,12 @@ module _ (xs : List ℕ) (place n top z : ℕ) (r : Roomy xs place (padded n)) (
         )) plain
         head 0 may-lay new refl (size-new ∙ sym pz) (sym (ap (λ b. names_of b ++ []) r.here)) refl head-is tt)
 
-    pub fixed-lays-if : IfSome (spot_at place (zone_in xs)) (λ s. Lays (laid head place top 0 xs) (filled new s)
+    pub nonrelocatable-lays-if : IfSome (spot_at place (zone_in xs)) (λ s. Lays (laid head place top 0 xs) (filled new s)
         (slot_in xs) i.unused)
-    fixed-lays-if = if-spot (spot_at place (zone_in xs)) (λ s. Lays (laid head place top 0 xs) (filled new s)
+    nonrelocatable-lays-if = if-spot (spot_at place (zone_in xs)) (λ s. Lays (laid head place top 0 xs) (filled new s)
         (slot_in xs) i.unused)
         (λ s e. subst (λ q. Lays (laid head place top 0 xs) (filled new q) (slot_in xs) i.unused)
-        (one-spot (spot_at place (zone_in xs)) r.s s r.is e) fixed-lays)
+        (one-spot (spot_at place (zone_in xs)) r.s s r.is e) nonrelocatable-lays)
 
 -- a tidy list of blocks that was laid
 pub tidy-made : (xs now : List ℕ) (first unused : ℕ) (i : IsSound xs first unused) (blocks : List Block)
@@ -149,32 +149,32 @@ tidy-made xs now first unused i blocks h =
 
 -- the zone with the new block
 module _ (xs now : List ℕ) (first unused place n : ℕ) (i : IsSound xs first unused) (r : Roomy xs place (padded n))
-    (h : Lays now (filled (Fixed place (replicate n 0)) r.s) (slot_in xs) i.unused) where
+    (h : Lays now (filled (Nonrelocatable place (replicate n 0)) r.s) (slot_in xs) i.unused) where
   abbrev block : Block
-  block = Fixed place (replicate n 0)
+  block = Nonrelocatable place (replicate n 0)
 
   fits : size block ≤ r.bytes
   fits = let l = ap padded (length-replicate {A = ℕ} n 0) in let f = r.room in omega (arith, l, f)
 
-  pub fixed-made : Made now first unused (filled block r.s) (slot_in xs)
-  fixed-made = tidy-made xs now first unused i (r.s.below ++ block ∷ Free (size r.s.here - size block) ∷ r.s.above) h
+  pub nonrelocatable-made : Made now first unused (filled block r.s) (slot_in xs)
+  nonrelocatable-made = tidy-made xs now first unused i (r.s.below ++ block ∷ Free (size r.s.here - size block) ∷ r.s.above) h
 
-  pub fixed-free : free_sum (zone_in now) + padded n ≡ free_sum (zone_in xs)
-  fixed-free =
-      let a = ap free_sum fixed-made.zone in
+  pub nonrelocatable-free : free_sum (zone_in now) + padded n ≡ free_sum (zone_in xs)
+  nonrelocatable-free =
+      let a = ap free_sum nonrelocatable-made.zone in
       let b = filled-free block refl r.s r.bytes r.here fits in
       let c = ap free_sum r.at.whole in
       let l = ap padded (length-replicate {A = ℕ} n 0) in
       omega (arith, a, b, c, l)
 
-  pub fixed-masters : count is_masters (zone_in now) ≡ count is_masters (zone_in xs)
-  fixed-masters =
-      let a = ap (count is_masters) fixed-made.zone in
+  pub nonrelocatable-masters : count is_masters (zone_in now) ≡ count is_masters (zone_in xs)
+  nonrelocatable-masters =
+      let a = ap (count is_masters) nonrelocatable-made.zone in
       let b = filled-count block refl r.s r.bytes r.here fits is_masters (λ n. refl) in
       let c = ap (count is_masters) r.at.whole in
       omega (arith, a, b, c)
 
-  pub fixed-zone : IfSome (spot_at place (zone_in xs)) (λ s. zone_in now ≡ filled block s)
-  fixed-zone = if-spot (spot_at place (zone_in xs)) (λ s. zone_in now ≡ filled block s)
+  pub nonrelocatable-zone : IfSome (spot_at place (zone_in xs)) (λ s. zone_in now ≡ filled block s)
+  nonrelocatable-zone = if-spot (spot_at place (zone_in xs)) (λ s. zone_in now ≡ filled block s)
       (λ s e. subst (λ q. zone_in now ≡ filled block q) (one-spot (spot_at place
-      (zone_in xs)) r.s s r.is e) fixed-made.zone)
+      (zone_in xs)) r.s s r.is e) nonrelocatable-made.zone)
