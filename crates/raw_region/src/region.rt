@@ -107,8 +107,8 @@ impl Region {
         Part { bytes, home, at }
     }
 
-    /// Returns a part to the region; the part's bytes keep their values. The other windows stay in use, and no two of
-    /// them have a byte in common.
+    /// Returns a part to the region; the part's bytes keep their values. The other windows stay in use. No two windows
+    /// have a byte in common, before or after.
     pub fn join(&mut self, part: Part)
         requires of_this { part.home ≡ self.old.home }
         requires out { Contains self.old.out (window part.at (length part.bytes)) }
@@ -116,6 +116,7 @@ impl Region {
         ensures same_length { length self.new.bytes ≡ length self.old.bytes }
         ensures bytes { self.new.bytes ≡ written part.at part.bytes self.old.bytes }
         ensures out { self.new.out ≡ without_window part.at (length part.bytes) self.old.out }
+        ensures was_in_order { InOrder 0 self.old.out (length self.old.bytes) }
         ensures in_order { InOrder 0 self.new.out (length self.new.bytes) }
     {
         let Part { bytes, home, at } = part;

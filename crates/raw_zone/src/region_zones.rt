@@ -58,9 +58,7 @@ impl ZoneMaker for RegionZones {
         Ok(RawZone::new(part))
     }
 
-    fn close(&mut self, window: Window, store: RawZone) {
-        let _out = self.region.count_out();
-        let _window = window;
+    fn close(&mut self, _window: Window, store: RawZone) {
         self.region.join(store.into_part());
     }
 

@@ -116,7 +116,6 @@ impl ResFile {
         ensures count { result ≡ length (of_type (big_number 4 ty.0) self.now.references) }
         ensures fits { result < 2 ^ 63 }
     {
-        let _most = self.refs.len();
         count_of(self.refs.as_slice(), kind_of(ty))
     }
 

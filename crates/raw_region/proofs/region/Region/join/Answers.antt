@@ -1,5 +1,7 @@
 use Rattle.std.proofs.Common.{◌≡◌, ℕ, ◌+◌, List, length, drop, refl, ap, ◌∙◌}
 use Rattle.std.specs.List.{position_or_len}
+use Rattle.std.proofs.Common.{subst}
+use Rattle.windows.specs.Windows.{InOrder}
 use Rattle.raw_region.specs.Gaps.{bytes_of, windows_of, gap_is}
 use Rattle.raw_region.specs.Regions.{IsRegion}
 use Rattle.raw_region.specs.declared.gaps.Gap.{Gap}
@@ -62,3 +64,7 @@ pub returns-clause-in_order : goal.returns-clause-in_order
 returns-clause-in_order c =
     let new = region_is (goal.at.returns-clause-in_order c).After-shut in
     windows_in_order c.self.inside.home c.shut.new.gaps.items new.laid new.first
+
+pub returns-clause-was_in_order : goal.returns-clause-was_in_order
+returns-clause-was_in_order c = subst (λ w. InOrder 0 w.out (length w.bytes)) c.self.view_is
+    (windows_in_order c.self.inside.home c.self.inside.gaps.items c.self.invariant.laid c.self.invariant.first)
