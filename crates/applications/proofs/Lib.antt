@@ -17,3 +17,4 @@ pub mod Elsewhere
 mod Rows
 pub mod AnyRuns
 pub mod Runs
+pub mod Filing

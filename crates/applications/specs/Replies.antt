@@ -70,6 +70,10 @@ Settled {T} a = (value : T) → a.reply ≡ Ok value → a.wants ≡ false
 abbrev pub Came : Course → List ℕ → List ℕ → Running → Type 0
 Came c old new after = (new ≡ old ++ lines_told c.lines) × (after ≡ c.after)
 
+-- A text begins with another.
+abbrev pub Extends : List ℕ → List ℕ → Type 0
+Extends old new = (more : List ℕ) × (new ≡ old ++ more)
+
 -- How an application ends with a call of this code, where the call ends the application.
 abbrev pub exit_as : Bool → OsErr → Option Exit
 exit_as over code = if over then Some (if is_fatal code then exit.Stops else exit.Quits) else None
@@ -107,3 +111,9 @@ CameRound (Ends c) (next.Ended ends) old new after = (ends ≡ exit_of c) × Cam
 CameRound (Ends c) next.Again old new after = ⊥
 CameRound (Again c) (next.Ended ends) old new after = ⊥
 CameRound (Again c) next.Again old new after = Came c old new after
+
+-- Holds where the call has ended and the application goes on.
+abbrev pub goes_on : Next → Bool
+goes_on next.Again = false
+goes_on (next.Ended None) = true
+goes_on (next.Ended (Some exit)) = false

@@ -4,7 +4,7 @@ ghost use Rattle.std.specs.Prelude.{◌≡◌, map, IfOk, IfErr};
 ghost use Rattle.block_store.specs.Block.{fresh, sizes};
 ghost use Rattle.heap_calls.specs.Stored.{IsNamed};
 ghost use Rattle.res_calls.specs.View.{view_file};
-ghost use Rattle.applications.specs.Trying.{Running, launched, launched_with};
+ghost use Rattle.applications.specs.Trying.{launched, launched_with};
 
 use crate::names::Names;
 use crate::own::own_resources;
@@ -33,6 +33,10 @@ pub struct Application<'s, S: BlockStore> {
 }
 
 impl<'s, S: BlockStore> Model for Application<'s, S> {
+    ghost use Rattle.std.specs.Prelude.{◌≡◌, true};
+    ghost use Rattle.script_text.specs.Script.{are_allowed};
+    ghost use Rattle.applications.specs.Trying.{Running};
+
     ghost Value = { Running };
 
     ghost view = { λ a. record {
@@ -42,6 +46,8 @@ impl<'s, S: BlockStore> Model for Application<'s, S> {
       names = a.names;
       grow = a.grow.now;
     } };
+
+    ghost invariant = { λ a. are_allowed a.grow.now ≡ true };
 }
 
 impl<'s, S: BlockStore> Application<'s, S> {

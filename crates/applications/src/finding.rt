@@ -1,6 +1,6 @@
 //! One try of a call of the Resource Manager.
 
-ghost use Rattle.std.specs.Prelude.{◌≡◌, IfOk, OnOk};
+ghost use Rattle.std.specs.Prelude.{◌≡◌, IfOk, OnOk, OnErr};
 ghost use Rattle.res_calls.specs.Asked as finds;
 ghost use Rattle.res_calls.specs.Fetching.{fetches};
 ghost use Rattle.res_calls.specs.Given.{managers};
@@ -23,6 +23,7 @@ impl<'s, S: BlockStore> Application<'s, S> {
             self.old.names) (managers_of self.old)) self.old)) }
         ensures after { OnOk result (self.new ≡ (resource_tried (finds.served (resource_asked call.now self.old.names)
             (managers_of self.old)) self.old).after) }
+        ensures files { OnErr result (self.new.resources.files ≡ self.old.resources.files) }
         ensures lies { self.new.memory.window ≡ self.old.memory.window }
     {
         self.answer_resource(call)
@@ -34,6 +35,7 @@ impl<'s, S: BlockStore> Application<'s, S> {
             (managers_of self.old)) (fetches (resource_asked call.now self.old.names))) }
         ensures after { OnOk result (self.new ≡ (resource_tried (finds.served (resource_asked call.now self.old.names)
             (managers_of self.old)) self.old).after) }
+        ensures files { OnErr result (self.new.resources.files ≡ self.old.resources.files) }
         ensures lies { self.new.memory.window ≡ self.old.memory.window }
     {
         answered(
@@ -58,6 +60,7 @@ fn answered<S: BlockStore>(
         (managers resources.old heap.old)) (fetches (resource_asked call.now names.now))) }
     ensures after { OnOk result (managers resources.new heap.new ≡ (finds.served (resource_asked call.now names.now)
         (managers resources.old heap.old)).after) }
+    ensures files { OnErr result (resources.new.files ≡ resources.old.files) }
     ensures lies { heap.new.window ≡ heap.old.window }
 {
     match call {

@@ -1,11 +1,11 @@
 //! One try of a call on a segment.
 
-ghost use Rattle.std.specs.Prelude.{◌≡◌, None, false, IfOk, OnOk};
+ghost use Rattle.std.specs.Prelude.{◌≡◌, None, false, IfOk, OnOk, OnErr};
 ghost use Rattle.mac_words.specs.Told.{Done};
 ghost use Rattle.res_calls.specs.Fetch as fetch;
 ghost use Rattle.segments.specs.Calls.{Program, Answer};
 ghost use Rattle.segments.specs.Calls as calls;
-ghost use Rattle.segments.specs.Given.{IsLoaded, IsCalled, shown_as};
+ghost use Rattle.segments.specs.Given.{IsLoaded, IsCalled, WantsHost, shown_as};
 ghost use Rattle.segments.specs.Asked.{served, telling, tell_loaded, tell_called, tell_shown};
 ghost use Rattle.applications.specs.Trying.{Running, segment_tried, program_of, is_fatal};
 ghost use Rattle.applications.specs.Replies.{IsTried, Settled};
@@ -42,6 +42,7 @@ fn loaded(answer: Result<bool, Unloaded>) -> Result<Tried, AllocError>
         → IsLoaded a answer after → Settled a → IsTried tried (segment_tried (telling tell_loaded a) r)) }
     ensures after { OnOk result ((a : Answer fetch.Fetched) (after : Program) → IsLoaded a answer after
         → a.after ≡ after) }
+    ensures wants { OnErr result (WantsHost answer) }
 {
     match answer {
         Ok(read) => Ok(tried_as(Reply::number(u32::from(read)), None, false)),
@@ -67,6 +68,7 @@ fn called(answer: Result<Called, Unloaded>) -> Result<Tried, AllocError>
         → IsCalled a answer after → Settled a → IsTried tried (segment_tried (telling tell_called a) r)) }
     ensures after { OnOk result ((a : Answer calls.Called) (after : Program) → IsCalled a answer after
         → a.after ≡ after) }
+    ensures wants { OnErr result (WantsHost answer) }
 {
     match answer {
         Ok(called) => Ok(tried_as(Reply::entry(called.segment, called.read), None, false)),
@@ -115,6 +117,7 @@ impl<'s, S: BlockStore> Application<'s, S> {
             self.old)) }
         ensures after { OnOk result (self.new ≡ (segment_tried (served call.now (program_of self.old))
             self.old).after) }
+        ensures files { OnErr result (self.new.resources.files ≡ self.old.resources.files) }
         ensures lies { self.new.memory.window ≡ self.old.memory.window }
     {
         match call {

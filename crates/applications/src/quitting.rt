@@ -1,6 +1,6 @@
 //! The end of an application.
 
-ghost use Rattle.std.specs.Prelude.{◌≡◌, map, IfOk, OnOk};
+ghost use Rattle.std.specs.Prelude.{◌≡◌, map, IfOk, OnOk, OnErr};
 ghost use Rattle.res_calls.specs.Leaving.{leave};
 ghost use Rattle.res_calls.specs.View.{view_file};
 ghost use Rattle.applications.specs.Trying.{managers_of};
@@ -25,12 +25,13 @@ pub enum Exit {
 impl<'s, S: BlockStore> Application<'s, S> {
     /// Quits the application: updates and closes its open files, the file opened last first. Returns the first code
     /// that is not 0: -34 (dskFulErr) where the content of a file does not fit the format of a resource fork; the fork
-    /// of that file stays as it is.
+    /// of that file stays as it is. Where the host is out of memory, all files stay as they were.
     ///
     /// *Inside Macintosh: Processes*, chapter 2, "Terminating a Process".
     pub fn quit(&mut self) -> Result<OsErr, AllocError>
         ensures code { IfOk result (λ code. code ≡ (leave (managers_of self.old)).code) }
         ensures after { OnOk result (self.new ≡ has_quit self.old) }
+        ensures files { OnErr result (self.new.resources.files ≡ self.old.resources.files) }
         ensures lies { self.new.memory.window ≡ self.old.memory.window }
     {
         self.resources.leave(self.alloc, &mut self.heap)
@@ -42,6 +43,7 @@ impl<'s, S: BlockStore> Application<'s, S> {
     pub fn end(&mut self, exit: Option<Exit>) -> Result<OsErr, AllocError>
         ensures code { IfOk result (λ code. code ≡ (end_by exit self.old).code) }
         ensures after { OnOk result (self.new ≡ has_ended exit self.old) }
+        ensures files { OnErr result (self.new.resources.files ≡ self.old.resources.files) }
         ensures lies { self.new.memory.window ≡ self.old.memory.window }
     {
         match exit {

@@ -1,14 +1,18 @@
 //! A step of an application: a call is tried, and tried again as long as the grow-zone script makes room.
 
-ghost use Rattle.std.specs.Prelude.{◌≡◌, ◌++◌, [], IfOk, OnOk, nat_lt};
+ghost use Rattle.std.specs.Prelude.{◌≡◌, ◌++◌, ◌+◌, ◌≤◌, [], length, false, true, None, IfOk, IsOk, OnOk, OnErr, is_some};
+ghost use Rattle.std.specs.Prelude.{nat_lt, vec_len};
+ghost use Rattle.std.specs.Vec.{vec_capacity};
 ghost use Rattle.heap_calls.specs.Staying.{ease};
 ghost use Rattle.script_text.specs.Call.{word_of};
-ghost use Rattle.script_text.specs.Transcript.{reply_line, values_of};
+ghost use Rattle.script_text.specs.Script.{are_allowed};
+ghost use Rattle.script_text.specs.declared.transcript.TheConstants.{CODE_ROOM};
+ghost use Rattle.script_text.specs.Transcript.{call_at, reply_line, values_of};
 ghost use Rattle.applications.specs.Trying.{once};
 ghost use Rattle.applications.specs.Step.{marked, marked_for, grown, grown_for, kept_anew, names_given, round, step};
 ghost use Rattle.applications.specs.Step.{course_of, turn};
 ghost use Rattle.applications.specs.Application.{bytes_told, lines_told};
-ghost use Rattle.applications.specs.Replies.{Came, CameRound, exit_of};
+ghost use Rattle.applications.specs.Replies.{Came, CameRound, exit_of, Extends, goes_on};
 
 use crate::application::Application;
 use crate::naming::{named, named_resource};
@@ -18,7 +22,7 @@ use crate::turns::up_to_wait;
 use crate::watch::{Unwatched, Watch, tell};
 use block_store::BlockStore;
 use mac_words::{Call, HeapCall, ResourceCall};
-use script_text::{CallWord, Line, Script, write_grow_reply, write_reply};
+use script_text::{CallWord, Line, Script, line_room, write_grow_reply, write_reply};
 use std::alloc::AllocError;
 
 /// What is done after a round of a step.
@@ -69,8 +73,11 @@ impl<'s, S: BlockStore> Application<'s, S> {
         lines: &[Line],
         text: &mut Vec<u8>,
     ) -> Result<(), AllocError>
+        requires allowed { are_allowed lines.now ≡ true }
         ensures came { OnOk result (Came (grown script.now.blocks lines.now self.old) text.old.items text.new.items
             self.new) }
+        ensures front { Extends text.old.items text.new.items }
+        ensures files { self.new.resources.files ≡ self.old.resources.files }
         ensures lies { self.new.memory.window ≡ self.old.memory.window }
     {
         for line in lines {
@@ -98,6 +105,8 @@ impl<'s, S: BlockStore> Application<'s, S> {
     ) -> Result<(), AllocError>
         ensures came { OnOk result (Came (grown_for script.now.blocks line.now reading self.old) text.old.items
             text.new.items self.new) }
+        ensures front { Extends text.old.items text.new.items }
+        ensures files { self.new.resources.files ≡ self.old.resources.files }
         ensures lies { self.new.memory.window ≡ self.old.memory.window }
     {
         let lines = self.grow;
@@ -120,6 +129,8 @@ impl<'s, S: BlockStore> Application<'s, S> {
             text.new.items self.new) }
         ensures room { IfOk result (λ made.
             made ≡ nat_lt (ease self.old.memory.heap.zone) (ease self.new.memory.heap.zone)) }
+        ensures front { Extends text.old.items text.new.items }
+        ensures files { self.new.resources.files ≡ self.old.resources.files }
         ensures lies { self.new.memory.window ≡ self.old.memory.window }
     {
         if self.grow.is_empty() {
@@ -147,6 +158,8 @@ impl<'s, S: BlockStore> Application<'s, S> {
     /// Binds the name of a call that binds a name to the number that the call returned.
     fn bind(&mut self, call: &Call, given: Option<usize>) -> Result<(), AllocError>
         ensures bound { OnOk result (self.new ≡ record self.old { names = names_given call.now given self.old.names }) }
+        ensures resources { self.new.resources ≡ self.old.resources }
+        ensures none { given ≡ None → IsOk result }
         ensures lies { self.new.memory.window ≡ self.old.memory.window }
     {
         let Some(number) = given else { return Ok(()) };
@@ -179,6 +192,11 @@ impl<'s, S: BlockStore> Application<'s, S> {
           names = names_given line.now.call tried.now.given
               self.old.names;
         }) }
+        ensures front { Extends text.old.items text.new.items }
+        ensures resources { self.new.resources ≡ self.old.resources }
+        ensures room { vec_len text.old + length (call_at line.now.number (word_of line.now.call)) + CODE_ROOM
+            ≤ vec_capacity text.old → tried.now.given ≡ None
+            → values_of tried.now.reply (bytes_told (once [] line.now.call self.old).told) ≡ [] → IsOk result }
         ensures lies { self.new.memory.window ≡ self.old.memory.window }
     {
         let shown = self.shown(&line.call);
@@ -192,15 +210,22 @@ impl<'s, S: BlockStore> Application<'s, S> {
         self.bind(&line.call, tried.given)
     }
 
-    /// Tries a call, and runs the grow-zone script where the call found no room.
-    fn round(
+    /// Tries a call, and runs the grow-zone script where the call found no room. `text` has room for the line of a call
+    /// whose reply has no values, so that nothing is wanted of the host after a file was written.
+    fn try_call(
         &mut self,
         script: &'s Script,
         line: &Line,
         text: &mut Vec<u8>,
     ) -> Result<Next, AllocError>
+        requires room { vec_len text.old + length (call_at line.now.number (word_of line.now.call)) + CODE_ROOM
+            ≤ vec_capacity text.old }
         ensures came { IfOk result (λ next. CameRound (round script.now.blocks line.now self.old) next text.old.items
             text.new.items self.new) }
+        ensures front { Extends text.old.items text.new.items }
+        ensures files { OnErr result (self.new.resources.files ≡ self.old.resources.files) }
+        ensures stays { IfOk result (λ next. goes_on next ≡ false
+            → self.new.resources.files ≡ self.old.resources.files) }
         ensures lies { self.new.memory.window ≡ self.old.memory.window }
     {
         let tried = self.once(script, &line.call)?;
@@ -224,10 +249,56 @@ impl<'s, S: BlockStore> Application<'s, S> {
         Ok(Next::Ended(exit))
     }
 
+    /// Takes a round of a step: the room of the call's line is taken, and the call is tried. Where the host is out of
+    /// memory, the files stay as they were.
+    fn round(
+        &mut self,
+        script: &'s Script,
+        line: &Line,
+        text: &mut Vec<u8>,
+    ) -> Result<Next, AllocError>
+        ensures came { IfOk result (λ next. CameRound (round script.now.blocks line.now self.old) next text.old.items
+            text.new.items self.new) }
+        ensures front { Extends text.old.items text.new.items }
+        ensures files { OnErr result (self.new.resources.files ≡ self.old.resources.files) }
+        ensures stays { IfOk result (λ next. goes_on next ≡ false
+            → self.new.resources.files ≡ self.old.resources.files) }
+        ensures lies { self.new.memory.window ≡ self.old.memory.window }
+    {
+        text.reserve(line_room(line.number, CallWord::of(&line.call)))?;
+        self.try_call(script, line, text)
+    }
+
+    /// Takes the rounds of a step, until the call ends. Where the host is out of memory, the text may have lines of the
+    /// step's grow-zone script, and the files stay as they were.
+    fn take_rounds(
+        &mut self,
+        script: &'s Script,
+        line: &Line,
+        text: &mut Vec<u8>,
+    ) -> Result<Option<Exit>, AllocError>
+        ensures ends { IfOk result (λ exit. exit ≡ exit_of (step script.now.blocks line.now self.old)) }
+        ensures came { OnOk result (Came (step script.now.blocks line.now self.old) text.old.items text.new.items
+            self.new) }
+        ensures front { Extends text.old.items text.new.items }
+        ensures files { OnErr result (self.new.resources.files ≡ self.old.resources.files) }
+        ensures over { IfOk result (λ exit. is_some exit ≡ true → self.new.resources.files ≡ self.old.resources.files) }
+        ensures lies { self.new.memory.window ≡ self.old.memory.window }
+    {
+        let most = u64::from(self.heap.len()) + 1;
+        for _round in 0..most {
+            match self.round(script, line, text)? {
+                Next::Again => {}
+                Next::Ended(exit) => return Ok(exit),
+            }
+        }
+        Ok(None)
+    }
+
     /// Takes a step, which is the call of a line. The call is tried; where the call finds no room, the grow-zone script
     /// is run, and where the script makes room the call is tried again, and otherwise the answer of the call stands.
     /// Appends the lines of the transcript to `text`. Returns how the application ends with the step, or `None` where
-    /// it goes on.
+    /// it goes on. Where the host is out of memory, the transcript and the files are as before the step.
     ///
     /// *Inside Macintosh: Memory*, chapter 1, "Grow-Zone Functions".
     pub fn step(
@@ -239,16 +310,19 @@ impl<'s, S: BlockStore> Application<'s, S> {
         ensures ends { IfOk result (λ exit. exit ≡ exit_of (step script.now.blocks line.now self.old)) }
         ensures came { OnOk result (Came (step script.now.blocks line.now self.old) text.old.items text.new.items
             self.new) }
+        ensures text { OnErr result (text.new.items ≡ text.old.items) }
+        ensures files { OnErr result (self.new.resources.files ≡ self.old.resources.files) }
+
+        // A step that ends the application changes no file.
+        ensures over { IfOk result (λ exit. is_some exit ≡ true → self.new.resources.files ≡ self.old.resources.files) }
         ensures lies { self.new.memory.window ≡ self.old.memory.window }
     {
-        let most = u64::from(self.heap.len()) + 1;
-        for _round in 0..most {
-            match self.round(script, line, text)? {
-                Next::Again => {}
-                Next::Ended(exit) => return Ok(exit),
-            }
+        let length = text.len();
+        let exit = self.take_rounds(script, line, text);
+        if exit.is_err() {
+            text.truncate(length);
         }
-        Ok(None)
+        exit
     }
 
     /// Takes steps in order, to the last line or to the end of the application, and reports the number of steps done to

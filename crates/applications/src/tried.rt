@@ -1,6 +1,6 @@
 //! The outcome of one try of a call.
 
-ghost use Rattle.std.specs.Prelude.{◌≡◌, ◌≢◌, ◌<◌, ◌^◌, ℕ, true, false, None, Err, IfOk, OnOk};
+ghost use Rattle.std.specs.Prelude.{◌≡◌, ◌≢◌, ◌<◌, ◌^◌, ℕ, true, false, None, Err, IfOk, OnOk, OnErr};
 ghost use Rattle.mac_words.specs.Told.{Told, Done, Given, Number, Numbers, Bytes, Kind};
 ghost use Rattle.applications.specs.Trying.{is_full};
 ghost use Rattle.byteorder.specs.Endian.{big_number};
@@ -11,7 +11,7 @@ ghost use Rattle.res_calls.specs.Rows as rows;
 ghost use Rattle.res_calls.specs.Asked.{telling, tell_fetched, tell_info};
 ghost use Rattle.mac_words.specs.declared.attributes.Attrs.{Attrs as StoredAttrs};
 ghost use Rattle.res_calls.specs.Given.{IsAnswered, IsFetched};
-ghost use Rattle.res_calls.specs.Places.{seen_info};
+ghost use Rattle.res_calls.specs.Places.{WantsHost, seen_info};
 ghost use Rattle.applications.specs.Replies.{Says, TellsTold, TellsServed, GivenAs, exit_as};
 
 use crate::quitting::Exit;
@@ -146,6 +146,7 @@ pub fn fetched(answer: Result<Fetched, Unread>) -> Result<Tried, AllocError>
         → TellsServed tried (telling tell_fetched a) true) }
     ensures after { OnOk result ((a : Answer fetch.Fetched) (after : Managers) → IsFetched a answer after
         → a.after ≡ after) }
+    ensures wants { OnErr result (WantsHost answer) }
 {
     match answer {
         Ok(fetched) => Ok(Tried {
@@ -184,6 +185,7 @@ pub fn done_on_resource(answer: Result<(), Refusal>) -> Result<Tried, AllocError
     ensures after { OnOk result ((a : Answer (Unit {0})) (after : Managers) → IsAnswered (λ (u : Unit {0}). u) a
         answer after
         → a.after ≡ after) }
+    ensures wants { OnErr result (answer ≡ Err Refusal.HostMemory) }
 {
     match answer {
         Ok(()) => Ok(Tried::told(Reply::of(OsErr::NO_ERR))),
@@ -198,6 +200,7 @@ pub fn counted(answer: Result<u32, Refusal>) -> Result<Tried, AllocError>
         → TellsServed tried (telling Number a) false) }
     ensures after { OnOk result ((a : Answer ℕ) (after : Managers) → IsAnswered (λ (n : ℕ). n) a answer after
         → a.after ≡ after) }
+    ensures wants { OnErr result (answer ≡ Err Refusal.HostMemory) }
 {
     match answer {
         Ok(value) => Ok(Tried::told(Reply::number(value))),
@@ -213,6 +216,7 @@ pub fn sized(answer: Result<usize, Refusal>) -> Result<Tried, AllocError>
         → TellsServed tried (telling Number a) false) }
     ensures after { OnOk result ((a : Answer ℕ) (after : Managers) → IsAnswered (λ (n : ℕ). n) a answer after
         → a.after ≡ after) }
+    ensures wants { OnErr result (answer ≡ Err Refusal.HostMemory) }
 {
     match answer {
         Ok(value) => Ok(Tried::told(Reply::count(value))),
@@ -229,6 +233,7 @@ pub fn attributes(answer: Result<Attrs, Refusal>) -> Result<Tried, AllocError>
     ensures after { OnOk result ((a : Answer ℕ) (after : Managers) → IsAnswered (λ (a : StoredAttrs). a.0) a
         answer after
         → a.after ≡ after) }
+    ensures wants { OnErr result (answer ≡ Err Refusal.HostMemory) }
 {
     match answer {
         Ok(Attrs(bits)) => Ok(Tried::told(Reply::number(u32::from(bits)))),
@@ -245,6 +250,7 @@ pub fn kind(answer: Result<OsType, Refusal>) -> Result<Tried, AllocError>
     ensures after { OnOk result ((a : Answer ℕ) (after : Managers) → IsAnswered (λ (t : Type4). big_number 4 t.0) a
         answer after
         → a.after ≡ after) }
+    ensures wants { OnErr result (answer ≡ Err Refusal.HostMemory) }
 {
     match answer {
         Ok(value) => Ok(Tried::told(Reply::kind(value))),

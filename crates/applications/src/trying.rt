@@ -1,9 +1,11 @@
 //! One try of a call.
 
-ghost use Rattle.std.specs.Prelude.{◌≡◌, [], IfOk, OnOk};
+ghost use Rattle.std.specs.Prelude.{◌≡◌, [], false, IfOk, OnOk, OnErr};
 ghost use Rattle.std.specs.Option.{option_map};
 ghost use Rattle.heap_calls.specs.Busy.{served};
 ghost use Rattle.applications.specs.Trying.{asked, once, control_tried};
+ghost use Rattle.applications.specs.Step.{deed_of};
+ghost use Rattle.applications.specs.Laws.{writes_files};
 ghost use Rattle.applications.specs.Application.{bytes_told};
 ghost use Rattle.applications.specs.Replies.{TellsTold, IsTried};
 
@@ -22,6 +24,9 @@ impl<'s, S: BlockStore> Application<'s, S> {
     pub(crate) fn once(&mut self, script: &'s Script, call: &Call) -> Result<Tried, AllocError>
         ensures tried { IfOk result (λ tried. IsTried tried (once script.now.blocks call.now self.old)) }
         ensures after { OnOk result (self.new ≡ (once script.now.blocks call.now self.old).after) }
+        ensures wants { OnErr result (self.new.resources.files ≡ self.old.resources.files) }
+        ensures files { writes_files (deed_of call.now self.old.names) ≡ false
+            → self.new.resources.files ≡ self.old.resources.files }
         ensures lies { self.new.memory.window ≡ self.old.memory.window }
     {
         match call {
@@ -70,6 +75,7 @@ impl<'s, S: BlockStore> Application<'s, S> {
           memory = (served (asked call.now self.old.names)
               self.old.memory).1;
         }) }
+        ensures resources { self.new.resources ≡ self.old.resources }
         ensures lies { self.new.memory.window ≡ self.old.memory.window }
     {
         answered(&mut self.heap, &self.names, call)

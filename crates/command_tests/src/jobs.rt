@@ -111,7 +111,7 @@ fn is_same_outcome(one: &Outcome, other: &Outcome) -> bool {
             return false;
         }
     }
-    one.apps.len() == other.apps.len() && one.desk == other.desk
+    one.apps.len() == other.apps.len() && one.desk == other.desk && one.stopped == other.stopped
 }
 
 /// Reports whether two runs both have an outcome, and leave the same outcome.

@@ -1,5 +1,5 @@
 -- Accesses that are made one after the other, and what stops them.
-use Rattle.std.proofs.Common.{◌≡◌, ◌∷◌, ◌++◌, ℕ, zero, suc, List, map, take, drop, [], Option, Some, None, Result, Ok, Err, IfErr, refl, sym, ap, subst, ◌∙◌}
+use Rattle.std.proofs.Common.{◌≡◌, ◌++◌, ℕ, List, [], Option, Some, None, Result, Ok, Err, IfErr, refl, sym, ap, subst}
 use Rattle.std.proofs.Common.{append_assoc, append-nil}
 use Rattle.script_text.specs.declared.fault.FaultKind.{FaultKind}
 use Rattle.script_text.specs.declared.fault.FaultKind.TheVariants as kinds
@@ -8,7 +8,7 @@ use Rattle.script_text.specs.Script.{Spelled}
 use Rattle.commands.specs.Fault.{Message, Usage, CannotRead, Script, Fork, CannotWrite, HostMemory, message_of}
 use Rattle.commands.specs.declared.fault.ToolFault.{ToolFault}
 use Rattle.commands.specs.Tasks.{script_message}
-use Rattle.commands.specs.Accesses.{Access, Fails, StopsAmong, IsTold, and_then, path_of}
+use Rattle.commands.specs.Accesses.{Access, and_then}
 use Rattle.commands.specs.Gathering.{IsStop, IsGiven, script_told, given_then}
 
 pub none : (a : Option (List Access)) → a ≡ and_then a []
@@ -52,37 +52,6 @@ stop_given view given result fault is stops = subst (λ r. IsGiven view given r)
 pub told_err : {X : Type 0} (P : ToolFault → Type 0) (result : Result X ToolFault) (fault : ToolFault)
     → result ≡ Err fault → P fault → IfErr result P
 told_err P result fault is h = subst (λ r. IfErr r P) (sym is) h
-
--- the first of the accesses failed
-pub first_fails : (next : Access) (rest : List Access) (old new : Option (List Access)) (told : Message)
-    → Fails next old new → IsTold (CannotWrite (path_of next)) told → StopsAmong (next ∷ rest) old new told
-first_fails next rest old new told fails fault = record {
-  first = [];
-  next = next;
-  rest = rest;
-  split = refl;
-  fails = subst (λ a. Fails next a new) (none old) fails;
-  fault = fault;
-}
-
--- the first access was made, and one behind it failed
-pub later_fails : (x : Access) (xs : List Access) (old mid new : Option (List Access)) (told : Message)
-    → mid ≡ and_then old (x ∷ []) → StopsAmong xs mid new told → StopsAmong (x ∷ xs) old new told
-later_fails x xs old mid new told made s = record {
-  first = x ∷ s.first;
-  next = s.next;
-  rest = s.rest;
-  split = ap (λ l. x ∷ l) s.split;
-  fails = subst (λ a. Fails s.next a new) (ap (λ a. and_then a s.first) made ∙ one_more old (x ∷ []) s.first) s.fails;
-  fault = s.fault;
-}
-
--- the first of a list, and the others
-pub parts : {X Y Z : Type 0} (f : X → Y) (h : Y → Z) (i : ℕ) (xs : List X)
-    → map h (map f xs) ≡ map h (map f (take i xs)) ++ map h (map f (drop i xs))
-parts f h zero xs = refl
-parts f h (suc i) [] = refl
-parts f h (suc i) (x ∷ xs) = ap (λ l. h (f x) ∷ l) (parts f h i xs)
 
 -- what else is known of a fault
 pub also_err : {X : Type 0} (P Q : ToolFault → Type 0) (result : Result X ToolFault)

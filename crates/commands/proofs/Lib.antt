@@ -6,4 +6,5 @@ mod Jobs
 mod Numerals
 mod Printing
 mod Wholes
+mod Writes
 mod Owners

@@ -43,6 +43,15 @@ path_of (Read path bytes) = path
 path_of (Folder path) = path
 path_of (Write path bytes) = path
 
+-- Of these accesses the first were made, one failed, at this path, and none was made after it.
+pub record StopsAt (all : List Access) (old new : Option (List Access)) (path : List ℕ) : Type 0 where
+  pub first : List Access
+  pub next : Access
+  pub rest : List Access
+  pub split : all ≡ first ++ next ∷ rest
+  pub fails : Fails next (and_then old first) new
+  pub named : path ≡ path_of next
+
 -- Of these accesses the first were made, one failed, which is the fault, and none was made after it.
 pub record StopsAmong (all : List Access) (old new : Option (List Access)) (told : Message) : Type 0 where
   pub first : List Access

@@ -1,10 +1,10 @@
-use Rattle.std.specs.Prelude.{ℕ, ◌+◌, Option, Some, None, List, [], ◌∷◌, ◌++◌, codes, decimal, string_bytes}
+use Rattle.std.specs.Prelude.{ℕ, ◌+◌, ◌≤◌, length, Option, Some, None, List, [], ◌∷◌, ◌++◌, codes, decimal}
 use Rattle.std.specs.Prelude.{if◌then◌else◌}
 use Rattle.std.specs.List.{flat_map}
 use Rattle.std.specs.Str.{encode_utf8_all}
 use Rattle.res_calls.specs.Files.{File}
 use Rattle.desk.specs.Outcome.{Launched, AppResult, Outcome}
-use Rattle.commands.specs.declared.outputs.Output.{Output}
+use Rattle.commands.specs.declared.paths.TheConstants.{LONGEST_NAME}
 
 -- The files that a run leaves in a folder.
 
@@ -22,6 +22,10 @@ fork_within folder name k = app_within folder name ++ codes "-" ++ decimal k ++ 
 
 abbrev pub desk_within : List ℕ → List ℕ
 desk_within folder = folder ++ codes "/desk.log"
+
+-- A text of this capacity has room for the path of each file that a run can leave in the folder.
+abbrev pub HasRoom : List ℕ → ℕ → Type 0
+HasRoom folder capacity = length folder + LONGEST_NAME ≤ capacity
 
 -- A file: its path and its bytes.
 pub record Written : Type 0 where
@@ -62,7 +66,3 @@ all_forks_left folder apps = flat_map (forks_left folder) apps
 abbrev pub left_by : List ℕ → Outcome → List Written
 left_by folder o =
     record { path = desk_within folder; bytes = o.log } ∷ logs_left folder o.apps ++ all_forks_left folder o.apps
-
--- A file, as the code holds it.
-abbrev pub output_seen : Output → Written
-output_seen output = record { path = string_bytes output.path; bytes = output.bytes.now }

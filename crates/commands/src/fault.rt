@@ -49,7 +49,7 @@ pub enum ToolFault {
         /// The path, or `-` for the standard output.
         path: String,
     },
-    /// The host is out of memory.
+    /// The host is out of memory. What a run had completed is written all the same.
     #[error("macmem: no host memory")]
     HostMemory,
 }

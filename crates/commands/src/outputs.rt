@@ -1,184 +1,201 @@
-//! The files that a run leaves.
+//! What a run leaves is written: the folder is made, and then the files are written, each straight from the outcome.
 
-ghost use Rattle.std.specs.Prelude.{◌≡◌, ◌++◌, map, OnOk, IfOk, string_bytes};
-ghost use Rattle.std.specs.Str.{encode_utf8_all};
+ghost use Rattle.std.specs.Prelude.{◌≡◌, ◌∷◌, [], map, OnOk, OnErr, string_bytes, string_capacity};
 ghost use Rattle.desk.specs.View.{told_seen, outcome_seen};
 ghost use Rattle.res_calls.specs.View.{view_file};
-ghost use Rattle.commands.specs.Outputs.{app_within, log_within, fork_within, log_left, logs_left, forks_within};
-ghost use Rattle.commands.specs.Outputs.{forks_left, all_forks_left, desk_within, left_by, output_seen};
+ghost use Rattle.commands.specs.Accesses.{and_then, StopsAt};
+ghost use Rattle.commands.specs.Outputs.{log_left, logs_left, forks_within, forks_left, all_forks_left, left_by, HasRoom};
+ghost use Rattle.commands.specs.Running.{write_of, writes_for};
 
+use crate::host::{Host, WriteError};
+use crate::paths::{set_desk_path, set_folder_path, set_fork_path, set_log_path};
 use desk::{AppOutcome, Outcome};
-use itoa::Buffer;
 use mac_words::Label;
 use res_calls::File;
-use std::alloc::{AllocError, Global};
 
-/// A file that a run leaves.
-#[derive(Drop)]
-pub struct Output<'o> {
-    /// The file's path.
-    pub path: String,
-    /// The file's bytes.
-    pub bytes: &'o [u8],
-}
-
-/// Appends a name, which has only letters, digits and `_`, to a path.
-fn push_letters(path: &mut String, letters: &[u8]) -> Result<(), AllocError>
-    ensures { OnOk result (string_bytes path.new ≡ string_bytes path.old ++ encode_utf8_all letters.now) }
-{
-    for letter in letters {
-        path.push(char::from(*letter))?;
-    }
-    Ok(())
-}
-
-/// Returns the beginning of the paths of an application's files.
-fn app_path(alloc: Global, folder: &str, name: &Label) -> Result<String, AllocError>
-    ensures { IfOk result (λ path. string_bytes path ≡ app_within folder.now name.now.0.items) }
-{
-    let mut path = String::from_str(alloc, folder)?;
-    path.push_str("/app-")?;
-    push_letters(&mut path, name.0.as_slice())?;
-    Ok(path)
-}
-
-/// Returns the path of an application's log.
-fn log_path(alloc: Global, folder: &str, name: &Label) -> Result<String, AllocError>
-    ensures { IfOk result (λ path. string_bytes path ≡ log_within folder.now name.now.0.items) }
-{
-    let mut path = app_path(alloc, folder, name)?;
-    path.push_str(".log")?;
-    Ok(path)
-}
-
-/// Returns the path of the fork of an application's `k`-th file, from 0.
-fn fork_path(alloc: Global, folder: &str, name: &Label, k: usize) -> Result<String, AllocError>
-    ensures { IfOk result (λ path. string_bytes path ≡ fork_within folder.now name.now.0.items k) }
-{
-    let mut path = app_path(alloc, folder, name)?;
-    let mut buffer = Buffer::new();
-    path.push_str("-")?;
-    path.push_str(buffer.format(k))?;
-    path.push_str(".rsrc")?;
-    Ok(path)
-}
-
-/// Adds the log of an application, if the application was launched.
-fn push_log<'o>(
-    alloc: Global,
+/// Writes the log of an application, if the application was launched.
+fn write_log<H: Host>(
+    host: &mut H,
     folder: &str,
-    app: &'o AppOutcome,
-    outputs: &mut Vec<Output<'o>>,
-) -> Result<(), AllocError>
-    ensures { OnOk result (map output_seen outputs.new.items
-        ≡ map output_seen outputs.old.items ++ log_left folder.now (told_seen app.now)) }
+    app: &AppOutcome,
+    path: &mut String,
+) -> Result<(), WriteError>
+    requires { HasRoom folder.now (string_capacity path.old) }
+    ensures silent { H.printed host.new ≡ H.printed host.old }
+    ensures written { OnOk result (H.accesses host.new
+        ≡ and_then (H.accesses host.old) (map write_of (log_left folder.now (told_seen app.now)))) }
+    ensures stopped { OnErr result (StopsAt (map write_of (log_left folder.now (told_seen app.now)))
+        (H.accesses host.old) (H.accesses host.new) (string_bytes path.new)) }
+    ensures room { HasRoom folder.now (string_capacity path.new) }
 {
     let Some(launched) = &app.launched else {
         return Ok(());
     };
-    let path = log_path(alloc, folder, &app.name)?;
-    outputs.push(Output {
-        path,
-        bytes: launched.transcript.as_slice(),
-    })?;
+    set_log_path(path, folder, &app.name);
+    host.write(path.as_str(), launched.transcript.as_slice())?;
     Ok(())
 }
 
-/// Adds the logs of the applications that were launched.
-fn push_logs<'o>(
-    alloc: Global,
+/// Writes the logs of the applications that were launched.
+fn write_logs<H: Host>(
+    host: &mut H,
     folder: &str,
-    apps: &'o [AppOutcome],
-    outputs: &mut Vec<Output<'o>>,
-) -> Result<(), AllocError>
-    ensures { OnOk result (map output_seen outputs.new.items
-        ≡ map output_seen outputs.old.items ++ logs_left folder.now (map told_seen apps.now)) }
+    apps: &[AppOutcome],
+    path: &mut String,
+) -> Result<(), WriteError>
+    requires { HasRoom folder.now (string_capacity path.old) }
+    ensures silent { H.printed host.new ≡ H.printed host.old }
+    ensures written { OnOk result (H.accesses host.new
+        ≡ and_then (H.accesses host.old) (map write_of (logs_left folder.now (map told_seen apps.now)))) }
+    ensures stopped { OnErr result (StopsAt (map write_of (logs_left folder.now (map told_seen apps.now)))
+        (H.accesses host.old) (H.accesses host.new) (string_bytes path.new)) }
+    ensures room { HasRoom folder.now (string_capacity path.new) }
 {
     for app in apps {
-        push_log(alloc, folder, app, outputs)?;
+        write_log(host, folder, app, path)?;
     }
     Ok(())
 }
 
-/// Adds the forks of an application's files that were written.
-fn push_written<'o>(
-    alloc: Global,
+/// Writes the fork of an application's `k`-th file, if the fork was written.
+fn write_fork<H: Host>(
+    host: &mut H,
     folder: &str,
     name: &Label,
-    files: &'o [File],
-    outputs: &mut Vec<Output<'o>>,
-) -> Result<(), AllocError>
-    ensures { OnOk result (map output_seen outputs.new.items
-        ≡ map output_seen outputs.old.items ++ forks_within folder.now name.now.0.items 0 (map view_file files.now)) }
+    k: usize,
+    file: &File,
+    path: &mut String,
+) -> Result<(), WriteError>
+    requires { HasRoom folder.now (string_capacity path.old) }
+    ensures silent { H.printed host.new ≡ H.printed host.old }
+    ensures written { OnOk result (H.accesses host.new ≡ and_then (H.accesses host.old)
+        (map write_of (forks_within folder.now name.now.0.items k (view_file file.now ∷ [])))) }
+    ensures stopped { OnErr result (StopsAt
+        (map write_of (forks_within folder.now name.now.0.items k (view_file file.now ∷ [])))
+        (H.accesses host.old) (H.accesses host.new) (string_bytes path.new)) }
+    ensures room { HasRoom folder.now (string_capacity path.new) }
 {
-    for (k, file) in files.iter().enumerate() {
-        if file.written {
-            let path = fork_path(alloc, folder, name, k)?;
-            outputs.push(Output {
-                path,
-                bytes: file.fork.as_slice(),
-            })?;
-        }
+    if file.written {
+        set_fork_path(path, folder, name, k);
+        host.write(path.as_str(), file.fork.as_slice())?;
     }
     Ok(())
 }
 
-/// Adds the forks that were written of an application, if the application was launched.
-fn push_forks_of<'o>(
-    alloc: Global,
+/// Writes the forks of an application's files that were written.
+fn write_forks_within<H: Host>(
+    host: &mut H,
     folder: &str,
-    app: &'o AppOutcome,
-    outputs: &mut Vec<Output<'o>>,
-) -> Result<(), AllocError>
-    ensures { OnOk result (map output_seen outputs.new.items
-        ≡ map output_seen outputs.old.items ++ forks_left folder.now (told_seen app.now)) }
+    name: &Label,
+    files: &[File],
+    path: &mut String,
+) -> Result<(), WriteError>
+    requires { HasRoom folder.now (string_capacity path.old) }
+    ensures silent { H.printed host.new ≡ H.printed host.old }
+    ensures written { OnOk result (H.accesses host.new ≡ and_then (H.accesses host.old)
+        (map write_of (forks_within folder.now name.now.0.items 0 (map view_file files.now)))) }
+    ensures stopped { OnErr result (StopsAt
+        (map write_of (forks_within folder.now name.now.0.items 0 (map view_file files.now)))
+        (H.accesses host.old) (H.accesses host.new) (string_bytes path.new)) }
+    ensures room { HasRoom folder.now (string_capacity path.new) }
+{
+    for (k, file) in files.iter().enumerate() {
+        write_fork(host, folder, name, k, file, path)?;
+    }
+    Ok(())
+}
+
+/// Writes the forks that were written of an application, if the application was launched.
+fn write_forks_of<H: Host>(
+    host: &mut H,
+    folder: &str,
+    app: &AppOutcome,
+    path: &mut String,
+) -> Result<(), WriteError>
+    requires { HasRoom folder.now (string_capacity path.old) }
+    ensures silent { H.printed host.new ≡ H.printed host.old }
+    ensures written { OnOk result (H.accesses host.new
+        ≡ and_then (H.accesses host.old) (map write_of (forks_left folder.now (told_seen app.now)))) }
+    ensures stopped { OnErr result (StopsAt (map write_of (forks_left folder.now (told_seen app.now)))
+        (H.accesses host.old) (H.accesses host.new) (string_bytes path.new)) }
+    ensures room { HasRoom folder.now (string_capacity path.new) }
 {
     match &app.launched {
-        Some(launched) => push_written(alloc, folder, &app.name, &launched.files, outputs),
+        Some(launched) => write_forks_within(host, folder, &app.name, &launched.files, path),
         None => Ok(()),
     }
 }
 
-/// Adds the forks that were written of the applications that were launched.
-fn push_forks<'o>(
-    alloc: Global,
+/// Writes the forks that were written of the applications that were launched.
+fn write_forks<H: Host>(
+    host: &mut H,
     folder: &str,
-    apps: &'o [AppOutcome],
-    outputs: &mut Vec<Output<'o>>,
-) -> Result<(), AllocError>
-    ensures { OnOk result (map output_seen outputs.new.items
-        ≡ map output_seen outputs.old.items ++ all_forks_left folder.now (map told_seen apps.now)) }
+    apps: &[AppOutcome],
+    path: &mut String,
+) -> Result<(), WriteError>
+    requires { HasRoom folder.now (string_capacity path.old) }
+    ensures silent { H.printed host.new ≡ H.printed host.old }
+    ensures written { OnOk result (H.accesses host.new
+        ≡ and_then (H.accesses host.old) (map write_of (all_forks_left folder.now (map told_seen apps.now)))) }
+    ensures stopped { OnErr result (StopsAt (map write_of (all_forks_left folder.now (map told_seen apps.now)))
+        (H.accesses host.old) (H.accesses host.new) (string_bytes path.new)) }
+    ensures room { HasRoom folder.now (string_capacity path.new) }
 {
     for app in apps {
-        push_forks_of(alloc, folder, app, outputs)?;
+        write_forks_of(host, folder, app, path)?;
     }
     Ok(())
 }
 
-/// Returns the path of the desk's log.
-fn desk_path(alloc: Global, folder: &str) -> Result<String, AllocError>
-    ensures { IfOk result (λ path. string_bytes path ≡ desk_within folder.now) }
+/// Writes the files that a run leaves, in order: the desk's log, the logs of the applications that were launched, and
+/// the forks that were written.
+fn write_files<H: Host>(
+    host: &mut H,
+    folder: &str,
+    outcome: &Outcome,
+    path: &mut String,
+) -> Result<(), WriteError>
+    requires { HasRoom folder.now (string_capacity path.old) }
+    ensures silent { H.printed host.new ≡ H.printed host.old }
+    ensures written { OnOk result (H.accesses host.new
+        ≡ and_then (H.accesses host.old) (map write_of (left_by folder.now (outcome_seen outcome.now)))) }
+    ensures stopped { OnErr result (StopsAt (map write_of (left_by folder.now (outcome_seen outcome.now)))
+        (H.accesses host.old) (H.accesses host.new) (string_bytes path.new)) }
 {
-    let mut path = String::from_str(alloc, folder)?;
-    path.push_str("/desk.log")?;
-    Ok(path)
+    set_desk_path(path, folder);
+    host.write(path.as_str(), outcome.desk.as_slice())?;
+    write_logs(host, folder, &outcome.apps, path)?;
+    write_forks(host, folder, &outcome.apps, path)?;
+    Ok(())
 }
 
-/// Returns the files that a run leaves in a folder, in the order in which they are written: the desk's log, the logs
-/// of the applications that were launched, and the forks that were written.
-pub fn outputs_of<'o>(
-    alloc: Global,
+/// Writes what a run leaves into a new folder, up to the first file that can't be written. The paths are built in a text
+/// that `room_for_paths` returned for the folder, so no memory is taken for them.
+///
+/// # Errors
+///
+/// The folder, or a file, can't be made or written to its end; its path stands in the text.
+pub fn write_outcome<H: Host>(
+    host: &mut H,
     folder: &str,
-    outcome: &'o Outcome,
-) -> Result<Vec<Output<'o>>, AllocError>
-    ensures { IfOk result (λ outputs. map output_seen outputs.items ≡ left_by folder.now (outcome_seen outcome.now)) }
+    outcome: &Outcome,
+    path: &mut String,
+) -> Result<(), WriteError>
+    requires { HasRoom folder.now (string_capacity path.old) }
+
+    // Nothing is printed.
+    ensures silent { H.printed host.new ≡ H.printed host.old }
+
+    // The folder is made, and the files of the outcome are written into it, in their order.
+    ensures written { OnOk result (H.accesses host.new
+        ≡ and_then (H.accesses host.old) (writes_for folder.now (outcome_seen outcome.now))) }
+
+    // These were done up to the first that failed, whose path stands in the text.
+    ensures stopped { OnErr result (StopsAt (writes_for folder.now (outcome_seen outcome.now))
+        (H.accesses host.old) (H.accesses host.new) (string_bytes path.new)) }
 {
-    let mut outputs = Vec::new(alloc);
-    outputs.push(Output {
-        path: desk_path(alloc, folder)?,
-        bytes: outcome.desk.as_slice(),
-    })?;
-    push_logs(alloc, folder, &outcome.apps, &mut outputs)?;
-    push_forks(alloc, folder, &outcome.apps, &mut outputs)?;
-    Ok(outputs)
+    set_folder_path(path, folder);
+    host.make_folder(path.as_str())?;
+    write_files(host, folder, outcome, path)?;
+    Ok(())
 }

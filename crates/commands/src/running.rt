@@ -1,19 +1,21 @@
 //! A job is run, and what it leaves is written.
 
-ghost use Rattle.std.specs.Prelude.{◌≡◌, ◌≤◌, ◌∷◌, [], map, length, Ok, IfOk, IfErr, OnOk, OnErr};
+ghost use Rattle.std.specs.Prelude.{◌≡◌, ◌≤◌, map, length, Ok, IfOk, IfErr, OnOk, string_capacity};
 ghost use Rattle.script_text.specs.Job.{input_seen, job_seen, job_of};
 ghost use Rattle.script_text.specs.JobFacts.{IsMemory, AreInOrder, AreApps};
-ghost use Rattle.desk.specs.Whole.{run_of, IsOutcome};
-ghost use Rattle.commands.specs.Fault.{message_of, CannotWrite};
-ghost use Rattle.commands.specs.Accesses.{Folder, Write, and_then, IsTold, WritesFront, StopsAmong};
-ghost use Rattle.commands.specs.Outputs.{output_seen};
-ghost use Rattle.commands.specs.Running.{write_of, IsJobFault, IsRunFault, Leaves, IsUnleft, Runs, IsStopped};
+ghost use Rattle.desk.specs.View.{outcome_seen};
+ghost use Rattle.desk.specs.Whole.{LeftByRun, IsOutcome};
+ghost use Rattle.commands.specs.Fault.{message_of};
+ghost use Rattle.commands.specs.Accesses.{and_then, StopsAmong};
+ghost use Rattle.commands.specs.Outputs.{HasRoom};
+ghost use Rattle.commands.specs.Running.{writes_for, IsJobFault, IsRunFault, Leaves, IsUnleft, Runs, IsStopped};
 
 use crate::fault::ToolFault;
 use crate::gathering::{gather, system_path};
 use crate::host::Host;
 use crate::input::read_input;
-use crate::outputs::{Output, outputs_of};
+use crate::outputs::write_outcome;
+use crate::paths::room_for_paths;
 use crate::tasks::{script_fault, write_fault};
 use applications::{Unwatched, Watch};
 use desk::{Job, Outcome, RunFault, run};
@@ -44,8 +46,8 @@ fn job_text<'t>(alloc: Global, path: &str, text: &'t [u8]) -> Result<JobText<'t>
     }
 }
 
-/// Runs a job and returns what it leaves, or why the job does not run to its end. The job's memory is one region. The
-/// progress is reported to the watch if `watched` is set.
+/// Runs a job and returns what it leaves, or why the job does not begin. The job's memory is one region. The progress is
+/// reported to the watch if `watched` is set.
 fn ran<W: Watch>(
     alloc: Global,
     job: &Job,
@@ -56,7 +58,7 @@ fn ran<W: Watch>(
     requires few { length job.now.apps.items ≤ 64 }
 
     // The outcome is what the definition of the desk says.
-    ensures outcome { IsOutcome (run_of job.now) result }
+    ensures outcome { IsOutcome job.now result }
 {
     let region = match Region::new(alloc, job.memory as usize) {
         Ok(region) => region,
@@ -81,7 +83,7 @@ fn outcome_of<W: Watch>(
 ) -> Result<Outcome, ToolFault>
     requires memory { IsMemory job.now.memory }
     requires few { length job.now.apps.items ≤ 64 }
-    ensures outcome { IfOk result (λ outcome. IsOutcome (run_of job.now) (Ok outcome)) }
+    ensures outcome { IfOk result (λ outcome. LeftByRun job.now (outcome_seen outcome)) }
     ensures fault { IfErr result (λ fault. IsRunFault system.now job.now (message_of fault)) }
 {
     match ran(alloc, job, watched, watch) {
@@ -94,75 +96,29 @@ fn outcome_of<W: Watch>(
     }
 }
 
-/// Makes a folder.
-fn make_folder<H: Host>(alloc: Global, host: &mut H, path: &str) -> Result<(), ToolFault>
-    ensures silent { H.printed host.new ≡ H.printed host.old }
-    ensures made { OnOk result (H.accesses host.new ≡ and_then (H.accesses host.old) (Folder path.now ∷ [])) }
-    ensures unmade { OnErr result (H.accesses host.new ≡ H.accesses host.old) }
-    ensures fault { IfErr result (λ fault. IsTold (CannotWrite path.now) (message_of fault)) }
-{
-    match host.make_folder(path) {
-        Ok(()) => Ok(()),
-        Err(error) => Err(write_fault(alloc, path, error)?),
-    }
-}
-
-/// Writes a file.
-fn write_file<H: Host>(
-    alloc: Global,
-    host: &mut H,
-    path: &str,
-    bytes: &[u8],
-) -> Result<(), ToolFault>
-    ensures silent { H.printed host.new ≡ H.printed host.old }
-    ensures written { OnOk result (H.accesses host.new
-        ≡ and_then (H.accesses host.old) (Write path.now bytes.now ∷ [])) }
-    ensures front { OnErr result (WritesFront path.now bytes.now (H.accesses host.old) (H.accesses host.new)) }
-    ensures fault { IfErr result (λ fault. IsTold (CannotWrite path.now) (message_of fault)) }
-{
-    match host.write(path, bytes) {
-        Ok(()) => Ok(()),
-        Err(error) => Err(write_fault(alloc, path, error)?),
-    }
-}
-
-/// Writes files, up to the first file that can't be written.
-fn write_files<H: Host>(
-    alloc: Global,
-    host: &mut H,
-    outputs: &[Output<'_>],
-) -> Result<(), ToolFault>
-    ensures silent { H.printed host.new ≡ H.printed host.old }
-    ensures written { OnOk result (H.accesses host.new
-        ≡ and_then (H.accesses host.old) (map write_of (map output_seen outputs.now))) }
-    ensures stopped { IfErr result (λ fault. StopsAmong (map write_of (map output_seen outputs.now))
-        (H.accesses host.old) (H.accesses host.new) (message_of fault)) }
-{
-    for output in outputs {
-        write_file(alloc, host, &output.path, output.bytes)?;
-    }
-    Ok(())
-}
-
-/// Makes a folder and writes files, up to the first file that can't be written.
+/// Writes what a run leaves into a new folder. The text has room for the paths of the files, and goes into the fault.
 fn write_all<H: Host>(
-    alloc: Global,
     host: &mut H,
     folder: &str,
-    outputs: &[Output<'_>],
+    outcome: &Outcome,
+    room: String,
 ) -> Result<(), ToolFault>
+    requires { HasRoom folder.now (string_capacity room) }
     ensures silent { H.printed host.new ≡ H.printed host.old }
     ensures written { OnOk result (H.accesses host.new
-        ≡ and_then (H.accesses host.old) (Folder folder.now ∷ map write_of (map output_seen outputs.now))) }
-    ensures stopped { IfErr result (λ fault. StopsAmong (Folder folder.now ∷ map write_of (map output_seen outputs.now))
+        ≡ and_then (H.accesses host.old) (writes_for folder.now (outcome_seen outcome.now))) }
+    ensures stopped { IfErr result (λ fault. StopsAmong (writes_for folder.now (outcome_seen outcome.now))
         (H.accesses host.old) (H.accesses host.new) (message_of fault)) }
 {
-    make_folder(alloc, host, folder)?;
-    write_files(alloc, host, outputs)?;
-    Ok(())
+    let mut path = room;
+    match write_outcome(host, folder, outcome, &mut path) {
+        Ok(()) => Ok(()),
+        Err(error) => Err(write_fault(path, error)),
+    }
 }
 
-/// Runs a job whose System file is read at the path `system`, and writes what the job leaves into a new folder.
+/// Runs a job whose System file is read at the path `system`, and writes what the job leaves into a new folder. A run
+/// that stopped is a fault once all that it leaves is written. What the paths need is taken before the run.
 fn leave<H: Host, W: Watch>(
     alloc: Global,
     host: &mut H,
@@ -178,9 +134,12 @@ fn leave<H: Host, W: Watch>(
     ensures unleft { IfErr result (λ fault. IsUnleft system.now errand.entry.out.now job.now
         (H.accesses host.old) (H.accesses host.new) (message_of fault)) }
 {
+    let room = room_for_paths(alloc, errand.out)?;
     let outcome = outcome_of(alloc, job, system, errand.watched, watch)?;
-    let outputs = outputs_of(alloc, errand.out, &outcome)?;
-    write_all(alloc, host, errand.out, &outputs)?;
+    write_all(host, errand.out, &outcome, room)?;
+    if outcome.stopped {
+        return Err(ToolFault::HostMemory);
+    }
     Ok(())
 }
 
@@ -191,7 +150,8 @@ fn leave<H: Host, W: Watch>(
 ///
 /// A file that can't be read, the first faulty line of the job or of a script, or a System file that is no resource
 /// fork: then nothing is written. A folder that exists already, or a file that can't be written: then no other file is
-/// written after it.
+/// written after it. Or the host is out of memory: before the first event nothing is written; within an event the run
+/// stops, and what was completed is written.
 pub fn run_job<H: Host, W: Watch>(
     alloc: Global,
     host: &mut H,
@@ -206,7 +166,8 @@ pub fn run_job<H: Host, W: Watch>(
     ensures runs { OnOk result (Runs errand.entry.job.now errand.entry.out.now
         (H.accesses host.old) (H.accesses host.new)) }
 
-    // The fault is the first in that order, and nothing is read or written after it.
+    // The fault is the first in that order, and nothing is read or written after it; but a run that stops, since the host
+    // is out of memory, has its fault after all that it leaves is written.
     ensures stopped { IfErr result (λ fault. IsStopped errand.entry.job.now errand.entry.out.now
         (H.accesses host.old) (H.accesses host.new) (message_of fault)) }
 {

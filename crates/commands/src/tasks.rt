@@ -1,6 +1,6 @@
 //! A task: what is printed of the bytes of its file.
 
-ghost use Rattle.std.specs.Prelude.{◌≡◌, IfOk, IfErr, OnOk};
+ghost use Rattle.std.specs.Prelude.{◌≡◌, IfOk, IfErr, OnOk, string_bytes};
 ghost use Rattle.std.specs.Io.KnownBytes.{append_known};
 ghost use Rattle.commands.specs.Fault.{message_of};
 ghost use Rattle.commands.specs.Work.{IsTranscriptOf, IsListingOf, IsFormText};
@@ -81,14 +81,12 @@ fn fork_fault(alloc: Global, path: &str, fault: ForkFault) -> Result<ToolFault, 
 }
 
 /// Returns the fault of output that could not be written, with its path.
-pub fn write_fault(alloc: Global, path: &str, error: WriteError) -> Result<ToolFault, AllocError>
-    ensures { IfOk result (λ told. message_of told ≡ write_message path.now error) }
+pub fn write_fault(path: String, error: WriteError) -> ToolFault
+    ensures { message_of result ≡ write_message (string_bytes path) error }
 {
     match error {
-        WriteError::CannotWrite => Ok(ToolFault::CannotWrite {
-            path: String::from_str(alloc, path)?,
-        }),
-        WriteError::HostMemory => Ok(ToolFault::HostMemory),
+        WriteError::CannotWrite => ToolFault::CannotWrite { path },
+        WriteError::HostMemory => ToolFault::HostMemory,
     }
 }
 
@@ -197,6 +195,9 @@ pub fn do_task<H: Host, W: Watch>(
     let output = output_of(alloc, task, bytes, watch)?;
     match print_output(alloc, host, &output) {
         Ok(()) => Ok(()),
-        Err(error) => Err(write_fault(alloc, STANDARD_OUTPUT, error)?),
+        Err(error) => {
+            let path = String::from_str(alloc, STANDARD_OUTPUT)?;
+            Err(write_fault(path, error))
+        }
     }
 }

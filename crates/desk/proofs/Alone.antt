@@ -29,7 +29,8 @@ use Rattle.desk.specs.Sizes.{sizes_of}
 use Rattle.desk.specs.Desk.{Place, State, coming, place_come, ready, begun_in, begun_if, launch_answer, after_events, told}
 use Rattle.desk.specs.Job.{place_given, opening, start_of}
 use Rattle.desk.specs.Alone.{launched_alone, RunsAsAlone, LeftAsAlone, IsAsAlone, IsPlaceOf}
-use Rattle.desk.proofs.Events.{Pairs, pairs_kept, pair_at}
+use Rattle.desk.specs.Halting.{After}
+use Rattle.desk.proofs.Events.{Pairs, pairs_kept, pairs_within, pair_at}
 
 -- The desk seen from one application is that application alone.
 
@@ -282,6 +283,14 @@ all_alone memory system apps events =
     pairs_kept (IsPlaceOf system) (λ act app p so. acted-place system act app p so)
     (λ app p s live is so. launched-place system app p s live is so) apps events (opening memory system apps)
     (given-alone system apps)
+
+-- and each place after some completed launches, steps and quits
+pub after_alone : (memory : ℕ) (system : Content) (apps : List App) (events : List Event) (Q : State → Type 0)
+    → After Q events (opening memory system apps) → (m : State) × Pairs (IsPlaceOf system) apps m.places × Q m
+after_alone memory system apps events Q within =
+    pairs_within (IsPlaceOf system) (λ act app p so. acted-place system act app p so)
+    (λ app p s live is so. launched-place system app p s live is so) apps Q events (opening memory system apps)
+    (given-alone system apps) within
 
 pub seen_alone : (memory : ℕ) (system : Content) (apps : List App) (events : List Event) (i : ℕ) (app : App) (p : Place)
     → slice_get apps i ≡ Some app → slice_get (after_events events (opening memory system apps)).places i ≡ Some p

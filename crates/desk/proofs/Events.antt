@@ -1,12 +1,15 @@
 use Rattle.std.proofs.Common.{◌≡◌, ℕ, ◌+◌, Bool, true, false, Option, Some, None, Result, Ok, Err, List, [], ◌∷◌}
-use Rattle.std.proofs.Common.{length, slice_get, slice_set, refl, subst, cond, zero, suc}
+use Rattle.std.proofs.Common.{length, slice_get, slice_set, refl, subst, cond, zero, suc, drop, inl, inr}
 use Rattle.mac_words.specs.declared.code.OsErr.{OsErr}
 use Rattle.script_text.specs.declared.job.Event.{Event}
 use Rattle.script_text.specs.declared.job.Event.TheVariants as event
 use Rattle.desk.specs.declared.act.Act.{Act}
 use Rattle.desk.specs.declared.act.Act.TheVariants.{Step, Turn, Quit}
 use Rattle.desk.specs.declared.job.App.{App}
-use Rattle.desk.specs.Phase.{Live, Running}
+use Rattle.script_text.specs.declared.script.Line.{Line}
+use Rattle.desk.specs.Phase.{Live, Phase, Waiting, Running, Ended, Next, GoesOn, Ends, come_by, stepped}
+use Rattle.desk.specs.Halting.{Goes, WithinTurn, WithinAct, WithinPhase, WithinOf, WithinAt, WithinTurns, WithinRounds}
+use Rattle.desk.specs.Halting.{WithinEvent, After}
 use Rattle.desk.specs.Desk.{Place, State, coming, place_come, acted_in, acted_at, launch_answer, launched_by}
 use Rattle.desk.specs.Desk.{launched_in, each_turned, round, any_runs, rounds, longest, after_event, after_events}
 
@@ -85,6 +88,88 @@ module _ (P : App → Place → Type 0)
   event-pairs (event.Turn i) s so = acted-pairs Turn i (slice_get s.places i) s refl so
   event-pairs (event.Quit i) s so = acted-pairs Quit i (slice_get s.places i) s refl so
   event-pairs event.Rest s so = rounds-pairs (suc (longest s.places)) s so
+
+  -- within a turn there is a place that has what the place had before
+  turn-within : (Q : Place → Type 0) (p : Place) (lines : List Line) (live : Live)
+      → WithinTurn (λ m. Q (record p { phase = Running m })) lines p.script live
+      → (q : Place) × Q q × ((app : App) → P app (record p { phase = Running live }) → P app q)
+  turn-within Q p [] live within = (record p { phase = Running live }, within, λ app so. so)
+  turn-within Q p (l ∷ lines) live (inl within) = (record p { phase = Running live }, within, λ app so. so)
+  turn-within Q p (l ∷ lines) live (inr within) =
+      by_next (λ m. turn-within Q p lines m) (stepped p.script live)
+      (λ app so. acts Step app (record p { phase = Running live }) so) within.1
+    where
+      Found : Live → Type 0
+      Found m = (q : Place) × Q q × ((app : App) → P app (record p { phase = Running m }) → P app q)
+
+      by_next : ((m : Live) → WithinTurn (λ m. Q (record p { phase = Running m })) lines p.script m → Found m)
+          → (next : Next)
+          → ((app : App) → P app (record p { phase = Running live }) → P app (record p { phase = (come_by next).phase }))
+          → Goes (WithinTurn (λ m. Q (record p { phase = Running m })) lines p.script) next → Found live
+      by_next more (GoesOn m) on within =
+          let rest = more m within in (rest.0, rest.1, λ app so. rest.2 app (on app so))
+      by_next more (Ends l left) on within = absurd within
+
+  -- and so there is within any act
+  act-within : (Q : Place → Type 0) (act : Act) (p : Place) (live : Live)
+      → WithinAct (λ m. Q (record p { phase = Running m })) act p.script live
+      → (q : Place) × Q q × ((app : App) → P app (record p { phase = Running live }) → P app q)
+  act-within Q Step p live within = (record p { phase = Running live }, within, λ app so. so)
+  act-within Q Turn p live within = turn-within Q p (drop live.steps p.script.steps) live within
+  act-within Q Quit p live within = (record p { phase = Running live }, within, λ app so. so)
+
+  place-within : (Q : Place → Type 0) (act : Act) (p : Place) (phase : Phase)
+      → WithinPhase (λ f. Q (record p { phase = f })) act p.script phase
+      → (q : Place) × Q q × ((app : App) → P app (record p { phase = phase }) → P app q)
+  place-within Q act p (Waiting start) within = (record p { phase = Waiting start }, within, λ app so. so)
+  place-within Q act p (Running live) within = act-within Q act p live within
+  place-within Q act p (Ended l) within = (record p { phase = Ended l }, within, λ app so. so)
+
+  -- a state of the desk within an act, whose places have it
+  of-within : (Q : State → Type 0) (act : Act) (i : ℕ) (o : Option Place) (s : State) → slice_get s.places i ≡ o
+      → Pairs P apps s.places → WithinOf (λ places. Q (record s { places = places })) act i o s.places
+      → (m : State) × Pairs P apps m.places × Q m
+  of-within Q act i None s is so within = (s, so, within)
+  of-within Q act i (Some p) s is so within =
+      let found = place-within (λ q. Q (record s { places = slice_set s.places i q })) act p p.phase within in (
+        record s { places = slice_set s.places i found.0 },
+        set-pairs apps s.places i p found.0 is found.2 so,
+        found.1,
+      )
+
+  at-within : (Q : State → Type 0) (act : Act) (i : ℕ) (s : State) → Pairs P apps s.places → WithinAt Q act i s
+      → (m : State) × Pairs P apps m.places × Q m
+  at-within Q act i s so within = of-within Q act i (slice_get s.places i) s refl so within
+
+  -- the same within turns, rounds and events
+  turns-within : (Q : State → Type 0) (k i : ℕ) (s : State) → Pairs P apps s.places → WithinTurns Q k i s
+      → (m : State) × Pairs P apps m.places × Q m
+  turns-within Q zero i s so within = absurd within
+  turns-within Q (suc k) i s so (inl within) = at-within Q Turn i s so within
+  turns-within Q (suc k) i s so (inr within) =
+      turns-within Q k (i + 1) (acted_at Turn i s) (acted-pairs Turn i (slice_get s.places i) s refl so) within
+
+  rounds-within : (Q : State → Type 0) (k : ℕ) (s : State) → Pairs P apps s.places → WithinRounds Q k s
+      → (m : State) × Pairs P apps m.places × Q m
+  rounds-within Q zero s so within = absurd within
+  rounds-within Q (suc k) s so (inl within) = turns-within Q (length s.places) 0 s so within
+  rounds-within Q (suc k) s so (inr within) =
+      rounds-within Q k (round s) (turned-pairs (length s.places) 0 s so) within
+
+  event-within : (Q : State → Type 0) (e : Event) (s : State) → Pairs P apps s.places → WithinEvent Q e s
+      → (m : State) × Pairs P apps m.places × Q m
+  event-within Q (event.Launch i) s so within = (s, so, within)
+  event-within Q (event.Step i) s so within = at-within Q Step i s so within
+  event-within Q (event.Turn i) s so within = at-within Q Turn i s so within
+  event-within Q (event.Quit i) s so within = at-within Q Quit i s so within
+  event-within Q event.Rest s so within = rounds-within Q (suc (longest s.places)) s so within
+
+  pub pairs_within : (Q : State → Type 0) (events : List Event) (s : State) → Pairs P apps s.places → After Q events s
+      → (m : State) × Pairs P apps m.places × Q m
+  pairs_within Q [] s so within = (s, so, within)
+  pairs_within Q (e ∷ events) s so (inl within) = event-within Q e s so within
+  pairs_within Q (e ∷ events) s so (inr within) =
+      pairs_within Q events (after_event e s) (event-pairs e s so) within
 
   pub pairs_kept : (events : List Event) (s : State) → Pairs P apps s.places
       → Pairs P apps (after_events events s).places

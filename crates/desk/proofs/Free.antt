@@ -119,13 +119,16 @@ module _ {Z : Type 0} (byte : Z → ℕ → Option ℕ) (first now next : Z) whe
       (rest, step place more.0 (free-first place (drop (i + 1) events) t rest) ∙ h.1)
 
 -- by the System file's content
-pub never-granted : {E O : Type 0} (Out : ℕ → Type 0) (job : Job) (content : Content) (result : Result O E) (outcome : O)
-    → system_of job ≡ Ok content
-    → IfOk result (λ o. (place : ℕ) → StaysFree place job.events.items (opening job.memory content job.apps.items) → Out place)
-    → result ≡ Ok outcome → (place : ℕ) → IsNeverGranted place job → Out place
-never-granted Out job content (Ok o) outcome system stays is place f =
-    stays place (subst (λ s. FreeThrough place s job.memory job.apps.items job.events.items) system f)
-never-granted Out job content (Err fault) outcome system stays is place f = absurd cc
+pub never-granted : {E O : Type 0} (Out : ℕ → Type 0) (Whole : O → Type 0) (job : Job) (content : Content)
+    (result : Result O E) (outcome : O) → system_of job ≡ Ok content
+    → IfOk result (λ o. Whole o → (place : ℕ)
+    → StaysFree place job.events.items (opening job.memory content job.apps.items) → Out place)
+    → result ≡ Ok outcome → Whole outcome → (place : ℕ) → IsNeverGranted place job → Out place
+never-granted Out Whole job content (Ok o) outcome system stays is whole place f =
+    let same : o ≡ outcome = cc in
+    stays (subst Whole (sym same) whole) place
+    (subst (λ s. FreeThrough place s job.memory job.apps.items job.events.items) system f)
+never-granted Out Whole job content (Err fault) outcome system stays is whole place f = absurd cc
 
 -- a maker in the same memory is one of the same region
 pub same-home : (old new : Whole) → ((w : Window) (site : Site) → LiesIn old w site → LiesIn new w site)

@@ -1,5 +1,5 @@
 use Rattle.std.proofs.Common.{◌≡◌, ℕ, Bool, Option, Some, None, Result, Ok, Err, List, [], ◌∷◌, IfOk, IfSome, map}
-use Rattle.std.proofs.Common.{refl, sym, ◌∙◌, ap, subst}
+use Rattle.std.proofs.Common.{refl, sym, subst, inl, inr}
 use Rattle.mac_words.specs.declared.code.OsErr.{OsErr}
 use Rattle.fork_format.specs.Content.{Content}
 use Rattle.script_text.specs.Script.{ScriptParts}
@@ -9,13 +9,14 @@ use Rattle.desk.specs.declared.job.App.{App}
 use Rattle.desk.specs.declared.job.Job.{Job}
 use Rattle.desk.specs.declared.outcome.Outcome as declared
 use Rattle.desk.specs.Outcome.{Launched, Outcome}
-use Rattle.desk.specs.Desk.{Place, State, after_events, told, outcome_of}
+use Rattle.desk.specs.Desk.{Place, State, after_events, told}
+use Rattle.desk.specs.Halting.{IsLeft, halted}
 use Rattle.desk.specs.Job.{opening, start_of}
 use Rattle.desk.specs.Alone.{launched_alone, IsPlaceOf}
 use Rattle.desk.specs.View.{outcome_seen}
-use Rattle.desk.specs.Whole.{Law, OfLaunched, OfEach, OfEachApp, EachLaunched, run_by, run_of, system_of}
+use Rattle.desk.specs.Whole.{Law, OfLaunched, OfEach, OfEachApp, EachLaunched, system_of}
 use Rattle.desk.proofs.Events.{Pairs}
-use Rattle.desk.proofs.Alone.{all_alone, told-alone}
+use Rattle.desk.proofs.Alone.{all_alone, after_alone, told-alone}
 
 -- A law of what an application leaves alone holds of what each launched application of a run leaves.
 
@@ -47,24 +48,20 @@ each-keeps P each system (app ∷ apps) (p ∷ places) so =
 each-keeps P each system [] (p ∷ places) so = absurd so
 each-keeps P each system (app ∷ apps) [] so = absurd so
 
-each-run : (P : Law)
+-- what a run leaves, also one that stopped
+each-left : (P : Law)
     → ((resources : Resources) (script : ScriptParts) (size n : ℕ) (asked : Bool)
     → P resources script (launched_alone resources script size n asked))
-    → (system : Result Content OsErr) (memory : ℕ) (apps : List App) (events : List Event) (found : Outcome)
-    → run_by system memory apps events ≡ Ok found → OfEachApp P system apps found.apps
-each-run P each (Err code) memory apps events found is = cc
-each-run P each (Ok system) memory apps events found is =
-    let s : State = after_events events (opening memory system apps) in
-    let same : outcome_of s ≡ found = cc in
-    subst (λ (o : Outcome). OfEach P system apps o.apps) same
-    (each-keeps P each system apps s.places (all_alone memory system apps events))
-
--- a run by the System file's content
-run-seen : (system : Result Content OsErr) (content : Content) (memory : ℕ) (apps : List App) (events : List Event)
-    (found : Outcome) → system ≡ Ok content → found ≡ outcome_of (after_events events (opening memory content apps))
-    → run_by system memory apps events ≡ Ok found
-run-seen system content memory apps events found is same =
-    ap (λ (x : Result Content OsErr). run_by x memory apps events) is ∙ ap Ok (sym same)
+    → (system : Content) (memory : ℕ) (apps : List App) (events : List Event) (found : Outcome)
+    → IsLeft found events (opening memory system apps) → OfEach P system apps found.apps
+each-left P each system memory apps events found (inl is) =
+    subst (λ (o : Outcome). OfEach P system apps o.apps) (sym is)
+    (each-keeps P each system apps (after_events events (opening memory system apps)).places
+    (all_alone memory system apps events))
+each-left P each system memory apps events found (inr within) =
+    let reached = after_alone memory system apps events (λ m. halted m ≡ found) within in
+    subst (λ (o : Outcome). OfEach P system apps o.apps) reached.2
+    (each-keeps P each system apps reached.0.places reached.1)
 
 -- such a law holds of each application that a run launched
 pub each-launched : {E : Type 0} (P : Law)
@@ -72,13 +69,11 @@ pub each-launched : {E : Type 0} (P : Law)
     → P resources script (launched_alone resources script size n asked))
     → (job : Job) (content : Content) (result : Result declared.Outcome E) (outcome : declared.Outcome)
     → system_of job ≡ Ok content
-    → IfOk result (λ o. outcome_seen o
-    ≡ outcome_of (after_events job.events.items (opening job.memory content job.apps.items)))
+    → IfOk result (λ o. IsLeft (outcome_seen o) job.events.items (opening job.memory content job.apps.items))
     → result ≡ Ok outcome → EachLaunched P job outcome
 each-launched P each job content (Err fault) outcome system found is = cc
 each-launched P each job content (Ok o) outcome system found is =
     let same : o ≡ outcome = cc in
-    let run : run_of job ≡ Ok (outcome_seen o) =
-    run-seen (system_of job) content job.memory job.apps.items job.events.items (outcome_seen o) system found in
     subst (EachLaunched P job) same
-    (each-run P each (system_of job) job.memory job.apps.items job.events.items (outcome_seen o) run)
+    (subst (λ (x : Result Content OsErr). OfEachApp P x job.apps.items (outcome_seen o).apps) (sym system)
+    (each-left P each content job.memory job.apps.items job.events.items (outcome_seen o) found))

@@ -14,3 +14,4 @@ pub mod Resting
 pub mod Rounds
 pub mod Systems
 pub mod WholeRegion
+pub mod Halting

@@ -117,10 +117,12 @@ left_end L ws ps places e so =
     subst (AllLie L) (sym (so.1 ∙ ap (λ (qs : List Place). so.0 ++ qs) e ∙ append-nil so.0)) so.2
 
 -- by the System file's content
-pub lie-at-end : {E O : Type 0} (L : Lying) (job : Job) (content : Content) (result : Result O E) (outcome : O)
-    → system_of job ≡ Ok content
-    → IfOk result (λ o. AllLie L (after_events job.events.items (opening job.memory content job.apps.items)).places)
-    → result ≡ Ok outcome → LieAtEnd L job
-lie-at-end L job content (Ok o) outcome system lies is =
-    subst (λ s. LieAfter L s job.memory job.apps.items job.events.items) (sym system) lies
-lie-at-end L job content (Err fault) outcome system lies is = absurd cc
+pub lie-at-end : {E O : Type 0} (L : Lying) (Whole : O → Type 0) (job : Job) (content : Content) (result : Result O E)
+    (outcome : O) → system_of job ≡ Ok content
+    → IfOk result (λ o. Whole o
+    → AllLie L (after_events job.events.items (opening job.memory content job.apps.items)).places)
+    → result ≡ Ok outcome → Whole outcome → LieAtEnd L job
+lie-at-end L Whole job content (Ok o) outcome system lies is whole =
+    let same : o ≡ outcome = cc in
+    subst (λ s. LieAfter L s job.memory job.apps.items job.events.items) (sym system) (lies (subst Whole (sym same) whole))
+lie-at-end L Whole job content (Err fault) outcome system lies is whole = absurd cc

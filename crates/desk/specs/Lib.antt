@@ -9,6 +9,7 @@ pub mod Live
 pub mod Seated
 pub mod View
 pub mod Ready
+pub mod Halting
 pub mod Whole
 pub mod Lying
 pub mod Free

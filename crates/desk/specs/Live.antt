@@ -1,4 +1,4 @@
-use Rattle.std.specs.Prelude.{◌≡◌, Bool, Option, Some, None, map}
+use Rattle.std.specs.Prelude.{◌≡◌, Bool, false, Option, Some, None, map}
 use Rattle.windows.specs.declared.Window.{Window}
 use Rattle.mac_words.specs.declared.code.OsErr.{OsErr}
 use Rattle.block_store.specs.Rest.{Site}
@@ -34,6 +34,10 @@ abbrev pub HasCome : {S : Type 0} → Bool → Next → Option OsErr → declare
 HasCome asked next None live = next ≡ GoesOn (live_seen live)
 HasCome asked next (Some code) live =
     next ≡ Ends (leaves asked (live_seen live)) (record { window = live.window; code = code })
+
+-- An application leaves what another leaves as it stands.
+abbrev pub LeavesAs : {S : Type 0} → Live → declared.Live S → Type 0
+LeavesAs m live = leaves false m ≡ leaves false (live_seen live)
 
 -- The window of an application, and where the store of its zone lies.
 abbrev pub Lot : Type 0

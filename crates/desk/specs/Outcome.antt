@@ -1,4 +1,4 @@
-use Rattle.std.specs.Prelude.{ℕ, ◌+◌, Bool, Option, Some, None, List, [], ◌∷◌, ◌++◌, length, if◌then◌else◌}
+use Rattle.std.specs.Prelude.{ℕ, ◌+◌, Bool, false, Option, Some, None, List, [], ◌∷◌, ◌++◌, length, if◌then◌else◌}
 use Rattle.std.specs.List.{flat_map}
 use Rattle.script_text.specs.DeskLog.{fork_of}
 use Rattle.res_calls.specs.Files.{File}
@@ -34,10 +34,12 @@ forks_of t = by_launched t.launched
     by_launched None = []
     by_launched (Some l) = forks_told t.name 0 l.files
 
--- What a run leaves: the desk's log, which ends with the forks that were written, and what the applications leave.
+-- What a run leaves: the desk's log, which ends with the forks that were written, what the applications leave, and
+-- whether the run stopped since the host was out of memory.
 pub record Outcome : Type 0 where
   pub log : List ℕ
   pub apps : List AppResult
+  pub stopped : Bool
 
 abbrev pub outcome_told : List ℕ → List AppResult → Outcome
-outcome_told log apps = record { log = log ++ flat_map forks_of apps; apps = apps }
+outcome_told log apps = record { log = log ++ flat_map forks_of apps; apps = apps; stopped = false }

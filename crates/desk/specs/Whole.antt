@@ -17,7 +17,7 @@ use Rattle.desk.specs.declared.outcome.Outcome as declared
 use Rattle.desk.specs.declared.outcome.RunFault.{RunFault}
 use Rattle.desk.specs.declared.outcome.RunFault.TheVariants.{System, HostMemory}
 use Rattle.desk.specs.Outcome.{Launched, AppResult, Outcome}
-use Rattle.desk.specs.Desk.{after_events, outcome_of}
+use Rattle.desk.specs.Halting.{IsLeft}
 use Rattle.desk.specs.Job.{start_of, opening}
 use Rattle.desk.specs.View.{outcome_seen}
 
@@ -39,19 +39,20 @@ system_in (Some fork) = content_in fork
 abbrev pub system_of : Job → Result Content OsErr
 system_of job = system_in (option_map (λ fork. fork.items) job.system)
 
--- What a run leaves, or the result code for which the System file's fork can't be read.
-abbrev pub run_by : Result Content OsErr → ℕ → List App → List Event → Result Outcome OsErr
-run_by (Err code) memory apps events = Err code
-run_by (Ok system) memory apps events = Ok (outcome_of (after_events events (opening memory system apps)))
+-- What a run of the job leaves, if the System file's fork can be read.
+abbrev pub LeftWith : Result Content OsErr → Job → Outcome → Type 0
+LeftWith (Err code) job outcome = ⊥
+LeftWith (Ok system) job outcome = IsLeft outcome job.events.items (opening job.memory system job.apps.items)
 
-abbrev pub run_of : Job → Result Outcome OsErr
-run_of job = run_by (system_of job) job.memory job.apps.items job.events.items
+abbrev pub LeftByRun : Job → Outcome → Type 0
+LeftByRun job outcome = LeftWith (system_of job) job outcome
 
--- The result of a run, as the code holds it; nothing is said if the host was out of memory.
-abbrev pub IsOutcome : Result Outcome OsErr → Result declared.Outcome RunFault → Type 0
-IsOutcome run (Ok outcome) = run ≡ Ok (outcome_seen outcome)
-IsOutcome run (Err (System code)) = run ≡ Err code
-IsOutcome run (Err HostMemory) = Unit {0}
+-- The result of a run, as the code holds it. A run is refused exactly if the System file's fork can't be read; nothing
+-- is said if the host was out of memory before the first event.
+abbrev pub IsOutcome : Job → Result declared.Outcome RunFault → Type 0
+IsOutcome job (Ok outcome) = LeftByRun job (outcome_seen outcome)
+IsOutcome job (Err (System code)) = system_of job ≡ Err code
+IsOutcome job (Err HostMemory) = Unit {0}
 
 -- Laws of each application that was launched, of the resources with which it was launched, its script, and what it
 -- leaves.

@@ -1,7 +1,7 @@
 //! The desk: several applications in one memory.
 
-ghost use Rattle.std.specs.Prelude.{◌≡◌, ℕ, ◌≤◌, ◌<◌, ◌%◌, List, [], length, map, Option, None, option_map, IsTrue};
-ghost use Rattle.std.specs.Prelude.{IfOk, IsOk, OnOk, OnErr, IfErr, IfSome, vec_len, vec_capacity};
+ghost use Rattle.std.specs.Prelude.{◌≡◌, ℕ, ◌≤◌, ◌<◌, ◌%◌, ◌+◌, List, [], length, map, Option, None, option_map, IsTrue};
+ghost use Rattle.std.specs.Prelude.{Err, false, is_ok, IfOk, IsOk, OnOk, OnErr, IfErr, IfSome, slice_get, vec_len, vec_capacity};
 ghost use Rattle.std.specs.List.{list_all, Contains};
 ghost use Rattle.windows.specs.declared.Window.{Window as Stretch};
 ghost use Rattle.windows.specs.declared.list.TheConstants.{MOST_WINDOWS};
@@ -15,15 +15,17 @@ ghost use Rattle.fork_format.specs.View.{view};
 ghost use Rattle.partitions.specs.Grant.{grant};
 ghost use Rattle.desk.specs.declared.act.Act.TheVariants.{Step, Turn, Quit};
 ghost use Rattle.res_calls.specs.Given.{IsReply};
+ghost use Rattle.script_text.specs.declared.desk_log.TheConstants.{APP_ROOM};
 ghost use Rattle.desk.specs.Desk.{launched_at, reply_at, acted_at, any_runs, longest, told};
 ghost use Rattle.desk.specs.Ready.{UnlessHostMemory};
 ghost use Rattle.desk.specs.Free.{IsFree};
 ghost use Rattle.desk.specs.Job.{opening};
+ghost use Rattle.desk.specs.Halting.{WithinAt, halted};
 ghost use Rattle.desk.specs.Held.{MadeOf, opened, closed};
 ghost use Rattle.desk.specs.Phase.{begun};
 ghost use Rattle.desk.specs.Live.{live_seen};
 ghost use Rattle.desk.specs.Lying.{AllLie};
-ghost use Rattle.desk.specs.View.{told_seen};
+ghost use Rattle.desk.specs.View.{seen, told_seen};
 
 use crate::act::Act;
 use crate::departure::Departure;
@@ -40,7 +42,7 @@ use fork_format::Content;
 use heap_calls::Refusal;
 use mac_words::OsErr;
 use partitions::Grants;
-use script_text::{write_app_end, write_app_launch, write_app_refusal};
+use script_text::{APP_ROOM, write_app_end, write_app_launch, write_app_refusal};
 use std::alloc::{AllocError, Global};
 use std::marker::Model;
 use windows::Window;
@@ -129,10 +131,12 @@ impl<'j, Z: ZoneMaker> Desk<'j, Z> {
     ///
     /// The launch is refused: -30001 (profileErr) if the application runs or has ended already, or if there is no
     /// application of that number; -39 (eofErr) or -199 (mapReadErr) if its fork can't be opened; -108 (memFullErr) if
-    /// there is no room. Or the host is out of memory: after this the desk can only be finished.
+    /// there is no room. Or the host is out of memory: the application still waits, and the log is as it was; after this
+    /// the desk can only be finished.
     pub fn launch(&mut self, i: usize) -> Result<u32, Refusal>
         ensures answer { IsReply (reply_at i self.old.state) result }
         ensures state { UnlessHostMemory result (self.new.state ≡ launched_at i self.old.state) }
+        ensures host { result ≡ Err Refusal.HostMemory → self.new.state ≡ self.old.state }
         ensures memory { self.new.state.memory ≡ self.old.state.memory }
         ensures kept { (w : Stretch) (site : Site) → Z.made self.old.zones w site → Z.made self.new.zones w site }
         ensures outside { UnlessHostMemory result ((place : ℕ) → IsFree place self.new.state
@@ -149,6 +153,7 @@ impl<'j, Z: ZoneMaker> Desk<'j, Z> {
     pub(crate) fn try_launch(&mut self, i: usize) -> Result<Result<u32, OsErr>, AllocError>
         ensures answer { IfOk result (λ reply. reply ≡ reply_at i self.old.state) }
         ensures ok { OnOk result (self.new.state ≡ launched_at i self.old.state) }
+        ensures host { OnErr result (self.new.state ≡ self.old.state) }
         ensures memory { self.new.state.memory ≡ self.old.state.memory }
         ensures kept { (w : Stretch) (site : Site) → Z.made self.old.zones w site → Z.made self.new.zones w site }
         ensures outside { OnOk result ((place : ℕ) → IsFree place self.new.state
@@ -158,6 +163,8 @@ impl<'j, Z: ZoneMaker> Desk<'j, Z> {
             return Ok(Err(OsErr::PROFILE));
         };
         let app = seat.app;
+        // The room of the launch's line is taken before the application is begun.
+        self.log.reserve(app.name.0.len() + APP_ROOM)?;
         let ready = match prepared(self.alloc, seat) {
             Ok(ready) => ready,
             Err(Refusal::Code(code)) => {
@@ -182,9 +189,11 @@ impl<'j, Z: ZoneMaker> Desk<'j, Z> {
     ///
     /// # Errors
     ///
-    /// The host is out of memory: after this the desk can only be finished.
+    /// The host is out of memory: the log, and what each application leaves, are as after the last step that was completed.
+    /// After this the desk can only be finished.
     pub fn step(&mut self, i: usize) -> Result<(), AllocError>
         ensures ok { OnOk result (self.new.state ≡ acted_at Step i self.old.state) }
+        ensures within { OnErr result (WithinAt (λ m. halted m ≡ halted self.new.state) Step i self.old.state) }
         ensures memory { self.new.state.memory ≡ self.old.state.memory }
         ensures kept { (w : Stretch) (site : Site) → Z.made self.old.zones w site → Z.made self.new.zones w site }
         ensures outside { OnOk result ((place : ℕ) → IsFree place self.old.state
@@ -200,9 +209,11 @@ impl<'j, Z: ZoneMaker> Desk<'j, Z> {
     ///
     /// # Errors
     ///
-    /// The host is out of memory: after this the desk can only be finished.
+    /// The host is out of memory: the log, and what each application leaves, are as after the last step that was completed.
+    /// After this the desk can only be finished.
     pub fn turn(&mut self, i: usize) -> Result<(), AllocError>
         ensures ok { OnOk result (self.new.state ≡ acted_at Turn i self.old.state) }
+        ensures within { OnErr result (WithinAt (λ m. halted m ≡ halted self.new.state) Turn i self.old.state) }
         ensures memory { self.new.state.memory ≡ self.old.state.memory }
         ensures kept { (w : Stretch) (site : Site) → Z.made self.old.zones w site → Z.made self.new.zones w site }
         ensures outside { OnOk result ((place : ℕ) → IsFree place self.old.state
@@ -215,9 +226,11 @@ impl<'j, Z: ZoneMaker> Desk<'j, Z> {
     ///
     /// # Errors
     ///
-    /// The host is out of memory: after this the desk can only be finished.
+    /// The host is out of memory: the log, and what each application leaves, are as after the last step that was completed.
+    /// After this the desk can only be finished.
     pub fn quit(&mut self, i: usize) -> Result<(), AllocError>
         ensures ok { OnOk result (self.new.state ≡ acted_at Quit i self.old.state) }
+        ensures within { OnErr result (WithinAt (λ m. halted m ≡ halted self.new.state) Quit i self.old.state) }
         ensures memory { self.new.state.memory ≡ self.old.state.memory }
         ensures kept { (w : Stretch) (site : Site) → Z.made self.old.zones w site → Z.made self.new.zones w site }
         ensures outside { OnOk result ((place : ℕ) → IsFree place self.old.state
@@ -227,14 +240,17 @@ impl<'j, Z: ZoneMaker> Desk<'j, Z> {
     }
 
     /// Performs an act of application `i`, if there is an application of that number and it runs. If the application
-    /// ends, its zone is closed and its window is given back before the log has the line of the end.
+    /// ends, its zone is closed and its window is given back before the log has the line of the end, whose room is taken
+    /// first.
     pub(crate) fn act(&mut self, i: usize, act: Act) -> Result<(), AllocError>
         ensures ok { OnOk result (self.new.state ≡ acted_at act i self.old.state) }
+        ensures within { OnErr result (WithinAt (λ m. halted m ≡ halted self.new.state) act i self.old.state) }
         ensures memory { self.new.state.memory ≡ self.old.state.memory }
         ensures kept { (w : Stretch) (site : Site) → Z.made self.old.zones w site → Z.made self.new.zones w site }
         ensures outside { OnOk result ((place : ℕ) → IsFree place self.old.state
             → Z.byte self.new.zones place ≡ Z.byte self.old.zones place) }
     {
+        take_end_room(&mut self.log, &self.seats, i)?;
         let ended = seats::act_at(&mut self.seats, i, act)?;
         match ended {
             None => Ok(()),
@@ -303,6 +319,22 @@ impl<'j, Z: ZoneMaker> Desk<'j, Z> {
     }
 }
 
+/// Takes the room of the line of an application's end, if there is an application of that number.
+fn take_end_room<S: BlockStore>(
+    log: &mut Vec<u8>,
+    seats: &[Seat<'_, S>],
+    i: usize,
+) -> Result<(), AllocError>
+    ensures log { log.new.items ≡ log.old.items }
+    ensures room { OnOk result (IfSome (slice_get (seen seats.now) i)
+        (λ p. vec_len log.new + length p.name + APP_ROOM ≤ vec_capacity log.new)) }
+{
+    match seats.get(i) {
+        Some(seat) => log.reserve(seat.app.name.0.len() + APP_ROOM),
+        None => Ok(()),
+    }
+}
+
 /// Returns the reply to a launch, once its line is written.
 fn once_written(
     written: Result<(), AllocError>,
@@ -310,6 +342,7 @@ fn once_written(
 ) -> Result<Result<u32, OsErr>, AllocError>
     ensures reply { IfOk result (λ told. told ≡ reply) }
     ensures written { OnOk result (IsOk written) }
+    ensures failed { OnErr result (is_ok written ≡ false) }
 {
     match written {
         Ok(()) => Ok(reply),

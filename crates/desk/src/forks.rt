@@ -3,6 +3,7 @@
 ghost use Rattle.std.specs.Prelude.{◌≡◌, ◌++◌, map, OnOk};
 ghost use Rattle.std.specs.List.{flat_map};
 ghost use Rattle.res_calls.specs.View.{view_file};
+ghost use Rattle.applications.specs.Replies.{Extends};
 ghost use Rattle.desk.specs.Outcome.{fork_told, forks_told, forks_of};
 ghost use Rattle.desk.specs.View.{told_seen};
 
@@ -14,8 +15,9 @@ use std::alloc::AllocError;
 
 /// Appends the line of a file, the one at `place` among the application's files, if its fork was written.
 fn write_file(text: &mut Vec<u8>, name: &Label, place: usize, file: &File) -> Result<(), AllocError>
-    ensures { OnOk result (text.new.items
+    ensures lines { OnOk result (text.new.items
         ≡ text.old.items ++ fork_told name.now.0.items place (view_file file.now)) }
+    ensures front { Extends text.old.items text.new.items }
 {
     if file.written {
         return write_app_fork(text, name, place, &file.name, file.fork.len());
@@ -26,8 +28,9 @@ fn write_file(text: &mut Vec<u8>, name: &Label, place: usize, file: &File) -> Re
 /// Appends a line for each file of an application whose fork was written.
 #[tactic(auto, using(crate::proofs::ForkLines::files_next))]
 fn write_files(text: &mut Vec<u8>, name: &Label, files: &[File]) -> Result<(), AllocError>
-    ensures { OnOk result (text.new.items
+    ensures lines { OnOk result (text.new.items
         ≡ text.old.items ++ forks_told name.now.0.items 0 (map view_file files.now)) }
+    ensures front { Extends text.old.items text.new.items }
 {
     for (place, file) in files.iter().enumerate() {
         write_file(text, name, place, file)?;
@@ -37,7 +40,8 @@ fn write_files(text: &mut Vec<u8>, name: &Label, files: &[File]) -> Result<(), A
 
 /// Appends a line for each fork that an application wrote, if the application was launched.
 fn write_app(text: &mut Vec<u8>, app: &AppOutcome) -> Result<(), AllocError>
-    ensures { OnOk result (text.new.items ≡ text.old.items ++ forks_of (told_seen app.now)) }
+    ensures lines { OnOk result (text.new.items ≡ text.old.items ++ forks_of (told_seen app.now)) }
+    ensures front { Extends text.old.items text.new.items }
 {
     match &app.launched {
         Some(launched) => write_files(text, &app.name, &launched.files),
@@ -48,7 +52,8 @@ fn write_app(text: &mut Vec<u8>, app: &AppOutcome) -> Result<(), AllocError>
 /// Appends a line for each fork that was written, in the order of the applications and their files.
 #[tactic(auto, using(crate::proofs::ForkLines::apps_next))]
 pub(crate) fn write_forks(text: &mut Vec<u8>, apps: &[AppOutcome]) -> Result<(), AllocError>
-    ensures { OnOk result (text.new.items ≡ text.old.items ++ flat_map forks_of (map told_seen apps.now)) }
+    ensures lines { OnOk result (text.new.items ≡ text.old.items ++ flat_map forks_of (map told_seen apps.now)) }
+    ensures front { Extends text.old.items text.new.items }
 {
     for app in apps {
         write_app(text, app)?;

@@ -1,12 +1,12 @@
 //! Whole runs in the bytes of a region.
 
-ghost use Rattle.std.specs.Prelude.{◌≡◌, ◌≤◌, ◌%◌, ℕ, [], length, slice_get, IfOk};
+ghost use Rattle.std.specs.Prelude.{◌≡◌, ◌≤◌, ◌%◌, ℕ, [], false, length, slice_get, IfOk};
 ghost use Rattle.block_store.specs.declared.measures.TheConstants.{GREATEST_ZONE};
 ghost use Rattle.zone_bytes.specs.Laid.{LiesThere};
 ghost use Rattle.applications.specs.Promises.{KeepsPromises};
 ghost use Rattle.desk.specs.Free.{IsNeverGranted};
 ghost use Rattle.desk.specs.Lying.{LieAtEnd};
-ghost use Rattle.desk.specs.Whole.{run_of, IsOutcome, EachLaunched, IsAlone, InItsSteps};
+ghost use Rattle.desk.specs.Whole.{IsOutcome, EachLaunched, IsAlone, InItsSteps};
 
 use crate::job::Job;
 use crate::outcome::{Outcome, RunFault};
@@ -21,7 +21,7 @@ use std::alloc::Global;
 ///
 /// # Errors
 ///
-/// The System file's fork can't be read, or the host is out of memory.
+/// The System file's fork can't be read, or the host is out of memory before the first event.
 ///
 /// *Inside Macintosh: Processes*, chapter 1.
 pub fn run<W: Watch>(
@@ -37,9 +37,10 @@ pub fn run<W: Watch>(
     requires few { length job.now.apps.items ≤ 64 }
 
     // What the run leaves is what the definition of the desk says for the events, one after another: the log, and of
-    // each application the transcript and the files. The run is refused for the System file exactly if that file's
-    // fork can't be read.
-    ensures outcome { IsOutcome (run_of job.now) result.0 }
+    // each application the transcript and the files. If the host is out of memory within an event, the run stops, and
+    // leaves what the desk leaves after the launches, steps and quits that were completed. The run is refused for the
+    // System file exactly if that file's fork can't be read.
+    ensures outcome { IsOutcome job.now result.0 }
 
     // For every interleaving of launches, calls and quits, each launched application's transcript and forks are those
     // that it would give alone with the same partition size, its own files and the same System file; each handle that
@@ -48,11 +49,11 @@ pub fn run<W: Watch>(
     ensures alone { IfOk result.0 (λ o. EachLaunched IsAlone job.now o) }
     ensures laws { IfOk result.0 (λ o. EachLaunched (InItsSteps KeepsPromises) job.now o) }
 
-    // In the window of each application that still runs lies its zone.
-    ensures lies { IfOk result.0 (λ o. LieAtEnd (λ w blocks. LiesThere result.1.bytes w blocks) job.now) }
+    // In the window of each application that still runs after the last event lies its zone.
+    ensures lies { IfOk result.0 (λ o. o.stopped ≡ false → LieAtEnd (λ w blocks. LiesThere result.1.bytes w blocks) job.now) }
 
     // Each byte that was in no partition at any time keeps its value.
-    ensures untouched { IfOk result.0 (λ o. (place : ℕ) → IsNeverGranted place job.now
+    ensures untouched { IfOk result.0 (λ o. o.stopped ≡ false → (place : ℕ) → IsNeverGranted place job.now
         → slice_get result.1.bytes place ≡ slice_get region.bytes place) }
 
     // The region that is returned is the one that was given, with all its parts returned.

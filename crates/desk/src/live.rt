@@ -1,12 +1,13 @@
 //! An application that runs at the desk.
 
-ghost use Rattle.std.specs.Prelude.{◌≡◌, ◌+◌, ◌^◌, ◌<◌, ◌≤◌, Bool, false, true, drop, length, slice_get, Some, IfOk, IfErr};
+ghost use Rattle.std.specs.Prelude.{◌≡◌, ◌+◌, ◌^◌, ◌<◌, ◌≤◌, Bool, false, true, drop, length, slice_get, Some, IfOk, IfErr, OnErr};
 ghost use Rattle.block_store.specs.Block.{fresh};
 ghost use Rattle.heap_calls.specs.Stored.{IsNamed};
 ghost use Rattle.applications.specs.Step.{step};
-ghost use Rattle.applications.specs.Replies.{end_by};
+ghost use Rattle.applications.specs.Replies.{Extends, end_by};
 ghost use Rattle.desk.specs.Phase.{begun, ends, called, run_out, stepped, turned, quitted, acted, is_quit, leaves};
-ghost use Rattle.desk.specs.Live.{live_seen, HasCome, lot_of_live, leaves_seen};
+ghost use Rattle.desk.specs.Halting.{WithinTurn, WithinAct};
+ghost use Rattle.desk.specs.Live.{live_seen, HasCome, LeavesAs, lot_of_live, leaves_seen};
 ghost use Rattle.desk.specs.Lying.{zone_of};
 
 use crate::act::Act;
@@ -15,7 +16,7 @@ use applications::{Application, Exit, ends_turn};
 use block_store::BlockStore;
 use mac_words::OsErr;
 use res_calls::Resources;
-use script_text::{Line, Script, write_end, write_launch};
+use script_text::{END_ROOM, Line, Script, write_end, write_launch};
 use std::alloc::{AllocError, Global};
 use windows::Window;
 
@@ -64,23 +65,29 @@ impl<'j, S: BlockStore> Live<'j, S> {
         })
     }
 
-    /// Ends the application with the given exit, and appends the line of the end to the transcript.
+    /// Ends the application with the given exit, and appends the line of the end to the transcript. Where the host is
+    /// out of memory, the transcript and the files stay as they were: the room of the line is taken first.
     fn end(&mut self, exit: Option<Exit>) -> Result<OsErr, AllocError>
         ensures came { (asked : Bool) → IfOk result (λ code. HasCome asked
             (ends asked (end_by exit (live_seen self.old).state) (live_seen self.old)) (Some code) self.new) }
+        ensures stays { OnErr result (LeavesAs (live_seen self.old) self.new) }
         ensures lies { self.new.application.memory.window ≡ self.old.application.memory.window }
         ensures window { self.new.window ≡ self.old.window }
     {
+        self.text.reserve(END_ROOM)?;
         let code = self.application.end(exit)?;
         write_end(&mut self.text, code)?;
         Ok(code)
     }
 
-    /// Takes the next call of the application, that of `line`.
+    /// Takes the next call of the application, that of `line`, and ends the application if it ends with the call. Where
+    /// the host is out of memory, the transcript may have the lines of the call.
     fn follow(&mut self, script: &'j Script, line: &Line) -> Result<Option<OsErr>, AllocError>
         requires few { self.old.steps + 1 < 2 ^ 64 }
         ensures came { IfOk result (λ end. HasCome false
             (called (step script.now.blocks line.now (live_seen self.old).state) (live_seen self.old)) end self.new) }
+        ensures front { OnErr result (Extends self.old.text.items self.new.text.items) }
+        ensures files { OnErr result (self.new.application.resources.files ≡ self.old.application.resources.files) }
         ensures lies { self.new.application.memory.window ≡ self.old.application.memory.window }
         ensures window { self.new.window ≡ self.old.window }
     {
@@ -94,6 +101,8 @@ impl<'j, S: BlockStore> Live<'j, S> {
     /// Quits the application, which has no call left. The quit counts as a step.
     fn run_out(&mut self, script: &'j Script) -> Result<Option<OsErr>, AllocError>
         ensures came { IfOk result (λ end. HasCome false (run_out script.now (live_seen self.old)) end self.new) }
+        ensures front { OnErr result (Extends self.old.text.items self.new.text.items) }
+        ensures files { OnErr result (self.new.application.resources.files ≡ self.old.application.resources.files) }
         ensures lies { self.new.application.memory.window ≡ self.old.application.memory.window }
         ensures window { self.new.window ≡ self.old.window }
     {
@@ -101,10 +110,11 @@ impl<'j, S: BlockStore> Live<'j, S> {
         Ok(Some(self.end(None)?))
     }
 
-    /// Takes a step: the next call, or a quit if no call is left. Returns the result code of the end if the
-    /// application ends.
-    fn step(&mut self, script: &'j Script) -> Result<Option<OsErr>, AllocError>
+    /// Takes the next call, or quits if no call is left.
+    fn take_step(&mut self, script: &'j Script) -> Result<Option<OsErr>, AllocError>
         ensures came { IfOk result (λ end. HasCome false (stepped script.now (live_seen self.old)) end self.new) }
+        ensures front { OnErr result (Extends self.old.text.items self.new.text.items) }
+        ensures files { OnErr result (self.new.application.resources.files ≡ self.old.application.resources.files) }
         ensures lies { self.new.application.memory.window ≡ self.old.application.memory.window }
         ensures window { self.new.window ≡ self.old.window }
     {
@@ -114,9 +124,29 @@ impl<'j, S: BlockStore> Live<'j, S> {
         }
     }
 
+    /// Takes a step: the next call, or a quit if no call is left. Returns the result code of the end if the
+    /// application ends. Where the host is out of memory, the application leaves what it left before the step: its lines
+    /// are cut off, and the step does not count.
+    fn step(&mut self, script: &'j Script) -> Result<Option<OsErr>, AllocError>
+        ensures came { IfOk result (λ end. HasCome false (stepped script.now (live_seen self.old)) end self.new) }
+        ensures stays { OnErr result (LeavesAs (live_seen self.old) self.new) }
+        ensures lies { self.new.application.memory.window ≡ self.old.application.memory.window }
+        ensures window { self.new.window ≡ self.old.window }
+    {
+        let (steps, length) = (self.steps, self.text.len());
+        let end = self.take_step(script);
+        if end.is_err() {
+            self.steps = steps;
+            self.text.truncate(length);
+        }
+        end
+    }
+
     /// Takes a turn: steps up to and including the next `WaitNextEvent`, or to the end.
     fn turn(&mut self, script: &'j Script) -> Result<Option<OsErr>, AllocError>
         ensures came { IfOk result (λ end. HasCome false (turned script.now (live_seen self.old)) end self.new) }
+        ensures within { OnErr result (WithinTurn (λ m. LeavesAs m self.new) (drop self.old.steps script.now.steps)
+            script.now (live_seen self.old)) }
         ensures lies { self.new.application.memory.window ≡ self.old.application.memory.window }
         ensures window { self.new.window ≡ self.old.window }
     {
@@ -132,6 +162,7 @@ impl<'j, S: BlockStore> Live<'j, S> {
     /// Quits the application, which is asked to quit.
     fn quit(&mut self) -> Result<Option<OsErr>, AllocError>
         ensures came { IfOk result (λ end. HasCome true (quitted (live_seen self.old)) end self.new) }
+        ensures stays { OnErr result (LeavesAs (live_seen self.old) self.new) }
         ensures lies { self.new.application.memory.window ≡ self.old.application.memory.window }
         ensures window { self.new.window ≡ self.old.window }
     {
@@ -142,9 +173,11 @@ impl<'j, S: BlockStore> Live<'j, S> {
     ///
     /// # Errors
     ///
-    /// The host is out of memory: after this the application can only be closed. Its zone stays where it lies.
+    /// The host is out of memory: after this the application can only be closed. It leaves what it left after the last
+    /// step that was completed. Its zone stays where it lies.
     pub(crate) fn act(&mut self, script: &'j Script, act: Act) -> Result<Option<OsErr>, AllocError>
         ensures came { IfOk result (λ end. HasCome (is_quit act) (acted act script.now (live_seen self.old)) end self.new) }
+        ensures within { OnErr result (WithinAct (λ m. LeavesAs m self.new) act script.now (live_seen self.old)) }
         ensures lies { self.new.application.memory.window ≡ self.old.application.memory.window }
         ensures window { self.new.window ≡ self.old.window }
     {

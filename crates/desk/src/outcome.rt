@@ -30,10 +30,14 @@ pub struct AppOutcome {
 /// What a run leaves.
 #[derive(Debug, Drop)]
 pub struct Outcome {
-    /// The desk's log: a line for each launch and each end, and one for each fork that was written.
+    /// The desk's log: a line for each launch and each end, and one for each fork that was written; none for forks where
+    /// the run stopped.
     pub desk: Vec<u8>,
     /// What the applications leave, in order.
     pub apps: Vec<AppOutcome>,
+    /// Whether the host was out of memory in a launch, a step or a quit, or for the lines of the forks. The run stopped
+    /// there, and the outcome is that of the launches, steps and quits that were completed before.
+    pub stopped: bool,
 }
 
 /// The reason why a run has no outcome.
@@ -41,6 +45,6 @@ pub struct Outcome {
 pub enum RunFault {
     /// The System file's fork can't be read: -39 (eofErr) if it has no bytes, -199 (mapReadErr) if they are damaged.
     System(OsErr),
-    /// The host is out of memory.
+    /// The host is out of memory before the first event.
     HostMemory,
 }

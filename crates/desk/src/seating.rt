@@ -4,7 +4,8 @@ ghost use Rattle.std.specs.Prelude.{◌≡◌, ◌⊎◌, true, Some, None, opti
 ghost use Rattle.mac_words.specs.declared.code.OsErr.{OsErr as Code};
 ghost use Rattle.res_calls.specs.Files.{Resources as Opened};
 ghost use Rattle.desk.specs.Phase.{Running, acted, come_by, acted_by, window_of, is_quit, runs, told_of};
-ghost use Rattle.desk.specs.Desk.{coming, place_come};
+ghost use Rattle.desk.specs.Desk.{coming, place_come, told};
+ghost use Rattle.desk.specs.Halting.{WithinAct, WithinPhase, WithinPlace};
 ghost use Rattle.desk.specs.Live.{live_seen, lot_of_live, leaves_seen};
 ghost use Rattle.desk.specs.Lying.{IsZoneOf};
 ghost use Rattle.desk.specs.View.{place_seen, phase_seen, is_waiting, lot_of, left_of};
@@ -26,7 +27,8 @@ use windows::Window;
 ///
 /// # Errors
 ///
-/// The host is out of memory: after this the application can only be closed.
+/// The host is out of memory: after this the application can only be closed. It leaves what it left after the last step
+/// that was completed.
 pub(crate) fn act<'j, S: BlockStore>(
     seat: &mut Seat<'j, S>,
     act: Act,
@@ -38,6 +40,7 @@ pub(crate) fn act<'j, S: BlockStore>(
     ensures lot { IfOk result (λ d. IfSome d (λ d. lot_of seat.old.phase ≡ Some (d.window, (S.rest d.store).window))) }
     ensures fewer { (lot_of seat.new.phase ≡ None) ⊎ (lot_of seat.new.phase ≡ lot_of seat.old.phase) }
     ensures held { OnErr result (window_of (place_seen seat.new).phase ≡ window_of (place_seen seat.old).phase) }
+    ensures within { OnErr result (WithinPlace (λ q. told q ≡ told (place_seen seat.new)) act (place_seen seat.old)) }
 {
     let app = seat.app;
     replace_with(&mut seat.phase, (app, act), advance)
@@ -57,6 +60,9 @@ fn advance<'j, S: BlockStore>(
     ensures fewer { (lot_of result.0 ≡ None) ⊎ (lot_of result.0 ≡ lot_of phase.entry) }
     ensures held { (start : Result Opened Code) → OnErr result.1
         (window_of (phase_seen start result.0) ≡ window_of (phase_seen start phase.entry)) }
+    ensures within { (start : Result Opened Code) → OnErr result.1
+        (WithinPhase (λ q. told_of q ≡ told_of (phase_seen start result.0)) what.entry.1 what.entry.0.now.script
+        (phase_seen start phase.entry)) }
 {
     match phase {
         Phase::Running(live) => go_on(live, what.0, what.1),
@@ -80,6 +86,9 @@ fn go_on<'j, S: BlockStore>(
     ensures fewer { (lot_of result.0 ≡ None) ⊎ (lot_of result.0 ≡ Some (lot_of_live live.entry)) }
     ensures held { (start : Result Opened Code) → OnErr result.1
         (window_of (phase_seen start result.0) ≡ Some live.entry.window) }
+    ensures within { (start : Result Opened Code) → OnErr result.1
+        (WithinAct (λ m. told_of (Running m) ≡ told_of (phase_seen start result.0)) act app.now.script
+        (live_seen live.entry)) }
 {
     let mut live = live;
     match live.act(&app.script, act) {

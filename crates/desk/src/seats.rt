@@ -9,6 +9,7 @@ ghost use Rattle.fork_format.specs.View.{view};
 ghost use Rattle.desk.specs.Phase.{Running, window_of, runs, waits};
 ghost use Rattle.desk.specs.Desk.{Place, places_acted, left_by, told};
 ghost use Rattle.desk.specs.Job.{place_given};
+ghost use Rattle.desk.specs.Halting.{WithinPlaces};
 ghost use Rattle.desk.specs.Held.{Fewer, holders};
 ghost use Rattle.desk.specs.Live.{lot_of_live, live_seen};
 ghost use Rattle.desk.specs.Lying.{IsZoneOf};
@@ -74,6 +75,8 @@ pub(crate) fn act_at<'j, S: BlockStore>(
         ≡ Some (Some (d.window, (S.rest d.store).window)))) }
     ensures fewer { Fewer (lots seats.old.items) (lots seats.new.items) }
     ensures held { OnErr result (holders (seen seats.new.items) ≡ holders (seen seats.old.items)) }
+    ensures within { OnErr result (WithinPlaces (λ places. map told places ≡ map told (seen seats.new.items)) act i
+        (seen seats.old.items)) }
     ensures len { vec_len seats.new ≡ vec_len seats.old }
 {
     if i < seats.len() {

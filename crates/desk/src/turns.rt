@@ -1,11 +1,12 @@
 //! The events at the desk.
 
-ghost use Rattle.std.specs.Prelude.{◌≡◌, ℕ, OnOk};
+ghost use Rattle.std.specs.Prelude.{◌≡◌, ℕ, suc, OnOk, OnErr};
 ghost use Rattle.windows.specs.declared.Window.{Window as Stretch};
 ghost use Rattle.block_store.specs.Rest.{Site};
 ghost use Rattle.desk.specs.declared.act.Act.TheVariants.{Step, Turn, Quit};
 ghost use Rattle.desk.specs.Desk.{acted_at, round, rested, after_event, after_events, larger, longest, longest_or};
 ghost use Rattle.desk.specs.Free.{IsFree, StaysFree};
+ghost use Rattle.desk.specs.Halting.{After, WithinEvent, WithinRound, WithinRounds, halted};
 ghost use Rattle.desk.specs.View.{seen};
 
 use crate::act::Act;
@@ -40,6 +41,7 @@ impl<'j, Z: ZoneMaker> Desk<'j, Z> {
     #[tactic(auto, using(crate::proofs::Rounds::turned_next))]
     fn round(&mut self) -> Result<(), AllocError>
         ensures ok { OnOk result (self.new.state ≡ round self.old.state) }
+        ensures within { OnErr result (WithinRound (λ m. halted m ≡ halted self.new.state) self.old.state) }
         ensures memory { self.new.state.memory ≡ self.old.state.memory }
         ensures kept { (w : Stretch) (site : Site) → Z.made self.old.zones w site → Z.made self.new.zones w site }
         ensures outside { OnOk result ((place : ℕ) → IsFree place self.old.state
@@ -56,10 +58,13 @@ impl<'j, Z: ZoneMaker> Desk<'j, Z> {
     ///
     /// # Errors
     ///
-    /// The host is out of memory: after this the desk can only be finished.
+    /// The host is out of memory: the log, and what each application leaves, are as after the last launch, step or quit
+    /// that was completed. After this the desk can only be finished.
     #[tactic(auto, using(crate::proofs::Rounds::round_next, crate::proofs::Rounds::round_none))]
     pub fn rest(&mut self) -> Result<(), AllocError>
         ensures ok { OnOk result (self.new.state ≡ rested self.old.state) }
+        ensures within { OnErr result (WithinRounds (λ m. halted m ≡ halted self.new.state)
+            (suc (longest self.old.state.places)) self.old.state) }
         ensures memory { self.new.state.memory ≡ self.old.state.memory }
         ensures kept { (w : Stretch) (site : Site) → Z.made self.old.zones w site → Z.made self.new.zones w site }
         ensures outside { OnOk result ((place : ℕ) → IsFree place self.old.state
@@ -82,9 +87,11 @@ impl<'j, Z: ZoneMaker> Desk<'j, Z> {
     ///
     /// # Errors
     ///
-    /// The host is out of memory: after this the desk can only be finished.
+    /// The host is out of memory: the log, and what each application leaves, are as after the last launch, step or quit
+    /// that was completed. After this the desk can only be finished.
     pub fn serve(&mut self, event: Event) -> Result<(), AllocError>
         ensures ok { OnOk result (self.new.state ≡ after_event event self.old.state) }
+        ensures within { OnErr result (WithinEvent (λ m. halted m ≡ halted self.new.state) event self.old.state) }
         ensures memory { self.new.state.memory ≡ self.old.state.memory }
         ensures kept { (w : Stretch) (site : Site) → Z.made self.old.zones w site → Z.made self.new.zones w site }
         ensures outside { OnOk result ((place : ℕ) → IsFree place self.old.state → IsFree place self.new.state
@@ -112,6 +119,7 @@ pub(crate) fn serve_all<Z: ZoneMaker, W: Watch>(
     watch: &mut W,
 ) -> Result<(), AllocError>
     ensures ok { OnOk result (desk.new.state ≡ after_events events.now desk.old.state) }
+    ensures within { OnErr result (After (λ m. halted m ≡ halted desk.new.state) events.now desk.old.state) }
     ensures memory { desk.new.state.memory ≡ desk.old.state.memory }
     ensures kept { (w : Stretch) (site : Site) → Z.made desk.old.zones w site → Z.made desk.new.zones w site }
     ensures outside { OnOk result ((place : ℕ) → StaysFree place events.now desk.old.state

@@ -1,6 +1,6 @@
 //! Whole runs.
 
-ghost use Rattle.std.specs.Prelude.{◌≡◌, ℕ, ◌≤◌, ◌%◌, ◌++◌, [], Ok, length, map, IsTrue, IfOk, OnOk};
+ghost use Rattle.std.specs.Prelude.{◌≡◌, ℕ, ◌≤◌, ◌%◌, ◌++◌, List, [], false, true, length, map, IsTrue, IfOk, IsOk, OnOk, OnErr};
 ghost use Rattle.std.specs.List.{list_all, flat_map};
 ghost use Rattle.windows.specs.declared.Window.{Window};
 ghost use Rattle.block_store.specs.Rest.{Site};
@@ -8,17 +8,20 @@ ghost use Rattle.fork_format.specs.Content.{Group as GroupValue};
 ghost use Rattle.fork_format.specs.Canonical.{has_refs, are_distinct};
 ghost use Rattle.fork_format.specs.View.{view};
 ghost use Rattle.applications.specs.Promises.{KeepsPromises};
-ghost use Rattle.desk.specs.Desk.{after_events, outcome_of};
+ghost use Rattle.script_text.specs.declared.job.Event.{Event};
+ghost use Rattle.desk.specs.Desk.{State, after_events, told};
+ghost use Rattle.desk.specs.Halting.{After, IsLeft, halted, halted_with};
+ghost use Rattle.desk.specs.Outcome.{forks_of, outcome_told};
 ghost use Rattle.desk.specs.Job.{opening};
 ghost use Rattle.desk.specs.Free.{StaysFree, IsNeverGranted};
 ghost use Rattle.desk.specs.Lying.{AllLie, LieAtEnd};
-ghost use Rattle.desk.specs.View.{outcome_seen};
-ghost use Rattle.desk.specs.Whole.{run_of, IsOutcome, EachLaunched, IsAlone, InItsSteps};
+ghost use Rattle.desk.specs.View.{told_seen, outcome_seen};
+ghost use Rattle.desk.specs.Whole.{IsOutcome, EachLaunched, IsAlone, InItsSteps};
 
 use crate::desk::Desk;
 use crate::forks::write_forks;
 use crate::job::Job;
-use crate::outcome::{Outcome, RunFault};
+use crate::outcome::{AppOutcome, Outcome, RunFault};
 use crate::system::read_system;
 use crate::turns::serve_all;
 use applications::Watch;
@@ -26,31 +29,70 @@ use block_store::ZoneMaker;
 use fork_format::Content;
 use std::alloc::{AllocError, Global};
 
-/// Performs the events of a job at a desk, and ends the desk's log with a line for each fork that was written.
+/// Ends the desk's log with a line for each fork that was written. Where the host is out of memory, the log stays as it
+/// was.
+fn end_log(log: &mut Vec<u8>, apps: &[AppOutcome]) -> Result<(), AllocError>
+    ensures lines { OnOk result (log.new.items ≡ log.old.items ++ flat_map forks_of (map told_seen apps.now)) }
+    ensures unchanged { OnErr result (log.new.items ≡ log.old.items) }
+{
+    let length = log.len();
+    let written = write_forks(log, apps);
+    if written.is_err() {
+        log.truncate(length);
+    }
+    written
+}
+
+/// Returns what a run leaves whose events were all performed. The run stops if the host is out of memory for the lines of
+/// the forks.
+fn ended_outcome(mut log: Vec<u8>, apps: Vec<AppOutcome>) -> Outcome
+    ensures whole { result.stopped ≡ false → outcome_seen result ≡ outcome_told log.items (map told_seen apps.items) }
+    ensures stopped { result.stopped ≡ true → outcome_seen result ≡ halted_with log.items (map told_seen apps.items) }
+{
+    let stopped = end_log(&mut log, &apps).is_err();
+    Outcome {
+        desk: log,
+        apps,
+        stopped,
+    }
+}
+
+/// Returns what a run leaves whose events were performed, or which stopped since the host was out of memory.
+fn outcome_by(served: Result<(), AllocError>, log: Vec<u8>, apps: Vec<AppOutcome>) -> Outcome
+    ensures outcome { (events : List Event) (s m : State) → log.items ≡ m.log → map told_seen apps.items ≡ map told m.places
+        → OnOk served (m ≡ after_events events s) → OnErr served (After (λ n. halted n ≡ halted m) events s)
+        → IsLeft (outcome_seen result) events s }
+    ensures served { result.stopped ≡ false → IsOk served }
+{
+    match served {
+        Ok(()) => ended_outcome(log, apps),
+        Err(_) => Outcome {
+            desk: log,
+            apps,
+            stopped: true,
+        },
+    }
+}
+
+/// Performs the events of a job at a desk, and ends the desk's log with a line for each fork that was written. The run
+/// stops where the host is out of memory.
 fn run_events<Z: ZoneMaker, W: Watch>(
     mut desk: Desk<'_, Z>,
     job: &Job,
     watch: &mut W,
-) -> (Result<Outcome, AllocError>, Z)
-    ensures outcome { IfOk result.0 (λ o. outcome_seen o
-        ≡ outcome_of (after_events job.now.events.items desk.entry.state)) }
+) -> (Outcome, Z)
+    ensures outcome { IsLeft (outcome_seen result.0) job.now.events.items desk.entry.state }
     ensures windows { Z.windows result.1 ≡ [] }
     ensures memory { Z.memory result.1 ≡ desk.entry.state.memory }
-    ensures lies { IfOk result.0 (λ o.
-        AllLie (Z.left result.1) (after_events job.now.events.items desk.entry.state).places) }
+    ensures lies { result.0.stopped ≡ false
+        → AllLie (Z.left result.1) (after_events job.now.events.items desk.entry.state).places }
     ensures kept { (w : Window) (site : Site) → Z.made desk.entry.zones w site → Z.made result.1 w site }
-    ensures outside { IfOk result.0 (λ o. (place : ℕ) → StaysFree place job.now.events.items desk.entry.state
-        → Z.byte result.1 place ≡ Z.byte desk.entry.zones place) }
+    ensures outside { result.0.stopped ≡ false → (place : ℕ) → StaysFree place job.now.events.items desk.entry.state
+        → Z.byte result.1 place ≡ Z.byte desk.entry.zones place }
 {
     let served = serve_all(&mut desk, &job.events, watch);
-    let (apps, mut log, zones) = desk.finish();
-    match served {
-        Err(fault) => (Err(fault), zones),
-        Ok(()) => match write_forks(&mut log, &apps) {
-            Err(fault) => (Err(fault), zones),
-            Ok(()) => (Ok(Outcome { desk: log, apps }), zones),
-        },
-    }
+    let (apps, log, zones) = desk.finish();
+    (outcome_by(served, log, apps), zones)
 }
 
 /// Runs a job with the content of the System file.
@@ -67,19 +109,22 @@ fn run_by<Z: ZoneMaker, W: Watch>(
     requires few { length job.now.apps.items ≤ 64 }
     requires types { IsTrue (are_distinct (map (λ (g : GroupValue). g.kind) (view system.now).groups)) }
     requires references { IsTrue (list_all has_refs (view system.now).groups) }
-    ensures outcome { IfOk result.0 (λ o. outcome_seen o ≡ outcome_of
-        (after_events job.now.events.items (opening job.now.memory (view system.now) job.now.apps.items))) }
+    ensures outcome { IfOk result.0 (λ o. IsLeft (outcome_seen o) job.now.events.items
+        (opening job.now.memory (view system.now) job.now.apps.items)) }
     ensures windows { Z.windows result.1 ≡ [] }
     ensures memory { Z.memory result.1 ≡ job.now.memory }
-    ensures lies { IfOk result.0 (λ o. AllLie (Z.left result.1) (after_events job.now.events.items
+    ensures lies { IfOk result.0 (λ o. o.stopped ≡ false → AllLie (Z.left result.1) (after_events job.now.events.items
         (opening job.now.memory (view system.now) job.now.apps.items)).places) }
     ensures kept { (w : Window) (site : Site) → Z.made zones w site → Z.made result.1 w site }
-    ensures outside { IfOk result.0 (λ o. (place : ℕ) → StaysFree place job.now.events.items
+    ensures outside { IfOk result.0 (λ o. o.stopped ≡ false → (place : ℕ) → StaysFree place job.now.events.items
         (opening job.now.memory (view system.now) job.now.apps.items) → Z.byte result.1 place ≡ Z.byte zones place) }
 {
     match Desk::new(alloc, job.memory, system, &job.apps, zones) {
         Err(zones) => (Err(AllocError), zones),
-        Ok(desk) => run_events(desk, job, watch),
+        Ok(desk) => {
+            let (outcome, zones) = run_events(desk, job, watch);
+            (Ok(outcome), zones)
+        }
     }
 }
 
@@ -89,7 +134,7 @@ fn run_by<Z: ZoneMaker, W: Watch>(
 ///
 /// # Errors
 ///
-/// The System file's fork can't be read, or the host is out of memory.
+/// The System file's fork can't be read, or the host is out of memory before the first event.
 ///
 /// *Inside Macintosh: Processes*, chapter 1.
 pub fn run_with<Z: ZoneMaker, W: Watch>(
@@ -104,9 +149,10 @@ pub fn run_with<Z: ZoneMaker, W: Watch>(
     requires few { length job.now.apps.items ≤ 64 }
 
     // What the run leaves is what the definition of the desk says for the events, one after another: the log, and of
-    // each application the transcript and the files. The run is refused for the System file exactly if that file's
-    // fork can't be read.
-    ensures outcome { IsOutcome (run_of job.now) result.0 }
+    // each application the transcript and the files. If the host is out of memory within an event, the run stops, and
+    // leaves what the desk leaves after the launches, steps and quits that were completed. The run is refused for the
+    // System file exactly if that file's fork can't be read.
+    ensures outcome { IsOutcome job.now result.0 }
 
     // For every interleaving of launches, calls and quits, each launched application's transcript and forks are those
     // that it would give alone with the same partition size, its own files and the same System file; each handle that
@@ -119,12 +165,12 @@ pub fn run_with<Z: ZoneMaker, W: Watch>(
     ensures windows { Z.windows result.1 ≡ [] }
     ensures memory { Z.memory result.1 ≡ job.now.memory }
 
-    // In the window of each application that still runs lies its zone.
-    ensures lies { IfOk result.0 (λ o. LieAtEnd (Z.left result.1) job.now) }
+    // In the window of each application that still runs after the last event lies its zone.
+    ensures lies { IfOk result.0 (λ o. o.stopped ≡ false → LieAtEnd (Z.left result.1) job.now) }
 
     // The maker of zones works in the same memory, and each byte that was in no partition at any time keeps its value.
     ensures kept { (w : Window) (site : Site) → Z.made zones w site → Z.made result.1 w site }
-    ensures outside { IfOk result.0 (λ o. (place : ℕ) → IsNeverGranted place job.now
+    ensures outside { IfOk result.0 (λ o. o.stopped ≡ false → (place : ℕ) → IsNeverGranted place job.now
         → Z.byte result.1 place ≡ Z.byte zones place) }
 {
     let system = match read_system(alloc, &job.system) {

@@ -10,3 +10,4 @@ pub mod Looking
 pub mod Rebuilding
 pub mod MoveNames
 pub mod Roles
+pub mod Reserved

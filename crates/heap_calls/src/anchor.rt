@@ -79,6 +79,7 @@ pub fn name_handle(names: &mut Vec<Anchor>, slot: Option<u32>) -> Result<usize, 
     requires { vec_len names.old < vec_capacity names.old }
     ensures number { result ≡ number_of slot names.old.items }
     ensures entered { names.new.items ≡ entered slot names.old.items }
+    ensures capacity { vec_capacity names.new ≡ vec_capacity names.old }
 {
     let Some(slot) = slot else {
         return Err(Refusal::Code(OsErr::MEM_FULL));

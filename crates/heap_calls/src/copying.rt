@@ -1,6 +1,6 @@
 //! Copying blocks.
 
-ghost use Rattle.std.specs.Prelude.{◌≡◌, ◌⊎◌, length, IfOk, OnErr, IsErr, IsTrue, IsSomeAnd};
+ghost use Rattle.std.specs.Prelude.{◌≡◌, ◌⊎◌, ◌≤◌, length, IfOk, OnErr, IsErr, IsTrue, IsSomeAnd};
 ghost use Rattle.block_store.specs.Block.{content_of, is_relocatable};
 ghost use Rattle.block_store.specs.Room.{spot};
 ghost use Rattle.block_store.specs.Slot.{is_used};
@@ -37,6 +37,8 @@ impl<S: BlockStore> Heap<S> {
         ensures answer { IsAnswer (unless (barred handle self.old) (packing (hand_to_hand_moves handle)
             (hand_to_hand_searches handle) (hand_to_hand handle)) self.old) result self.new }
         ensures host { result ≡ Err Refusal.HostMemory → IsTrue S.TAKES_HOST ⊎ (self.new ≡ self.old) }
+        ensures reserved { result ≡ Err Refusal.HostMemory
+            → IsTrue S.TAKES_HOST ⊎ (self.old.log.reserved ≤ length self.old.heap.names) }
         ensures kept { result ≡ Err Refusal.HostMemory → KeepsNames self.old self.new }
         ensures lies { self.new.window ≡ self.old.window }
     {
@@ -53,6 +55,8 @@ impl<S: BlockStore> Heap<S> {
             (searching (hand_to_hand_searches handle self.old.heap) (silent (hand_to_hand handle) self.old))) result
             self.new }
         ensures host { result ≡ Err Refusal.HostMemory → IsTrue S.TAKES_HOST ⊎ (self.new ≡ self.old) }
+        ensures reserved { result ≡ Err Refusal.HostMemory
+            → IsTrue S.TAKES_HOST ⊎ (self.old.log.reserved ≤ length self.old.heap.names) }
         ensures kept { result ≡ Err Refusal.HostMemory → KeepsNames self.old self.new }
         ensures lies { self.new.window ≡ self.old.window }
     {

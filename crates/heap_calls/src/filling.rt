@@ -53,6 +53,8 @@ impl<S: BlockStore> Heap<S> {
     ) -> Result<usize, Refusal>
         ensures answer { IsAnswer (new_inside (resource_role guarded) flags bytes.now self.old) result self.new }
         ensures host { result ≡ Err Refusal.HostMemory → IsTrue S.TAKES_HOST ⊎ (self.new ≡ self.old) }
+        ensures reserved { result ≡ Err Refusal.HostMemory
+            → IsTrue S.TAKES_HOST ⊎ (self.old.log.reserved ≤ length self.old.heap.names) }
         ensures kept { result ≡ Err Refusal.HostMemory → KeepsNames self.old self.new }
         ensures lies { self.new.window ≡ self.old.window }
     {
@@ -66,6 +68,8 @@ impl<S: BlockStore> Heap<S> {
     pub fn new_empty_resource(&mut self, guarded: bool) -> Result<usize, Refusal>
         ensures answer { IsAnswer (new_empty_inside (resource_role guarded) self.old) result self.new }
         ensures host { result ≡ Err Refusal.HostMemory → IsTrue S.TAKES_HOST ⊎ (self.new ≡ self.old) }
+        ensures reserved { result ≡ Err Refusal.HostMemory
+            → IsTrue S.TAKES_HOST ⊎ (self.old.log.reserved ≤ length self.old.heap.names) }
         ensures kept { result ≡ Err Refusal.HostMemory → KeepsMoves self.old self.new }
         ensures lies { self.new.window ≡ self.old.window }
     {
@@ -76,7 +80,7 @@ impl<S: BlockStore> Heap<S> {
     /// Makes new handles of resources, one after another and none of them guarded, and returns the number of each,
     /// `None` for each whose block finds no room. Host memory for the numbers and for the answer is allocated before
     /// the first handle is made, so that nothing changes where the host is out of memory, over a store that takes no
-    /// host memory.
+    /// host memory. The answer takes host memory also where the numbers are reserved.
     pub fn new_resources(
         &mut self,
         alloc: Global,
@@ -121,6 +125,8 @@ impl<S: BlockStore> Heap<S> {
     fn fill_handle(&mut self, bytes: &[u8], flags: Flags) -> Result<usize, Refusal>
         ensures answer { IsAnswer (new_inside Plain flags bytes.now self.old) result self.new }
         ensures host { result ≡ Err Refusal.HostMemory → IsTrue S.TAKES_HOST ⊎ (self.new ≡ self.old) }
+        ensures reserved { result ≡ Err Refusal.HostMemory
+            → IsTrue S.TAKES_HOST ⊎ (self.old.log.reserved ≤ length self.old.heap.names) }
         ensures kept { result ≡ Err Refusal.HostMemory → KeepsNames self.old self.new }
         ensures lies { self.new.window ≡ self.old.window }
     {
@@ -270,6 +276,7 @@ fn add_resource<S: BlockStore>(
         (memory_of (S.zone store.new) (S.rest store.new) names.new.items log.new)) }
     ensures len { vec_len names.new ≤ vec_len names.old + 1 }
     ensures capacity { vec_capacity names.new ≡ vec_capacity names.old }
+    ensures reserved { log.new.reserved ≡ log.old.reserved }
     ensures lies { (S.rest store.new).window ≡ (S.rest store.old).window }
     ensures host { IsErr result → IsTrue S.TAKES_HOST }
 {
@@ -305,6 +312,8 @@ fn add_resources<S: BlockStore>(
         (memory_of (S.zone store.old) (S.rest store.old) names.old.items log.old)
         ≡ (numbers.new.items, memory_of (S.zone store.new) (S.rest store.new) names.new.items log.new)) }
     ensures lies { (S.rest store.new).window ≡ (S.rest store.old).window }
+    ensures capacity { vec_capacity names.new ≡ vec_capacity names.old }
+    ensures reserved { log.new.reserved ≡ log.old.reserved }
     ensures host { IsErr result → IsTrue S.TAKES_HOST }
 {
     for filling in wanted {

@@ -1,6 +1,6 @@
 //! The heap of an application.
 
-ghost use Rattle.std.specs.Prelude.{◌≡◌, ◌≢◌, ◌⊎◌, IsTrue};
+ghost use Rattle.std.specs.Prelude.{◌≡◌, ◌≢◌, ◌⊎◌, ◌≤◌, ◌<◌, ◌+◌, IsTrue, OnOk, OnErr, length, max, vec_capacity};
 ghost use Rattle.block_store.specs.Block.{fresh, sizes};
 ghost use Rattle.heap_calls.specs.Busy.{barred, change_barred, either_barred, unless, unless_silent};
 ghost use Rattle.heap_calls.specs.Asked.{packing};
@@ -37,12 +37,16 @@ use std::marker::Model;
 /// pointer is busy. A call that is refused because a handle or a pointer is busy changes nothing but the code that
 /// `MemError` returns.
 ///
+/// A number takes host memory, also over a store that takes none. `reserve` takes it beforehand, for handles and
+/// pointers that are made later.
+///
 /// *Inside Macintosh: Memory*, chapter 1, "Heap Management".
 #[derive(Drop)]
 pub struct Heap<S: BlockStore> {
     pub(crate) store: S,
     pub(crate) names: Vec<Anchor>,
     pub(crate) log: Log,
+    ghost fits: { log.reserved ≤ vec_capacity names },
 }
 
 impl<S: BlockStore> Model for Heap<S> {
@@ -73,8 +77,30 @@ impl<S: BlockStore> Heap<S> {
                 code: OsErr::NO_ERR,
                 searches: 0,
                 busy: [None, None, None],
+                reserved: 0,
             },
         }
+    }
+
+    /// Takes the host memory for the numbers of the next `n` handles and pointers: over a store that takes no host
+    /// memory, no call that makes one of them then finds the host out of memory. What was reserved before stays
+    /// reserved, and nothing else changes. Returns an error where the host is out of memory, which can be only where
+    /// fewer are reserved as yet; nothing changes then.
+    pub fn reserve(&mut self, n: usize) -> Result<(), AllocError>
+        ensures kept { OnOk result (self.new ≡ record self.old {
+          log = record self.old.log
+              { reserved = max self.old.log.reserved (length self.old.heap.names + n) };
+        }) }
+        ensures unchanged { OnErr result (self.new ≡ self.old) }
+        ensures full { OnErr result (self.old.log.reserved < length self.old.heap.names + n) }
+        ensures lies { self.new.window ≡ self.old.window }
+    {
+        self.names.reserve(n)?;
+        let wanted = self.names.len() + n;
+        if self.log.reserved < wanted {
+            self.log.reserved = wanted;
+        }
+        Ok(())
     }
 
     /// `NewHandle`: allocates a relocatable block of `size` bytes, all 0, and returns a handle to the block. Returns
@@ -85,6 +111,8 @@ impl<S: BlockStore> Heap<S> {
         ensures answer { IsAnswer (packing (new_handle_moves size) (new_handle_searches size) (new_handle size)
             self.old) result self.new }
         ensures host { result ≡ Err Refusal.HostMemory → IsTrue S.TAKES_HOST ⊎ (self.new ≡ self.old) }
+        ensures reserved { result ≡ Err Refusal.HostMemory
+            → IsTrue S.TAKES_HOST ⊎ (self.old.log.reserved ≤ length self.old.heap.names) }
         ensures kept { result ≡ Err Refusal.HostMemory → KeepsNames self.old self.new }
         ensures lies { self.new.window ≡ self.old.window }
     {
@@ -206,6 +234,8 @@ impl<S: BlockStore> Heap<S> {
         ensures answer { IsAnswer (moving (new_handle_moves size self.old.heap)
             (searching (new_handle_searches size self.old.heap) (silent (new_handle size) self.old))) result self.new }
         ensures host { result ≡ Err Refusal.HostMemory → IsTrue S.TAKES_HOST ⊎ (self.new ≡ self.old) }
+        ensures reserved { result ≡ Err Refusal.HostMemory
+            → IsTrue S.TAKES_HOST ⊎ (self.old.log.reserved ≤ length self.old.heap.names) }
         ensures kept { result ≡ Err Refusal.HostMemory → KeepsNames self.old self.new }
         ensures lies { self.new.window ≡ self.old.window }
     {

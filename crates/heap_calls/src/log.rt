@@ -7,12 +7,14 @@ ghost use Rattle.heap_calls.specs.Busy.{bar, holds, is_busy, busied, eased, ease
 use mac_words::OsErr;
 
 /// What a heap keeps beside its zone and its names: the code that `MemError` returns, the number of searches for room
-/// that its calls made, and the handles and pointers that are busy, at most three.
+/// that its calls made, the handles and pointers that are busy, at most three, and how many numbers in all, those
+/// given already among them, are to take no host memory.
 #[derive(Clone, Copy, Debug, PartialEq, Eq)]
 pub struct Log {
     pub code: OsErr,
     pub searches: u64,
     pub busy: [Option<usize>; 3],
+    pub reserved: usize,
 }
 
 impl Log {

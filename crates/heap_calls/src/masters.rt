@@ -1,6 +1,6 @@
 //! Master pointers for handles to come, and room at the base of a run.
 
-ghost use Rattle.std.specs.Prelude.{◌≡◌, ◌⊎◌, IsTrue};
+ghost use Rattle.std.specs.Prelude.{◌≡◌, ◌⊎◌, ◌≤◌, IsTrue, length};
 ghost use Rattle.mac_words.specs.Size.{phys as physical_size};
 ghost use Rattle.heap_calls.specs.Inner.Given.{IsAnswer, KeepsMoves};
 ghost use Rattle.heap_calls.specs.Answer.{noting, searching, silent};
@@ -24,6 +24,8 @@ impl<S: BlockStore> Heap<S> {
         ensures answer { IsAnswer (searching (new_empty_handle_searches self.old.heap)
             (noting new_empty_handle self.old)) result self.new }
         ensures host { result ≡ Err Refusal.HostMemory → IsTrue S.TAKES_HOST ⊎ (self.new ≡ self.old) }
+        ensures reserved { result ≡ Err Refusal.HostMemory
+            → IsTrue S.TAKES_HOST ⊎ (self.old.log.reserved ≤ length self.old.heap.names) }
         ensures kept { result ≡ Err Refusal.HostMemory → KeepsMoves self.old self.new }
         ensures lies { self.new.window ≡ self.old.window }
     {
@@ -64,6 +66,8 @@ impl<S: BlockStore> Heap<S> {
         ensures answer { IsAnswer (searching (new_empty_handle_searches self.old.heap)
             (silent new_empty_handle self.old)) result self.new }
         ensures host { result ≡ Err Refusal.HostMemory → IsTrue S.TAKES_HOST ⊎ (self.new ≡ self.old) }
+        ensures reserved { result ≡ Err Refusal.HostMemory
+            → IsTrue S.TAKES_HOST ⊎ (self.old.log.reserved ≤ length self.old.heap.names) }
         ensures kept { result ≡ Err Refusal.HostMemory → KeepsMoves self.old self.new }
         ensures lies { self.new.window ≡ self.old.window }
     {

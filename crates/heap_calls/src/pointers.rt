@@ -1,6 +1,6 @@
 //! Pointers, and the nonrelocatable blocks that they lead to.
 
-ghost use Rattle.std.specs.Prelude.{◌≡◌, ◌≢◌, ◌⊎◌, IfOk, OnErr, IsErr, IsTrue};
+ghost use Rattle.std.specs.Prelude.{◌≡◌, ◌≢◌, ◌⊎◌, ◌≤◌, length, IfOk, OnErr, IsErr, IsTrue};
 ghost use Rattle.block_store.specs.Rest.{IsRest};
 ghost use Rattle.heap_calls.specs.Busy.{pointer_barred, unless, unless_silent};
 ghost use Rattle.heap_calls.specs.Inner.Given.{IsAnswer, IsShown, KeepsMoves};
@@ -29,6 +29,8 @@ impl<S: BlockStore> Heap<S> {
         ensures answer { IsAnswer (searching (new_pointer_searches size self.old.heap)
             (noting (new_pointer size) self.old)) result self.new }
         ensures host { result ≡ Err Refusal.HostMemory → IsTrue S.TAKES_HOST ⊎ (self.new ≡ self.old) }
+        ensures reserved { result ≡ Err Refusal.HostMemory
+            → IsTrue S.TAKES_HOST ⊎ (self.old.log.reserved ≤ length self.old.heap.names) }
         ensures kept { result ≡ Err Refusal.HostMemory → KeepsMoves self.old self.new }
         ensures lies { self.new.window ≡ self.old.window }
     {
@@ -101,6 +103,8 @@ impl<S: BlockStore> Heap<S> {
         ensures answer { IsAnswer (searching (new_pointer_searches size self.old.heap)
             (silent (new_pointer size) self.old)) result self.new }
         ensures host { result ≡ Err Refusal.HostMemory → IsTrue S.TAKES_HOST ⊎ (self.new ≡ self.old) }
+        ensures reserved { result ≡ Err Refusal.HostMemory
+            → IsTrue S.TAKES_HOST ⊎ (self.old.log.reserved ≤ length self.old.heap.names) }
         ensures kept { result ≡ Err Refusal.HostMemory → KeepsMoves self.old self.new }
         ensures lies { self.new.window ≡ self.old.window }
     {

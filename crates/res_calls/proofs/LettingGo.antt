@@ -196,7 +196,7 @@ closed_seen n i older q files files' xs ys zs x m after found some each here fir
 
 -- a file that isn't closed, since its content doesn't fit
 refused_so : (o : Option Resources) (answer : Resources → Answer (Unit {0})) (q r : Resources) (m : Memory)
-    (refusal : Refusal) → IsUpdated o (Err refusal) r → r ≡ q
+    (refusal : Refusal) → IsUpdated {T = Unit {0}} o (Err refusal) r → r ≡ q
     → IsAnswered (λ (u : Unit {0}). u) (if_updated o (managers q m) answer) (Err refusal) (managers r m)
 refused_so o answer q r m HostMemory is same = tt
 refused_so o answer q r m (Code code) is same =
@@ -212,7 +212,7 @@ pub close_refused : (n i : ℕ) (q : Resources) (files files' : List StoredFile)
     (m : Memory) (refusal : Refusal)
     → Some i ≡ option_map place (split (λ (f : OpenFile). f.number == n) (map view_open xs)) → (n == 0) ≡ false
     → ((r : Resources) (s : Split OpenFile) → at_index i (map view_open xs) ≡ Some s
-    → IsUpdated (update m.heap s (stored_in files xs r)) (Err refusal) (stored_in files' ys r))
+    → IsUpdated {T = Unit {0}} (update m.heap s (stored_in files xs r)) (Err refusal) (stored_in files' ys r))
     → map view_file files' ≡ map view_file files → map view_open ys ≡ map view_open xs
     → IsAnswered (λ (u : Unit {0}). u) (close_res_file n (managers (stored_in files xs q) m)) (Err refusal)
     (managers (stored_in files' ys q) m)

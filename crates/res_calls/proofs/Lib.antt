@@ -18,4 +18,5 @@ pub mod Joining
 pub mod OwnFork
 pub mod LastOpened
 pub mod LeftFiles
+pub mod PuttingBack
 pub mod Recorded

@@ -200,17 +200,18 @@ anew_here : (heap : State) (xs : List StoredOpenFile) (i : ℕ) (y : StoredOpenF
 anew_here heap xs i y result inside is anew s at =
     subst (λ (f : OpenFile). IsAnew heap f.map result) (sym (here_seen view_open xs i y s inside is at)) anew
 
-refused_so : (heap : State) (r : Resources) (s : Split OpenFile) (refusal : Refusal) → s.here.touched ≡ true
-    → IsAnew heap s.here.map (Err refusal) → IsUpdated (update heap s r) (Err refusal) r
-refused_so heap r s HostMemory on anew = tt
-refused_so heap r s (Code code) on anew = (anew.0, fails heap r s on anew.1)
+refused_so : (T : Type 0) (heap : State) (r : Resources) (s : Split OpenFile) (refusal : Refusal)
+    → s.here.touched ≡ true → IsAnew heap s.here.map (Err refusal)
+    → IsUpdated {T = T} (update heap s r) (Err refusal) r
+refused_so T heap r s HostMemory on anew = tt
+refused_so T heap r s (Code code) on anew = (anew.0, fails heap r s on anew.1)
 
-pub update_refused : (heap : State) (files : List StoredFile) (xs : List StoredOpenFile) (i : ℕ) (x y : StoredOpenFile)
-    (refusal : Refusal) → i < length xs → x ≡ get_or xs i x → y ≡ get_or xs i y → x.touched ≡ true
+pub update_refused : (T : Type 0) (heap : State) (files : List StoredFile) (xs : List StoredOpenFile) (i : ℕ)
+    (x y : StoredOpenFile) (refusal : Refusal) → i < length xs → x ≡ get_or xs i x → y ≡ get_or xs i y → x.touched ≡ true
     → IsAnew heap y.map (Err refusal) → (r : Resources) (s : Split OpenFile) → at_index i (map view_open xs) ≡ Some s
-    → IsUpdated (update heap s (stored_in files xs r)) (Err refusal) (stored_in files xs r)
-update_refused heap files xs i x y refusal inside is also on anew r s at =
-    refused_so heap (stored_in files xs r) s refusal (read_so (λ f. f.touched) xs i x true inside is on s at)
+    → IsUpdated {T = T} (update heap s (stored_in files xs r)) (Err refusal) (stored_in files xs r)
+update_refused T heap files xs i x y refusal inside is also on anew r s at =
+    refused_so T heap (stored_in files xs r) s refusal (read_so (λ f. f.touched) xs i x true inside is on s at)
     (anew_here heap xs i y (Err refusal) inside also anew s at)
 
 pub reads_again : (heap : State) (xs : List StoredOpenFile) (i : ℕ) (y : StoredOpenFile) (anew : Anew)

@@ -16,4 +16,5 @@ pub mod Own
 pub mod Owning
 pub mod Preloading
 pub mod Leaving
+pub mod Undoing
 pub mod Fetching

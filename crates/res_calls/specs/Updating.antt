@@ -47,7 +47,7 @@ IsAnew heap m (Err (Code code)) = (code ≡ DISK_FULL) × (fits (content (update
 IsAnew heap m (Err HostMemory) = Unit {0}
 
 -- The resources after an update are the given ones, or the code is -34 (dskFulErr) where the update has no result.
-abbrev pub IsUpdated : Option Resources → Result (Unit {0}) Refusal → Resources → Type 0
+abbrev pub IsUpdated : {T : Type 0} → Option Resources → Result T Refusal → Resources → Type 0
 IsUpdated r (Ok done) after = r ≡ Some after
 IsUpdated r (Err (Code code)) after = (code ≡ DISK_FULL) × (r ≡ None)
 IsUpdated r (Err HostMemory) after = Unit {0}

@@ -7,13 +7,15 @@ ghost use Rattle.res_calls.specs.Files.{Resources as ResourcesValue};
 ghost use Rattle.res_calls.specs.Given.{managers};
 ghost use Rattle.res_calls.specs.Leaving as leaving;
 ghost use Rattle.res_calls.specs.Places.{has_own, left_last, standing, IsLastUpdated, IsLastClosed};
+ghost use Rattle.res_calls.specs.Undoing.{undone};
 ghost use Rattle.res_calls.specs.Updating.{stored_in};
 ghost use Rattle.res_calls.specs.declared.files.File.{File as StoredFile};
 ghost use Rattle.res_calls.specs.View.{view_file, view_open};
 
 use crate::closing::{current_after, release_all, take_out};
 use crate::files::{File, OpenFile, Resources};
-use crate::updating::update_at;
+use crate::undoing::{Replaced, keep};
+use crate::updating::renew_at;
 use block_store::BlockStore;
 use heap_calls::{Heap, Refusal};
 use mac_words::OsErr;
@@ -36,13 +38,15 @@ fn first_code(first: OsErr, later: OsErr) -> OsErr
     if first.0 == 0 { later } else { first }
 }
 
-/// Updates the file opened last, and returns the code of the update. Where the content of the file does not fit the
-/// format of a resource fork, the file stays as it is and the code is -34 (dskFulErr).
+/// Updates the file opened last, and returns the code of the update; adds what is replaced to what earlier updates
+/// replaced. Where the content of the file does not fit the format of a resource fork, the file stays as it is and the
+/// code is -34 (dskFulErr).
 fn update_last<S: BlockStore>(
     alloc: Global,
     heap: &Heap<S>,
     files: &mut Vec<File>,
     chain: &mut Vec<OpenFile>,
+    undo: &mut Vec<Replaced>,
 ) -> Result<OsErr, AllocError>
     requires { 0 < length chain.old.items }
     ensures answer { IfOk result (λ code. (r : ResourcesValue) → IsLastUpdated heap.now
@@ -51,9 +55,16 @@ fn update_last<S: BlockStore>(
     ensures files { OnErr result (map view_file files.new.items ≡ map view_file files.old.items) }
     ensures chain { OnErr result (map view_open chain.new.items ≡ map view_open chain.old.items) }
     ensures length { length chain.new.items ≡ length chain.old.items }
+    ensures undone { undone undo.new.items (map view_file files.new.items)
+        ≡ undone undo.old.items (map view_file files.old.items) }
 {
-    match update_at(alloc, heap, files, chain, 0) {
-        Ok(()) => Ok(OsErr::NO_ERR),
+    // The room for what is replaced is made before anything is changed.
+    undo.reserve(1)?;
+    match renew_at(alloc, heap, files, chain, 0) {
+        Ok(replaced) => {
+            keep(undo, replaced);
+            Ok(OsErr::NO_ERR)
+        }
         Err(Refusal::Code(code)) => Ok(code),
         Err(Refusal::HostMemory) => Err(AllocError),
     }
@@ -76,7 +87,7 @@ impl Resources {
     /// Updates and closes the open files of an application that quits, the file opened last first; the System file
     /// stays open. Returns the first code that is not 0, or 0. A file whose content does not fit the format of a
     /// resource fork (-34, dskFulErr) keeps its fork, and is closed all the same. Where the host is out of memory,
-    /// nothing is promised of the files, and the resources are of no further use.
+    /// all files stay as they were; of the open files nothing is promised, and they and the heap are of no further use.
     pub fn leave<S: BlockStore>(
         &mut self,
         alloc: Global,
@@ -84,11 +95,34 @@ impl Resources {
     ) -> Result<OsErr, AllocError>
         ensures code { IfOk result (λ code. code ≡ (leaving.leave (managers self.old heap.old)).code) }
         ensures after { OnOk result (managers self.new heap.new ≡ (leaving.leave (managers self.old heap.old)).after) }
+        ensures files { OnErr result (self.new.files ≡ self.old.files) }
+        ensures lies { heap.new.window ≡ heap.old.window }
+    {
+        let mut undo = Vec::new(alloc);
+        match self.leave_each(alloc, heap, &mut undo) {
+            Ok(code) => Ok(code),
+            Err(error) => {
+                self.undo_all(undo);
+                Err(error)
+            }
+        }
+    }
+
+    /// Does the work of `leave`, and adds what the updates replace to `undo`, in the order of the updates.
+    fn leave_each<S: BlockStore>(
+        &mut self,
+        alloc: Global,
+        heap: &mut Heap<S>,
+        undo: &mut Vec<Replaced>,
+    ) -> Result<OsErr, AllocError>
+        ensures code { IfOk result (λ code. code ≡ (leaving.leave (managers self.old heap.old)).code) }
+        ensures after { OnOk result (managers self.new heap.new ≡ (leaving.leave (managers self.old heap.old)).after) }
+        ensures undone { undone undo.new.items self.new.files ≡ undone undo.old.items self.old.files }
         ensures lies { heap.new.window ≡ heap.old.window }
     {
         let mut code = OsErr::NO_ERR;
         while self.has_own() {
-            let next = self.leave_last(alloc, heap)?;
+            let next = self.leave_last(alloc, heap, undo)?;
             code = first_code(code, next);
         }
         Ok(code)
@@ -101,18 +135,20 @@ impl Resources {
         is_own_open(&self.chain)
     }
 
-    /// Updates and closes the file opened last, and returns the code of the update.
+    /// Updates and closes the file opened last, and returns the code of the update; adds what is replaced to `undo`.
     fn leave_last<S: BlockStore>(
         &mut self,
         alloc: Global,
         heap: &mut Heap<S>,
+        undo: &mut Vec<Replaced>,
     ) -> Result<OsErr, AllocError>
         requires { has_own self.old.chain ≡ true }
         ensures code { IfOk result (λ code. code ≡ (left_last (managers self.old heap.old)).code) }
         ensures after { OnOk result (managers self.new heap.new ≡ (left_last (managers self.old heap.old)).after) }
+        ensures undone { undone undo.new.items self.new.files ≡ undone undo.old.items self.old.files }
         ensures lies { heap.new.window ≡ heap.old.window }
     {
-        let code = update_last(alloc, heap, &mut self.files, &mut self.chain)?;
+        let code = update_last(alloc, heap, &mut self.files, &mut self.chain, undo)?;
         self.current = close_last(heap, &mut self.chain, self.current);
         Ok(code)
     }

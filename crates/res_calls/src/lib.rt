@@ -21,6 +21,7 @@ mod own;
 mod preloading;
 mod releasing;
 mod renaming;
+mod undoing;
 mod updating;
 
 pub use fetched::{Fetched, Unread};

@@ -2,7 +2,7 @@
 //!
 //! *More Macintosh Toolbox*, chapter 1, "Writing Resources".
 
-ghost use Rattle.std.specs.Prelude.{◌≡◌, ◌≢◌, ◌<◌, true, false, map, length, option_map, Some, Ok, Err, IfOk, OnOk, IsErr};
+ghost use Rattle.std.specs.Prelude.{◌≡◌, ◌≢◌, ◌<◌, true, false, map, length, option_map, option_to_list, Some, Ok, Err, IfOk, OnOk, IsErr};
 ghost use Rattle.fork_format.specs.Canonical.{clear};
 ghost use Rattle.fork_format.specs.Fork.{Spells};
 ghost use Rattle.res_map.specs.Split.{Split};
@@ -13,18 +13,21 @@ ghost use Rattle.res_calls.specs.Given.{IsAnswered, managers};
 ghost use Rattle.res_calls.specs.Places.{at_index};
 ghost use Rattle.res_calls.specs.Rows as rows;
 ghost use Rattle.res_calls.specs.Rows.{noting};
+ghost use Rattle.res_calls.specs.Undoing.{undone};
 ghost use Rattle.res_calls.specs.Update.{bytes_held, fresh, updated_map, written_at, fork_of, update};
 ghost use Rattle.res_calls.specs.Updating.{IsFork, IsAnew, IsUpdated, stored_in};
 ghost use Rattle.res_calls.specs.View.{view_file, view_open};
 
 use crate::chain::place_numbered;
 use crate::files::{File, OpenFile, Resources};
+use crate::undoing::Replaced;
 use block_store::BlockStore;
 use fork_format::{WriteFault, write_fork};
 use heap_calls::{Heap, Refusal};
 use mac_words::{Attrs, OsErr};
 use res_map::{LentReference, ResFile};
 use std::alloc::{AllocError, Global};
+use std::mem;
 
 /// The stored data and the fork that an update of an open file makes. They are made before anything is changed.
 #[derive(Drop)]
@@ -115,22 +118,40 @@ fn make_anew<S: BlockStore>(alloc: Global, heap: &Heap<S>, file: &ResFile) -> Re
     }
 }
 
-/// Sets the fork of a file, and marks the file as written.
-fn give_fork(file: &mut File, fork: Vec<u8>)
-    ensures { view_file file.new ≡ record (view_file file.old) { fork = fork.items; written = true } }
+/// Sets the fork of a file that stands at `place`, and marks the file as written. Returns what is replaced.
+fn give_fork(file: &mut File, place: usize, fork: Vec<u8>) -> Replaced
+    ensures file { view_file file.new ≡ record (view_file file.old) { fork = fork.items; written = true } }
+    ensures place { result.place ≡ place }
+    ensures replaced { view_file file.old
+        ≡ record (view_file file.new) { fork = result.fork.items; written = result.written } }
 {
-    file.fork = fork;
+    let replaced = Replaced {
+        place,
+        fork: mem::replace(&mut file.fork, fork),
+        written: file.written,
+    };
     file.written = true;
+    replaced
 }
 
-/// Sets the fork of the file at `place`, and marks the file as written. Does nothing where `place` is `None`.
-pub(crate) fn put_fork(files: &mut Vec<File>, place: Option<usize>, fork: Vec<u8>)
-    ensures { map view_file files.new.items ≡ written_at place fork.items (map view_file files.old.items) }
+/// Sets the fork of the file at `place`, and marks the file as written. Returns what is replaced. Does nothing where
+/// `place` is `None`.
+pub(crate) fn put_fork(
+    files: &mut Vec<File>,
+    place: Option<usize>,
+    fork: Vec<u8>,
+) -> Option<Replaced>
+    ensures files { map view_file files.new.items ≡ written_at place fork.items (map view_file files.old.items) }
+    ensures replaced { undone (option_to_list result) (map view_file files.new.items)
+        ≡ map view_file files.old.items }
 {
-    if let Some(at) = place {
-        if at < files.len() {
-            give_fork(&mut files[at], fork);
-        }
+    let Some(at) = place else {
+        return None;
+    };
+    if at < files.len() {
+        Some(give_fork(&mut files[at], at, fork))
+    } else {
+        None
     }
 }
 
@@ -147,8 +168,8 @@ fn store_in(file: &mut OpenFile, stored: Vec<Option<Vec<u8>>>)
 }
 
 /// Carries out an update of an open file: sets the fork of its file and the stored data of its references, and marks
-/// the file as untouched.
-fn carry_out(files: &mut Vec<File>, file: &mut OpenFile, anew: Anew)
+/// the file as untouched. Returns what is replaced.
+fn carry_out(files: &mut Vec<File>, file: &mut OpenFile, anew: Anew) -> Option<Replaced>
     requires { length anew.stored.items ≡ length file.old.map.references }
     ensures files { map view_file files.new.items
         ≡ written_at (view_open file.old).file anew.fork.items (map view_file files.old.items) }
@@ -156,13 +177,48 @@ fn carry_out(files: &mut Vec<File>, file: &mut OpenFile, anew: Anew)
       map = record file.old.map { references = all_anew (view_all anew.stored.items) file.old.map.references };
       touched = false;
     } }
+    ensures replaced { undone (option_to_list result) (map view_file files.new.items)
+        ≡ map view_file files.old.items }
 {
-    put_fork(files, file.file, anew.fork);
+    let replaced = put_fork(files, file.file, anew.fork);
     store_in(file, anew.stored);
+    replaced
 }
 
 /// Updates the open file at the place `at`, where the file is touched; the update is done wholly or not at all. Returns
-/// -34 (dskFulErr) where the content of the file does not fit the format of a resource fork.
+/// what is replaced, or -34 (dskFulErr) where the content of the file does not fit the format of a resource fork.
+pub(crate) fn renew_at<S: BlockStore>(
+    alloc: Global,
+    heap: &Heap<S>,
+    files: &mut Vec<File>,
+    chain: &mut Vec<OpenFile>,
+    at: usize,
+) -> Result<Option<Replaced>, Refusal>
+    requires { at < length chain.old.items }
+    ensures answer { (r : ResourcesValue) (s : Split OpenFileValue) → at_index at (map view_open chain.old.items) ≡ Some s
+        → IsUpdated (update heap.now.heap s (stored_in files.old.items chain.old.items r)) result
+        (stored_in files.new.items chain.new.items r) }
+    ensures files { IsErr result → map view_file files.new.items ≡ map view_file files.old.items }
+    ensures chain { IsErr result → map view_open chain.new.items ≡ map view_open chain.old.items }
+    ensures length { length chain.new.items ≡ length chain.old.items }
+    ensures read_again { OnOk result ((s : Split OpenFileValue) → at_index at (map view_open chain.old.items) ≡ Some s
+        → s.here.touched ≡ true
+        → Spells (fork_of heap.now.heap s.here) (clear (content (updated_map heap.now.heap s.here.map)))) }
+    ensures replaced { IfOk result (λ o. undone (option_to_list o) (map view_file files.new.items)
+        ≡ map view_file files.old.items) }
+{
+    if !chain[at].touched {
+        return Ok(None);
+    }
+    // All host memory is allocated before anything is changed.
+    let anew = match make_anew(alloc, heap, &chain[at].map) {
+        Ok(anew) => anew,
+        Err(refusal) => return Err(refusal),
+    };
+    Ok(carry_out(files, &mut chain[at], anew))
+}
+
+/// Updates the open file at the place `at` as `renew_at` does, and lets go of what is replaced.
 pub(crate) fn update_at<S: BlockStore>(
     alloc: Global,
     heap: &Heap<S>,
@@ -181,15 +237,10 @@ pub(crate) fn update_at<S: BlockStore>(
         → s.here.touched ≡ true
         → Spells (fork_of heap.now.heap s.here) (clear (content (updated_map heap.now.heap s.here.map)))) }
 {
-    if !chain[at].touched {
-        return Ok(());
-    }
-    // All host memory is allocated before anything is changed.
-    let anew = match make_anew(alloc, heap, &chain[at].map) {
-        Ok(anew) => anew,
+    match renew_at(alloc, heap, files, chain, at) {
+        Ok(_) => {}
         Err(refusal) => return Err(refusal),
-    };
-    carry_out(files, &mut chain[at], anew);
+    }
     Ok(())
 }
 

@@ -11,3 +11,4 @@ mod JobInputs
 mod JobKept
 mod JobRows
 mod Utf8
+pub mod Allowed

@@ -61,8 +61,12 @@ impl Script {
     }
 
     /// Returns the lines of the grow-zone script of this name; no lines where there is no such script.
+    #[tactic(auto, using(crate::proofs::Allowed::block_allowed))]
     pub fn block(&self, name: &Label) -> &[Line]
-        ensures { result.now ≡ block_of name.now.0.items self.now.blocks }
+        ensures lines { result.now ≡ block_of name.now.0.items self.now.blocks }
+
+        // A grow-zone script holds only calls that are allowed in one.
+        ensures allowed { are_allowed result.now ≡ true }
     {
         self.blocks.lines(name)
     }

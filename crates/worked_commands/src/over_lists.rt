@@ -3,10 +3,9 @@
 use crate::archive::{Archive, Command};
 use crate::comparing::compare_files;
 use crate::disk::Disk;
-use crate::parts::Part;
 use applications::Unwatched;
 use block_store::{GREATEST_ZONE, LEAST_ZONE, ListZones};
-use commands::{Output, gather, outputs_of};
+use commands::{gather, room_for_paths, write_outcome};
 use desk::{Job, Outcome, run_with};
 use script_text::read_job;
 use std::alloc::{AllocError, Global};
@@ -21,7 +20,7 @@ fn job_at(alloc: Global, archive: &Archive, path: &str) -> Option<Job> {
     }
 }
 
-/// Returns what a job leaves whose zones are kept in lists, where the job runs.
+/// Returns what a job leaves whose zones are kept in lists, where the job runs to its end.
 fn outcome_in_lists(alloc: Global, job: &Job) -> Option<Outcome> {
     let memory = job.memory;
     if memory % 16 != 0 || memory < LEAST_ZONE || GREATEST_ZONE < memory || 64 < job.apps.len() {
@@ -32,33 +31,29 @@ fn outcome_in_lists(alloc: Global, job: &Job) -> Option<Outcome> {
     };
     let (outcome, zones) = run_with(alloc, job, zones, &mut Unwatched);
     drop(zones);
-    outcome.ok()
-}
-
-/// Returns the files that a job leaves, in the form in which a host keeps files.
-fn parts_of(alloc: Global, outputs: &[Output<'_>]) -> Result<Vec<Part>, AllocError> {
-    let mut parts = Vec::new(alloc);
-    for output in outputs {
-        let bytes = Vec::from_slice(alloc, output.bytes)?;
-        parts.push(Part::new(alloc, &output.path, bytes)?)?;
+    match outcome {
+        Ok(outcome) if !outcome.stopped => Some(outcome),
+        _ => None,
     }
-    Ok(parts)
 }
 
 /// Appends the differences between the files that a job leaves in lists and the files that its command is to write.
 fn compare_job(
     alloc: Global,
     text: &mut String,
+    archive: &Archive,
     command: &Command,
     job: &Job,
     out: &str,
 ) -> Result<(), AllocError> {
-    match outcome_in_lists(alloc, job) {
-        Some(outcome) => {
-            let outputs = outputs_of(alloc, out, &outcome)?;
-            compare_files(text, command, &parts_of(alloc, &outputs)?)
-        }
-        None => writeln!(text, "    the job has no outcome"),
+    let Some(outcome) = outcome_in_lists(alloc, job) else {
+        return writeln!(text, "    the job has no outcome");
+    };
+    let mut disk = Disk::new(alloc, archive, 0);
+    let mut path = room_for_paths(alloc, out)?;
+    match write_outcome(&mut disk, out, &outcome, &mut path) {
+        Ok(()) => compare_files(text, command, &disk.written),
+        Err(_) => writeln!(text, "    {path} is not written"),
     }
 }
 
@@ -78,7 +73,7 @@ pub fn compare_in_lists(
     };
     let mut found = String::new(alloc);
     match job_at(alloc, archive, path) {
-        Some(job) => compare_job(alloc, &mut found, command, &job, out)?,
+        Some(job) => compare_job(alloc, &mut found, archive, command, &job, out)?,
         None => writeln!(found, "    the job isn't read")?,
     }
     if !found.is_empty() {

@@ -29,7 +29,7 @@ heap = record {
 abbrev at : Site → Memory
 at window = record {
   heap = heap;
-  log = record { code = NO_ERR; searches = 0; busy = idle };
+  log = record { code = NO_ERR; searches = 0; busy = idle; reserved = 0 };
   moves = 0;
   window = window;
 }

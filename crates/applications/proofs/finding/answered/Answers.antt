@@ -9,6 +9,10 @@ use Rattle.res_calls.specs.Given.{managers}
 use Rattle.res_calls.specs.Rows as rows
 use Rattle.res_calls.specs.Changing as changing
 use Rattle.mac_words.specs.declared.name.Name.{Name}
+use Rattle.res_calls.specs.Asked.{GetResInfo}
+use Rattle.res_calls.specs.Places.{seen_info}
+use Rattle.res_calls.proofs.Walks.Laws.{served-files}
+use Rattle.applications.proofs.Filing.{answered_keeps, on_any_err}
 use Rattle.applications.proofs.Arms.{by_three, arm_told, arm_after}
 use Rattle.applications.proofs.finding.answered.Goals as goal
 
@@ -219,3 +223,12 @@ returns-in-SetResLoad-clause-told g c =
 pub returns-in-SetResLoad-clause-after : goal.returns-in-SetResLoad-clause-after
 returns-in-SetResLoad-clause-after g c =
     arm_after (λ (u : Unit {0}). Done) c.done_on_resource-in-SetResLoad.result _ _ _ c.args.call.now _ c.args.names.now (managers c.args.resources.now c.args.heap.now) c.done_on_resource-in-SetResLoad.ensures.after (c.set_res_load.ensures c.args.heap.now) refl c.in-SetResLoad.is
+
+pub returns-in-GetResInfo-clause-files : goal.returns-in-GetResInfo-clause-files
+returns-in-GetResInfo-clause-files g c =
+    on_any_err c.info.result _
+    (answered_keeps seen_info
+    (rows.noting (rows.get_res_info c.number-in-GetResInfo.result) (managers c.args.resources.now c.args.heap.now))
+    c.get_res_info.result _ _ (c.get_res_info.ensures.answer c.args.heap.now)
+    c.get_res_info.ensures.host
+    (served-files (GetResInfo c.number-in-GetResInfo.result) (managers c.args.resources.now c.args.heap.now) refl))

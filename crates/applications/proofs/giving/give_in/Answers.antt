@@ -13,7 +13,7 @@ returns-in-Ok-given-clause-given g c =
     let gave = given_alone c.args.resources n c.args.script.now c.args.steps c.args.quit
     c.in-Ok-launch_with.application c.give-given.new.self _ c.first.result.now c.is_asked-asked.result
     c.write_launch.new.text.items c.give-given.new.text.items c.in-Ok-launch_with.ensures.launched
-    (c.in-Ok.ensures ∙ (λ i. c.new-transcript.ensures.items i ++ launch_line (c.len.ensures i)))
+    (c.in-Ok.ensures.line ∙ (λ i. c.new-transcript.ensures.items i ++ launch_line (c.len.ensures i)))
     (c.is_asked-asked.ensures
     ∙ ap (λ (ls : List Line). nat_lt (length ls) c.args.steps || c.args.quit) c.steps-lines.ensures.steps)
     (c.first.ensures ∙ ap (take {A = Line} c.args.steps) c.steps-lines.ensures.steps)
@@ -27,7 +27,7 @@ returns-in-Ok-given-clause-zone g c =
     let gave = given_alone c.args.resources n c.args.script.now c.args.steps c.args.quit
     c.in-Ok-launch_with.application c.give-given.new.self _ c.first.result.now c.is_asked-asked.result
     c.write_launch.new.text.items c.give-given.new.text.items c.in-Ok-launch_with.ensures.launched
-    (c.in-Ok.ensures ∙ (λ i. c.new-transcript.ensures.items i ++ launch_line (c.len.ensures i)))
+    (c.in-Ok.ensures.line ∙ (λ i. c.new-transcript.ensures.items i ++ launch_line (c.len.ensures i)))
     (c.is_asked-asked.ensures
     ∙ ap (λ (ls : List Line). nat_lt (length ls) c.args.steps || c.args.quit) c.steps-lines.ensures.steps)
     (c.first.ensures ∙ ap (take {A = Line} c.args.steps) c.steps-lines.ensures.steps)

@@ -1,4 +1,4 @@
-use Rattle.std.proofs.Common.{◌≡◌, ◌∙◌, ℕ, ap, slice_get, sym, subst, IfOk}
+use Rattle.std.proofs.Common.{◌≡◌, ◌∙◌, ℕ, false, ap, slice_get, sym, subst, IfOk}
 use Rattle.raw_region.specs.Memory.{Whole}
 use Rattle.zone_bytes.specs.Laid.{LiesThere}
 use Rattle.desk.specs.Free.{IsNeverGranted}
@@ -8,15 +8,15 @@ use Rattle.desk.proofs.in_region.run.Goals as goal
 
 pub returns-clause-lies : goal.returns-clause-lies
 returns-clause-lies g c =
-    subst (λ (r : Whole). IfOk c.run_with-outcome.result.0 (λ o. LieAtEnd (λ w blocks. LiesThere r.bytes w blocks) c.args.job.now))
+    subst (λ (r : Whole). IfOk c.run_with-outcome.result.0 (λ o. o.stopped ≡ false → LieAtEnd (λ w blocks. LiesThere r.bytes w blocks) c.args.job.now))
     (sym c.into_region.ensures) c.run_with-outcome.ensures.lies
 
 pub returns-clause-untouched : goal.returns-clause-untouched
 returns-clause-untouched g c =
-    subst (λ (r : Whole). IfOk c.run_with-outcome.result.0 (λ o. (place : ℕ) → IsNeverGranted place c.args.job.now
+    subst (λ (r : Whole). IfOk c.run_with-outcome.result.0 (λ o. o.stopped ≡ false → (place : ℕ) → IsNeverGranted place c.args.job.now
     → slice_get r.bytes place ≡ slice_get c.args.region.bytes place))
     (sym c.into_region.ensures)
-    (subst (λ (r : Whole). IfOk c.run_with-outcome.result.0 (λ o. (place : ℕ) → IsNeverGranted place c.args.job.now
+    (subst (λ (r : Whole). IfOk c.run_with-outcome.result.0 (λ o. o.stopped ≡ false → (place : ℕ) → IsNeverGranted place c.args.job.now
     → slice_get c.run_with-outcome.result.1.region.bytes place ≡ slice_get r.bytes place))
     c.new.ensures c.run_with-outcome.ensures.outside)
 

@@ -3,6 +3,7 @@ use Rattle.std.proofs.lemmas.Result.{on_ok_weaker, on_err_weaker}
 use Rattle.desk.specs.View.{place_seen, lot_of, lots, left_of}
 use Rattle.desk.proofs.Places.{acted_there, left_there, name_there, held_there, none_left, none_acted, lot_there}
 use Rattle.desk.proofs.Places.{fewer_same, fewer_there}
+use Rattle.desk.proofs.Halting.{within_there}
 use Rattle.desk.proofs.seats.act_at.Goals as goal
 
 pub returns-then-i-len-clause-places : goal.returns-then-i-len-clause-places
@@ -36,6 +37,12 @@ returns-then-i-len-clause-held g c = on_err_weaker c.act.result
     (held_there place_seen c.args.seats.now.items c.args.seats.now.len c.args.i c.index_mut.result.now (search rules)
     (search rules) (search rules) c.act.new.seat)
     c.act.ensures.held
+
+pub returns-then-i-len-clause-within : goal.returns-then-i-len-clause-within
+returns-then-i-len-clause-within g c = on_err_weaker c.act.result
+    (within_there place_seen c.args.seats.now.items c.args.seats.now.len c.args.i c.index_mut.result.now (search rules)
+    (search rules) (search rules) c.args.act c.act.new.seat)
+    c.act.ensures.within
 
 pub returns-else-i-len-clause-places : goal.returns-else-i-len-clause-places
 returns-else-i-len-clause-places g c = none_acted place_seen c.args.act c.args.seats.now.items c.args.i (search rules)

@@ -1,7 +1,21 @@
-use Rattle.std.proofs.Common.{sym, subst}
+use Rattle.std.proofs.Common.{◌∙◌, ap, sym, subst}
+use Rattle.std.proofs.Common.{List}
+use Rattle.fork_format.specs.View.{view}
+use Rattle.desk.specs.declared.job.App.{App}
+use Rattle.desk.specs.Job.{opening}
+use Rattle.desk.specs.Desk.{State}
+use Rattle.desk.specs.Free.{StaysFree}
 use Rattle.desk.proofs.whole.run_by.Goals as goal
 
 pub returns-in-Ok-clause-kept : goal.returns-in-Ok-clause-kept
 returns-in-Ok-clause-kept g c =
-    λ w site m. c.run_events.ensures.kept w site
+    λ w site m. c.run_events-outcome.ensures.kept w site
     (subst (λ z. g.Z.ZoneMaker.made z w site) (sym c.in-Ok.ensures.zones) m)
+
+pub returns-in-Ok-clause-outside : goal.returns-in-Ok-clause-outside
+returns-in-Ok-clause-outside g c = λ whole place f.
+    c.run_events-outcome.ensures.outside whole place
+    (subst (λ (s : State). StaysFree place c.args.job.now.events.items s)
+    (sym (c.in-Ok.ensures.ok
+    ∙ ap (λ (apps : List App). opening c.args.job.now.memory (view c.args.system.now) apps) c.deref.ensures.value)) f)
+    ∙ ap (λ z. g.Z.ZoneMaker.byte z place) c.in-Ok.ensures.zones

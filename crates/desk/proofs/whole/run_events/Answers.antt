@@ -2,26 +2,20 @@ use Rattle.std.proofs.Common.{◌∙◌, sym, subst, List}
 use Rattle.script_text.specs.declared.job.Event.{Event}
 use Rattle.desk.specs.Desk.{State}
 use Rattle.desk.specs.Free.{IsFree, StaysFree}
+use Rattle.desk.specs.Lying.{AllLie}
 use Rattle.desk.proofs.Free.{free-end}
+use Rattle.desk.proofs.Halting.{ok_then}
 use Rattle.desk.proofs.whole.run_events.Goals as goal
 
-pub returns-in-Err-clause-kept : goal.returns-in-Err-clause-kept
-returns-in-Err-clause-kept g c =
+pub returns-clause-kept : goal.returns-clause-kept
+returns-clause-kept g c =
     λ w site m. c.finish-apps.ensures.kept w site (c.serve_all-served.ensures.kept w site m)
 
-pub returns-in-Err-write_forks-clause-kept : goal.returns-in-Err-write_forks-clause-kept
-returns-in-Err-write_forks-clause-kept g c =
-    λ w site m. c.finish-apps.ensures.kept w site (c.serve_all-served.ensures.kept w site m)
-
-pub returns-in-Ok-write_forks-clause-kept : goal.returns-in-Ok-write_forks-clause-kept
-returns-in-Ok-write_forks-clause-kept g c =
-    λ w site m. c.finish-apps.ensures.kept w site (c.serve_all-served.ensures.kept w site m)
-
-pub returns-in-Ok-write_forks-clause-outside : goal.returns-in-Ok-write_forks-clause-outside
-returns-in-Ok-write_forks-clause-outside g c =
-    λ place f.
+pub returns-clause-outside : goal.returns-clause-outside
+returns-clause-outside g c = λ whole place f.
+    let well = c.outcome_by.ensures.served whole in
     let stays = subst (λ (es : List Event). StaysFree place es c.args.desk.state) (sym c.deref.ensures.value) f in
+    let done = ok_then c.serve_all-served.result _ c.serve_all-served.ensures.ok well in
     c.finish-apps.ensures.outside place
-    (subst (λ (s : State). IsFree place s) (sym c.in-Ok.ensures.ok)
-    (free-end place c.deref.result.now c.args.desk.state stays))
-    ∙ c.in-Ok.ensures.outside place stays
+    (subst (λ (s : State). IsFree place s) (sym done) (free-end place c.deref.result.now c.args.desk.state stays))
+    ∙ ok_then c.serve_all-served.result _ c.serve_all-served.ensures.outside well place stays

@@ -1,4 +1,4 @@
-use Rattle.std.proofs.Common.{◌≡◌, refl}
+use Rattle.std.proofs.Common.{◌≡◌, false, refl}
 use Rattle.fork_format.specs.View.{view}
 use Rattle.applications.specs.Promises.{KeepsPromises}
 use Rattle.applications.proofs.Runs.{keeps_promises}
@@ -24,12 +24,12 @@ returns-in-Ok-outcome-clause-laws g c =
 
 pub returns-in-Ok-outcome-clause-lies : goal.returns-in-Ok-outcome-clause-lies
 returns-in-Ok-outcome-clause-lies g c =
-    lie-at-end (g.Z.ZoneMaker.left c.run_by-outcome.result.1) c.args.job.now (view c.in-Ok.system) c.run_by-outcome.result.0
+    lie-at-end (g.Z.ZoneMaker.left c.run_by-outcome.result.1) (λ o. o.stopped ≡ false) c.args.job.now (view c.in-Ok.system) c.run_by-outcome.result.0
     c.in-Ok-outcome.outcome c.in-Ok.ensures.system c.run_by-outcome.ensures.lies c.in-Ok-outcome.is
 
 pub returns-in-Ok-outcome-clause-outside : goal.returns-in-Ok-outcome-clause-outside
 returns-in-Ok-outcome-clause-outside g c =
     never-granted
     (λ place. g.Z.ZoneMaker.byte c.run_by-outcome.result.1 place ≡ g.Z.ZoneMaker.byte c.args.zones place)
-    c.args.job.now (view c.in-Ok.system) c.run_by-outcome.result.0 c.in-Ok-outcome.outcome c.in-Ok.ensures.system
-    c.run_by-outcome.ensures.outside c.in-Ok-outcome.is
+    (λ o. o.stopped ≡ false) c.args.job.now (view c.in-Ok.system) c.run_by-outcome.result.0 c.in-Ok-outcome.outcome
+    c.in-Ok.ensures.system c.run_by-outcome.ensures.outside c.in-Ok-outcome.is

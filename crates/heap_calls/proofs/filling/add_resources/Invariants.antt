@@ -20,4 +20,6 @@ invariant-loop-filling g l =
       last : (new_all (map wanted_as (drop l.filling-index l.wanted)) now).1
           ≡ (new_all (map wanted_as l.wanted) start).1;
       lies : (g.S.BlockStore.rest l.store).window ≡ (g.S.BlockStore.rest l.initial.store).window;
+      capacity : vec_capacity l.names ≡ vec_capacity l.initial.names;
+      reserved : l.log.reserved ≡ l.initial.log.reserved;
     }

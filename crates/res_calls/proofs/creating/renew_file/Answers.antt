@@ -9,4 +9,4 @@ returns-then-not-is_bare-clause-answer c = λ name f r m at. has_bytes name f r 
 pub returns-clause-answer : goal.returns-clause-answer
 returns-clause-answer c = λ name f r m at. gets_fork name f r m c.args.files.now.items c.put_fork.new.files.items
     c.args.at c.index.result.now c.in_ok-fork.fork.items c.requires c.index.ensures
-    (sym c.is_bare.ensures ∙ c.if-not-is_bare.false) c.in_ok-fork.ensures c.put_fork.ensures at
+    (sym c.is_bare.ensures ∙ c.if-not-is_bare.false) c.in_ok-fork.ensures c.put_fork.ensures.files at

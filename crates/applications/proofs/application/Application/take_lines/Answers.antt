@@ -2,6 +2,7 @@ use Rattle.std.proofs.Common.{◌∙◌, ◌+◌, ◌++◌, ap, drop, List, [], 
 use Rattle.applications.specs.Trying.{Running, Tried, once}
 use Rattle.applications.specs.Application.{bytes_told}
 use Rattle.mac_words.proofs.Plain.{rest-next}
+use Rattle.applications.proofs.Filing.{allowed_keeps, line_allowed, extended, extends_same, extends_on}
 use Rattle.applications.proofs.Rounds.{one_more}
 use Rattle.applications.proofs.Saying.{grown-said, shown-again}
 use Rattle.applications.proofs.Elsewhere.{grown-left}
@@ -14,10 +15,17 @@ loop-line-preserved g c =
     let l = c.line-item.result in
     let t : Tried = once blocks l.call c.loop-line.self in
     let shown = c.shown-shown.ensures ∙ ap (λ (r : Running). bytes_told (once [] l.call r).told) c.in_ok-tried.ensures.after ∙ shown-again blocks l.call c.loop-line.self in
-    one_more blocks (drop i c.args.lines.now) (drop (i + 1) c.args.lines.now) l c.loop-line.self c.once.new.self _ c.loop-line.text.items c.write_grow_reply.new.text.items _
+    let both = one_more blocks (drop i c.args.lines.now) (drop (i + 1) c.args.lines.now) l c.loop-line.self c.once.new.self _ c.loop-line.text.items c.write_grow_reply.new.text.items _
     (rest-next c.args.lines.now i l (omega arith) c.line-item.is) c.in_ok-tried.ensures.after
-    (c.in_ok-write_grow_reply.ensures ∙ ap (λ (x : List ℕ). c.loop-line.text.items ++ x) (grown-said l c.of.result c.in_ok-tried.tried.reply _ t.told c.of.ensures c.in_ok-tried.ensures.tried.reply shown))
-    c.loop-line.invariant.0 c.loop-line.invariant.1
+    (c.in_ok-write_grow_reply.ensures.line ∙ ap (λ (x : List ℕ). c.loop-line.text.items ++ x) (grown-said l c.of.result c.in_ok-tried.tried.reply _ t.told c.of.ensures c.in_ok-tried.ensures.tried.reply shown))
+    c.loop-line.invariant.0 c.loop-line.invariant.1 in (
+      both.0,
+      both.1,
+      extended c.args.text.now.items c.loop-line.text.items c.write_grow_reply.new.text.items _ c.loop-line.invariant.2
+          c.in_ok-write_grow_reply.ensures.line,
+      c.in_ok-tried.ensures.files (allowed_keeps l.call c.loop-line.self.names
+          (line_allowed c.args.lines.now i l (omega arith) c.line-item.is c.requires.allowed)) ∙ c.loop-line.invariant.3,
+    )
 
 pub returns-in_err-tried-clause-lies : goal.returns-in_err-tried-clause-lies
 returns-in_err-tried-clause-lies g c =
@@ -35,3 +43,24 @@ pub returns-clause-lies : goal.returns-clause-lies
 returns-clause-lies g c =
     grown-left c.args.script.now.blocks (drop c.loop-line.line-index c.args.lines.now) c.args.lines.now
     c.loop-line.self c.args.self.now c.loop-line.invariant.1
+
+pub returns-in_err-tried-clause-front : goal.returns-in_err-tried-clause-front
+returns-in_err-tried-clause-front g c = c.loop-line.invariant.2
+
+pub returns-in_err-tried-clause-files : goal.returns-in_err-tried-clause-files
+returns-in_err-tried-clause-files g c = c.in_err-tried.ensures.wants ∙ c.loop-line.invariant.3
+
+pub returns-in_err-write_grow_reply-clause-front : goal.returns-in_err-write_grow_reply-clause-front
+returns-in_err-write_grow_reply-clause-front g c =
+    extends_on c.args.text.now.items c.loop-line.text.items c.write_grow_reply.new.text.items c.loop-line.invariant.2
+    (extends_same c.loop-line.text.items c.write_grow_reply.new.text.items c.in_err-write_grow_reply.ensures.unchanged)
+
+pub returns-in_err-write_grow_reply-clause-files : goal.returns-in_err-write_grow_reply-clause-files
+returns-in_err-write_grow_reply-clause-files g c =
+    let l = c.line-item.result in
+    c.in_ok-tried.ensures.files (allowed_keeps l.call c.loop-line.self.names
+    (line_allowed c.args.lines.now c.loop-line.line-index l (omega arith) c.line-item.is c.requires.allowed))
+    ∙ c.loop-line.invariant.3
+
+pub returns-clause-files : goal.returns-clause-files
+returns-clause-files g c = c.loop-line.invariant.3

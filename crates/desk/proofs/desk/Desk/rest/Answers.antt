@@ -1,6 +1,9 @@
-use Rattle.std.proofs.Common.{rules, ◌≡◌, ◌+◌, ◌-◌, ◌<◌, ◌∙◌, ap, sym, suc, true}
+use Rattle.std.proofs.Common.{rules, ◌≡◌, ◌+◌, ◌-◌, ◌<◌, ◌∙◌, ap, subst, inl, sym, suc, true}
 use Rattle.desk.specs.Desk.{State, rounds, any_runs}
 use Rattle.desk.proofs.Free.{round-out}
+use Rattle.desk.specs.Halting.{WithinRounds, halted}
+use Rattle.desk.specs.Outcome.{Outcome}
+use Rattle.desk.proofs.Halting.{rounds_next, on_any_err}
 use Rattle.desk.proofs.Rounds.{round_next}
 use Rattle.desk.proofs.desk.Desk.rest.Goals as goal
 
@@ -13,9 +16,21 @@ loop-preserved g c =
     record {
       rest = ap (λ (s : State). rounds (suc (n - (k + 1))) s) c.in_ok-round.ensures.ok
           ∙ sym (round_next n k c.loop.self.state less runs) ∙ c.loop.invariant.rest;
+      within = λ x rest. c.loop.invariant.within x (rounds_next (λ m. halted m ≡ x) n k c.loop.self.state less
+          (subst (WithinRounds (λ m. halted m ≡ x) (suc (n - (k + 1)))) c.in_ok-round.ensures.ok rest));
       memory = c.round.ensures.memory ∙ c.loop.invariant.memory;
       kept = λ w site m. c.round.ensures.kept w site (c.loop.invariant.kept w site m);
       outside = round-out g.Z.ZoneMaker.byte c.args.self.now.zones c.loop.self.zones c.round.new.self.zones
           c.args.self.now.state c.loop.self.state c.round.new.self.state c.in_ok-round.ensures.ok
           c.in_ok-round.ensures.outside c.loop.invariant.outside;
     }
+
+pub returns-in_err-round-clause-within : goal.returns-in_err-round-clause-within
+returns-in_err-round-clause-within g c =
+    let x : Outcome = halted c.round.new.self.state in
+    on_any_err c.from_residual.result _ (c.loop.invariant.within x (inl c.in_err-round.ensures.within))
+
+pub returns-in_err-round-2-clause-within : goal.returns-in_err-round-2-clause-within
+returns-in_err-round-2-clause-within g c =
+    let x : Outcome = halted c.round-then-any_runs.new.self.state in
+    on_any_err c.from_residual-in_err-round-2.result _ (c.loop.invariant.within x (inl c.in_err-round-2.ensures.within))

@@ -1,6 +1,9 @@
-use Rattle.std.proofs.Common.{rules, ◌+◌, ◌-◌, ◌<◌, ◌∙◌, ap, sym}
+use Rattle.std.proofs.Common.{rules, ◌≡◌, subst, ◌+◌, ◌-◌, ◌<◌, ◌∙◌, ap, sym}
 use Rattle.desk.specs.Desk.{State, each_turned}
 use Rattle.desk.proofs.Free.{turned-out}
+use Rattle.desk.specs.Halting.{WithinTurns, halted}
+use Rattle.desk.specs.Outcome.{Outcome}
+use Rattle.desk.proofs.Halting.{turns_next, turns_halt, on_any_err}
 use Rattle.desk.proofs.Rounds.{turned_next}
 use Rattle.desk.proofs.desk.Desk.round.Goals as goal
 
@@ -12,9 +15,21 @@ loop-i-preserved g c =
     record {
       rest = ap (λ (s : State). each_turned (n - (i + 1)) (i + 1) s) c.in_ok-act.ensures.ok
           ∙ sym (turned_next n i c.loop-i.self.state less) ∙ c.loop-i.invariant.rest;
+      within = λ x rest. c.loop-i.invariant.within x (turns_next (λ m. halted m ≡ x) n i c.loop-i.self.state less
+          (subst (WithinTurns (λ m. halted m ≡ x) (n - (i + 1)) (i + 1)) c.in_ok-act.ensures.ok rest));
       memory = c.act.ensures.memory ∙ c.loop-i.invariant.memory;
       kept = λ w site m. c.act.ensures.kept w site (c.loop-i.invariant.kept w site m);
       outside = turned-out g.Z.ZoneMaker.byte c.args.self.now.zones c.loop-i.self.zones c.act.new.self.zones i
           c.args.self.now.state c.loop-i.self.state c.act.new.self.state c.in_ok-act.ensures.ok
           c.in_ok-act.ensures.outside c.loop-i.invariant.outside;
     }
+
+pub returns-in_err-act-clause-within : goal.returns-in_err-act-clause-within
+returns-in_err-act-clause-within g c =
+    let n = c.count-count.result in
+    let i = c.loop-i.i in
+    let less : i < n = search rules in
+    let x : Outcome = halted c.act.new.self.state in
+    on_any_err c.from_residual.result _
+    (c.loop-i.invariant.within x
+    (turns_halt (λ m. halted m ≡ x) n i c.loop-i.self.state less c.in_err-act.ensures.within))

@@ -1,7 +1,8 @@
+use Rattle.std.proofs.Common.{arith}
 use Rattle.std.proofs.Common.{rules, None, ◌≡◌, ◌∙◌, ◌++◌, List, ℕ, Option, Some, Err, IfSome, option_map, slice_get}
 use Rattle.std.proofs.Common.{true, slice_set, refl, sym, ap, subst}
 use Rattle.std.proofs.lemmas.List.{length-map}
-use Rattle.std.proofs.lemmas.Result.{on_ok_weaker, IfOk-weaker}
+use Rattle.std.proofs.lemmas.Result.{on_ok_weaker, on_err_weaker, IfOk-weaker}
 use Rattle.mac_words.specs.declared.code.TheConstants.OsErr.{MEM_FULL}
 use Rattle.script_text.specs.DeskLog.{launch_of, refusal_of}
 use Rattle.desk.specs.Phase.{Live, Running, begun, waits}
@@ -12,6 +13,7 @@ use Rattle.desk.specs.Seated.{Placed}
 use Rattle.desk.specs.View.{DeskSeen, place_seen, seen, lots}
 use Rattle.desk.proofs.Holding.{few_out, not-opened, is-opened}
 use Rattle.desk.proofs.Free.{out-opened}
+use Rattle.desk.proofs.Halting.{failed_so, stays_so, no_error, on_any_err}
 use Rattle.desk.proofs.Leaving.{housed_kept, housed_started}
 use Rattle.desk.proofs.Changes.{launched-none, launched-refused, launched-full, launched-begins, seen-some, seen-none, refused-ready}
 use Rattle.desk.proofs.Changes.{waits_ready, at-some, through, replied-refused, replied-begun}
@@ -42,9 +44,10 @@ returns-in-Err-Code-clause-ok g c =
     through c.once_written.result c.write_app_refusal.result _ c.once_written.ensures.written (on_ok_weaker c.write_app_refusal.result
     (λ h. launched-refused c.args.i s p here c.in-Err-Code.code s.memory s.windows s.places
     c.write_app_refusal.new.text.items refused refl refl refl
-    (h ∙ ap (λ (n : List ℕ). s.log ++ refusal_of n c.in-Err-Code.code.0) name)
+    (h ∙ ap (λ (t : List ℕ). t ++ refusal_of c.seat.inside.app.now.name.0.items c.in-Err-Code.code.0) c.reserve.ensures.items
+    ∙ ap (λ (n : List ℕ). s.log ++ refusal_of n c.in-Err-Code.code.0) name)
     ∙ ap (λ (d : DeskSeen _). launched_at c.args.i d.state) c.self.view_is)
-    c.write_app_refusal.ensures)
+    c.write_app_refusal.ensures.line)
 
 pub begin-requires-clause-few : goal.begin-requires-clause-few
 begin-requires-clause-few g c =
@@ -104,9 +107,10 @@ returns-in_default-begun-clause-ok g c =
     c.begin.ensures.size
     (not-opened (λ l. l.window) c.in_ok-begun.begun c.self.inside.grants.windows c.begin.new.grants.windows
     c.in_default-begun.is c.in_ok-begun.ensures.windows)
-    refl MEM_FULL refl (h ∙ ap (λ (n : List ℕ). s.log ++ refusal_of n MEM_FULL.0) name)
+    refl MEM_FULL refl (h ∙ ap (λ (t : List ℕ). t ++ refusal_of c.seat.inside.app.now.name.0.items MEM_FULL.0) c.reserve.ensures.items
+    ∙ ap (λ (n : List ℕ). s.log ++ refusal_of n MEM_FULL.0) name)
     ∙ ap (λ (d : DeskSeen _). launched_at c.args.i d.state) c.self.view_is)
-    c.write_app_refusal-in_default-begun.ensures)
+    c.write_app_refusal-in_default-begun.ensures.line)
 
 pub start_at-requires-clause-waits : goal.start_at-requires-clause-waits
 start_at-requires-clause-waits g c =
@@ -168,15 +172,16 @@ returns-clause-ok g c =
     c.in-Some-begun.is c.in_ok-begun.ensures.windows)
     (at-some (slice_get (seen c.self.inside.seats.items) c.args.i) p _ here c.start_at.ensures.places
     ∙ ap (λ (l : Live). slice_set s.places c.args.i (record p { phase = Running l })) first)
-    (h ∙ ap (λ (n : List ℕ). s.log ++ launch_of n live.window.len) name)
+    (h ∙ ap (λ (t : List ℕ). t ++ launch_of c.seat.inside.app.now.name.0.items live.window.len) c.reserve.ensures.items
+    ∙ ap (λ (n : List ℕ). s.log ++ launch_of n live.window.len) name)
     ∙ ap (λ (d : DeskSeen _). launched_at c.args.i d.state) c.self.view_is)
-    c.write_app_launch.ensures)
+    c.write_app_launch.ensures.line)
 
 pub returns-in-Err-Code-clause-outside : goal.returns-in-Err-Code-clause-outside
 returns-in-Err-Code-clause-outside g c =
     through c.once_written.result c.write_app_refusal.result _ c.once_written.ensures.written (on_ok_weaker c.write_app_refusal.result
     (λ h place f. ap (λ (d : DeskSeen _). g.Z.ZoneMaker.byte d.zones place) c.self.view_is)
-    c.write_app_refusal.ensures)
+    c.write_app_refusal.ensures.line)
 
 pub returns-in_err-begun-clause-kept : goal.returns-in_err-begun-clause-kept
 returns-in_err-begun-clause-kept g c =
@@ -200,7 +205,7 @@ returns-in_default-begun-clause-outside g c =
     (out-opened place (option_map (λ l. l.window) c.in_ok-begun.begun) c.self.inside.grants.windows
     c.begin.new.grants.windows c.in_ok-begun.ensures.windows f)
     ∙ ap (λ (d : DeskSeen _). g.Z.ZoneMaker.byte d.zones place) c.self.view_is)
-    c.write_app_refusal-in_default-begun.ensures)
+    c.write_app_refusal-in_default-begun.ensures.line)
 
 pub returns-clause-outside : goal.returns-clause-outside
 returns-clause-outside g c =
@@ -209,7 +214,7 @@ returns-clause-outside g c =
     (out-opened place (option_map (λ l. l.window) c.in_ok-begun.begun) c.self.inside.grants.windows
     c.begin.new.grants.windows c.in_ok-begun.ensures.windows f)
     ∙ ap (λ (d : DeskSeen _). g.Z.ZoneMaker.byte d.zones place) c.self.view_is)
-    c.write_app_launch.ensures)
+    c.write_app_launch.ensures.line)
 
 pub returns-in_default-clause-answer : goal.returns-in_default-clause-answer
 returns-in_default-clause-answer g c =
@@ -275,3 +280,53 @@ returns-clause-answer g c =
     (sym (ap (option_map (λ l. l.window)) c.in-Some-begun.is) ∙ c.in_ok-begun.ensures.answer)
     ∙ ap (λ (d : DeskSeen _). reply_at c.args.i d.state) c.self.view_is)
     c.once_written-2.ensures.reply
+
+-- the host is out of memory for a line, or for the application
+pub returns-in-Err-Code-clause-host : goal.returns-in-Err-Code-clause-host
+returns-in-Err-Code-clause-host g c =
+    let s : State = record {
+      memory = c.self.inside.grants.memory;
+      windows = c.self.inside.grants.windows;
+      places = seen c.self.inside.seats.items;
+      log = c.self.inside.log.items;
+    } in
+    rw (← c.self.view_is) (failed_so c.once_written.result c.write_app_refusal.result _ c.once_written.ensures.failed
+    (on_err_weaker c.write_app_refusal.result
+    (λ same. stays_so s s.memory s.windows c.write_app_refusal.new.text.items refl refl (same ∙ c.reserve.ensures.items))
+    c.write_app_refusal.ensures.unchanged))
+
+pub returns-in_err-begun-clause-host : goal.returns-in_err-begun-clause-host
+returns-in_err-begun-clause-host g c =
+    let s : State = record {
+      memory = c.self.inside.grants.memory;
+      windows = c.self.inside.grants.windows;
+      places = seen c.self.inside.seats.items;
+      log = c.self.inside.log.items;
+    } in
+    rw (← c.self.view_is) (on_any_err c.from_residual-in_err-begun.result _
+    (stays_so s c.begin.new.grants.memory c.begin.new.grants.windows c.reserve.new.self.items c.begin.ensures.size
+    c.in_err-begun.ensures.err c.reserve.ensures.items))
+
+pub returns-in_default-begun-clause-host : goal.returns-in_default-begun-clause-host
+returns-in_default-begun-clause-host g c =
+    let s : State = record {
+      memory = c.self.inside.grants.memory;
+      windows = c.self.inside.grants.windows;
+      places = seen c.self.inside.seats.items;
+      log = c.self.inside.log.items;
+    } in
+    let windows = not-opened (λ l. l.window) c.in_ok-begun.begun c.self.inside.grants.windows c.begin.new.grants.windows
+    c.in_default-begun.is c.in_ok-begun.ensures.windows in
+    rw (← c.self.view_is) (failed_so c.once_written-in_default-begun.result c.write_app_refusal-in_default-begun.result _
+    c.once_written-in_default-begun.ensures.failed
+    (on_err_weaker c.write_app_refusal-in_default-begun.result
+    (λ same. stays_so s c.begin.new.grants.memory c.begin.new.grants.windows
+    c.write_app_refusal-in_default-begun.new.text.items c.begin.ensures.size windows (same ∙ c.reserve.ensures.items))
+    c.write_app_refusal-in_default-begun.ensures.unchanged))
+
+pub returns-clause-host : goal.returns-clause-host
+returns-clause-host g c =
+    let room = c.in_ok-reserve.ensures.ok in
+    let length = c.len.ensures.value in
+    failed_so c.once_written-2.result c.write_app_launch.result _ c.once_written-2.ensures.failed
+    (no_error c.write_app_launch.result _ (c.write_app_launch.ensures.room (omega (arith, room, length))))

@@ -8,6 +8,7 @@ use Rattle.heap_calls.proofs.Numbering.Rebuilding.{reached_in}
 use Rattle.heap_calls.proofs.Numbering.Changing.{agrees-kept}
 use Rattle.heap_calls.proofs.Sizes.Behind.{hand-none, hand-nowhere}
 use Rattle.heap_calls.proofs.Sizes.Grown.{nothing-grown, grown-done, hand-tells}
+use Rattle.heap_calls.proofs.Numbering.Reserved.{fits-same}
 use Rattle.heap_calls.proofs.heap.Heap.append_handle.Given.{Over}
 use Rattle.heap_calls.proofs.heap.Heap.append_handle.Goals.{In_ok-source}
 use Rattle.heap_calls.proofs.heap.Heap.append_handle.Goals as goal
@@ -60,3 +61,9 @@ returns-clause-answer g c =
 pub invariant_of-self-2 : goal.invariant_of-self-2
 invariant_of-self-2 g c = agrees-kept _ _ _ _ _ c.self.invariant c.append_block.ensures.nonrelocatable
     c.append_block.ensures.rest
+
+pub same-self : goal.same-self
+same-self g c = fits-same _ _
+
+pub same-self-in_err-held : goal.same-self-in_err-held
+same-self-in_err-held g c = fits-same _ _

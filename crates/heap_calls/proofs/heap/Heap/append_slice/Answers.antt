@@ -7,6 +7,7 @@ use Rattle.heap_calls.proofs.Numbering.Rebuilding.{reached_in}
 use Rattle.heap_calls.proofs.Numbering.Changing.{agrees-kept}
 use Rattle.heap_calls.proofs.Sizes.Behind.{slice-none}
 use Rattle.heap_calls.proofs.Sizes.Grown.{nothing-grown, grown-done, slice-tells}
+use Rattle.heap_calls.proofs.Numbering.Reserved.{fits-same}
 use Rattle.heap_calls.proofs.heap.Heap.append_slice.Goals as goal
 
 pub returns-in_err-held-clause-answer : goal.returns-in_err-held-clause-answer
@@ -40,3 +41,6 @@ returns-clause-answer g c =
 pub invariant_of-self-2 : goal.invariant_of-self-2
 invariant_of-self-2 g c = agrees-kept _ _ _ _ _ c.self.invariant c.append_bytes.ensures.nonrelocatable
     c.append_bytes.ensures.rest
+
+pub same-self : goal.same-self
+same-self g c = fits-same _ _

@@ -5,6 +5,7 @@ use Rattle.block_store.specs.Block.{tidy, is_relocatable}
 use Rattle.block_store.specs.Grow.{freed}
 use Rattle.heap_calls.proofs.Numbering.Changing.{agrees-same}
 use Rattle.heap_calls.proofs.Room.Staying.{nonrelocatable-released, nonrelocatable-same, nonrelocatable-then}
+use Rattle.heap_calls.proofs.Numbering.Reserved.{fits-same}
 use Rattle.heap_calls.proofs.heap.Heap.empty.Goals as goal
 
 pub returns-in_err-slot-clause-answer : goal.returns-in_err-slot-clause-answer
@@ -37,3 +38,6 @@ invariant_of-self g c =
     c.self.invariant
     (nonrelocatable-then zone left zone' (nonrelocatable-released c.in_ok-slot.slot zone) (nonrelocatable-same left zone' c.release.ensures.zone))
     c.release.ensures.rest
+
+pub same-self : goal.same-self
+same-self g c = fits-same _ _

@@ -6,6 +6,7 @@ use Rattle.heap_calls.specs.Searches.{set_handle_size_searches}
 use Rattle.heap_calls.proofs.Numbering.Rebuilding.{reached_in, not-resized}
 use Rattle.heap_calls.proofs.Numbering.Changing.{agrees-kept}
 use Rattle.heap_calls.proofs.Sizes.Grown.{nothing-grown, grown-done, resize-tells}
+use Rattle.heap_calls.proofs.Numbering.Reserved.{fits-same}
 use Rattle.heap_calls.proofs.heap.Heap.give_size.Goals as goal
 
 pub returns-in_err-held-clause-answer : goal.returns-in_err-held-clause-answer
@@ -37,3 +38,6 @@ invariant_of-self g c = agrees-kept _ _ _ _ _ c.self.invariant c.fit_block.ensur
 
 pub invariant_of-self-2 : goal.invariant_of-self-2
 invariant_of-self-2 g c = agrees-kept _ _ _ _ _ c.self.invariant c.fit_block.ensures.nonrelocatable c.fit_block.ensures.rest
+
+pub same-self : goal.same-self
+same-self g c = fits-same _ _

@@ -13,6 +13,7 @@ use Rattle.heap_calls.specs.declared.log.Log.{Log}
 use Rattle.block_store.specs.Rest.{counted}
 use Rattle.heap_calls.proofs.NewBlocks.Naming.{is-served}
 use Rattle.heap_calls.proofs.Numbering.PurgeTrials.{served_answer}
+use Rattle.heap_calls.proofs.Numbering.Reserved.{fits-same}
 use Rattle.heap_calls.proofs.heap.Heap.reallocate.Goals as goal
 
 pub returns-in_err-slot-clause-answer : goal.returns-in_err-slot-clause-answer
@@ -68,3 +69,6 @@ invariant_of-self-2 g c =
     agrees-kept (g.S.BlockStore.zone a.store) (g.S.BlockStore.zone c.renew_block.new.store)
     (g.S.BlockStore.rest a.store) (g.S.BlockStore.rest c.renew_block.new.store) a.names.items c.self.invariant
     c.renew_block.ensures.nonrelocatable c.in_ok-room.ensures.answer.slots
+
+pub same-self : goal.same-self
+same-self g c = fits-same _ _

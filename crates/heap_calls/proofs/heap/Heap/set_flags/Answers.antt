@@ -10,6 +10,7 @@ use Rattle.heap_calls.proofs.Numbering.Answering.{refused_for, found_in, at_plac
 use Rattle.heap_calls.proofs.Numbering.Changing.{spot_at-is, nonrelocatable-at, agrees-same}
 use Rattle.heap_calls.proofs.Room.Staying.{nonrelocatable-spot, alike-flags, nonrelocatable-same, nonrelocatable-then}
 use Rattle.heap_calls.proofs.Numbering.Hoisting.{flags-none, flags-some, seen-at, rest-same, change_flags-done}
+use Rattle.heap_calls.proofs.Numbering.Reserved.{fits-same}
 use Rattle.heap_calls.proofs.heap.Heap.set_flags.Goals as goal
 
 pub returns-in_err-place-clause-answer : goal.returns-in_err-place-clause-answer
@@ -84,3 +85,9 @@ invariant_of-self g c =
     (nonrelocatable-then zone now zone' (nonrelocatable-at c.in_ok-place.place zone now s found.3
     (nonrelocatable-spot s.below s.above s.here (with_flags flags s.here) (alike-flags flags s.here)))
     (nonrelocatable-same now zone' done)) c.set_flags.ensures.rest
+
+pub same-self : goal.same-self
+same-self g c = fits-same _ _
+
+pub same-self-in_default : goal.same-self-in_default
+same-self-in_default g c = fits-same _ _

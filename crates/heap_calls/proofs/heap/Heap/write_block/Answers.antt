@@ -1,4 +1,4 @@
-use Rattle.std.proofs.Common.{◌≡◌, ◌<◌, ◌+◌, ◌++◌, ◌∷◌, length, ap, arith, Ok, Err}
+use Rattle.std.proofs.Common.{◌≡◌, ◌<◌, ◌+◌, ◌++◌, ◌∷◌, length, ◌∙◌, ap, arith, Ok, Err}
 use Rattle.std.proofs.lemmas.Result.{err_from_is_err_and}
 use Rattle.block_store.specs.Block.{content_of, with_content}
 use Rattle.windows.specs.Writes.{written}
@@ -6,6 +6,7 @@ use Rattle.heap_calls.specs.Answer.{written_at, look_up}
 use Rattle.heap_calls.proofs.Numbering.Answering.{refused_for, found_in, at_place}
 use Rattle.heap_calls.proofs.Numbering.Changing.{written-done, written-outside, agrees-same, nonrelocatable-at}
 use Rattle.heap_calls.proofs.Room.Staying.{nonrelocatable-spot, alike-content, nonrelocatable-same, nonrelocatable-then}
+use Rattle.heap_calls.proofs.Numbering.Reserved.{fits-same}
 use Rattle.heap_calls.proofs.heap.Heap.write_block.Goals as goal
 use Rattle.heap_calls.proofs.heap.Heap.write_block.Goals.{then-bytes-len-via-then-bytes-len}
 use Rattle.heap_calls.proofs.heap.Heap.write_block.Goals.{then-bytes-len-via-else-bytes-len+then-from-len}
@@ -70,3 +71,12 @@ returns-clause-answer g c =
     (g.S.BlockStore.rest a.store) (g.S.BlockStore.rest c.write.new.self) a.names.items a.log (look_up c.args.handle)
     found.0 c.args.from c.args.bytes.now found.1 c.self.view_is found.2 c.write.ensures.rest
     (omega arith) done
+
+pub same-self : goal.same-self
+same-self g c = fits-same _ _
+
+pub same-self-then-bytes-len : goal.same-self-then-bytes-len
+same-self-then-bytes-len g c = elim c.then-bytes-len.branch [
+  | then-bytes-len-via-then-bytes-len w ↦ w.self-inside-is ∙ fits-same _ _
+  | then-bytes-len-via-else-bytes-len+then-from-len w ↦ w.self-inside-is ∙ fits-same _ _
+]

@@ -1,0 +1,277 @@
+use Rattle.std.proofs.Common.{◌≡◌, ◌∙◌, ◌++◌, ◌⊎◌, ◌≢◌, inl, inr, Bool, true, false, refl, sym, ap, Option, None, Result, Ok, Err, List, []}
+use Rattle.std.proofs.Common.{ℕ, ℤ, ◌<◌, map, Some, option_map, length, take, slice_index_or, true≢false, append_assoc, append-nil}
+use Rattle.std.proofs.Math.Seq.{take-append_seam}
+use Rattle.std.proofs.lemmas.List.Folds.{list_all_at}
+use Rattle.std.specs.Global.{Global}
+use Rattle.std.specs.Prelude.{Box, IsOk, OnOk, OnErr, is_some}
+use Rattle.mac_words.specs.declared.code.OsErr.{OsErr}
+use Rattle.mac_words.specs.declared.name.Name.{Name}
+use Rattle.mac_words.specs.declared.name.OsType.{OsType}
+use Rattle.mac_words.specs.declared.call.Call.{Call}
+use Rattle.mac_words.specs.declared.call.Call.TheVariants as call
+use Rattle.mac_words.specs.declared.call.ControlCall.TheVariants as control
+use Rattle.mac_words.specs.declared.resource_call.ResourceCall.TheVariants as resource
+use Rattle.mac_words.specs.declared.reply.Reply.{Reply}
+use Rattle.mac_words.specs.Told.{Told, Done, Given, Fetched, Number, Numbers, Code, Bytes, Kind, Info, Entry, Refused}
+use Rattle.heap_calls.specs.Asked.{told_as}
+use Rattle.heap_calls.specs.declared.refusal.Refusal.{Refusal}
+use Rattle.heap_calls.specs.declared.refusal.Refusal.TheVariants as Refusal
+use Rattle.heap_calls.specs.declared.refusal.Refusal.TheVariants.{HostMemory}
+use Rattle.res_calls.specs.Fetch.{Managers, Answer}
+use Rattle.res_calls.specs.Given.{IsAnswered}
+use Rattle.res_calls.specs.Files.{File, Resources}
+use Rattle.res_calls.specs.Asked.{ResourceAsked}
+use Rattle.res_calls.specs.Asked as finds
+use Rattle.res_calls.specs.Writing.{writes}
+use Rattle.res_calls.proofs.Walks.Laws as laws
+use Rattle.segments.proofs.Laws as jumping
+use Rattle.script_text.specs.Call.{is_allowed}
+use Rattle.script_text.specs.Script.{are_allowed}
+use Rattle.script_text.specs.declared.script.Line.{Line}
+use Rattle.script_text.specs.Transcript.{Shown, Number as Count, values_of, type_shown, name_shown, bytes_shown}
+use Rattle.applications.specs.Names.{Bindings}
+use Rattle.applications.specs.Trying.{Running, Blocks, once, resource_asked, managers_of, program_of, code_told, is_full}
+use Rattle.applications.specs.Step.{deed_of, kept_anew, number_given}
+use Rattle.applications.specs.Laws.{writes_files}
+use Rattle.applications.specs.Application.{bytes_told}
+use Rattle.applications.specs.Replies.{Extends, Says, goes_on}
+use Rattle.applications.specs.declared.quitting.Exit.{Exit}
+use Rattle.applications.specs.declared.stepping.Next.TheVariants as next
+use Rattle.applications.proofs.TryLaws.{of-try}
+
+-- What a try leaves of the files, and what the calls that write them tell.
+
+-- a try that writes no file leaves the files
+pub try_keeps : (blocks : Blocks) (c : Call) (r : Running) → writes_files (deed_of c r.names) ≡ false
+    → (once blocks c r).after.resources.files ≡ r.resources.files
+try_keeps blocks c r = of-try (λ d told reads after. writes_files d ≡ false → after.resources.files ≡ r.resources.files)
+    blocks c r (λ a is. refl) (λ a. laws.served-files a (managers_of r))
+    (λ c is. jumping.served-files c (program_of r)) (λ k grow is. refl)
+
+-- the files are kept, whether a try was done or wanted host memory
+pub either_keeps : {T E : Type 0} (result : Result T E) (new after : Running) (files : List File)
+    → OnOk result (new ≡ after) → OnErr result (new.resources.files ≡ files) → after.resources.files ≡ files
+    → new.resources.files ≡ files
+either_keeps (Ok x) new after files went wants keeps = ap (λ (r : Running). r.resources.files) went ∙ keeps
+either_keeps (Err e) new after files went wants keeps = wants
+
+-- so they are by a call of the Resource Manager that wants none
+pub answered_keeps : {T V : Type 0} (seen : V → T) (a : Answer T) (answer : Result V Refusal) (after : Managers)
+    (files : List File) → IsAnswered seen a answer after → answer ≢ Err HostMemory → a.after.resources.files ≡ files
+    → after.resources.files ≡ files
+answered_keeps seen a (Ok value) after files is never keeps = ap (λ (s : Managers). s.resources.files) (sym is.1) ∙ keeps
+answered_keeps seen a (Err (Refusal.Code code)) after files is never keeps =
+    ap (λ (s : Managers). s.resources.files) (sym is.1) ∙ keeps
+answered_keeps seen a (Err HostMemory) after files is never keeps = absurd (never refl)
+
+pub on_any_err : {T E : Type 0} (result : Result T E) (P : Type 0) → P → OnErr result P
+on_any_err (Ok x) P so = tt
+on_any_err (Err e) P so = so
+
+-- what is for want of room is a refusal
+full-refused : (told : Told) → is_full (code_told told) ≡ true → (code : OsErr) × (told ≡ Refused code)
+full-refused (Refused code) full = (code, refl)
+full-refused Done full = let no : false ≡ true = full in cc
+full-refused (Given n) full = let no : false ≡ true = full in cc
+full-refused (Fetched handle read) full = let no : false ≡ true = full in cc
+full-refused (Number n) full = let no : false ≡ true = full in cc
+full-refused (Numbers one other) full = let no : false ≡ true = full in cc
+full-refused (Code code) full = let no : false ≡ true = full in cc
+full-refused (Bytes bytes) full = let no : false ≡ true = full in cc
+full-refused (Kind kind) full = let no : false ≡ true = full in cc
+full-refused (Info id kind name) full = let no : false ≡ true = full in cc
+full-refused (Entry segment flag) full = let no : false ≡ true = full in cc
+
+-- a try that finds no room leaves the files
+pub full_keeps : (blocks : Blocks) (c : Call) (r : Running) → (once blocks c r).wants ≡ true
+    → (once blocks c r).after.resources.files ≡ r.resources.files
+full_keeps blocks (call.Heap c) r full = refl
+full_keeps blocks (call.Resource c) r full =
+    let s = finds.served (resource_asked c r.names) (managers_of r) in
+    let refused = full-refused s.told full in
+    ap (λ (x : Resources). x.files) (laws.served-refused (resource_asked c r.names) (managers_of r) refused.0 refused.1).1
+full_keeps blocks (call.Segment c) r full = jumping.served-files c (program_of r)
+full_keeps blocks (call.Control (control.SetGrowZone name)) r full = refl
+full_keeps blocks (call.Control control.WaitNextEvent) r full = refl
+full_keeps blocks (call.Control control.ExitToShell) r full = refl
+
+-- a try with which the application ends leaves the files
+pub over_keeps : (blocks : Blocks) (c : Call) (r : Running) → (once blocks c r).over ≡ true
+    → (once blocks c r).after.resources.files ≡ r.resources.files
+over_keeps blocks (call.Heap c) r over = refl
+over_keeps blocks (call.Resource c) r over = let no : false ≡ true = over in cc
+over_keeps blocks (call.Segment c) r over = jumping.served-files c (program_of r)
+over_keeps blocks (call.Control (control.SetGrowZone name)) r over = refl
+over_keeps blocks (call.Control control.WaitNextEvent) r over = refl
+over_keeps blocks (call.Control control.ExitToShell) r over = refl
+
+-- a code that is set again leaves the files
+pub anew-keeps : (c : Call) (code : OsErr) (r : Running) → (kept_anew c code r).resources.files ≡ r.resources.files
+anew-keeps (call.Heap c) code r = refl
+anew-keeps (call.Resource c) code r = refl
+anew-keeps (call.Segment c) code r = refl
+anew-keeps (call.Control c) code r = refl
+
+-- the files are kept where nothing was written, and where something was the call ended
+pub unless_written : {T E : Type 0} {e : E} (written : Bool) (result : Result T E) (P : Type 0)
+    → (written ≡ false → P) → (written ≡ true → IsOk result) → result ≡ Err e → P
+unless_written false result P quiet ended is = quiet refl
+unless_written true (Ok x) P quiet ended is = absurd cc
+unless_written true (Err e) P quiet ended is = absurd (let no : false ≡ true = ended refl in cc)
+
+-- where the application ends, it does not go on
+pub some_ends : (exit : Option Exit) → is_some exit ≡ true → goes_on (next.Ended exit) ≡ false
+some_ends None ends = let no : false ≡ true = ends in cc
+some_ends (Some e) ends = refl
+
+-- a call of a grow-zone script writes no file
+pub allowed_keeps : (c : Call) (names : Bindings) → is_allowed c ≡ true → writes_files (deed_of c names) ≡ false
+allowed_keeps (call.Heap c) names is = refl
+allowed_keeps (call.Resource (resource.OpenResFile name)) names is = refl
+allowed_keeps (call.Resource (resource.CreateResFile name)) names is = cc
+allowed_keeps (call.Resource (resource.CloseResFile number)) names is = cc
+allowed_keeps (call.Resource (resource.UpdateResFile number)) names is = cc
+allowed_keeps (call.Resource (resource.UseResFile number)) names is = refl
+allowed_keeps (call.Resource resource.CurResFile) names is = refl
+allowed_keeps (call.Resource (resource.HomeResFile name)) names is = refl
+allowed_keeps (call.Resource (resource.GetResource name ty id)) names is = refl
+allowed_keeps (call.Resource (resource.Get1Resource name ty id)) names is = refl
+allowed_keeps (call.Resource (resource.GetNamedResource name ty text)) names is = refl
+allowed_keeps (call.Resource (resource.Get1NamedResource name ty text)) names is = refl
+allowed_keeps (call.Resource resource.Count1Types) names is = refl
+allowed_keeps (call.Resource (resource.Get1IndType index)) names is = refl
+allowed_keeps (call.Resource (resource.Count1Resources ty)) names is = refl
+allowed_keeps (call.Resource (resource.Get1IndResource name ty index)) names is = refl
+allowed_keeps (call.Resource (resource.LoadResource name)) names is = refl
+allowed_keeps (call.Resource (resource.ReleaseResource name)) names is = refl
+allowed_keeps (call.Resource (resource.DetachResource name)) names is = refl
+allowed_keeps (call.Resource (resource.AddResource name ty id text)) names is = refl
+allowed_keeps (call.Resource (resource.RemoveResource name)) names is = refl
+allowed_keeps (call.Resource (resource.ChangedResource name)) names is = refl
+allowed_keeps (call.Resource (resource.WriteResource name)) names is = refl
+allowed_keeps (call.Resource (resource.GetResInfo name)) names is = refl
+allowed_keeps (call.Resource (resource.SetResInfo name id text)) names is = refl
+allowed_keeps (call.Resource (resource.GetResAttrs name)) names is = refl
+allowed_keeps (call.Resource (resource.SetResAttrs name attrs)) names is = refl
+allowed_keeps (call.Resource (resource.GetResourceSizeOnDisk name)) names is = refl
+allowed_keeps (call.Resource (resource.SetResLoad on)) names is = refl
+allowed_keeps (call.Resource resource.ResError) names is = refl
+allowed_keeps (call.Segment c) names is = refl
+allowed_keeps (call.Control c) names is = refl
+
+-- a line of those that a grow-zone script may have
+pub line_allowed : (lines : List Line) (i : ℕ) (l : Line) → i < length lines → l ≡ slice_index_or lines i l
+    → are_allowed lines ≡ true → is_allowed l.call ≡ true
+line_allowed lines i l less item all = by_test (is_allowed l.call) refl
+  where
+    by_test : (t : Bool) → is_allowed l.call ≡ t → is_allowed l.call ≡ true
+    by_test true is = is
+    by_test false is =
+        absurd (true≢false (sym all ∙ list_all_at (λ (x : Line). is_allowed x.call) lines i l less
+        (ap (λ (x : Line). is_allowed x.call) (sym item) ∙ is)))
+
+-- A text that begins with another begins with it once more was appended.
+pub extended : (first text new more : List ℕ) → Extends first text → new ≡ text ++ more → Extends first new
+extended first text new more begins is =
+    (begins.0 ++ more, is ∙ ap (λ (t : List ℕ). t ++ more) begins.1 ∙ append_assoc first begins.0 more)
+
+pub extends_same : (text new : List ℕ) → new ≡ text → Extends text new
+extends_same text new is = ([], is ∙ sym (append-nil text))
+
+pub extends_on : (first text new : List ℕ) → Extends first text → Extends text new → Extends first new
+extends_on first text new begins goes = extended first text new goes.0 begins goes.1
+
+-- and is the other where it is cut to that length
+pub cut_back : (first text new : List ℕ) → Extends first text → new ≡ take (length first) text → new ≡ first
+cut_back first text new begins is =
+    is ∙ ap (take (length first)) begins.1 ∙ take-append_seam first begins.0
+
+-- A call that writes a file tells no value and gives no number.
+
+-- nothing but a code is told
+abbrev TellsCode : Told → Type 0
+TellsCode told = (told ≡ Done) ⊎ ((code : OsErr) × (told ≡ Refused code))
+
+told-done : (reply : Result (Unit {0}) OsErr) → TellsCode (told_as (λ u. Done) reply)
+told-done (Ok u) = inl refl
+told-done (Err code) = inr (code, refl)
+
+found-tells : (a : ResourceAsked) (s : Managers) → writes a ≡ true → TellsCode (finds.served a s).told
+found-tells (finds.OpenResFile name) s is = cc
+found-tells (finds.CreateResFile name) s is = told-done _
+found-tells (finds.CloseResFile number) s is = told-done _
+found-tells (finds.UpdateResFile number) s is = told-done _
+found-tells (finds.UseResFile number) s is = cc
+found-tells finds.CurResFile s is = cc
+found-tells (finds.HomeResFile handle) s is = cc
+found-tells (finds.GetResource kind id) s is = cc
+found-tells (finds.Get1Resource kind id) s is = cc
+found-tells (finds.GetNamedResource kind name) s is = cc
+found-tells (finds.Get1NamedResource kind name) s is = cc
+found-tells finds.Count1Types s is = cc
+found-tells (finds.Get1IndType index) s is = cc
+found-tells (finds.Count1Resources kind) s is = cc
+found-tells (finds.Get1IndResource kind index) s is = cc
+found-tells (finds.LoadResource handle) s is = cc
+found-tells (finds.ReleaseResource handle) s is = cc
+found-tells (finds.DetachResource handle) s is = cc
+found-tells (finds.AddResource handle kind id name) s is = cc
+found-tells (finds.RemoveResource handle) s is = cc
+found-tells (finds.ChangedResource handle) s is = cc
+found-tells (finds.WriteResource handle) s is = cc
+found-tells (finds.GetResInfo handle) s is = cc
+found-tells (finds.SetResInfo handle id name) s is = cc
+found-tells (finds.GetResAttrs handle) s is = cc
+found-tells (finds.SetResAttrs handle attrs) s is = cc
+found-tells (finds.GetResourceSizeOnDisk handle) s is = cc
+found-tells (finds.SetResLoad on) s is = cc
+found-tells finds.ResError s is = cc
+
+tells : (blocks : Blocks) (c : Call) (r : Running) → writes_files (deed_of c r.names) ≡ true
+    → TellsCode (once blocks c r).told
+tells blocks (call.Heap c) r is = cc
+tells blocks (call.Resource c) r is = found-tells (resource_asked c r.names) (managers_of r) is
+tells blocks (call.Segment c) r is = cc
+tells blocks (call.Control c) r is = cc
+
+no-type : (ty : Option OsType) → option_map (λ (t : OsType). t.0) ty ≡ None → type_shown ty ≡ []
+no-type None is = refl
+no-type (Some ty) is = cc
+
+no-name : (name : Option (Box Name Global)) → option_map (λ (n : Box Name Global). n.value.0.items) name ≡ None
+    → name_shown name ≡ []
+no-name None is = refl
+no-name (Some name) is = cc
+
+code-shown : (reply : Reply) (told : Told) (bytes : Option (List ℕ)) → Says reply told → TellsCode told
+    → bytes ≡ bytes_told told → values_of reply bytes ≡ []
+code-shown reply Done bytes says code is =
+    ap (λ (numbers : List ℤ). map Count numbers ++ type_shown reply.ty ++ name_shown reply.name ++ bytes_shown bytes)
+    says.numbers
+    ∙ ap (λ (ty : List Shown). ty ++ name_shown reply.name ++ bytes_shown bytes) (no-type reply.ty says.ty)
+    ∙ ap (λ (name : List Shown). name ++ bytes_shown bytes) (no-name reply.name says.name)
+    ∙ ap bytes_shown is
+code-shown reply (Refused code) bytes says told is =
+    ap (λ (numbers : List ℤ). map Count numbers ++ type_shown reply.ty ++ name_shown reply.name ++ bytes_shown bytes)
+    says.numbers
+    ∙ ap (λ (ty : List Shown). ty ++ name_shown reply.name ++ bytes_shown bytes) (no-type reply.ty says.ty)
+    ∙ ap (λ (name : List Shown). name ++ bytes_shown bytes) (no-name reply.name says.name)
+    ∙ ap bytes_shown is
+code-shown reply told bytes says (inl code) is = cc
+code-shown reply told bytes says (inr code) is = cc
+
+-- the line of such a call has no values
+pub writes_no_values : (blocks : Blocks) (c : Call) (r : Running) (reply : Reply) (bytes : Option (List ℕ))
+    → writes_files (deed_of c r.names) ≡ true → Says reply (once blocks c r).told
+    → bytes ≡ bytes_told (once blocks c r).told → values_of reply bytes ≡ []
+writes_no_values blocks c r reply bytes is says shown =
+    code-shown reply (once blocks c r).told bytes says (tells blocks c r is) shown
+
+-- and the call gives no number
+pub writes_no_number : (blocks : Blocks) (c : Call) (r : Running) → writes_files (deed_of c r.names) ≡ true
+    → number_given (once blocks c r).told ≡ None
+writes_no_number blocks c r is = by_code (tells blocks c r is)
+  where
+    by_code : TellsCode (once blocks c r).told → number_given (once blocks c r).told ≡ None
+    by_code (inl done) = ap number_given done
+    by_code (inr refused) = ap number_given refused.1

@@ -1,0 +1,17 @@
+use Rattle.std.proofs.Common.{◌≡◌, drop, map}
+use Rattle.std.specs.Prelude.{string_capacity}
+use Rattle.desk.specs.View.{told_seen}
+use Rattle.commands.specs.Outputs.{all_forks_left, HasRoom}
+use Rattle.commands.specs.Running.{write_of}
+use Rattle.commands.proofs.Writes.{Made}
+use Rattle.commands.proofs.outputs.write_forks.Given as goal
+
+-- nothing is printed, the files of the applications so far are written, and there is room for the paths of the others
+abbrev pub invariant-loop-app : goal.invariant-loop-app
+invariant-loop-app g l = record {
+  silent : g.H.Host.printed l.host ≡ g.H.Host.printed l.fn.host;
+  made : Made (map write_of (all_forks_left l.folder (map told_seen l.apps)))
+      (map write_of (all_forks_left l.folder (map told_seen (drop l.app-index l.apps))))
+      (g.H.Host.accesses l.fn.host) (g.H.Host.accesses l.host);
+  room : HasRoom l.folder (string_capacity l.path);
+}

@@ -1,0 +1,19 @@
+use Rattle.std.proofs.Common.{◌∙◌}
+use Rattle.commands.proofs.Writes.{further, stopped, on_err, of_file}
+use Rattle.commands.proofs.outputs.write_forks_within.Goals as goal
+
+pub loop-k-preserved : goal.loop-k-preserved
+loop-k-preserved g c =
+    let come = of_file c.args.folder.now c.args.name.now.0.items c.args.files.now c.loop-k.k c.index-files-k.result
+    c.loop-k-test.true c.index-files-k.is in
+    record {
+      silent = c.in_ok-write_fork.ensures.silent ∙ c.loop-k.invariant.silent;
+      made = further _ _ _ _ _ _ _ come c.loop-k.invariant.made c.in_ok-write_fork.ensures.written;
+      room = c.in_ok-write_fork.ensures.room;
+    }
+
+pub returns-in_err-write_fork-clause-stopped : goal.returns-in_err-write_fork-clause-stopped
+returns-in_err-write_fork-clause-stopped g c =
+    let come = of_file c.args.folder.now c.args.name.now.0.items c.args.files.now c.loop-k.k c.index-files-k.result
+    c.loop-k-test.true c.index-files-k.is in
+    on_err _ (stopped _ _ _ _ _ _ _ _ come c.loop-k.invariant.made c.in_err-write_fork.ensures.stopped)

@@ -1,0 +1,21 @@
+use Rattle.std.proofs.Common.{◌≡◌, ℕ, Bool, true, false, refl, List, [], ◌∷◌, cond, Some}
+use Rattle.std.proofs.lemmas.Bool.{and_parts}
+use Rattle.std.specs.Prelude.{bytes_eq, unwrap_or}
+use Rattle.std.specs.Map.{lookup}
+use Rattle.script_text.specs.Script.{AllAllowed, are_allowed, block_of}
+use Rattle.script_text.specs.declared.script.Line.{Line}
+
+-- The lines of a grow-zone script are allowed in one.
+
+-- those of a script by its name, where each script has only such lines
+pub block_allowed : (name : List ℕ) (blocks : List (List ℕ × List Line)) → AllAllowed blocks
+    → are_allowed (block_of name blocks) ≡ true
+block_allowed name [] all = refl
+block_allowed name (b ∷ blocks) all =
+    let both : (are_allowed b.1 ≡ true) × AllAllowed blocks = and_parts (are_allowed b.1) _ all in
+    cases both.0 (block_allowed name blocks both.1) (bytes_eq name b.0)
+  where
+    cases : are_allowed b.1 ≡ true → are_allowed (block_of name blocks) ≡ true → (t : Bool)
+        → are_allowed (unwrap_or (cond t (Some b.1) (lookup (bytes_eq name) blocks)) []) ≡ true
+    cases here below true = here
+    cases here below false = below
