@@ -1,24 +1,31 @@
 #!/usr/bin/env python3
-"""Times built programs on made inputs: docs/figures.py PROGRAM [EARLIER ..]
+"""Times built programs on made inputs: docs/figures.py PROGRAM [EARLIER ..], or docs/figures.py --malice PROGRAM [WORD ..]
 
 PROGRAM is crates/macmem/out/macmem, each EARLIER one another build of it, to be timed beside it in the same run. Prints
 tables: the best of some runs, with the most memory that was taken; and, of forks, as a multiple of `cat FILE >/dev/null`.
-Inputs are made in a new folder, or in the one that FIGURES names.
+With --malice it prints the table of time under malice instead: inputs as unlucky as could be made, each in two sizes; with
+WORDs, only the rows whose text has one of them. Inputs are made in a new folder, or in the one that FIGURES names.
 """
+import functools
+import glob
 import os
 import random
+import shutil
 import struct
 import subprocess
 import sys
 import tempfile
 import time
 
-PROGRAMS = [os.path.abspath(p) for p in sys.argv[1:]]
+MALICE = sys.argv[1:2] == ["--malice"]
+PROGRAMS = [os.path.abspath(p) for p in (sys.argv[2:3] if MALICE else sys.argv[1:])]
 PROGRAM = PROGRAMS[0]
 FOLDER = os.environ.get("FIGURES") or tempfile.mkdtemp()
 NULL = open(os.devnull, "wb")
 # A run that takes longer isn't waited for.
 PATIENCE = 400
+# The statuses with which runs have ended.
+STATUSES = set()
 
 
 def measure(command):
@@ -27,7 +34,9 @@ def measure(command):
     # (a wait with a limit of its own looks only each 50 ms whether the program has ended)
     limited = ["/usr/bin/time", "-f", "%M", "-o", room, "timeout", str(PATIENCE)] + command
     begin = time.perf_counter()
-    if subprocess.run(limited, stdout=NULL, stderr=NULL, check=False).returncode == 124:
+    status = subprocess.run(limited, stdout=NULL, stderr=NULL, check=False).returncode
+    STATUSES.add(status)
+    if status == 124:
         return None
     took = time.perf_counter() - begin
     with open(room) as file:
@@ -307,6 +316,397 @@ def run_job(program, job):
 def told(found):
     return "over %d s" % PATIENCE if found is None else "%.3f s, %.0f MB" % (found[0], found[1] / 1000)
 
+# Time under malice: inputs as unlucky as could be made, each of a size and of twice that size. An input is put into files
+# whose names begin with `unlucky`, and is what the function of its row returns for a count: the words of a command.
+ALLOWED = 2.2
+LIMIT = 268435456
+OUT = os.path.join(FOLDER, "out")
+
+
+def script_of(text, zone=16777216):
+    return ["script", str(zone), put("unlucky.script", text)]
+
+
+def filled(line):
+    """a script of so many bytes, all of one line again and again"""
+    return lambda count: script_of((line * (count // len(line) + 1))[:count])
+
+
+def repeated(line, first=b"", zone=16777216):
+    """a script of one line so many times, after others"""
+    return lambda count: script_of(first + line * count, zone)
+
+
+def small_handles(count):
+    return script_of(b"".join(b"NewHandle h%d %d\n" % (i, i % 32) for i in range(count)), 134217728)
+
+
+def ready_handles(count):
+    handles = b"".join(b"NewHandle h%d 0\n" % i for i in range(count))
+    return script_of(b"MoreMasters\n" * (count // 64 + 1) + handles, 134217728)
+
+
+def lost_handles(count):
+    return script_of(b"".join(b"NewHandle h %d\n" % (i % 32) for i in range(count)), 134217728)
+
+
+# Names of 10 letters to which the map of names gives one group and one tag. Its hash is fixed: the length and then each
+# byte are multiplied into a state of 64 bits. The low bits of the 32 that are left choose the group, the 8 highest are the
+# tag, and tags 0 and 1 are one.
+COLLIDING = r"""
+#include <stdint.h>
+#include <stdio.h>
+#include <stdlib.h>
+static const uint64_t by = 0x9e3779b97f4a7c15ull;
+static const char letters[] = "abcdefghijklmnopqrstuvwxyzABCDEFGHIJKLMNOPQRSTUVWXYZ_0123456789";
+static uint64_t folded(uint64_t a, uint64_t b) {
+    unsigned __int128 product = (unsigned __int128)a * b;
+    return (uint64_t)product ^ (uint64_t)(product >> 64);
+}
+int main(int count, char **words) {
+    long wanted = atol(words[1]);
+    uint32_t mask = (1u << atoi(words[2])) - 1 | 0xFE000000u;
+    char name[11] = "";
+    for (uint64_t number = 0; wanted; number++) {
+        uint64_t state = folded(0x243f6a8885a308d3ull ^ 10, by ^ 16), rest = number;
+        for (int i = 0; i < 9; i++) {
+            name[i] = letters[rest % (i ? 63 : 53)];
+            rest /= i ? 63 : 53;
+            state = folded(state ^ name[i] * 0x10101ull, by ^ 2);
+        }
+        for (int i = 0; i < 63 && wanted; i++) {
+            uint64_t hash = folded(state ^ letters[i] * 0x10101ull, by ^ 2);
+            if (((uint32_t)(hash ^ hash >> 32) & mask) == 0) {
+                name[9] = letters[i];
+                puts(name);
+                wanted--;
+            }
+        }
+    }
+}
+"""
+MOST_COLLIDING = 32768
+
+
+@functools.lru_cache(maxsize=None)
+def all_colliding():
+    program, source = os.path.join(FOLDER, "colliding"), put("colliding.c", COLLIDING.encode())
+    subprocess.run(["cc", "-O3", "-o", program, source], check=True)
+    # (the table has a group for each 9 names, and a power of two of them)
+    bits = max(0, (MOST_COLLIDING - 1) // 9).bit_length()
+    command = [program, str(MOST_COLLIDING), str(bits)]
+    return subprocess.run(command, stdout=subprocess.PIPE, check=True).stdout.split()
+
+
+def colliding(count):
+    return all_colliding()[:count]
+
+
+def ordinary(count):
+    return [b"n%09d" % i for i in range(count)]
+
+
+def ending_apart(count):
+    """names of 63 bytes, the same but for their end"""
+    return [b"n%062d" % i for i in range(count)]
+
+
+def ending_apart_downward(count):
+    return ending_apart(count)[::-1]
+
+
+def bound(names):
+    """empty handles of these names"""
+    return lambda count: script_of(b"".join(b"NewEmptyHandle %s\n" % n for n in names(count)))
+
+
+def grown(names):
+    """grow-zone scripts of these names"""
+    return lambda count: script_of(b"".join(b"grow %s\nend\n" % n for n in names(count)))
+
+
+def looked_up(names, most):
+    """so many lines that look up the name that was bound last"""
+    lines = lambda: b"".join(b"NewEmptyHandle %s\n" % n for n in names(most))
+    return lambda count: script_of(lines() + b"HGetState %s\n" % names(most)[-1] * count)
+
+
+def set_again(count):
+    """grow-zone scripts, and as many lines that set the last one"""
+    blocks = b"".join(b"grow g%d\nend\n" % i for i in range(count))
+    return script_of(blocks + b"SetGrowZone g%d\n" % (count - 1) * count)
+
+
+def shown(count):
+    return script_of(b"NewHandle a %d\nShow a\n" % count, 134217728)
+
+
+def walked(call):
+    """75,000 blocks, of which every third is disposed of, locked, and made purgeable; and then a call"""
+    text = b"MoreMasters\n" * 1172 + b"".join(b"NewHandle h%d %d\n" % (i, 40 + i % 60) for i in range(75000))
+    text += b"".join(b"DisposeHandle h%d\nHLock h%d\nHPurge h%d\n" % (i, i + 1, i + 2) for i in range(0, 75000, 3))
+    return repeated(call + b"\n", text)
+
+
+def swung(count):
+    """a block that fills most of the zone goes up and down"""
+    return script_of(b"NewHandle low 0\nNewHandle a 120000000\n" + b"MoveHHi a\nCompactMem 2147483647\n" * count, 134217728)
+
+
+def in_vain(count):
+    """so many calls that find no room, for each of which the lines of a grow-zone script are run: as many"""
+    return script_of(b"grow g\n" + b"HPurge h\n" * count + b"end\nSetGrowZone g\n" + b"NewPtr p 2147483647\n" * count)
+
+
+def long_line(start, filler, end=b""):
+    """a line of 65,535 bytes"""
+    return start + filler * (65535 - len(start) - len(end)) + end + b"\n"
+
+
+def reallocated(count):
+    """empty handles, each of which gets a block"""
+    lines = (b"NewEmptyHandle h%d\nReallocateHandle h%d 0\n" % (i, i) for i in range(count))
+    return script_of(b"MoreMasters\n" * (count // 64 + 1) + b"".join(lines))
+
+
+def added(count):
+    """resources that are added, each of a type of its own, on a file that was made"""
+    lines = (b"NewHandle h 0\nAddResource h $%08x 1 \"\"\n" % i for i in range(count))
+    first = b"CreateResFile \"f\"\nOpenResFile \"f\"\n" + b"MoreMasters\n" * (count // 64 + 1)
+    return script_of(first + b"".join(lines))
+
+
+# Forks.
+def shared(count, damaged=False):
+    """references that share one datum; all 65,536 have 134,217,728 bytes with their lengths. The last may be damaged"""
+    references = [reference(i, 0xFFFF, 0) for i in range(count)]
+    if damaged:
+        references[-1] = reference(count - 1, 0xFFFF, 0xFFFFFF)
+    return fork(struct.pack(">I", 2044) + bytes(2044), one_type(references))
+
+
+def typed(count):
+    """types that share one reference, which stands in the type list itself"""
+    kinds = [0x5445FFFF] + list(range(1, count))
+    random.Random(7).shuffle(kinds)
+    at = kinds.index(0x5445FFFF)
+    kinds[0], kinds[at] = kinds[at], kinds[0]
+    return fork(bytes(16), struct.pack(">H", count - 1) + b"".join(type_entry(k, 1, 2) for k in kinds))
+
+
+def one_datum(count, damaged=False):
+    """one resource whose datum has so many bytes with its length, and perhaps a second one whose name lies nowhere"""
+    references = [reference(128, 0xFFFF, 0)] + [reference(129, 0xFFFE, 0)] * damaged
+    lists = one_type(references)
+    return fork(struct.pack(">I", count - 4) + bytes(count - 4), lists, names_at=28 + len(lists))
+
+
+def preloaded(count):
+    """references with resPreload that share one datum of 4 bytes"""
+    references = [struct.pack(">HHB", i, 0xFFFF, 4) + bytes(7) for i in range(count)]
+    return fork(struct.pack(">I", 4) + bytes(4), one_type(references))
+
+
+def roomy():
+    """an application's fork whose 'SIZE' asks for all of the memory"""
+    data = struct.pack(">IHII", 10, 0, 134217728, 134217728)
+    lists = struct.pack(">H", 0) + type_entry(0x53495A45, 1, 10) + reference(-1, 0xFFFF, 0)
+    return fork(data, lists, names_at=28 + len(lists))
+
+
+def read_by(word, make, damaged=False):
+    return lambda count: [word, put("unlucky.rsrc", make(count, damaged) if damaged else make(count))]
+
+
+# Jobs.
+def job_of(events, script=b"", own=fork(b"", b"\xff\xff", names_at=30), files=(), names=("a",), memory=134217728):
+    """a job whose applications have the same fork, script and files"""
+    own, script = put("unlucky-own.rsrc", own), put("unlucky.script", script)
+    lines = ["memory %d" % memory]
+    for name in names:
+        lines.append('app %s "%s" "%s"' % (name, own, script))
+        lines += ['file %s "%s" "%s"' % (name, file, path) for file, path in files]
+    return ["run", put("unlucky.job", "\n".join(lines).encode() + b"\n" + events), OUT]
+
+
+def alone(script, big, own=roomy()):
+    """a job of one application with a file, which runs to its end"""
+    return job_of(b"launch a\nrest\n", script, own, [("big", put("unlucky.rsrc", big))])
+
+
+def opened(make, kind, number):
+    """an application opens a fork, and looks for what stands last in it and for what isn't there"""
+    lines = 'OpenResFile "big"\nCount1Resources %s\nGetResource r %s %d\n' % (kind, kind, number)
+    lines += 'GetNamedResource m %s "none"\nGet1Resource m \'NONE\' 1\n' % kind
+    return lambda count: alone(lines.encode(), make(count))
+
+
+def loading(first):
+    """lines, a few more than there are master pointer blocks, and a fork is opened whose resources are preloaded"""
+    return lambda count: alone(first * (count // 64 + 9) + b"OpenResFile \"big\"\n", preloaded(count))
+
+
+def reopened(count):
+    """a fork with 134,217,728 bytes of data is opened and closed"""
+    lines = b"".join(b"OpenResFile \"big\"\nCloseResFile %d\n" % (3 + i) for i in range(count))
+    return alone(lines, shared(65536))
+
+
+def sought(count):
+    """a resource is looked for that isn't there, among 65,536"""
+    return alone(b"OpenResFile \"big\"\n" + b"Get1Resource m 'NONE' 1\n" * count, shared(65536))
+
+
+def stepped(count):
+    return job_of(b"launch a\n" + b"step a\n" * ((count - 9) // 7), b"FreeMem\n" * 1000)
+
+
+def rested(count):
+    """`rest` where 64 applications have ended"""
+    names = ["a%d" % i for i in range(64)]
+    return job_of(b"".join(b"launch %s\n" % n.encode() for n in names) + b"rest\n" * count, names=names)
+
+
+def launched(count):
+    """launches that are refused, since the last of 65,536 references is damaged"""
+    return job_of(b"launch a\n" * count, b"", shared(65536, True))
+
+
+def crowded(count):
+    """launches that are refused for want of room, of an application whose fork has 134,217,728 bytes of data"""
+    return job_of(b"launch a\n" * count, b"", shared(65536), memory=512)
+
+
+def crowd(events, script, count):
+    """so many applications with 255 files each"""
+    small = put("unlucky-file.rsrc", one_datum(104))
+    files = [("f%d" % i, small) for i in range(255)]
+    return job_of(events, script, files=files, names=["a%d" % i for i in range(count)])
+
+
+def peopled(count):
+    """so many applications with 255 files each, of which each opens 50"""
+    script = "".join('OpenResFile "f%d"\nGet1Resource r \'TEXT\' 128\n' % (5 * i) for i in range(50)).encode()
+    return crowd(b"".join(b"launch a%d\n" % i for i in range(count)) + b"rest\n", script, count)
+
+
+def last_named(count):
+    """so many applications with 255 files each, and 500 events for each, which name the last one"""
+    return crowd(b"step a%d\n" % (count - 1) * (500 * count), b"", count)
+
+
+HEX = long_line(b"Put h 0 $", b"5")
+BYTES = long_line(b"Put h 0 \"", b"x", b"\"")
+ONE = b"NewHandle h 65535\n"
+UNLUCKY = [
+    ("bytes of comment lines of 64 bytes", LIMIT // 2, filled(b"#" + b"x" * 62 + b"\n")),
+    ("bytes of comments `#`", LIMIT // 2, filled(b"#\n")),
+    ("bytes of blank lines", LIMIT // 2, filled(b"\n")),
+    ("handles of 0 to 31 bytes, one by one", 250000, small_handles),
+    ("handles of 0 to 31 bytes, all under one name", 250000, lost_handles),
+    ("handles of no bytes in 128 MB, MoreMasters first", 250000, ready_handles),
+    ("references that share one datum: `map`", 32768, read_by("map", shared)),
+    ("references that share one datum: `check`", 32768, read_by("check", shared)),
+    ("references that share one datum: opened in a job", 32768, opened(shared, "'TEXT'", 0)),
+    ("types: `map`", 32767, read_by("map", typed)),
+    ("types: `check`", 32767, read_by("check", typed)),
+    ("types: opened in a job", 32767, opened(typed, "$5445ffff", 0x5445)),
+    ("resources that are preloaded", 32768, loading(b"")),
+    ("resources that are preloaded, MoreMasters first", 32768, loading(b"MoreMasters\n")),
+    ("openings and closings of a fork of 65,536 references", 5, reopened),
+    ("searches for what isn't there among 65,536 references", 5000, sought),
+    ("names that collide", 16384, bound(colliding)),
+    ("ordinary names", 16384, bound(ordinary)),
+    ("look-ups of the last of 32,768 names that collide", 10000, looked_up(colliding, MOST_COLLIDING)),
+    ("look-ups of the last of 32,768 ordinary names", 10000, looked_up(ordinary, MOST_COLLIDING)),
+    ("names of grow-zone scripts that collide", 16384, grown(colliding)),
+    ("ordinary names of grow-zone scripts", 16384, grown(ordinary)),
+    ("names of 63 bytes that end apart, upward", 250000, bound(ending_apart)),
+    ("names of 63 bytes that end apart, downward", 250000, bound(ending_apart_downward)),
+    ("grow-zone scripts, and as many SetGrowZone of the last", 500000, set_again),
+    ("bytes shown by one Show", 60000000, shown),
+    ("applications with 255 files each, of which each opens 50", 32, peopled),
+    ("MaxBlock among 50,000 blocks", 10000, walked(b"MaxBlock")),
+    ("PurgeSpace among 50,000 blocks", 10000, walked(b"PurgeSpace")),
+    ("CompactMem among 50,000 blocks", 500, walked(b"CompactMem 2147483647")),
+    ("ReallocateHandle among 50,000 blocks", 500, walked(b"ReallocateHandle h2 100")),
+    ("empty handles, each of which gets a block by ReallocateHandle", 4000, reallocated),
+    ("times 120,000,000 bytes are moved up and down", 20, swung),
+    ("calls that find no room, and as many lines of a grow-zone script", 1000, in_vain),
+    ("comments of 65,535 bytes", 1500, repeated(long_line(b"#", b"x"))),
+    ("calls with blanks, 65,535 bytes a line", 1500, repeated(long_line(b"FreeMem", b" "))),
+    ("Put of 32,763 bytes in hexadecimal", 1500, repeated(HEX, ONE)),
+    ("Put of 65,525 bytes between quotation marks", 1500, repeated(BYTES, ONE)),
+    ("bytes of a job of `step a`", LIMIT // 2 - 512, stepped),
+    ("applications with 255 files each, and 500 times as many events of the last", 32, last_named),
+    ("times `rest` over 64 applications that have ended", 2500000, rested),
+    ("launches that are refused after 65,536 references", 1000, launched),
+    ("launches that find no room, with 65,536 references", 10, crowded),
+    ("bytes of data of one resource: `map`", 67108864, read_by("map", one_datum)),
+    ("bytes of data of one resource: `check`", 67108864, read_by("check", one_datum)),
+    ("the same and a second resource, damaged: `map`", 67108860, read_by("map", one_datum, True)),
+    ("the same and a second resource, damaged: `check`", 67108860, read_by("check", one_datum, True)),
+    ("references that share one datum, the last damaged: `check`", 32768, read_by("check", shared, True)),
+    ("lines of the shortest call", 2500000, repeated(b"MaxMem\n")),
+    ("AddResource, each of a new type", 20000, added),
+]
+
+
+def attempt(words):
+    """Seconds and kilobytes of a run, whose folder is made anew; None where it took too long"""
+    shutil.rmtree(OUT, ignore_errors=True)
+    return measure([PROGRAM] + words)
+
+
+def tried(make, count):
+    """The bytes of an input, the seconds of `cat`, the least seconds and kilobytes of some runs, and what is odd"""
+    words = make(count)
+    files = glob.glob(os.path.join(FOLDER, "unlucky*"))
+    size, cat = sum(map(os.path.getsize, files)), best(["/bin/cat"] + files, 5)
+    STATUSES.clear()
+    found = [attempt(words)]
+    while found[-1] and len(found) < 20 and sum(took for took, _ in found) < 4:
+        found.append(attempt(words))
+    odd = "".join(", status %d" % s for s in sorted(STATUSES - {0, 124}))
+    for path in files:
+        os.remove(path)
+    return size, cat, None if None in found else min(found), odd
+
+
+def lesser(one, other):
+    """Of two trials of the same input, the faster one"""
+    return one if other[2] is None or one[2] and one[2] < other[2] else other
+
+
+def each(seconds):
+    return "%.3g ms" % (seconds * 1000) if seconds >= 1e-3 else "%.3g us" % (seconds * 1e6)
+
+
+def under_malice():
+    wanted = sys.argv[3:]
+    start = best([PROGRAM, "script", "512", os.devnull], 20)
+    print("load %.1f, %d processors; an empty script takes %.4f s, which the ratios leave out\n" %
+          (os.getloadavg()[0], os.cpu_count(), start))
+    print("| How many, and of what | Bytes | `cat` | Half: time | Time, memory | Ratio | Within %s | Each more |" % ALLOWED)
+    print("|---|---|---|---|---|---|---|---|")
+    for name, half, make in UNLUCKY:
+        if wanted and not any(w in name for w in wanted):
+            continue
+        one, two = tried(make, half), tried(make, 2 * half)
+        net = lambda trial: max(trial[2][0] - start, 0.001)
+        ratio = lambda: net(two) / net(one) if one[2] and two[2] else None
+        rounds = 1
+        while rounds < 3 and ratio() and ratio() > ALLOWED and two[2][0] < 30:
+            one, two = lesser(one, tried(make, half)), lesser(two, tried(make, 2 * half))
+            rounds += 1
+        row = [format(2 * half, ",") + " " + name, format(two[0], ","), "%.3f s" % two[1]]
+        row += ["%.3f s" % one[2][0] if one[2] else told(None), told(two[2]) + two[3]]
+        if ratio():
+            row += ["%.2f" % ratio(), "yes" if ratio() <= ALLOWED else "**no**", each((two[2][0] - one[2][0]) / half)]
+        print("| %s |" % " | ".join(row), flush=True)
+    if "FIGURES" not in os.environ:
+        shutil.rmtree(FOLDER, ignore_errors=True)
+
 
 def main():
     print("load %.1f, %d processors\n" % (os.getloadavg()[0], os.cpu_count()))
@@ -333,4 +733,4 @@ def main():
         print("| %s | %.1f ms | %s |" % (make.__doc__, cat * 1000, " | ".join(times)))
 
 
-main()
+under_malice() if MALICE else main()

@@ -4,8 +4,9 @@
 
    REFUSE_AT=N         the N-th allocation is refused
    REFUSE_FROM=N       the N-th allocation is refused, and each later one
-   REFUSE_COUNTS=FILE  while the program runs FILE has two numbers of 8 bytes: how many allocations were asked for, and how many
-                       of them were refused */
+   REFUSE_COUNTS=FILE  while the program runs FILE has numbers of 8 bytes: how many allocations were asked for, how many of them were
+                       refused, how many writes to the standard error there were, and for each of the first 128 of these how many
+                       allocations had been asked for by then */
 #define _GNU_SOURCE
 #include <errno.h>
 #include <fcntl.h>
@@ -20,9 +21,12 @@ extern void *__libc_malloc(size_t);
 extern void *__libc_calloc(size_t, size_t);
 extern void *__libc_realloc(void *, size_t);
 extern void *__libc_memalign(size_t, size_t);
+extern ssize_t __write(int, const void *, size_t);
+
+enum { STANDARD_ERROR = 2, MOST_WRITES = 128 };
 
 struct counts {
-    uint64_t met, refused;
+    uint64_t met, refused, writes, by[MOST_WRITES];
 };
 
 static struct counts untold;
@@ -105,4 +109,12 @@ int posix_memalign(void **block, size_t alignment, size_t size)
         return ENOMEM;
     *block = made;
     return 0;
+}
+
+ssize_t write(int file, const void *bytes, size_t length)
+{
+    if (file == STANDARD_ERROR && counts->writes < MOST_WRITES)
+        counts->by[counts->writes] = counts->met;
+    counts->writes += file == STANDARD_ERROR;
+    return __write(file, bytes, length);
 }

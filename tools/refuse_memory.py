@@ -1,7 +1,7 @@
 #!/usr/bin/env python3
 """Refuses the host's memory to the program, at one allocation after another, and judges what the program then prints and writes.
 
-usage: tools/refuse_memory.py [--counts] PROGRAM [ARCHIVE..]
+usage: tools/refuse_memory.py [--counts] [--all] PROGRAM [ARCHIVE..]
 
 The inputs are the scripts and the forks of examples/, and the commands of the archives (crates/worked_commands) that are done and
 have neither options nor absolute paths. Each is run whole, and compared with its archive. Then its N-th allocation is refused, for
@@ -10,12 +10,13 @@ whole one, or where its status is 1, it prints nothing, its standard error is th
 it is to leave:
 
 - `script`, `map` and `check` leave nothing.
-- `run` leaves nothing while it reads its input, and then what has happened until the refusal: all that a job of the first so many
-  launches, steps and quits leaves, but for the lines `fork` of desk.log. A later refusal leaves no less. These shorter jobs are run
-  without a refusal, and their logs are to be fronts, by whole lines, of those of the whole run.
+- `run` leaves nothing while it reads its input, and then just what has happened until the refusal: all that a job of the launches,
+  steps and quits before it leaves, but for the lines `fork` of desk.log. These shorter jobs are run without a refusal, and their logs
+  are to be fronts, by whole lines, of those of the whole run. Which events had happened is told by a run without a refusal, by
+  --progress: it says after each event that it has happened, and as it says so the allocations until then are counted.
 
-With --counts a line for each input has the number of its allocations, and how many refusals the program did not notice. An input of
-more than 2000 allocations is left out, and is named.
+With --counts a line for each input has the number of its allocations, and how many refusals the program did not notice. Of an input
+of more than 2000 allocations each seventh is refused, and each of the last 500; with --all each.
 The last line is 'N passed, M failed', of runs; each that failed has a line.
 """
 import collections
@@ -31,11 +32,13 @@ import sys
 import tempfile
 
 SECONDS = 20
-MOST = 2000
+MOST, EACH, LAST = 2000, 7, 500
 RUNS_OF_A_TASK = 40
 NO_MEMORY = b"macmem: no host memory\n"
 MODES = {"REFUSE_AT": "allocation {} refused", "REFUSE_FROM": "allocation {} and all later ones refused"}
-OPTIONS = {"--counts"}
+OPTIONS = {"--counts", "--all"}
+# What the library counts: allocations, refusals, writes to the standard error, and the allocations before each of these.
+COUNTS = struct.Struct("131Q")
 COMMANDS = ["script"], ["run"], ["map"], ["check"]
 EVENTS = (b"launch", b"step", b"turn", b"quit", b"rest")
 INPUTS = (b"system", b"app", b"file")
@@ -45,14 +48,15 @@ WANTED = ("stdout", "asked", "each may fail", *OTHERS)
 
 # A command, with the files that it reads; and what it is to print, and which files it is to write, where an archive says that.
 Input = collections.namedtuple("Input", "name words files wanted")
-# What a run did: its status, a text where there is none; what it printed; the files that it wrote, None where it wrote none; and
-# the numbers of its allocations and of its refusals.
-Run = collections.namedtuple("Run", "status out error files met refused")
+# What a run did: its status, a text where there is none; what it printed; the files that it wrote, None where it wrote none; the
+# numbers of its allocations and of its refusals; and the number of its allocations before each write to the standard error.
+Run = collections.namedtuple("Run", "status out error files met refused before")
 # What is known of an input. Of a job: the first and the last moment, that is number of events, after which these files are left,
-# by their key; and the number of allocations within which it must leave nothing, and that within which it may.
-Known = collections.namedtuple("Known", "whole moments must may")
-# What is wrong with a run, None where nothing is; and the moments at which it may have stopped, None where it did not stop.
-Verdict = collections.namedtuple("Verdict", "wrong moments")
+# by their key; for each event how many allocations were asked for until it had happened; and the number of allocations within which
+# the job must leave nothing, and that within which it may.
+Known = collections.namedtuple("Known", "whole moments until must may")
+# What is wrong with a run, None where nothing is; and whether it left anything, None where it did not stop.
+Verdict = collections.namedtuple("Verdict", "wrong left")
 
 
 # ---- Inputs ----
@@ -176,13 +180,14 @@ class Place:
                 put(f"{folder}/{path}", content)
         return folder
 
-    def run(self, number, refusal, job=None):
-        """Runs the command of an input with a refusal, and with another job in place of its own, where one is given."""
+    def run(self, number, refusal, job=None, options=()):
+        """Runs the command of an input with a refusal; with another job in place of its own, where one is given; and with options."""
         folder, words = self.folder(number), list(self.inputs[number].words)
         put(f"{folder}.counts", b"")
         if job is not None:
             words[1] = f"{folder}.job"
             put(words[1], job)
+        words[1:1] = options
         environment = {"LD_PRELOAD": self.library, "REFUSE_COUNTS": f"{folder}.counts", **refusal}
         try:
             ran = subprocess.run([self.program, *words], cwd=folder, env=environment, stdin=subprocess.DEVNULL,
@@ -190,8 +195,8 @@ class Place:
             ended = ran.returncode, ran.stdout, ran.stderr
         except subprocess.TimeoutExpired:
             ended = f"no end within {SECONDS} seconds", b"", b""
-        counts = struct.unpack("QQ", content_of(f"{folder}.counts") or bytes(16))
-        return Run(*ended, taken(folder, self.inputs[number].files), *counts)
+        met, refused, writes, *before = COUNTS.unpack(content_of(f"{folder}.counts") or bytes(COUNTS.size))
+        return Run(*ended, taken(folder, self.inputs[number].files), met, refused, before[:writes])
 
 
 def settle(*parts):
@@ -277,10 +282,8 @@ def is_front(files, whole):
     return fronts and logs.keys() == {"desk.log", *launched}
 
 
-def moments_of(number, whole):
+def moments_of(number, whole, head, events):
     """The moments of a job by what is left at them; and of each run for that what was wrong with it, None where nothing was."""
-    job = place.inputs[number].files[place.inputs[number].words[1]]
-    head, events = single_events(job, whole.files)
     moments, wrong = {}, []
     for moment in range(len(events) + 1):
         run = place.run(number, {}, head + b"".join(events[:moment]))
@@ -289,9 +292,17 @@ def moments_of(number, whole):
         wrong.append(None if right else f"the first {moment} events leave no front of what all leave: {ending(run)}")
         first, _ = moments.get(key_of(left), (moment, moment))
         moments[key_of(left)] = first, moment
-    if run.files != whole.files:
-        wrong[-1] = f"its {len(events)} events one by one do not leave what it leaves"
     return moments, wrong
+
+
+def counts_of(number, whole, head, events):
+    """For each event of a job how many allocations were asked for until it had happened, counted as its whole run counts them; and
+    what was wrong with the run for that, None where nothing was."""
+    run = place.run(number, {}, head + b"".join(events), ["--progress"])
+    reports = b"".join(b"macmem: %d of %d done\n" % (event, len(events)) for event in range(1, len(events) + 1))
+    right = run[:4] == (0, b"", reports, whole.files) and len(run.before) == len(events)
+    wrong = None if right else f"its {len(events)} events one by one do not leave what it leaves: {ending(run)}"
+    return [met + whole.met - run.met for met in run.before], wrong
 
 
 # ---- Judging ----
@@ -313,15 +324,17 @@ def parts_told(files, moments):
 
 def judge_left(known, run, number):
     """Judges what a run left that was stopped."""
-    if run.files is None and (not known.moments or number <= known.may):
-        return Verdict(None, (-1, -1))
+    happened = sum(until < number for until in known.until)
     if run.files is None:
-        last = max(last for _, last in known.moments.values())
-        return Verdict("nothing is left, though the first event had begun", (-1, last))
+        may = not known.moments or (happened == 0 and number <= known.may)
+        return Verdict(None if may else f"nothing is left, though {happened} events had happened", False)
     if number <= known.must:
-        return Verdict("files are left, though the input was not read yet", None)
+        return Verdict("files are left, though the input was not read yet", True)
     span = known.moments.get(key_of(run.files))
-    return Verdict(None if span else f"what is left is of no one moment: {parts_told(run.files, known.moments)}", span)
+    if not span:
+        return Verdict(f"what is left is of no one moment: {parts_told(run.files, known.moments)}", True)
+    right = span[0] <= happened <= span[1]
+    return Verdict(None if right else f"{happened} events had happened, and what is left is of {span[0]} to {span[1]}", True)
 
 
 def judge(known, run, number):
@@ -337,14 +350,12 @@ def judge(known, run, number):
 
 
 def in_order(verdicts):
-    """The verdicts by number. One is wrong where the run stopped at an earlier moment than another with an earlier refusal."""
-    reached = -1
+    """The verdicts by number. One is wrong where nothing was left, and something with an earlier refusal."""
+    begun = False
     for number, verdict in sorted(verdicts):
-        if verdict.moments and not verdict.wrong:
-            if verdict.moments[1] < reached:
-                verdict = Verdict(f"what is left is of moment {verdict.moments[1]}, and with an earlier refusal of {reached}", None)
-            else:
-                reached = max(reached, verdict.moments[0])
+        if verdict.left is False and begun:
+            verdict = Verdict("nothing is left, and something is with an earlier refusal", False)
+        begun = begun or verdict.left is True
         yield number, verdict
 
 
@@ -355,13 +366,14 @@ def prepared(number):
     it, whole = place.inputs[number], place.run(number, {})
     right = whole.status == 0 and whole.error == b"" and whole.met and it.wanted in (None, (whole.out, whole.files))
     wrong = [None if right else f"the whole run is not as it is to be: {ending(whole)}, {whole.met} allocations"]
-    if it.words[0] != "run" or not right or whole.met > MOST:
-        return Known(whole, {}, 0, 0), wrong
-    moments, more = moments_of(number, whole)
+    if it.words[0] != "run" or not right:
+        return Known(whole, {}, [], 0, 0), wrong
     job = it.files[it.words[1]]
+    moments, more = moments_of(number, whole, *single_events(job, whole.files))
+    until, last = counts_of(number, whole, *single_events(job, whole.files))
     broken = broken_job(job)
     must = place.run(number, {}, broken).met if broken else 0
-    return Known(whole, moments, must, place.run(number, {}, idle_job(job)).met), wrong + more
+    return Known(whole, moments, until, must, place.run(number, {}, idle_job(job)).met), [*wrong, *more, last]
 
 
 def swept(task):
@@ -370,13 +382,21 @@ def swept(task):
     return number, mode, [(it, judge(known, place.run(number, {mode: str(it)}), it)) for it in numbers]
 
 
-def tasks_of(known):
-    """The runs of each input whose whole run is right and not too long, in tasks."""
+def numbers_of(whole, options):
+    """The allocations of a whole run that are refused, and the number behind the last, at which none is."""
+    numbers = range(1, whole.met + 2)
+    if whole.met <= MOST or "--all" in options:
+        return list(numbers)
+    return [number for number in numbers if number % EACH == 0 or number > whole.met - LAST]
+
+
+def tasks_of(known, options):
+    """The runs of each input whose whole run is right, in tasks."""
     for number, (it, wrong) in enumerate(known):
-        end = it.whole.met + 2 if not wrong[0] and it.whole.met <= MOST else 0
+        numbers = [] if wrong[0] else numbers_of(it.whole, options)
         for mode in MODES:
-            for start in range(1, end, RUNS_OF_A_TASK):
-                yield number, mode, range(start, min(start + RUNS_OF_A_TASK, end)), it
+            for start in range(0, len(numbers), RUNS_OF_A_TASK):
+                yield number, mode, numbers[start:start + RUNS_OF_A_TASK], it
 
 
 def compiled(room):
@@ -385,22 +405,20 @@ def compiled(room):
     return library
 
 
-def sweep(program, inputs):
+def sweep(program, inputs, options):
     """What is known of each input, with what was wrong; and the verdicts of each input and mode."""
     verdicts = collections.defaultdict(list)
     with tempfile.TemporaryDirectory(prefix="refuse-memory-") as room:
         parts = os.path.abspath(program), compiled(room), inputs, room
         with multiprocessing.Pool(os.cpu_count(), settle, parts) as pool:
             known = pool.map(prepared, range(len(inputs)), 1)
-            for number, mode, found in pool.imap_unordered(swept, tasks_of(known)):
+            for number, mode, found in pool.imap_unordered(swept, tasks_of(known, options)):
                 verdicts[number, mode] += found
     return known, verdicts
 
 
 def counted(known, verdicts):
     """The numbers of an input, for the reader. The last run of each mode met no refusal."""
-    if not verdicts[0]:
-        return f"{known.whole.met} allocations, left out"
     alone, later = [sum(it == (None, None) for _, it in found) - 1 for found in verdicts]
     events = f", {max(last for _, last in known.moments.values())} events" if known.moments else ""
     return f"{known.whole.met} allocations{events}; not noticed: {alone} alone, {later} with all later ones"
@@ -409,13 +427,13 @@ def counted(known, verdicts):
 def main(program, archives, options):
     top = os.path.dirname(os.path.dirname(os.path.abspath(__file__)))
     inputs = [*inputs_of_examples(top), *(it for path in archives for it in inputs_of_archive(path))]
-    known, verdicts = sweep(program, inputs)
+    known, verdicts = sweep(program, inputs, options)
     passed = failed = 0
     for number, (it, (what, wrong)) in enumerate(zip(inputs, known)):
         results = [(it.name, one) for one in wrong]
         for mode, words in MODES.items():
             results += [(f"{it.name}: {words.format(at)}", verdict.wrong) for at, verdict in in_order(verdicts[number, mode])]
-        if "--counts" in options or what.whole.met > MOST:
+        if "--counts" in options:
             print(f"{it.name}: {counted(what, [verdicts[number, mode] for mode in MODES])}")
         for name, one in results:
             passed, failed = passed + (not one), failed + bool(one)
