@@ -14,7 +14,7 @@ use crate::names::Names;
 use crate::naming::named;
 use crate::tried::{Tried, done, given, number, shown, space, state};
 use block_store::BlockStore;
-use heap_calls::Heap;
+use heap_calls::{Heap, NoSink};
 use mac_words::{Call, ControlCall, HeapCall, OsErr, Reply};
 use script_text::Script;
 use std::alloc::AllocError;
@@ -94,12 +94,16 @@ fn answered<S: BlockStore>(
 {
     let (first, second) = named(call, names);
     match call {
-        HeapCall::NewHandle(_, size) => given(heap.new_handle(*size)),
-        HeapCall::NewEmptyHandle(_) => given(heap.new_empty_handle()),
+        HeapCall::NewHandle(_, size) => given(heap.new_handle(*size, &mut NoSink)),
+        HeapCall::NewEmptyHandle(_) => given(heap.new_empty_handle(&mut NoSink)),
         HeapCall::DisposeHandle(_) => done(heap.dispose_handle(first)),
         HeapCall::GetHandleSize(_) => number(heap.get_handle_size(first)),
-        HeapCall::SetHandleSize(_, size) => done(heap.set_handle_size(first, *size)),
-        HeapCall::ReallocateHandle(_, size) => done(heap.reallocate_handle(first, *size)),
+        HeapCall::SetHandleSize(_, size) => done(heap.set_handle_size(first, *size, &mut NoSink)),
+        HeapCall::ReallocateHandle(_, size) => done(heap.reallocate_handle(
+            first,
+            *size,
+            &mut NoSink,
+        )),
         HeapCall::EmptyHandle(_) => done(heap.empty_handle(first)),
         HeapCall::HLock(_) => done(heap.h_lock(first)),
         HeapCall::HUnlock(_) => done(heap.h_unlock(first)),
@@ -109,21 +113,21 @@ fn answered<S: BlockStore>(
         HeapCall::HSetState(_, state) => done(heap.h_set_state(first, *state)),
         HeapCall::MoveHHi(_) => done(heap.move_h_hi(first)),
         HeapCall::HLockHi(_) => done(heap.h_lock_hi(first)),
-        HeapCall::HandToHand(..) => given(heap.hand_to_hand(first)),
-        HeapCall::HandAndHand(..) => done(heap.hand_and_hand(first, second)),
-        HeapCall::PtrAndHand(_, bytes) => done(heap.pointer_and_hand(first, bytes)),
-        HeapCall::NewPtr(_, size) => given(heap.new_pointer(*size)),
+        HeapCall::HandToHand(..) => given(heap.hand_to_hand(first, &mut NoSink)),
+        HeapCall::HandAndHand(..) => done(heap.hand_and_hand(first, second, &mut NoSink)),
+        HeapCall::PtrAndHand(_, bytes) => done(heap.pointer_and_hand(first, bytes, &mut NoSink)),
+        HeapCall::NewPtr(_, size) => given(heap.new_pointer(*size, &mut NoSink)),
         HeapCall::DisposePtr(_) => done(heap.dispose_pointer(first)),
         HeapCall::GetPtrSize(_) => number(heap.get_pointer_size(first)),
-        HeapCall::SetPtrSize(_, size) => done(heap.set_pointer_size(first, *size)),
+        HeapCall::SetPtrSize(_, size) => done(heap.set_pointer_size(first, *size, &mut NoSink)),
         HeapCall::FreeMem => Ok(Tried::told(Reply::number(heap.free_mem()))),
         HeapCall::MaxBlock => Ok(Tried::told(Reply::number(heap.max_block()))),
         HeapCall::PurgeSpace => Ok(space(heap.purge_space())),
         HeapCall::CompactMem(size) => Ok(Tried::told(Reply::number(heap.compact_mem(*size)))),
-        HeapCall::PurgeMem(size) => done(heap.purge_mem(*size)),
-        HeapCall::MaxMem => Ok(Tried::told(Reply::number(heap.max_mem()))),
-        HeapCall::ReserveMem(size) => done(heap.reserve_mem(*size)),
-        HeapCall::MoreMasters => done(heap.more_masters()),
+        HeapCall::PurgeMem(size) => done(heap.purge_mem(*size, &mut NoSink)),
+        HeapCall::MaxMem => number(heap.max_mem(&mut NoSink)),
+        HeapCall::ReserveMem(size) => done(heap.reserve_mem(*size, &mut NoSink)),
+        HeapCall::MoreMasters => done(heap.more_masters(&mut NoSink)),
         HeapCall::MemError => Ok(Tried::told(Reply::telling(heap.mem_error()))),
         HeapCall::Put(_, from, bytes) => done(heap.put(first, *from, bytes)),
         HeapCall::Show(_) => shown(heap.show(first)),

@@ -7,4 +7,8 @@ pub mod Sizes
 pub mod Promises
 pub mod Tries
 pub mod Steps
+pub mod GoneBlocks
+pub mod GoneForSizes
+pub mod GonePlaces
+pub mod GoneCopies
 mod Worked

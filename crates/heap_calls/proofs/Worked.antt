@@ -6,3 +6,5 @@ mod EmptyingRows
 mod RefusedRows
 mod BusyRows
 mod StepRows
+mod GoneRows
+mod SizesGone

@@ -12,6 +12,7 @@ pub mod Copied
 pub mod Packed
 pub mod Least
 pub mod SearchLaws
+pub mod Telling
 pub mod Reaching
 pub mod Loose
 pub mod Appending

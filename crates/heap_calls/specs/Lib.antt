@@ -10,6 +10,7 @@ pub mod Purging
 pub mod Copying
 pub mod Searches
 pub mod Moves
+pub mod Gone
 pub mod Standing
 pub mod History
 pub mod Counts

@@ -1,4 +1,4 @@
-use Rattle.std.specs.Prelude.{◌≡◌, Bool, Option, Some, None, Result, Ok, Err, List, unwrap_or, if◌then◌else◌}
+use Rattle.std.specs.Prelude.{ℕ, ◌≡◌, Bool, Option, Some, None, Result, Ok, Err, List, unwrap_or, if◌then◌else◌}
 use Rattle.std.specs.Option.{option_map}
 use Rattle.mac_words.specs.Size.{phys}
 use Rattle.mac_words.specs.declared.code.OsErr.{OsErr}
@@ -20,10 +20,19 @@ use Rattle.heap_calls.specs.Counts.{CountsSearches, CountsMoves}
 abbrev pub slotted_zone : (Block → Bool) → State → List Block
 slotted_zone spared s = unwrap_or (option_map (λ (ready : State). ready.zone) (slotted spared s)) s.zone
 
+-- All but the blocks of the zone is what it was; the zone has an unused master pointer.
+abbrev pub LeavesMasters : (Block → Bool) → Memory → Memory → Type 0
+LeavesMasters spared old new = new ≡ record old { heap = record old.heap { zone = slotted_zone spared old.heap } }
+
 -- The zone with an unused master pointer for the copy of a handle's block, which is not purged for it.
 abbrev pub copying_zone : Result Held OsErr → State → List Block
 copying_zone (Err code) s = s.zone
 copying_zone (Ok held) s = slotted_zone (is_relocatable held.number) s
+
+-- All but the blocks of the zone is what it was; the zone has an unused master pointer for the copy of a handle's block.
+abbrev pub LeavesCopying : Option ℕ → Memory → Memory → Type 0
+LeavesCopying handle old new =
+    new ≡ record old { heap = record old.heap { zone = copying_zone (look_up handle old.heap) old.heap } }
 
 -- The zone after a call that its row refused: as it was, except that a master pointer block that was made for the
 -- call stays, and that what PurgeMem purged stays purged.

@@ -1,7 +1,7 @@
 //! Bytes appended to a handle's block.
 
-ghost use Rattle.std.specs.Prelude.{◌≡◌, ◌≤◌, ◌+◌, ◌||◌, Some, false, length, take, IsSome, IsSomeAnd, IsTrue};
-ghost use Rattle.std.specs.Prelude.{IsErr, IfOk};
+ghost use Rattle.std.specs.Prelude.{◌≡◌, ◌≢◌, ◌⊎◌, ◌≤◌, ◌+◌, ◌||◌, Some, Err, true, false, length, take, IsSome};
+ghost use Rattle.std.specs.Prelude.{IsSomeAnd, IsTrue, IsErr, IfOk, OnOk, OnErr};
 ghost use Rattle.block_store.specs.Block.{is_relocatable, content_of};
 ghost use Rattle.block_store.specs.Find.{FindsLowest};
 ghost use Rattle.block_store.specs.Sparing.{spared};
@@ -12,62 +12,167 @@ ghost use Rattle.heap_calls.specs.Asked.{packing};
 ghost use Rattle.heap_calls.specs.Answer.{silent, searching, moving};
 ghost use Rattle.heap_calls.specs.Inner.Appending.{size_for, behind, lengthened, bytes_of, length_of};
 ghost use Rattle.heap_calls.specs.Copying.{hand_and_hand, pointer_and_hand};
+ghost use Rattle.heap_calls.specs.Gone.{Tells, TellsNothing, IsIdle, gone_unless, hand_and_hand_gone, pointer_and_hand_gone};
 ghost use Rattle.heap_calls.specs.Inner.Given.{IsAnswer, KeepsNames};
 ghost use Rattle.heap_calls.specs.Inner.Growing.{Spares, Stays, fitted};
 ghost use Rattle.heap_calls.specs.Inner.GrowingInPlace.{made_zone};
 ghost use Rattle.heap_calls.specs.Moves.{size_moves, hand_and_hand_moves, pointer_and_hand_moves};
 ghost use Rattle.heap_calls.specs.Inner.Numbered.{KeepsNonrelocatable};
 ghost use Rattle.heap_calls.specs.Inner.Packed.{Packs};
+ghost use Rattle.heap_calls.specs.Inner.Telling.{fitted_gone};
 ghost use Rattle.heap_calls.specs.Searches.{size_searches, hand_and_hand_searches, pointer_and_hand_searches};
 ghost use Rattle.block_store.specs.declared.measures.TheConstants.{GREATEST_ZONE};
 
+use crate::anchor::Anchor;
 use crate::growing_in_place::Grown;
 use crate::heap::Heap;
 use crate::reaching::reach;
 use crate::refusal::Refusal;
-use crate::sizing::fit_block;
+use crate::sink::PurgeSink;
+use crate::sizing::{fit_block, tell_fit};
 use block_store::{BlockStore, Sparing};
 use std::alloc::AllocError;
 
 impl<S: BlockStore> Heap<S> {
     /// `HandAndHand`: appends the bytes of the block of `from` to the block of `to`, which may be the same handle.
     /// Neither block is purged for it. Returns -108 (memFullErr) where there is no room, and -30001 (profileErr)
-    /// where `to` is a System resource's. Where the host is out of memory, which can be only over a store that takes
-    /// host memory, all but the zone and the count of moves stays as it was.
+    /// where `to` is a System resource's. The sink is told of the blocks that are purged for it, if it is to be told.
+    /// Where the host is out of memory, all but the zone and the count of moves stays as it was; over a store that takes
+    /// no host memory that can be only where the sink is to be told, and the whole heap stays as it was.
     ///
     /// *Inside Macintosh: Memory*, chapter 2, "Manipulating Blocks of Memory".
-    pub fn hand_and_hand(&mut self, from: Option<usize>, to: Option<usize>) -> Result<(), Refusal>
+    pub fn hand_and_hand<K: PurgeSink>(
+        &mut self,
+        from: Option<usize>,
+        to: Option<usize>,
+        sink: &mut K,
+    ) -> Result<(), Refusal>
+        requires idle { IsIdle K.told K.waits sink.old }
         ensures answer { IsAnswer (unless (both_barred from to self.old) (packing (hand_and_hand_moves from to)
             (hand_and_hand_searches from to) (hand_and_hand from to)) self.old) result self.new }
-        ensures host { result ≡ Err Refusal.HostMemory → IsTrue S.TAKES_HOST }
+        ensures told { result ≢ Err Refusal.HostMemory → K.listens sink.old ≡ true → Tells K.told
+            (gone_unless (both_barred from to self.old) (hand_and_hand_gone from to self.old.heap)) sink.old
+            sink.new }
+        ensures untold { result ≡ Err Refusal.HostMemory → IsTrue S.TAKES_HOST
+            ⊎ ((self.new ≡ self.old) × TellsNothing K.told sink.old sink.new) }
+        ensures idle { IsIdle K.told K.waits sink.new }
+        ensures listens { K.listens sink.new ≡ K.listens sink.old }
+        ensures host { result ≡ Err Refusal.HostMemory → IsTrue S.TAKES_HOST ⊎ (K.listens sink.old ≡ true) }
         ensures kept { result ≡ Err Refusal.HostMemory → KeepsNames self.old self.new }
         ensures lies { self.new.window ≡ self.old.window }
     {
         if let Some(code) = self.both_barred(from, to) {
             return self.refuse(code);
         }
+        self.tell_append_handle(from, to, sink)?;
         let answer = self.append_handle(from, to);
         self.note(answer)
     }
 
     /// `PtrAndHand`: appends bytes to the block of a handle. Returns -108 (memFullErr) where there is no room, and
-    /// -30001 (profileErr) where the handle is a System resource's. Where the host is out of memory, which can be
-    /// only over a store that takes host memory, all but the zone and the count of moves stays as it was.
+    /// -30001 (profileErr) where the handle is a System resource's. The sink is told of the blocks that are purged for
+    /// it, if it is to be told. Where the host is out of memory, all but the zone and the count of moves stays as it was;
+    /// over a store that takes no host memory that can be only where the sink is to be told, and the whole heap stays as
+    /// it was.
     ///
     /// *Inside Macintosh: Memory*, chapter 2, "Manipulating Blocks of Memory".
-    pub fn pointer_and_hand(&mut self, handle: Option<usize>, bytes: &[u8]) -> Result<(), Refusal>
+    pub fn pointer_and_hand<K: PurgeSink>(
+        &mut self,
+        handle: Option<usize>,
+        bytes: &[u8],
+        sink: &mut K,
+    ) -> Result<(), Refusal>
+        requires idle { IsIdle K.told K.waits sink.old }
         ensures answer { IsAnswer (unless (change_barred handle self.old)
             (packing (pointer_and_hand_moves handle bytes.now) (pointer_and_hand_searches handle bytes.now)
             (pointer_and_hand handle bytes.now)) self.old) result self.new }
-        ensures host { result ≡ Err Refusal.HostMemory → IsTrue S.TAKES_HOST }
+        ensures told { result ≢ Err Refusal.HostMemory → K.listens sink.old ≡ true → Tells K.told
+            (gone_unless (change_barred handle self.old) (pointer_and_hand_gone handle bytes.now self.old.heap)) sink.old
+            sink.new }
+        ensures untold { result ≡ Err Refusal.HostMemory → IsTrue S.TAKES_HOST
+            ⊎ ((self.new ≡ self.old) × TellsNothing K.told sink.old sink.new) }
+        ensures idle { IsIdle K.told K.waits sink.new }
+        ensures listens { K.listens sink.new ≡ K.listens sink.old }
+        ensures host { result ≡ Err Refusal.HostMemory → IsTrue S.TAKES_HOST ⊎ (K.listens sink.old ≡ true) }
         ensures kept { result ≡ Err Refusal.HostMemory → KeepsNames self.old self.new }
         ensures lies { self.new.window ≡ self.old.window }
     {
         if let Some(code) = self.change_barred(handle) {
             return self.refuse(code);
         }
+        self.tell_append_slice(handle, bytes, sink)?;
         let answer = self.append_slice(handle, bytes);
         self.note(answer)
+    }
+
+    /// Tells a sink, if it is to be told, of the blocks that `HandAndHand` is to purge.
+    fn tell_append_handle<K: PurgeSink>(
+        &self,
+        from: Option<usize>,
+        to: Option<usize>,
+        sink: &mut K,
+    ) -> Result<(), AllocError>
+        requires idle { IsIdle K.told K.waits sink.old }
+        ensures told { OnOk result (K.listens sink.old ≡ true
+            → Tells K.told (hand_and_hand_gone from to self.now.heap) sink.old sink.new) }
+        ensures untold { OnErr result (TellsNothing K.told sink.old sink.new) }
+        ensures idle { IsIdle K.told K.waits sink.new }
+        ensures listens { K.listens sink.new ≡ K.listens sink.old }
+        ensures host { IsErr result → K.listens sink.old ≡ true }
+    {
+        if !sink.listens() {
+            return Ok(());
+        }
+        let Ok(source) = reach(&self.store, &self.names, from) else {
+            return Ok(());
+        };
+        let Ok(held) = reach(&self.store, &self.names, to) else {
+            return Ok(());
+        };
+        let more = length_at(&self.store, source.slot, source.place) as usize;
+        let sparing = Sparing::Two(source.slot, held.slot);
+        tell_longer(
+            &self.store,
+            &self.names,
+            held.slot,
+            held.place,
+            more,
+            sparing,
+            sink,
+        )
+    }
+
+    /// Tells a sink, if it is to be told, of the blocks that `PtrAndHand` is to purge.
+    fn tell_append_slice<K: PurgeSink>(
+        &self,
+        handle: Option<usize>,
+        bytes: &[u8],
+        sink: &mut K,
+    ) -> Result<(), AllocError>
+        requires idle { IsIdle K.told K.waits sink.old }
+        ensures told { OnOk result (K.listens sink.old ≡ true
+            → Tells K.told (pointer_and_hand_gone handle bytes.now self.now.heap) sink.old sink.new) }
+        ensures untold { OnErr result (TellsNothing K.told sink.old sink.new) }
+        ensures idle { IsIdle K.told K.waits sink.new }
+        ensures listens { K.listens sink.new ≡ K.listens sink.old }
+        ensures host { IsErr result → K.listens sink.old ≡ true }
+    {
+        if !sink.listens() {
+            return Ok(());
+        }
+        let Ok(held) = reach(&self.store, &self.names, handle) else {
+            return Ok(());
+        };
+        let sparing = Sparing::One(held.slot);
+        tell_longer(
+            &self.store,
+            &self.names,
+            held.slot,
+            held.place,
+            bytes.len(),
+            sparing,
+            sink,
+        )
     }
 
     /// Appends the bytes of one handle's block to another's, and counts the searches for room.
@@ -155,6 +260,35 @@ fn lengthen<S: BlockStore>(
         });
     };
     fit_block(store, slot, place, size, sparing)
+}
+
+/// Tells a sink of the blocks that are purged where the block of `slot`, which stands at `place`, gets `more` bytes more,
+/// if a block can have that size and there is room. If the sink finds the host out of memory, it is told of none.
+fn tell_longer<S: BlockStore, K: PurgeSink>(
+    store: &S,
+    names: &[Anchor],
+    slot: u32,
+    place: u32,
+    more: usize,
+    sparing: Sparing,
+    sink: &mut K,
+) -> Result<(), AllocError>
+    requires spared { Spares sparing (is_relocatable slot) }
+    requires stays { Stays sparing (is_relocatable slot) }
+    requires found { FindsLowest (is_relocatable slot) (S.zone store.now) (Some place) }
+    requires idle { IsIdle K.told K.waits sink.old }
+    ensures told { OnOk result (Tells K.told (fitted_gone names.now (is_relocatable slot) sparing
+        (length_of slot (S.zone store.now) + more) (S.zone store.now)) sink.old sink.new) }
+    ensures untold { OnErr result (TellsNothing K.told sink.old sink.new) }
+    ensures idle { IsIdle K.told K.waits sink.new }
+    ensures listens { K.listens sink.new ≡ K.listens sink.old }
+    ensures host { IsErr result → K.listens sink.old ≡ true }
+{
+    let len = length_at(store, slot, place);
+    let Some(size) = joined_size(len, more) else {
+        return Ok(());
+    };
+    tell_fit(store, names, slot, place, size, sparing, sink)
 }
 
 /// Writes bytes after the first `len` bytes of the block of `slot`.

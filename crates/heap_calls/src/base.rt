@@ -1,6 +1,6 @@
 //! Room at the base of a run of movable blocks.
 
-ghost use Rattle.std.specs.Prelude.{◌≡◌, ◌+◌, ◌≤◌, ◌<◌, ◌%◌, IfOk, OnErr, IsErr, IsTrue, MatchOption, is_some};
+ghost use Rattle.std.specs.Prelude.{◌≡◌, ◌⊎◌, ◌+◌, ◌≤◌, ◌<◌, ◌%◌, IfOk, OnErr, IsErr, IsTrue, MatchOption, is_some, OnOk, true};
 ghost use Rattle.block_store.specs.Find.{FindsLowestRun};
 ghost use Rattle.block_store.specs.Sparing.{purged, most_purges};
 ghost use Rattle.block_store.specs.Rest.{IsRest};
@@ -10,11 +10,16 @@ ghost use Rattle.block_store.proofs.Purged.Rising.{run-rises};
 ghost use Rattle.heap_calls.specs.Inner.Base.{IsBaseAt, base, base_searches};
 ghost use Rattle.heap_calls.specs.Inner.Numbered.{KeepsNonrelocatable};
 ghost use Rattle.heap_calls.specs.Inner.NewSlot.{HasMore, IsMade, TakesSlot, zone_searches};
+ghost use Rattle.heap_calls.specs.Gone.{Tells, TellsNothing, IsIdle};
 ghost use Rattle.heap_calls.specs.Inner.Packed.{PacksNone};
-ghost use Rattle.block_store.specs.declared.measures.TheConstants.{GREATEST_ZONE};
+ghost use Rattle.heap_calls.specs.Inner.Telling.{base_gone, zone_slot_gone};
+ghost use Rattle.block_store.specs.declared.measures.TheConstants.{GREATEST_ZONE, MASTERS_SIZE};
 
+use crate::anchor::Anchor;
 use crate::least::{Sought, any_goes, least_search};
 use crate::search::Room;
+use crate::sink::PurgeSink;
+use crate::telling::tell;
 use block_store::{BlockStore, MASTERS_SIZE, Sparing};
 use std::alloc::AllocError;
 
@@ -113,6 +118,29 @@ pub fn make_base<S: BlockStore>(
     })
 }
 
+/// Tells a sink of the blocks that are purged for room of `bytes` bytes at the base of a run, if there is such room. If
+/// the sink finds the host out of memory, it is told of none.
+pub fn tell_base<S: BlockStore, K: PurgeSink>(
+    store: &S,
+    names: &[Anchor],
+    bytes: u32,
+    sparing: Sparing,
+    sink: &mut K,
+) -> Result<(), AllocError>
+    requires idle { IsIdle K.told K.waits sink.old }
+    ensures told { OnOk result (Tells K.told (base_gone names.now bytes sparing (S.zone store.now)) sink.old sink.new) }
+    ensures untold { OnErr result (TellsNothing K.told sink.old sink.new) }
+    ensures idle { IsIdle K.told K.waits sink.new }
+    ensures listens { K.listens sink.new ≡ K.listens sink.old }
+    ensures host { IsErr result → K.listens sink.old ≡ true }
+{
+    let found = find_base(store, bytes, sparing);
+    if found.run.is_none() {
+        return Ok(());
+    }
+    tell(store, names, 0, found.purges, sparing, sink)
+}
+
 /// Puts a master pointer block, with 64 unused slots, at the base of a run, where there is room for the block.
 ///
 /// *Inside Macintosh: Memory*, chapter 2, "Allocating Master Pointers".
@@ -140,9 +168,44 @@ pub struct Taken {
     pub searches: u32,
 }
 
+/// Tells a sink, if it is to be told, of the blocks that are purged for a master pointer block. If the sink finds the
+/// host out of memory, it is told of none.
+pub fn tell_masters<S: BlockStore, K: PurgeSink>(
+    store: &S,
+    names: &[Anchor],
+    sparing: Sparing,
+    sink: &mut K,
+) -> Result<(), AllocError>
+    requires idle { IsIdle K.told K.waits sink.old }
+    ensures told { OnOk result (K.listens sink.old ≡ true
+        → Tells K.told (base_gone names.now MASTERS_SIZE sparing (S.zone store.now)) sink.old sink.new) }
+    ensures untold { OnErr result (TellsNothing K.told sink.old sink.new) }
+    ensures idle { IsIdle K.told K.waits sink.new }
+    ensures listens { K.listens sink.new ≡ K.listens sink.old }
+    ensures host { IsErr result → K.listens sink.old ≡ true }
+{
+    if !sink.listens() {
+        return Ok(());
+    }
+    tell_base(store, names, MASTERS_SIZE, sparing, sink)
+}
+
 /// Takes an unused slot for a new handle; where all slots are used, a master pointer block with 64 more is made
-/// first.
-pub fn make_slot<S: BlockStore>(store: &mut S, sparing: Sparing) -> Result<Taken, AllocError>
+/// first, and a sink is told of the blocks that are purged for it, if it is to be told.
+pub fn make_slot<S: BlockStore, K: PurgeSink>(
+    store: &mut S,
+    names: &[Anchor],
+    sparing: Sparing,
+    sink: &mut K,
+) -> Result<Taken, AllocError>
+    requires idle { IsIdle K.told K.waits sink.old }
+    ensures told { OnOk result (K.listens sink.old ≡ true → Tells K.told
+        (zone_slot_gone names.now sparing (S.rest store.old).unused (S.zone store.old)) sink.old sink.new) }
+    ensures untold { OnErr result (IsTrue S.TAKES_HOST ⊎ TellsNothing K.told sink.old sink.new) }
+    ensures same { OnErr result (IsTrue S.TAKES_HOST
+        ⊎ ((S.zone store.new ≡ S.zone store.old) × IsRest (S.rest store.old) (S.rest store.new))) }
+    ensures idle { IsIdle K.told K.waits sink.new }
+    ensures listens { K.listens sink.new ≡ K.listens sink.old }
     ensures slot { IfOk result (λ r. TakesSlot sparing (S.zone store.old) (S.rest store.old) r.slot (S.zone store.new)
         (S.rest store.new)) }
     ensures nonrelocatable { KeepsNonrelocatable (S.zone store.old) (S.zone store.new) }
@@ -151,7 +214,7 @@ pub fn make_slot<S: BlockStore>(store: &mut S, sparing: Sparing) -> Result<Taken
         (S.zone store.old)) }
     ensures few { IfOk result (λ r. r.searches ≤ 134217729) }
     ensures moves { PacksNone (S.rest store.old) (S.rest store.new) }
-    ensures host { IsErr result → IsTrue S.TAKES_HOST }
+    ensures host { IsErr result → IsTrue S.TAKES_HOST ⊎ (K.listens sink.old ≡ true) }
 {
     if let Some(slot) = store.take_slot() {
         return Ok(Taken {
@@ -159,6 +222,7 @@ pub fn make_slot<S: BlockStore>(store: &mut S, sparing: Sparing) -> Result<Taken
             searches: 0,
         });
     }
+    tell_masters(store, names, sparing, sink)?;
     let room = make_masters(store, sparing)?;
     let searches = room.searches;
     let Some(_) = room.place else {

@@ -1,6 +1,6 @@
 //! Copying blocks.
 
-ghost use Rattle.std.specs.Prelude.{◌≡◌, ◌⊎◌, ◌≤◌, length, IfOk, OnErr, IsErr, IsTrue, IsSomeAnd};
+ghost use Rattle.std.specs.Prelude.{◌≡◌, ◌≢◌, ◌⊎◌, ◌≤◌, length, true, Err, IfOk, OnOk, OnErr, IsErr, IsTrue, IsSomeAnd};
 ghost use Rattle.block_store.specs.Block.{content_of, is_relocatable};
 ghost use Rattle.block_store.specs.Room.{spot};
 ghost use Rattle.block_store.specs.Slot.{is_used};
@@ -11,6 +11,9 @@ ghost use Rattle.heap_calls.specs.Inner.Given.{IsAnswer, KeepsNames};
 ghost use Rattle.heap_calls.specs.Answer.{searching, silent, moving};
 ghost use Rattle.heap_calls.specs.Inner.Copied.{IsCopy};
 ghost use Rattle.heap_calls.specs.Copying.{hand_to_hand};
+ghost use Rattle.heap_calls.specs.Gone.{Tells, TellsNothing, IsIdle, gone_unless, hand_to_hand_gone, copy_slot_gone};
+ghost use Rattle.heap_calls.specs.Refused.{LeavesCopying};
+ghost use Rattle.heap_calls.specs.Inner.Telling.{new_gone, LeavesSlot};
 ghost use Rattle.heap_calls.specs.Inner.NewBlock.{new_searches};
 ghost use Rattle.heap_calls.specs.Inner.NewSlot.{HasMore};
 ghost use Rattle.heap_calls.specs.Moves.{hand_to_hand_moves};
@@ -18,11 +21,12 @@ ghost use Rattle.heap_calls.specs.Inner.Numbered.{KeepsNonrelocatable};
 ghost use Rattle.heap_calls.specs.Inner.Packed.{Packs, new_moves};
 ghost use Rattle.heap_calls.specs.Searches.{hand_to_hand_searches};
 
-use crate::anchor::{name_handle, slot_of};
+use crate::anchor::{Anchor, name_handle, slot_of};
 use crate::base::Taken;
 use crate::heap::Heap;
 use crate::new_block::new_block;
 use crate::refusal::Refusal;
+use crate::sink::PurgeSink;
 use block_store::{BlockStore, Sparing};
 use mac_words::OsErr;
 use std::alloc::AllocError;
@@ -31,32 +35,63 @@ impl<S: BlockStore> Heap<S> {
     /// `HandToHand`: allocates a relocatable block with a copy of the bytes of another handle's block, and returns a
     /// handle to the copy. The block that is copied is not purged for the copy. Returns -108 (memFullErr) where the
     /// zone has no room for the block, or where all master pointers are used and there is no room for a block of
-    /// more. Where the host is out of memory, all but the zone and the count of moves stays as it was, and the whole
-    /// heap does over a store that takes no host memory.
-    pub fn hand_to_hand(&mut self, handle: Option<usize>) -> Result<usize, Refusal>
+    /// more. The sink is told of the blocks that are purged for that, and then of those for the copy, if it is to be told.
+    /// Where the host is out of memory, all but the zone and the count of moves stays as it was; over a store that takes
+    /// no host memory the whole heap and the sink do, but where the sink found the host out of memory behind a new master
+    /// pointer block, which then stays.
+    pub fn hand_to_hand<K: PurgeSink>(
+        &mut self,
+        handle: Option<usize>,
+        sink: &mut K,
+    ) -> Result<usize, Refusal>
+        requires idle { IsIdle K.told K.waits sink.old }
+        ensures told { result ≢ Err Refusal.HostMemory → K.listens sink.old ≡ true → Tells K.told
+            (gone_unless (barred handle self.old) (hand_to_hand_gone handle self.old.heap)) sink.old sink.new }
+        ensures untold { result ≡ Err Refusal.HostMemory → IsTrue S.TAKES_HOST
+            ⊎ (((self.new ≡ self.old) × TellsNothing K.told sink.old sink.new)
+            ⊎ (LeavesCopying handle self.old self.new
+            × Tells K.told (copy_slot_gone handle self.old.heap) sink.old sink.new)) }
+        ensures idle { IsIdle K.told K.waits sink.new }
+        ensures listens { K.listens sink.new ≡ K.listens sink.old }
         ensures answer { IsAnswer (unless (barred handle self.old) (packing (hand_to_hand_moves handle)
             (hand_to_hand_searches handle) (hand_to_hand handle)) self.old) result self.new }
-        ensures host { result ≡ Err Refusal.HostMemory → IsTrue S.TAKES_HOST ⊎ (self.new ≡ self.old) }
-        ensures reserved { result ≡ Err Refusal.HostMemory
-            → IsTrue S.TAKES_HOST ⊎ (self.old.log.reserved ≤ length self.old.heap.names) }
+        ensures host { result ≡ Err Refusal.HostMemory
+            → IsTrue S.TAKES_HOST ⊎ ((self.new ≡ self.old) ⊎ (K.listens sink.old ≡ true)) }
+        ensures reserved { result ≡ Err Refusal.HostMemory → IsTrue S.TAKES_HOST
+            ⊎ ((self.old.log.reserved ≤ length self.old.heap.names) ⊎ (K.listens sink.old ≡ true)) }
         ensures kept { result ≡ Err Refusal.HostMemory → KeepsNames self.old self.new }
         ensures lies { self.new.window ≡ self.old.window }
     {
         if let Some(code) = self.barred(handle) {
             return self.refuse(code);
         }
-        let answer = self.copy_handle(handle);
+        let answer = self.copy_handle(handle, sink);
         self.note(answer)
     }
 
-    /// Makes a new handle with a copy of the bytes of another handle's block, and counts the searches for room.
-    fn copy_handle(&mut self, handle: Option<usize>) -> Result<usize, Refusal>
+    /// Makes a new handle with a copy of the bytes of another handle's block, counts the searches for room, and tells a
+    /// sink of the blocks that are purged, if it is to be told.
+    fn copy_handle<K: PurgeSink>(
+        &mut self,
+        handle: Option<usize>,
+        sink: &mut K,
+    ) -> Result<usize, Refusal>
+        requires idle { IsIdle K.told K.waits sink.old }
+        ensures told { result ≢ Err Refusal.HostMemory → K.listens sink.old ≡ true
+            → Tells K.told (hand_to_hand_gone handle self.old.heap) sink.old sink.new }
+        ensures untold { result ≡ Err Refusal.HostMemory → IsTrue S.TAKES_HOST
+            ⊎ (((self.new ≡ self.old) × TellsNothing K.told sink.old sink.new)
+            ⊎ (LeavesCopying handle self.old self.new
+            × Tells K.told (copy_slot_gone handle self.old.heap) sink.old sink.new)) }
+        ensures idle { IsIdle K.told K.waits sink.new }
+        ensures listens { K.listens sink.new ≡ K.listens sink.old }
         ensures answer { IsAnswer (moving (hand_to_hand_moves handle self.old.heap)
             (searching (hand_to_hand_searches handle self.old.heap) (silent (hand_to_hand handle) self.old))) result
             self.new }
-        ensures host { result ≡ Err Refusal.HostMemory → IsTrue S.TAKES_HOST ⊎ (self.new ≡ self.old) }
-        ensures reserved { result ≡ Err Refusal.HostMemory
-            → IsTrue S.TAKES_HOST ⊎ (self.old.log.reserved ≤ length self.old.heap.names) }
+        ensures host { result ≡ Err Refusal.HostMemory
+            → IsTrue S.TAKES_HOST ⊎ ((self.new ≡ self.old) ⊎ (K.listens sink.old ≡ true)) }
+        ensures reserved { result ≡ Err Refusal.HostMemory → IsTrue S.TAKES_HOST
+            ⊎ ((self.old.log.reserved ≤ length self.old.heap.names) ⊎ (K.listens sink.old ≡ true)) }
         ensures kept { result ≡ Err Refusal.HostMemory → KeepsNames self.old self.new }
         ensures lies { self.new.window ≡ self.old.window }
     {
@@ -66,15 +101,23 @@ impl<S: BlockStore> Heap<S> {
         };
         let size = self.store.bytes(place).len() as u32;
         self.names.reserve(1)?;
-        let made = copy_block(&mut self.store, found.slot, size)?;
+        let made = copy_block(&mut self.store, &self.names, found.slot, size, sink)?;
         self.log.count(made.searches);
         name_handle(&mut self.names, made.slot)
     }
 }
 
 /// Puts a copy of the block of `source`, which has `size` bytes of content, where there is room, under a new slot,
-/// and returns that slot; `None` where there is no unused slot and no room for more, or no room for the block.
-fn copy_block<S: BlockStore>(store: &mut S, source: u32, size: u32) -> Result<Taken, AllocError>
+/// and returns that slot; `None` where there is no unused slot and no room for more, or no room for the block. A sink is
+/// told of the blocks that are purged for it, if it is to be told.
+fn copy_block<S: BlockStore, K: PurgeSink>(
+    store: &mut S,
+    names: &[Anchor],
+    source: u32,
+    size: u32,
+    sink: &mut K,
+) -> Result<Taken, AllocError>
+    requires idle { IsIdle K.told K.waits sink.old }
     requires used { IsTrue (is_used ((S.rest store.old).slots source)) }
     requires size { IsSomeAnd (spot (is_relocatable source) (S.zone store.old))
         (λ s. length (content_of s.here) ≡ size) }
@@ -86,9 +129,15 @@ fn copy_block<S: BlockStore>(store: &mut S, source: u32, size: u32) -> Result<Ta
         (S.zone store.old)) }
     ensures moves { IfOk result (λ _. Packs (new_moves (One source) size (S.rest store.old).unused (S.zone store.old))
         (S.rest store.old) (S.rest store.new)) }
-    ensures host { IsErr result → IsTrue S.TAKES_HOST }
+    ensures told { OnOk result (K.listens sink.old ≡ true → Tells K.told
+        (new_gone names.now (One source) size (S.rest store.old).unused (S.zone store.old)) sink.old sink.new) }
+    ensures left { OnErr result (IsTrue S.TAKES_HOST ⊎ LeavesSlot K.told names.now (One source) (S.zone store.old)
+        (S.rest store.old) (S.zone store.new) (S.rest store.new) sink.old sink.new) }
+    ensures idle { IsIdle K.told K.waits sink.new }
+    ensures listens { K.listens sink.new ≡ K.listens sink.old }
+    ensures host { IsErr result → IsTrue S.TAKES_HOST ⊎ (K.listens sink.old ≡ true) }
 {
-    let made = new_block(store, size, Sparing::One(source))?;
+    let made = new_block(store, names, size, Sparing::One(source), sink)?;
     let Some(slot) = made.slot else {
         return Ok(made);
     };

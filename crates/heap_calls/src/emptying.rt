@@ -1,7 +1,9 @@
 //! Empty handles.
 
-ghost use Rattle.std.specs.Prelude.{◌≡◌, ◌≢◌, IsTrue, IsErr};
+ghost use Rattle.std.specs.Prelude.{◌≡◌, ◌≢◌, ◌⊎◌, true, Err, IsTrue, IsErr, OnOk, OnErr};
 ghost use Rattle.heap_calls.specs.Busy.{barred, change_barred, unless};
+ghost use Rattle.heap_calls.specs.Gone.{Tells, TellsNothing, IsIdle, gone_unless, reallocate_handle_gone};
+ghost use Rattle.heap_calls.specs.Inner.Telling.{renewed_gone};
 ghost use Rattle.heap_calls.specs.Inner.Given.{IsAnswer, KeepsNames};
 ghost use Rattle.heap_calls.specs.Asked.{packing};
 ghost use Rattle.heap_calls.specs.Inner.Numbered.{Agrees, KeepsNonrelocatable};
@@ -18,7 +20,8 @@ use crate::growing_in_place::Grown;
 use crate::heap::Heap;
 use crate::locking::can_move;
 use crate::refusal::Refusal;
-use crate::search::{Room, make_room};
+use crate::search::{Room, make_room, tell_placement};
+use crate::sink::PurgeSink;
 use block_store::{BlockStore, Sparing};
 use mac_words::{OsErr, phys};
 use std::alloc::AllocError;
@@ -41,20 +44,34 @@ impl<S: BlockStore> Heap<S> {
 
     /// `ReallocateHandle`: allocates a new block of `size` bytes, all 0, for a handle, whose old block, if it has
     /// one, becomes free first. Returns -112 (memPurErr) where the old block is locked, -108 (memFullErr) where there
-    /// is no room for the new block, and -30001 (profileErr) where the handle is a System resource's. Where the host
-    /// is out of memory, which can be only over a store that takes host memory, all but the zone and the count of
-    /// moves stays as it was.
-    pub fn reallocate_handle(&mut self, handle: Option<usize>, size: u32) -> Result<(), Refusal>
+    /// is no room for the new block, and -30001 (profileErr) where the handle is a System resource's. The sink is told
+    /// of the blocks that are purged for the new one, if it is to be told. Where the host is out of memory, all but the
+    /// zone and the count of moves stays as it was; over a store that takes no host memory that can be only where the
+    /// sink is to be told, and the whole heap and the sink stay as they were.
+    pub fn reallocate_handle<K: PurgeSink>(
+        &mut self,
+        handle: Option<usize>,
+        size: u32,
+        sink: &mut K,
+    ) -> Result<(), Refusal>
+        requires idle { IsIdle K.told K.waits sink.old }
         ensures answer { IsAnswer (unless (change_barred handle self.old) (packing (reallocate_handle_moves handle size)
             (reallocate_handle_searches handle size) (reallocate_handle handle size)) self.old) result self.new }
-        ensures host { result ≡ Err Refusal.HostMemory → IsTrue S.TAKES_HOST }
+        ensures told { result ≢ Err Refusal.HostMemory → K.listens sink.old ≡ true
+            → Tells K.told (gone_unless (change_barred handle self.old) (reallocate_handle_gone handle size
+            self.old.heap)) sink.old sink.new }
+        ensures untold { result ≡ Err Refusal.HostMemory → IsTrue S.TAKES_HOST
+            ⊎ ((self.new ≡ self.old) × TellsNothing K.told sink.old sink.new) }
+        ensures idle { IsIdle K.told K.waits sink.new }
+        ensures listens { K.listens sink.new ≡ K.listens sink.old }
+        ensures host { result ≡ Err Refusal.HostMemory → IsTrue S.TAKES_HOST ⊎ (K.listens sink.old ≡ true) }
         ensures kept { result ≡ Err Refusal.HostMemory → KeepsNames self.old self.new }
         ensures lies { self.new.window ≡ self.old.window }
     {
         if let Some(code) = self.change_barred(handle) {
             return self.refuse(code);
         }
-        let answer = self.reallocate(handle, size);
+        let answer = self.reallocate(handle, size, sink);
         self.note(answer)
     }
 
@@ -69,16 +86,30 @@ impl<S: BlockStore> Heap<S> {
         Ok(())
     }
 
-    /// Allocates a new block for a handle, and counts the searches for room.
-    fn reallocate(&mut self, handle: Option<usize>, size: u32) -> Result<(), Refusal>
+    /// Allocates a new block for a handle, counts the searches for room, and tells a sink of the blocks that are purged,
+    /// if it is to be told.
+    fn reallocate<K: PurgeSink>(
+        &mut self,
+        handle: Option<usize>,
+        size: u32,
+        sink: &mut K,
+    ) -> Result<(), Refusal>
+        requires idle { IsIdle K.told K.waits sink.old }
         ensures answer { IsAnswer (moving (reallocate_handle_moves handle size self.old.heap)
             (searching (reallocate_handle_searches handle size self.old.heap)
             (silent (reallocate_handle handle size) self.old))) result self.new }
-        ensures host { result ≡ Err Refusal.HostMemory → IsTrue S.TAKES_HOST }
+        ensures told { result ≢ Err Refusal.HostMemory → K.listens sink.old ≡ true
+            → Tells K.told (reallocate_handle_gone handle size self.old.heap) sink.old sink.new }
+        ensures untold { result ≡ Err Refusal.HostMemory → IsTrue S.TAKES_HOST
+            ⊎ ((self.new ≡ self.old) × TellsNothing K.told sink.old sink.new) }
+        ensures idle { IsIdle K.told K.waits sink.new }
+        ensures listens { K.listens sink.new ≡ K.listens sink.old }
+        ensures host { result ≡ Err Refusal.HostMemory → IsTrue S.TAKES_HOST ⊎ (K.listens sink.old ≡ true) }
         ensures kept { result ≡ Err Refusal.HostMemory → KeepsNames self.old self.new }
         ensures lies { self.new.window ≡ self.old.window }
     {
         let slot = loose_slot(&self.store, &self.names, handle)?;
+        tell_renewal(&self.store, &self.names, slot, size, sink)?;
         let room = renew_block(&mut self.store, slot, size)?;
         self.account(Grown {
             done: room.place.is_some(),
@@ -104,6 +135,32 @@ fn loose_slot<S: BlockStore>(
         return Err(Refusal::Code(OsErr::PURGED));
     }
     Ok(found.slot)
+}
+
+/// Tells a sink, if it is to be told, of the blocks that are purged for a new block of `size` bytes for `slot`, whose old
+/// block, if there is one, counts as free. If the sink finds the host out of memory, it is told of none.
+pub fn tell_renewal<S: BlockStore, K: PurgeSink>(
+    store: &S,
+    names: &[Anchor],
+    slot: u32,
+    size: u32,
+    sink: &mut K,
+) -> Result<(), AllocError>
+    requires idle { IsIdle K.told K.waits sink.old }
+    ensures told { OnOk result (K.listens sink.old ≡ true
+        → Tells K.told (renewed_gone names.now slot size (S.zone store.now)) sink.old sink.new) }
+    ensures untold { OnErr result (TellsNothing K.told sink.old sink.new) }
+    ensures idle { IsIdle K.told K.waits sink.new }
+    ensures listens { K.listens sink.new ≡ K.listens sink.old }
+    ensures host { IsErr result → K.listens sink.old ≡ true }
+{
+    if !sink.listens() {
+        return Ok(());
+    }
+    match phys(size) {
+        Some(bytes) => tell_placement(store, names, bytes, Sparing::Freed(slot), sink),
+        None => Ok(()),
+    }
 }
 
 /// Allocates a new block of `size` bytes, all 0, for `slot`, where there is room once the old block of `slot`, if

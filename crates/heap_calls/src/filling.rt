@@ -1,10 +1,13 @@
 //! New blocks with given properties and bytes.
 
-ghost use Rattle.std.specs.Prelude.{◌≡◌, ◌⊎◌, ◌+◌, ◌<◌, ◌≤◌, false, Err, [], map, length, IfOk, OnErr, IsErr, IsTrue};
+ghost use Rattle.std.specs.Prelude.{◌≡◌, ◌≢◌, ◌⊎◌, ◌+◌, ◌<◌, ◌≤◌, true, false, Err, [], map, length, IfOk, OnOk, OnErr, IsErr};
+ghost use Rattle.std.specs.Prelude.{IsTrue};
 ghost use Rattle.std.specs.Prelude.{vec_len, vec_capacity};
 ghost use Rattle.heap_calls.specs.State.{Plain};
 ghost use Rattle.heap_calls.specs.Inside.{inside, has_block, new_inside, new_empty_inside, refill_inside};
 ghost use Rattle.heap_calls.specs.Inside.{resource_role, new_all};
+ghost use Rattle.heap_calls.specs.Gone.{Tells, TellsNothing, IsIdle, refill_gone};
+ghost use Rattle.heap_calls.specs.Inner.Telling.{renewed_gone};
 ghost use Rattle.heap_calls.specs.Inner.Given.{IsAnswer, KeepsMoves, KeepsNames};
 ghost use Rattle.heap_calls.specs.Inner.Filling.{IsSizeOf, IsFresh, IsReplaced, IsFilling, IsRefilled, refilled_moves};
 ghost use Rattle.heap_calls.specs.Inner.Filling.{owned_by, wanted_as, IsNext};
@@ -21,13 +24,14 @@ ghost use Rattle.block_store.specs.declared.sparing.Sparing.TheVariants.{Nothing
 
 use crate::anchor::{Anchor, name_handle, slot_of};
 use crate::base::Taken;
-use crate::emptying::renew_block;
+use crate::emptying::{renew_block, tell_renewal};
 use crate::growing_in_place::Grown;
 use crate::heap::Heap;
 use crate::log::Log;
 use crate::new_block::new_block;
 use crate::refusal::Refusal;
 use crate::search::Room;
+use crate::sink::{NoSink, PurgeSink};
 use block_store::{BlockStore, Flags, Sparing};
 use std::alloc::{AllocError, Global};
 
@@ -73,7 +77,7 @@ impl<S: BlockStore> Heap<S> {
         ensures kept { result ≡ Err Refusal.HostMemory → KeepsMoves self.old self.new }
         ensures lies { self.new.window ≡ self.old.window }
     {
-        let answer = self.make_empty_handle();
+        let answer = self.make_empty_handle(&mut NoSink);
         self.own(answer, guarded)
     }
 
@@ -103,16 +107,31 @@ impl<S: BlockStore> Heap<S> {
     }
 
     /// Gives an empty handle a block of these bytes and properties. Returns -108 (memFullErr) where there is no room
-    /// for the block. Where the host is out of memory, which can be only over a store that takes host memory, all but
-    /// the zone and the count of moves stays as it was.
-    pub fn refill(&mut self, number: usize, bytes: &[u8], flags: Flags) -> Result<(), Refusal>
+    /// for the block. The sink is told of the blocks that are purged for it, if it is to be told. Where the host is out
+    /// of memory, all but the zone and the count of moves stays as it was; over a store that takes no host memory that
+    /// can be only where the sink is to be told, and the whole heap and the sink stay as they were.
+    pub fn refill<K: PurgeSink>(
+        &mut self,
+        number: usize,
+        bytes: &[u8],
+        flags: Flags,
+        sink: &mut K,
+    ) -> Result<(), Refusal>
         requires emptied { has_block number self.old.heap ≡ false }
+        requires idle { IsIdle K.told K.waits sink.old }
         ensures answer { IsAnswer (refill_inside number flags bytes.now self.old) result self.new }
-        ensures host { result ≡ Err Refusal.HostMemory → IsTrue S.TAKES_HOST }
+        ensures told { result ≢ Err Refusal.HostMemory → K.listens sink.old ≡ true
+            → Tells K.told (refill_gone number (length bytes.now) self.old.heap) sink.old sink.new }
+        ensures untold { result ≡ Err Refusal.HostMemory → IsTrue S.TAKES_HOST
+            ⊎ ((self.new ≡ self.old) × TellsNothing K.told sink.old sink.new) }
+        ensures idle { IsIdle K.told K.waits sink.new }
+        ensures listens { K.listens sink.new ≡ K.listens sink.old }
+        ensures host { result ≡ Err Refusal.HostMemory → IsTrue S.TAKES_HOST ⊎ (K.listens sink.old ≡ true) }
         ensures kept { result ≡ Err Refusal.HostMemory → KeepsNames self.old self.new }
         ensures lies { self.new.window ≡ self.old.window }
     {
         let found = slot_of(&self.names, Some(number))?;
+        tell_refilling(&self.store, &self.names, found.slot, bytes, sink)?;
         let room = refill_block(&mut self.store, found.slot, bytes, flags)?;
         self.account(Grown {
             done: room.place.is_some(),
@@ -186,7 +205,7 @@ fn new_block_for<S: BlockStore>(store: &mut S, bytes: &[u8]) -> Result<Taken, Al
     ensures host { IsErr result → IsTrue S.TAKES_HOST }
 {
     let size = size_of(bytes);
-    new_block(store, size, Sparing::Nothing)
+    new_block(store, &[], size, Sparing::Nothing, &mut NoSink)
 }
 
 /// Puts a new block of these bytes and properties where there is room, under a new slot, and returns that slot;
@@ -232,6 +251,27 @@ fn renew_block_for<S: BlockStore>(
 {
     let size = size_of(bytes);
     renew_block(store, slot, size)
+}
+
+/// Tells a sink, if it is to be told, of the blocks that are purged for a new block of these bytes for `slot`. If the
+/// sink finds the host out of memory, it is told of none.
+fn tell_refilling<S: BlockStore, K: PurgeSink>(
+    store: &S,
+    names: &[Anchor],
+    slot: u32,
+    bytes: &[u8],
+    sink: &mut K,
+) -> Result<(), AllocError>
+    requires idle { IsIdle K.told K.waits sink.old }
+    ensures told { OnOk result (K.listens sink.old ≡ true
+        → Tells K.told (renewed_gone names.now slot (length bytes.now) (S.zone store.now)) sink.old sink.new) }
+    ensures untold { OnErr result (TellsNothing K.told sink.old sink.new) }
+    ensures idle { IsIdle K.told K.waits sink.new }
+    ensures listens { K.listens sink.new ≡ K.listens sink.old }
+    ensures host { IsErr result → K.listens sink.old ≡ true }
+{
+    let size = size_of(bytes);
+    tell_renewal(store, names, slot, size, sink)
 }
 
 /// Puts a new block of these bytes and properties, where there is room, for `slot`, which has none. Nothing changes

@@ -17,12 +17,17 @@ ghost use Rattle.heap_calls.specs.Inner.SearchLaws.{growth-rises, growth-ends, g
 ghost use Rattle.heap_calls.specs.Inner.Least.{CanGrow};
 ghost use Rattle.heap_calls.specs.Inner.Numbered.{KeepsNonrelocatable};
 ghost use Rattle.heap_calls.specs.Inner.Packed.{Packs};
+ghost use Rattle.heap_calls.specs.Inner.Telling.{try_gone};
+ghost use Rattle.heap_calls.specs.Gone.{Tells, TellsNothing, IsIdle};
 ghost use Rattle.heap_calls.specs.Searches.{room_searches};
 ghost use Rattle.block_store.specs.declared.measures.TheConstants.{GREATEST_ZONE};
 
+use crate::anchor::Anchor;
 use crate::growing_in_place::{Grown, bytes_at};
 use crate::least::{Sought, any_goes, least_search};
 use crate::search::{Placement, placement_after};
+use crate::sink::PurgeSink;
+use crate::telling::tell;
 use block_store::{BlockStore, Sparing};
 use mac_words::phys;
 use std::alloc::AllocError;
@@ -336,4 +341,37 @@ pub fn grow_movable<S: BlockStore>(
         done: true,
         searches,
     })
+}
+
+/// Tells a sink of the blocks that are purged where the unlocked block of `slot` grows to `bytes` bytes of content, if
+/// there is room. If the sink finds the host out of memory, it is told of none.
+pub fn tell_growth<S: BlockStore, K: PurgeSink>(
+    store: &S,
+    names: &[Anchor],
+    slot: u32,
+    bytes: u32,
+    sparing: Sparing,
+    sink: &mut K,
+) -> Result<(), AllocError>
+    requires spared { Spares sparing (is_relocatable slot) }
+    requires stays { Stays sparing (is_relocatable slot) }
+    requires more { IsToGrow (is_relocatable slot) bytes (S.zone store.now) }
+    requires fits { IsSome (physical_size bytes) }
+    requires idle { IsIdle K.told K.waits sink.old }
+    ensures told { OnOk result (Tells K.told (try_gone names.now (grow_mover (is_relocatable slot)
+        (grown bytes (spot (is_relocatable slot) (S.zone store.now)))) sparing (S.zone store.now)) sink.old sink.new) }
+    ensures untold { OnErr result (TellsNothing K.told sink.old sink.new) }
+    ensures idle { IsIdle K.told K.waits sink.new }
+    ensures listens { K.listens sink.new ≡ K.listens sink.old }
+    ensures host { IsErr result → K.listens sink.old ≡ true }
+{
+    let Some(takes) = phys(bytes) else {
+        unreachable!()
+    };
+    let more = takes - bytes_of(store, slot);
+    let found = find_growth(store, slot, bytes, takes, more, sparing);
+    if found.growth.is_none() {
+        return Ok(());
+    }
+    tell(store, names, 0, found.purges, sparing, sink)
 }

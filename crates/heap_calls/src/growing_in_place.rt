@@ -1,7 +1,7 @@
 //! Growth of a block where it stands.
 
 ghost use Rattle.std.specs.Prelude.{◌≡◌, ◌≤◌, ◌<◌, ◌-◌, ◌+◌, ◌%◌, ◌++◌, ◌∷◌, true, false, Some, IsSome, IfSome};
-ghost use Rattle.std.specs.Prelude.{IsSomeAnd, IfOk, OnOk, IsErr, IsTrue};
+ghost use Rattle.std.specs.Prelude.{IsSomeAnd, IfOk, OnOk, OnErr, IsErr, IsTrue};
 ghost use Rattle.mac_words.specs.Size.{padded, phys as physical_size};
 ghost use Rattle.block_store.specs.Block.{size, sizes, resized};
 ghost use Rattle.block_store.specs.Find.{IsEdge};
@@ -14,10 +14,15 @@ ghost use Rattle.heap_calls.specs.Inner.GrowingInPlace.{made_zone, enough, seen_
 ghost use Rattle.heap_calls.specs.Inner.SearchLaws.{above-rises, above-ends};
 ghost use Rattle.heap_calls.specs.Inner.Least.{IsMost, enough_above};
 ghost use Rattle.heap_calls.specs.Inner.Numbered.{KeepsNonrelocatable};
+ghost use Rattle.heap_calls.specs.Inner.Telling.{OpensNone, still_gone};
+ghost use Rattle.heap_calls.specs.Gone.{Tells, TellsNothing, IsIdle};
 ghost use Rattle.heap_calls.specs.Searches.{room_searches, in_place_searches};
 ghost use Rattle.block_store.specs.declared.measures.TheConstants.{GREATEST_ZONE};
 
+use crate::anchor::Anchor;
 use crate::least::{Sought, least_search};
+use crate::sink::PurgeSink;
+use crate::telling::tell;
 use block_store::{BlockStore, MASTERS_SIZE, Seen, Sparing};
 use mac_words::phys;
 use std::alloc::AllocError;
@@ -82,6 +87,41 @@ pub fn grow_in_place<S: BlockStore>(
         done: true,
         searches: fewest.searches,
     })
+}
+
+/// Tells a sink of the blocks that are purged where the nonrelocatable or locked block at `place` grows to `bytes` bytes
+/// of content, if there is room. If the sink finds the host out of memory, it is told of none.
+pub fn tell_in_place<S: BlockStore, K: PurgeSink>(
+    store: &S,
+    names: &[Anchor],
+    place: u32,
+    bytes: u32,
+    sparing: Sparing,
+    sink: &mut K,
+) -> Result<(), AllocError>
+    requires still { IsSomeAnd (spot_at place (S.zone store.now)) (λ s. in_run s.here ≡ false) }
+    requires grows { IsSomeAnd (spot_at place (S.zone store.now)) (λ s. size s.here < size (resized bytes s.here)) }
+    requires fits { IsSome (physical_size bytes) }
+    requires whole { OpensNone sparing }
+    requires idle { IsIdle K.told K.waits sink.old }
+    ensures told { OnOk result (IfSome (spot_at place (S.zone store.now))
+        (λ s. Tells K.told (still_gone names.now sparing (resized bytes s.here) s) sink.old sink.new)) }
+    ensures untold { OnErr result (TellsNothing K.told sink.old sink.new) }
+    ensures idle { IsIdle K.told K.waits sink.new }
+    ensures listens { K.listens sink.new ≡ K.listens sink.old }
+    ensures host { IsErr result → K.listens sink.old ≡ true }
+{
+    let taken = bytes_at(store, place);
+    let wanted = padded_size(bytes);
+    let more = wanted - taken;
+    if has_room_at(store, place + taken, more) {
+        return Ok(());
+    }
+    let fewest = least_purges(store, place, more, sparing);
+    let Some(purges) = fewest.purges else {
+        return Ok(());
+    };
+    tell(store, names, place + taken, purges, sparing, sink)
 }
 
 /// Returns the physical size of a block with `bytes` bytes of content.
@@ -184,6 +224,7 @@ fn least_purges<S: BlockStore>(store: &S, place: u32, bytes: u32, sparing: Spari
         (segments s.above).first result.purges) }
     ensures searches { IfSome (spot_at place (S.zone store.now))
         (λ s. result.searches ≡ room_searches (enough bytes) (spared sparing) (segments s.above).first) }
+    ensures counted { IfSome result.purges (λ k. k + 1 ≡ result.searches) }
 {
     let most = store.purgeable_after(place, sparing);
     let sought = RunAbove {

@@ -1,13 +1,15 @@
 //! The heap of an application.
 
-ghost use Rattle.std.specs.Prelude.{◌≡◌, ◌≢◌, ◌⊎◌, ◌≤◌, ◌<◌, ◌+◌, IsTrue, OnOk, OnErr, length, max, vec_capacity};
+ghost use Rattle.heap_calls.specs.Gone.{Tells, TellsNothing, IsIdle, new_handle_gone, slot_gone};
+ghost use Rattle.heap_calls.specs.Refused.{LeavesMasters};
+ghost use Rattle.std.specs.Prelude.{◌≡◌, ◌≢◌, ◌⊎◌, ◌≤◌, ◌<◌, ◌+◌, true, Err, IsTrue, OnOk, OnErr, length, max, vec_capacity};
 ghost use Rattle.block_store.specs.Block.{fresh, sizes};
 ghost use Rattle.heap_calls.specs.Busy.{barred, change_barred, either_barred, unless, unless_silent};
 ghost use Rattle.heap_calls.specs.Asked.{packing};
 ghost use Rattle.heap_calls.specs.Inner.Given.{IsAnswer, IsShown, KeepsNames, FindsBlock, last_after};
 ghost use Rattle.heap_calls.specs.Inner.Numbered.{Agrees};
 ghost use Rattle.heap_calls.specs.State.{fresh_memory};
-ghost use Rattle.heap_calls.specs.Answer.{dispose_handle, get_handle_size, free_mem, put, show, noting, searching};
+ghost use Rattle.heap_calls.specs.Answer.{nothing, dispose_handle, get_handle_size, free_mem, put, show, noting, searching};
 ghost use Rattle.heap_calls.specs.Answer.{silent, moving};
 ghost use Rattle.heap_calls.specs.Slots.{new_handle};
 ghost use Rattle.heap_calls.specs.Moves.{new_handle_moves};
@@ -21,6 +23,7 @@ use crate::new_block::new_block;
 use crate::pointers::find_named;
 use crate::reaching::reach;
 use crate::refusal::Refusal;
+use crate::sink::PurgeSink;
 use block_store::{BlockStore, HEADER_SIZE, Sparing};
 use mac_words::OsErr;
 use std::alloc::{AllocError, Global};
@@ -105,18 +108,29 @@ impl<S: BlockStore> Heap<S> {
 
     /// `NewHandle`: allocates a relocatable block of `size` bytes, all 0, and returns a handle to the block. Returns
     /// -108 (memFullErr) where the zone has no room for the block, or where all master pointers are used and there is
-    /// no room for a block of more. Where the host is out of memory, all but the zone and the count of moves stays as
-    /// it was, and the whole heap does over a store that takes no host memory.
-    pub fn new_handle(&mut self, size: u32) -> Result<usize, Refusal>
+    /// no room for a block of more. The sink is told of the blocks that are purged for that, and then of those for the
+    /// block, if it is to be told. Where the host is out of memory, all but the zone and the count of moves stays as it
+    /// was; over a store that takes no host memory the whole heap and the sink do, but where the sink found the host out
+    /// of memory behind a new master pointer block, which then stays.
+    pub fn new_handle<K: PurgeSink>(&mut self, size: u32, sink: &mut K) -> Result<usize, Refusal>
+        requires idle { IsIdle K.told K.waits sink.old }
+        ensures told { result ≢ Err Refusal.HostMemory → K.listens sink.old ≡ true
+            → Tells K.told (new_handle_gone size self.old.heap) sink.old sink.new }
+        ensures untold { result ≡ Err Refusal.HostMemory → IsTrue S.TAKES_HOST
+            ⊎ (((self.new ≡ self.old) × TellsNothing K.told sink.old sink.new)
+            ⊎ (LeavesMasters nothing self.old self.new × Tells K.told (slot_gone nothing self.old.heap) sink.old sink.new)) }
+        ensures idle { IsIdle K.told K.waits sink.new }
+        ensures listens { K.listens sink.new ≡ K.listens sink.old }
         ensures answer { IsAnswer (packing (new_handle_moves size) (new_handle_searches size) (new_handle size)
             self.old) result self.new }
-        ensures host { result ≡ Err Refusal.HostMemory → IsTrue S.TAKES_HOST ⊎ (self.new ≡ self.old) }
-        ensures reserved { result ≡ Err Refusal.HostMemory
-            → IsTrue S.TAKES_HOST ⊎ (self.old.log.reserved ≤ length self.old.heap.names) }
+        ensures host { result ≡ Err Refusal.HostMemory
+            → IsTrue S.TAKES_HOST ⊎ ((self.new ≡ self.old) ⊎ (K.listens sink.old ≡ true)) }
+        ensures reserved { result ≡ Err Refusal.HostMemory → IsTrue S.TAKES_HOST
+            ⊎ ((self.old.log.reserved ≤ length self.old.heap.names) ⊎ (K.listens sink.old ≡ true)) }
         ensures kept { result ≡ Err Refusal.HostMemory → KeepsNames self.old self.new }
         ensures lies { self.new.window ≡ self.old.window }
     {
-        let answer = self.make_handle(size);
+        let answer = self.make_handle(size, sink);
         self.note(answer)
     }
 
@@ -229,18 +243,28 @@ impl<S: BlockStore> Heap<S> {
         self.bytes_place(name)
     }
 
-    /// Makes a new handle with a block of `size` bytes, all 0, and counts the searches for room.
-    fn make_handle(&mut self, size: u32) -> Result<usize, Refusal>
+    /// Makes a new handle with a block of `size` bytes, all 0, and counts the searches for room, and tells a sink of
+    /// the blocks that are purged, if it is to be told.
+    fn make_handle<K: PurgeSink>(&mut self, size: u32, sink: &mut K) -> Result<usize, Refusal>
+        requires idle { IsIdle K.told K.waits sink.old }
+        ensures told { result ≢ Err Refusal.HostMemory → K.listens sink.old ≡ true
+            → Tells K.told (new_handle_gone size self.old.heap) sink.old sink.new }
+        ensures untold { result ≡ Err Refusal.HostMemory → IsTrue S.TAKES_HOST
+            ⊎ (((self.new ≡ self.old) × TellsNothing K.told sink.old sink.new)
+            ⊎ (LeavesMasters nothing self.old self.new × Tells K.told (slot_gone nothing self.old.heap) sink.old sink.new)) }
+        ensures idle { IsIdle K.told K.waits sink.new }
+        ensures listens { K.listens sink.new ≡ K.listens sink.old }
         ensures answer { IsAnswer (moving (new_handle_moves size self.old.heap)
             (searching (new_handle_searches size self.old.heap) (silent (new_handle size) self.old))) result self.new }
-        ensures host { result ≡ Err Refusal.HostMemory → IsTrue S.TAKES_HOST ⊎ (self.new ≡ self.old) }
-        ensures reserved { result ≡ Err Refusal.HostMemory
-            → IsTrue S.TAKES_HOST ⊎ (self.old.log.reserved ≤ length self.old.heap.names) }
+        ensures host { result ≡ Err Refusal.HostMemory
+            → IsTrue S.TAKES_HOST ⊎ ((self.new ≡ self.old) ⊎ (K.listens sink.old ≡ true)) }
+        ensures reserved { result ≡ Err Refusal.HostMemory → IsTrue S.TAKES_HOST
+            ⊎ ((self.old.log.reserved ≤ length self.old.heap.names) ⊎ (K.listens sink.old ≡ true)) }
         ensures kept { result ≡ Err Refusal.HostMemory → KeepsNames self.old self.new }
         ensures lies { self.new.window ≡ self.old.window }
     {
         self.names.reserve(1)?;
-        let made = new_block(&mut self.store, size, Sparing::Nothing)?;
+        let made = new_block(&mut self.store, &self.names, size, Sparing::Nothing, sink)?;
         self.log.count(made.searches);
         name_handle(&mut self.names, made.slot)
     }

@@ -28,8 +28,10 @@ mod refusal;
 mod roles;
 mod search;
 mod segments;
+mod sink;
 mod sizing;
 mod stored;
+mod telling;
 
 pub use anchor::Anchor;
 pub use filling::Filling;
@@ -44,3 +46,4 @@ pub use laws::{
 pub use log::Log;
 pub use purging::Space;
 pub use refusal::Refusal;
+pub use sink::{NoSink, PurgeSink};

@@ -1,80 +1,149 @@
 //! Master pointers for handles to come, and room at the base of a run.
 
-ghost use Rattle.std.specs.Prelude.{◌≡◌, ◌⊎◌, ◌≤◌, IsTrue, length};
+ghost use Rattle.std.specs.Prelude.{◌≡◌, ◌≢◌, ◌⊎◌, ◌≤◌, true, Err, IsTrue, IsErr, OnOk, OnErr, length};
 ghost use Rattle.mac_words.specs.Size.{phys as physical_size};
 ghost use Rattle.heap_calls.specs.Inner.Given.{IsAnswer, KeepsMoves};
 ghost use Rattle.heap_calls.specs.Answer.{noting, searching, silent};
+ghost use Rattle.heap_calls.specs.Gone.{Tells, TellsNothing, IsIdle, more_masters_gone, new_empty_handle_gone, reserve_gone};
 ghost use Rattle.heap_calls.specs.Slots.{new_empty_handle};
 ghost use Rattle.heap_calls.specs.Pointers.{add_masters, reserve_mem};
 ghost use Rattle.heap_calls.specs.Searches.{new_empty_handle_searches, more_masters_searches, reserve_searches};
 
 use crate::anchor::name_handle;
-use crate::base::{make_base, make_masters, make_slot};
+use crate::base::{make_base, make_masters, make_slot, tell_base, tell_masters};
 use crate::growing_in_place::Grown;
 use crate::heap::Heap;
 use crate::refusal::Refusal;
+use crate::sink::PurgeSink;
 use block_store::{BlockStore, Sparing};
 use mac_words::{OsErr, phys};
+use std::alloc::AllocError;
 
 impl<S: BlockStore> Heap<S> {
     /// `NewEmptyHandle`: returns a new handle with no block. Returns -108 (memFullErr) where all master pointers are
-    /// used and there is no room for a block of more. Where the host is out of memory, all but the zone stays as it
-    /// was, and the whole heap does over a store that takes no host memory.
-    pub fn new_empty_handle(&mut self) -> Result<usize, Refusal>
+    /// used and there is no room for a block of more. The sink is told of the blocks that are purged for it, if it is to
+    /// be told. Where the host is out of memory, all but the zone stays as it was, and the whole heap and the sink do over
+    /// a store that takes no host memory.
+    pub fn new_empty_handle<K: PurgeSink>(&mut self, sink: &mut K) -> Result<usize, Refusal>
+        requires idle { IsIdle K.told K.waits sink.old }
         ensures answer { IsAnswer (searching (new_empty_handle_searches self.old.heap)
             (noting new_empty_handle self.old)) result self.new }
+        ensures told { result ≢ Err Refusal.HostMemory → K.listens sink.old ≡ true
+            → Tells K.told (new_empty_handle_gone self.old.heap) sink.old sink.new }
+        ensures untold { result ≡ Err Refusal.HostMemory
+            → IsTrue S.TAKES_HOST ⊎ TellsNothing K.told sink.old sink.new }
+        ensures idle { IsIdle K.told K.waits sink.new }
+        ensures listens { K.listens sink.new ≡ K.listens sink.old }
         ensures host { result ≡ Err Refusal.HostMemory → IsTrue S.TAKES_HOST ⊎ (self.new ≡ self.old) }
-        ensures reserved { result ≡ Err Refusal.HostMemory
-            → IsTrue S.TAKES_HOST ⊎ (self.old.log.reserved ≤ length self.old.heap.names) }
+        ensures reserved { result ≡ Err Refusal.HostMemory → IsTrue S.TAKES_HOST
+            ⊎ ((self.old.log.reserved ≤ length self.old.heap.names) ⊎ (K.listens sink.old ≡ true)) }
         ensures kept { result ≡ Err Refusal.HostMemory → KeepsMoves self.old self.new }
         ensures lies { self.new.window ≡ self.old.window }
     {
-        let answer = self.make_empty_handle();
+        let answer = self.make_empty_handle(sink);
         self.note(answer)
     }
 
     /// `MoreMasters`: allocates a block of 64 master pointers at the base of a run. Returns -108 (memFullErr) where
-    /// there is no room for the block. Where the host is out of memory, which can be only over a store that takes
-    /// host memory, all but the zone stays as it was.
-    pub fn more_masters(&mut self) -> Result<(), Refusal>
+    /// there is no room for the block. The sink is told of the blocks that are purged for it, if it is to be told. Where
+    /// the host is out of memory, all but the zone stays as it was; over a store that takes no host memory that can be
+    /// only where the sink is to be told, and the whole heap stays as it was.
+    pub fn more_masters<K: PurgeSink>(&mut self, sink: &mut K) -> Result<(), Refusal>
+        requires idle { IsIdle K.told K.waits sink.old }
         ensures answer { IsAnswer (searching (more_masters_searches self.old.heap) (noting add_masters self.old)) result
             self.new }
-        ensures host { result ≡ Err Refusal.HostMemory → IsTrue S.TAKES_HOST }
+        ensures told { result ≢ Err Refusal.HostMemory → K.listens sink.old ≡ true
+            → Tells K.told (more_masters_gone self.old.heap) sink.old sink.new }
+        ensures untold { result ≡ Err Refusal.HostMemory → IsTrue S.TAKES_HOST
+            ⊎ ((self.new ≡ self.old) × TellsNothing K.told sink.old sink.new) }
+        ensures idle { IsIdle K.told K.waits sink.new }
+        ensures listens { K.listens sink.new ≡ K.listens sink.old }
+        ensures host { result ≡ Err Refusal.HostMemory → IsTrue S.TAKES_HOST ⊎ (K.listens sink.old ≡ true) }
         ensures kept { result ≡ Err Refusal.HostMemory → KeepsMoves self.old self.new }
         ensures lies { self.new.window ≡ self.old.window }
     {
+        self.tell_masters(sink)?;
         let answer = self.add_masters();
         self.note(answer)
     }
 
     /// `ReserveMem`: makes room for a block of `size` bytes of content as low in the zone as can be, at the base of a
-    /// run. Returns -108 (memFullErr) where there is no room. Where the host is out of memory, which can be only over
-    /// a store that takes host memory, all but the zone stays as it was.
-    pub fn reserve_mem(&mut self, size: u32) -> Result<(), Refusal>
+    /// run. Returns -108 (memFullErr) where there is no room. The sink is told of the blocks that are purged for it, if
+    /// it is to be told. Where the host is out of memory, all but the zone stays as it was; over a store that takes no
+    /// host memory that can be only where the sink is to be told, and the whole heap stays as it was.
+    pub fn reserve_mem<K: PurgeSink>(&mut self, size: u32, sink: &mut K) -> Result<(), Refusal>
+        requires idle { IsIdle K.told K.waits sink.old }
         ensures answer { IsAnswer (searching (reserve_searches (physical_size size) self.old.heap)
             (noting (reserve_mem size) self.old)) result self.new }
-        ensures host { result ≡ Err Refusal.HostMemory → IsTrue S.TAKES_HOST }
+        ensures told { result ≢ Err Refusal.HostMemory → K.listens sink.old ≡ true
+            → Tells K.told (reserve_gone (physical_size size) self.old.heap) sink.old sink.new }
+        ensures untold { result ≡ Err Refusal.HostMemory → IsTrue S.TAKES_HOST
+            ⊎ ((self.new ≡ self.old) × TellsNothing K.told sink.old sink.new) }
+        ensures idle { IsIdle K.told K.waits sink.new }
+        ensures listens { K.listens sink.new ≡ K.listens sink.old }
+        ensures host { result ≡ Err Refusal.HostMemory → IsTrue S.TAKES_HOST ⊎ (K.listens sink.old ≡ true) }
         ensures kept { result ≡ Err Refusal.HostMemory → KeepsMoves self.old self.new }
         ensures lies { self.new.window ≡ self.old.window }
     {
+        self.tell_reserve(size, sink)?;
         let answer = self.reserve_base(size);
         self.note(answer)
     }
 
-    /// Makes a new handle with no block, and counts the searches for room.
-    pub(crate) fn make_empty_handle(&mut self) -> Result<usize, Refusal>
+    /// Makes a new handle with no block, counts the searches for room, and tells a sink of the blocks that are purged, if
+    /// it is to be told.
+    pub(crate) fn make_empty_handle<K: PurgeSink>(&mut self, sink: &mut K) -> Result<usize, Refusal>
+        requires idle { IsIdle K.told K.waits sink.old }
+        ensures told { result ≢ Err Refusal.HostMemory → K.listens sink.old ≡ true
+            → Tells K.told (new_empty_handle_gone self.old.heap) sink.old sink.new }
+        ensures untold { result ≡ Err Refusal.HostMemory
+            → IsTrue S.TAKES_HOST ⊎ TellsNothing K.told sink.old sink.new }
+        ensures idle { IsIdle K.told K.waits sink.new }
+        ensures listens { K.listens sink.new ≡ K.listens sink.old }
         ensures answer { IsAnswer (searching (new_empty_handle_searches self.old.heap)
             (silent new_empty_handle self.old)) result self.new }
         ensures host { result ≡ Err Refusal.HostMemory → IsTrue S.TAKES_HOST ⊎ (self.new ≡ self.old) }
-        ensures reserved { result ≡ Err Refusal.HostMemory
-            → IsTrue S.TAKES_HOST ⊎ (self.old.log.reserved ≤ length self.old.heap.names) }
+        ensures reserved { result ≡ Err Refusal.HostMemory → IsTrue S.TAKES_HOST
+            ⊎ ((self.old.log.reserved ≤ length self.old.heap.names) ⊎ (K.listens sink.old ≡ true)) }
         ensures kept { result ≡ Err Refusal.HostMemory → KeepsMoves self.old self.new }
         ensures lies { self.new.window ≡ self.old.window }
     {
         self.names.reserve(1)?;
-        let taken = make_slot(&mut self.store, Sparing::Nothing)?;
+        let taken = make_slot(&mut self.store, &self.names, Sparing::Nothing, sink)?;
         self.log.count(taken.searches);
         name_handle(&mut self.names, taken.slot)
+    }
+
+    /// Tells a sink, if it is to be told, of the blocks that `MoreMasters` is to purge.
+    fn tell_masters<K: PurgeSink>(&self, sink: &mut K) -> Result<(), AllocError>
+        requires idle { IsIdle K.told K.waits sink.old }
+        ensures told { OnOk result (K.listens sink.old ≡ true
+            → Tells K.told (more_masters_gone self.now.heap) sink.old sink.new) }
+        ensures untold { OnErr result (TellsNothing K.told sink.old sink.new) }
+        ensures idle { IsIdle K.told K.waits sink.new }
+        ensures listens { K.listens sink.new ≡ K.listens sink.old }
+        ensures host { IsErr result → K.listens sink.old ≡ true }
+    {
+        tell_masters(&self.store, &self.names, Sparing::Nothing, sink)
+    }
+
+    /// Tells a sink, if it is to be told, of the blocks that `ReserveMem` is to purge.
+    fn tell_reserve<K: PurgeSink>(&self, size: u32, sink: &mut K) -> Result<(), AllocError>
+        requires idle { IsIdle K.told K.waits sink.old }
+        ensures told { OnOk result (K.listens sink.old ≡ true
+            → Tells K.told (reserve_gone (physical_size size) self.now.heap) sink.old sink.new) }
+        ensures untold { OnErr result (TellsNothing K.told sink.old sink.new) }
+        ensures idle { IsIdle K.told K.waits sink.new }
+        ensures listens { K.listens sink.new ≡ K.listens sink.old }
+        ensures host { IsErr result → K.listens sink.old ≡ true }
+    {
+        if !sink.listens() {
+            return Ok(());
+        }
+        let Some(bytes) = phys(size) else {
+            return Ok(());
+        };
+        tell_base(&self.store, &self.names, bytes, Sparing::Nothing, sink)
     }
 
     /// Allocates a block of 64 master pointers, and counts the searches for room.

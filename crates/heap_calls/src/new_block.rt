@@ -1,7 +1,9 @@
 //! New relocatable blocks.
 
 ghost use Rattle.heap_calls.specs.Inner.Numbered.{KeepsNonrelocatable};
-ghost use Rattle.std.specs.Prelude.{◌≡◌, ◌≤◌, false, IfOk, OnErr, IsErr, IsTrue};
+ghost use Rattle.std.specs.Prelude.{◌≡◌, ◌⊎◌, ◌≤◌, true, false, IfOk, OnOk, OnErr, IsErr, IsTrue};
+ghost use Rattle.heap_calls.specs.Gone.{Tells, TellsNothing, IsIdle};
+ghost use Rattle.heap_calls.specs.Inner.Telling.{fresh_gone, new_gone, LeavesSlot};
 ghost use Rattle.block_store.specs.Block.{is_relocatable};
 ghost use Rattle.block_store.specs.Rest.{KeepsSlots};
 ghost use Rattle.block_store.specs.Run.{has};
@@ -10,8 +12,10 @@ ghost use Rattle.heap_calls.specs.Inner.NewBlock.{IsAdded, IsNewBlock, given_bac
 ghost use Rattle.heap_calls.specs.Inner.NewSlot.{HasMore};
 ghost use Rattle.heap_calls.specs.Inner.Packed.{Packs, content_moves, new_moves};
 
+use crate::anchor::Anchor;
 use crate::base::{Taken, make_slot};
-use crate::search::{Room, make_room};
+use crate::search::{Room, make_room, tell_placement};
+use crate::sink::PurgeSink;
 use block_store::{BlockStore, Sparing};
 use mac_words::phys;
 use std::alloc::AllocError;
@@ -58,14 +62,49 @@ fn add_block<S: BlockStore>(
     }
 }
 
-/// Puts a new block of `size` bytes, all 0, where there is room, under a new slot, and returns that slot; `None`
-/// where there is no unused slot and no room for more, where the block would be too large, or where there is no room
-/// for the block.
-pub fn new_block<S: BlockStore>(
-    store: &mut S,
+/// Tells a sink, if it is to be told, of the blocks that are purged for the place of a new block of `size` bytes. If the
+/// sink finds the host out of memory, it is told of none.
+fn tell_block<S: BlockStore, K: PurgeSink>(
+    store: &S,
+    names: &[Anchor],
     size: u32,
     sparing: Sparing,
+    sink: &mut K,
+) -> Result<(), AllocError>
+    requires idle { IsIdle K.told K.waits sink.old }
+    ensures told { OnOk result (K.listens sink.old ≡ true
+        → Tells K.told (fresh_gone names.now sparing size (S.zone store.now)) sink.old sink.new) }
+    ensures untold { OnErr result (TellsNothing K.told sink.old sink.new) }
+    ensures idle { IsIdle K.told K.waits sink.new }
+    ensures listens { K.listens sink.new ≡ K.listens sink.old }
+    ensures host { IsErr result → K.listens sink.old ≡ true }
+{
+    if !sink.listens() {
+        return Ok(());
+    }
+    match phys(size) {
+        Some(bytes) => tell_placement(store, names, bytes, sparing, sink),
+        None => Ok(()),
+    }
+}
+
+/// Puts a new block of `size` bytes, all 0, where there is room, under a new slot, and returns that slot; `None`
+/// where there is no unused slot and no room for more, where the block would be too large, or where there is no room
+/// for the block. A sink is told of the blocks that are purged for the slot, and then for the block, if it is to be told.
+pub fn new_block<S: BlockStore, K: PurgeSink>(
+    store: &mut S,
+    names: &[Anchor],
+    size: u32,
+    sparing: Sparing,
+    sink: &mut K,
 ) -> Result<Taken, AllocError>
+    requires idle { IsIdle K.told K.waits sink.old }
+    ensures told { OnOk result (K.listens sink.old ≡ true → Tells K.told
+        (new_gone names.now sparing size (S.rest store.old).unused (S.zone store.old)) sink.old sink.new) }
+    ensures left { OnErr result (IsTrue S.TAKES_HOST ⊎ LeavesSlot K.told names.now sparing (S.zone store.old)
+        (S.rest store.old) (S.zone store.new) (S.rest store.new) sink.old sink.new) }
+    ensures idle { IsIdle K.told K.waits sink.new }
+    ensures listens { K.listens sink.new ≡ K.listens sink.old }
     ensures answer { IfOk result (λ r. IsNewBlock sparing size (S.zone store.old) (S.rest store.old) r.slot
         (S.zone store.new) (S.rest store.new)) }
     ensures kept { OnErr result (HasMore (S.rest store.old) (S.rest store.new)) }
@@ -74,12 +113,16 @@ pub fn new_block<S: BlockStore>(
         (S.zone store.old)) }
     ensures moves { IfOk result (λ _. Packs (new_moves sparing size (S.rest store.old).unused (S.zone store.old))
         (S.rest store.old) (S.rest store.new)) }
-    ensures host { IsErr result → IsTrue S.TAKES_HOST }
+    ensures host { IsErr result → IsTrue S.TAKES_HOST ⊎ (K.listens sink.old ≡ true) }
 {
-    let taken = make_slot(store, sparing)?;
+    let taken = make_slot(store, names, sparing, sink)?;
     let Some(slot) = taken.slot else {
         return Ok(taken);
     };
+    if let Err(error) = tell_block(store, names, size, sparing, sink) {
+        store.give_slot(slot);
+        return Err(error);
+    }
     let room = add_block(store, slot, size, sparing)?;
     let searches = taken.searches + room.searches;
     let Some(_) = room.place else {

@@ -1,46 +1,88 @@
 //! The size of a pointer's block.
 
-ghost use Rattle.std.specs.Prelude.{◌≡◌, Some, false, IfOk, IsErr, IsTrue};
+ghost use Rattle.std.specs.Prelude.{◌≡◌, ◌≢◌, ◌⊎◌, Some, Err, true, false, IfOk, OnOk, OnErr, IsErr, IsTrue};
 ghost use Rattle.block_store.specs.Block.{is_nonrelocatable};
 ghost use Rattle.block_store.specs.Find.{FindsLowest};
 ghost use Rattle.block_store.specs.Rest.{IsRest};
 ghost use Rattle.heap_calls.specs.Asked.{seeking};
 ghost use Rattle.heap_calls.specs.Busy.{pointer_barred, unless};
 ghost use Rattle.heap_calls.specs.Answer.{nothing, noting, searching, silent};
+ghost use Rattle.heap_calls.specs.Gone.{Tells, TellsNothing, IsIdle, gone_unless, set_pointer_size_gone};
 ghost use Rattle.heap_calls.specs.Inner.Given.{IsAnswer, KeepsMoves};
 ghost use Rattle.heap_calls.specs.Inner.Growing.{fitted};
 ghost use Rattle.heap_calls.specs.Inner.GrowingInPlace.{made_zone};
 ghost use Rattle.heap_calls.specs.Inner.Numbered.{KeepsNonrelocatable};
+ghost use Rattle.heap_calls.specs.Inner.Telling.{fitted_gone};
 ghost use Rattle.heap_calls.specs.Pointers.{set_pointer_size};
 ghost use Rattle.heap_calls.specs.Searches.{size_searches, set_pointer_size_searches};
 
-use crate::anchor::target_of;
-use crate::growing_in_place::{Grown, bytes_at, grow_in_place};
+use crate::anchor::{Anchor, target_of};
+use crate::growing_in_place::{Grown, bytes_at, grow_in_place, tell_in_place};
 use crate::heap::Heap;
 use crate::refusal::Refusal;
+use crate::sink::PurgeSink;
 use block_store::{BlockStore, Sparing};
 use mac_words::phys;
 use std::alloc::AllocError;
 
 impl<S: BlockStore> Heap<S> {
     /// `SetPtrSize`: changes the logical size of a pointer's block to `size` bytes; new bytes are 0, and the block
-    /// does not move. Returns -108 (memFullErr) where there is no room. Where the host is out of memory, which can be
-    /// only over a store that takes host memory, all but the zone stays as it was.
+    /// does not move. Returns -108 (memFullErr) where there is no room. The sink is told of the blocks that are purged
+    /// for it, if it is to be told. Where the host is out of memory, all but the zone stays as it was; over a store that
+    /// takes no host memory that can be only where the sink is to be told, and the whole heap stays as it was.
     ///
     /// *Inside Macintosh: Memory*, chapter 2, "Changing the Sizes of Relocatable and Nonrelocatable Blocks".
-    pub fn set_pointer_size(&mut self, pointer: Option<usize>, size: u32) -> Result<(), Refusal>
+    pub fn set_pointer_size<K: PurgeSink>(
+        &mut self,
+        pointer: Option<usize>,
+        size: u32,
+        sink: &mut K,
+    ) -> Result<(), Refusal>
+        requires idle { IsIdle K.told K.waits sink.old }
         ensures answer { IsAnswer (unless (pointer_barred pointer self.old)
             (seeking (set_pointer_size_searches pointer size) (set_pointer_size pointer size)) self.old) result
             self.new }
-        ensures host { result ≡ Err Refusal.HostMemory → IsTrue S.TAKES_HOST }
+        ensures told { result ≢ Err Refusal.HostMemory → K.listens sink.old ≡ true → Tells K.told
+            (gone_unless (pointer_barred pointer self.old) (set_pointer_size_gone pointer size self.old.heap)) sink.old
+            sink.new }
+        ensures untold { result ≡ Err Refusal.HostMemory → IsTrue S.TAKES_HOST
+            ⊎ ((self.new ≡ self.old) × TellsNothing K.told sink.old sink.new) }
+        ensures idle { IsIdle K.told K.waits sink.new }
+        ensures listens { K.listens sink.new ≡ K.listens sink.old }
+        ensures host { result ≡ Err Refusal.HostMemory → IsTrue S.TAKES_HOST ⊎ (K.listens sink.old ≡ true) }
         ensures kept { result ≡ Err Refusal.HostMemory → KeepsMoves self.old self.new }
         ensures lies { self.new.window ≡ self.old.window }
     {
         if let Some(code) = self.pointer_barred(pointer) {
             return self.refuse(code);
         }
+        self.tell_fit_pointer(pointer, size, sink)?;
         let answer = self.fit_pointer(pointer, size);
         self.note(answer)
+    }
+
+    /// Tells a sink, if it is to be told, of the blocks that `SetPtrSize` is to purge.
+    fn tell_fit_pointer<K: PurgeSink>(
+        &self,
+        pointer: Option<usize>,
+        size: u32,
+        sink: &mut K,
+    ) -> Result<(), AllocError>
+        requires idle { IsIdle K.told K.waits sink.old }
+        ensures told { OnOk result (K.listens sink.old ≡ true
+            → Tells K.told (set_pointer_size_gone pointer size self.now.heap) sink.old sink.new) }
+        ensures untold { OnErr result (TellsNothing K.told sink.old sink.new) }
+        ensures idle { IsIdle K.told K.waits sink.new }
+        ensures listens { K.listens sink.new ≡ K.listens sink.old }
+        ensures host { IsErr result → K.listens sink.old ≡ true }
+    {
+        if !sink.listens() {
+            return Ok(());
+        }
+        let Ok(target) = target_of(&self.names, pointer) else {
+            return Ok(());
+        };
+        tell_nonrelocatable(&self.store, &self.names, target.place, size, sink)
     }
 
     /// Changes the logical size of a pointer's block, and counts the searches for room.
@@ -88,4 +130,31 @@ fn fit_nonrelocatable<S: BlockStore>(
         });
     }
     grow_in_place(store, place, size, Sparing::Nothing)
+}
+
+/// Tells a sink of the blocks that are purged where the nonrelocatable block at `place` gets `size` bytes, if there is
+/// room. If the sink finds the host out of memory, it is told of none.
+fn tell_nonrelocatable<S: BlockStore, K: PurgeSink>(
+    store: &S,
+    names: &[Anchor],
+    place: u32,
+    size: u32,
+    sink: &mut K,
+) -> Result<(), AllocError>
+    requires found { FindsLowest (is_nonrelocatable place) (S.zone store.now) (Some place) }
+    requires idle { IsIdle K.told K.waits sink.old }
+    ensures told { OnOk result (Tells K.told
+        (fitted_gone names.now (is_nonrelocatable place) Sparing.Nothing size (S.zone store.now)) sink.old sink.new) }
+    ensures untold { OnErr result (TellsNothing K.told sink.old sink.new) }
+    ensures idle { IsIdle K.told K.waits sink.new }
+    ensures listens { K.listens sink.new ≡ K.listens sink.old }
+    ensures host { IsErr result → K.listens sink.old ≡ true }
+{
+    let Some(bytes) = phys(size) else {
+        return Ok(());
+    };
+    if bytes <= bytes_at(store, place) {
+        return Ok(());
+    }
+    tell_in_place(store, names, place, size, Sparing::Nothing, sink)
 }

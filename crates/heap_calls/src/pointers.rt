@@ -1,11 +1,13 @@
 //! Pointers, and the nonrelocatable blocks that they lead to.
 
-ghost use Rattle.std.specs.Prelude.{◌≡◌, ◌≢◌, ◌⊎◌, ◌≤◌, length, IfOk, OnErr, IsErr, IsTrue};
+ghost use Rattle.std.specs.Prelude.{◌≡◌, ◌≢◌, ◌⊎◌, ◌≤◌, length, true, Err, IfOk, OnOk, OnErr, IsErr, IsTrue};
 ghost use Rattle.block_store.specs.Rest.{IsRest};
 ghost use Rattle.heap_calls.specs.Busy.{pointer_barred, unless, unless_silent};
 ghost use Rattle.heap_calls.specs.Inner.Given.{IsAnswer, IsShown, KeepsMoves};
 ghost use Rattle.heap_calls.specs.Answer.{noting, searching, silent};
 ghost use Rattle.heap_calls.specs.Inner.NewPointer.{IsNewNonrelocatable, nonrelocatable_searches};
+ghost use Rattle.heap_calls.specs.Gone.{Tells, TellsNothing, IsIdle, new_pointer_gone};
+ghost use Rattle.heap_calls.specs.Inner.Telling.{pointer_gone};
 ghost use Rattle.heap_calls.specs.Searches.{new_pointer_searches};
 ghost use Rattle.heap_calls.specs.Pointers.{new_pointer, dispose_pointer, get_pointer_size, show_pointer, put_pointer};
 ghost use Rattle.heap_calls.specs.Pointers.{block_named};
@@ -13,28 +15,37 @@ ghost use Rattle.heap_calls.specs.Inner.Pointing.{FindsHeld};
 ghost use Rattle.heap_calls.specs.Inner.Numbered.{Agrees, KeepsNonrelocatable, state_of};
 
 use crate::anchor::{Anchor, target_of};
-use crate::base::make_base;
+use crate::base::{make_base, tell_base};
 use crate::heap::{Heap, find_block};
 use crate::refusal::Refusal;
 use crate::search::Room;
+use crate::sink::PurgeSink;
 use block_store::{BlockStore, Sparing};
 use mac_words::{OsErr, phys};
 use std::alloc::AllocError;
 
 impl<S: BlockStore> Heap<S> {
     /// `NewPtr`: allocates a nonrelocatable block of `size` bytes, all 0, at the base of a run, and returns a pointer
-    /// to the block. Returns -108 (memFullErr) where the zone has no room for the block. Where the host is out of
-    /// memory, all but the zone stays as it was, and the whole heap does over a store that takes no host memory.
-    pub fn new_pointer(&mut self, size: u32) -> Result<usize, Refusal>
+    /// to the block. Returns -108 (memFullErr) where the zone has no room for the block. The sink is told of the blocks
+    /// that are purged for it, if it is to be told. Where the host is out of memory, all but the zone stays as it was,
+    /// and the whole heap and the sink do over a store that takes no host memory.
+    pub fn new_pointer<K: PurgeSink>(&mut self, size: u32, sink: &mut K) -> Result<usize, Refusal>
+        requires idle { IsIdle K.told K.waits sink.old }
         ensures answer { IsAnswer (searching (new_pointer_searches size self.old.heap)
             (noting (new_pointer size) self.old)) result self.new }
+        ensures told { result ≢ Err Refusal.HostMemory → K.listens sink.old ≡ true
+            → Tells K.told (new_pointer_gone size self.old.heap) sink.old sink.new }
+        ensures untold { result ≡ Err Refusal.HostMemory
+            → IsTrue S.TAKES_HOST ⊎ TellsNothing K.told sink.old sink.new }
+        ensures idle { IsIdle K.told K.waits sink.new }
+        ensures listens { K.listens sink.new ≡ K.listens sink.old }
         ensures host { result ≡ Err Refusal.HostMemory → IsTrue S.TAKES_HOST ⊎ (self.new ≡ self.old) }
-        ensures reserved { result ≡ Err Refusal.HostMemory
-            → IsTrue S.TAKES_HOST ⊎ (self.old.log.reserved ≤ length self.old.heap.names) }
+        ensures reserved { result ≡ Err Refusal.HostMemory → IsTrue S.TAKES_HOST
+            ⊎ ((self.old.log.reserved ≤ length self.old.heap.names) ⊎ (K.listens sink.old ≡ true)) }
         ensures kept { result ≡ Err Refusal.HostMemory → KeepsMoves self.old self.new }
         ensures lies { self.new.window ≡ self.old.window }
     {
-        let answer = self.make_pointer(size);
+        let answer = self.make_pointer(size, sink);
         self.note(answer)
     }
 
@@ -98,17 +109,26 @@ impl<S: BlockStore> Heap<S> {
         self.pointer_bytes(pointer)
     }
 
-    /// Makes a new pointer to a block of `size` bytes, all 0, and counts the searches for room.
-    fn make_pointer(&mut self, size: u32) -> Result<usize, Refusal>
+    /// Makes a new pointer to a block of `size` bytes, all 0, counts the searches for room, and tells a sink of the
+    /// blocks that are purged, if it is to be told.
+    fn make_pointer<K: PurgeSink>(&mut self, size: u32, sink: &mut K) -> Result<usize, Refusal>
+        requires idle { IsIdle K.told K.waits sink.old }
         ensures answer { IsAnswer (searching (new_pointer_searches size self.old.heap)
             (silent (new_pointer size) self.old)) result self.new }
+        ensures told { result ≢ Err Refusal.HostMemory → K.listens sink.old ≡ true
+            → Tells K.told (new_pointer_gone size self.old.heap) sink.old sink.new }
+        ensures untold { result ≡ Err Refusal.HostMemory
+            → IsTrue S.TAKES_HOST ⊎ TellsNothing K.told sink.old sink.new }
+        ensures idle { IsIdle K.told K.waits sink.new }
+        ensures listens { K.listens sink.new ≡ K.listens sink.old }
         ensures host { result ≡ Err Refusal.HostMemory → IsTrue S.TAKES_HOST ⊎ (self.new ≡ self.old) }
-        ensures reserved { result ≡ Err Refusal.HostMemory
-            → IsTrue S.TAKES_HOST ⊎ (self.old.log.reserved ≤ length self.old.heap.names) }
+        ensures reserved { result ≡ Err Refusal.HostMemory → IsTrue S.TAKES_HOST
+            ⊎ ((self.old.log.reserved ≤ length self.old.heap.names) ⊎ (K.listens sink.old ≡ true)) }
         ensures kept { result ≡ Err Refusal.HostMemory → KeepsMoves self.old self.new }
         ensures lies { self.new.window ≡ self.old.window }
     {
         self.names.reserve(1)?;
+        tell_nonrelocatable(&self.store, &self.names, size, sink)?;
         let room = add_nonrelocatable(&mut self.store, size)?;
         self.log.count(room.searches);
         let Some(place) = room.place else {
@@ -208,4 +228,29 @@ fn add_nonrelocatable<S: BlockStore>(store: &mut S, size: u32) -> Result<Room, A
         store.carve_nonrelocatable(place, size)?;
     }
     Ok(room)
+}
+
+/// Tells a sink, if it is to be told, of the blocks that are purged for a new nonrelocatable block of `size` bytes. If the
+/// sink finds the host out of memory, it is told of none.
+fn tell_nonrelocatable<S: BlockStore, K: PurgeSink>(
+    store: &S,
+    names: &[Anchor],
+    size: u32,
+    sink: &mut K,
+) -> Result<(), AllocError>
+    requires idle { IsIdle K.told K.waits sink.old }
+    ensures told { OnOk result (K.listens sink.old ≡ true
+        → Tells K.told (pointer_gone names.now size (S.zone store.now)) sink.old sink.new) }
+    ensures untold { OnErr result (TellsNothing K.told sink.old sink.new) }
+    ensures idle { IsIdle K.told K.waits sink.new }
+    ensures listens { K.listens sink.new ≡ K.listens sink.old }
+    ensures host { IsErr result → K.listens sink.old ≡ true }
+{
+    if !sink.listens() {
+        return Ok(());
+    }
+    match phys(size) {
+        Some(bytes) => tell_base(store, names, bytes, Sparing::Nothing, sink),
+        None => Ok(()),
+    }
 }

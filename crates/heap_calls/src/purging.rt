@@ -1,6 +1,6 @@
 //! Purging.
 
-ghost use Rattle.std.specs.Prelude.{◌≡◌, ◌≢◌};
+ghost use Rattle.std.specs.Prelude.{◌≡◌, ◌≢◌, true, Err, OnOk, OnErr, IsErr};
 ghost use Rattle.block_store.specs.Block.{free_sum};
 ghost use Rattle.block_store.specs.Compact.{has_room};
 ghost use Rattle.block_store.specs.Sparing.{purged, most_purges};
@@ -10,6 +10,7 @@ ghost use Rattle.block_store.proofs.Purged.Rising.{has_room-rises};
 ghost use Rattle.heap_calls.specs.Inner.Given.{IsAnswer};
 ghost use Rattle.heap_calls.specs.Answer.{noting, silent, searching, moving};
 ghost use Rattle.heap_calls.specs.Purging.{blocks_purged, purged_all, purge_mem, purge_space, max_mem};
+ghost use Rattle.heap_calls.specs.Gone.{Tells, TellsNothing, IsIdle, purge_mem_gone, max_mem_gone};
 ghost use Rattle.heap_calls.specs.Moves.{max_mem_moves};
 ghost use Rattle.heap_calls.specs.Searches.{purge_mem_searches};
 
@@ -18,8 +19,11 @@ use crate::growing_in_place::Grown;
 use crate::heap::Heap;
 use crate::least::{Sought, any_goes, least_search};
 use crate::refusal::Refusal;
+use crate::sink::PurgeSink;
+use crate::telling::tell;
 use block_store::{BlockStore, GREATEST_ZONE, HEADER_SIZE, Sparing};
 use mac_words::{OsErr, phys};
+use std::alloc::AllocError;
 
 /// What could be allocated if every block that may be purged were purged.
 #[derive(Clone, Copy, Debug, PartialEq, Eq)]
@@ -33,13 +37,22 @@ pub struct Space {
 impl<S: BlockStore> Heap<S> {
     /// `PurgeMem`: purges blocks, lowest first, until a block of `size` bytes of content has room. Nothing is moved.
     /// Returns -108 (memFullErr) where every block that may be purged is purged and there is still no room; what was
-    /// purged stays purged.
-    pub fn purge_mem(&mut self, size: u32) -> Result<(), Refusal>
+    /// purged stays purged. The sink is told of the blocks, if it is to be told, before they are purged; where it finds
+    /// the host out of memory nothing is purged.
+    pub fn purge_mem<K: PurgeSink>(&mut self, size: u32, sink: &mut K) -> Result<(), Refusal>
+        requires idle { IsIdle K.told K.waits sink.old }
         ensures answer { IsAnswer (searching (purge_mem_searches size self.old.heap) (noting (purge_mem size) self.old))
             result self.new }
-        ensures host { result ≢ Err Refusal.HostMemory }
+        ensures told { result ≢ Err Refusal.HostMemory → K.listens sink.old ≡ true
+            → Tells K.told (purge_mem_gone size self.old.heap) sink.old sink.new }
+        ensures untold { result ≡ Err Refusal.HostMemory → TellsNothing K.told sink.old sink.new }
+        ensures idle { IsIdle K.told K.waits sink.new }
+        ensures listens { K.listens sink.new ≡ K.listens sink.old }
+        ensures host { result ≡ Err Refusal.HostMemory → K.listens sink.old ≡ true }
+        ensures kept { result ≡ Err Refusal.HostMemory → self.new ≡ self.old }
         ensures lies { self.new.window ≡ self.old.window }
     {
+        self.tell_purge_mem(size, sink)?;
         let answer = self.purge_for(size);
         self.note(answer)
     }
@@ -67,8 +80,61 @@ impl<S: BlockStore> Heap<S> {
     }
 
     /// `MaxMem`: purges every block that may be purged, compacts all runs of movable blocks, and returns the logical
-    /// size in bytes of the largest block that can then be allocated.
-    pub fn max_mem(&mut self) -> u32
+    /// size in bytes of the largest block that can then be allocated. The sink is told of the blocks, if it is to be
+    /// told, before they are purged; where it finds the host out of memory nothing happens.
+    pub fn max_mem<K: PurgeSink>(&mut self, sink: &mut K) -> Result<u32, Refusal>
+        requires idle { IsIdle K.told K.waits sink.old }
+        ensures answer { IsAnswer (moving (max_mem_moves self.old.heap) (noting max_mem self.old)) result self.new }
+        ensures told { result ≢ Err Refusal.HostMemory → K.listens sink.old ≡ true
+            → Tells K.told (max_mem_gone self.old.heap) sink.old sink.new }
+        ensures untold { result ≡ Err Refusal.HostMemory → TellsNothing K.told sink.old sink.new }
+        ensures idle { IsIdle K.told K.waits sink.new }
+        ensures listens { K.listens sink.new ≡ K.listens sink.old }
+        ensures host { result ≡ Err Refusal.HostMemory → K.listens sink.old ≡ true }
+        ensures kept { result ≡ Err Refusal.HostMemory → self.new ≡ self.old }
+        ensures lies { self.new.window ≡ self.old.window }
+    {
+        self.tell_max_mem(sink)?;
+        Ok(self.purge_and_compact())
+    }
+
+    /// Tells a sink, if it is to be told, of the blocks that `PurgeMem` is to purge.
+    fn tell_purge_mem<K: PurgeSink>(&self, size: u32, sink: &mut K) -> Result<(), AllocError>
+        requires idle { IsIdle K.told K.waits sink.old }
+        ensures told { OnOk result (K.listens sink.old ≡ true
+            → Tells K.told (purge_mem_gone size self.now.heap) sink.old sink.new) }
+        ensures untold { OnErr result (TellsNothing K.told sink.old sink.new) }
+        ensures idle { IsIdle K.told K.waits sink.new }
+        ensures listens { K.listens sink.new ≡ K.listens sink.old }
+        ensures host { IsErr result → K.listens sink.old ≡ true }
+    {
+        if !sink.listens() {
+            return Ok(());
+        }
+        let purges = purges_for(&self.store, phys(size));
+        tell(&self.store, &self.names, 0, purges, Sparing::Nothing, sink)
+    }
+
+    /// Tells a sink, if it is to be told, of the blocks that `MaxMem` is to purge.
+    fn tell_max_mem<K: PurgeSink>(&self, sink: &mut K) -> Result<(), AllocError>
+        requires idle { IsIdle K.told K.waits sink.old }
+        ensures told { OnOk result (K.listens sink.old ≡ true
+            → Tells K.told (max_mem_gone self.now.heap) sink.old sink.new) }
+        ensures untold { OnErr result (TellsNothing K.told sink.old sink.new) }
+        ensures idle { IsIdle K.told K.waits sink.new }
+        ensures listens { K.listens sink.new ≡ K.listens sink.old }
+        ensures host { IsErr result → K.listens sink.old ≡ true }
+    {
+        if !sink.listens() {
+            return Ok(());
+        }
+        let purges = self.store.purgeable(Sparing::Nothing);
+        tell(&self.store, &self.names, 0, purges, Sparing::Nothing, sink)
+    }
+
+    /// Purges every block that may be purged, compacts all runs of movable blocks, and returns the logical size in bytes
+    /// of the largest block that can then be allocated.
+    fn purge_and_compact(&mut self) -> u32
         ensures { moving (max_mem_moves self.old.heap) (noting max_mem self.old) ≡ (Ok result, self.new) }
     {
         let purges = self.store.purgeable(Sparing::Nothing);

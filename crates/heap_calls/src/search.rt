@@ -1,21 +1,27 @@
 //! The search for room.
 
-ghost use Rattle.std.specs.Prelude.{◌≡◌, ◌+◌, ◌≤◌, ◌<◌, ℕ, false, MatchOption, Some, is_some};
+ghost use Rattle.std.specs.Prelude.{◌≡◌, ◌+◌, ◌≤◌, ◌<◌, ℕ, true, false, MatchOption, Some, is_some, OnOk, OnErr, IsErr};
 ghost use Rattle.block_store.specs.Block.{is_relocatable};
 ghost use Rattle.block_store.specs.Run.{has};
 ghost use Rattle.block_store.specs.Room.{place};
 ghost use Rattle.block_store.specs.Sparing.{purged, most_purges};
 ghost use Rattle.block_store.specs.Rest.{KeepsSlots};
+ghost use Rattle.heap_calls.specs.Gone.{Tells, TellsNothing, IsIdle};
 ghost use Rattle.heap_calls.specs.Moves.{place_moves};
 ghost use Rattle.heap_calls.specs.Inner.Numbered.{KeepsNonrelocatable};
 ghost use Rattle.heap_calls.specs.Inner.Packed.{Packs, placement_moves};
+ghost use Rattle.heap_calls.specs.Inner.Telling.{placement_gone};
 ghost use Rattle.heap_calls.specs.Inner.SearchLaws.{placement-ends, placement-stays};
 ghost use Rattle.block_store.proofs.Purged.Growing.{place-rises};
 ghost use Rattle.heap_calls.specs.Inner.Search.{FindsPlacement, IsAt, placement, placement_searches};
 ghost use Rattle.block_store.specs.declared.measures.TheConstants.{GREATEST_ZONE};
 
+use crate::anchor::Anchor;
 use crate::least::{Sought, any_goes, least_search};
+use crate::sink::PurgeSink;
+use crate::telling::tell;
 use block_store::{BlockStore, Sparing};
+use std::alloc::AllocError;
 
 /// Where a relocatable block is put: into the free block at a place, or into a run once the run is packed.
 #[derive(Clone, Copy)]
@@ -122,6 +128,31 @@ fn find_placement<S: BlockStore>(store: &S, bytes: u32, sparing: Sparing) -> Fou
         placement: searched.found,
         purges: searched.purges,
     }
+}
+
+/// Tells a sink of the blocks that are purged for the place of a relocatable block of `bytes` bytes, if there is such a
+/// place. If the sink finds the host out of memory, it is told of none.
+pub fn tell_placement<S: BlockStore, K: PurgeSink>(
+    store: &S,
+    names: &[Anchor],
+    bytes: u32,
+    sparing: Sparing,
+    sink: &mut K,
+) -> Result<(), AllocError>
+    requires positive { 0 < bytes }
+    requires idle { IsIdle K.told K.waits sink.old }
+    ensures told { OnOk result (Tells K.told (placement_gone names.now bytes sparing (S.zone store.now)) sink.old
+        sink.new) }
+    ensures untold { OnErr result (TellsNothing K.told sink.old sink.new) }
+    ensures idle { IsIdle K.told K.waits sink.new }
+    ensures listens { K.listens sink.new ≡ K.listens sink.old }
+    ensures host { IsErr result → K.listens sink.old ≡ true }
+{
+    let found = find_placement(store, bytes, sparing);
+    if found.placement.is_none() {
+        return Ok(());
+    }
+    tell(store, names, 0, found.purges, sparing, sink)
 }
 
 /// Purges `purges` blocks, packs the run of the placement, if it is a run, and returns the place that the placement

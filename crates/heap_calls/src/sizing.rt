@@ -1,6 +1,6 @@
 //! The size of a handle's block.
 
-ghost use Rattle.std.specs.Prelude.{◌≡◌, Some, false, IsSome, IsTrue, IsErr, IfOk};
+ghost use Rattle.std.specs.Prelude.{◌≡◌, ◌≢◌, ◌⊎◌, Some, Err, true, false, IsSome, IsTrue, IsErr, IfOk, OnOk, OnErr};
 ghost use Rattle.mac_words.specs.Size.{phys as physical_size};
 ghost use Rattle.block_store.specs.Block.{is_relocatable};
 ghost use Rattle.block_store.specs.Find.{FindsLowest};
@@ -14,40 +14,91 @@ ghost use Rattle.heap_calls.specs.Inner.Numbered.{KeepsNonrelocatable};
 ghost use Rattle.heap_calls.specs.Inner.Given.{IsAnswer, KeepsNames};
 ghost use Rattle.heap_calls.specs.Answer.{set_handle_size, silent, searching, moving};
 ghost use Rattle.heap_calls.specs.Moves.{size_moves, set_handle_size_moves};
+ghost use Rattle.heap_calls.specs.Gone.{Tells, TellsNothing, IsIdle, gone_unless, set_handle_size_gone};
 ghost use Rattle.heap_calls.specs.Inner.Packed.{Packs};
+ghost use Rattle.heap_calls.specs.Inner.Telling.{fitted_gone};
 ghost use Rattle.heap_calls.specs.Searches.{size_searches, set_handle_size_searches};
 ghost use Rattle.heap_calls.specs.Inner.Growing.{Spares, Stays, fitted};
 ghost use Rattle.block_store.specs.Sparing.{spared};
 
-use crate::growing::{bytes_of, grow_movable};
-use crate::growing_in_place::{Grown, grow_in_place};
+use crate::anchor::Anchor;
+use crate::growing::{bytes_of, grow_movable, tell_growth};
+use crate::growing_in_place::{Grown, grow_in_place, tell_in_place};
 use crate::heap::Heap;
 use crate::locking::can_move;
 use crate::reaching::reach;
 use crate::refusal::Refusal;
+use crate::sink::PurgeSink;
 use block_store::{BlockStore, Sparing};
 use mac_words::{OsErr, phys};
 use std::alloc::AllocError;
 
 impl<S: BlockStore> Heap<S> {
     /// `SetHandleSize`: changes the logical size of a handle's block to `size` bytes; new bytes are 0. Returns -108
-    /// (memFullErr) where there is no room, and -30001 (profileErr) where the handle is a System resource's. Where
-    /// the host is out of memory, which can be only over a store that takes host memory, all but the zone and the
-    /// count of moves stays as it was.
+    /// (memFullErr) where there is no room, and -30001 (profileErr) where the handle is a System resource's. The sink is
+    /// told of the blocks that are purged for it, if it is to be told. Where the host is out of memory, all but the zone
+    /// and the count of moves stays as it was; over a store that takes no host memory that can be only where the sink is
+    /// to be told, and the whole heap stays as it was.
     ///
     /// *Inside Macintosh: Memory*, chapter 2, "Changing the Sizes of Relocatable and Nonrelocatable Blocks".
-    pub fn set_handle_size(&mut self, handle: Option<usize>, size: u32) -> Result<(), Refusal>
+    pub fn set_handle_size<K: PurgeSink>(
+        &mut self,
+        handle: Option<usize>,
+        size: u32,
+        sink: &mut K,
+    ) -> Result<(), Refusal>
+        requires idle { IsIdle K.told K.waits sink.old }
         ensures answer { IsAnswer (unless (change_barred handle self.old) (packing (set_handle_size_moves handle size)
             (set_handle_size_searches handle size) (set_handle_size handle size)) self.old) result self.new }
-        ensures host { result ≡ Err Refusal.HostMemory → IsTrue S.TAKES_HOST }
+        ensures told { result ≢ Err Refusal.HostMemory → K.listens sink.old ≡ true → Tells K.told
+            (gone_unless (change_barred handle self.old) (set_handle_size_gone handle size self.old.heap)) sink.old
+            sink.new }
+        ensures untold { result ≡ Err Refusal.HostMemory → IsTrue S.TAKES_HOST
+            ⊎ ((self.new ≡ self.old) × TellsNothing K.told sink.old sink.new) }
+        ensures idle { IsIdle K.told K.waits sink.new }
+        ensures listens { K.listens sink.new ≡ K.listens sink.old }
+        ensures host { result ≡ Err Refusal.HostMemory → IsTrue S.TAKES_HOST ⊎ (K.listens sink.old ≡ true) }
         ensures kept { result ≡ Err Refusal.HostMemory → KeepsNames self.old self.new }
         ensures lies { self.new.window ≡ self.old.window }
     {
         if let Some(code) = self.change_barred(handle) {
             return self.refuse(code);
         }
+        self.tell_give_size(handle, size, sink)?;
         let answer = self.give_size(handle, size);
         self.note(answer)
+    }
+
+    /// Tells a sink, if it is to be told, of the blocks that `SetHandleSize` is to purge.
+    fn tell_give_size<K: PurgeSink>(
+        &self,
+        handle: Option<usize>,
+        size: u32,
+        sink: &mut K,
+    ) -> Result<(), AllocError>
+        requires idle { IsIdle K.told K.waits sink.old }
+        ensures told { OnOk result (K.listens sink.old ≡ true
+            → Tells K.told (set_handle_size_gone handle size self.now.heap) sink.old sink.new) }
+        ensures untold { OnErr result (TellsNothing K.told sink.old sink.new) }
+        ensures idle { IsIdle K.told K.waits sink.new }
+        ensures listens { K.listens sink.new ≡ K.listens sink.old }
+        ensures host { IsErr result → K.listens sink.old ≡ true }
+    {
+        if !sink.listens() {
+            return Ok(());
+        }
+        let Ok(held) = reach(&self.store, &self.names, handle) else {
+            return Ok(());
+        };
+        tell_fit(
+            &self.store,
+            &self.names,
+            held.slot,
+            held.place,
+            size,
+            Sparing::One(held.slot),
+            sink,
+        )
     }
 
     /// Changes the logical size of a handle's block, and counts the searches for room.
@@ -153,4 +204,38 @@ fn resize_block<S: BlockStore>(
         return grow_movable(store, slot, size, sparing);
     }
     grow_in_place(store, place, size, sparing)
+}
+
+/// Tells a sink of the blocks that are purged where the block of `slot`, which stands at `place`, gets `size` bytes, if
+/// a block can have that size and there is room. If the sink finds the host out of memory, it is told of none.
+pub fn tell_fit<S: BlockStore, K: PurgeSink>(
+    store: &S,
+    names: &[Anchor],
+    slot: u32,
+    place: u32,
+    size: u32,
+    sparing: Sparing,
+    sink: &mut K,
+) -> Result<(), AllocError>
+    requires spared { Spares sparing (is_relocatable slot) }
+    requires stays { Stays sparing (is_relocatable slot) }
+    requires found { FindsLowest (is_relocatable slot) (S.zone store.now) (Some place) }
+    requires idle { IsIdle K.told K.waits sink.old }
+    ensures told { OnOk result (Tells K.told (fitted_gone names.now (is_relocatable slot) sparing size (S.zone store.now))
+        sink.old sink.new) }
+    ensures untold { OnErr result (TellsNothing K.told sink.old sink.new) }
+    ensures idle { IsIdle K.told K.waits sink.new }
+    ensures listens { K.listens sink.new ≡ K.listens sink.old }
+    ensures host { IsErr result → K.listens sink.old ≡ true }
+{
+    let Some(bytes) = phys(size) else {
+        return Ok(());
+    };
+    if bytes <= bytes_of(store, slot) {
+        return Ok(());
+    }
+    if can_move(store.block_at(place)) {
+        return tell_growth(store, names, slot, size, sparing, sink);
+    }
+    tell_in_place(store, names, place, size, sparing, sink)
 }

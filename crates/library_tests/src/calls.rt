@@ -1,7 +1,7 @@
 //! A heap over a list of blocks, on which rows of a call and its expected result are run.
 
 use block_store::ListStore;
-use heap_calls::{Heap, Refusal};
+use heap_calls::{Heap, NoSink, Refusal};
 use mac_words::OsErr;
 use std::alloc::{AllocError, Global};
 use std::process::Abort;
@@ -119,19 +119,19 @@ fn guard(heap: &mut Heap<ListStore>, number: usize) {
 /// Makes a call, and returns its result.
 fn answer_to(heap: &mut Heap<ListStore>, call: Call) -> Answer {
     match call {
-        Call::NewHandle(size) => made(heap.new_handle(size)),
-        Call::NewEmptyHandle => made(heap.new_empty_handle()),
+        Call::NewHandle(size) => made(heap.new_handle(size, &mut NoSink)),
+        Call::NewEmptyHandle => made(heap.new_empty_handle(&mut NoSink)),
         Call::DisposeHandle(handle) => done(heap.dispose_handle(handle)),
         Call::GetHandleSize(handle) => number(heap.get_handle_size(handle)),
-        Call::SetHandleSize(handle, size) => done(heap.set_handle_size(handle, size)),
+        Call::SetHandleSize(handle, size) => done(heap.set_handle_size(handle, size, &mut NoSink)),
         Call::EmptyHandle(handle) => done(heap.empty_handle(handle)),
         Call::HLock(handle) => done(heap.h_lock(handle)),
         Call::HPurge(handle) => done(heap.h_purge(handle)),
         Call::MoveHHi(handle) => done(heap.move_h_hi(handle)),
-        Call::HandAndHand(from, to) => done(heap.hand_and_hand(from, to)),
-        Call::NewPointer(size) => made(heap.new_pointer(size)),
+        Call::HandAndHand(from, to) => done(heap.hand_and_hand(from, to, &mut NoSink)),
+        Call::NewPointer(size) => made(heap.new_pointer(size, &mut NoSink)),
         Call::CompactMem(size) => Answer::Number(u64::from(heap.compact_mem(size))),
-        Call::MaxMem => Answer::Number(u64::from(heap.max_mem())),
+        Call::MaxMem => number(heap.max_mem(&mut NoSink)),
         Call::SetBusy(number, busy) => {
             heap.set_busy(number, busy);
             Answer::Done

@@ -20,7 +20,7 @@ use crate::fetched::{Fetched, Unread};
 use crate::files::{OpenFile, Resources};
 use crate::find::{Spot, Wanted, Within, entry_at, number_at, set_handle};
 use block_store::{BlockStore, Flags};
-use heap_calls::{Heap, Refusal};
+use heap_calls::{Heap, NoSink, Refusal};
 use mac_words::{Attrs, OsErr};
 use res_map::LentReference;
 
@@ -108,7 +108,7 @@ fn fetch_again<S: BlockStore>(
             read: false,
         });
     }
-    match heap.refill(handle, entry.stored.datum, flags_of(entry)) {
+    match heap.refill(handle, entry.stored.datum, flags_of(entry), &mut NoSink) {
         Err(refusal) => Err(Unread {
             refusal,
             reading: Some(handle),

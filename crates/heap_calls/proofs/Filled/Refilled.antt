@@ -12,15 +12,19 @@ use Rattle.block_store.specs.Block.{Block, Free, Relocatable, size, count, is_re
 use Rattle.block_store.specs.Run.{has}
 use Rattle.block_store.specs.Room.{room, put_in_place}
 use Rattle.block_store.specs.Grow.{freed}
-use Rattle.block_store.specs.Rest.{Rest}
+use Rattle.block_store.specs.Rest.{Rest, counted}
+use Rattle.block_store.proofs.Plain.Counters.{counted-none}
 use Rattle.block_store.specs.declared.sparing.Sparing.TheVariants as sparing
 use Rattle.block_store.proofs.Renamed.Renaming.{room-rename, put_in_place-rename, has-rename}
 use Rattle.heap_calls.specs.declared.anchor.Anchor.{Anchor}
 use Rattle.heap_calls.specs.declared.log.Log.{Log}
 use Rattle.heap_calls.specs.declared.search.Room.{Room}
 use Rattle.heap_calls.specs.State.{State, Memory}
-use Rattle.heap_calls.specs.Answer.{Known, nothing, for_found, rebuilt, refused, silent, handle_at}
-use Rattle.heap_calls.specs.Inside.{has_block, refill, refill_searches, refill_moves, for_known}
+use Rattle.heap_calls.specs.Answer.{Answer, Known, nothing, for_found, rebuilt, refused, silent, searching, moving, handle_at}
+use Rattle.heap_calls.specs.Inside.{has_block, refill, refill_searches, refill_moves, refill_inside, for_known}
+use Rattle.heap_calls.specs.Inner.Given.{IsAnswer, slot_of}
+use Rattle.heap_calls.specs.declared.refusal.Refusal.{Refusal}
+use Rattle.heap_calls.specs.declared.refusal.Refusal.TheVariants.{Code, HostMemory}
 use Rattle.heap_calls.specs.Moves.{put_moves}
 use Rattle.heap_calls.specs.Searches.{room_searches}
 use Rattle.heap_calls.specs.Inner.Filling.{IsFresh, IsReplaced, IsRefilling, refilled, refilled_searches}
@@ -31,6 +35,7 @@ use Rattle.heap_calls.specs.Inner.Numbered.{state_of, memory_of, handle_number, 
 use Rattle.heap_calls.proofs.Filled.Named.{no_room-alike}
 use Rattle.heap_calls.proofs.Filled.Replaced.{new-fresh, put-replaced}
 use Rattle.heap_calls.proofs.Numbering.Changing.{silent-kept, unmoved, unmoved-is}
+use Rattle.heap_calls.proofs.Numbering.Answering.{handle_at-refused}
 use Rattle.heap_calls.proofs.Numbering.Looking.{room_searches-rename}
 use Rattle.heap_calls.proofs.Numbering.MoveNames.{put_moves-rename}
 use Rattle.heap_calls.proofs.Numbering.PurgeTrials.{served_answer}
@@ -38,7 +43,7 @@ use Rattle.heap_calls.proofs.Numbering.PurgeTrials.{served_answer}
 -- A block for an empty handle.
 
 -- where no block passes none is freed
-freed-gone : (test : Block → Bool) (bs : List Block) → has test bs ≡ false → freed test bs ≡ bs
+pub freed-gone : (test : Block → Bool) (bs : List Block) → has test bs ≡ false → freed test bs ≡ bs
 freed-gone test [] e = refl
 freed-gone test (b ∷ bs) e =
     let parts = or_parts (test b) (has test bs) e in
@@ -190,3 +195,20 @@ module _ (value : Memory) (zone zone' : List Block) (rest rest' : Rest) (es : Li
         cases None m = row (Err MEM_FULL) None m.0
             (ap (λ z. (Err MEM_FULL, record state { zone = rename f g z })) (sym m.1))
         cases (Some p) m = row (Ok tt) (Some zone') m refl
+
+-- a name that is no handle's
+pub refill-refused : (value : Memory) (zone : List Block) (rest : Rest) (es copy : List Anchor) (log : Log) (h : ℕ)
+    (flags : Flags) (x : List ℕ) (e : Refusal) → memory_of zone rest es log ≡ value → copy ≡ es
+    → slot_of (Some h) copy ≡ Err e → IsAnswer (refill_inside h flags x value) (Err e) value
+refill-refused value zone rest es copy log h flags x (Code code) is copied e =
+    let none : handle_at (Some h) value.heap ≡ Err code = ap (λ (m : Memory). handle_at (Some h) m.heap) (sym is)
+    ∙ handle_at-refused zone rest.slots es (Some h) code (ap (slot_of (Some h)) (sym copied) ∙ e) in
+    let row : State → Result Known OsErr → Answer (Unit {0}) = λ s r. for_found r s
+    (λ k. cond (is_some (phys (length x))) (rebuilt (room (put_in_place (Relocatable k.number flags x)) nothing s.zone) s)
+    (refused MEM_FULL s)) in
+    ap (λ r. moving (for_known r (refill_moves h (length x) value.heap))
+    (searching (for_known r (refill_searches h (length x) value.heap)) (silent (λ s. row s r) value))) none
+    ∙ ap (λ k. (Err code, record value { log = record value.log { searches = k }; moves = counted value.moves 0 }))
+    (counted-none value.log.searches)
+    ∙ ap (λ k. (Err code, record value { moves = k })) (counted-none value.moves)
+refill-refused value zone rest es copy log h flags x HostMemory is copied e = tt

@@ -131,7 +131,7 @@ not_found-still value zone rest es copy log handle e is same found code code_is 
     (ap (slot_of handle) (sym same) ∙ found ∙ ap Err code_is))
 
 -- a handle whose block was emptied
-copy-nil : (zone : List Block) (rest : Rest) (es : List Anchor) (handle : Option ℕ) (h source : ℕ) {guarded : Bool}
+pub copy-nil : (zone : List Block) (rest : Rest) (es : List Anchor) (handle : Option ℕ) (h source : ℕ) {guarded : Bool}
     → handle ≡ Some h → slice_get es h ≡ Some (Handle source guarded) → Agrees zone rest es → h < no_number
     → spot (is_relocatable source) zone ≡ None → look_up handle (state_of zone rest.slots es) ≡ Err NIL_HANDLE
 copy-nil zone rest es handle h source is at agrees small none =
@@ -174,11 +174,11 @@ module _ (zone : List Block) (rest : Rest) (es : List Anchor) (masters : rest.al
     abbrev bytes : List ℕ
     bytes = content_of a.here
 
-    same : (b : Block) → is_relocatable h (rename_block (handle_number es) (pointer_number es) b)
+    pub same : (b : Block) → is_relocatable h (rename_block (handle_number es) (pointer_number es) b)
         ≡ is_relocatable source b
     same b = is_relocatable-number es h source at agrees.apart small b
 
-    found : look_up handle old ≡ Ok (held h (rename_spot (handle_number es) (pointer_number es) a))
+    pub found : look_up handle old ≡ Ok (held h (rename_spot (handle_number es) (pointer_number es) a))
     found =
         look_up-by zone rest.slots es handle h source is at agrees.apart small
         ∙ ap (λ o. ok_or (option_map (held h) (option_map (rename_spot (handle_number es) (pointer_number es)) o))

@@ -170,14 +170,14 @@ module _ (zone : List Block) (rest : Rest) (es : List Anchor) (masters : rest.al
     abbrev s : State
     s = state_of zone rest.slots es
 
-    none-left : rest.unused ≡ 0 → nat_lt (used_slots s) (all_slots s) ≡ false
+    pub none-left : rest.unused ≡ 0 → nat_lt (used_slots s) (all_slots s) ≡ false
     none-left e =
         let a = agrees.counted in
         let m = masters-rename f g zone in
         false_from_ne_true (nat_lt (used_slots s) (all_slots s))
         (λ t. let less = (Decides-ltb (used_slots s) (all_slots s)).0 t in absurd (omega (arith, masters, e)))
 
-    some-left : (n : ℕ) → rest.unused ≡ suc n → nat_lt (used_slots s) (all_slots s) ≡ true
+    pub some-left : (n : ℕ) → rest.unused ≡ suc n → nat_lt (used_slots s) (all_slots s) ≡ true
     some-left n e =
         let a = agrees.counted in
         let m = masters-rename f g zone in

@@ -43,7 +43,7 @@ module _ (f g : ℕ → ℕ) (p q : Block → Bool) (spares : (b : Block) → p 
         (λ k. ap (λ l. is_some (try l)) (purge-rename f g p q spares k zone) ∙ ap is_some (same (purge k q zone))
         ∙ is_some-map (rename f g) (try' (purge k q zone))) (count_of q zone)
 
-    enough-rename : (d : ℕ) (run : List Block) → enough d (rename f g run) ≡ option_map (rename f g) (enough d run)
+    pub enough-rename : (d : ℕ) (run : List Block) → enough d (rename f g run) ≡ option_map (rename f g) (enough d run)
     enough-rename d run = ap (λ t. cond t (Some (rename f g run)) None) (has_free-rename f g d run)
         ∙ cases (has_free d run)
       where
@@ -51,7 +51,7 @@ module _ (f g : ℕ → ℕ) (p q : Block → Bool) (spares : (b : Block) → p 
         cases true = refl
         cases false = refl
 
-    growth-rename : (new : Block) (s : Spot) → growth (rename_block f g new) (rename_spot f g s) ≡ growth new s
+    pub growth-rename : (new : Block) (s : Spot) → growth (rename_block f g new) (rename_spot f g s) ≡ growth new s
     growth-rename new s = rw (size-rename f g new, size-rename f g s.here) refl
 
     in_place_searches-rename : (new : Block) (s : Spot) → in_place_searches p (rename_block f g new) (rename_spot f g s)

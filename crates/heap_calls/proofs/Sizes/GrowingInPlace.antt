@@ -122,7 +122,7 @@ ends_run b = not (in_run b)
 no_free : (n : ℕ) → ends_run (Free n) ≡ false
 no_free n = refl
 
-first-beyond : (zone : List Block) → zone ≡ (segments zone).first ++ beyond (segments zone).rest
+pub first-beyond : (zone : List Block) → zone ≡ (segments zone).first ++ beyond (segments zone).rest
 first-beyond zone = sym (joined-segments zone) ∙ joined-is (segments zone).first (segments zone).rest
 
 -- no block of the first run ends it

@@ -1,5 +1,7 @@
 use Rattle.std.proofs.Common.{inr, ◌∙◌, ℕ, Option, Some, None, sym, ap, subst}
 use Rattle.heap_calls.proofs.NewBlocks.NewSlots.{only-slot}
+use Rattle.block_store.specs.Block.{is_nonrelocatable}
+use Rattle.block_store.specs.Run.{has}
 use Rattle.block_store.specs.Rest.{counted}
 use Rattle.heap_calls.specs.Inner.NewBlock.{ready_count}
 use Rattle.heap_calls.specs.Inner.NewSlot.{TakesSlot}
@@ -60,3 +62,7 @@ returns-in_default-place-clause-moves g c = packed g (goal.at.returns-in_default
 
 pub returns-clause-moves : goal.returns-clause-moves
 returns-clause-moves g c = packed g (goal.at.returns-clause-moves g c).After-add_block
+
+pub returns-in-Err-clause-nonrelocatable : goal.returns-in-Err-clause-nonrelocatable
+returns-in-Err-clause-nonrelocatable g c place = ap (has (is_nonrelocatable place)) c.give_slot.ensures.zone
+    ∙ c.make_slot.ensures.nonrelocatable place

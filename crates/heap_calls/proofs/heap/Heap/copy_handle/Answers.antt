@@ -1,4 +1,18 @@
-use Rattle.std.proofs.Common.{◌≡◌, length, sym, ◌∙◌, ap, arith, inr, Some, slice_get}
+use Rattle.std.proofs.Common.{◌≡◌, List, length, sym, ◌∙◌, ap, arith, inl, inr, Some, slice_get, subst}
+use Rattle.heap_calls.proofs.Numbering.Reserved.{fits-same}
+use Rattle.block_store.specs.Block.{rename}
+use Rattle.block_store.specs.declared.sparing.Sparing.TheVariants.{One}
+use Rattle.heap_calls.specs.declared.anchor.Anchor.{Anchor}
+use Rattle.heap_calls.specs.State.{Memory}
+use Rattle.heap_calls.specs.Answer.{look_up}
+use Rattle.heap_calls.specs.Gone.{Gone, Tells, copy_slot_gone, hand_to_hand_gone}
+use Rattle.heap_calls.specs.Refused.{copying_zone}
+use Rattle.heap_calls.specs.Inner.Numbered.{memory_of, handle_number, pointer_number}
+use Rattle.heap_calls.specs.Inner.Telling.{zone_slot_gone, new_gone}
+use Rattle.heap_calls.proofs.GoneCopies.{copy_gone-is, copy_gone-none, copy_gone-nil, copy_slot_gone-is, copying_zone-is}
+use Rattle.heap_calls.proofs.GonePlaces.{tells-none}
+use Rattle.heap_calls.proofs.Numbering.Changing.{memory-same}
+use Rattle.heap_calls.proofs.NewBlocks.NewHandles.{kept-still}
 use Rattle.heap_calls.specs.declared.anchor.Anchor.TheVariants.{Handle}
 use Rattle.std.proofs.lemmas.Result.{err_from_is_err_and}
 use Rattle.block_store.specs.Block.{content_of}
@@ -53,7 +67,7 @@ source g c =
     let store = c.self.inside.store in
     let there = c.in-Some.ensures in
     let f = c.in_ok-found.found in
-    let is = entry g c.before.before.before in
+    let is = entry g c.before.before.before.before.before in
     let long = ap length (sym (at_place c.in-Some.place (g.S.BlockStore.zone store) there.0
     (λ s. c.bytes.result.now ≡ content_of s.here) there.2 c.bytes.ensures)) in
     let few = source-few (g.S.BlockStore.zone store) f.slot there.0 there.1 (g.met.S.BlockStore.small store) in
@@ -80,7 +94,7 @@ pub overflow_cast-size : goal.overflow_cast-size
 overflow_cast-size g c = let few = (source g c).few in omega arith
 
 pub returns-in_err-reserve-clause-host : goal.returns-in_err-reserve-clause-host
-returns-in_err-reserve-clause-host g c host = inr (rw c.reserve.ensures.items c.self.view_is)
+returns-in_err-reserve-clause-host g c host = inr (inl (rw c.reserve.ensures.items c.self.view_is))
 
 pub returns-in_err-made-clause-kept : goal.returns-in_err-made-clause-kept
 returns-in_err-made-clause-kept g c host =
@@ -112,3 +126,81 @@ pub invariant_of-self-2 : goal.invariant_of-self-2
 invariant_of-self-2 g c = rw (c.name_handle.ensures.entered, c.in_ok-reserve.ensures.items)
     (made g (goal.at.invariant_of-self-2 g c).In_ok-made
     (source g (goal.at.invariant_of-self-2 g c).After-bytes)).agrees
+
+pub returns-in_err-reserve-clause-untold : goal.returns-in_err-reserve-clause-untold
+returns-in_err-reserve-clause-untold g c host =
+    inr (inl (rw c.reserve.ensures.items c.self.view_is, λ before was. was))
+
+pub returns-in_err-made-clause-untold : goal.returns-in_err-made-clause-untold
+returns-in_err-made-clause-untold g c host =
+    let a = c.self.inside in
+    let zone = g.S.BlockStore.zone a.store in
+    let zone' = g.S.BlockStore.zone c.copy_block.new.store in
+    let rest = g.S.BlockStore.rest a.store in
+    let rest' = g.S.BlockStore.rest c.copy_block.new.store in
+    let es = a.names.items in
+    let masters = g.met.S.BlockStore.masters a.store in
+    let f = c.in_ok-found.found in
+    let from = source g (goal.at.returns-in_err-made-clause-untold g c).After-bytes in
+    let slots = ap (λ (e : List Anchor). zone_slot_gone e (One f.slot) rest.unused zone)
+    (c.deref-2.ensures.value ∙ c.in_ok-reserve.ensures.items)
+    ∙ copy_slot_gone-is zone rest es masters c.self.invariant c.args.handle f _ from
+    ∙ ap (λ (m : Memory). copy_slot_gone c.args.handle m.heap) c.self.view_is in
+    elim c.in_err-made.ensures.left [
+      | inl takes ↦ inl takes
+      | inr left ↦ inr (elim left [
+        | inl same ↦ inl (
+          ap (λ z. memory_of z rest' c.reserve.new.self.items a.log) same.0
+              ∙ ap (λ (l : List Anchor). memory_of zone rest' l a.log) c.in_ok-reserve.ensures.items
+              ∙ memory-same zone rest rest' es a.log same.1 ∙ c.self.view_is,
+          same.2,
+        )
+        | inr slot ↦ inr (
+          kept-still c.args.self.now zone zone' rest rest' es c.reserve.new.self.items a.log c.self.view_is
+              c.in_ok-reserve.ensures.items c.self.invariant slot.1 slot.2
+              ∙ ap (λ z. record c.args.self.now { heap = record c.args.self.now.heap { zone = z } })
+              (ap (λ (l : List Anchor). rename (handle_number l) (pointer_number l) zone') c.in_ok-reserve.ensures.items
+              ∙ sym (copying_zone-is zone rest es masters c.self.invariant c.args.handle f _ from zone' slot.0)
+              ∙ ap (λ (m : Memory). copying_zone (look_up c.args.handle m.heap) m.heap) c.self.view_is),
+          subst (λ (l : List Gone). Tells g.K.PurgeSink.told l c.args.sink.now c.copy_block.new.sink) slots slot.3,
+        )
+      ])
+    ]
+
+pub returns-clause-told : goal.returns-clause-told
+returns-clause-told g c some listens =
+    let a = c.self.inside in
+    let zone = g.S.BlockStore.zone a.store in
+    let rest = g.S.BlockStore.rest a.store in
+    let es = a.names.items in
+    let f = c.in_ok-found.found in
+    let from = source g (goal.at.returns-clause-told g c).After-bytes in
+    let same = ap (λ (e : List Anchor). new_gone e (One f.slot) (length c.bytes.result.now) rest.unused zone)
+    (c.deref-2.ensures.value ∙ c.in_ok-reserve.ensures.items)
+    ∙ copy_gone-is zone rest es (g.met.S.BlockStore.masters a.store) c.self.invariant c.args.handle f _ from
+    ∙ ap (λ (m : Memory). hand_to_hand_gone c.args.handle m.heap) c.self.view_is in
+    subst (λ (l : List Gone). Tells g.K.PurgeSink.told l c.args.sink.now c.copy_block.new.sink) same
+    (c.in_ok-made.ensures.told listens)
+
+pub same-self : goal.same-self
+same-self g c = fits-same _ _
+
+pub same-self-in_default : goal.same-self-in_default
+same-self-in_default g c = fits-same _ _
+
+pub returns-in_err-found-clause-told : goal.returns-in_err-found-clause-told
+returns-in_err-found-clause-told g c some listens =
+    let a = c.self.inside in
+    tells-none g.K.PurgeSink.told _ c.args.sink.now
+    (copy_gone-none c.args.self.now (g.S.BlockStore.zone a.store) (g.S.BlockStore.rest a.store) a.names.items
+    c.deref.result.now a.log c.args.handle c.in_err-found.field-0.0 c.self.view_is c.deref.ensures.value
+    (sym c.slot_of.ensures ∙ c.in_err-found.was))
+
+pub returns-in_default-clause-told : goal.returns-in_default-clause-told
+returns-in_default-clause-told g c some listens =
+    let a = c.self.inside in
+    let f = c.in_ok-found.found in
+    let is = entry g (goal.at.returns-in_default-clause-told g c).In_ok-found in
+    tells-none g.K.PurgeSink.told _ c.args.sink.now
+    (copy_gone-nil c.args.self.now (g.S.BlockStore.zone a.store) (g.S.BlockStore.rest a.store) a.names.items a.log
+    c.args.handle f.number f.slot c.self.view_is is.0 is.1 c.self.invariant (omega arith) c.in_default.ensures)

@@ -1,4 +1,13 @@
-use Rattle.std.proofs.Common.{inr, sym, ◌∙◌}
+use Rattle.std.proofs.Common.{List, inl, inr, refl, sym, ◌∙◌, ap, subst}
+use Rattle.block_store.specs.declared.sparing.Sparing.TheVariants.{Nothing}
+use Rattle.heap_calls.specs.declared.anchor.Anchor.{Anchor}
+use Rattle.heap_calls.specs.State.{Memory}
+use Rattle.heap_calls.specs.Answer.{nothing}
+use Rattle.heap_calls.specs.Gone.{Gone, Tells, slot_gone}
+use Rattle.heap_calls.specs.Inner.Numbered.{memory_of}
+use Rattle.heap_calls.specs.Inner.Telling.{zone_slot_gone}
+use Rattle.heap_calls.proofs.GoneBlocks.{slot_gone-is}
+use Rattle.heap_calls.proofs.Numbering.Changing.{memory-same}
 use Rattle.heap_calls.specs.Slots.{new_empty_handle}
 use Rattle.heap_calls.specs.Searches.{new_empty_handle_searches}
 use Rattle.heap_calls.proofs.NewBlocks.Naming.{Names, empty-names, named-looking}
@@ -43,3 +52,31 @@ invariant_of-self-2 g c = rw (c.name_handle.ensures.entered, c.in_ok-reserve.ens
 pub invariant_of-self-in_err-taken : goal.invariant_of-self-in_err-taken
 invariant_of-self-in_err-taken g c = rw c.in_ok-reserve.ensures.items
     (agrees-more _ _ _ _ c.self.invariant c.make_slot.ensures.nonrelocatable c.in_err-taken.ensures.kept)
+
+pub returns-in_err-taken-clause-host : goal.returns-in_err-taken-clause-host
+returns-in_err-taken-clause-host g c host =
+    let a = c.self.inside in
+    let zone = g.S.BlockStore.zone a.store in
+    let rest = g.S.BlockStore.rest a.store in
+    let rest' = g.S.BlockStore.rest c.make_slot.new.store in
+    let items = c.reserve.new.self.items in
+    elim c.in_err-taken.ensures.same [
+      | inl takes ↦ inl takes
+      | inr same ↦ inr (ap (λ z. memory_of z rest' items a.log) same.0
+          ∙ ap (λ (l : List Anchor). memory_of zone rest' l a.log) c.in_ok-reserve.ensures.items
+          ∙ memory-same zone rest rest' a.names.items a.log same.1 ∙ c.self.view_is)
+    ]
+
+pub returns-clause-told : goal.returns-clause-told
+returns-clause-told g c some listens =
+    let a = c.self.inside in
+    let zone = g.S.BlockStore.zone a.store in
+    let rest = g.S.BlockStore.rest a.store in
+    let es = a.names.items in
+    let same = ap (λ (e : List Anchor). zone_slot_gone e Nothing rest.unused zone)
+    (c.deref.ensures.value ∙ c.in_ok-reserve.ensures.items)
+    ∙ slot_gone-is zone rest es (g.met.S.BlockStore.masters a.store) c.self.invariant nothing Nothing (λ b. refl) refl
+    (λ b. refl)
+    ∙ ap (λ (m : Memory). slot_gone nothing m.heap) c.self.view_is in
+    subst (λ (l : List Gone). Tells g.K.PurgeSink.told l c.args.sink.now c.make_slot.new.sink) same
+    (c.in_ok-taken.ensures.told listens)

@@ -1,4 +1,18 @@
-use Rattle.std.proofs.Common.{inr, sym, ◌∙◌}
+use Rattle.std.proofs.Common.{ℕ, List, inl, inr, refl, replicate, sym, ◌∙◌, ap, subst}
+use Rattle.std.proofs.lemmas.List.{length-replicate}
+use Rattle.block_store.specs.Block.{rename}
+use Rattle.block_store.specs.declared.sparing.Sparing.TheVariants.{Nothing}
+use Rattle.heap_calls.specs.declared.anchor.Anchor.{Anchor}
+use Rattle.heap_calls.specs.State.{Memory}
+use Rattle.heap_calls.specs.Answer.{nothing}
+use Rattle.heap_calls.specs.Gone.{Gone, Tells, slot_gone, new_handle_gone}
+use Rattle.heap_calls.specs.Refused.{slotted_zone}
+use Rattle.heap_calls.specs.Inner.Numbered.{memory_of, handle_number, pointer_number}
+use Rattle.heap_calls.specs.Inner.Telling.{zone_slot_gone, new_gone}
+use Rattle.heap_calls.proofs.GoneBlocks.{slot_gone-is}
+use Rattle.heap_calls.proofs.GonePlaces.{new_gone-is, slotted_zone-is}
+use Rattle.heap_calls.proofs.Numbering.Changing.{memory-same}
+use Rattle.heap_calls.proofs.NewBlocks.NewHandles.{kept-still}
 use Rattle.heap_calls.specs.Slots.{new_handle}
 use Rattle.heap_calls.specs.Searches.{new_handle_searches}
 use Rattle.heap_calls.specs.Moves.{new_handle_moves}
@@ -10,7 +24,7 @@ use Rattle.heap_calls.proofs.heap.Heap.make_handle.Goals.{In_ok-made}
 use Rattle.heap_calls.proofs.heap.Heap.make_handle.Goals as goal
 
 pub returns-in_err-reserve-clause-host : goal.returns-in_err-reserve-clause-host
-returns-in_err-reserve-clause-host g c host = inr (rw c.reserve.ensures.items c.self.view_is)
+returns-in_err-reserve-clause-host g c host = inr (inl (rw c.reserve.ensures.items c.self.view_is))
 
 pub invariant_of-self-in_err-made : goal.invariant_of-self-in_err-made
 invariant_of-self-in_err-made g c = rw c.in_ok-reserve.ensures.items
@@ -44,3 +58,57 @@ returns-clause-answer g c =
     (made g (goal.at.returns-clause-answer g c).In_ok-made) c.in_ok-made.made.searches
     (c.in_ok-made.ensures.searches ∙ sym (new_handle_searches-is _ _ _ c.args.size masters c.self.invariant))
     c.count.ensures _ (new_handle_moves-is _ _ _ c.args.size masters c.self.invariant) c.in_ok-made.ensures.moves)
+
+pub returns-in_err-reserve-clause-untold : goal.returns-in_err-reserve-clause-untold
+returns-in_err-reserve-clause-untold g c host =
+    inr (inl (rw c.reserve.ensures.items c.self.view_is, λ before was. was))
+
+pub returns-in_err-made-clause-untold : goal.returns-in_err-made-clause-untold
+returns-in_err-made-clause-untold g c host =
+    let a = c.self.inside in
+    let zone = g.S.BlockStore.zone a.store in
+    let zone' = g.S.BlockStore.zone c.new_block.new.store in
+    let rest = g.S.BlockStore.rest a.store in
+    let rest' = g.S.BlockStore.rest c.new_block.new.store in
+    let es = a.names.items in
+    let masters = g.met.S.BlockStore.masters a.store in
+    let slots = ap (λ (e : List Anchor). zone_slot_gone e Nothing rest.unused zone)
+    (c.deref.ensures.value ∙ c.in_ok-reserve.ensures.items)
+    ∙ slot_gone-is zone rest es masters c.self.invariant nothing Nothing (λ b. refl) refl (λ b. refl)
+    ∙ ap (λ (m : Memory). slot_gone nothing m.heap) c.self.view_is in
+    elim c.in_err-made.ensures.left [
+      | inl takes ↦ inl takes
+      | inr left ↦ inr (elim left [
+        | inl same ↦ inl (
+          ap (λ z. memory_of z rest' c.reserve.new.self.items a.log) same.0
+              ∙ ap (λ (l : List Anchor). memory_of zone rest' l a.log) c.in_ok-reserve.ensures.items
+              ∙ memory-same zone rest rest' es a.log same.1 ∙ c.self.view_is,
+          same.2,
+        )
+        | inr slot ↦ inr (
+          kept-still c.args.self.now zone zone' rest rest' es c.reserve.new.self.items a.log c.self.view_is
+              c.in_ok-reserve.ensures.items c.self.invariant slot.1 slot.2
+              ∙ ap (λ z. record c.args.self.now { heap = record c.args.self.now.heap { zone = z } })
+              (ap (λ (l : List Anchor). rename (handle_number l) (pointer_number l) zone') c.in_ok-reserve.ensures.items
+              ∙ sym (slotted_zone-is zone rest es masters c.self.invariant nothing Nothing (λ b. refl) (λ z. refl) (λ b. refl)
+              zone' slot.0)
+              ∙ ap (λ (m : Memory). slotted_zone nothing m.heap) c.self.view_is),
+          subst (λ (l : List Gone). Tells g.K.PurgeSink.told l c.args.sink.now c.new_block.new.sink) slots slot.3,
+        )
+      ])
+    ]
+
+pub returns-clause-told : goal.returns-clause-told
+returns-clause-told g c some listens =
+    let a = c.self.inside in
+    let zone = g.S.BlockStore.zone a.store in
+    let rest = g.S.BlockStore.rest a.store in
+    let es = a.names.items in
+    let same = ap (λ (e : List Anchor). new_gone e Nothing c.args.size rest.unused zone)
+    (c.deref.ensures.value ∙ c.in_ok-reserve.ensures.items)
+    ∙ ap (λ (n : ℕ). new_gone es Nothing n rest.unused zone) (sym (length-replicate c.args.size 0))
+    ∙ new_gone-is zone rest es (g.met.S.BlockStore.masters a.store) c.self.invariant nothing Nothing (λ b. refl)
+    (λ z. refl) (λ b. refl) (replicate c.args.size 0)
+    ∙ ap (λ (m : Memory). new_handle_gone c.args.size m.heap) c.self.view_is in
+    subst (λ (l : List Gone). Tells g.K.PurgeSink.told l c.args.sink.now c.new_block.new.sink) same
+    (c.in_ok-made.ensures.told listens)

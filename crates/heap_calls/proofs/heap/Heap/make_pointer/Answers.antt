@@ -5,15 +5,18 @@ use Rattle.heap_calls.specs.State.{Memory}
 use Rattle.heap_calls.specs.declared.anchor.Anchor.{Anchor}
 use Rattle.heap_calls.specs.declared.anchor.Anchor.TheVariants.{Pointer}
 use Rattle.heap_calls.specs.Pointers.{new_pointer}
+use Rattle.heap_calls.specs.Gone.{Gone, Tells, new_pointer_gone}
+use Rattle.heap_calls.specs.Inner.Telling.{pointer_gone}
 use Rattle.heap_calls.specs.Searches.{new_pointer_searches}
 use Rattle.heap_calls.specs.Inner.NewPointer.{IsNewNonrelocatable}
 use Rattle.heap_calls.specs.Inner.Numbered.{state_of, memory_of}
+use Rattle.heap_calls.proofs.GoneBlocks.{pointer_gone-is}
 use Rattle.heap_calls.proofs.NewBlocks.NewHandles.{searched-done}
 use Rattle.heap_calls.proofs.Numbering.Changing.{agrees-same, kept, memory-same}
 use Rattle.heap_calls.proofs.NewBlocks.NewPointers.{new_pointer-refused, new_pointer-done, new_pointer_searches-is}
 use Rattle.heap_calls.proofs.NewBlocks.NewPointers.{agrees-more}
 use Rattle.heap_calls.proofs.heap.Heap.make_pointer.Given.{Over}
-use Rattle.heap_calls.proofs.heap.Heap.make_pointer.Goals.{After-push_reserved}
+use Rattle.heap_calls.proofs.heap.Heap.make_pointer.Goals.{After-push_reserved, After-tell_nonrelocatable}
 use Rattle.heap_calls.proofs.heap.Heap.make_pointer.Goals as goal
 
 pub returns-in_err-reserve-clause-host : goal.returns-in_err-reserve-clause-host
@@ -73,3 +76,29 @@ returns-clause-answer g c =
     (g.S.BlockStore.rest a.store) a.names.items)) c.count.ensures
     ∙ ap (λ (l : List Anchor). (Ok c.len-number.result, memory_of zone' rest' l c.count.new.self))
     (sym (entered g (goal.at.returns-clause-answer g c).After-push_reserved))
+
+pub returns-in_err-tell_nonrelocatable-clause-host : goal.returns-in_err-tell_nonrelocatable-clause-host
+returns-in_err-tell_nonrelocatable-clause-host g c host = inr (rw c.in_ok-reserve.ensures.items c.self.view_is)
+
+-- the sink is told of the blocks of the call's row
+told : (g : Over) (c : After-tell_nonrelocatable g)
+    → pointer_gone c.deref.result.now c.args.size (g.S.BlockStore.zone c.self.inside.store)
+    ≡ new_pointer_gone c.args.size c.args.self.now.heap
+told g c =
+    let a = c.self.inside in
+    let zone = g.S.BlockStore.zone a.store in
+    ap (λ (e : List Anchor). pointer_gone e c.args.size zone) (c.deref.ensures.value ∙ c.in_ok-reserve.ensures.items)
+    ∙ pointer_gone-is c.args.size zone (g.S.BlockStore.rest a.store).slots a.names.items
+    ∙ ap (λ (m : Memory). new_pointer_gone c.args.size m.heap) c.self.view_is
+
+pub returns-in_default-clause-told : goal.returns-in_default-clause-told
+returns-in_default-clause-told g c some listens =
+    subst (λ (l : List Gone). Tells g.K.PurgeSink.told l c.args.sink.now c.tell_nonrelocatable.new.sink)
+    (told g (goal.at.returns-in_default-clause-told g c).After-tell_nonrelocatable)
+    (c.in_ok-tell_nonrelocatable.ensures.told listens)
+
+pub returns-clause-told : goal.returns-clause-told
+returns-clause-told g c some listens =
+    subst (λ (l : List Gone). Tells g.K.PurgeSink.told l c.args.sink.now c.tell_nonrelocatable.new.sink)
+    (told g (goal.at.returns-clause-told g c).After-tell_nonrelocatable)
+    (c.in_ok-tell_nonrelocatable.ensures.told listens)

@@ -1,9 +1,12 @@
-use Rattle.std.proofs.Common.{is_some, refl}
-use Rattle.std.proofs.Common.{Ok, Err}
+use Rattle.std.proofs.Common.{is_some, refl, ◌∙◌, ap, subst, List, Ok, Err}
 use Rattle.std.proofs.lemmas.Result.{err_from_is_err_and}
 use Rattle.heap_calls.specs.Answer.{silent}
+use Rattle.heap_calls.specs.Gone.{Gone, Tells, reallocate_handle_gone}
 use Rattle.heap_calls.specs.Purging.{reallocate_handle}
 use Rattle.heap_calls.specs.Inner.Numbered.{memory_of}
+use Rattle.heap_calls.specs.Inner.Telling.{renewed_gone}
+use Rattle.heap_calls.specs.declared.anchor.Anchor.{Anchor}
+use Rattle.heap_calls.proofs.GonePlaces.{reallocate_gone-is, reallocate_gone-none, tells-none}
 use Rattle.heap_calls.proofs.Numbering.Loosening.{loose_in, loose_not_searched, no_moves-loose}
 use Rattle.heap_calls.proofs.Room.MoveCounts.{not-moved, moving-done}
 use Rattle.heap_calls.proofs.Numbering.PurgeTrials.{searching-done}
@@ -72,3 +75,32 @@ invariant_of-self-2 g c =
 
 pub same-self : goal.same-self
 same-self g c = fits-same _ _
+
+pub same-self-in_err-tell_renewal : goal.same-self-in_err-tell_renewal
+same-self-in_err-tell_renewal g c = fits-same _ _
+
+pub returns-in_err-slot-clause-told : goal.returns-in_err-slot-clause-told
+returns-in_err-slot-clause-told g c some listens =
+    let a = c.self.inside in
+    let zone = g.S.BlockStore.zone a.store in
+    let rest = g.S.BlockStore.rest a.store in
+    let es = a.names.items in
+    let found = loose_in zone rest.slots es _ c.args.handle (Err c.in_err-slot.field-0.0) c.deref.ensures.value
+    c.in_err-slot.ensures in
+    tells-none g.K.PurgeSink.told (reallocate_handle_gone c.args.handle c.args.size c.args.self.now.heap) c.args.sink.now
+    (reallocate_gone-none c.args.self.now zone rest es a.log c.args.handle c.args.size c.in_err-slot.field-0.0
+    c.self.view_is found)
+
+pub returns-clause-told : goal.returns-clause-told
+returns-clause-told g c some listens =
+    let a = c.self.inside in
+    let zone = g.S.BlockStore.zone a.store in
+    let rest = g.S.BlockStore.rest a.store in
+    let es = a.names.items in
+    let slot = c.in_ok-slot.slot in
+    let found = loose_in zone rest.slots es _ c.args.handle (Ok slot) c.deref.ensures.value c.in_ok-slot.ensures in
+    let same = ap (λ (e : List Anchor). renewed_gone e slot c.args.size zone) c.deref-2.ensures.value
+    ∙ reallocate_gone-is c.args.self.now zone rest es a.log c.args.handle found.0 slot c.args.size c.self.view_is found.2
+    found.3 c.self.invariant.apart found.4 in
+    subst (λ (l : List Gone). Tells g.K.PurgeSink.told l c.args.sink.now c.tell_renewal.new.sink) same
+    (c.in_ok-tell_renewal.ensures.told listens)

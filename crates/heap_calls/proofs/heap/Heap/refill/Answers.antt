@@ -1,11 +1,18 @@
-use Rattle.std.proofs.Common.{◌≡◌, ◌<◌, Some, sym, ◌∙◌, refl, slice_get, is_some, arith}
+use Rattle.std.proofs.Common.{◌≡◌, ◌≢◌, ◌<◌, Some, Err, List, length, sym, ◌∙◌, ap, subst, refl, slice_get, is_some, arith}
+use Rattle.std.proofs.lemmas.Result.{err_from_is_err_and}
 use Rattle.block_store.specs.Rest.{counted}
+use Rattle.heap_calls.specs.declared.anchor.Anchor.{Anchor}
 use Rattle.heap_calls.specs.declared.anchor.Anchor.TheVariants.{Handle}
+use Rattle.heap_calls.specs.declared.refusal.Refusal.TheVariants.{HostMemory}
+use Rattle.heap_calls.specs.Gone.{Gone, Tells, refill_gone}
+use Rattle.heap_calls.specs.Inner.Telling.{renewed_gone}
+use Rattle.heap_calls.proofs.GonePlaces.{refill_gone-is, refill_gone-none, tells-none}
+use Rattle.heap_calls.proofs.Numbering.Reserved.{fits-same}
 use Rattle.heap_calls.specs.declared.log.Log.{Log}
 use Rattle.heap_calls.specs.Answer.{silent}
 use Rattle.heap_calls.specs.Inside.{refill}
 use Rattle.heap_calls.specs.Inner.Numbered.{memory_of, no_number}
-use Rattle.heap_calls.proofs.Filled.Refilled.{slot-emptied, refill_searches-is, refill_moves-is, refill-told}
+use Rattle.heap_calls.proofs.Filled.Refilled.{slot-emptied, refill_searches-is, refill_moves-is, refill-told, refill-refused}
 use Rattle.heap_calls.proofs.NewBlocks.Naming.{is-served}
 use Rattle.heap_calls.proofs.Numbering.Changing.{agrees-kept, unmoved}
 use Rattle.heap_calls.proofs.Numbering.Loosening.{handle_at-by}
@@ -75,3 +82,42 @@ returns-clause-answer g c =
     c.in_ok-room.ensures.answer) refl)
     (refill_moves-is value zone zone' rest rest' es a.log h slot flags x made _ refl c.self.view_is found mine
     c.in_ok-room.ensures.answer) c.refill_block.ensures.moves))
+
+pub same-self : goal.same-self
+same-self g c = fits-same _ _
+
+pub same-self-in_err-tell_refilling : goal.same-self-in_err-tell_refilling
+same-self-in_err-tell_refilling g c = fits-same _ _
+
+pub returns-in_err-found-clause-answer : goal.returns-in_err-found-clause-answer
+returns-in_err-found-clause-answer g c =
+    let p = err_from_is_err_and c.from_residual.result c.from_residual.ensures.1 in
+    let a = c.self.inside in
+    rw (p.1, p.2) (refill-refused c.args.self.now (g.S.BlockStore.zone a.store) (g.S.BlockStore.rest a.store)
+    a.names.items c.deref.result.now a.log c.args.number c.args.flags c.args.bytes.now c.in_err-found.field-0.0
+    c.self.view_is c.deref.ensures.value (sym c.slot_of.ensures ∙ c.in_err-found.was))
+
+pub returns-in_err-found-clause-told : goal.returns-in_err-found-clause-told
+returns-in_err-found-clause-told g c some listens =
+    let p = err_from_is_err_and c.from_residual.result c.from_residual.ensures.1 in
+    let a = c.self.inside in
+    let coded : c.in_err-found.field-0.0 ≢ HostMemory = λ e. some (p.1 ∙ ap Err (p.2 ∙ e)) in
+    tells-none g.K.PurgeSink.told (refill_gone c.args.number (length c.args.bytes.now) c.args.self.now.heap)
+    c.args.sink.now
+    (refill_gone-none c.args.self.now (g.S.BlockStore.zone a.store) (g.S.BlockStore.rest a.store) a.names.items
+    c.deref.result.now a.log c.args.number (length c.args.bytes.now) c.in_err-found.field-0.0 c.self.view_is
+    c.deref.ensures.value (sym c.slot_of.ensures ∙ c.in_err-found.was) coded)
+
+pub returns-clause-told : goal.returns-clause-told
+returns-clause-told g c some listens =
+    let a = c.self.inside in
+    let zone = g.S.BlockStore.zone a.store in
+    let slot = c.in_ok-found.found.slot in
+    let n = length c.args.bytes.now in
+    let at = entry g (goal.at.returns-clause-told g c).In_ok-found in
+    let small : c.args.number < no_number = omega arith in
+    let same = ap (λ (e : List Anchor). renewed_gone e slot n zone) c.deref-2.ensures.value
+    ∙ refill_gone-is c.args.self.now zone (g.S.BlockStore.rest a.store) a.names.items a.log c.args.number slot n
+    c.self.view_is at c.self.invariant.apart small c.requires.emptied in
+    subst (λ (l : List Gone). Tells g.K.PurgeSink.told l c.args.sink.now c.tell_refilling.new.sink) same
+    (c.in_ok-tell_refilling.ensures.told listens)

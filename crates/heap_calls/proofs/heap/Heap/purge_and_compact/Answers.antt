@@ -16,9 +16,9 @@ use Rattle.heap_calls.proofs.Numbering.MoveNames.{purged_moves-rename}
 use Rattle.heap_calls.proofs.Room.Staying.{nonrelocatable-purged, nonrelocatable-settled, nonrelocatable-same, nonrelocatable-then}
 use Rattle.block_store.specs.Rest.{KeepsSlots}
 use Rattle.heap_calls.proofs.Numbering.Changing.{unmoved-is}
-use Rattle.heap_calls.proofs.heap.Heap.max_mem.Given.{Over}
-use Rattle.heap_calls.proofs.heap.Heap.max_mem.Goals.{After-compact}
-use Rattle.heap_calls.proofs.heap.Heap.max_mem.Goals as goal
+use Rattle.heap_calls.proofs.heap.Heap.purge_and_compact.Given.{Over}
+use Rattle.heap_calls.proofs.heap.Heap.purge_and_compact.Goals.{After-compact}
+use Rattle.heap_calls.proofs.heap.Heap.purge_and_compact.Goals as goal
 
 -- the slots stay
 kept : (g : Over) (c : After-compact g) → KeepsSlots (g.S.BlockStore.rest c.self.inside.store)

@@ -1,0 +1,297 @@
+use Rattle.std.proofs.Common.{◌≡◌, ℕ, ◌+◌, ◌-◌, ◌≤◌, ◌<◌, zero, suc, Bool, true, false, not, ◌&&◌, ◌==◌, List, [], ◌∷◌}
+use Rattle.std.proofs.Common.{◌++◌, length, drop, slice_index_or, inl, inr, append_assoc, append-nil, refl, sym, ◌∙◌, ap, cond, arith, Option, Some, None, subst, is_some, map, replicate, ◌*◌}
+use Rattle.std.proofs.lemmas.Bool.{cond-true, cond-false}
+use Rattle.std.proofs.lemmas.Bool.Decides.{nat_tests}
+use Rattle.std.proofs.lemmas.List.{at_drop_more, length-map, length-replicate}
+use Rattle.std.proofs.lemmas.Option.{none-some}
+use Rattle.std.specs.Option.{option_map}
+use Rattle.std.specs.Prelude.{nat_le, nat_lt}
+use Rattle.block_store.specs.Block.{Block, Free, Nonrelocatable, Masters, Relocatable, size, sizes, is_purgeable, content_of}
+use Rattle.block_store.specs.Block.{rename, rename_block, tidy}
+use Rattle.block_store.specs.Find.{IsEdge, FindsLowestRun}
+use Rattle.block_store.specs.Run.{run_spot, has_free}
+use Rattle.block_store.specs.Room.{Spot, spot_at, raised, may_be_purged, put_at_base, room}
+use Rattle.block_store.specs.Sparing.{spared, opened, purged}
+use Rattle.block_store.specs.Inner.Stretch.{opened_block}
+use Rattle.block_store.specs.Seen.{seen}
+use Rattle.block_store.specs.declared.flags.Flags.{Flags}
+use Rattle.block_store.specs.declared.sparing.Seen.TheVariants as see
+use Rattle.block_store.specs.declared.sparing.Sparing.{Sparing}
+use Rattle.block_store.specs.declared.sparing.Sparing.TheVariants.{Nothing}
+use Rattle.block_store.proofs.Nonrelocatable.Placing.{spot_at-below}
+use Rattle.block_store.proofs.Zone.Aligned.{spot_at-is}
+use Rattle.block_store.proofs.Zone.Apart.{Apart, apart-size, apart-tidied}
+use Rattle.block_store.proofs.Zone.Parted.{spot_at-parted}
+use Rattle.block_store.proofs.Zone.Totals.{total-append}
+use Rattle.block_store.proofs.Renamed.Renaming.{is_purgeable-rename}
+use Rattle.heap_calls.specs.declared.anchor.Anchor.{Anchor}
+use Rattle.block_store.specs.Rest.{Rest}
+use Rattle.heap_calls.specs.declared.log.Log.{Log}
+use Rattle.heap_calls.specs.State.{State, Memory, used_slots, all_slots}
+use Rattle.heap_calls.specs.Answer.{nothing}
+use Rattle.heap_calls.specs.Gone.{Gone, gone, room_gone, new_pointer_gone, slot_gone}
+use Rattle.heap_calls.specs.Searches.{room_searches}
+use Rattle.heap_calls.specs.Inner.Base.{base, base_searches}
+use Rattle.mac_words.specs.Size.{phys, padded}
+use Rattle.block_store.specs.Slot.{Slot}
+use Rattle.block_store.proofs.Renamed.Renaming.{rename_run_spot}
+use Rattle.heap_calls.proofs.NewBlocks.Basing.{base-rename, base_searches-rename}
+use Rattle.heap_calls.proofs.NewBlocks.NewSlots.{at_base, room-base, searches-base}
+use Rattle.heap_calls.proofs.NewBlocks.NewHandles.{base-is, base_searches-is, none-left, some-left}
+use Rattle.block_store.specs.Block.{count, is_masters}
+use Rattle.heap_calls.specs.Inner.Numbered.{number_from, handle_number, pointer_number, leads_to, name_of, memory_of, state_of, Agrees}
+use Rattle.heap_calls.specs.Inner.Telling.{IsNumberOf, gone_named, gone_from, from_spot, blocks_from, base_gone, pointer_gone, zone_slot_gone}
+
+-- What a sink is told of blocks that are purged.
+
+-- the number of a slot's handle, one entry on
+pub number_here : (entries : List Anchor) (i slot : ℕ) (e : Anchor) → i < length entries
+    → leads_to slot (slice_index_or entries i e) ≡ true → number_from i (leads_to slot) (drop i entries) ≡ i
+number_here entries i slot e less is =
+    at_drop_more (λ (es : List Anchor). number_from i (leads_to slot) es) entries i e less
+    ∙ cond-true (leads_to slot (slice_index_or entries i e)) i _ is
+
+pub number_next : (entries : List Anchor) (i slot : ℕ) (e : Anchor) → i < length entries
+    → leads_to slot (slice_index_or entries i e) ≡ false
+    → number_from i (leads_to slot) (drop i entries) ≡ number_from (i + 1) (leads_to slot) (drop (i + 1) entries)
+number_next entries i slot e less is =
+    at_drop_more (λ (es : List Anchor). number_from i (leads_to slot) es) entries i e less
+    ∙ cond-false (leads_to slot (slice_index_or entries i e)) i _ is
+
+-- Where blocks stand apart, those from a place on are the ones above those that end there.
+spot-end : (bs : List Block) → Apart bs → spot_at (sizes bs) bs ≡ None
+spot-end [] a = refl
+spot-end (c ∷ above) a =
+    let big = apart-size c above a.0 in
+    let n : sizes (c ∷ above) ≡ size c + sizes above = refl in
+    cond-false (sizes (c ∷ above) == 0) _ _ (grind (arith, nat_tests))
+    ∙ cond-true (nat_le (size c) (sizes (c ∷ above))) _ _ (grind (arith, nat_tests))
+    ∙ ap (λ k. option_map (raised c) (spot_at k above))
+    (let z : sizes (c ∷ above) - size c ≡ sizes above = omega arith in z)
+    ∙ ap (option_map (raised c)) (spot-end above a.1)
+
+from-between : (below above : List Block) → Apart (below ++ above) → blocks_from (sizes below) (below ++ above) ≡ above
+from-between below [] a =
+    ap from_spot (ap (spot_at (sizes below)) (append-nil below)
+    ∙ spot-end below (subst Apart (append-nil below) a))
+from-between below (b ∷ above) a = ap from_spot (spot_at-parted below b above a)
+
+pub from-behind : (place : ℕ) (zone : List Block) (s : Spot) → tidy zone ≡ zone → spot_at place zone ≡ Some s
+    → blocks_from (place + size s.here) zone ≡ s.above
+from-behind place zone s tidied at =
+    let whole : (s.below ++ s.here ∷ []) ++ s.above ≡ zone = append_assoc s.below (s.here ∷ []) s.above
+    ∙ spot_at-is place zone s at in
+    let all : sizes (s.below ++ s.here ∷ []) ≡ sizes s.below + (size s.here + 0) =
+    total-append size s.below (s.here ∷ []) in
+    let here : sizes s.below ≡ place = spot_at-below place zone s at in
+    let end : place + size s.here ≡ sizes (s.below ++ s.here ∷ []) = omega arith in
+    ap (λ n. blocks_from n zone) end ∙ ap (blocks_from (sizes (s.below ++ s.here ∷ []))) (sym whole)
+    ∙ from-between (s.below ++ s.here ∷ []) s.above (subst Apart (sym whole) (apart-tidied zone tidied))
+
+-- no block is told of where none is left
+pub gone_from-none : (entries : List Anchor) (sparing : Sparing) (k : ℕ) → gone_from entries sparing k [] ≡ []
+gone_from-none entries sparing zero = refl
+gone_from-none entries sparing (suc k) = refl
+
+pub gone_from-end : (entries : List Anchor) (sparing : Sparing) (k place : ℕ) (zone : List Block)
+    → spot_at place zone ≡ None → gone_from entries sparing k (blocks_from place zone) ≡ []
+gone_from-end entries sparing k place zone e = ap (λ o. gone_from entries sparing k (from_spot o)) e
+    ∙ gone_from-none entries sparing k
+
+-- one block on: it is purged, or it stays
+pub gone_from-goes : (entries : List Anchor) (sparing : Sparing) (k k' place place' : ℕ) (zone : List Block) (s : Spot)
+    → 0 < k → tidy zone ≡ zone → spot_at place zone ≡ Some s
+    → may_be_purged (spared sparing) (opened_block sparing s.here) ≡ true → k' ≡ k - 1 → place' ≡ place + size s.here
+    → gone_from entries sparing k (blocks_from place zone)
+    ≡ gone_named entries s.here ++ gone_from entries sparing k' (blocks_from place' zone)
+gone_from-goes entries sparing zero k' place place' zone s some tidied at goes less on = absurd (omega (arith, some))
+gone_from-goes entries sparing (suc k) k' place place' zone s some tidied at goes less on =
+    ap (λ o. gone_from entries sparing (suc k) (from_spot o)) at
+    ∙ cond-true (may_be_purged (spared sparing) (opened_block sparing s.here)) _ _ goes
+    ∙ ap (λ n. gone_named entries s.here ++ gone_from entries sparing n s.above)
+    (let z : k ≡ k' = omega (arith, less) in z)
+    ∙ ap (λ bs. gone_named entries s.here ++ gone_from entries sparing k' bs)
+    (sym (ap (λ n. blocks_from n zone) on ∙ from-behind place zone s tidied at))
+
+pub gone_from-stays : (entries : List Anchor) (sparing : Sparing) (k place place' : ℕ) (zone : List Block) (s : Spot)
+    → 0 < k → tidy zone ≡ zone → spot_at place zone ≡ Some s
+    → may_be_purged (spared sparing) (opened_block sparing s.here) ≡ false → place' ≡ place + size s.here
+    → gone_from entries sparing k (blocks_from place zone) ≡ gone_from entries sparing k (blocks_from place' zone)
+gone_from-stays entries sparing zero place place' zone s some tidied at stays on = absurd (omega (arith, some))
+gone_from-stays entries sparing (suc k) place place' zone s some tidied at stays on =
+    ap (λ o. gone_from entries sparing (suc k) (from_spot o)) at
+    ∙ cond-false (may_be_purged (spared sparing) (opened_block sparing s.here)) _ _ stays
+    ∙ ap (gone_from entries sparing (suc k))
+    (sym (ap (λ n. blocks_from n zone) on ∙ from-behind place zone s tidied at))
+
+-- the blocks of a store that are purged are those of its heap
+pub gone-named : (entries : List Anchor) (k : ℕ) (blocks : List Block)
+    → gone (length entries) k nothing (rename (handle_number entries) (pointer_number entries) blocks)
+    ≡ gone_from entries Nothing k blocks
+gone-named entries zero blocks = refl
+gone-named entries (suc k) [] = refl
+gone-named entries (suc k) (b ∷ above) =
+    ap (λ t. cond t (gone_named entries b ++ gone (length entries) k nothing
+    (rename (handle_number entries) (pointer_number entries) above))
+    (gone (length entries) (suc k) nothing (rename (handle_number entries) (pointer_number entries) above)))
+    (ap (λ t. t && true) (is_purgeable-rename (handle_number entries) (pointer_number entries) b))
+    ∙ ap (λ l. cond (is_purgeable b && true) (gone_named entries b ++ l)
+    (gone (length entries) (suc k) nothing (rename (handle_number entries) (pointer_number entries) above)))
+    (gone-named entries k above)
+    ∙ ap (λ l. cond (is_purgeable b && true) (gone_named entries b ++ gone_from entries Nothing k above) l)
+    (gone-named entries (suc k) above)
+
+-- a handle's block is told of by the handle's number
+pub told-number : (entries : List Anchor) (b : Block) (slot n number : ℕ) (flags : Flags) → see.Relocatable slot flags n
+    ≡ seen b → IsNumberOf slot entries (Some number) → gone_named entries b ≡ (number, content_of b) ∷ []
+told-number entries (Free m) slot n number flags e is = cc
+told-number entries (Nonrelocatable id content) slot n number flags e is = cc
+told-number entries Masters slot n number flags e is = cc
+told-number entries (Relocatable id own content) slot n number flags e is =
+    let same : slot ≡ id = cc in
+    let named : handle_number entries id ≡ number = ap (handle_number entries) (sym same) ∙ is.0 in
+    cond-true (nat_lt (handle_number entries id) (length entries)) _ _ (grind (arith, nat_tests, is.1))
+    ∙ ap (λ k. (k, content) ∷ []) named
+
+-- and one without a handle isn't
+pub told-nothing : (entries : List Anchor) (b : Block) (slot n : ℕ) (flags : Flags) → see.Relocatable slot flags n
+    ≡ seen b → IsNumberOf slot entries None → gone_named entries b ≡ []
+told-nothing entries (Free m) slot n flags e is = cc
+told-nothing entries (Nonrelocatable id content) slot n flags e is = cc
+told-nothing entries Masters slot n flags e is = cc
+told-nothing entries (Relocatable id own content) slot n flags e is =
+    let same : slot ≡ id = cc in
+    let most : length entries ≤ handle_number entries id = subst (λ k. length entries ≤ handle_number entries k) same
+    is in
+    cond-false (nat_lt (handle_number entries id) (length entries)) _ _ (grind (arith, nat_tests, most))
+
+-- no block is seen where there is none
+pub unseen : (o : Option Spot) → option_map (λ (s : Spot). seen s.here) o ≡ None → o ≡ None
+unseen None e = refl
+unseen (Some s) e = absurd (none-some _ (sym e))
+
+-- from the bottom on there are all blocks
+pub from-bottom : (zone : List Block) → blocks_from 0 zone ≡ zone
+from-bottom [] = refl
+from-bottom (b ∷ above) = refl
+
+pub edge-bottom : (zone : List Block) → IsEdge 0 zone
+edge-bottom [] = inr refl
+edge-bottom (b ∷ above) = inl refl
+
+-- so many blocks of a store that are purged are those of its heap, from the bottom on
+pub told-all : (value : Memory) (zone : List Block) (rest : Rest) (es : List Anchor) (log : Log) (k k' : ℕ)
+    → memory_of zone rest es log ≡ value → k ≡ k'
+    → gone_from es Nothing k (blocks_from 0 zone) ≡ gone (length value.heap.names) k' nothing value.heap.zone
+told-all value zone rest es log k k' is same =
+    ap (gone_from es Nothing k) (from-bottom zone) ∙ sym (gone-named es k zone)
+    ∙ ap (λ n. gone n k nothing (rename (handle_number es) (pointer_number es) zone))
+    (sym (length-map es (name_of rest.slots)))
+    ∙ ap (λ (m : Memory). gone (length m.heap.names) k nothing m.heap.zone) is
+    ∙ ap (λ n. gone (length value.heap.names) n nothing value.heap.zone) same
+
+some-map : {A B : Type 0} (f : A → B) (o : Option A) → is_some (option_map f o) ≡ is_some o
+some-map f None = refl
+some-map f (Some x) = refl
+
+-- where a run was found for room at its base, its purges are those of the search
+pub base-told : (entries : List Anchor) (p k : ℕ) (sparing : Sparing) (zone : List Block) (run : Option ℕ)
+    → FindsLowestRun (has_free p) (purged k sparing zone) run
+    → base p sparing zone ≡ run_spot (has_free p) (purged k sparing zone) → k + 1 ≡ base_searches p sparing zone
+    → is_some run ≡ true → gone_from entries sparing k (blocks_from 0 zone) ≡ base_gone entries p sparing zone
+base-told entries p k sparing zone None found least searches some = cc
+base-told entries p k sparing zone (Some run) found least searches some =
+    ap (gone_from entries sparing k) (from-bottom zone)
+    ∙ ap (λ n. gone_from entries sparing n zone)
+    (let z : k ≡ base_searches p sparing zone - 1 = omega (arith, searches) in z)
+    ∙ sym (cond-true (is_some (base p sparing zone)) _ _ (ap is_some (least ∙ found.1)))
+
+-- the blocks of a store that are purged, where the names that a search spares are those of slots
+pub gone-spared : (entries : List Anchor) (sp : Block → Bool) (sparing : Sparing)
+    → ((b : Block) → sp (rename_block (handle_number entries) (pointer_number entries) b) ≡ spared sparing b)
+    → ((b : Block) → opened_block sparing b ≡ b) → (k : ℕ) (blocks : List Block)
+    → gone (length entries) k sp (rename (handle_number entries) (pointer_number entries) blocks)
+    ≡ gone_from entries sparing k blocks
+gone-spared entries sp sparing same closed zero blocks = refl
+gone-spared entries sp sparing same closed (suc k) [] = refl
+gone-spared entries sp sparing same closed (suc k) (b ∷ above) =
+    let f = handle_number entries in
+    let g = pointer_number entries in
+    let test : may_be_purged sp (rename_block f g b) ≡ may_be_purged (spared sparing) (opened_block sparing b) =
+    ap (λ t. t && not (sp (rename_block f g b))) (is_purgeable-rename f g b)
+    ∙ ap (λ t. is_purgeable b && not t) (same b) ∙ ap (may_be_purged (spared sparing)) (sym (closed b)) in
+    ap (λ t. cond t (gone_named entries b ++ gone (length entries) k sp (rename f g above))
+    (gone (length entries) (suc k) sp (rename f g above))) test
+    ∙ ap (λ l. cond (may_be_purged (spared sparing) (opened_block sparing b)) (gone_named entries b ++ l)
+    (gone (length entries) (suc k) sp (rename f g above))) (gone-spared entries sp sparing same closed k above)
+    ∙ ap (λ l. cond (may_be_purged (spared sparing) (opened_block sparing b))
+    (gone_named entries b ++ gone_from entries sparing k above) l)
+    (gone-spared entries sp sparing same closed (suc k) above)
+
+module _ (zone : List Block) (rest : Rest) (es : List Anchor) (masters : rest.all ≡ 64 * count is_masters zone)
+    (agrees : Agrees zone rest es) (sp : Block → Bool) (sparing : Sparing)
+    (same : (b : Block) → sp (rename_block (handle_number es) (pointer_number es) b) ≡ spared sparing b)
+    (closed : opened sparing zone ≡ zone) (closed_block : (b : Block) → opened_block sparing b ≡ b)
+  where
+    -- the blocks that are purged for room at the base of a run
+    pub base_gone-is : (new : Block)
+        → base_gone es (size new) sparing zone
+        ≡ room_gone (length (map (name_of rest.slots) es))
+        (put_at_base (rename_block (handle_number es) (pointer_number es) new)) sp
+        (rename (handle_number es) (pointer_number es) zone)
+    base_gone-is new =
+        let f = handle_number es in
+        let g = pointer_number es in
+        let found : is_some (base (size new) sparing zone)
+        ≡ is_some (room (put_at_base (rename_block f g new)) sp (rename f g zone)) =
+        sym (ap is_some (base-is zone rest es masters agrees sp sparing same closed new)
+        ∙ some-map (rename f g) _ ∙ ap is_some (room-base new sparing zone) ∙ some-map (at_base new) _) in
+        let many = base_searches-is zone rest es masters agrees sp sparing same closed new in
+        ap (λ t. cond t (gone_from es sparing (base_searches (size new) sparing zone - 1) zone) []) found
+        ∙ ap (λ l. cond (is_some (room (put_at_base (rename_block f g new)) sp (rename f g zone))) l [])
+        (sym (gone-spared es sp sparing same closed_block (base_searches (size new) sparing zone - 1) zone)
+        ∙ ap (λ n. gone (length es) (n - 1) sp (rename f g zone)) (sym many)
+        ∙ ap (λ n. gone n (room_searches (put_at_base (rename_block f g new)) sp (rename f g zone) - 1) sp
+        (rename f g zone)) (sym (length-map es (name_of rest.slots))))
+
+    -- the blocks that are purged for an unused master pointer
+    pub slot_gone-is : zone_slot_gone es sparing rest.unused zone ≡ slot_gone sp (state_of zone rest.slots es)
+    slot_gone-is = cases rest.unused refl
+      where
+        s : State
+        s = state_of zone rest.slots es
+
+        cases : (n : ℕ) → rest.unused ≡ n → zone_slot_gone es sparing n zone ≡ slot_gone sp s
+        cases zero e = base_gone-is Masters
+            ∙ sym (cond-false {A = List Gone} (nat_lt (used_slots s) (all_slots s)) [] _
+            (none-left zone rest es masters agrees sp sparing same closed e))
+        cases (suc n) e = sym (cond-true {A = List Gone} (nat_lt (used_slots s) (all_slots s)) [] _
+            (some-left zone rest es masters agrees sp sparing same closed n e))
+
+-- the same, whatever the new block is named, where no name is spared
+pub base_gone-any : (zone : List Block) (slots : ℕ → Slot) (es : List Anchor) (new : Block)
+    → base_gone es (size new) Nothing zone
+    ≡ room_gone (length (map (name_of slots) es)) (put_at_base new) nothing
+    (rename (handle_number es) (pointer_number es) zone)
+base_gone-any zone slots es new =
+    let f = handle_number es in
+    let g = pointer_number es in
+    let found : is_some (base (size new) Nothing zone) ≡ is_some (room (put_at_base new) nothing (rename f g zone)) =
+    sym (ap is_some (room-base new Nothing (rename f g zone)) ∙ some-map (at_base new) _
+    ∙ ap is_some (base-rename f g (size new) zone) ∙ some-map (rename_run_spot f g) _) in
+    let many : room_searches (put_at_base new) nothing (rename f g zone) ≡ base_searches (size new) Nothing zone =
+    searches-base new Nothing (rename f g zone) ∙ base_searches-rename f g (size new) zone in
+    ap (λ t. cond t (gone_from es Nothing (base_searches (size new) Nothing zone - 1) zone) []) found
+    ∙ ap (λ l. cond (is_some (room (put_at_base new) nothing (rename f g zone))) l [])
+    (sym (gone-named es (base_searches (size new) Nothing zone - 1) zone)
+    ∙ ap (λ n. gone (length es) (n - 1) nothing (rename f g zone)) (sym many)
+    ∙ ap (λ n. gone n (room_searches (put_at_base new) nothing (rename f g zone) - 1) nothing (rename f g zone))
+    (sym (length-map es (name_of slots))))
+
+-- the blocks that NewPtr purges
+pub pointer_gone-is : (n : ℕ) (zone : List Block) (slots : ℕ → Slot) (es : List Anchor)
+    → pointer_gone es n zone ≡ new_pointer_gone n (state_of zone slots es)
+pointer_gone-is n zone slots es =
+    ap (λ l. cond (is_some (phys n)) l [])
+    (ap (λ p. base_gone es p Nothing zone) (sym (ap padded (length-replicate n 0)))
+    ∙ base_gone-any zone slots es (Nonrelocatable (length (map (name_of slots) es)) (replicate n 0)))

@@ -1,0 +1,55 @@
+use Rattle.std.proofs.Common.{◌≡◌, List, [], ◌∷◌, refl, Some, replicate}
+use Rattle.block_store.specs.Rest.{Site}
+use Rattle.heap_calls.specs.State.{Memory, fresh_memory}
+use Rattle.heap_calls.specs.Asked.{Asked}
+use Rattle.heap_calls.specs.Asked as asks
+use Rattle.heap_calls.specs.Busy.{served}
+use Rattle.heap_calls.specs.Gone.{Gone, reallocate_handle_gone, refill_gone}
+
+-- The blocks that calls purge for a new block of a handle, by the definitions alone.
+
+abbrev after : List Asked → Memory → Memory
+after [] m = m
+after (call ∷ calls) m = after calls (served call m).1
+
+-- three handles of 200 bytes each in a zone that has 80 bytes left, and the two lower blocks may be purged
+abbrev three : Site → Memory
+three window = after (asks.NewHandle 200 ∷ asks.NewHandle 200 ∷ asks.NewHandle 200 ∷ asks.Put (Some 0) 0 (72 ∷ [])
+    ∷ asks.HPurge (Some 0) ∷ asks.HPurge (Some 1) ∷ []) (fresh_memory 1024 window)
+
+abbrev lowest : Gone
+lowest = (0, 72 ∷ replicate 199 0)
+
+-- the handle's own bytes serve first, and then the lowest block goes
+own_bytes_first : (window : Site) → reallocate_handle_gone (Some 2) 250 (three window).heap ≡ []
+own_bytes_first window = refl
+
+lowest_block : (window : Site) → reallocate_handle_gone (Some 2) 300 (three window).heap ≡ lowest ∷ []
+lowest_block window = refl
+
+lowest_two : (window : Site) → reallocate_handle_gone (Some 2) 600 (three window).heap
+    ≡ lowest ∷ (1, replicate 200 0) ∷ []
+lowest_two window = refl
+
+-- the handle's own block is not among them, although it may be purged
+never_its_own : (window : Site) → reallocate_handle_gone (Some 0) 450 (three window).heap ≡ (1, replicate 200 0) ∷ []
+never_its_own window = refl
+
+-- none goes where all are too few, nor for a locked block, nor where there is no such handle
+too_few : (window : Site) → reallocate_handle_gone (Some 0) 600 (three window).heap ≡ []
+too_few window = refl
+
+locked : (window : Site)
+    → reallocate_handle_gone (Some 2) 300 (after (asks.HLock (Some 2) ∷ []) (three window)).heap ≡ []
+locked window = refl
+
+no_handle : (window : Site) → reallocate_handle_gone (Some 7) 300 (three window).heap ≡ []
+no_handle window = refl
+
+-- a block for an empty handle
+emptied : (window : Site) → refill_gone 2 300 (after (asks.EmptyHandle (Some 2) ∷ []) (three window)).heap
+    ≡ lowest ∷ []
+emptied window = refl
+
+nothing_to_refill : (window : Site) → refill_gone 7 300 (three window).heap ≡ []
+nothing_to_refill window = refl

@@ -1,0 +1,28 @@
+use Rattle.std.proofs.Common.{◌∙◌, ℕ, List, sym, ap, subst, refl, Option, Some}
+use Rattle.std.proofs.lemmas.Result.{on_ok_weaker}
+use Rattle.block_store.specs.Block.{Free}
+use Rattle.block_store.specs.declared.sparing.Sparing.TheVariants.{Nothing}
+use Rattle.heap_calls.specs.declared.anchor.Anchor.{Anchor}
+use Rattle.heap_calls.specs.State.{Memory}
+use Rattle.heap_calls.specs.Answer.{nothing}
+use Rattle.heap_calls.specs.Gone.{Gone, Tells, reserve_gone}
+use Rattle.heap_calls.specs.Inner.Telling.{base_gone}
+use Rattle.heap_calls.proofs.GoneBlocks.{base_gone-is}
+use Rattle.heap_calls.proofs.heap.Heap.tell_reserve.Goals as goal
+
+pub returns-clause-told : goal.returns-clause-told
+returns-clause-told g c =
+    let a = c.self.inside in
+    let zone = g.S.BlockStore.zone a.store in
+    let rest = g.S.BlockStore.rest a.store in
+    let es = a.names.items in
+    let row = base_gone-is zone rest es (g.met.S.BlockStore.masters a.store) c.self.invariant nothing Nothing
+    (λ b. refl) refl (λ b. refl) (Free c.in-Some.bytes) in
+    let same = ap (λ (e : List Anchor). base_gone e c.in-Some.bytes Nothing zone) c.deref.ensures.value ∙ row
+    ∙ ap (λ (m : Memory). reserve_gone (Some c.in-Some.bytes) m.heap) c.self.view_is in
+    let wanted = ap (λ (p : Option ℕ). reserve_gone p c.args.self.now.heap)
+    (sym (c.phys.ensures) ∙ c.in-Some.is) in
+    on_ok_weaker c.tell_base.result
+    (λ told listens. subst (λ (l : List Gone). Tells g.K.PurgeSink.told l c.args.sink.now c.tell_base.new.sink)
+    (same ∙ sym wanted) told)
+    c.tell_base.ensures.told

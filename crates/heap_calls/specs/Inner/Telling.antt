@@ -1,0 +1,124 @@
+use Rattle.std.specs.Prelude.{◌≡◌, ◌⊎◌, ◌≤◌, ◌<◌, ◌-◌, is_some, ℕ, Bool, Option, Some, None, List, [], ◌∷◌, ◌++◌, length}
+use Rattle.std.specs.Prelude.{nat_le, if◌then◌else◌, zero, suc}
+use Rattle.block_store.specs.Block.{Block, size, is_mover, rename_block}
+use Rattle.block_store.specs.Run.{segments}
+use Rattle.block_store.specs.Room.{Spot, spot, spot_at, may_be_purged, room}
+use Rattle.block_store.specs.Grow.{growth, grow_up, grow_mover}
+use Rattle.block_store.specs.Sparing.{spared}
+use Rattle.block_store.specs.Inner.Stretch.{opened_block}
+use Rattle.block_store.specs.declared.sparing.Sparing.{Sparing}
+use Rattle.block_store.specs.declared.sparing.Sparing.TheVariants.{Nothing, Freed}
+use Rattle.block_store.specs.declared.measures.TheConstants.{MASTERS_SIZE}
+use Rattle.mac_words.specs.Size.{phys, padded}
+use Rattle.heap_calls.specs.Gone.{Gone, gone_of, Tells, TellsNothing}
+use Rattle.heap_calls.specs.Searches.{room_searches, resized_at}
+use Rattle.heap_calls.specs.Inner.Base.{base, base_searches}
+use Rattle.heap_calls.specs.Inner.GrowingInPlace.{enough}
+use Rattle.heap_calls.specs.Inner.Numbered.{handle_number, pointer_number}
+use Rattle.heap_calls.specs.Inner.NewSlot.{zone_slotted, HasMore}
+use Rattle.block_store.specs.Rest.{Rest, IsRest}
+use Rattle.heap_calls.specs.Inner.Search.{placement, placement_searches}
+use Rattle.heap_calls.specs.declared.anchor.Anchor.{Anchor}
+
+-- How a sink is told of a store's blocks, which the store names by slot.
+
+-- The number of the first entry of a slot's handle; `None` where the slot has no handle.
+abbrev pub IsNumberOf : ℕ → List Anchor → Option ℕ → Type 0
+IsNumberOf slot entries None = length entries ≤ handle_number entries slot
+IsNumberOf slot entries (Some number) = (handle_number entries slot ≡ number) × (number < length entries)
+
+-- A block of a store, by the number of its handle.
+abbrev pub gone_named : List Anchor → Block → List Gone
+gone_named entries b = gone_of (length entries) (rename_block (handle_number entries) (pointer_number entries) b)
+
+-- The k lowest blocks of a store that may be purged, by the numbers of their handles.
+abbrev pub gone_from : List Anchor → Sparing → ℕ → List Block → List Gone
+gone_from entries sparing zero blocks = []
+gone_from entries sparing (suc k) [] = []
+gone_from entries sparing (suc k) (b ∷ above) =
+    if may_be_purged (spared sparing) (opened_block sparing b)
+    then gone_named entries b ++ gone_from entries sparing k above
+    else gone_from entries sparing (suc k) above
+
+-- The blocks from a spot on.
+abbrev pub from_spot : Option Spot → List Block
+from_spot None = []
+from_spot (Some s) = s.here ∷ s.above
+
+abbrev pub blocks_from : ℕ → List Block → List Block
+blocks_from place zone = from_spot (spot_at place zone)
+
+-- The blocks of a store that are purged for room of p bytes at the base of a run.
+abbrev pub base_gone : List Anchor → ℕ → Sparing → List Block → List Gone
+base_gone entries p sparing zone =
+    if is_some (base p sparing zone) then gone_from entries sparing (base_searches p sparing zone - 1) zone else []
+
+-- The blocks of a store that are purged for a new nonrelocatable block of n bytes.
+abbrev pub pointer_gone : List Anchor → ℕ → List Block → List Gone
+pointer_gone entries n zone = if is_some (phys n) then base_gone entries (padded n) Nothing zone else []
+
+-- The blocks of a store that are purged for an unused slot, by the number of slots that are unused.
+abbrev pub zone_slot_gone : List Anchor → Sparing → ℕ → List Block → List Gone
+zone_slot_gone entries sparing zero zone = base_gone entries MASTERS_SIZE sparing zone
+zone_slot_gone entries sparing (suc n) zone = []
+
+-- The blocks of a store that are purged for what `try` does, where no block counts as free.
+abbrev pub try_gone : List Anchor → (List Block → Option (List Block)) → Sparing → List Block → List Gone
+try_gone entries try sparing zone =
+    if is_some (room try (spared sparing) zone)
+    then gone_from entries sparing (room_searches try (spared sparing) zone - 1) zone else []
+
+-- The blocks of a store that are purged for the growth of a block that stays where it is.
+abbrev pub still_gone : List Anchor → Sparing → Block → Spot → List Gone
+still_gone entries sparing new s =
+    if is_some (grow_up new s) then [] else try_gone entries (enough (growth new s)) sparing (segments s.above).first
+
+-- The blocks of a store that are purged where the block at a spot gets another size.
+abbrev pub grown_gone : List Anchor → (Block → Bool) → Sparing → Block → List Block → Option Spot → List Gone
+grown_gone entries test sparing new zone None = []
+grown_gone entries test sparing new zone (Some s) =
+    if nat_le (size new) (size s.here) then []
+    else (if is_mover s.here then try_gone entries (grow_mover test new) sparing zone
+    else still_gone entries sparing new s)
+
+-- The blocks of a store that are purged where the block that passes a test gets so many bytes of content.
+abbrev pub fitted_gone : List Anchor → (Block → Bool) → Sparing → ℕ → List Block → List Gone
+fitted_gone entries test sparing bytes zone = if is_some (phys bytes) then grown_gone entries test sparing
+    (resized_at bytes (spot test zone)) zone (spot test zone) else []
+
+-- No block counts as free for the search.
+abbrev pub OpensNone : Sparing → Type 0
+OpensNone sparing = (b : Block) → opened_block sparing b ≡ b
+
+-- The blocks of a store that are purged for the place of a relocatable block of p bytes.
+abbrev pub placement_gone : List Anchor → ℕ → Sparing → List Block → List Gone
+placement_gone entries p sparing zone = if is_some (placement p sparing zone)
+    then gone_from entries sparing (placement_searches p sparing zone - 1) zone else []
+
+-- The blocks of a store that are purged for a new block of n bytes.
+abbrev pub fresh_gone : List Anchor → Sparing → ℕ → List Block → List Gone
+fresh_gone entries sparing n zone = if is_some (phys n) then placement_gone entries (padded n) sparing zone else []
+
+-- The same, where there is an unused slot.
+abbrev pub after_slot_gone : List Anchor → Sparing → ℕ → Option (List Block) → List Gone
+after_slot_gone entries sparing n None = []
+after_slot_gone entries sparing n (Some ready) = fresh_gone entries sparing n ready
+
+-- The blocks of a store that are purged for an unused slot, and then for a new block of n bytes.
+abbrev pub new_gone : List Anchor → Sparing → ℕ → ℕ → List Block → List Gone
+new_gone entries sparing n unused zone = zone_slot_gone entries sparing unused zone
+    ++ after_slot_gone entries sparing n (zone_slotted sparing unused zone)
+
+-- The blocks of a store that are purged for a new block of n bytes for a slot, whose old block counts as free.
+abbrev pub renewed_gone : List Anchor → ℕ → ℕ → List Block → List Gone
+renewed_gone entries slot n zone = if is_some (phys n) then placement_gone entries (padded n) (Freed slot) zone else []
+
+-- What is left of a store and a sink where the sink finds the host out of memory as a slot is taken for a new block, and
+-- the block's place is sought: all as it was; or the slot is unused again, and the master pointer block that was made
+-- for it stays, of whose purges the sink was told.
+abbrev pub LeavesSlot : {A : Type 0} → (A → List Gone → Type 0) → List Anchor → Sparing → List Block → Rest → List Block
+    → Rest → A → A → Type 0
+LeavesSlot told entries sparing zone rest zone' rest' old new =
+    ((zone' ≡ zone) × IsRest rest rest' × TellsNothing told old new)
+    ⊎ ((zone_slotted sparing rest.unused zone ≡ Some zone') × HasMore rest rest' × (rest'.moves ≡ rest.moves)
+    × Tells told (zone_slot_gone entries sparing rest.unused zone) old new)
