@@ -1,25 +1,14 @@
-use Rattle.std.proofs.Common.{◌≡◌, ℕ, Bool, true, false, refl, sym, cond, map, List, [], ◌∷◌}
-use Rattle.std.specs.Prelude.{bytes_eq}
+use Rattle.std.proofs.Common.{◌≡◌, ℕ, List, [], ◌∷◌, map, refl, ap}
+use Rattle.std.specs.BTreeMap.{is_at}
+use Rattle.std.specs.declared.cmp.Ordering.{Ordering}
 use Rattle.std.specs.Map.{lookup}
-use Rattle.indexmap.specs.IndexMap.{insert_entry}
 use Rattle.mac_words.specs.declared.name.Label.{Label}
-use Rattle.script_text.proofs.Naming.{TellsBytes}
-use Rattle.applications.specs.Names.{bound_to, bind, binding}
+use Rattle.script_text.proofs.Naming.{OrdersBytes, tells_bytes}
+use Rattle.applications.specs.Names.{bound_to, binding}
 
 -- what a map holds at a name is what the name is bound to
-pub lookup-bound : (eq : Label → Label → Bool) → TellsBytes eq → (name : Label) (es : List (Label × ℕ))
-    → lookup (eq name) es ≡ bound_to name.0.items (map binding es)
-lookup-bound eq tells name [] = refl
-lookup-bound eq tells name (e ∷ es) = rw (tells name e.0, lookup-bound eq tells name es) refl
-
--- a name put into a map is bound
-pub insert-bind : (eq : Label → Label → Bool) → TellsBytes eq → (name : Label) (n : ℕ) (es : List (Label × ℕ))
-    → map binding (insert_entry eq es name n) ≡ bind name.0.items n (map binding es)
-insert-bind eq tells name n [] = refl
-insert-bind eq tells name n (e ∷ es) = rw (tells name e.0, sym (insert-bind eq tells name n es))
-    (cases (bytes_eq name.0.items e.0.0.items))
-  where
-    cases : (t : Bool) → map binding (cond t ((e.0, n) ∷ es) (e ∷ insert_entry eq es name n))
-        ≡ cond t ((e.0.0.items, n) ∷ map binding es) (binding e ∷ map binding (insert_entry eq es name n))
-    cases true = refl
-    cases false = refl
+pub lookup-bound : (order : Label → Label → Ordering) → OrdersBytes order → (name : Label) (es : List (Label × ℕ))
+    → lookup (is_at (order name)) es ≡ bound_to name.0.items (map binding es)
+lookup-bound order orders name [] = refl
+lookup-bound order orders name (e ∷ es) =
+    rw (tells_bytes order orders name e.0, lookup-bound order orders name es) refl

@@ -3,15 +3,16 @@
 ghost use Rattle.std.specs.Prelude.{◌≡◌, [], map, OnOk};
 ghost use Rattle.applications.specs.Names.{Bindings, bound_to, bind, binding};
 
-use indexmap::IndexMap;
 use mac_words::Label;
 use std::alloc::{AllocError, Global};
+use std::collections::BTreeMap;
 use std::marker::Model;
 
-/// The names that a script has bound so far, and the numbers of their handles and pointers.
+/// The names that a script has bound so far, and the numbers of their handles and pointers. Names are compared, not
+/// hashed: no choice of names makes a look-up slow.
 #[derive(Drop)]
 pub struct Names {
-    bound: IndexMap<Label, usize>,
+    bound: BTreeMap<Label, usize>,
 }
 
 impl Model for Names {
@@ -26,7 +27,7 @@ impl Names {
         ensures { result ≡ [] }
     {
         Names {
-            bound: IndexMap::new(alloc),
+            bound: BTreeMap::new(alloc),
         }
     }
 

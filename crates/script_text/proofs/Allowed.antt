@@ -1,7 +1,12 @@
 use Rattle.std.proofs.Common.{◌≡◌, ℕ, Bool, true, false, refl, List, [], ◌∷◌, cond, Some}
+use Rattle.std.specs.Cmp.Lexicographic.{slice_cmp}
+use Rattle.std.specs.declared.cmp.Ordering.{Ordering}
+use Rattle.std.specs.declared.cmp.Ordering.TheVariants.{Less, Equal, Greater}
+use Rattle.std.specs.Ordering.{nat_cmp, match_ordering}
 use Rattle.std.proofs.lemmas.Bool.{and_parts}
 use Rattle.std.specs.Prelude.{bytes_eq, unwrap_or}
 use Rattle.std.specs.Map.{lookup}
+use Rattle.script_text.specs.Named.{put_named}
 use Rattle.script_text.specs.Script.{AllAllowed, are_allowed, block_of}
 use Rattle.script_text.specs.declared.script.Line.{Line}
 
@@ -19,3 +24,18 @@ block_allowed name (b ∷ blocks) all =
         → are_allowed (unwrap_or (cond t (Some b.1) (lookup (bytes_eq name) blocks)) []) ≡ true
     cases here below true = here
     cases here below false = below
+
+-- those of all scripts once one was put among them
+pub allowed_put : (name : List ℕ) (lines : List Line) (blocks : List (List ℕ × List Line)) → AllAllowed blocks
+    → are_allowed lines ≡ true → AllAllowed (put_named name lines blocks)
+allowed_put name lines [] all one = rw (one) refl
+allowed_put name lines (b ∷ blocks) all one =
+    let both : (are_allowed b.1 ≡ true) × AllAllowed blocks = and_parts (are_allowed b.1) _ all in
+    cases both.0 both.1 (allowed_put name lines blocks both.1 one) (slice_cmp nat_cmp name b.0)
+  where
+    cases : are_allowed b.1 ≡ true → AllAllowed blocks → AllAllowed (put_named name lines blocks) → (o : Ordering)
+        → AllAllowed (match_ordering o ((name, lines) ∷ b ∷ blocks) ((b.0, lines) ∷ blocks)
+        (b ∷ put_named name lines blocks))
+    cases first behind added Less = rw (one, first) behind
+    cases first behind added Equal = rw (one) behind
+    cases first behind added Greater = rw (first) added

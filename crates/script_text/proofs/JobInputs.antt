@@ -1,19 +1,15 @@
 -- What holds of a job's inputs, of which each may follow those above it.
 use Rattle.std.proofs.Common.{◌≡◌, ℕ, suc, zero, ◌+◌, ◌≤◌, ◌<◌, Bool, true, false, cond, List, [], ◌∷◌, ◌++◌, length, take}
-use Rattle.std.proofs.Common.{Bor, inl, inr, drop, Some, None, is_some, refl, sym, ap, subst, ◌∙◌, arith}
+use Rattle.std.proofs.Common.{inl, inr, drop, Some, None, is_some, refl, sym, ap, subst, ◌∙◌, arith}
 use Rattle.std.specs.Prelude.{◌&&◌, ◌||◌, ◌==◌, nat_lt, not, bytes_eq, IsTrue}
 use Rattle.std.specs.Cmp.{IsEquivalence, decided}
 use Rattle.std.specs.List.{IsDistinct, list_any, filter_map, cons_option, position_from}
 use Rattle.std.proofs.lemmas.Bool.{and_parts, cases_lt, ltb-true, eqb-true, eq-eqb, not-true}
 use Rattle.std.proofs.lemmas.List.{append-nil, append_assoc, length-append, length_push}
 use Rattle.std.proofs.lemmas.List.Elements.{filter_map-append}
-use Rattle.std.proofs.lemmas.List.Folds.{list_any-append}
 use Rattle.std.proofs.lemmas.Map.Keys.{IsDistinct-push}
 use Rattle.std.proofs.lemmas.Slice.Eq.{bytes_eq-Decides}
-use Rattle.mac_words.specs.declared.name.Label.{Label}
-use Rattle.script_text.specs.declared.job.Input.{Input as Given}
-use Rattle.script_text.specs.declared.job.Input.TheVariants as given
-use Rattle.script_text.specs.Job.{input_seen, Input, System, App, File, app_name, app_names, file_name, given_names, file_names}
+use Rattle.script_text.specs.Job.{Input, System, App, File, app_name, app_names, file_name, given_names, file_names}
 use Rattle.script_text.specs.Job.{has_name, may_follow}
 use Rattle.script_text.specs.JobFacts.{all_follow, AreInOrder, AreApps, AreFiles}
 
@@ -32,42 +28,13 @@ found_among test i (x ∷ xs) = cases (test x) (found_among test (i + 1) xs)
     cases true e = refl
     cases false e = e
 
--- the rest behind the n-th place
-pub drop_next : {X : Type 0} (n : ℕ) (xs rest : List X) (x : X) → x ∷ rest ≡ drop n xs → rest ≡ drop (n + 1) xs
-drop_next zero [] rest x e = let no : ⊥ = omega (arith, ap length e) in absurd no
-drop_next (suc n) [] rest x e = let no : ⊥ = omega (arith, ap length e) in absurd no
-drop_next zero (y ∷ xs) rest x e = ap (drop 1) e
-drop_next (suc n) (y ∷ xs) rest x e =
-    let next : suc n + 1 ≡ suc (n + 1) = omega arith in rw next (drop_next n xs rest x e)
-
--- no name is past the end
-pub none_past : (n m : ℕ) (names : List (List ℕ)) (name : List ℕ) → [] ≡ drop n names → n ≤ m
-    → false ≡ has_name name (take 1 (drop m names))
-none_past n zero [] name e l = refl
-none_past n (suc m) [] name e l = refl
-none_past zero m (x ∷ names) name e l = let no : ⊥ = omega (arith, ap length e) in absurd no
-none_past (suc n) zero (x ∷ names) name e l = let no : ⊥ = omega (arith, l) in absurd no
-none_past (suc n) (suc m) (x ∷ names) name e l = none_past n m names name e (omega (arith, l))
-
--- an input that is no application adds no name
-pub no_name : (i : Given) (above : List Input) → ((name : Label) (fork script : Bor (List ℕ)) → i ≡ given.App name fork script → ⊥)
-    → app_names (input_seen i ∷ above) ≡ app_names above
-no_name (given.System path) above never = refl
-no_name (given.App name fork script) above never = absurd (never name fork script refl)
-no_name (given.File app name path) above never = refl
-
--- what is among two lists is among the one or the other
-pub among_both : {X : Type 0} (test : X → Bool) (xs ys : List X)
-    → list_any test (xs ++ ys) ≡ (list_any test xs || list_any test ys)
-among_both test xs ys = list_any-append test xs ys
-
 -- the names of all applications, once there is one more input
-names_added : (above : List Input) (i : Input) (names : List (List ℕ))
+pub names_added : (above : List Input) (i : Input) (names : List (List ℕ))
     → filter_map app_name (i ∷ []) ≡ names → app_names (above ++ i ∷ []) ≡ app_names above ++ names
 names_added above i names e = filter_map-append app_name above (i ∷ []) ∙ ap (λ ns. app_names above ++ ns) e
 
 -- the names of the files that are given to an application, once there is one more input
-given_added : (n : ℕ) (above : List Input) (i : Input) (names : List (List ℕ))
+pub given_added : (n : ℕ) (above : List Input) (i : Input) (names : List (List ℕ))
     → filter_map (file_name n) (i ∷ []) ≡ names → given_names n (above ++ i ∷ []) ≡ given_names n above ++ names
 given_added n above i names e =
     filter_map-append (file_name n) above (i ∷ []) ∙ ap (λ ns. given_names n above ++ ns) e
@@ -98,7 +65,7 @@ kept {P} step above (x ∷ xs) p h =
     (kept {P = P} step (above ++ x ∷ []) xs (step above x p parts.0) parts.1)
 
 -- one more input that is no application
-same_names : (above : List Input) (i : Input) → app_name i ≡ None → app_names (above ++ i ∷ []) ≡ app_names above
+pub same_names : (above : List Input) (i : Input) → app_name i ≡ None → app_names (above ++ i ∷ []) ≡ app_names above
 same_names above i e = names_added above i [] (ap (λ o. cons_option o []) e) ∙ append-nil (app_names above)
 
 -- 64 applications at most, of names that differ

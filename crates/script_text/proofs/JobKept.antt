@@ -1,38 +1,34 @@
 -- What is kept while a job is read.
-use Rattle.std.proofs.Common.{◌≡◌, ℕ, Bool, true, List, [], ◌∷◌, ◌++◌, length, map, Option, refl, ap, ◌∙◌, arith}
+use Rattle.std.proofs.Common.{◌≡◌, ℕ, Bool, true, List, [], ◌∷◌, ◌++◌, length, Option, refl, ap, ◌∙◌, arith}
 use Rattle.std.specs.Prelude.{◌==◌}
 use Rattle.std.specs.List.{list_all}
 use Rattle.std.proofs.lemmas.Bool.{and_from, eqb-true}
-use Rattle.std.proofs.lemmas.List.{map-append}
 use Rattle.std.proofs.lemmas.List.Folds.{list_all-append}
 use Rattle.script_text.specs.declared.job.Event.{Event}
-use Rattle.script_text.specs.declared.job.Input.{Input}
-use Rattle.script_text.specs.Job.{app_names, input_seen, may_follow}
+use Rattle.script_text.specs.Job.{Input, app_names, may_follow}
 use Rattle.script_text.specs.JobFacts.{all_follow, AreEventsOf, is_event_of}
 use Rattle.script_text.specs.Inner.{IsJobKept}
 use Rattle.script_text.proofs.JobInputs.{follow_added}
 
 -- no events are events of any applications
-no_events : (inputs : List Input) (events : List Event) → (length events == 0) ≡ true
-    → AreEventsOf (map input_seen inputs) events
+no_events : (inputs : List Input) (events : List Event) → (length events == 0) ≡ true → AreEventsOf inputs events
 no_events inputs [] h = refl
 no_events inputs (e ∷ events) h = let no : ⊥ = omega (arith, eqb-true (length (e ∷ events)) 0 h) in absurd no
 
 -- one more input, before all events, that may follow the others
 pub kept_with_input : (memory : Option ℕ) (inputs new : List Input) (input : Input) (events : List Event)
     → new ≡ inputs ++ input ∷ [] → IsJobKept memory inputs events → (length events == 0) ≡ true
-    → may_follow (map input_seen inputs) (input_seen input) ≡ true → IsJobKept memory new events
+    → may_follow inputs input ≡ true → IsJobKept memory new events
 kept_with_input memory inputs new input events e kept none h = record {
   size = kept.size;
-  order = ap (λ xs. all_follow [] (map input_seen xs)) e ∙ ap (all_follow []) (map-append input_seen inputs (input ∷ []))
-      ∙ follow_added [] (map input_seen inputs) (input_seen input) ∙ and_from _ _ kept.order h;
+  order = ap (all_follow []) e ∙ follow_added [] inputs input ∙ and_from _ _ kept.order h;
   owners = no_events new events none;
 }
 
 -- one more event of these applications
 pub kept_with_event : (memory : Option ℕ) (inputs : List Input) (events new : List Event) (event : Event)
     → new ≡ events ++ event ∷ [] → IsJobKept memory inputs events
-    → is_event_of (length (app_names (map input_seen inputs))) event ≡ true → IsJobKept memory inputs new
+    → is_event_of (length (app_names inputs)) event ≡ true → IsJobKept memory inputs new
 kept_with_event memory inputs events new event e kept h = record {
   size = kept.size;
   order = kept.order;
@@ -40,4 +36,4 @@ kept_with_event memory inputs events new event e kept h = record {
 }
   where
     passes : Event → Bool
-    passes = is_event_of (length (app_names (map input_seen inputs)))
+    passes = is_event_of (length (app_names inputs))

@@ -8,6 +8,7 @@ mod BlockRows
 mod ResourceRows
 mod SegmentRows
 mod JobInputs
+mod JobKnown
 mod JobKept
 mod JobRows
 mod Utf8

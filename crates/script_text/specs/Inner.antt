@@ -1,9 +1,8 @@
-use Rattle.std.specs.Prelude.{◌≡◌, ℕ, true, false, Option, IfSome, List, map, bytes_eq, codes}
+use Rattle.std.specs.Prelude.{◌≡◌, ℕ, true, false, Option, IfSome, List, bytes_eq, codes}
 use Rattle.script_text.specs.declared.job.Event.{Event}
-use Rattle.script_text.specs.declared.job.Input.{Input}
 use Rattle.script_text.specs.declared.script.Begun.{Begun}
 use Rattle.script_text.specs.declared.script.Line.{Line}
-use Rattle.script_text.specs.Job.{input_seen}
+use Rattle.script_text.specs.Job.{Input}
 use Rattle.script_text.specs.JobFacts.{IsMemory, AreInOrder, AreEventsOf}
 use Rattle.script_text.specs.Script.{AllAllowed, NoneIsUnused, are_allowed, has_block}
 
@@ -19,5 +18,5 @@ pub record IsKept (blocks : List (List ℕ × List Line)) (begun : Option Begun)
 -- What holds while a job is read.
 pub record IsJobKept (memory : Option ℕ) (inputs : List Input) (events : List Event) : Type 0 where
   pub size : IfSome memory IsMemory
-  pub order : AreInOrder (map input_seen inputs)
-  pub owners : AreEventsOf (map input_seen inputs) events
+  pub order : AreInOrder inputs
+  pub owners : AreEventsOf inputs events

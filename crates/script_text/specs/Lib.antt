@@ -3,9 +3,11 @@ pub mod Reading
 pub mod Token
 pub mod Argument
 pub mod Call
+pub mod Named
 pub mod Script
 pub mod Job
 pub mod JobFacts
+pub mod Known
 pub mod Inner
 pub mod Transcript
 pub mod DeskLog

@@ -12,6 +12,7 @@ use Rattle.script_text.specs.declared.script.Begun as declared
 use Rattle.script_text.specs.declared.script.Line.{Line}
 use Rattle.script_text.specs.declared.word.CallWord.{CallWord}
 use Rattle.script_text.specs.declared.word.CallWord.TheVariants as word
+use Rattle.script_text.specs.Named.{put_named}
 use Rattle.script_text.specs.Reading.{◌>>=◌}
 use Rattle.script_text.specs.Token.{place, is_blank, after_blanks}
 use Rattle.script_text.specs.Argument.{Label, Value, Letters, arguments}
@@ -19,8 +20,7 @@ use Rattle.script_text.specs.Call.{spoken, may_stand, is_allowed, word_spelled, 
 
 -- A script that was read.
 
--- The steps of a script, and its grow-zone scripts in the order of their `end` lines, each with its name and its
--- lines.
+-- The steps of a script, and its grow-zone scripts in the order of their names, each with its name and its lines.
 pub record ScriptParts : Type 0 where
   pub steps : List Line
   pub blocks : List (List ℕ × List Line)
@@ -116,7 +116,7 @@ abbrev pub end_at : Above → Option Begun → List ℕ → Result Above FaultKi
 end_at above None rest = Err UnknownCall
 end_at above (Some b) rest = arguments [] rest >>= λ _. Ok (record {
   steps = above.steps;
-  blocks = above.blocks ++ (b.name, b.statements) ∷ [];
+  blocks = put_named b.name b.statements above.blocks;
   begun = None;
 })
 

@@ -1,19 +1,21 @@
 //! The grow-zone scripts of a script, by name.
 
-ghost use Rattle.std.specs.Prelude.{◌≡◌, ℕ, false, List, [], ◌∷◌, ◌++◌, map, OnOk, OnErr};
+ghost use Rattle.std.specs.Prelude.{◌≡◌, ℕ, List, [], map, OnOk, OnErr};
 ghost use Rattle.script_text.specs.declared.script.Line as declared;
+ghost use Rattle.script_text.specs.Named.{put_named};
 ghost use Rattle.script_text.specs.Script.{has_block, block_of};
 
 use crate::script::Line;
-use indexmap::IndexMap;
 use mac_words::Label;
 use std::alloc::{AllocError, Global};
+use std::collections::BTreeMap;
 use std::marker::Model;
 
-/// Grow-zone scripts in the order in which they were added, each with its lines.
+/// Grow-zone scripts in the order of their names, each with its lines. Names are compared, not hashed: no choice of
+/// names makes a look-up slow.
 #[derive(Debug, Drop)]
 pub struct Blocks {
-    lines: IndexMap<Label, Vec<Line>>,
+    lines: BTreeMap<Label, Vec<Line>>,
 }
 
 impl Model for Blocks {
@@ -28,7 +30,7 @@ impl Blocks {
         ensures { result ≡ [] }
     {
         Blocks {
-            lines: IndexMap::new(alloc),
+            lines: BTreeMap::new(alloc),
         }
     }
 
@@ -49,10 +51,9 @@ impl Blocks {
         }
     }
 
-    /// Adds a grow-zone script of a new name after the others. Nothing is added where the host is out of memory.
+    /// Adds a grow-zone script, in place of one of the same name. Nothing is added where the host is out of memory.
     pub fn add(&mut self, name: Label, lines: Vec<Line>) -> Result<(), AllocError>
-        requires { has_block name.0.items self.old ≡ false }
-        ensures added { OnOk result (self.new ≡ self.old ++ (name.0.items, lines.items) ∷ []) }
+        ensures added { OnOk result (self.new ≡ put_named name.0.items lines.items self.old) }
         ensures unchanged { OnErr result (self.new ≡ self.old) }
     {
         self.lines.insert(name, lines)?;

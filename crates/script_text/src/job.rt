@@ -11,7 +11,7 @@ ghost use Rattle.script_text.specs.Reading.{Gives, GivesAt};
 
 use crate::arguments::{first, none, one, path};
 use crate::fault::{FaultKind, ScriptFault};
-use crate::inputs::{find_app, fits};
+use crate::inputs::Inputs;
 use crate::job_word::JobWord;
 use crate::lines::{LONGEST_LINE, next_line};
 use crate::token::{first_blank, trim};
@@ -83,7 +83,7 @@ pub struct JobText<'t> {
 struct Reader<'t> {
     alloc: Global,
     memory: Option<u32>,
-    inputs: Vec<Input<'t>>,
+    inputs: Inputs<'t>,
     events: Vec<Event>,
 }
 
@@ -92,11 +92,11 @@ impl<'t> Model for Reader<'t> {
 
     ghost view = { λ r. record {
       memory = r.memory;
-      inputs = map input_seen r.inputs.items;
+      inputs = r.inputs;
       events = r.events.items;
     } };
 
-    ghost invariant = { λ r. IsJobKept r.memory r.inputs.items r.events.items };
+    ghost invariant = { λ r. IsJobKept r.memory r.inputs r.events.items };
 }
 
 /// Reports whether a job may have a memory of `size` bytes: a multiple of 16 from 512 to 134,217,728.
@@ -111,7 +111,7 @@ impl<'t> Reader<'t> {
     fn add_input(&mut self, input: Input<'t>) -> Result<(), FaultKind>
         ensures { Gives (λ _. self.new) result (with_input self.old (input_seen input.entry)) }
     {
-        if self.memory.is_some() && self.events.is_empty() && fits(self.inputs.as_slice(), &input) {
+        if self.memory.is_some() && self.events.is_empty() && self.inputs.fits(&input) {
             self.inputs.push(input)?;
             Ok(())
         } else {
@@ -173,7 +173,7 @@ impl<'t> Reader<'t> {
         let (name, rest): (FileName, &'t [u8]) = first(self.alloc, rest)?;
         let (path, rest) = path(rest)?;
         none(rest)?;
-        match find_app(self.inputs.as_slice(), owner.0.as_slice()) {
+        match self.inputs.find_app(owner.0.as_slice()) {
             Some(app) => self.add_input(Input::File { app, name, path }),
             None => Err(FaultKind::BadArgument),
         }
@@ -185,7 +185,7 @@ impl<'t> Reader<'t> {
         ensures below { IfOk result (λ app. app < length (app_names self.now.inputs)) }
     {
         let name: Label = one(self.alloc, rest)?;
-        match find_app(self.inputs.as_slice(), name.0.as_slice()) {
+        match self.inputs.find_app(name.0.as_slice()) {
             Some(app) => Ok(app),
             None => Err(FaultKind::BadArgument),
         }
@@ -265,7 +265,7 @@ fn read_lines<'t>(alloc: Global, text: &'t [u8]) -> Result<Reader<'t>, ScriptFau
     let mut reader = Reader {
         alloc,
         memory: None,
-        inputs: Vec::new(alloc),
+        inputs: Inputs::new(alloc),
         events: Vec::new(alloc),
     };
     let mut number = 0;
@@ -319,7 +319,7 @@ pub fn read_job<'t>(alloc: Global, text: &'t [u8]) -> Result<JobText<'t>, Script
     match reader.memory {
         Some(memory) => Ok(JobText {
             memory,
-            inputs: reader.inputs,
+            inputs: reader.inputs.into_items(),
             events: reader.events,
         }),
         None => Err(ScriptFault::at(1, FaultKind::BadArgument)),

@@ -12,6 +12,7 @@ mod job;
 mod job_word;
 mod likely;
 mod lines;
+mod owners;
 mod script;
 mod token;
 mod transcript;

@@ -159,6 +159,7 @@ impl Reader {
     }
 
     /// Ends the grow-zone script that is begun at a line `end`.
+    #[tactic(auto, using(crate::proofs::Naming::put_seen))]
     fn finish(&mut self, rest: &[u8]) -> Result<(), FaultKind>
         ensures { Gives (λ _. self.new) result (end_at self.old self.old.begun rest.now) }
     {
